@@ -1,0 +1,31 @@
+// Loaded before the C library, refuses one request for memory: the one whose number REFUSE has, counted from 1. It then
+// writes a byte to descriptor 9, which tells that the program made so many requests.
+#define _GNU_SOURCE
+#include <dlfcn.h>
+#include <stdlib.h>
+#include <unistd.h>
+
+static int refused(void) {
+    static long count, number;
+    if (number == 0) {
+        const char *text = getenv("REFUSE");
+        number = text ? atol(text) : -1;
+    }
+    return ++count == number && write(9, "x", 1) == 1;
+}
+
+void *malloc(size_t size) {
+    static void *(*real)(size_t);
+    if (!real) {
+        real = (void *(*)(size_t))dlsym(RTLD_NEXT, "malloc");
+    }
+    return refused() ? NULL : real(size);
+}
+
+void *realloc(void *old, size_t size) {
+    static void *(*real)(void *, size_t);
+    if (!real) {
+        real = (void *(*)(void *, size_t))dlsym(RTLD_NEXT, "realloc");
+    }
+    return refused() ? NULL : real(old, size);
+}

@@ -1,0 +1,3 @@
+mod Masks
+pub mod Opcodes
+pub mod Operands

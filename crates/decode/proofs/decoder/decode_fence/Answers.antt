@@ -1,0 +1,6 @@
+use Rattle.std.proofs.Common.{arith}
+use Rattle.decode.proofs.Opcodes.{no_fence}
+use Rattle.decode.proofs.decoder.decode_fence.Goals as goal
+
+pub returns-in_default : goal.returns-in_default
+returns-in_default c = no_fence c.args.word c.requires (λ e. omega arith)

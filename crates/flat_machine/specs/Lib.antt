@@ -1,0 +1,10 @@
+pub mod Limits
+pub mod Sizes
+pub mod State
+pub mod Words
+pub mod Operations
+pub mod Effects
+pub mod Memory
+pub mod Turns
+pub mod Flat
+pub mod Laws

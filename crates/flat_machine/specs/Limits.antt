@@ -1,0 +1,11 @@
+-- The limits of a machine's size.
+use Rattle.std.specs.Prelude.{◌≤◌}
+use Rattle.flat_machine.specs.declared.config.Config.{Config}
+
+pub record IsWithinLimits (config : Config) : Type 0 where
+  pub stages : config.k ≤ 6
+  pub some_capacity : 2 ≤ config.c
+  pub capacity : config.c ≤ 16
+  pub records : config.b ≤ 16
+  pub some_words : 1 ≤ config.shared_words
+  pub words : config.shared_words ≤ 262144

@@ -1,0 +1,111 @@
+//! The size of a machine, and its memory map.
+
+ghost use Rattle.std.specs.Prelude.{◌≡◌, ◌≤◌, ◌^◌, ◌↔◌, IsTrue};
+ghost use Rattle.flat_machine.specs.Limits.{IsWithinLimits};
+
+/// The first address of code.
+pub const CODE_START: u32 = 0x0001_0000;
+
+/// The first address of each processor's local memory.
+pub const LOCAL_START: u32 = 0x0002_0000;
+
+/// How many bytes the code region has, and each local region.
+pub const REGION_BYTES: u32 = 0x0001_0000;
+
+/// The first address of shared memory.
+pub const SHARED_START: u32 = 0x8000_0000;
+
+/// The most stages of switches that a network has.
+pub const MAX_STAGES: u8 = 6;
+
+/// The least places that a queue has.
+pub const MIN_QUEUE_CAPACITY: u8 = 2;
+
+/// The most places that a queue has.
+pub const MAX_QUEUE_CAPACITY: u8 = 16;
+
+/// The most records that a wait buffer has.
+pub const MAX_WAIT_RECORDS: u8 = 16;
+
+/// The most words that shared memory has.
+pub const MAX_SHARED_WORDS: u32 = 262_144;
+
+/// The size of a machine.
+#[derive(Clone, Copy, Debug, PartialEq, Eq, Drop)]
+pub struct Config {
+    /// How many stages of switches: 0 to 6. The machine has 2^`k` processors and memory modules.
+    pub k: u8,
+    /// How many messages a queue holds: 2 to 16.
+    pub c: u8,
+    /// How many records a wait buffer holds: 0 to 16.
+    pub b: u8,
+    /// How many words the shared memory has: 1 to 262,144.
+    pub shared_words: u32,
+}
+
+impl Config {
+    /// Whether each number is within its limits.
+    pub fn is_within_limits(&self) -> bool
+        ensures { IsTrue result ↔ IsWithinLimits self.now }
+    {
+        self.k <= MAX_STAGES
+            && MIN_QUEUE_CAPACITY <= self.c
+            && self.c <= MAX_QUEUE_CAPACITY
+            && self.b <= MAX_WAIT_RECORDS
+            && 1 <= self.shared_words
+            && self.shared_words <= MAX_SHARED_WORDS
+    }
+
+    /// How many processors, and how many memory modules: 1 to 64.
+    pub fn processors(&self) -> u8
+        requires { self.now.k ≤ 6 }
+        ensures { result ≡ 2 ^ self.now.k }
+    {
+        1 << self.k
+    }
+}
+
+#[cfg(test)]
+mod tests {
+    use super::*;
+
+    /// Each number at its limits, and one past them.
+    #[test]
+    fn limits(rt: HostRuntime) {
+        for (k, c, b, shared_words, is_within) in [
+            (0, 2, 0, 1, true),
+            (6, 16, 16, 262_144, true),
+            (7, 2, 0, 1, false),
+            (255, 2, 0, 1, false),
+            (0, 1, 0, 1, false),
+            (0, 0, 0, 1, false),
+            (0, 17, 0, 1, false),
+            (0, 2, 17, 1, false),
+            (0, 2, 0, 0, false),
+            (0, 2, 0, 262_145, false),
+        ] {
+            let config = Config {
+                k,
+                c,
+                b,
+                shared_words,
+            };
+            assert_eq!(rt; config.is_within_limits(), is_within, "{config:?}");
+        }
+    }
+
+    /// Each stage doubles the machine.
+    #[test]
+    fn processors(rt: HostRuntime) {
+        for (k, processors) in [(0, 1), (1, 2), (2, 4), (3, 8), (4, 16), (5, 32), (6, 64)] {
+            assert!(rt; k <= MAX_STAGES);
+            let config = Config {
+                k,
+                c: 4,
+                b: 4,
+                shared_words: 1024,
+            };
+            assert_eq!(rt; config.processors(), processors, "{k} stages");
+        }
+    }
+}

@@ -1,0 +1,77 @@
+//! What a processor's turn shows.
+
+ghost use Rattle.std.specs.Prelude.{◌≡◌};
+ghost use Rattle.flat_machine.specs.State.{status_of};
+
+use crate::fault::Fault;
+use rv_table::Insn;
+
+/// What a processor is doing. One that does not run never runs again.
+#[derive(Clone, Copy, Debug, PartialEq, Eq, Drop)]
+pub enum Status {
+    Running,
+    /// Halted by an environment call, with this byte.
+    Halted(u8),
+    /// Stopped by a fault, with `pc` at the instruction.
+    Faulted(Fault),
+}
+
+/// Why a processor stopped.
+#[derive(Clone, Copy, Debug, PartialEq, Eq, Drop)]
+pub enum Cause {
+    /// An environment call that halts, with this byte.
+    Halt(u8),
+    Fault(Fault),
+}
+
+impl Cause {
+    /// The status of a processor that stopped for this cause.
+    pub fn status(self) -> Status
+        ensures { result ≡ status_of self }
+    {
+        match self {
+            Cause::Halt(byte) => Status::Halted(byte),
+            Cause::Fault(fault) => Status::Faulted(fault),
+        }
+    }
+}
+
+/// An instruction that was carried out.
+#[derive(Clone, Copy, Debug, PartialEq, Eq, Drop)]
+pub struct Retired {
+    /// Where the instruction stands.
+    pub pc: u32,
+    pub insn: Insn,
+    /// The value that was written to a register other than 0, if any.
+    pub result: Option<u32>,
+    /// The byte given to the console, if any.
+    pub out: Option<u8>,
+}
+
+/// What a turn that is not idle shows: an instruction that retired, or a processor that stopped.
+#[derive(Clone, Copy, Debug, PartialEq, Eq, Drop)]
+pub enum Event {
+    Retired(Retired),
+    Stopped(Cause),
+}
+
+#[cfg(test)]
+mod tests {
+    use super::*;
+
+    /// A stop leaves the status that tells its cause.
+    #[test]
+    fn status_of_each_cause(rt: HostRuntime) {
+        for (cause, status) in [
+            (Cause::Halt(0), Status::Halted(0)),
+            (Cause::Halt(255), Status::Halted(255)),
+            (Cause::Fault(Fault::NoRow), Status::Faulted(Fault::NoRow)),
+            (
+                Cause::Fault(Fault::Breakpoint),
+                Status::Faulted(Fault::Breakpoint),
+            ),
+        ] {
+            assert_eq!(rt; cause.status(), status);
+        }
+    }
+}

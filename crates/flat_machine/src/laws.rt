@@ -1,0 +1,59 @@
+//! Laws of the flat machine: each is the contract of a function that does nothing.
+
+ghost use Rattle.std.specs.Prelude.{◌≡◌, ◌≢◌, ℕ, ◌<◌, ◌≤◌, ◌+◌, ◌%◌, ◌^◌, ◌++◌, List, All, Some, None, length, slice_get, slice_set, false};
+ghost use Rattle.flat_machine.specs.declared.event.Cause.{Cause};
+ghost use Rattle.flat_machine.specs.declared.event.Event.TheVariants.{Stopped};
+ghost use Rattle.flat_machine.specs.declared.poke.Entry.{Entry};
+ghost use Rattle.flat_machine.specs.State.{FlatState, Processor, is_running, status_of};
+ghost use Rattle.flat_machine.specs.Flat.{flat_step, flat_event, flat_run, flat_events};
+ghost use Rattle.flat_machine.specs.Laws.{HasZero, HasAlignedPc, IsLocalAt};
+
+/// Register 0 always holds 0.
+#[tactic(auto, using(crate::proofs::Kept::zero_kept))]
+pub fn register_zero_is_zero()
+    ensures { (m : FlatState) (entries : List Entry) → All HasZero m.processors → All HasZero (flat_run m entries).processors }
+{}
+
+/// Every `pc` stays divisible by 4.
+#[tactic(auto, using(crate::proofs::Kept::alignment_kept))]
+pub fn pc_stays_aligned()
+    ensures { (m : FlatState) (entries : List Entry) → All HasAlignedPc m.processors → All HasAlignedPc (flat_run m entries).processors }
+{}
+
+/// An instruction that stops its processor, by a fault or by a halt, changes nothing but the status.
+#[tactic(auto, using(crate::proofs::Steps::stop_changes_status))]
+pub fn stop_changes_the_status_alone()
+    ensures { (m : FlatState) (k : ℕ) (p : Processor) (cause : Cause) → slice_get m.processors k ≡ Some p → flat_event m (Entry.Processor k) ≡ Some (Stopped cause) → flat_step m (Entry.Processor k) ≡ record m { processors = slice_set m.processors k (record p { status = status_of cause }) } }
+{}
+
+/// A processor that does not run takes no instruction.
+#[tactic(auto, using(crate::proofs::Steps::stopped_stays))]
+pub fn stopped_processor_stays()
+    ensures { (m : FlatState) (k : ℕ) (p : Processor) → slice_get m.processors k ≡ Some p → is_running p.status ≡ false → flat_step m (Entry.Processor k) ≡ m }
+{}
+
+/// A processor's step changes no other processor.
+#[tactic(auto, using(crate::proofs::Steps::others_kept))]
+pub fn others_are_left_alone()
+    ensures { (m : FlatState) (k other : ℕ) → other ≢ k → slice_get (flat_step m (Entry.Processor k)).processors other ≡ slice_get m.processors other }
+{}
+
+/// A processor's step changes one shared word at most, and no code.
+#[tactic(auto, using(crate::proofs::Steps::one_word, crate::proofs::Steps::code_kept))]
+pub fn one_shared_word_changes()
+    ensures word { (m : FlatState) (k : ℕ) → (word : ℕ) × ((other : ℕ) → other ≢ word → slice_get (flat_step m (Entry.Processor k)).shared other ≡ slice_get m.shared other) }
+    ensures code { (m : FlatState) (k : ℕ) → (flat_step m (Entry.Processor k)).code ≡ m.code }
+{}
+
+/// Turns of two processors that reach no shared word commute.
+#[tactic(auto, using(crate::proofs::Commuting::local_turns))]
+pub fn local_turns_commute()
+    ensures { (m : FlatState) (j k : ℕ) → j ≢ k → IsLocalAt m j (slice_get m.processors j) → IsLocalAt m k (slice_get m.processors k) → flat_step (flat_step m (Entry.Processor j)) (Entry.Processor k) ≡ flat_step (flat_step m (Entry.Processor k)) (Entry.Processor j) }
+{}
+
+/// A run over two lists is a run over the first, and then one over the second.
+#[tactic(auto, using(crate::proofs::Steps::run_append, crate::proofs::Steps::events_append))]
+pub fn runs_join()
+    ensures state { (m : FlatState) (first second : List Entry) → flat_run m (first ++ second) ≡ flat_run (flat_run m first) second }
+    ensures events { (m : FlatState) (first second : List Entry) → flat_events m (first ++ second) ≡ flat_events m first ++ flat_events (flat_run m first) second }
+{}

@@ -1,0 +1,36 @@
+//! The flat machine: what a user of the simulator reasons with. Processors take whole instructions
+//! one at a time, each on one shared memory; there is no message, no queue and no switch.
+//!
+//! The machine itself stands in `specs/`, as definitions: its state (`State.antt`), the arithmetic
+//! of words (`Words.antt`), what each instruction does (`Operations.antt`, `Effects.antt`), memory
+//! (`Memory.antt`), one processor's turn (`Turns.antt`), and steps and runs of the whole machine
+//! (`Flat.antt`). Here are the types that the definitions share with the code, and laws of the
+//! definitions, each the contract of a function that does nothing.
+//!
+//! Source: The RISC-V Instruction Set Manual, Volume I (Unprivileged ISA). Environment calls,
+//! faults and the memory map are this project's own.
+#![tactic(auto)]
+
+mod config;
+mod effect;
+mod event;
+mod fault;
+mod laws;
+mod poke;
+mod setting;
+mod size;
+
+pub use config::{
+    CODE_START, Config, LOCAL_START, MAX_QUEUE_CAPACITY, MAX_SHARED_WORDS, MAX_STAGES,
+    MAX_WAIT_RECORDS, MIN_QUEUE_CAPACITY, REGION_BYTES, SHARED_START,
+};
+pub use effect::{Effect, Region};
+pub use event::{Cause, Event, Retired, Status};
+pub use fault::Fault;
+pub use laws::{
+    local_turns_commute, one_shared_word_changes, others_are_left_alone, pc_stays_aligned,
+    register_zero_is_zero, runs_join, stop_changes_the_status_alone, stopped_processor_stays,
+};
+pub use poke::{Entry, PC, Poke};
+pub use setting::Setting;
+pub use size::Size;

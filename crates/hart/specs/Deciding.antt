@@ -1,0 +1,75 @@
+-- What a decision says of a turn.
+use Rattle.std.specs.Prelude.{◌≡◌, ℕ, ◌+◌, ◌%◌, ◌^◌, ◌<◌, ◌≤◌, Option, Some, None}
+use Rattle.phi_algebra.specs.Functions.{apply}
+use Rattle.phi_algebra.specs.Table.{load_phi, store_phi, amo_phi}
+use Rattle.flat_machine.specs.declared.effect.Effect.{Effect}
+use Rattle.flat_machine.specs.declared.effect.Effect.TheVariants as does
+use Rattle.flat_machine.specs.declared.effect.Region.{Region}
+use Rattle.flat_machine.specs.declared.effect.Region.TheVariants as region
+use Rattle.flat_machine.specs.declared.event.Cause.TheVariants as because
+use Rattle.flat_machine.specs.declared.event.Retired.{Retired}
+use Rattle.flat_machine.specs.declared.setting.Setting.{Setting}
+use Rattle.flat_machine.specs.Operations.{store_size}
+use Rattle.flat_machine.specs.State.{Processor}
+use Rattle.flat_machine.specs.Turns.{Turn, Retires, Reaches, Stops}
+use Rattle.hart.specs.declared.decision.Decision.{Decision}
+use Rattle.hart.specs.declared.decision.Decision.TheVariants.{Local, Refer, Halt, Fault}
+use Rattle.hart.specs.declared.decision.Shape.TheVariants as shape
+
+-- ---- turns
+
+-- The decision is the turn's kind. A reference names the turn's word, and its phi means what becomes of the word.
+abbrev pub Decides : Decision → Turn → Type 0
+Decides Local (Retires after retired) = Unit {0}
+Decides (Refer word phi shape) (Reaches reached change after) = (word ≡ reached) × ((x : ℕ) → x < 2 ^ 32 → apply phi x ≡ change x)
+Decides (Halt byte) (Stops cause) = cause ≡ because.Halt byte
+Decides (Fault fault) (Stops cause) = cause ≡ because.Fault fault
+Decides _ _ = ⊥
+
+-- the turn needs no word but the processor's own
+abbrev pub IsLocal : Turn → Type 0
+IsLocal (Retires after retired) = Unit {0}
+IsLocal _ = ⊥
+
+-- the turn acts on a shared word
+abbrev pub IsReference : Turn → Type 0
+IsReference (Reaches word change after) = Unit {0}
+IsReference _ = ⊥
+
+-- what such a turn leaves, once the word before is known
+abbrev pub after_reply : Turn → (reply : ℕ) → Option (Processor × Retired)
+after_reply (Reaches word change after) reply = Some (after reply)
+after_reply _ reply = None
+
+-- ---- decisions
+
+-- A reference is the effect's: its phi is that of the table, and its shape names the operation.
+abbrev pub IsOfEffect : Decision → Effect → Type 0
+IsOfEffect (Refer word phi kind) (does.Load op rd address) = (phi ≡ load_phi) × (kind ≡ shape.Load op)
+IsOfEffect (Refer word phi kind) (does.Store op address value) = (phi ≡ store_phi (store_size op) (address % 4) value) × (kind ≡ shape.Store op)
+IsOfEffect (Refer word phi kind) (does.Amo op rd address value) = (phi ≡ amo_phi op value) × (kind ≡ shape.Amo op)
+IsOfEffect (Refer word phi kind) _ = ⊥
+IsOfEffect _ _ = Unit {0}
+
+-- a reference is to a word that there is
+abbrev pub NamesWord : Decision → Setting → Type 0
+NamesWord (Refer word phi shape) s = word < s.shared_words
+NamesWord _ s = Unit {0}
+
+-- ---- regions
+
+-- the bytes of an access lie in its region, and in one word where that is shared
+abbrev pub IsInside : (size address : ℕ) → Region → Type 0
+IsInside size address (region.Shared word) = address % 4 + size ≤ 4
+IsInside size address (region.Local place) = place + size ≤ 2 ^ 16
+IsInside size address (region.Code place) = place + size ≤ 2 ^ 16
+
+-- a shared word is one that there is
+abbrev pub IsThere : Setting → Region → Type 0
+IsThere s (region.Shared word) = word < s.shared_words
+IsThere s _ = Unit {0}
+
+-- code is not written
+abbrev pub IsWritable : Region → Type 0
+IsWritable (region.Code place) = ⊥
+IsWritable _ = Unit {0}

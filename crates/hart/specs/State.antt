@@ -1,0 +1,18 @@
+-- What a core is seen as.
+use Rattle.std.specs.Prelude.{ℕ, List, replicate}
+use Rattle.flat_machine.specs.declared.setting.Setting.{Setting}
+use Rattle.flat_machine.specs.declared.event.Status.TheVariants.{Running}
+use Rattle.flat_machine.specs.State.{Processor}
+use Rattle.local_memory.specs.Accesses.{region_of_bytes}
+
+-- a processor, and what it knows of its machine
+pub record CoreState : Type 0 where
+  pub setting : Setting
+  pub state : Processor
+
+-- a core that has done nothing: its registers are 0, and its local memory begins with some bytes
+abbrev pub new_core : Setting → (pc : ℕ) → (local : List ℕ) → CoreState
+new_core setting pc local = record {
+  setting = setting;
+  state = record { pc = pc; registers = replicate 32 0; local = region_of_bytes local; status = Running };
+}

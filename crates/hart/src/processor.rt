@@ -1,0 +1,139 @@
+//! A core, and what can be read of it and written to it from outside.
+
+ghost use Rattle.std.specs.Prelude.{◌≡◌, ◌<◌, ◌≤◌, ◌^◌, ◌%◌, true, length, IfOk};
+ghost use Rattle.flat_machine.specs.Flat.{with_poked_byte, with_poked_register};
+ghost use Rattle.flat_machine.specs.Memory.{in_local};
+ghost use Rattle.flat_machine.specs.State.{status_of};
+ghost use Rattle.local_memory.specs.Accesses.{load_of};
+ghost use Rattle.hart.specs.State.{new_core};
+
+mod deciding;
+mod effects;
+mod regions;
+mod taking;
+
+use flat_machine::{Cause, Fault, PC, REGION_BYTES, Setting, Size, Status};
+use local_memory::Local;
+use rv_table::Register;
+use std::alloc::{AllocError, Global};
+use std::marker::Model;
+
+/// One processor's core.
+#[derive(Drop)]
+pub struct Core {
+    setting: Setting,
+    pc: u32,
+    registers: [u32; 32],
+    local: Local,
+    status: Status,
+}
+
+impl Model for Core {
+    ghost use Rattle.std.specs.Prelude.{◌≡◌, ◌≤◌, ◌^◌, ◌%◌};
+    ghost use Rattle.hart.specs.State.{CoreState};
+
+    ghost Value = { CoreState };
+
+    ghost view = { λ c. record {
+      setting = c.setting;
+      state = record { pc = c.pc; registers = c.registers; local = c.local; status = c.status };
+    } };
+
+    ghost invariant = { λ c. (c.setting.shared_words ≤ 2 ^ 18) × (c.pc % 4 ≡ 0) };
+}
+
+impl Core {
+    /// A core that runs from `pc`, with every register 0. Its local memory begins with the bytes
+    /// given, and is zero after them.
+    pub fn new(alloc: Global, setting: Setting, pc: u32, local: &[u8]) -> Result<Self, AllocError>
+        requires words { setting.shared_words ≤ 262144 }
+        requires aligned { pc % 4 ≡ 0 }
+        requires fits { length local.now ≤ 2 ^ 16 }
+        ensures { IfOk result (λ core. core ≡ new_core setting pc local.now) }
+    {
+        Ok(Core {
+            setting,
+            pc,
+            registers: [0; 32],
+            local: Local::new(alloc, local)?,
+            status: Status::Running,
+        })
+    }
+
+    /// The address of the next instruction. It is divisible by 4.
+    pub fn pc(&self) -> u32
+        ensures value { result ≡ self.now.state.pc }
+        ensures aligned { result % 4 ≡ 0 }
+    {
+        self.pc
+    }
+
+    /// What the processor is doing.
+    pub fn status(&self) -> Status
+        ensures { result ≡ self.now.state.status }
+    {
+        self.status
+    }
+
+    /// Registers 0 to 31, in order.
+    pub fn registers(&self) -> &[u32; 32]
+        ensures { result.now ≡ self.now.state.registers }
+    {
+        &self.registers
+    }
+
+    /// What the processor knows of its machine.
+    pub fn setting(&self) -> Setting
+        ensures { result ≡ self.now.setting }
+    {
+        self.setting
+    }
+
+    /// The byte of local memory at an address.
+    ///
+    /// # Errors
+    ///
+    /// [`Fault::NoRegion`] where the address is outside local memory.
+    pub fn byte(&self, address: u32) -> Result<u8, Fault>
+        ensures { result ≡ load_of self.now.state.local 1 address (in_local address) }
+    {
+        let byte = self.local.load(address, Size::Byte)?;
+        Ok(byte as u8)
+    }
+
+    /// Writes a register from outside. Register 0 stays 0.
+    pub fn set_register(&mut self, register: Register, value: u32)
+        ensures zero { register ≡ 0 → self.new ≡ self.old }
+        ensures written { 0 < register → self.new ≡ record self.old { state = with_poked_register register value self.old.state } }
+    {
+        let number = register.number();
+        if number != 0 {
+            self.registers[number as usize] = value;
+        }
+    }
+
+    /// Goes on elsewhere, at an address divisible by 4.
+    pub fn set_pc(&mut self, value: u32)
+        requires { value % 4 ≡ 0 }
+        ensures { self.new ≡ record self.old { state = with_poked_register PC value self.old.state } }
+    {
+        self.pc = value;
+    }
+
+    /// Writes a byte of local memory from outside.
+    #[tactic(auto, unfolding(flat_machine::specs::Memory::with_number))]
+    pub fn set_byte(&mut self, address: u32, value: u8)
+        requires { in_local address ≡ true }
+        ensures { self.new ≡ record self.old { state = with_poked_byte address value self.old.state } }
+    {
+        self.local
+            .set_number(address % REGION_BYTES, Size::Byte, u32::from(value));
+    }
+
+    /// Records why the processor stopped.
+    pub fn stop(&mut self, cause: Cause)
+        ensures { self.new ≡ record self.old { state = record self.old.state { status = status_of cause } } }
+    {
+        self.status = cause.status();
+    }
+}

@@ -1,0 +1,106 @@
+//! What the next turn is.
+
+ghost use Rattle.std.specs.Prelude.{◌≡◌, ℕ, List, Ok};
+ghost use Rattle.flat_machine.specs.Effects.{effect_of};
+ghost use Rattle.flat_machine.specs.Turns.{fetched, performed, turn_of};
+ghost use Rattle.rv_table.specs.declared.insn.Insn.{Insn};
+ghost use Rattle.hart.specs.Deciding.{Decides, IsOfEffect, NamesWord};
+
+use super::Core;
+use crate::decision::{Decision, Shape};
+use flat_machine::{Effect, Fault, Region, Size};
+use hart_ops::{load_size, store_size};
+use local_memory::Code;
+use phi_algebra::Phi;
+use rv_table::{AmoOp, LoadOp, StoreOp};
+
+impl Core {
+    /// What the next turn of the processor is, where it runs.
+    pub fn decide(&self, code: &Code) -> Decision
+        ensures turn { Decides result (turn_of self.now.setting code.now self.now.state) }
+        ensures table { (i : Insn) → fetched code.now self.now.state.pc ≡ Ok i → IsOfEffect result (effect_of self.now.setting self.now.state.pc self.now.state.registers i) }
+        ensures word { NamesWord result self.now.setting }
+    {
+        match code.fetch(self.pc()) {
+            Ok(insn) => self.decision(self.effect(&insn)),
+            Err(fault) => Decision::Fault(fault),
+        }
+    }
+
+    /// What an effect asks for.
+    fn decision(&self, effect: Effect) -> Decision
+        ensures turn { (code : List ℕ) (insn : Insn) → Decides result (performed self.now.setting code self.now.state insn effect) }
+        ensures table { IsOfEffect result effect }
+        ensures word { NamesWord result self.now.setting }
+    {
+        match effect {
+            Effect::Write { .. } | Effect::Pass | Effect::Print { .. } => Decision::Local,
+            Effect::Jump { target, .. } => if target % 4 == 0 {
+                Decision::Local
+            } else {
+                Decision::Fault(Fault::TargetNotAligned)
+            },
+            Effect::Load { op, address, .. } => self.load_decision(op, address),
+            Effect::Store { op, address, value } => self.store_decision(op, address, value),
+            Effect::Amo {
+                op,
+                address,
+                value,
+                ..
+            } => self.amo_decision(op, address, value),
+            Effect::Halt { byte } => Decision::Halt(byte),
+            Effect::Fail { fault } => Decision::Fault(fault),
+        }
+    }
+
+    /// What a load asks for.
+    fn load_decision(&self, op: LoadOp, address: u32) -> Decision
+        ensures turn { (code : List ℕ) (insn : Insn) (rd : ℕ) → Decides result (performed self.now.setting code self.now.state insn (Effect.Load op rd address)) }
+        ensures table { (rd : ℕ) → IsOfEffect result (Effect.Load op rd address) }
+        ensures word { NamesWord result self.now.setting }
+    {
+        match self.region(load_size(op), address, false) {
+            Ok(Region::Shared { word }) => Decision::Refer {
+                word,
+                phi: Phi::load(),
+                shape: Shape::Load(op),
+            },
+            Ok(Region::Local { .. } | Region::Code { .. }) => Decision::Local,
+            Err(fault) => Decision::Fault(fault),
+        }
+    }
+
+    /// What a store asks for.
+    fn store_decision(&self, op: StoreOp, address: u32, value: u32) -> Decision
+        ensures turn { (code : List ℕ) (insn : Insn) → Decides result (performed self.now.setting code self.now.state insn (Effect.Store op address value)) }
+        ensures table { IsOfEffect result (Effect.Store op address value) }
+        ensures word { NamesWord result self.now.setting }
+    {
+        match self.region(store_size(op), address, true) {
+            Ok(Region::Shared { word }) => Decision::Refer {
+                word,
+                phi: Phi::store(op, address % 4, value),
+                shape: Shape::Store(op),
+            },
+            Ok(Region::Local { .. } | Region::Code { .. }) => Decision::Local,
+            Err(fault) => Decision::Fault(fault),
+        }
+    }
+
+    /// What an AMO asks for.
+    fn amo_decision(&self, op: AmoOp, address: u32, value: u32) -> Decision
+        ensures turn { (code : List ℕ) (insn : Insn) (rd : ℕ) → Decides result (performed self.now.setting code self.now.state insn (Effect.Amo op rd address value)) }
+        ensures table { (rd : ℕ) → IsOfEffect result (Effect.Amo op rd address value) }
+        ensures word { NamesWord result self.now.setting }
+    {
+        match self.region(Size::Word, address, true) {
+            Ok(Region::Shared { word }) => Decision::Refer {
+                word,
+                phi: Phi::amo(op, value),
+                shape: Shape::Amo(op),
+            },
+            Ok(Region::Local { .. } | Region::Code { .. }) => Decision::Local,
+            Err(fault) => Decision::Fault(fault),
+        }
+    }
+}

@@ -1,0 +1,85 @@
+//! Single turns. The words and the values come from the manual.
+
+mod faulting;
+mod local;
+mod others;
+mod referring;
+mod retiring;
+
+use crate::{Core, Decision};
+use flat_machine::{CODE_START, Cause, Event, Setting};
+use local_memory::Code;
+use rv_table::Register;
+use std::alloc::AllocGlobal;
+use std::process::Abort;
+use std::test::Fail;
+
+/// A core, and the code that it runs.
+#[derive(Drop)]
+struct Rig {
+    code: Code,
+    core: Core,
+}
+
+/// Processor 2 of four with sixteen shared words. It stands before this one instruction, with
+/// these values in `x1` and `x2` and 0 in the other registers, and its local memory begins with
+/// these bytes.
+fn at_word(
+    rt: &(impl Abort + AllocGlobal),
+    word: u32,
+    x1: u32,
+    x2: u32,
+    local: &[u8],
+) -> Result<Rig, Fail> {
+    assert!(rt; local.len() <= 0x1_0000);
+    let setting = Setting {
+        number: 2,
+        processors: 4,
+        shared_words: 16,
+    };
+    let code = Code::new(rt.alloc(), &word.to_le_bytes())?;
+    let mut core = Core::new(rt.alloc(), setting, CODE_START, local)?;
+    core.set_register(Register::new(1), x1);
+    core.set_register(Register::new(2), x2);
+    Ok(Rig { code, core })
+}
+
+impl Rig {
+    /// Takes one turn, in which a shared word has this value.
+    #[tactic(auto, using(crate::proofs::Decisions::local_may, crate::proofs::Decisions::refer_may))]
+    fn turn(&mut self, reply: u32) -> Event {
+        match self.core.decide(&self.code) {
+            Decision::Local => Event::Retired(self.core.take_local(&self.code)),
+            Decision::Refer { .. } => Event::Retired(self.core.retire(&self.code, reply)),
+            Decision::Halt(byte) => self.stop(Cause::Halt(byte)),
+            Decision::Fault(fault) => self.stop(Cause::Fault(fault)),
+        }
+    }
+
+    fn stop(&mut self, cause: Cause) -> Event {
+        self.core.stop(cause);
+        Event::Stopped(cause)
+    }
+
+    /// Looks at `pc` and at all registers: they are 0 but for `x1`, `x2` and one more, if that is
+    /// not register 0.
+    fn stands(
+        &self,
+        rt: &impl Abort,
+        text: &str,
+        pc: u32,
+        x1: u32,
+        x2: u32,
+        (rd, value): (usize, u32),
+    ) {
+        let mut registers = [0; 32];
+        registers[1] = x1;
+        registers[2] = x2;
+        if rd != 0 {
+            assert!(rt; rd < 32);
+            registers[rd] = value;
+        }
+        assert_eq!(rt; self.core.pc(), pc, "pc after {text}");
+        assert_eq!(rt; *self.core.registers(), registers, "registers after {text}");
+    }
+}

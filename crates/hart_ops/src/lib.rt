@@ -1,0 +1,12 @@
+//! What the rows of the table compute from their operands, as the flat machine says.
+#![tactic(auto)]
+
+mod alu;
+mod memory;
+#[cfg(test)]
+mod tests;
+mod words;
+
+pub use alu::{immediate_result, is_branch_taken, register_result, shift_result};
+pub use memory::{amo_result, load_result, load_size, store_size};
+pub use words::{branch_offset, immediate_word, jump_offset, part, sum};

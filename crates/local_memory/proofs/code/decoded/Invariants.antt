@@ -1,0 +1,5 @@
+use Rattle.local_memory.specs.Decoded.{AreDecoded}
+use Rattle.local_memory.proofs.code.decoded.Given as goal
+
+abbrev pub invariant-loop-index : goal.invariant-loop-index
+invariant-loop-index l = AreDecoded l.bytes l.insns.items l.index

@@ -1,0 +1,27 @@
+-- Accesses of a region by address, with their faults.
+use Rattle.std.specs.Prelude.{ℕ, ◌-◌, ◌%◌, ◌^◌, Bool, not, List, ◌++◌, length, replicate, Result, Ok, Err, if◌then◌else◌}
+use Rattle.flat_machine.specs.declared.fault.Fault.{Fault}
+use Rattle.flat_machine.specs.declared.fault.Fault.TheVariants.{AddressNotAligned, NoRegion}
+use Rattle.flat_machine.specs.Memory.{is_aligned, number_at}
+
+-- whether an access is carried out, or its fault: an address that is not divisible by the size, else one outside the region
+abbrev pub access_of : (size address : ℕ) → (inside : Bool) → Result (Unit {0}) Fault
+access_of size address inside =
+    if not (is_aligned size address) then Err AddressNotAligned else
+    if inside then Ok tt else
+    Err NoRegion
+
+-- what a load gives of a region's bytes
+abbrev pub load_of : List ℕ → (size address : ℕ) → (inside : Bool) → Result ℕ Fault
+load_of bytes size address inside =
+    if not (is_aligned size address) then Err AddressNotAligned else
+    if inside then Ok (number_at bytes (address % 2 ^ 16) size) else
+    Err NoRegion
+
+-- some bytes, with zeros up to a length
+unfoldable pub padded : ℕ → List ℕ → List ℕ
+padded count bytes = bytes ++ replicate (count - length bytes) 0
+
+-- a region that begins with some bytes: the others are zero
+abbrev pub region_of_bytes : List ℕ → List ℕ
+region_of_bytes bytes = padded (2 ^ 16) bytes

@@ -1,0 +1,15 @@
+//! The memories that a processor reaches without a message: its own local memory, and the code that
+//! all processors share.
+//!
+//! Each is seen as the list of its 65,536 bytes. An access takes one, two or four bytes, as a
+//! little-endian number. No call copies a memory.
+#![tactic(auto)]
+
+mod bytes;
+mod code;
+mod local;
+#[cfg(test)]
+mod tests;
+
+pub use code::Code;
+pub use local::Local;

@@ -1,0 +1,93 @@
+//! A processor's own memory.
+
+ghost use Rattle.std.specs.Prelude.{◌≡◌, ◌<◌, ◌≤◌, ◌^◌, ◌*◌, ◌+◌, ◌%◌, length, IfOk, OnOk, OnErr};
+ghost use Rattle.flat_machine.specs.Memory.{in_local, number_at, with_number};
+ghost use Rattle.flat_machine.specs.Sizes.{bytes_of};
+ghost use Rattle.local_memory.specs.Accesses.{access_of, load_of, region_of_bytes};
+
+use crate::bytes::RegionBytes;
+use flat_machine::{Fault, LOCAL_START, REGION_BYTES, Size};
+use std::alloc::{AllocError, Global};
+use std::marker::Model;
+
+/// The local memory of one processor, seen as its bytes from [`LOCAL_START`].
+#[derive(Drop)]
+pub struct Local {
+    bytes: RegionBytes,
+}
+
+impl Model for Local {
+    ghost use Rattle.std.specs.Prelude.{ℕ, List};
+
+    ghost Value = { List ℕ };
+
+    ghost view = { λ l. l.bytes };
+}
+
+impl Local {
+    /// A memory that begins with these bytes, and is zero after them.
+    pub fn new(alloc: Global, bytes: &[u8]) -> Result<Self, AllocError>
+        requires { length bytes.now ≤ 2 ^ 16 }
+        ensures { IfOk result (λ l. l ≡ region_of_bytes bytes.now) }
+    {
+        Ok(Local {
+            bytes: RegionBytes::new(alloc, bytes)?,
+        })
+    }
+
+    /// The little-endian number at a place from the region's first address.
+    pub fn number(&self, place: u32, size: Size) -> u32
+        requires { place + bytes_of size ≤ 2 ^ 16 }
+        ensures value { result ≡ number_at self.now place (bytes_of size) }
+        ensures small { result < 2 ^ (8 * bytes_of size) }
+    {
+        self.bytes.number(place, size)
+    }
+
+    /// Writes the low bytes of a number at a place from the region's first address.
+    pub fn set_number(&mut self, place: u32, size: Size, value: u32)
+        requires { place + bytes_of size ≤ 2 ^ 16 }
+        ensures { self.new ≡ with_number self.old place (bytes_of size) value }
+    {
+        self.bytes.set_number(place, size, value);
+    }
+
+    /// The little-endian number at an address.
+    ///
+    /// # Errors
+    ///
+    /// [`Fault::AddressNotAligned`] where the address is not divisible by the size, else
+    /// [`Fault::NoRegion`] where it is outside local memory.
+    pub fn load(&self, address: u32, size: Size) -> Result<u32, Fault>
+        ensures value { result ≡ load_of self.now (bytes_of size) address (in_local address) }
+        ensures small { IfOk result (λ number. number < 2 ^ (8 * bytes_of size)) }
+    {
+        if address % size.bytes() != 0 {
+            Err(Fault::AddressNotAligned)
+        } else if address / REGION_BYTES == LOCAL_START / REGION_BYTES {
+            Ok(self.number(address % REGION_BYTES, size))
+        } else {
+            Err(Fault::NoRegion)
+        }
+    }
+
+    /// Writes the low bytes of a number at an address.
+    ///
+    /// # Errors
+    ///
+    /// Those of [`load`](Local::load), with nothing written.
+    pub fn store(&mut self, address: u32, size: Size, value: u32) -> Result<(), Fault>
+        ensures fault { result ≡ access_of (bytes_of size) address (in_local address) }
+        ensures stored { OnOk result (self.new ≡ with_number self.old (address % 2 ^ 16) (bytes_of size) value) }
+        ensures refused { OnErr result (self.new ≡ self.old) }
+    {
+        if address % size.bytes() != 0 {
+            Err(Fault::AddressNotAligned)
+        } else if address / REGION_BYTES == LOCAL_START / REGION_BYTES {
+            self.set_number(address % REGION_BYTES, size, value);
+            Ok(())
+        } else {
+            Err(Fault::NoRegion)
+        }
+    }
+}

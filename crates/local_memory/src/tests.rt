@@ -1,0 +1,60 @@
+//! Accesses of each size, with little-endian numbers by hand.
+
+use crate::{Code, Local};
+use flat_machine::{Fault, Size};
+use rv_table::Insn;
+use std::test::Fail;
+
+#[test]
+fn local_accesses(rt: HostRuntime) -> Result<(), Fail> {
+    let mut local = Local::new(rt.alloc(), &[0x11, 0x22, 0x33, 0x44, 0x55])?;
+    for (address, size, number) in [
+        (0x0002_0000, Size::Word, Ok(0x4433_2211)),
+        (0x0002_0002, Size::Half, Ok(0x4433)),
+        (0x0002_0004, Size::Word, Ok(0x55)),
+        (0x0002_0001, Size::Byte, Ok(0x22)),
+        (0x0002_FFFC, Size::Word, Ok(0)),
+        (0x0002_0001, Size::Half, Err(Fault::AddressNotAligned)),
+        (0x0003_0002, Size::Word, Err(Fault::AddressNotAligned)),
+        (0x0003_0000, Size::Word, Err(Fault::NoRegion)),
+        (0x0001_FFFF, Size::Byte, Err(Fault::NoRegion)),
+    ] {
+        assert_eq!(rt; local.load(address, size), number, "at {address:x}");
+    }
+    assert_eq!(rt; local.store(0x0002_0002, Size::Half, 0xAABB_CCDD), Ok(()));
+    assert_eq!(rt; local.number(0, Size::Word), 0xCCDD_2211);
+    assert_eq!(rt; local.store(0x0002_0001, Size::Byte, 0xEE), Ok(()));
+    assert_eq!(rt; local.number(0, Size::Word), 0xCCDD_EE11);
+    let refused = local.store(0x0002_0002, Size::Word, 0);
+    assert_eq!(rt; refused, Err(Fault::AddressNotAligned));
+    let refused = local.store(0x0004_0000, Size::Word, 0);
+    assert_eq!(rt; refused, Err(Fault::NoRegion));
+    assert_eq!(rt; local.number(0, Size::Word), 0xCCDD_EE11);
+    local.set_number(4, Size::Word, 0x0102_0304);
+    assert_eq!(rt; local.number(4, Size::Byte), 4);
+    assert_eq!(rt; local.number(7, Size::Byte), 1);
+    Ok(())
+}
+
+/// ECALL is 0x00000073.
+#[test]
+fn code_accesses(rt: HostRuntime) -> Result<(), Fail> {
+    let code = Code::new(rt.alloc(), &[0, 0, 0, 0, 0x73, 0, 0, 0])?;
+    for (pc, insn) in [
+        (0x0001_0000, Err(Fault::NoRow)),
+        (0x0001_0004, Ok(Insn::Ecall)),
+        (0x0001_FFFC, Err(Fault::NoRow)),
+        (0x0000_FFFC, Err(Fault::FetchOutsideCode)),
+        (0x0002_0004, Err(Fault::FetchOutsideCode)),
+    ] {
+        assert_eq!(rt; code.fetch(pc), insn, "at {pc:x}");
+    }
+    assert_eq!(rt; code.load(0x0001_0004, Size::Word), Ok(0x73));
+    assert_eq!(rt;
+        code.load(0x0001_0005, Size::Half),
+        Err(Fault::AddressNotAligned)
+    );
+    assert_eq!(rt; code.load(0x0002_0004, Size::Word), Err(Fault::NoRegion));
+    assert_eq!(rt; code.number(4, Size::Byte), 0x73);
+    Ok(())
+}

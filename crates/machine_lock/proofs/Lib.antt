@@ -1,0 +1,9 @@
+pub mod StalledSteps
+pub mod Keeping
+pub mod Serially
+pub mod OpeningBytes
+pub mod InRange
+pub mod LocalBytes
+pub mod Explaining
+pub mod Taken
+pub mod Poking

@@ -1,0 +1,6 @@
+pub mod Parts
+pub mod Meanings
+pub mod Special
+pub mod Composing
+pub mod Composed
+pub mod Bytes

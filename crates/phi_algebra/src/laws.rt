@@ -1,0 +1,47 @@
+//! Laws, each the contract of a function that does nothing.
+
+ghost use Rattle.std.specs.Prelude.{ℕ, ◌^◌, ◌<◌};
+ghost use Rattle.phi_algebra.specs.Functions.{IsInRange, apply};
+ghost use Rattle.phi_algebra.specs.Laws.{CompositionIsAssociative, IdentityIsNeutral, NewPartsAreNewBytes, OneKindComposes, PartsAreBytes};
+
+use crate::phi::Phi;
+
+/// What the type keeps of every function: its words are below 2^32, and the ends of its range are
+/// in order. So its value at a word is a word.
+#[tactic(auto, using(crate::proofs::Composing::value_small))]
+pub fn keeps_its_range(phi: &Phi)
+    ensures fields { IsInRange phi.now }
+    ensures values { (x : ℕ) → x < 2 ^ 32 → apply phi.now x < 2 ^ 32 }
+{
+    match phi {
+        Phi::Add(amount) => {
+            let _amount = *amount;
+        }
+        Phi::Bits { and, xor } => {
+            let _words = (*and, *xor);
+        }
+        Phi::Clamp(range) => range.keeps_order(),
+        Phi::ClampU(range) => range.keeps_order(),
+    }
+}
+
+/// It is the same function whichever two of three are composed first.
+pub fn composition_is_associative()
+    ensures { CompositionIsAssociative }
+{}
+
+/// An identity composes with every function on either side, and changes nothing.
+pub fn identity_is_neutral()
+    ensures { IdentityIsNeutral }
+{}
+
+/// Two functions of one kind compose, to that kind.
+pub fn one_kind_composes()
+    ensures { OneKindComposes }
+{}
+
+/// The parts of a word, by division, are its bytes as they stand in memory, the lowest first.
+pub fn parts_are_bytes()
+    ensures read { PartsAreBytes }
+    ensures written { NewPartsAreNewBytes }
+{}

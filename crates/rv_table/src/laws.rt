@@ -1,0 +1,27 @@
+//! Laws of the table: each is the contract of a function that does nothing.
+
+ghost use Rattle.std.specs.Prelude.{◌≡◌, ℕ, ◌↔◌, Contains, Some};
+ghost use Rattle.rv_table.specs.declared.insn.Insn.{Insn};
+ghost use Rattle.rv_table.specs.Rows.{rows, row_of, Spells, insn_of};
+
+use crate::table::TABLE;
+
+/// The table of the code is the table of the manual.
+pub fn rows_are_the_table()
+    ensures { TABLE ≡ rows }
+{}
+
+/// The row of each instruction stands in the table.
+pub fn row_of_insn_is_listed()
+    ensures { (i : Insn) → Contains rows (row_of i) }
+{}
+
+/// A word spells at most one instruction.
+pub fn spelled_once()
+    ensures { (word : ℕ) (i j : Insn) → Spells word i → Spells word j → i ≡ j }
+{}
+
+/// Reading a word by the table gives the instruction that it spells.
+pub fn spelled_is_read()
+    ensures { (word : ℕ) (i : Insn) → (insn_of word ≡ Some i) ↔ Spells word i }
+{}

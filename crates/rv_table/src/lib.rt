@@ -1,0 +1,18 @@
+//! The instructions of RV32I and Zaamo, and the table of their 49 rows.
+//!
+//! Source: The RISC-V Instruction Set Manual, Volume I (Unprivileged ISA): chapter "RV32I Base
+//! Integer Instruction Set", extension "A" (the `Zaamo` part), and the tables of chapter
+//! "RV32/64G Instruction Set Listings".
+#![tactic(auto)]
+
+mod insn;
+mod laws;
+mod operand;
+mod operation;
+mod table;
+
+pub use insn::Insn;
+pub use laws::{row_of_insn_is_listed, rows_are_the_table, spelled_is_read, spelled_once};
+pub use operand::{Immediate, Register};
+pub use operation::{AmoOp, BranchOp, ImmediateOp, LoadOp, RegisterOp, ShiftOp, StoreOp, UpperOp};
+pub use table::{Format, Row, TABLE, row_of};

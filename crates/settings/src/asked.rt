@@ -1,0 +1,48 @@
+//! The words of the command line, as settings.
+ghost use Rattle.std.specs.Prelude.{◌≡◌, ◌≢◌, ℕ, List, IfOk, MatchResult, map};
+ghost use Rattle.clap.specs.Words.{FailsBy, fault_of, kind_of, subcommand_of, subcommand_rows_of};
+ghost use Rattle.settings.specs.Lines.{AreWordsOf, IsAsked, NameWordsOf, ultra_command};
+
+use crate::choice::Settings;
+use crate::command::ultra_shape;
+use crate::reads::chosen;
+use clap::error::ErrorKind;
+use clap::{ArgMatches, Error};
+use std::alloc::Global;
+
+/// What `clap` makes of the words.
+fn matched<'a>(alloc: Global, words: &'a [&'a str]) -> Result<ArgMatches<'a>, Error>
+    ensures rows { IfOk result (λ m. subcommand_rows_of m ≡ subcommand_of ultra_command (map (λ w. w.now) words.entry.now)) }
+    ensures kinds { FailsBy (fault_of ultra_command (map (λ w. w.now) words.entry.now)) result }
+{
+    ultra_shape(alloc)?.try_get_matches_from(words)
+}
+
+/// What the words ask for, of which the first is the program's name. An `Err` is a mistake in the words, a request for
+/// help or the version, or a lack of memory, and its `Display` is the text for the user.
+pub fn settings<'a>(alloc: Global, words: &'a [&'a str]) -> Result<Settings<'a>, Error>
+    // The command and its file are those that `clap` finds in the words.
+    ensures asked { IfOk result (IsAsked (map (λ w. w.now) words.entry.now)) }
+
+    // Settings come only where `clap` finds no fault in the words, and an error is one of their faults or a lack of
+    // memory. A request for help or the version is a fault too.
+    ensures kinds { FailsBy (fault_of ultra_command (map (λ w. w.now) words.entry.now)) result }
+
+    // So `words FILE` gives the file.
+    ensures file { (file : List ℕ) → NameWordsOf file (map (λ w. w.now) words.entry.now)
+        → MatchResult result (AreWordsOf file) (λ e. kind_of e ≡ ErrorKind.OutOfMemory) }
+{
+    let matches = matched(alloc, words)?;
+    Ok(chosen(&matches))
+}
+
+/// The exit status of a command line that gives no settings.
+pub fn status_of(error: &Error) -> u8
+    ensures memory { kind_of error.now ≡ ErrorKind.OutOfMemory → result ≡ 4 }
+    ensures refused { kind_of error.now ≢ ErrorKind.OutOfMemory → result ≡ 2 }
+{
+    match error.kind() {
+        ErrorKind::OutOfMemory => 4,
+        _ => 2,
+    }
+}

@@ -1,0 +1,13 @@
+//! What the words of the command line ask for.
+#![tactic(auto)]
+
+mod asked;
+mod choice;
+mod command;
+mod reads;
+
+pub use asked::{settings, status_of};
+pub use choice::{Settings, Words};
+
+#[cfg(test)]
+mod tests;

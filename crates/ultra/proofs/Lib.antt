@@ -1,0 +1,3 @@
+pub mod Lines
+pub mod Instructions
+pub mod Reports

@@ -1,0 +1,22 @@
+-- What the command reads, and what its faults tell.
+use Rattle.std.proofs.Common.{◌≡◌, ℕ, ◌≤◌, List, take, Option, Some, None, IfSome, arith}
+use Rattle.std.specs.Option.{option_map}
+use Rattle.ultra.specs.declared.words.command.WordsFault.{WordsFault}
+use Rattle.ultra.specs.declared.words.command.WordsFault.TheVariants as fault
+use Rattle.ultra.specs.Command.{IsRead, IsFaultOf, IsToldOf, status_of_fault}
+
+pub read_known : (known : Option (List ℕ)) (items : List ℕ) → IfSome (option_map (take 147457) known) (λ xs. items ≡ xs) → IsRead known items
+read_known None items h = tt
+read_known (Some bytes) items h = h
+
+pub told_of : (known : Option (List ℕ)) (text : List ℕ) (f : WordsFault) → IsRead known text → IsFaultOf f text → IsToldOf known f
+told_of known text (fault.Line number) read is = (text, read, is)
+told_of known text fault.Budget read is = (text, read, is)
+told_of known text fault.Link read is = tt
+told_of known text fault.Memory read is = tt
+
+pub fault_is_high : (f : WordsFault) → 2 ≤ status_of_fault f
+fault_is_high (fault.Line number) = omega arith
+fault_is_high fault.Link = omega arith
+fault_is_high fault.Memory = omega arith
+fault_is_high fault.Budget = omega arith

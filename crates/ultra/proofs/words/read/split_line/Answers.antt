@@ -1,0 +1,12 @@
+use Rattle.std.proofs.Common.{◌≡◌, ◌+◌, ◌-◌, ◌∷◌, [], suc, length, take, drop, arith, ap, sym, ◌∙◌}
+use Rattle.ultra.specs.HexText.{lines_of}
+use Rattle.ultra.proofs.Lines.{is_lf, line_found, line_last, rest_of, nothing_left}
+use Rattle.ultra.proofs.words.read.split_line.Goals as goal
+
+pub returns-in-Some-clause-lines : goal.returns-in-Some-clause-lines
+returns-in-Some-clause-lines c =
+    line_found c.args.text.now c.in-Some.end (sym c.in-Some.ensures) ∙ ap (λ rest. take c.in-Some.end c.args.text.now ∷ lines_of rest) (rest_of c.args.text.now c.in-Some.end)
+
+pub returns-in-None-clause-lines : goal.returns-in-None-clause-lines
+returns-in-None-clause-lines c =
+    line_last c.args.text.now (sym c.in-None.ensures) c.requires ∙ ap (λ rest. c.args.text.now ∷ lines_of rest) (sym (nothing_left c.args.text.now))

@@ -1,0 +1,81 @@
+//! `ultra`: simulates the NYU Ultracomputer.
+#![tactic(auto)]
+
+mod words;
+
+use clap::Error;
+use settings::{Settings, settings, status_of};
+use std::alloc::{AllocError, Global};
+use std::io::{self, ErrorKind, Write};
+use std::process::ExitCode;
+use std::rt::{Env, Files};
+use std::{env, fs};
+use words::{WordsFault, tell, words_command};
+
+/// The exit status of a command line that is refused.
+const REFUSED: u8 = 2;
+
+fn main(rt: HostRuntime) -> ExitCode {
+    let (stdout, stderr) = (rt.stdout(), rt.stderr());
+    let status = carry_out(&rt, &mut io::writer(&stdout), &mut io::writer(&stderr));
+    ExitCode::from(status)
+}
+
+/// Does what the command line asks for, and answers the exit status.
+fn carry_out<R: Env + Files + AllocGlobal, W: Write, E: Write>(
+    rt: &R,
+    out: &mut W,
+    err: &mut E,
+) -> u8 {
+    let arguments = match env::args(rt) {
+        Ok(arguments) => arguments,
+        Err(error) => return refuse_arguments(error.kind(), err),
+    };
+    let alloc = rt.alloc();
+    let Ok(arguments) = arguments.collect::<Vec<String>>(alloc) else {
+        return tell(WordsFault::Memory, err);
+    };
+    let Ok(words) = texts(alloc, arguments.as_slice()) else {
+        return tell(WordsFault::Memory, err);
+    };
+    match settings(alloc, words.as_slice()) {
+        Ok(Settings::Words(words)) => match fs::open(rt, words.file) {
+            Ok(file) => words_command(alloc, file, out, err),
+            Err(_) => tell(WordsFault::Link, err),
+        },
+        Err(error) => refuse(&error, out, err),
+    }
+}
+
+/// The arguments as texts.
+fn texts<'a>(alloc: Global, arguments: &'a [String]) -> Result<Vec<&'a str>, AllocError> {
+    let mut texts = Vec::new(alloc);
+    for argument in arguments {
+        texts.push(argument.as_str())?;
+    }
+    Ok(texts)
+}
+
+/// Tells that the arguments could not be read: one of them is no text, or there is no memory.
+fn refuse_arguments<E: Write>(kind: ErrorKind, err: &mut E) -> u8 {
+    if kind == ErrorKind::OutOfMemory {
+        return tell(WordsFault::Memory, err);
+    }
+    let _ = writeln!(err, "error: an argument is not UTF-8");
+    REFUSED
+}
+
+/// Tells why the command line is refused, in the words of the command line's parser. Help that was
+/// asked for goes to standard output.
+fn refuse<W: Write, E: Write>(error: &Error, out: &mut W, err: &mut E) -> u8 {
+    let status = status_of(error);
+    if status != REFUSED {
+        return tell(WordsFault::Memory, err);
+    }
+    let _ = if error.use_stderr() {
+        write!(err, "{error}")
+    } else {
+        write!(out, "{error}")
+    };
+    status
+}
