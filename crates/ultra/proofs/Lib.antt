@@ -1,3 +1,4 @@
 pub mod Lines
+pub mod Prefixes
 pub mod Instructions
 pub mod Reports

@@ -1,5 +1,5 @@
 -- The first line of a text, and the lines behind it.
-use Rattle.std.proofs.Common.{◌≡◌, ◌≢◌, ℕ, zero, suc, ◌+◌, ◌-◌, ◌<◌, ◌≤◌, Bool, true, false, cond, eqb, List, [], ◌∷◌, ◌++◌, length, take, drop, get_or, Option, Some, None, Result, Ok, Err, refl, sym, ap, ◌∙◌, arith, append_assoc}
+use Rattle.std.proofs.Common.{◌≡◌, ℕ, zero, suc, ◌+◌, ◌-◌, ◌<◌, Bool, true, false, cond, eqb, List, [], ◌∷◌, ◌++◌, length, take, drop, get_or, Some, None, Result, Ok, Err, refl, sym, ap, arith, append_assoc}
 use Rattle.std.specs.Prelude.{position, nat_lt, not}
 use Rattle.std.specs.List.{position_or_len}
 use Rattle.std.proofs.lemmas.Bool.{eq-eqb, ltb-false, ne_eqb, not-true}
@@ -11,7 +11,7 @@ use Rattle.ultra.specs.HexText.{lines_of, before_lines, word_of_line, words_of_l
 abbrev pub is_lf : ℕ → Bool
 is_lf byte = eqb byte 10
 
-lines_cut : (text : List ℕ) (i : ℕ) → i < length text → is_lf (get_or text i 0) ≡ true → ((k : ℕ) → k < i → is_lf (get_or text k 0) ≡ false) → lines_of text ≡ take i text ∷ lines_of (drop (suc i) text)
+pub lines_cut : (text : List ℕ) (i : ℕ) → i < length text → is_lf (get_or text i 0) ≡ true → ((k : ℕ) → k < i → is_lf (get_or text k 0) ≡ false) → lines_of text ≡ take i text ∷ lines_of (drop (suc i) text)
 lines_cut [] i inside at before = absurd (omega arith)
 lines_cut (byte ∷ text) zero inside at before = rw at refl
 lines_cut (byte ∷ text) (suc i) inside at before =
@@ -30,15 +30,18 @@ lines_whole (byte ∷ next ∷ text) none some =
     let rest = lines_whole (next ∷ text) (λ k h. none (suc k) (omega arith)) (omega arith) in
     rw here (ap (before_lines byte) rest)
 
-pub line_last : (text : List ℕ) → position is_lf text ≡ None → 0 < length text → lines_of text ≡ text ∷ []
-line_last text e some = by_place (nat_lt place (length text)) refl e
+pub no_lf : (text : List ℕ) → position is_lf text ≡ None → (k : ℕ) → k < length text → is_lf (get_or text k 0) ≡ false
+no_lf text e = by_place (nat_lt place (length text)) refl e
   where
     place : ℕ
     place = position_or_len is_lf text
 
-    by_place : (b : Bool) → nat_lt place (length text) ≡ b → cond b (Some place) None ≡ None → lines_of text ≡ text ∷ []
-    by_place true inside none = absurd (cc)
-    by_place false outside none = lines_whole text (λ k h. not-true (is_lf (get_or text k 0)) (prefix_len_passes (λ byte. not (is_lf byte)) text k 0 (omega (arith, ltb-false place (length text) outside)))) some
+    by_place : (b : Bool) → nat_lt place (length text) ≡ b → cond b (Some place) None ≡ None → (k : ℕ) → k < length text → is_lf (get_or text k 0) ≡ false
+    by_place true inside none k h = absurd (cc)
+    by_place false outside none k h = not-true (is_lf (get_or text k 0)) (prefix_len_passes (λ byte. not (is_lf byte)) text k 0 (omega (arith, ltb-false place (length text) outside)))
+
+pub line_last : (text : List ℕ) → position is_lf text ≡ None → 0 < length text → lines_of text ≡ text ∷ []
+line_last text e some = lines_whole text (no_lf text e) some
 
 -- what slicing leaves behind a line
 pub rest_of : (text : List ℕ) (i : ℕ) → drop (suc i) text ≡ take (length text - (i + 1)) (drop (i + 1) text)

@@ -1,13 +1,15 @@
 -- What the command reads, and what its faults tell.
-use Rattle.std.proofs.Common.{◌≡◌, ℕ, ◌≤◌, List, take, Option, Some, None, IfSome, arith}
+use Rattle.std.proofs.Common.{◌≡◌, ℕ, ◌≤◌, List, take, Option, Some, None, IfSome, ap, ◌∙◌, arith}
 use Rattle.std.specs.Option.{option_map}
 use Rattle.ultra.specs.declared.words.command.WordsFault.{WordsFault}
 use Rattle.ultra.specs.declared.words.command.WordsFault.TheVariants as fault
+use Rattle.ultra.specs.HexText.{words_of_text}
+use Rattle.ultra.proofs.Prefixes.{bytes_read_tell}
 use Rattle.ultra.specs.Command.{IsRead, IsFaultOf, IsToldOf, status_of_fault}
 
 pub read_known : (known : Option (List ℕ)) (items : List ℕ) → IfSome (option_map (take 147457) known) (λ xs. items ≡ xs) → IsRead known items
 read_known None items h = tt
-read_known (Some bytes) items h = h
+read_known (Some bytes) items h = ap words_of_text h ∙ bytes_read_tell bytes
 
 pub told_of : (known : Option (List ℕ)) (text : List ℕ) (f : WordsFault) → IsRead known text → IsFaultOf f text → IsToldOf known f
 told_of known text (fault.Line number) read is = (text, read, is)

@@ -1,5 +1,5 @@
 -- What `ultra words` does: from the bytes of a file to the bytes of a report.
-use Rattle.std.specs.Prelude.{◌≡◌, ℕ, ◌≤◌, true, false, List, [], ◌∷◌, take, Option, Some, None, Ok, Err}
+use Rattle.std.specs.Prelude.{◌≡◌, ℕ, ◌≤◌, false, List, [], ◌∷◌, Option, Some, None, Ok, Err}
 use Rattle.std.specs.Io.KnownBytes.{Appends}
 use Rattle.flat_machine.specs.declared.event.Status.{Status}
 use Rattle.flat_machine.specs.declared.event.Status.TheVariants.{Running, Halted, Faulted}
@@ -12,10 +12,10 @@ use Rattle.ultra.specs.HexText.{words_of_text}
 use Rattle.ultra.specs.Report.{report_of}
 use Rattle.ultra.specs.Running.{HasRun}
 
--- The text is what was read of a file: its first bytes, as many as can matter, where the file's bytes are known.
+-- The text spells what the file does, where the file's bytes are known. (It is their beginning: not all bytes need be read.)
 abbrev pub IsRead : Option (List ℕ) → List ℕ → Type 0
 IsRead None text = Unit {0}
-IsRead (Some bytes) text = text ≡ take 147457 bytes
+IsRead (Some bytes) text = words_of_text text ≡ words_of_text bytes
 
 -- a flat machine of one processor, which stands like this
 abbrev pub HasProcessor : FlatState → Processor → Type 0

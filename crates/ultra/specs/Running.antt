@@ -1,5 +1,5 @@
 -- Runs of `ultra words`: one processor, one whole instruction after another.
-use Rattle.std.specs.Prelude.{◌≡◌, ℕ, ◌≤◌, Bool, true, false, List, replicate, count_by}
+use Rattle.std.specs.Prelude.{◌≡◌, ℕ, Bool, true, false, List, replicate, count_by}
 use Rattle.flat_machine.specs.declared.event.Event.{Event}
 use Rattle.flat_machine.specs.declared.event.Event.TheVariants.{Retired, Stopped}
 use Rattle.flat_machine.specs.declared.poke.Entry.{Entry}

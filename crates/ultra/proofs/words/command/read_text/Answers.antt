@@ -1,4 +1,3 @@
-use Rattle.std.proofs.Common.{◌≡◌}
 use Rattle.ultra.proofs.Reports.{read_known}
 use Rattle.ultra.proofs.words.command.read_text.Goals as goal
 

@@ -1,4 +1,4 @@
-use Rattle.std.proofs.Common.{◌≤◌, arith}
+use Rattle.std.proofs.Common.{arith}
 use Rattle.ultra.proofs.Reports.{fault_is_high}
 use Rattle.ultra.proofs.words.command.words_command.Goals as goal
 

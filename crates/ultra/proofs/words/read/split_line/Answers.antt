@@ -1,6 +1,6 @@
-use Rattle.std.proofs.Common.{◌≡◌, ◌+◌, ◌-◌, ◌∷◌, [], suc, length, take, drop, arith, ap, sym, ◌∙◌}
+use Rattle.std.proofs.Common.{◌∷◌, take, ap, sym, ◌∙◌}
 use Rattle.ultra.specs.HexText.{lines_of}
-use Rattle.ultra.proofs.Lines.{is_lf, line_found, line_last, rest_of, nothing_left}
+use Rattle.ultra.proofs.Lines.{line_found, line_last, rest_of, nothing_left}
 use Rattle.ultra.proofs.words.read.split_line.Goals as goal
 
 pub returns-in-Some-clause-lines : goal.returns-in-Some-clause-lines

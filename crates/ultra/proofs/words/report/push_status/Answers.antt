@@ -1,6 +1,6 @@
-use Rattle.std.proofs.Common.{◌≡◌, ◌++◌, codes, ap, ◌∙◌, append_assoc}
+use Rattle.std.proofs.Common.{◌++◌, codes, ap, ◌∙◌, append_assoc}
 use Rattle.std.specs.Prelude.{string_bytes}
-use Rattle.ultra.specs.Report.{hex_of_byte, status_text}
+use Rattle.ultra.specs.Report.{hex_of_byte}
 use Rattle.ultra.proofs.words.report.push_status.Goals as goal
 
 pub returns-in_ok-push_byte-in-Halted : goal.returns-in_ok-push_byte-in-Halted

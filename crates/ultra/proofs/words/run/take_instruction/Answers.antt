@@ -1,4 +1,4 @@
-use Rattle.std.proofs.Common.{◌≡◌, ap, sym, subst, ◌∙◌}
+use Rattle.std.proofs.Common.{sym, subst, ◌∙◌}
 use Rattle.machine_lock.specs.declared.step.Outcome.{Outcome}
 use Rattle.machine_lock.specs.declared.step.Step.TheVariants as step
 use Rattle.machine_lock.specs.Machine.{MachineState, outcome_of, after}

@@ -1,4 +1,4 @@
-use Rattle.std.proofs.Common.{◌≡◌, ◌≢◌, ◌+◌, ◌*◌, ◌≤◌, ap, sym, subst, ◌∙◌, arith, length}
+use Rattle.std.proofs.Common.{◌≢◌, ◌*◌, ◌≤◌, subst, ◌∙◌, arith, length}
 use Rattle.flat_machine.specs.declared.event.Event.{Event}
 use Rattle.machine_lock.specs.Logs.{machine_of}
 use Rattle.machine_lock.specs.Taking.{HasTaken}
