@@ -28,7 +28,8 @@ use Rattle.flat_machine.specs.Turns.{Turn, Retires, Reaches, Stops, turn_of, tur
 use Rattle.flat_machine.specs.Flat.{taken, with_taken, step_of, turned, flat_step, flat_run, poked, written, is_lawful, is_lawful_register, with_poked_register, with_poked_byte, with_processor}
 use Rattle.flat_machine.specs.Laws.{HasZero, HasAlignedPc}
 
-all_get : {X : Type 0} (P : X → Type 0) (xs : List X) (k : ℕ) (x : X) → All P xs → slice_get xs k ≡ Some x → P x
+-- what holds of all holds of the one at a place
+pub all_get : {X : Type 0} (P : X → Type 0) (xs : List X) (k : ℕ) (x : X) → All P xs → slice_get xs k ≡ Some x → P x
 all_get P xs k x all e =
     let inside : k < length xs = slice_get_within xs k x e in
     subst P (get_or_from_slice_get xs k x x e) (all k x inside)

@@ -4,9 +4,14 @@ ghost use Rattle.std.specs.Prelude.{◌≡◌, ◌≢◌, ℕ, ◌<◌, ◌≤�
 ghost use Rattle.flat_machine.specs.declared.event.Cause.{Cause};
 ghost use Rattle.flat_machine.specs.declared.event.Event.TheVariants.{Stopped};
 ghost use Rattle.flat_machine.specs.declared.poke.Entry.{Entry};
+ghost use Rattle.rv_table.specs.declared.insn.Insn.{Insn};
+ghost use Rattle.rv_table.specs.Rows.{InRange};
+ghost use Rattle.flat_machine.specs.declared.setting.Setting.{Setting};
+ghost use Rattle.flat_machine.specs.Effects.{effect_of};
+ghost use Rattle.flat_machine.specs.Turns.{turn_of};
 ghost use Rattle.flat_machine.specs.State.{FlatState, Processor, is_running, status_of};
 ghost use Rattle.flat_machine.specs.Flat.{flat_step, flat_event, flat_run, flat_events};
-ghost use Rattle.flat_machine.specs.Laws.{HasZero, HasAlignedPc, IsLocalAt};
+ghost use Rattle.flat_machine.specs.Laws.{AreBelow, AsksForWords, HasAlignedPc, HasWords, HasZero, IsInRange, IsLocalAt, LeavesWords, WritesWords};
 
 /// Register 0 always holds 0.
 #[tactic(auto, using(crate::proofs::Kept::zero_kept))]
@@ -56,4 +61,14 @@ pub fn local_turns_commute()
 pub fn runs_join()
     ensures state { (m : FlatState) (first second : List Entry) → flat_run m (first ++ second) ≡ flat_run (flat_run m first) second }
     ensures events { (m : FlatState) (first second : List Entry) → flat_events m (first ++ second) ≡ flat_events m first ++ flat_events (flat_run m first) second }
+{}
+
+/// Words stay words, and bytes stay bytes: what an instruction asks for, what a turn leaves of a
+/// processor and of the word that it reaches, and the whole machine after a run whose pokes write
+/// words and bytes.
+#[tactic(auto, using(crate::proofs::Values::effect_asks, crate::proofs::InRange::turn_words))]
+pub fn words_stay_words()
+    ensures effect { (s : Setting) (pc : ℕ) (registers : List ℕ) (i : Insn) → s.number < 2 ^ 32 → s.processors < 2 ^ 32 → AreBelow (2 ^ 32) registers → InRange i → AsksForWords (effect_of s pc registers i) }
+    ensures turn { (s : Setting) (code : List ℕ) (p : Processor) → s.number < 2 ^ 32 → s.processors < 2 ^ 32 → AreBelow 256 code → HasWords p → LeavesWords (turn_of s code p) }
+    ensures run { (m : FlatState) (entries : List Entry) → IsInRange m → All WritesWords entries → IsInRange (flat_run m entries) }
 {}

@@ -1,3 +1,3 @@
 mod Apart
 mod Candidates
-mod Reading
+pub mod Reading

@@ -5,7 +5,8 @@ use Rattle.std.specs.List.{list_all}
 use Rattle.std.proofs.lemmas.Bool.{cases_Bool, and_parts, both_ways, eqb-true, eq-eqb}
 use Rattle.std.proofs.lemmas.List.Folds.{list_all-map, list_all_at}
 use Rattle.rv_table.specs.declared.insn.Insn.{Insn}
-use Rattle.rv_table.specs.Rows.{row_of, candidates, insn_of, HasOperands, Spells}
+use Rattle.rv_table.specs.declared.insn.Insn.TheVariants.{Op, OpImm, Shift, Load, Store, Branch, Upper, Jal, Jalr, Fence, Ecall, Ebreak, Amo}
+use Rattle.rv_table.specs.Rows.{row_of, candidates, insn_of, HasOperands, InRange, Spells}
 use Rattle.rv_table.proofs.Apart.{fits, apart, all_apart, rows_are_apart, fits_both}
 use Rattle.rv_table.proofs.Candidates.{with_fields, has_fields, same_from_operands, candidates_have_fields, candidates_have_rows, listed}
 
@@ -54,3 +55,28 @@ unfolding insn_of
 spelled w i e =
     let f = from_found w i (candidates w) (candidates_have_fields w) e in
     record { row = eqb-true _ _ f.0; operands = subst (HasOperands w) f.1 (has_fields w i) }
+
+-- ---- widths
+
+-- a field of a word is below its width
+fields_fit : (w : ℕ) (i : Insn) → HasOperands w i → InRange i
+fields_fit w (Op op rd rs1 rs2) h = (omega arith, omega arith, omega arith)
+fields_fit w (OpImm op rd rs1 imm) h = (omega arith, omega arith, omega arith)
+fields_fit w (Shift op rd rs1 amount) h = (omega arith, omega arith, omega arith)
+fields_fit w (Load op rd rs1 imm) h = (omega arith, omega arith, omega arith)
+fields_fit w (Store op rs1 rs2 imm) h = (omega arith, omega arith, omega arith)
+fields_fit w (Branch op rs1 rs2 offset) h = (omega arith, omega arith, omega arith)
+fields_fit w (Upper op rd upper) h = (omega arith, omega arith)
+fields_fit w (Jal rd offset) h = (omega arith, omega arith)
+fields_fit w (Jalr rd rs1 imm) h = (omega arith, omega arith, omega arith)
+fields_fit w (Fence rd rs1 ordering) h = (omega arith, omega arith, omega arith)
+fields_fit w Ecall h = tt
+fields_fit w Ebreak h = tt
+fields_fit w (Amo op rd rs1 rs2 aq rl) h = (omega arith, omega arith, omega arith)
+
+pub operands_fit : (w : ℕ) (i : Insn) → Spells w i → InRange i
+operands_fit w i s = fields_fit w i s.operands
+
+-- the instruction that is read of any word has its operands in their ranges
+pub read_fits : (w : ℕ) (i : Insn) → insn_of w ≡ Some i → InRange i
+read_fits w i e = operands_fit w i (spelled w i e)

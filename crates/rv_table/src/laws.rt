@@ -2,7 +2,7 @@
 
 ghost use Rattle.std.specs.Prelude.{◌≡◌, ℕ, ◌↔◌, Contains, Some};
 ghost use Rattle.rv_table.specs.declared.insn.Insn.{Insn};
-ghost use Rattle.rv_table.specs.Rows.{rows, row_of, Spells, insn_of};
+ghost use Rattle.rv_table.specs.Rows.{rows, row_of, InRange, Spells, insn_of};
 
 use crate::table::TABLE;
 
@@ -24,4 +24,10 @@ pub fn spelled_once()
 /// Reading a word by the table gives the instruction that it spells.
 pub fn spelled_is_read()
     ensures { (word : ℕ) (i : Insn) → (insn_of word ≡ Some i) ↔ Spells word i }
+{}
+
+/// The operands of an instruction that a word spells have the widths of its fields.
+#[tactic(auto, using(crate::proofs::Reading::operands_fit))]
+pub fn operands_fit_their_fields()
+    ensures { (word : ℕ) (i : Insn) → Spells word i → InRange i }
 {}

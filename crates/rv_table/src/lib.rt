@@ -12,7 +12,10 @@ mod operation;
 mod table;
 
 pub use insn::Insn;
-pub use laws::{row_of_insn_is_listed, rows_are_the_table, spelled_is_read, spelled_once};
+pub use laws::{
+    operands_fit_their_fields, row_of_insn_is_listed, rows_are_the_table, spelled_is_read,
+    spelled_once,
+};
 pub use operand::{Immediate, Register};
 pub use operation::{AmoOp, BranchOp, ImmediateOp, LoadOp, RegisterOp, ShiftOp, StoreOp, UpperOp};
 pub use table::{Format, Row, TABLE, row_of};
