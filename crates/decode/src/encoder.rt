@@ -2,15 +2,17 @@
 
 ghost use Rattle.std.specs.Prelude.{◌≡◌, ℕ, ◌^◌, ◌<◌};
 ghost use Rattle.rv_table.specs.Rows.{InRange, Spells};
-ghost use Rattle.decode.specs.Words.{operands_of, r_operands, i_operands, s_operands, b_operands, j_operands};
+ghost use Rattle.decode.specs.Words.{word_of, operands_of, r_operands, i_operands, s_operands, b_operands, j_operands};
 
 use crate::fields::field;
 use rv_table::{Immediate, Insn, Register, row_of};
 
 /// The one word that spells the instruction.
 pub fn encode(insn: &Insn) -> u32
+    ensures value { result ≡ word_of insn.now }
     ensures spells { Spells result insn.now }
     ensures only { (word : ℕ) → word < 2 ^ 32 → Spells word insn.now → word ≡ result }
+    ensures in_range { InRange insn.now }
 {
     row_of(insn).match_ + operands(insn)
 }

@@ -19,7 +19,7 @@ across_range_by f g false false true k p q = p
 across_range_by f g false false false true p q = (omega arith, value_small g _ q (value_small f 0 p (omega arith)))
 across_range_by f g false false false false p q = tt
 
-composed_range : (f g : Phi) → IsInRange f → IsInRange g → IfSome (composed f g) IsInRange
+pub composed_range : (f g : Phi) → IsInRange f → IsInRange g → IfSome (composed f g) IsInRange
 unfolding composed
 composed_range (Add e) (Add e') p q = omega arith
 composed_range (Bits and xor) (Bits and' xor') p q =
@@ -32,10 +32,10 @@ composed_range f g p q = across_range_by f g (is_identity f) (is_constant g) (is
 
 -- ---- a composition that is there
 
-meaning_of : (f g h : Phi) → composed f g ≡ Some h → IsInRange f → IsInRange g → IsComposition f g h
+pub meaning_of : (f g h : Phi) → composed f g ≡ Some h → IsInRange f → IsInRange g → IsComposition f g h
 meaning_of f g h e p q = rw e at (composed_meaning f g p q)
 
-range_of : (f g h : Phi) → composed f g ≡ Some h → IsInRange f → IsInRange g → IsInRange h
+pub range_of : (f g h : Phi) → composed f g ≡ Some h → IsInRange f → IsInRange g → IsInRange h
 range_of f g h e p q = rw e at (composed_range f g p q)
 
 pub associative : CompositionIsAssociative
