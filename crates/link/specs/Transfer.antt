@@ -1,0 +1,20 @@
+-- What reading and writing do to the bytes that a device tells of.
+use Rattle.std.specs.Prelude.{◌≡◌, ℕ, ◌<◌, ◌≤◌, ◌+◌, List, ◌++◌, length, Option}
+use Rattle.std.specs.Io.KnownBytes.{Appends, Consumes, IsAtEnd}
+use Rattle.link.specs.declared.transfer.TheConstants.{PIECE_BYTES}
+
+-- the known bytes are these, and none is left
+abbrev pub ConsumesAll : Option (List ℕ) → Option (List ℕ) → List ℕ → Type 0
+ConsumesAll old new bytes = Consumes old new bytes × IsAtEnd new
+
+-- the known bytes lose more than limit bytes, by less than a piece
+abbrev pub ConsumesPast : ℕ → Option (List ℕ) → Option (List ℕ) → Type 0
+ConsumesPast limit old new = (bytes : List ℕ) × (limit < length bytes) × (length bytes ≤ limit + PIECE_BYTES) × Consumes old new bytes
+
+-- the known bytes lose fewer than limit bytes
+abbrev pub ConsumesLess : ℕ → Option (List ℕ) → Option (List ℕ) → Type 0
+ConsumesLess limit old new = (bytes : List ℕ) × (length bytes < limit) × Consumes old new bytes
+
+-- the known bytes grow by a beginning of the text, and not by all of it
+abbrev pub AppendsPart : Option (List ℕ) → Option (List ℕ) → List ℕ → Type 0
+AppendsPart old new text = (written : List ℕ) × (missing : List ℕ) × (text ≡ written ++ missing) × (0 < length missing) × Appends old new written
