@@ -1,0 +1,43 @@
+-- What tests and first refusals tell.
+use Rattle.std.proofs.Common.{◌≡◌, ℕ, zero, suc, Bool, true, false, not, cond, ◌&&◌, ◌||◌, List, [], ◌∷◌, map, Option, None, Some, Result, Ok, Err, refl, sym, subst}
+use Rattle.std.specs.Prelude.{slice_get, IfErr, IsErrAnd}
+use Rattle.std.specs.List.{list_any}
+use Rattle.elf_image.specs.declared.error.ImageError.{ImageError}
+use Rattle.elf_image.specs.Refusals.{first_of}
+
+pub and_true : (a b : Bool) → (a && b) ≡ true → (a ≡ true) × (b ≡ true)
+and_true true b e = (refl, e)
+and_true false b e = absurd (cc)
+
+pub or_false : (a b : Bool) → (a || b) ≡ false → (a ≡ false) × (b ≡ false)
+or_false true b e = absurd (cc)
+or_false false b e = (refl, e)
+
+pub not_false : (a : Bool) → not a ≡ false → a ≡ true
+not_false true e = refl
+not_false false e = absurd (cc)
+
+-- a test that refuses nothing
+pub passed : {E : Type 0} (b : Bool) (e : E) (rest : Option E) → cond b (Some e) rest ≡ None → (b ≡ false) × (rest ≡ None)
+passed true e rest h = absurd (cc)
+passed false e rest h = (refl, h)
+
+pub first_none : (o : Option ImageError) (os : List (Option ImageError)) → first_of (o ∷ os) ≡ None → (o ≡ None) × (first_of os ≡ None)
+first_none None os h = (refl, h)
+first_none (Some e) os h = absurd (cc)
+
+-- where there is no first refusal, none of a list's elements is refused
+pub each_none : {X : Type 0} (refusal : X → Option ImageError) (xs : List X) (k : ℕ) (x : X) → first_of (map refusal xs) ≡ None → slice_get xs k ≡ Some x → refusal x ≡ None
+each_none refusal [] k x h at = absurd (cc)
+each_none refusal (y ∷ ys) zero x h at = let same : y ≡ x = cc in rw same at (first_none (refusal y) (map refusal ys) h).0
+each_none refusal (y ∷ ys) (suc k) x h at = each_none refusal ys k x (first_none (refusal y) (map refusal ys) h).1 at
+
+pub none_any : {X : Type 0} (test : X → Bool) (xs : List X) (k : ℕ) (x : X) → list_any test xs ≡ false → slice_get xs k ≡ Some x → test x ≡ false
+none_any test [] k x h at = absurd (cc)
+none_any test (y ∷ ys) zero x h at = let same : y ≡ x = cc in rw same at (or_false (test y) (list_any test ys) h).0
+none_any test (y ∷ ys) (suc k) x h at = none_any test ys k x (or_false (test y) (list_any test ys) h).1 at
+
+-- an error that is known
+pub if_err : {T : Type 0} (r : Result T ImageError) (e : ImageError) (P : ImageError → Type 0) → IsErrAnd r (λ x. x ≡ e) → P e → IfErr r P
+if_err (Ok x) e P h p = tt
+if_err (Err x) e P h p = subst P (sym h) p

@@ -1,0 +1,96 @@
+use Rattle.std.proofs.Common.{◌≡◌, ℕ, List, length, None, sym, ap, subst, ◌∙◌}
+use Rattle.elf_image.specs.declared.layout.Layout.{Layout}
+use Rattle.elf_image.specs.declared.region.Region.TheVariants.{Code, Local, Shared}
+use Rattle.elf_image.specs.declared.segment.ProgramHeader.{ProgramHeader}
+use Rattle.elf_image.specs.Headers.{segments}
+use Rattle.elf_image.specs.Refusals.{is_entry, segment_refusals, first_of, have_overlap}
+use Rattle.elf_image.specs.Loading.{IsLoaded}
+use Rattle.elf_image.specs.Images.{IsCause}
+use Rattle.elf_image.proofs.Conditions.{if_err}
+use Rattle.elf_image.proofs.Meant.{Passed, accepted, meant, placed}
+use Rattle.elf_image.proofs.Causes.{cause_headers, cause_segments, cause_overlap, cause_entry}
+use Rattle.elf_image.proofs.read.image_of.Goals as goal
+
+checked_there : (w : ℕ) (file : List ℕ) (ps : List ProgramHeader) → ps ≡ segments file → first_of (segment_refusals (length file) w ps) ≡ None → first_of (segment_refusals (length file) w (segments file)) ≡ None
+checked_there w file ps e h = ap (λ qs. first_of (segment_refusals (length file) w qs)) (sym e) ∙ h
+
+loaded_there : (w : ℕ) (file : List ℕ) (ps : List ProgramHeader) → ps ≡ segments file → (layout : Layout) →
+    IsLoaded file ps w Code layout.code → IsLoaded file ps w Local layout.local → IsLoaded file ps w Shared layout.shared →
+    IsLoaded file (segments file) w Code layout.code × IsLoaded file (segments file) w Local layout.local × IsLoaded file (segments file) w Shared layout.shared
+loaded_there w file ps e layout a b c =
+    (subst (λ qs. IsLoaded file qs w Code layout.code) e a, subst (λ qs. IsLoaded file qs w Local layout.local) e b, subst (λ qs. IsLoaded file qs w Shared layout.shared) e c)
+
+pub new-requires : goal.new-requires
+new-requires c =
+    let file = c.args.file.now in
+    let w = c.args.shared_words in
+    let ps = c.segments_of-segments.ensures in
+    let header = c.in_ok-header.ensures.value in
+    let layout = c.in_ok-layout.layout in
+    let loads = loaded_there w file _ (c.as_slice-3.ensures.value ∙ ps) layout c.in_ok-layout.ensures.code c.in_ok-layout.ensures.local c.in_ok-layout.ensures.shared in
+    let passed : Passed w file = record {
+      short = c.requires;
+      headers = c.in_ok-header.ensures.ok;
+      filed = checked_there w file _ (c.as_slice.ensures.value ∙ ps) c.in_ok-check_each.ensures.ok;
+      disjoint = ap have_overlap (sym (c.as_slice-2.ensures.value ∙ ps)) ∙ sym c.have_overlap.ensures ∙ c.if-have_overlap.false;
+      enters = ap (λ h. is_entry h.e_entry) (sym header) ∙ sym c.has_entry.ensures ∙ c.if-not-has_entry.false;
+    } in
+    placed w file passed layout (meant w file passed layout (c.in_ok-layout.ensures.entry ∙ ap (λ h. h.e_entry) header) loads.0 loads.1 loads.2)
+
+pub returns-in_err-header-clause-refused : goal.returns-in_err-header-clause-refused
+returns-in_err-header-clause-refused c =
+    if_err c.from_residual.result c.in_err-header.field-0.0 (IsCause c.args.shared_words c.args.file.now) c.from_residual.ensures.1 (cause_headers c.args.shared_words c.args.file.now c.requires _ c.in_err-header.ensures.refused)
+
+pub returns-in_err-check_each-clause-refused : goal.returns-in_err-check_each-clause-refused
+returns-in_err-check_each-clause-refused c =
+    let file = c.args.file.now in
+    let w = c.args.shared_words in
+    let there = ap (λ qs. first_of (segment_refusals (length file) w qs)) (sym (c.as_slice.ensures.value ∙ c.segments_of-segments.ensures)) ∙ c.in_err-check_each.ensures.refused in
+    if_err c.from_residual-in_err-check_each.result c.in_err-check_each.field-0.0 (IsCause w file) c.from_residual-in_err-check_each.ensures.1 (cause_segments w file c.requires _ c.in_ok-header.ensures.ok there)
+
+pub returns-then-have_overlap-clause-refused : goal.returns-then-have_overlap-clause-refused
+returns-then-have_overlap-clause-refused c =
+    let file = c.args.file.now in
+    let ps = c.segments_of-segments.ensures in
+    cause_overlap c.args.shared_words file c.requires c.in_ok-header.ensures.ok
+    (checked_there c.args.shared_words file _ (c.as_slice.ensures.value ∙ ps) c.in_ok-check_each.ensures.ok)
+    (ap have_overlap (sym (c.as_slice-2.ensures.value ∙ ps)) ∙ sym c.have_overlap.ensures ∙ c.if-have_overlap.true)
+
+pub returns-then-not-has_entry-clause-refused : goal.returns-then-not-has_entry-clause-refused
+returns-then-not-has_entry-clause-refused c =
+    let file = c.args.file.now in
+    let ps = c.segments_of-segments.ensures in
+    cause_entry c.args.shared_words file c.requires c.in_ok-header.ensures.ok
+    (checked_there c.args.shared_words file _ (c.as_slice.ensures.value ∙ ps) c.in_ok-check_each.ensures.ok)
+    (ap have_overlap (sym (c.as_slice-2.ensures.value ∙ ps)) ∙ sym c.have_overlap.ensures ∙ c.if-have_overlap.false)
+    (ap (λ h. is_entry h.e_entry) (sym c.in_ok-header.ensures.value) ∙ sym c.has_entry.ensures ∙ c.if-not-has_entry.true)
+
+pub returns-clause-accepted : goal.returns-clause-accepted
+returns-clause-accepted c =
+    let file = c.args.file.now in
+    let w = c.args.shared_words in
+    let ps = c.segments_of-segments.ensures in
+    accepted w file (record {
+      short = c.requires;
+      headers = c.in_ok-header.ensures.ok;
+      filed = checked_there w file _ (c.as_slice.ensures.value ∙ ps) c.in_ok-check_each.ensures.ok;
+      disjoint = ap have_overlap (sym (c.as_slice-2.ensures.value ∙ ps)) ∙ sym c.have_overlap.ensures ∙ c.if-have_overlap.false;
+      enters = ap (λ h. is_entry h.e_entry) (sym c.in_ok-header.ensures.value) ∙ sym c.has_entry.ensures ∙ c.if-not-has_entry.false;
+    })
+
+pub returns-clause-meant : goal.returns-clause-meant
+returns-clause-meant c =
+    let file = c.args.file.now in
+    let w = c.args.shared_words in
+    let ps = c.segments_of-segments.ensures in
+    let header = c.in_ok-header.ensures.value in
+    let layout = c.in_ok-layout.layout in
+    let loads = loaded_there w file _ (c.as_slice-3.ensures.value ∙ ps) layout c.in_ok-layout.ensures.code c.in_ok-layout.ensures.local c.in_ok-layout.ensures.shared in
+    let passed : Passed w file = record {
+      short = c.requires;
+      headers = c.in_ok-header.ensures.ok;
+      filed = checked_there w file _ (c.as_slice.ensures.value ∙ ps) c.in_ok-check_each.ensures.ok;
+      disjoint = ap have_overlap (sym (c.as_slice-2.ensures.value ∙ ps)) ∙ sym c.have_overlap.ensures ∙ c.if-have_overlap.false;
+      enters = ap (λ h. is_entry h.e_entry) (sym header) ∙ sym c.has_entry.ensures ∙ c.if-not-has_entry.false;
+    } in
+    rw c.new.ensures (meant w file passed layout (c.in_ok-layout.ensures.entry ∙ ap (λ h. h.e_entry) header) loads.0 loads.1 loads.2)

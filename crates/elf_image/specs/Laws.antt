@@ -1,0 +1,53 @@
+-- What the laws of images speak of.
+use Rattle.std.specs.Prelude.{◌≡◌, ◌⊎◌, ℕ, ◌+◌, ◌-◌, ◌*◌, ◌/◌, ◌%◌, ◌^◌, ◌<◌, true, false, List, length, Some, slice_get, slice_index}
+use Rattle.flat_machine.specs.declared.config.Config.{Config}
+use Rattle.flat_machine.specs.declared.event.Status.TheVariants.{Running}
+use Rattle.flat_machine.specs.Words.{part_of}
+use Rattle.flat_machine.specs.Memory.{in_code, in_local, in_shared}
+use Rattle.flat_machine.specs.State.{Processor, FlatState}
+use Rattle.elf_image.specs.declared.error.ImageError.{ImageError}
+use Rattle.elf_image.specs.declared.error.ImageError.TheVariants as error
+use Rattle.elf_image.specs.declared.region.Region.{Region}
+use Rattle.elf_image.specs.declared.segment.ProgramHeader.{ProgramHeader}
+use Rattle.elf_image.specs.Headers.{file_header, segments}
+use Rattle.elf_image.specs.Refusals.{is_executable, is_supported, is_entry}
+use Rattle.elf_image.specs.Segments.{Sets, byte_of, IsUnset}
+use Rattle.elf_image.specs.Images.{LiesIn}
+
+-- What the file has at an address: what a segment sets there, and zero where none does.
+pub record IsByteAt (file : List ℕ) (address byte : ℕ) : Type 0 where
+  pub set : (k : ℕ) (p : ProgramHeader) → slice_get (segments file) k ≡ Some p → Sets p address → byte ≡ byte_of file p address
+  pub unset : IsUnset (segments file) address → byte ≡ 0
+
+-- A processor opens on the file: it stands at the entry, its registers are zero, and it runs.
+pub record IsOpeningProcessor (file : List ℕ) (p : Processor) : Type 0 where
+  pub pc : p.pc ≡ (file_header file).e_entry
+  pub registers : length p.registers ≡ 32
+  pub zero : (r : ℕ) → slice_index p.registers r ≡ 0
+  pub running : p.status ≡ Running
+  pub local : (address : ℕ) → in_local address ≡ true → IsByteAt file address (slice_index p.local (address % 2 ^ 16))
+
+-- The flat machine of a configuration opens on the file, address by address.
+pub record IsOpening (file : List ℕ) (config : Config) (m : FlatState) : Type 0 where
+  pub count : length m.processors ≡ 2 ^ config.k
+  pub processors : (k : ℕ) (p : Processor) → slice_get m.processors k ≡ Some p → IsOpeningProcessor file p
+  pub words : length m.shared ≡ config.shared_words
+  pub shared : (address : ℕ) → in_shared config.shared_words address ≡ true → IsByteAt file address (part_of 1 (address % 4) (slice_index m.shared ((address - 2 ^ 31) / 4)))
+  pub code : (address : ℕ) → in_code address ≡ true → IsByteAt file address (slice_index m.code (address % 2 ^ 16))
+
+-- What is wrong with a file that is refused, in terms of its bytes and of addresses.
+abbrev pub HasCause : (shared_words : ℕ) → List ℕ → ImageError → Type 0
+HasCause shared_words file error.Truncated =
+    (length file < 52) ⊎ (length file < (file_header file).e_phoff + 32 * (file_header file).e_phnum)
+HasCause shared_words file error.NotExecutable = is_executable file (file_header file) ≡ false
+HasCause shared_words file error.UnsupportedHeader = is_supported (file_header file) ≡ false
+HasCause shared_words file error.OutsideInput =
+    (k : ℕ) × (p : ProgramHeader) × (slice_get (segments file) k ≡ Some p) × ((length file < p.p_offset + p.p_filesz) ⊎ (p.p_memsz < p.p_filesz))
+HasCause shared_words file error.OutsideRegions =
+    (k : ℕ) × (p : ProgramHeader) × (slice_get (segments file) k ≡ Some p) × (0 < p.p_memsz) × ((region : Region) → LiesIn shared_words region p → ⊥)
+HasCause shared_words file error.Overlap =
+    (j : ℕ) × (k : ℕ) × (p : ProgramHeader) × (q : ProgramHeader) × (address : ℕ) × (j < k) × (slice_get (segments file) j ≡ Some p) × (slice_get (segments file) k ≡ Some q) × Sets p address × Sets q address
+HasCause shared_words file error.Entry = is_entry (file_header file).e_entry ≡ false
+HasCause shared_words file error.TooLong = 1048576 < length file
+HasCause shared_words file error.Link = ⊥
+HasCause shared_words file error.Memory = ⊥

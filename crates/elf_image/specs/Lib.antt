@@ -1,0 +1,10 @@
+pub mod Errors
+pub mod Headers
+pub mod Regions
+pub mod Refusals
+pub mod Segments
+pub mod Images
+pub mod Loading
+pub mod Spellings
+pub mod Openings
+pub mod Laws
