@@ -1,0 +1,52 @@
+-- The numbers of fields, as they are written, are in range.
+use Rattle.std.proofs.Common.{◌≡◌, ℕ, suc, ◌+◌, ◌-◌, ◌*◌, ◌/◌, ◌%◌, ◌^◌, ◌<◌, ◌≤◌, true, refl, ap, sym, ◌∙◌, subst, arith, inl, inr}
+use Rattle.std.specs.Prelude.{ℤ, pos, negsuc, ◌-ℤ◌, int_le, unsigned_abs, nat_lt}
+use Rattle.std.proofs.lemmas.Bool.{cases_lt, lt-ltb, le-ltb, le-leb}
+use Rattle.std.proofs.lemmas.Int.{ints}
+use Rattle.asm_lines.specs.Number.{low_bits}
+use Rattle.asm_lines.specs.Written.{signed, offset}
+
+below_zero : (a b : ℕ) → a < b → (pos a -ℤ pos b) ≡ negsuc (b - a - 1)
+below_zero a b lt = omega (arith, ints)
+
+-- a signed number that is one of these, whichever
+pub signed_cases : (P : ℤ → Type 0) (sign field : ℕ) → field < 2 * sign → (field < sign → P (pos field)) → (sign ≤ field → P (negsuc (2 * sign - field - 1))) → P (signed sign field)
+signed_cases P sign field fits low high =
+    elim (cases_lt field sign) [
+      | inl lt ↦ rw (lt-ltb field sign lt) (low lt)
+      | inr le ↦ rw (le-ltb field sign le, below_zero field (2 * sign) fits) (high le)
+    ]
+
+module _ (sign field : ℕ) (fits : field < 2 * sign) (small : sign < 2 ^ 31) where
+  pub signed_small : unsigned_abs (signed sign field) < 2 ^ 32
+  signed_small = signed_cases (λ z. unsigned_abs z < 2 ^ 32) sign field fits (λ lt. omega arith) (λ le. omega arith)
+
+  pub signed_low : (least : ℕ) → sign ≤ suc least → int_le (negsuc least) (signed sign field) ≡ true
+  signed_low least le = signed_cases (λ z. int_le (negsuc least) z ≡ true) sign field fits (λ lt. refl) (λ high. le-leb _ _ (omega arith))
+
+  pub signed_high : (most : ℕ) → sign ≤ suc most → int_le (signed sign field) (pos most) ≡ true
+  signed_high most le = signed_cases (λ z. int_le z (pos most) ≡ true) sign field fits (λ lt. le-leb _ _ (omega arith)) (λ high. refl)
+
+-- an offset is even, so it ends one step earlier
+pub offset_high : (sign field most : ℕ) → field < 2 * sign → 2 * sign ≤ most + 2 → int_le (offset sign field) (pos most) ≡ true
+offset_high sign field most fits le = signed_cases (λ z. int_le z (pos most) ≡ true) (2 * sign) (2 * field) (omega arith) (λ lt. le-leb _ _ (omega arith)) (λ high. refl)
+
+-- ---- the low bits of a number are its field again
+
+pub lower_bits : (f : ℕ) → f < 2 ^ 12 → low_bits (2 ^ 12) (signed (2 ^ 11) f) ≡ f
+lower_bits f lt = signed_cases (λ z. low_bits (2 ^ 12) z ≡ f) (2 ^ 11) f lt (λ low. omega arith) (λ high. omega arith)
+
+pub upper_bits : (f : ℕ) → f < 2 ^ 20 → low_bits (2 ^ 20) (pos f) ≡ f
+upper_bits f lt = omega arith
+
+pub branch_bits : (f : ℕ) → f < 2 ^ 12 → low_bits (2 ^ 13) (offset (2 ^ 11) f) / 2 ≡ f
+branch_bits f lt = signed_cases (λ z. low_bits (2 ^ 13) z / 2 ≡ f) (2 ^ 12) (2 * f) (omega arith) (λ low. omega arith) (λ high. omega arith)
+
+pub branch_even : (f : ℕ) → f < 2 ^ 12 → low_bits 2 (offset (2 ^ 11) f) ≡ 0
+branch_even f lt = signed_cases (λ z. low_bits 2 z ≡ 0) (2 ^ 12) (2 * f) (omega arith) (λ low. omega arith) (λ high. omega arith)
+
+pub jump_bits : (f : ℕ) → f < 2 ^ 20 → low_bits (2 ^ 21) (offset (2 ^ 19) f) / 2 ≡ f
+jump_bits f lt = signed_cases (λ z. low_bits (2 ^ 21) z / 2 ≡ f) (2 ^ 20) (2 * f) (omega arith) (λ low. omega arith) (λ high. omega arith)
+
+pub jump_even : (f : ℕ) → f < 2 ^ 20 → low_bits 2 (offset (2 ^ 19) f) ≡ 0
+jump_even f lt = signed_cases (λ z. low_bits 2 z ≡ 0) (2 ^ 20) (2 * f) (omega arith) (λ low. omega arith) (λ high. omega arith)

@@ -1,0 +1,6 @@
+pub mod Text
+pub mod Steps
+pub mod Number
+pub mod Names
+pub mod Statements
+pub mod Written

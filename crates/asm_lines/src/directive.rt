@@ -1,0 +1,55 @@
+//! Directives: the words of the language that are no mnemonics.
+
+ghost use Rattle.std.specs.Prelude.{◌≡◌};
+ghost use Rattle.asm_lines.specs.Names.{directive_name, directive_of};
+
+use crate::statement::Section;
+
+/// The first word of a statement that is no instruction.
+#[derive(Clone, Copy, Debug, PartialEq, Eq, Drop)]
+pub enum Directive {
+    /// `.code`, `.local`, `.shared`.
+    Section(Section),
+    /// `.word`.
+    Word,
+    /// `.byte`.
+    Byte,
+    /// `.zero`.
+    Zero,
+}
+
+impl Directive {
+    const ALL: [Directive; 6] = [
+        Directive::Section(Section::Code),
+        Directive::Section(Section::Local),
+        Directive::Section(Section::Shared),
+        Directive::Word,
+        Directive::Byte,
+        Directive::Zero,
+    ];
+
+    /// How the directive is written.
+    pub fn name(self) -> &'static str
+        ensures { result.now ≡ directive_name self }
+    {
+        match self {
+            Directive::Section(Section::Code) => ".code",
+            Directive::Section(Section::Local) => ".local",
+            Directive::Section(Section::Shared) => ".shared",
+            Directive::Word => ".word",
+            Directive::Byte => ".byte",
+            Directive::Zero => ".zero",
+        }
+    }
+
+    /// The directive that is written so.
+    #[tactic(auto, unfolding(crate::specs::Names::directive_of))]
+    pub fn find(word: &[u8]) -> Option<Directive>
+        ensures { result ≡ directive_of word.now }
+    {
+        Directive::ALL
+            .iter()
+            .copied()
+            .find(|directive| directive.name().as_bytes() == word)
+    }
+}

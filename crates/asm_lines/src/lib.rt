@@ -1,0 +1,30 @@
+//! One line of assembler text to one statement, and the words of the language in both directions.
+//!
+//! The language is this project's own: the mnemonics and register names of the RISC-V manual, six
+//! directives, labels, decimal and hex numbers, `%hi` and `%lo`. What a line says is `line_of` of
+//! `specs/Statements.antt`, how an instruction is written `text_of` of `specs/Written.antt`, and
+//! what is written is read again (`written_again`).
+#![tactic(auto)]
+
+mod directive;
+mod fault;
+mod instruction;
+mod laws;
+mod line;
+mod mnemonic;
+mod number;
+mod operand;
+mod register;
+mod statement;
+#[cfg(test)]
+mod tests;
+mod text;
+
+pub use fault::{LineError, LineFault};
+pub use laws::{fields_again, written_again};
+pub use line::read_line;
+pub use mnemonic::{Mnemonic, Order};
+pub use number::low_bits;
+pub use register::x_name;
+pub use statement::{Instruction, Line, Section, Statement, Value};
+pub use text::parts_at;
