@@ -1,0 +1,40 @@
+//! Laws of what a text means.
+
+ghost use Rattle.std.specs.Prelude.{◌≡◌, ℕ, List, []};
+ghost use Rattle.elf_image.specs.declared.layout.Layout.{Layout};
+ghost use Rattle.assembler.specs.declared.fault.AsmError.{AsmError};
+ghost use Rattle.assembler.specs.Meaning.{IsMeaning, IsPresent, FitsRegions, word_bytes};
+ghost use Rattle.asm_lines.specs.Written.{text_of};
+ghost use Rattle.rv_table.specs.Rows.{Spells};
+
+use asm_lines::{fields_again, written_again};
+use decode::encode;
+use flat_machine::CODE_START;
+use rv_table::Insn;
+
+/// A text with a fault has no meaning.
+pub fn fault_or_meaning()
+    ensures { (text : List ℕ) (layout : Layout) (e : AsmError) → IsMeaning text layout → IsPresent text e → ⊥ }
+{}
+
+/// A text has one meaning at most.
+pub fn one_meaning()
+    ensures { (text : List ℕ) (one other : Layout) → IsMeaning text one → IsMeaning text other → one ≡ other }
+{}
+
+/// What a text means fits into the regions of the memory.
+pub fn meaning_fits()
+    ensures { (text : List ℕ) (layout : Layout) → IsMeaning text layout → FitsRegions layout }
+{}
+
+/// The text of an instruction, as `disassemble` writes it, means the instruction's one word.
+pub fn disassembled_again(insn: &Insn) -> u32
+    ensures word { Spells result insn.now }
+    ensures meaning { IsMeaning (text_of insn.now)
+        (record { entry = CODE_START; code = word_bytes result; local = []; shared = [] }) }
+{
+    // Laws of lines, for the proof alone.
+    fields_again();
+    written_again();
+    encode(insn)
+}
