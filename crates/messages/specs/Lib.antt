@@ -1,0 +1,4 @@
+pub mod Places
+pub mod Queues
+pub mod Network
+pub mod Moves

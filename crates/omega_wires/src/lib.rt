@@ -1,0 +1,31 @@
+//! The wiring of an omega network of 2-by-2 switches.
+//!
+//! A network of `k` stages, 0 to 6, has `2^k` wires before and after each stage, `2^k` processors
+//! and as many modules. Before each stage the wires go through a shuffle, which rotates the `k` bits
+//! of a wire's number to the left by one: two wires that then differ in the lowest bit alone go into
+//! one switch. The switch of stage `s` sends a message to the module `m` out at the port that bit
+//! `k - 1 - s` of `m` names, so that after the last stage the wire's number is the module's. On the way
+//! back the port is that bit of the processor's number, and the shuffle is undone.
+//!
+//! `specs/Wires.antt` has the definitions, and `specs/Laws.antt` what holds of every way: where it ends,
+//! that a reply goes back over the same wires, and that two ways to one module that meet stay
+//! together. No call here takes memory.
+//!
+//! Source: the perfect shuffle and the omega network are those of Lawrie, "Access and Alignment of
+//! Data in an Array Processor", IEEE Transactions on Computers C-24(12), 1975. Which bit a stage goes
+//! by, and that replies undo the shuffle, is this project's own.
+#![tactic(auto)]
+
+mod laws;
+#[cfg(test)]
+mod tests;
+mod wires;
+
+pub use laws::{
+    path_ends_at_the_module, paths_stay_on_wires, paths_that_meet_stay_together,
+    replies_go_back_the_same_way, rotations_are_inverse,
+};
+pub use wires::{
+    MAX_STAGES, bit, input_port, module_of, path, rotate_left, rotate_right, switch_of, wire_after,
+    wire_before,
+};

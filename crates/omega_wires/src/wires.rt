@@ -1,0 +1,112 @@
+//! Wires as numbers of `k` bits: rotations, and the way through a stage.
+
+ghost use Rattle.std.specs.Prelude.{◌≡◌, ◌<◌, ◌≤◌, ◌^◌, ◌%◌, suc};
+ghost use Rattle.omega_wires.specs.Wires.{bit, input_port, path, rotated_left, rotated_right, switch_of, wire_after, wire_before};
+
+/// The greatest number of stages, with 64 wires.
+pub const MAX_STAGES: u8 = 6;
+
+/// Bit `i` of a number below 256: the lowest is bit 0.
+pub fn bit(i: u8, number: u8) -> u8
+    requires { i < 8 }
+    ensures exact { result ≡ bit i number }
+    ensures small { result < 2 }
+{
+    (number >> i) & 1
+}
+
+/// The shuffle: the `k` bits of the wire's number, rotated to the left by one.
+pub fn rotate_left(k: u8, wire: u8) -> u8
+    requires stages { k ≤ 6 }
+    requires on_a_wire { wire < 2 ^ k }
+    ensures exact { result ≡ rotated_left k wire }
+    ensures small { result < 2 ^ k }
+{
+    let twice = wire << 1;
+    low_bits(twice, k) + (twice >> k)
+}
+
+/// The shuffle undone: the `k` bits of the wire's number, rotated to the right by one.
+pub fn rotate_right(k: u8, wire: u8) -> u8
+    requires stages { k ≤ 6 }
+    requires on_a_wire { wire < 2 ^ k }
+    ensures exact { result ≡ rotated_right k wire }
+    ensures small { result < 2 ^ k }
+{
+    (wire >> 1) + (((wire & 1) << k) >> 1)
+}
+
+/// The switch that a wire before a stage goes into.
+pub fn switch_of(k: u8, wire: u8) -> u8
+    requires stages { k ≤ 6 }
+    requires on_a_wire { wire < 2 ^ k }
+    ensures exact { result ≡ switch_of k wire }
+{
+    rotate_left(k, wire) >> 1
+}
+
+/// The port of that switch at which the wire goes in, 0 or 1.
+pub fn input_port(k: u8, wire: u8) -> u8
+    requires stages { k ≤ 6 }
+    requires on_a_wire { wire < 2 ^ k }
+    ensures exact { result ≡ input_port k wire }
+    ensures small { result < 2 }
+{
+    rotate_left(k, wire) & 1
+}
+
+/// The wire after a stage, of a message that comes on `wire` and goes to the module `to_module`.
+#[tactic(auto, unfolding(crate::specs::Wires::wire_after))]
+pub fn wire_after(k: u8, stage: u8, wire: u8, to_module: u8) -> u8
+    requires stages { k ≤ 6 }
+    requires at_a_stage { stage < k }
+    requires on_a_wire { wire < 2 ^ k }
+    ensures exact { result ≡ wire_after k stage wire to_module }
+    ensures small { result < 2 ^ k }
+{
+    2 * switch_of(k, wire) + bit(k - 1 - stage, to_module)
+}
+
+/// The wire before a stage, of a reply that comes on `wire` after it and goes to `processor`.
+#[tactic(auto, unfolding(crate::specs::Wires::wire_before))]
+pub fn wire_before(k: u8, stage: u8, wire: u8, processor: u8) -> u8
+    requires stages { k ≤ 6 }
+    requires at_a_stage { stage < k }
+    requires on_a_wire { wire < 2 ^ k }
+    ensures exact { result ≡ wire_before k stage wire processor }
+    ensures small { result < 2 ^ k }
+{
+    rotate_right(k, 2 * (wire >> 1) + bit(k - 1 - stage, processor))
+}
+
+/// The module that has a shared word: word numbers go round the modules.
+pub fn module_of(word: u32, k: u8) -> u8
+    requires { k ≤ 6 }
+    ensures exact { result ≡ word % 2 ^ k }
+    ensures small { result < 2 ^ k }
+{
+    (word & ((1 << k) - 1)) as u8
+}
+
+/// The wire of a message from `processor` to the module `to_module` before the stage of this number, and after
+/// the last one for `stage` equal to `k`: the low bits of the processor's number, and behind them the
+/// bits of the module's that the stages have put in.
+pub fn path(k: u8, processor: u8, to_module: u8, stage: u8) -> u8
+    requires stages { k ≤ 6 }
+    requires by_a_stage { stage ≤ k }
+    requires a_processor { processor < 2 ^ k }
+    requires a_module { to_module < 2 ^ k }
+    ensures exact { result ≡ path k processor to_module stage }
+    ensures small { result < 2 ^ k }
+{
+    let left = k - stage;
+    (low_bits(processor, left) << stage) + (to_module >> left)
+}
+
+/// The number of the lowest bits.
+fn low_bits(number: u8, bits: u8) -> u8
+    requires { bits < 8 }
+    ensures { result ≡ number % 2 ^ bits }
+{
+    number & ((1 << bits) - 1)
+}
