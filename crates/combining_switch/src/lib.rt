@@ -1,0 +1,22 @@
+//! A combining switch: two inputs, two outputs, and at each output a queue and a wait buffer.
+//!
+//! A request that comes to an output is combined with an entry of its queue where that can be, and
+//! then goes on as part of that entry. A record stays in the output's wait buffer. The reply for the
+//! entry comes back to the same output, where the record gives the reply of the request that was
+//! combined with it.
+//!
+//! `specs/Outputs.antt` and `specs/Switches.antt` say what each call does, by the definitions of the
+//! crate `messages`. Room is made by [`Switch::new`] alone: no other call takes memory.
+//!
+//! Source: the combining switch is that of Gottlieb et al., "The NYU Ultracomputer", IEEE
+//! Transactions on Computers C-32(2), 1983.
+#![tactic(auto)]
+
+mod answers;
+mod output;
+mod switch;
+#[cfg(test)]
+mod tests;
+
+pub use answers::{Accepted, Answered};
+pub use switch::{MAX_QUEUE, Switch};
