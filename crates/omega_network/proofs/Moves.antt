@@ -1,0 +1,256 @@
+-- A move as what a switch did with the message, which is then taken from its place.
+use Rattle.std.proofs.Common.{◌≡◌, ℕ, suc, ◌%◌, ◌<◌, Bool, true, false, ◌&&◌, List, [], ◌∷◌, ◌++◌, length, drop, nat_lt, Option, Some, None, refl, sym, ap, ◌∙◌, arith, lt-ltb}
+use Rattle.std.specs.Prelude.{IsTrue, if◌then◌else◌, is_some, nat_le, not, slice_get}
+use Rattle.phi_algebra.specs.declared.phi.Phi.{Phi}
+use Rattle.omega_wires.specs.Wires.{wire_after, wire_before}
+use Rattle.messages.specs.declared.message.Request.{Request}
+use Rattle.messages.specs.declared.message.Reply.{Reply}
+use Rattle.messages.specs.declared.message.Record.{Record}
+use Rattle.messages.specs.declared.moves.UpMove.{UpMove}
+use Rattle.messages.specs.declared.moves.UpMove.TheVariants as up
+use Rattle.messages.specs.declared.moves.DownMove.{DownMove}
+use Rattle.messages.specs.declared.moves.DownMove.TheVariants as down
+use Rattle.messages.specs.Places.{put2}
+use Rattle.messages.specs.Queues.{Combination, answers, behind, combination, combined_in, joint, records_but, records_of, unmarked}
+use Rattle.messages.specs.Network.{Net, Sizes, put_records, put_replies, put_requests, wires}
+use Rattle.messages.specs.Moves as moves
+use Rattle.combining_switch.specs.declared.answers.Accepted.{Accepted}
+use Rattle.combining_switch.specs.declared.answers.Accepted.TheVariants.{Queued, Combined, Full}
+use Rattle.combining_switch.specs.declared.answers.Answered.{Answered}
+use Rattle.combining_switch.specs.declared.answers.Answered.TheVariants.{One, Two, NoRoom}
+use Rattle.combining_switch.specs.Switches.{answered_for}
+use Rattle.omega_network.specs.Offers.{accepted_on, accepted_where, answered_on, answered_where, first_reply_taken, first_request_taken}
+use Rattle.omega_network.proofs.Puts.{put2_comm, put2_other}
+
+-- the first of a list
+first_is : {X : Type 0} (q : List X) (x : X) → slice_get q 0 ≡ Some x → q ≡ x ∷ drop 1 q
+first_is [] x e = cc
+first_is (y ∷ ys) x e = let same : y ≡ x = cc in ap (λ z. z ∷ ys) same
+
+pub none_is : {X : Type 0} (q : List X) → slice_get q 0 ≡ None → q ≡ []
+none_is [] e = refl
+none_is (y ∷ ys) e = cc
+
+-- whether a list has no first
+pub free_is : {X : Type 0} (q : List X) (o : Option X) (b : Bool) → o ≡ slice_get q 0 → is_some o ≡ not b → (IsTrue b → q ≡ []) × (q ≡ [] → IsTrue b)
+free_is {X} [] o true e f = ((λ t. refl), (λ g. refl))
+free_is {X} [] o false e f = absurd (let g : false ≡ true = sym (ap is_some e) ∙ f in cc)
+free_is {X} (y ∷ ys) o true e f = absurd (let g : true ≡ false = sym (ap is_some e) ∙ f in cc)
+free_is {X} (y ∷ ys) o false e f = ((λ t. absurd (let h : false ≡ true = t in cc)), (λ g. absurd (let h : y ∷ ys ≡ [] = g in cc)))
+
+apart : (s : ℕ) → s ≡ suc s → ⊥
+apart s e = omega arith
+
+-- ---- up
+
+-- the second of a combination is the request that came
+second_is : (r : ℕ) (x : Request) (queue : List Request) (j : Combination) → combined_in r x queue ≡ Some j → j.made.second ≡ x.leader
+unfolding combined_in
+second_is r x [] j e = cc
+second_is r x (d ∷ ds) j e = go (second_is r x ds) (joint r x d) e
+  where
+    later : (o : Option Combination) → ((i : Combination) → o ≡ Some i → i.made.second ≡ x.leader) → behind d o ≡ Some j → j.made.second ≡ x.leader
+    later None rest f = cc
+    later (Some i) rest f =
+        let same : record { queue = d ∷ i.queue; made = i.made } ≡ j = cc in
+        ap (λ (k : Combination). k.made.second) (sym same) ∙ rest i refl
+
+    go : ((i : Combination) → combined_in r x ds ≡ Some i → i.made.second ≡ x.leader) → (o : Option Phi)
+        → elim o [ Some phi ↦ Some (record { queue = record { leader = d.leader; word = d.word; phi = phi; marks = suc d.marks } ∷ ds; made = record { leader = d.leader; phi = d.phi; second = x.leader } }) | None ↦ behind d (combined_in r x ds) ] ≡ Some j
+        → j.made.second ≡ x.leader
+    go rest None f = later (combined_in r x ds) rest f
+    go rest (Some phi) f =
+        let same : record { queue = record { leader = d.leader; word = d.word; phi = phi; marks = suc d.marks } ∷ ds; made = record { leader = d.leader; phi = d.phi; second = x.leader } } ≡ j = cc in
+        ap (λ (k : Combination). k.made.second) (sym same)
+
+combined_second : (b r : ℕ) (x : Request) (queue : List Request) (records : List Record) (j : Combination) → combination b r x queue records ≡ Some j → j.made.second ≡ x.leader
+combined_second b r x queue records j e = go (nat_lt (length records) b) e
+  where
+    go : (c : Bool) → (if c then combined_in r x queue else None) ≡ Some j → j.made.second ≡ x.leader
+    go true f = second_is r x queue j f
+    go false f = cc
+
+abbrev pub up_of : Accepted → (second : ℕ) → UpMove
+up_of Queued p = up.Moved
+up_of (Combined first) p = up.Combined first p
+up_of Full p = up.Stalled
+
+abbrev pub net_after_up : Accepted → Net → (s w : ℕ) → Net
+net_after_up Queued net s w = first_request_taken net s w
+net_after_up (Combined first) net s w = first_request_taken net s w
+net_after_up Full net s w = net
+
+module _ (z : Sizes) (net : Net) (s w out : ℕ) (x : Request) (rest : List Request) (first : net.requests s w ≡ x ∷ rest) where
+  abbrev taken : Net
+  taken = put_requests net s w rest
+
+  queue_same : taken.requests (suc s) out ≡ net.requests (suc s) out
+  queue_same = put2_other net.requests s w rest (suc s) out (λ e _. apart s (sym e))
+
+  -- what is put at the output, and then taken before it
+  swapped : (q : List Request) (es : List Record) → put_records (put_requests taken (suc s) out q) s out es ≡ first_request_taken (put_records (put_requests net (suc s) out q) s out es) s w
+  swapped q es = λ j. record {
+    requests = (put2_comm net.requests s w rest (suc s) out q (apart s)
+        ∙ ap (put2 (put2 net.requests (suc s) out q) s w) (ap (drop 1) (sym first) ∙ ap (drop 1) (sym (put2_other net.requests (suc s) out q s w (λ e _. apart s e))))) j;
+    records = put2 net.records s out es;
+    replies = net.replies;
+  }
+
+  swapped_queue : (q : List Request) → put_requests taken (suc s) out q ≡ first_request_taken (put_requests net (suc s) out q) s w
+  swapped_queue q = λ j. record {
+    requests = (put2_comm net.requests s w rest (suc s) out q (apart s)
+        ∙ ap (put2 (put2 net.requests (suc s) out q) s w) (ap (drop 1) (sym first) ∙ ap (drop 1) (sym (put2_other net.requests (suc s) out q s w (λ e _. apart s e))))) j;
+    records = net.records;
+    replies = net.replies;
+  }
+
+  offered_is : moves.offered z net taken s out x ≡ (up_of (accepted_on z net s out x).0 x.leader, net_after_up (accepted_on z net s out x).0 (accepted_on z net s out x).1 s w)
+  unfolding accepted_on
+  offered_is =
+      ap (λ q. moves.accepted z net taken s out x (combination z.b z.r x q (net.records s out))) queue_same
+      ∙ go (combination z.b z.r x (net.requests (suc s) out) (net.records s out)) (λ j e. combined_second z.b z.r x (net.requests (suc s) out) (net.records s out) j e)
+    where
+      Goal : Option Combination → Type 0
+      Goal j = moves.accepted z net taken s out x j ≡ (up_of (accepted_where z net s out x j).0 x.leader, net_after_up (accepted_where z net s out x j).0 (accepted_where z net s out x j).1 s w)
+
+      queued : (b : Bool) → nat_lt (length (net.requests (suc s) out)) z.c ≡ b
+          → moves.accepted z net taken s out x None ≡ (up_of (accepted_where z net s out x None).0 x.leader, net_after_up (accepted_where z net s out x None).0 (accepted_where z net s out x None).1 s w)
+      queued true e =
+          rw (e, ap (λ q. nat_lt (length q) z.c) queue_same ∙ e)
+          (λ j. (up.Moved, (ap (λ q. put_requests taken (suc s) out (q ++ unmarked x ∷ [])) queue_same ∙ swapped_queue (net.requests (suc s) out ++ unmarked x ∷ [])) j))
+      queued false e = rw (e, ap (λ q. nat_lt (length q) z.c) queue_same ∙ e) refl
+
+      go : (j : Option Combination) → ((i : Combination) → j ≡ Some i → i.made.second ≡ x.leader)
+          → moves.accepted z net taken s out x j ≡ (up_of (accepted_where z net s out x j).0 x.leader, net_after_up (accepted_where z net s out x j).0 (accepted_where z net s out x j).1 s w)
+      go None second = queued (nat_lt (length (net.requests (suc s) out)) z.c) refl
+      go (Some i) second = λ j. (up.Combined i.made.leader (second i refl j), swapped i.queue (net.records s out ++ i.made ∷ []) j)
+
+pub up_law : (z : Sizes) (net : Net) (s w out : ℕ) (x : Request) → s < z.k → slice_get (net.requests s w) 0 ≡ Some x → out ≡ wire_after z.k s w (x.word % wires z)
+    → moves.moved_up z net s w ≡ (up_of (accepted_on z net s out x).0 x.leader, net_after_up (accepted_on z net s out x).0 (accepted_on z net s out x).1 s w)
+unfolding moves.moved_up
+up_law z net s w out x stage found way =
+    let first : net.requests s w ≡ x ∷ drop 1 (net.requests s w) = first_is (net.requests s w) x found in
+    ap (λ (b : Bool). if b then moves.up_from z net s w (net.requests s w) else (up.Stalled, net)) (lt-ltb s z.k stage)
+    ∙ ap (moves.up_from z net s w) first
+    ∙ ap (λ o. moves.offered z net (put_requests net s w (drop 1 (net.requests s w))) s o x) (sym way)
+    ∙ offered_is z net s w out x (drop 1 (net.requests s w)) first
+
+pub up_nothing : (z : Sizes) (net : Net) (s w : ℕ) → s < z.k → slice_get (net.requests s w) 0 ≡ None → moves.moved_up z net s w ≡ (up.Stalled, net)
+unfolding moves.moved_up
+up_nothing z net s w stage none =
+    ap (λ (b : Bool). if b then moves.up_from z net s w (net.requests s w) else (up.Stalled, net)) (lt-ltb s z.k stage)
+    ∙ ap (moves.up_from z net s w) (none_is (net.requests s w) none)
+
+-- ---- down
+
+abbrev pub down_of : Answered → DownMove
+down_of One = down.Moved
+down_of (Two second) = down.Answered second
+down_of NoRoom = down.Stalled
+
+abbrev pub net_after_down : Answered → Net → (d w : ℕ) → Net
+net_after_down One net d w = first_reply_taken net d w
+net_after_down (Two second) net d w = first_reply_taken net d w
+net_after_down NoRoom net d w = net
+
+module _ (wire : ℕ → ℕ) (s w : ℕ) (rest : List Reply) where
+  -- what is put before a stage leaves what is after it
+  after_same : (ys : List Reply) (net : Net) → (moves.push_all wire s ys net).replies (suc s) w ≡ net.replies (suc s) w
+  unfolding moves.push_all
+  after_same [] net = refl
+  after_same (y ∷ ys) net =
+      after_same ys (put_replies net s (wire y.leader) (net.replies s (wire y.leader) ++ y ∷ []))
+      ∙ put2_other net.replies s (wire y.leader) (net.replies s (wire y.leader) ++ y ∷ []) (suc s) w (λ e _. apart s (sym e))
+
+  before_same : (net : Net) (v : ℕ) → (put_replies net (suc s) w rest).replies s v ≡ net.replies s v
+  before_same net v = put2_other net.replies (suc s) w rest s v (λ e _. apart s e)
+
+  push_taken : (ys : List Reply) (net : Net) → moves.push_all wire s ys (put_replies net (suc s) w rest) ≡ put_replies (moves.push_all wire s ys net) (suc s) w rest
+  unfolding moves.push_all
+  push_taken [] net = refl
+  push_taken (y ∷ ys) net =
+      ap (moves.push_all wire s ys) (λ j. record {
+        requests = net.requests;
+        records = net.records;
+        replies = (ap (λ (zs : List Reply). put2 (put2 net.replies (suc s) w rest) s (wire y.leader) (zs ++ y ∷ [])) (before_same net (wire y.leader))
+            ∙ put2_comm net.replies (suc s) w rest s (wire y.leader) (net.replies s (wire y.leader) ++ y ∷ []) (λ e. apart s (sym e))) j;
+      })
+      ∙ push_taken ys (put_replies net s (wire y.leader) (net.replies s (wire y.leader) ++ y ∷ []))
+
+  room_same : (c : ℕ) (ys : List Reply) (net : Net) → moves.has_room c wire s (put_replies net (suc s) w rest) ys ≡ moves.has_room c wire s net ys
+  room_same c [] net = refl
+  room_same c (y ∷ ys) net = λ j. nat_le (length (before_same net (wire y.leader) j)) c && room_same c ys net j
+
+answered_same : (es : List Record) → moves.answered es ≡ down_of (answered_for es)
+answered_same [] = refl
+answered_same (e ∷ es) = refl
+
+not_refused : (es : List Record) (net : Net) (d w : ℕ) → net_after_down (answered_for es) net d w ≡ first_reply_taken net d w
+not_refused [] net d w = refl
+not_refused (e ∷ es) net d w = refl
+
+module _ (z : Sizes) (net : Net) (s w : ℕ) (x : Reply) (rest : List Reply) (first : net.replies (suc s) w ≡ x ∷ rest) where
+  abbrev wire : ℕ → ℕ
+  wire = wire_before z.k s w
+
+  abbrev es : List Record
+  es = records_of x.leader (net.records s w)
+
+  abbrev ys : List Reply
+  ys = answers es x
+
+  abbrev left : Net
+  left = put_records net s w (records_but x.leader (net.records s w))
+
+  abbrev before : Net
+  before = put_records (put_replies net (suc s) w rest) s w (records_but x.leader (net.records s w))
+
+  pushed : moves.push_all wire s ys before ≡ put_replies (moves.push_all wire s ys left) (suc s) w rest
+  pushed = push_taken wire s w rest ys left
+
+  then_taken : put_replies (moves.push_all wire s ys left) (suc s) w rest ≡ first_reply_taken (moves.push_all wire s ys left) (suc s) w
+  then_taken = ap (put_replies (moves.push_all wire s ys left) (suc s) w) (sym (ap (drop 1) (after_same wire s w rest ys left ∙ first)))
+
+  room : moves.has_room z.c wire s (moves.push_all wire s ys before) ys ≡ moves.has_room z.c wire s (moves.push_all wire s ys left) ys
+  room = ap (λ (n : Net). moves.has_room z.c wire s n ys) pushed ∙ room_same wire s w rest z.c ys (moves.push_all wire s ys left)
+
+  answer_is : moves.answer z net (put_replies net (suc s) w rest) s w x es
+      ≡ (down_of (answered_on z net s w x).0, net_after_down (answered_on z net s w x).0 (answered_on z net s w x).1 (suc s) w)
+  unfolding answered_on
+  answer_is = go (moves.has_room z.c wire s (moves.push_all wire s ys left) ys) refl
+    where
+      go : (b : Bool) → moves.has_room z.c wire s (moves.push_all wire s ys left) ys ≡ b
+          → moves.answer z net (put_replies net (suc s) w rest) s w x es ≡ (down_of (answered_where z net s w x es).0, net_after_down (answered_where z net s w x es).0 (answered_where z net s w x es).1 (suc s) w)
+      go true e = rw (e, room ∙ e) (λ j. (answered_same es j, (pushed ∙ then_taken ∙ sym (not_refused es (moves.push_all wire s ys left) (suc s) w)) j))
+      go false e = rw (e, room ∙ e) refl
+
+pub down_law : (z : Sizes) (net : Net) (s w : ℕ) (x : Reply) → s < z.k → slice_get (net.replies (suc s) w) 0 ≡ Some x
+    → moves.moved_down z net s w ≡ (down_of (answered_on z net s w x).0, net_after_down (answered_on z net s w x).0 (answered_on z net s w x).1 (suc s) w)
+unfolding moves.moved_down
+down_law z net s w x stage found =
+    let first : net.replies (suc s) w ≡ x ∷ drop 1 (net.replies (suc s) w) = first_is (net.replies (suc s) w) x found in
+    ap (λ (b : Bool). if b then moves.down_from z net s w (net.replies (suc s) w) else (down.Stalled, net)) (lt-ltb s z.k stage)
+    ∙ ap (moves.down_from z net s w) first
+    ∙ answer_is z net s w x (drop 1 (net.replies (suc s) w)) first
+
+pub down_nothing : (z : Sizes) (net : Net) (s w : ℕ) → s < z.k → slice_get (net.replies (suc s) w) 0 ≡ None → moves.moved_down z net s w ≡ (down.Stalled, net)
+unfolding moves.moved_down
+down_nothing z net s w stage none =
+    ap (λ (b : Bool). if b then moves.down_from z net s w (net.replies (suc s) w) else (down.Stalled, net)) (lt-ltb s z.k stage)
+    ∙ ap (moves.down_from z net s w) (none_is (net.replies (suc s) w) none)
+
+-- ---- as the calls tell it
+
+pub up_done : (z : Sizes) (net net' : Net) (s w out : ℕ) (x : Request) (a : Accepted) → s < z.k → slice_get (net.requests s w) 0 ≡ Some x → out ≡ wire_after z.k s w (x.word % wires z)
+    → a ≡ (accepted_on z net s out x).0 → net' ≡ (accepted_on z net s out x).1
+    → ((moves.moved_up z net s w).0 ≡ up_of a x.leader) × ((moves.moved_up z net s w).1 ≡ net_after_up a net' s w)
+up_done z net net' s w out x a stage found way answer after =
+    let law = up_law z net s w out x stage found way in
+    (ap (λ (r : UpMove × Net). r.0) law ∙ ap (λ b. up_of b x.leader) (sym answer), ap (λ (r : UpMove × Net). r.1) law ∙ (λ j. net_after_up (sym answer j) (sym after j) s w))
+
+pub down_done : (z : Sizes) (net net' : Net) (s w : ℕ) (x : Reply) (a : Answered) → s < z.k → slice_get (net.replies (suc s) w) 0 ≡ Some x
+    → a ≡ (answered_on z net s w x).0 → net' ≡ (answered_on z net s w x).1
+    → ((moves.moved_down z net s w).0 ≡ down_of a) × ((moves.moved_down z net s w).1 ≡ net_after_down a net' (suc s) w)
+down_done z net net' s w x a stage found answer after =
+    let law = down_law z net s w x stage found in
+    (ap (λ (r : DownMove × Net). r.0) law ∙ ap down_of (sym answer), ap (λ (r : DownMove × Net). r.1) law ∙ (λ j. net_after_down (sym answer j) (sym after j) (suc s) w))

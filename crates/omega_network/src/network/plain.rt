@@ -1,0 +1,215 @@
+//! A plain network, by lists, to compare the network with: what the moves are said to do, with no
+//! rings and no proof. Its calls give None where a number names no place.
+
+use messages::{DownMove, Record, Reply, Request, UpMove};
+use phi_algebra::compose;
+use std::alloc::{AllocError, Global};
+
+/// Lists for each place. Those of a stage stand behind those of the stages before it.
+#[derive(Drop)]
+pub struct Plain {
+    stages: usize,
+    queue: usize,
+    buffer: usize,
+    pub slots: Vec<Vec<Request>>,
+    /// By the wires that go out.
+    pub requests: Vec<Vec<Request>>,
+    /// By the wires that go out.
+    pub records: Vec<Vec<Record>>,
+    /// By the inputs' numbers, which are those of the shuffled wires.
+    pub replies: Vec<Vec<Reply>>,
+    pub module_slots: Vec<Vec<Reply>>,
+}
+
+impl Plain {
+    pub fn new(alloc: Global, k: u8, c: u8, b: u8) -> Result<Self, AllocError> {
+        let stages = usize::from(k);
+        let wires = 1_usize.wrapping_shl(u32::from(k));
+        let all = stages.wrapping_mul(wires);
+        let mut plain = Plain {
+            stages,
+            queue: usize::from(c),
+            buffer: usize::from(b),
+            slots: Vec::new(alloc),
+            requests: Vec::new(alloc),
+            records: Vec::new(alloc),
+            replies: Vec::new(alloc),
+            module_slots: Vec::new(alloc),
+        };
+        for _ in 0..wires {
+            plain.slots.push(Vec::new(alloc))?;
+            plain.module_slots.push(Vec::new(alloc))?;
+        }
+        for _ in 0..all {
+            plain.requests.push(Vec::new(alloc))?;
+            plain.records.push(Vec::new(alloc))?;
+            plain.replies.push(Vec::new(alloc))?;
+        }
+        Ok(plain)
+    }
+
+    pub fn wires(&self) -> usize {
+        self.slots.len()
+    }
+
+    /// The number of a place of a stage among all of its kind.
+    pub fn place(&self, stage: usize, wire: usize) -> usize {
+        stage.wrapping_mul(self.wires()).wrapping_add(wire)
+    }
+
+    /// The wire's number with its first bit moved to the end.
+    pub fn shuffled(&self, wire: usize) -> usize {
+        let twice = wire.wrapping_mul(2);
+        if twice < self.wires() {
+            twice
+        } else {
+            twice.wrapping_sub(self.wires()).wrapping_add(1)
+        }
+    }
+
+    /// The number with its last bit replaced by the bit of another that the stage goes by.
+    fn routed(&self, number: usize, stage: usize, by: usize) -> usize {
+        let bit = self.stages.wrapping_sub(1).wrapping_sub(stage);
+        let port = by.wrapping_shr(bit as u32) & 1;
+        (number & 0xFE) | port
+    }
+
+    pub fn inject(&mut self, p: usize, request: Request) -> Option<()> {
+        self.slots.get_mut(p)?.push(request).ok()
+    }
+
+    /// Where the requests before a stage on a wire stand.
+    fn requests_before(&mut self, stage: usize, wire: usize) -> Option<&mut Vec<Request>> {
+        if stage == 0 {
+            self.slots.get_mut(wire)
+        } else {
+            let place = self.place(stage.wrapping_sub(1), wire);
+            self.requests.get_mut(place)
+        }
+    }
+
+    /// Where the replies before a stage on a wire stand.
+    fn replies_before(&mut self, stage: usize, wire: usize) -> Option<&mut Vec<Reply>> {
+        if stage == self.stages {
+            self.module_slots.get_mut(wire)
+        } else {
+            let place = self.place(stage, self.shuffled(wire));
+            self.replies.get_mut(place)
+        }
+    }
+
+    pub fn up(&mut self, stage: usize, wire: usize) -> Option<UpMove> {
+        let Some(request) = self.requests_before(stage, wire)?.first().copied() else {
+            return Some(UpMove::Stalled);
+        };
+        let to_module = request.word as usize % self.wires().max(1);
+        let out = self.place(stage, self.routed(self.shuffled(wire), stage, to_module));
+        let outcome = self.offered(out, request)?;
+        if outcome != UpMove::Stalled {
+            self.requests_before(stage, wire)?.remove(0);
+        }
+        Some(outcome)
+    }
+
+    fn offered(&mut self, out: usize, request: Request) -> Option<UpMove> {
+        let records = self.records.get_mut(out)?;
+        let queue = self.requests.get_mut(out)?;
+        for entry in queue.iter_mut() {
+            let joint = compose(&entry.phi, &request.phi);
+            if records.len() < self.buffer && entry.marks == 0 && entry.word == request.word {
+                if let Some(joint) = joint {
+                    let record = Record {
+                        leader: entry.leader,
+                        phi: entry.phi,
+                        second: request.leader,
+                    };
+                    records.push(record).ok()?;
+                    entry.phi = joint;
+                    entry.marks = 1;
+                    return Some(UpMove::Combined {
+                        first: entry.leader,
+                        second: request.leader,
+                    });
+                }
+            }
+        }
+        if queue.len() < self.queue {
+            queue
+                .push(Request {
+                    marks: 0,
+                    ..request
+                })
+                .ok()?;
+            Some(UpMove::Moved)
+        } else {
+            Some(UpMove::Stalled)
+        }
+    }
+
+    pub fn down(&mut self, stage: usize, wire: usize) -> Option<DownMove> {
+        let after = stage.wrapping_add(1);
+        let Some(reply) = self.replies_before(after, wire)?.first().copied() else {
+            return Some(DownMove::Stalled);
+        };
+        let outcome = self.answered(stage, wire, reply)?;
+        if outcome != DownMove::Stalled {
+            self.replies_before(after, wire)?.remove(0);
+        }
+        Some(outcome)
+    }
+
+    fn answered(&mut self, stage: usize, wire: usize, reply: Reply) -> Option<DownMove> {
+        let own = self.place(stage, self.routed(wire, stage, usize::from(reply.leader)));
+        let out = self.place(stage, wire);
+        let records = self.records.get(out)?;
+        let at = records
+            .iter()
+            .position(|record| record.leader == reply.leader);
+        let free = self.queue.wrapping_sub(self.replies.get(own)?.len());
+        let Some(at) = at else {
+            if free == 0 {
+                return Some(DownMove::Stalled);
+            }
+            self.replies.get_mut(own)?.push(reply).ok()?;
+            return Some(DownMove::Moved);
+        };
+        let record = *records.get(at)?;
+        let seconds = self.place(stage, self.routed(wire, stage, usize::from(record.second)));
+        let free_there = self.queue.wrapping_sub(self.replies.get(seconds)?.len());
+        let needed = if seconds == own { 2 } else { 1 };
+        if free < needed || free_there < needed {
+            return Some(DownMove::Stalled);
+        }
+        self.replies.get_mut(own)?.push(reply).ok()?;
+        let second = Reply {
+            leader: record.second,
+            value: record.phi.apply(reply.value),
+        };
+        self.replies.get_mut(seconds)?.push(second).ok()?;
+        let records = self.records.get_mut(out)?;
+        if at < records.len() {
+            records.remove(at);
+        }
+        Some(DownMove::Answered { to: record.second })
+    }
+
+    /// Takes the first request at a module.
+    pub fn module_take(&mut self, m: usize) -> Option<Request> {
+        let requests = self.requests_before(self.stages, m)?;
+        let request = requests.first().copied()?;
+        requests.remove(0);
+        Some(request)
+    }
+
+    pub fn module_reply(&mut self, m: usize, reply: Reply) -> Option<()> {
+        self.module_slots.get_mut(m)?.push(reply).ok()
+    }
+
+    /// Takes the first reply on a processor's wire.
+    pub fn port_take(&mut self, p: usize) -> Option<Reply> {
+        let replies = self.replies_before(0, p)?;
+        let reply = replies.first().copied()?;
+        replies.remove(0);
+        Some(reply)
+    }
+}
