@@ -1,0 +1,23 @@
+//! What always holds of the machine, and how a drain goes. Each is the contract of a function that does
+//! nothing.
+
+ghost use Rattle.abstract_machine.specs.Draining.{DistancesAreBounded, DistancesAreThere, DrainEndsIdle, DrainGoesOn, IdleMachinesHaveNoDrainStep};
+ghost use Rattle.abstract_machine.specs.Steadiness.{NewMachinesAreSteady, RecordsAreFew, StepsKeepSteady};
+
+/// What always holds of the state: it holds of a new machine, and each step keeps it. So no wait buffer
+/// has more records for a leader than an entry may be combined.
+pub fn steadiness<Core>()
+    ensures begins { NewMachinesAreSteady Core }
+    ensures goes_on { StepsKeepSteady Core }
+    ensures records { RecordsAreFew Core }
+{}
+
+/// The step that a drain takes next doesn't stall and lowers the sum of the distances, which is bounded;
+/// there is none exactly where no reference is open. So a drain ends, with no reference open.
+pub fn drain<Core>()
+    ensures distances { DistancesAreThere Core }
+    ensures bounded { DistancesAreBounded Core }
+    ensures next { DrainGoesOn Core }
+    ensures none { IdleMachinesHaveNoDrainStep Core }
+    ensures end { DrainEndsIdle Core }
+{}

@@ -1,0 +1,23 @@
+-- Compositions, of any numbers: each stands for the word that it is modulo 2^32.
+use Rattle.std.proofs.Common.{◌≡◌, ℕ, ◌%◌, ◌^◌, ◌<◌, Some, sym, ap, ◌∙◌, arith, mod-eq_of_lt}
+use Rattle.std.proofs.lemmas.Nat.{mod_below}
+use Rattle.phi_algebra.specs.declared.phi.Phi.{Phi}
+use Rattle.phi_algebra.specs.Functions.{apply, IsInRange}
+use Rattle.phi_algebra.specs.Composition.{composed}
+use Rattle.phi_algebra.proofs.Composing.{value_small}
+use Rattle.phi_algebra.proofs.Composed.{meaning_of, range_of}
+use Rattle.messages.specs.Queues.{applied}
+
+-- the value is a word
+pub applied_small : (f : Phi) (x : ℕ) → IsInRange f → applied f x < 2 ^ 32
+unfolding applied
+applied_small f x p = value_small f (x % 2 ^ 32) p (mod_below x (2 ^ 32) (omega arith))
+
+pub composed_law : (f g h : Phi) → IsInRange f → IsInRange g → composed f g ≡ Some h → (x : ℕ) → applied h x ≡ applied g (applied f x)
+unfolding applied
+composed_law f g h p q e x =
+    meaning_of f g h e p q (x % 2 ^ 32) (mod_below x (2 ^ 32) (omega arith))
+    ∙ ap (apply g) (sym (mod-eq_of_lt (applied_small f x p)))
+
+pub composed_in_range : (f g h : Phi) → IsInRange f → IsInRange g → composed f g ≡ Some h → IsInRange h
+composed_in_range f g h p q e = range_of f g h e p q

@@ -1,0 +1,4 @@
+pub mod Roles
+pub mod Giving
+pub mod Meaning
+pub mod Changes

@@ -1,0 +1,111 @@
+-- The serial order that the outcomes of steps give, and the flat machine that takes it.
+use Rattle.std.specs.Prelude.{ℕ, suc, List, [], ◌∷◌, ◌++◌, map, length, Option, Some, None}
+use Rattle.flat_machine.specs.declared.poke.Entry.{Entry}
+use Rattle.flat_machine.specs.declared.poke.Entry.TheVariants as entry
+use Rattle.messages.specs.Places.{put}
+use Rattle.messages.specs.Queues.{applied}
+use Rattle.messages.specs.Network.{Sizes}
+use Rattle.placement.specs.Meaning.{joined}
+use Rattle.abstract_machine.specs.Program.{Program, Kind, Rests, Alone, Refers}
+use Rattle.abstract_machine.specs.Machine.{Machine, Step, Outcome, Issued, Advanced, Retired, Combined, Served, Poked, Result, step}
+
+-- ---- by the outcomes alone
+
+-- The group of a leader: whom its request stands for. A reference begins as its own group, the second's group joins the
+-- first's, and a group that was served is none any more.
+abbrev pub group_after : (ℕ → List ℕ) → Outcome → ℕ → List ℕ
+group_after group (Issued p) = put group p (p ∷ [])
+group_after group (Combined p q) = joined group p q
+group_after group (Served p) = put group p []
+group_after group _ = group
+
+-- What a step adds to the serial order: a local instruction and a stop stand at their turn, a reference where its group is
+-- served, a poke where it is written.
+abbrev pub segment : (ℕ → List ℕ) → Outcome → List Entry
+segment group (Served p) = map entry.Processor (group p)
+segment group (Advanced p) = entry.Processor p ∷ []
+segment group (Poked q) = entry.Poke q ∷ []
+segment group _ = []
+
+-- these are served, one after another from this place of the order on
+unfoldable pub served_from : ℕ → List ℕ → (ℕ → Option ℕ) → ℕ → Option ℕ
+served_from i [] served = served
+served_from i (j ∷ js) served = served_from (suc i) js (put served j (Some i))
+
+-- at which place of the order a processor's open reference was served
+abbrev pub served_after : (ℕ → List ℕ) → List Entry → (ℕ → Option ℕ) → Outcome → ℕ → Option ℕ
+served_after group order served (Served p) = served_from (length order) (group p) served
+served_after group order served (Retired p v) = put served p None
+served_after group order served _ = served
+
+-- ---- runs
+
+-- after a list of steps: the machine, and what the outcomes gave
+pub record Passed (Core : Type 0) : Type 0 where
+  pub machine : Machine Core
+  pub group : ℕ → List ℕ
+  pub served : ℕ → Option ℕ
+  pub order : List Entry
+
+abbrev pub passed_by : {Core : Type 0} → Passed Core → Result Core → Passed Core
+passed_by h r = record {
+  machine = r.machine;
+  group = group_after h.group r.outcome;
+  served = served_after h.group h.order h.served r.outcome;
+  order = h.order ++ segment h.group r.outcome;
+}
+
+abbrev pub pass : {Core : Type 0} → Sizes → Program Core → Passed Core → Step → Passed Core
+pass z P h st = passed_by h (step z P h.machine st)
+
+unfoldable pub passes : {Core : Type 0} → Sizes → Program Core → List Step → Passed Core → Passed Core
+passes z P [] h = h
+passes z P (st ∷ sts) h = passes z P sts (pass z P h st)
+
+-- before any step
+abbrev pub from_machine : {Core : Type 0} → Machine Core → Passed Core
+from_machine M = record { machine = M; group = λ p. []; served = λ p. None; order = [] }
+
+-- after a list of steps from a machine
+abbrev pub ran : {Core : Type 0} → Sizes → Program Core → Machine Core → List Step → Passed Core
+ran z P M steps = passes z P steps (from_machine M)
+
+-- ---- the same on the list of outcomes
+
+unfoldable pub outcomes : {Core : Type 0} → Sizes → Program Core → List Step → Machine Core → List Outcome
+outcomes z P [] M = []
+outcomes z P (st ∷ sts) M = (step z P M st).outcome ∷ outcomes z P sts (step z P M st).machine
+
+unfoldable pub groups_after : (ℕ → List ℕ) → List Outcome → ℕ → List ℕ
+groups_after group [] = group
+groups_after group (o ∷ os) = groups_after (group_after group o) os
+
+-- the serial order: the segments, in the order of the steps
+unfoldable pub serial_order : (ℕ → List ℕ) → List Outcome → List Entry
+serial_order group [] = []
+serial_order group (o ∷ os) = segment group o ++ serial_order (group_after group o) os
+
+-- ---- the flat machine: it knows no message, and a processor refers to its word at once
+
+pub record FlatMachine (Core : Type 0) : Type 0 where
+  pub mem : ℕ → ℕ
+  pub core : ℕ → Core
+
+abbrev pub flat_turn : {Core : Type 0} → Program Core → FlatMachine Core → ℕ → Core → Kind → FlatMachine Core
+flat_turn P f j g Rests = f
+flat_turn P f j g Alone = record { mem = f.mem; core = put f.core j (P.alone j g) }
+flat_turn P f j g Refers =
+    let a = P.word_of j g in
+    record { mem = put f.mem a (applied (P.phi_of j g) (f.mem a)); core = put f.core j (P.retire j g (f.mem a)) }
+
+abbrev pub flat_step : {Core : Type 0} → Program Core → FlatMachine Core → Entry → FlatMachine Core
+flat_step P f (entry.Processor j) = flat_turn P f j (f.core j) (P.kind j (f.core j))
+flat_step P f (entry.Poke q) = record { mem = P.poked_mem q f.mem; core = P.poked_core q f.core }
+
+unfoldable pub flat_run : {Core : Type 0} → Program Core → FlatMachine Core → List Entry → FlatMachine Core
+flat_run P f [] = f
+flat_run P f (e ∷ es) = flat_run P (flat_step P f e) es
+
+-- the flat machine of an idle one
+abbrev pub flat_of : {Core : Type 0} → Machine Core → FlatMachine Core
+flat_of M = record { mem = M.mem; core = M.core }

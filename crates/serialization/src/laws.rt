@@ -1,0 +1,12 @@
+//! What holds of every run, as the contract of a function that does nothing.
+
+ghost use Rattle.serialization.specs.Serialization.{IsSerializedAtEveryMoment, IsSerializedFromIdleToIdle, OrderIsOfOutcomes, ReferencesAreServedOnce};
+
+/// After whatever steps the machine is the flat one that takes the serial order, up to references that
+/// are served and have not retired; each reference is served once, between its issue and its retirement.
+pub fn serialization<Core>()
+    ensures moments { IsSerializedAtEveryMoment Core }
+    ensures idle { IsSerializedFromIdleToIdle Core }
+    ensures order { OrderIsOfOutcomes Core }
+    ensures once { ReferencesAreServedOnce Core }
+{}
