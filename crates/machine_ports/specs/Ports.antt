@@ -1,0 +1,52 @@
+-- A processor at its port, and what its turns do.
+use Rattle.std.specs.Prelude.{ℕ, ◌%◌, Bool, true, false, List, Result, Ok, Err}
+use Rattle.rv_table.specs.declared.insn.Insn.{Insn}
+use Rattle.phi_algebra.specs.declared.phi.Phi.{Phi}
+use Rattle.phi_algebra.specs.declared.phi.Phi.TheVariants.{Add}
+use Rattle.phi_algebra.specs.Table.{load_phi, store_phi, amo_phi}
+use Rattle.flat_machine.specs.declared.effect.Effect.{Effect}
+use Rattle.flat_machine.specs.declared.effect.Effect.TheVariants as does
+use Rattle.flat_machine.specs.declared.fault.Fault.{Fault}
+use Rattle.flat_machine.specs.declared.setting.Setting.{Setting}
+use Rattle.flat_machine.specs.Operations.{store_size}
+use Rattle.flat_machine.specs.State.{Processor, status_of}
+use Rattle.flat_machine.specs.Effects.{effect_of}
+use Rattle.flat_machine.specs.Turns.{Turn, Retires, Reaches, Stops, turn_of, fetched}
+use Rattle.hart.specs.State.{CoreState}
+use Rattle.machine_ports.specs.declared.begun.Begun.{Begun}
+use Rattle.machine_ports.specs.declared.begun.Begun.TheVariants.{Retired, Referred, Stopped}
+
+pub record PortState : Type 0 where
+  pub core : CoreState
+  -- it has sent a request, and its instruction has not retired
+  pub is_open : Bool
+
+abbrev pub with_state : PortState → Processor → PortState
+with_state p state = record p { core = record p.core { state = state } }
+
+-- the next turn of the processor, as the flat machine says
+abbrev pub turn : PortState → (code : List ℕ) → Turn
+turn p code = turn_of p.core.setting code p.core.state
+
+-- The function of a reference, by the table of instructions and functions. What refers to no word has none; the identity
+-- stands for it.
+abbrev pub phi_of_effect : Effect → Phi
+phi_of_effect (does.Load op rd address) = load_phi
+phi_of_effect (does.Store op address value) = store_phi (store_size op) (address % 4) value
+phi_of_effect (does.Amo op rd address value) = amo_phi op value
+phi_of_effect _ = Add 0
+
+abbrev pub phi_of_insn : Setting → Processor → Result Insn Fault → Phi
+phi_of_insn s p (Ok i) = phi_of_effect (effect_of s p.pc p.registers i)
+phi_of_insn s p (Err fault) = Add 0
+
+-- the function of the processor's next reference
+unfoldable pub reference_phi : Setting → (code : List ℕ) → Processor → Phi
+reference_phi s code p = phi_of_insn s p (fetched code p.pc)
+
+-- What the turn of a port does that is not open, and the port after it: an instruction is done or stops the processor, or a
+-- reference opens the port.
+abbrev pub begun : PortState → (code : List ℕ) → Turn → Begun × PortState
+begun p code (Retires after retired) = (Retired retired, with_state p after)
+begun p code (Reaches word change after) = (Referred word (reference_phi p.core.setting code p.core.state), record p { is_open = true })
+begun p code (Stops cause) = (Stopped cause, with_state p (record p.core.state { status = status_of cause }))

@@ -1,0 +1,141 @@
+//! A port.
+
+ghost use Rattle.std.specs.Prelude.{◌≡◌, ℕ, ◌<◌, ◌≤◌, ◌^◌, ◌%◌, true, false, List, length, IfOk, Some, None, if◌then◌else◌, slice_get, slice_index};
+ghost use Rattle.flat_machine.specs.State.{is_running, status_of};
+ghost use Rattle.flat_machine.specs.Flat.{is_lawful_register, with_poked_byte, with_poked_register};
+ghost use Rattle.flat_machine.specs.Memory.{in_local};
+ghost use Rattle.hart.specs.State.{new_core};
+ghost use Rattle.hart.specs.Deciding.{IsReference, after_reply};
+ghost use Rattle.machine_ports.specs.Ports.{begun, turn, with_state};
+ghost use Rattle.machine_ports.specs.declared.begun.Begun.TheVariants as begins;
+
+use crate::begun::Begun;
+use flat_machine::{Cause, LOCAL_START, PC, REGION_BYTES, Retired, Setting, Status};
+use hart::{Core, Decision};
+use local_memory::Code;
+use rv_table::Register;
+use std::alloc::{AllocError, Global};
+use std::marker::Model;
+
+/// A processor's port, seen as a `PortState`.
+#[derive(Drop)]
+pub struct Port {
+    core: Core,
+    is_open: bool,
+}
+
+impl Model for Port {
+    ghost use Rattle.machine_ports.specs.Ports.{PortState};
+
+    ghost Value = { PortState };
+
+    ghost view = { λ p. record { core = p.core; is_open = p.is_open } };
+}
+
+impl Port {
+    /// The port of a processor that runs from `pc`, with every register 0. Its local memory begins
+    /// with the bytes given, and is zero after them. No reference is open.
+    ///
+    /// # Errors
+    ///
+    /// [`AllocError`] where there is no memory for its local memory.
+    pub fn new(alloc: Global, setting: Setting, pc: u32, local: &[u8]) -> Result<Self, AllocError>
+        requires words { setting.shared_words ≤ 262144 }
+        requires aligned { pc % 4 ≡ 0 }
+        requires fits { length local.now ≤ 2 ^ 16 }
+        ensures { IfOk result (λ port. port ≡ record { core = new_core setting pc local.now; is_open = false }) }
+    {
+        Ok(Port {
+            core: Core::new(alloc, setting, pc, local)?,
+            is_open: false,
+        })
+    }
+
+    /// Whether a reference is open: a request was sent, and its instruction has not retired.
+    pub fn is_open(&self) -> bool
+        ensures { result ≡ self.now.is_open }
+    {
+        self.is_open
+    }
+
+    /// Whether the processor runs.
+    pub fn is_running(&self) -> bool
+        ensures { result ≡ is_running self.now.core.state.status }
+    {
+        self.core.status() == Status::Running
+    }
+
+    /// The processor's core.
+    pub fn core(&self) -> &Core
+        ensures { result.now ≡ self.now.core }
+    {
+        &self.core
+    }
+
+    /// Begins a turn: the instruction is done, or stops the processor, or refers to a shared word,
+    /// and then the port is open.
+    #[tactic(auto, unfolding(crate::specs::Ports::reference_phi))]
+    pub fn begin(&mut self, code: &Code) -> Begun
+        requires closed { self.old.is_open ≡ false }
+        requires running { is_running self.old.core.state.status ≡ true }
+        ensures begun { result ≡ (begun self.old code.now (turn self.old code.now)).0 }
+        ensures after { self.new ≡ (begun self.old code.now (turn self.old code.now)).1 }
+    {
+        match self.core.decide(code) {
+            Decision::Local => Begun::Retired(self.core.take_local(code)),
+            Decision::Refer { word, phi, .. } => {
+                self.is_open = true;
+                Begun::Referred { word, phi }
+            }
+            Decision::Halt(byte) => self.stop(Cause::Halt(byte)),
+            Decision::Fault(fault) => self.stop(Cause::Fault(fault)),
+        }
+    }
+
+    /// The processor stops.
+    fn stop(&mut self, cause: Cause) -> Begun
+        ensures begun { result ≡ begins.Stopped cause }
+        ensures after { self.new ≡ with_state self.old (record self.old.core.state { status = status_of cause }) }
+    {
+        self.core.stop(cause);
+        Begun::Stopped(cause)
+    }
+
+    /// Finishes the turn of an open port, with the word that its reference found.
+    pub fn finish(&mut self, code: &Code, found: u32) -> Retired
+        requires { IsReference (turn self.old code.now) }
+        ensures turn { after_reply (turn self.old code.now) found ≡ Some (self.new.core.state, result) }
+        ensures setting { self.new.core.setting ≡ self.old.core.setting }
+        ensures closed { self.new.is_open ≡ false }
+    {
+        self.is_open = false;
+        self.core.retire(code, found)
+    }
+
+    /// Writes register 1 to 31, or `pc` as 32, from outside. Answers whether that is lawful; else
+    /// nothing changes. A `pc` is divisible by 4.
+    pub fn poke_register(&mut self, register: u8, value: u32) -> bool
+        ensures lawful { result ≡ is_lawful_register register value }
+        ensures written { self.new ≡ (if is_lawful_register register value then with_state self.old (with_poked_register register value self.old.core.state) else self.old) }
+    {
+        match register {
+            PC if value % 4 == 0 => self.core.set_pc(value),
+            1..PC => self.core.set_register(Register::new(register), value),
+            _ => return false,
+        }
+        true
+    }
+
+    /// Writes a byte of local memory from outside. Answers whether the address is one of local
+    /// memory; else nothing changes.
+    pub fn poke_byte(&mut self, address: u32, value: u8) -> bool
+        ensures lawful { result ≡ in_local address }
+        ensures written { self.new ≡ (if in_local address then with_state self.old (with_poked_byte address value self.old.core.state) else self.old) }
+    {
+        if address / REGION_BYTES != LOCAL_START / REGION_BYTES {
+            return false;
+        }
+        self.core.set_byte(address, value);
+        true
+    }
+}

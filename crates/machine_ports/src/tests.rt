@@ -1,0 +1,166 @@
+//! Turns and pokes of one port. The words and the values come from the manual.
+
+use crate::{Begun, Port};
+use flat_machine::{CODE_START, Cause, Fault, Retired, Setting, Status};
+use local_memory::Code;
+use phi_algebra::Phi;
+use rv_table::{AmoOp, Immediate, ImmediateOp, Insn, Register};
+use std::alloc::AllocGlobal;
+use std::process::Abort;
+use std::test::Fail;
+
+/// `addi x3, x1, 7`.
+const ADDI: u32 = 0x0070_8193;
+
+/// `amoadd.w x3, x2, (x1)`.
+const AMOADD: u32 = 0x0020_A1AF;
+
+/// `ecall`.
+const ECALL: u32 = 0x0000_0073;
+
+/// A port, and the code that its processor runs.
+#[derive(Drop)]
+struct Rig {
+    code: Code,
+    port: Port,
+}
+
+/// Processor 2 of four with sixteen shared words, before this one instruction. `x1` is the address
+/// of the shared word 2, `x2` is 5, and the other registers are 0.
+fn before(rt: &(impl Abort + AllocGlobal), word: u32) -> Result<Rig, Fail> {
+    let setting = Setting {
+        number: 2,
+        processors: 4,
+        shared_words: 16,
+    };
+    let code = Code::new(rt.alloc(), &word.to_le_bytes())?;
+    let mut port = Port::new(rt.alloc(), setting, CODE_START, &[])?;
+    assert!(rt; port.poke_register(1, 0x8000_0008));
+    assert!(rt; port.poke_register(2, 5));
+    Ok(Rig { code, port })
+}
+
+impl Rig {
+    /// Begins a turn of a port that runs and is not open.
+    fn begin(&mut self, rt: &impl Abort) -> Begun {
+        assert!(rt; self.port.is_running());
+        assert!(rt; !self.port.is_open());
+        self.port.begin(&self.code)
+    }
+}
+
+/// A local instruction is done at once.
+#[test]
+fn local_instruction(rt: HostRuntime) -> Result<(), Fail> {
+    let mut rig = before(&rt, ADDI)?;
+    let retired = Retired {
+        pc: 0x0001_0000,
+        insn: Insn::OpImm {
+            op: ImmediateOp::Addi,
+            rd: Register::new(3),
+            rs1: Register::new(1),
+            imm: Immediate::new(7),
+        },
+        result: Some(0x8000_000F),
+        out: None,
+    };
+    assert_eq!(rt; rig.begin(&rt), Begun::Retired(retired));
+    assert!(rt; !rig.port.is_open());
+    assert_eq!(rt; rig.port.core().pc(), 0x0001_0004);
+    assert_eq!(rt; rig.port.core().registers()[3], 0x8000_000F);
+    Ok(())
+}
+
+/// A reference opens the port and changes nothing else. It is finished with the word that it found.
+#[test]
+fn reference(rt: HostRuntime) -> Result<(), Fail> {
+    let mut rig = before(&rt, AMOADD)?;
+    let referred = Begun::Referred {
+        word: 2,
+        phi: Phi::Add(5),
+    };
+    assert_eq!(rt; rig.begin(&rt), referred);
+    assert!(rt; rig.port.is_open());
+    assert!(rt; rig.port.is_running());
+    assert_eq!(rt; rig.port.core().pc(), 0x0001_0000);
+    assert_eq!(rt; rig.port.core().registers()[3], 0);
+    Ok(())
+}
+
+/// What stops a processor: a halt with a byte, and a fault. `pc` stays.
+#[test]
+fn stops(rt: HostRuntime) -> Result<(), Fail> {
+    for (word, cause, status) in [
+        (ECALL, Cause::Halt(0), Status::Halted(0)),
+        (0, Cause::Fault(Fault::NoRow), Status::Faulted(Fault::NoRow)),
+        (
+            0x0010_0073,
+            Cause::Fault(Fault::Breakpoint),
+            Status::Faulted(Fault::Breakpoint),
+        ),
+    ] {
+        let mut rig = before(&rt, word)?;
+        assert_eq!(rt; rig.begin(&rt), Begun::Stopped(cause), "{word:08x}");
+        assert!(rt; !rig.port.is_running(), "{word:08x}");
+        assert!(rt; !rig.port.is_open(), "{word:08x}");
+        assert_eq!(rt; rig.port.core().status(), status, "{word:08x}");
+        assert_eq!(rt; rig.port.core().pc(), 0x0001_0000, "{word:08x}");
+    }
+    Ok(())
+}
+
+/// Registers 1 to 31, and `pc` as 32 where the value is divisible by 4: the register, the value,
+/// whether it is written, and `pc` then.
+#[test]
+fn registers_are_poked(rt: HostRuntime) -> Result<(), Fail> {
+    let mut rig = before(&rt, 0)?;
+    for (register, value, is_written, pc) in [
+        (0, 1, false, 0x0001_0000),
+        (1, 0xFFFF_FFFF, true, 0x0001_0000),
+        (31, 3, true, 0x0001_0000),
+        (32, 0x0001_0008, true, 0x0001_0008),
+        (32, 0x0001_0001, false, 0x0001_0008),
+        (32, 0x0001_0002, false, 0x0001_0008),
+        (32, 0x0001_0003, false, 0x0001_0008),
+        (32, 0xFFFF_FFFC, true, 0xFFFF_FFFC),
+        (33, 4, false, 0xFFFF_FFFC),
+        (255, 4, false, 0xFFFF_FFFC),
+    ] {
+        assert_eq!(rt;
+            rig.port.poke_register(register, value),
+            is_written,
+            "{register} {value}"
+        );
+        assert_eq!(rt; rig.port.core().pc(), pc, "{register} {value}");
+    }
+    let registers = rig.port.core().registers();
+    assert_eq!(rt;
+        (registers[0], registers[1], registers[2]),
+        (0, 0xFFFF_FFFF, 5)
+    );
+    assert_eq!(rt; (registers[30], registers[31]), (0, 3));
+    Ok(())
+}
+
+/// Bytes of local memory, and no others.
+#[test]
+fn bytes_are_poked(rt: HostRuntime) -> Result<(), Fail> {
+    let mut rig = before(&rt, 0)?;
+    for (address, is_written) in [
+        (0x0001_FFFF, false),
+        (0x0002_0000, true),
+        (0x0002_FFFF, true),
+        (0x0003_0000, false),
+        (0x8000_0000, false),
+    ] {
+        assert_eq!(rt;
+            rig.port.poke_byte(address, 0xA5),
+            is_written,
+            "{address:08x}"
+        );
+        let byte = rig.port.core().byte(address).ok();
+        assert_eq!(rt; byte, is_written.then_some(0xA5), "{address:08x}");
+    }
+    assert_eq!(rt; rig.port.core().byte(0x0002_0001).ok(), Some(0));
+    Ok(())
+}

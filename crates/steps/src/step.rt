@@ -1,0 +1,90 @@
+//! Steps, and what they did.
+
+ghost use Rattle.std.specs.Prelude.{◌≡◌};
+ghost use Rattle.steps.specs.Answers.{is_stalled};
+
+use flat_machine::{Cause, Poke, Retired};
+
+/// One step of the machine, which is applied whole.
+#[derive(Clone, Copy, Debug, PartialEq, Eq, Drop)]
+pub enum Step {
+    /// A turn of a processor.
+    Turn(u8),
+    /// The request before a stage, on this wire, is offered to its switch.
+    Up { stage: u8, wire: u8 },
+    /// A memory module executes the request that stands at it.
+    Serve(u8),
+    /// The reply after a stage, on this wire, is answered at its switch.
+    Down { stage: u8, wire: u8 },
+    /// A write from outside, on a machine in which no reference is open.
+    Poke(Poke),
+}
+
+/// What a step did.
+#[derive(Clone, Copy, Debug, PartialEq, Eq, Drop)]
+pub enum Outcome {
+    /// The processor's instruction is done.
+    Retired(Retired),
+    /// The processor has sent a request to a shared word, and is open until it retires.
+    Issued,
+    /// The processor has stopped.
+    Stopped(Cause),
+    /// A message stands one stage further.
+    Moved,
+    /// A request was combined with one that waited at the switch.
+    Combined {
+        /// The leader of the one that waited, which leads both.
+        first: u8,
+        /// The leader of the one that came.
+        second: u8,
+    },
+    /// The module has executed the request of this leader.
+    Served {
+        leader: u8,
+    },
+    /// A reply was split in two: the leader's went on, and so did that of the second.
+    Answered {
+        /// The second.
+        to: u8,
+    },
+    /// The poke is written.
+    Poked,
+    /// Nothing: the step names no place of the machine, nothing was there to move, there was no
+    /// room, the processor does not run or waits for its reply, or the poke is unlawful or met an
+    /// open reference.
+    Stalled,
+}
+
+impl Outcome {
+    /// Whether the step did nothing.
+    pub fn is_stalled(&self) -> bool
+        ensures { result ≡ is_stalled self.now }
+    {
+        matches!(self, Outcome::Stalled)
+    }
+}
+
+#[cfg(test)]
+mod tests {
+    use super::*;
+
+    /// Of all outcomes one is that of a step that did nothing.
+    #[test]
+    fn one_outcome_is_stalled(rt: HostRuntime) {
+        assert!(rt; Outcome::Stalled.is_stalled());
+        for outcome in [
+            Outcome::Issued,
+            Outcome::Stopped(Cause::Halt(0)),
+            Outcome::Moved,
+            Outcome::Combined {
+                first: 0,
+                second: 2,
+            },
+            Outcome::Served { leader: 0 },
+            Outcome::Answered { to: 1 },
+            Outcome::Poked,
+        ] {
+            assert!(rt; !outcome.is_stalled(), "{outcome:?}");
+        }
+    }
+}
