@@ -1,0 +1,5 @@
+pub mod Processors
+pub mod Flatness
+pub mod Explained
+pub mod Steps
+pub mod Turning
