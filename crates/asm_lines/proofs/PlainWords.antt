@@ -1,8 +1,8 @@
 -- Words without special bytes, and the cuts of texts that are made of them.
-use Rattle.std.proofs.Common.{◌≡◌, ℕ, suc, ◌+◌, ◌-◌, ◌<◌, ◌≤◌, Bool, true, false, not, eqb, List, [], ◌∷◌, ◌++◌, length, get_or, take, drop, map, Option, Some, None, refl, sym, ap, ◌∙◌, append_assoc, append-nil, arith}
-use Rattle.std.specs.Prelude.{◌==◌, ◌&&◌, ◌||◌, reverse, nat_lt, nat_le}
+use Rattle.std.proofs.Common.{◌≡◌, ℕ, suc, ◌+◌, ◌-◌, ◌<◌, ◌≤◌, Bool, true, false, not, eqb, List, [], ◌∷◌, ◌++◌, length, get_or, drop, map, Some, None, refl, sym, ap, ◌∙◌, append_assoc, append-nil, arith}
+use Rattle.std.specs.Prelude.{◌==◌, ◌||◌, reverse, nat_lt}
 use Rattle.std.specs.List.{list_all, position_or_len, suffix_len, slice_split}
-use Rattle.std.proofs.lemmas.Bool.{agree_below, agree_below_at, and_parts, and_from, or_cases, or_parts, not_from_false, not_from_true, true≢false, lt-ltb, le-ltb, ltb-true, not-true, true_from_ne_false, both_ways}
+use Rattle.std.proofs.lemmas.Bool.{and_parts, and_from, or_parts, not_from_false, lt-ltb, le-ltb, not-true, true_from_ne_false, both_ways}
 use Rattle.std.proofs.lemmas.List.{reverse-append, reverse-reverse, take_at, drop_at, get_or_append_left, get_or-append_right, length-append, length-reverse}
 use Rattle.std.proofs.lemmas.List.Folds.{list_all-append, list_all_at}
 use Rattle.std.proofs.lemmas.List.Sums.{suffix_len_is}

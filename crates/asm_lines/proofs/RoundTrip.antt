@@ -1,10 +1,9 @@
 -- The text of an instruction is read again.
-use Rattle.std.proofs.Common.{◌≡◌, ℕ, ◌+◌, ◌*◌, ◌^◌, ◌<◌, ◌≤◌, Bool, true, false, not, eqb, List, [], ◌∷◌, ◌++◌, length, get_or, reverse, Option, Some, None, Ok, Err, refl, sym, ap, ◌∙◌, arith}
-use Rattle.std.specs.Prelude.{is_some, is_none, unwrap_or, ◌==◌, ◌&&◌, ◌||◌, codes, ok_or, nat_lt, ℤ, pos, negsuc, unsigned_abs, int_le}
+use Rattle.std.proofs.Common.{◌≡◌, ℕ, ◌*◌, ◌^◌, ◌<◌, Bool, true, false, not, eqb, List, [], ◌∷◌, ◌++◌, length, Option, Some, None, Ok, refl, ap, arith}
+use Rattle.std.specs.Prelude.{is_some, unwrap_or, ◌==◌, ◌&&◌, codes, nat_lt, ℤ, pos, negsuc, unsigned_abs, int_le}
 use Rattle.std.specs.List.{list_all}
-use Rattle.std.specs.Str.{bytes_eq}
 use Rattle.std.specs.Fmt.{decimal, signed_decimal}
-use Rattle.std.proofs.lemmas.Bool.{agree_below_at, and_parts, and_from, and_left, ne_eqb, eqb-true, ltb-true, le-leb, not-true}
+use Rattle.std.proofs.lemmas.Bool.{agree_below_at, and_parts, and_left, ne_eqb, eqb-true, ltb-true, le-leb, not-true}
 use Rattle.std.proofs.lemmas.List.{length-append}
 use Rattle.rv_table.specs.declared.insn.Insn.{Insn}
 use Rattle.rv_table.specs.declared.insn.Insn.TheVariants as insns
@@ -18,18 +17,15 @@ use Rattle.rv_table.specs.declared.operation.UpperOp.TheVariants.{Lui, Auipc}
 use Rattle.rv_table.specs.declared.operation.AmoOp.{AmoOp}
 use Rattle.rv_table.specs.declared.operation.AmoOp.TheVariants as amo
 use Rattle.rv_table.specs.Rows.{InRange}
-use Rattle.asm_lines.specs.declared.fault.LineFault.TheVariants.{Form}
 use Rattle.asm_lines.specs.declared.mnemonic.Mnemonic.{Mnemonic}
 use Rattle.asm_lines.specs.declared.mnemonic.Mnemonic.TheVariants.{Op, OpImm, Shift, Load, Store, Branch, Upper, Jal, Jalr, Fence, Ecall, Ebreak, Amo}
 use Rattle.asm_lines.specs.declared.mnemonic.Order.{Order}
-use Rattle.asm_lines.specs.Steps.{◌>>=◌}
-use Rattle.asm_lines.specs.Text.{is_blank, trimmed, cut_at, cut_last_at, parts_at, operands_of}
-use Rattle.asm_lines.specs.Number.{number_within}
+use Rattle.asm_lines.specs.Text.{is_blank, cut_at, cut_last_at, parts_at, operands_of}
 use Rattle.asm_lines.specs.Names.{written, unordered, plain_mnemonic, mnemonic_of, directive_of, x_name, register_of}
-use Rattle.asm_lines.specs.Statements.{Instr, Val, number, instruction, whole, op_imm, load, store, branch, upper, jal, jalr, is_letter, is_name, register_in, value_in, bracketed, part_in, upper_in, lower_in, base_in, nothing_in, op_in, op_imm_in, shift_in, load_in, store_in, branch_in, upper_insn_in, jal_in, jalr_in, fence_in, amo_in, instruction_in, statement_in, rest_of_line, label_in, said_in, line_of}
-use Rattle.asm_lines.specs.Written.{mnemonic_of_insn, order_of_insn, signed, offset, in_brackets, operands_written, after_commas, with_operands, text_of, as_said}
-use Rattle.asm_lines.proofs.PlainWords.{joined_all, some_append, is_plain, Word, Words, none, more, no_blank, no_comma, no_comment, no_colon, no_line_feed, one_part, word_trimmed, trimmed_nothing, cut_at_none, cut_at_mid, operands_again, no_operands_again, text_quiet, text_trimmed, bracketed_none, bracketed_again}
-use Rattle.asm_lines.proofs.Numerals.{signed_pass, signed_read, within_again, natural_again, signed_word, decimal_word}
+use Rattle.asm_lines.specs.Statements.{Instr, number, instruction, whole, op_imm, load, store, branch, upper, jal, jalr, is_letter, is_name, register_in, value_in, bracketed, part_in, upper_in, lower_in, base_in, nothing_in, op_in, op_imm_in, shift_in, load_in, store_in, branch_in, upper_insn_in, jal_in, jalr_in, fence_in, amo_in, instruction_in, statement_in, rest_of_line, label_in, said_in, line_of}
+use Rattle.asm_lines.specs.Written.{signed, offset, in_brackets, after_commas, with_operands, text_of, as_said}
+use Rattle.asm_lines.proofs.PlainWords.{joined_all, is_plain, Word, Words, none, more, no_blank, no_comment, no_colon, no_line_feed, one_part, word_trimmed, trimmed_nothing, cut_at_none, cut_at_mid, operands_again, no_operands_again, text_quiet, text_trimmed, bracketed_none, bracketed_again}
+use Rattle.asm_lines.proofs.Numerals.{signed_pass, within_again, natural_again, signed_word, decimal_word}
 use Rattle.asm_lines.proofs.Fields.{signed_small, signed_low, signed_high, offset_high}
 
 -- ---- a line from its words

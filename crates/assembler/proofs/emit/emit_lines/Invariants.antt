@@ -1,4 +1,3 @@
-use Rattle.std.proofs.Common.{◌≡◌}
 use Rattle.assembler.specs.Passes.{label_values}
 use Rattle.assembler.proofs.LineByLine.{Emitted}
 use Rattle.assembler.proofs.emit.emit_lines.Given as goal
