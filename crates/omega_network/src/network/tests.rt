@@ -390,9 +390,9 @@ impl Pair {
 
     /// One move, up or down.
     fn moved(&mut self) -> Option<bool> {
+        let wire = self.wire();
         let stages = self.network.stages();
         let stage = (self.random.below(u32::from(stages)) & 7) as u8;
-        let wire = self.wire();
         if stage >= stages || wire >= self.network.wires() {
             return Some(true);
         }
