@@ -9,7 +9,9 @@ use Rattle.flat_machine.specs.State.{FlatState, Processor, is_running}
 use Rattle.flat_machine.specs.Flat as flat
 use Rattle.flat_machine.specs.Laws.{HasWords, AreBelow}
 use Rattle.flat_machine.proofs.Kept.{all_get}
-use Rattle.abstract_machine.specs.Machine.{Machine, Step, Turn, Retired, step, IsIdle}
+use Rattle.placement.specs.Roles.{Idle}
+use Rattle.abstract_machine.proofs.Steadying.{steady_start}
+use Rattle.abstract_machine.specs.Machine.{new_machine, Machine, Step, Turn, Retired, step, IsIdle}
 use Rattle.serialization.specs.Order.{Passed, FlatMachine, flat_of, from_machine, ran, outcomes, flat_run}
 use Rattle.serialization.specs.Serialization.{Begins, FindsAt, AtTheMoment, EachServedOnce}
 use Rattle.serialization.proofs.Serial.{follows}
@@ -89,5 +91,20 @@ module _ (c : Config) (code : List ℕ) where
     once : (steps : List Step) → EachServedOnce (outcomes (sizes_of c) (program c code) steps M)
     once steps = served_once (sizes_of c) (program c code) IsGood (keeps c code o.few (bytes_of F o.sound)) M (begins M F o) steps
 
+-- a new machine, beside the flat machine that it is
+opens_on : (c : Config) (code : List ℕ) (F : FlatState) → c.k ≤ 6 → IsSoundFlat c code F → Opens c code (new_machine (read_flat F (λ p. [])).mem (read_flat F (λ p. [])).core) F
+opens_on c code F few sound = record {
+  few = few;
+  sound = sound;
+  role = λ p. Idle;
+  steady = steady_start (sizes_of c) (program c code) (read_flat F (λ p. [])).mem (read_flat F (λ p. [])).core;
+  idle = λ p within. refl;
+  reads = refl;
+}
+
 pub runs_are_explained : (c : Config) (code : List ℕ) → RunsAreExplained c code
-runs_are_explained c code = record { moments = λ M F steps o. explained c code M F o steps; once = λ M F steps o. once c code M F o steps }
+runs_are_explained c code = record {
+  opens = λ F few sound. opens_on c code F few sound;
+  moments = λ M F steps o. explained c code M F o steps;
+  once = λ M F steps o. once c code M F o steps;
+}

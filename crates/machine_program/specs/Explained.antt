@@ -8,7 +8,7 @@ use Rattle.flat_machine.specs.State.{FlatState}
 use Rattle.flat_machine.specs.Flat as flat
 use Rattle.hart.specs.Deciding.{after_reply}
 use Rattle.placement.specs.Roles.{Role}
-use Rattle.abstract_machine.specs.Machine.{Machine, Step, Turn, Retired, step, IsIdle}
+use Rattle.abstract_machine.specs.Machine.{Machine, Step, Turn, Retired, step, new_machine, IsIdle}
 use Rattle.abstract_machine.specs.Steadiness.{Steady}
 use Rattle.serialization.specs.Order.{Passed, FlatMachine, flat_of, ran, outcomes}
 use Rattle.serialization.specs.Serialization.{EachServedOnce}
@@ -56,5 +56,7 @@ module _ (c : Config) (code : List ℕ) where
   -- The theorem: every run from an idle machine is explained at every moment, each reference is served once, between its
   -- issue and its retirement, and where no reference is open the machine is the flat one.
   pub record RunsAreExplained : Type 0 where
+    -- and a run may begin on every flat machine in range
+    pub opens : (F : FlatState) → c.k ≤ 6 → IsSoundFlat c code F → Opens (new_machine (read_flat F (λ p. [])).mem (read_flat F (λ p. [])).core) F
     pub moments : (M : Machine Told) (F : FlatState) (steps : List Step) → Opens M F → IsExplained F (ran (sizes_of c) (program c code) M steps)
     pub once : (M : Machine Told) (F : FlatState) (steps : List Step) → Opens M F → EachServedOnce (outcomes (sizes_of c) (program c code) steps M)
