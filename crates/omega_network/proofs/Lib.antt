@@ -3,6 +3,7 @@ pub mod Empty
 pub mod Kept
 pub mod Moves
 pub mod New
+pub mod Paths
 pub mod Puts
 pub mod Replies
 pub mod Requests

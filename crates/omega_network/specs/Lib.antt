@@ -1,3 +1,4 @@
 pub mod Changes
 pub mod Networks
 pub mod Offers
+pub mod Paths

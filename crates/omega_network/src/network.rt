@@ -178,9 +178,8 @@ impl Network {
         ensures after { net_of self.new ≡ module_taken (sizes_of self.old) (net_of self.old) m }
         ensures sizes { sizes_of self.new ≡ sizes_of self.old }
     {
-        let k = self.k;
-        let request = self.request_before(k, m);
-        self.take_request(k, m);
+        let request = self.module_front(m);
+        self.take_request(self.k, m);
         request
     }
 
@@ -219,7 +218,7 @@ impl Network {
         ensures after { net_of self.new ≡ port_taken (net_of self.old) p }
         ensures sizes { sizes_of self.new ≡ sizes_of self.old }
     {
-        let reply = self.reply_before(0, p);
+        let reply = self.port_reply(p);
         self.take_reply(0, p);
         reply
     }
