@@ -18,7 +18,7 @@ use Rattle.assembler.specs.Meaning.{Labels, Place, start, room_of, count_of, add
 
 -- ---- results
 
-bind_ok : {A B : Type 0} (r : Result A AsmFault) (f : A → Result B AsmFault) (y : B) → (r >>= f) ≡ Ok y → (x : A) × (r ≡ Ok x) × (f x ≡ Ok y)
+pub bind_ok : {A B : Type 0} (r : Result A AsmFault) (f : A → Result B AsmFault) (y : B) → (r >>= f) ≡ Ok y → (x : A) × (r ≡ Ok x) × (f x ≡ Ok y)
 bind_ok (Ok x) f y h = (x, refl, h)
 bind_ok (Err e) f y h = absurd cc
 
@@ -109,7 +109,7 @@ idle_step name at h = step_at name at (labelled name at) (at.section, []) (recor
 })
 
 -- a statement that is placed fits, and stands at its place
-placed_fits : (fault : Option AsmFault) (at : Place) (s : Stmt) (p : Placed) → fit_or_fault fault at s ≡ Ok p → (nat_le (count_of at.section at + size_of s) (room_of at.section) ≡ true) × (p ≡ record { section = at.section; address = address at; statement = Some s })
+pub placed_fits : (fault : Option AsmFault) (at : Place) (s : Stmt) (p : Placed) → fit_or_fault fault at s ≡ Ok p → (nat_le (count_of at.section at + size_of s) (room_of at.section) ≡ true) × (p ≡ record { section = at.section; address = address at; statement = Some s })
 placed_fits (Some f) at s p h = absurd cc
 placed_fits None at s p h = by_test (nat_le (count_of at.section at + size_of s) (room_of at.section)) h
   where

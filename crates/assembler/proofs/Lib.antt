@@ -3,3 +3,7 @@ pub mod LineByLine
 pub mod Words
 pub mod Again
 pub mod Fits
+pub mod LineBytes
+pub mod PlacedBytes
+pub mod Opened
+pub mod Reading

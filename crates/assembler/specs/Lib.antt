@@ -1,3 +1,4 @@
 pub mod Faults
 pub mod Meaning
 pub mod Passes
+pub mod Openings

@@ -1,14 +1,19 @@
 //! Laws of what a text means.
 
-ghost use Rattle.std.specs.Prelude.{◌≡◌, ℕ, List, []};
+ghost use Rattle.std.specs.Prelude.{◌≡◌, ◌≤◌, ◌*◌, ℕ, true, List, [], length};
+ghost use Rattle.flat_machine.specs.declared.config.Config.{Config};
+ghost use Rattle.flat_machine.specs.Memory.{in_code};
 ghost use Rattle.elf_image.specs.declared.layout.Layout.{Layout};
+ghost use Rattle.elf_image.specs.Spellings.{spelling};
 ghost use Rattle.assembler.specs.declared.fault.AsmError.{AsmError};
 ghost use Rattle.assembler.specs.Meaning.{IsMeaning, IsPresent, FitsRegions, word_bytes};
+ghost use Rattle.assembler.specs.Openings.{IsReadAsText};
 ghost use Rattle.asm_lines.specs.Written.{text_of};
 ghost use Rattle.rv_table.specs.Rows.{Spells};
 
 use asm_lines::{fields_again, written_again};
 use decode::encode;
+use elf_image::{input_means_one_layout, not_refused_is_accepted, spelling_means_its_layout};
 use flat_machine::CODE_START;
 use rv_table::Insn;
 
@@ -37,4 +42,19 @@ pub fn disassembled_again(insn: &Insn) -> u32
     fields_again();
     written_again();
     encode(insn)
+}
+
+/// From text to image to flat state: where a text has a meaning, the entry lies in code and the shared
+/// section fits the configuration, the spelling of its layout is accepted, and is read for that
+/// configuration (a fault of the link and want of memory aside). The machine that opens on what was
+/// read stands at the entry with all processors, and has at each address what the text places there.
+pub fn image_opens_on_the_text()
+    ensures { (config : Config) (text : List ℕ) (layout : Layout) → IsMeaning text layout
+        → in_code layout.entry ≡ true → length layout.shared ≤ 4 * config.shared_words
+        → IsReadAsText text config (spelling layout) }
+{
+    // Laws of images, for the proof alone.
+    input_means_one_layout();
+    not_refused_is_accepted();
+    spelling_means_its_layout();
 }

@@ -4,6 +4,10 @@
 //! left, with label values from the whole text. The code works in two passes: the first finds the
 //! place of each line and the value of each label, the second the bytes.
 //!
+//! [`Program::to_elf`] gives a program's image file. `specs/Openings.antt` says with what a machine
+//! opens on a text, address by address, and the law [`image_opens_on_the_text`] that it does so on the
+//! image file.
+//!
 //! # The language
 //!
 //! - Lines end with LF; the last LF is optional. `#` begins a comment up to the line's end. Blanks are
@@ -57,6 +61,8 @@ mod values;
 
 pub use disassembly::disassemble;
 pub use fault::{AsmError, AsmFault};
-pub use laws::{disassembled_again, fault_or_meaning, meaning_fits, one_meaning};
+pub use laws::{
+    disassembled_again, fault_or_meaning, image_opens_on_the_text, meaning_fits, one_meaning,
+};
 pub use passes::assemble;
 pub use program::Program;

@@ -1,9 +1,14 @@
 //! What a text means.
 
-ghost use Rattle.std.specs.Prelude.{◌≡◌};
+ghost use Rattle.std.specs.Prelude.{◌≡◌, IfOk, IsOkUnless};
+ghost use Rattle.elf_image.specs.Spellings.{spelling};
+ghost use Rattle.assembler.specs.declared.fault.AsmFault.TheVariants.{Memory};
 ghost use Rattle.assembler.specs.Meaning.{FitsRegions};
 
-use elf_image::Layout;
+use crate::fault::{AsmError, AsmFault};
+use elf_image::{Layout, write_image};
+use link::Meter;
+use std::alloc::Global;
 use std::marker::Model;
 
 /// An assembled text, seen as what it places where. Each part fits into its region.
@@ -38,5 +43,25 @@ impl Program {
         ensures fits { FitsRegions self.now }
     {
         &self.layout
+    }
+
+    /// The image file of the program: the one spelling of its layout.
+    ///
+    /// # Errors
+    ///
+    /// [`AsmFault::Memory`] alone, where memory was short. Line 1 is named, since none is at fault.
+    pub fn to_elf(&self, alloc: Global) -> Result<Vec<u8>, AsmError>
+        ensures ok { IfOk result (λ file. file.items ≡ spelling self.now) }
+        ensures err { IsOkUnless result (record { line = 1; fault = Memory }) }
+    {
+        let mut writer = Meter::new(Vec::new(alloc));
+        // A vector refuses bytes for want of memory alone.
+        match write_image(&mut writer, &self.layout) {
+            Ok(()) => Ok(writer.device),
+            Err(_) => Err(AsmError {
+                line: 1,
+                fault: AsmFault::Memory,
+            }),
+        }
     }
 }

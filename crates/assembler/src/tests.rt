@@ -1,6 +1,7 @@
 //! Texts with the words, bytes and faults that they must have.
 
 mod faults;
+mod images;
 mod round_trip;
 mod values;
 mod words;

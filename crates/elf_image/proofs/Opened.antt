@@ -1,5 +1,5 @@
 -- How a machine opens, address by address.
-use Rattle.std.proofs.Common.{◌≡◌, ℕ, zero, suc, ◌+◌, ◌-◌, ◌*◌, ◌/◌, ◌%◌, ◌^◌, ◌<◌, ◌≤◌, true, List, length, replicate, Some, refl, sym, ap, subst, ◌∙◌, inl, inr, arith}
+use Rattle.std.proofs.Common.{◌≡◌, ℕ, zero, suc, ◌+◌, ◌-◌, ◌*◌, ◌/◌, ◌%◌, ◌^◌, ◌<◌, ◌≤◌, true, List, length, replicate, Some, refl, sym, ap, subst, ◌∙◌, inl, inr, arith, length-append}
 use Rattle.std.specs.Prelude.{slice_get, slice_index}
 use Rattle.std.proofs.lemmas.Bool.{cases_lt}
 use Rattle.std.proofs.lemmas.Bool.Decides.{nat_tests}
@@ -18,12 +18,12 @@ use Rattle.elf_image.specs.Images.{HasBytes, IsMeant}
 use Rattle.elf_image.specs.Openings.{words_of, opening_processor, opening}
 use Rattle.elf_image.specs.Laws.{IsByteAt, IsOpeningProcessor, IsOpening}
 
-zero_of_replicate : (n i : ℕ) → slice_index (replicate n 0) i ≡ 0
+pub zero_of_replicate : (n i : ℕ) → slice_index (replicate n 0) i ≡ 0
 zero_of_replicate zero i = refl
 zero_of_replicate (suc n) zero = refl
 zero_of_replicate (suc n) (suc i) = zero_of_replicate n i
 
-padded_same : (n : ℕ) (bytes : List ℕ) (i : ℕ) → slice_index (padded n bytes) i ≡ slice_index bytes i
+pub padded_same : (n : ℕ) (bytes : List ℕ) (i : ℕ) → slice_index (padded n bytes) i ≡ slice_index bytes i
 unfolding padded
 padded_same n bytes i =
     elim (cases_lt i (length bytes)) [
@@ -31,6 +31,10 @@ padded_same n bytes i =
       | inr past ↦
           get_or-append_right bytes (replicate (n - length bytes) 0) (length bytes) i 0 refl past ∙ zero_of_replicate (n - length bytes) (i - length bytes) ∙ sym (get_or_past bytes i 0 past)
     ]
+
+pub length-region_of_bytes : (bytes : List ℕ) → length bytes ≤ 65536 → length (region_of_bytes bytes) ≡ 65536
+unfolding padded
+length-region_of_bytes bytes h = length-append bytes (replicate (65536 - length bytes) 0) ∙ omega (arith, h, length-replicate {A = ℕ} (65536 - length bytes) 0)
 
 -- a region's bytes, and zero after them, are what the file has there
 byte_at : (file : List ℕ) (w : ℕ) (region : Region) (bytes : List ℕ) (i : ℕ) → HasBytes file w region bytes → i < region_length w region → IsByteAt file (region_start region + i) (slice_index bytes i)
@@ -40,7 +44,7 @@ byte_at file w region bytes i h inside =
       | inr past ↦ record { set = λ k p at s. absurd (h.behind i past inside k p at s); unset = λ none. get_or_past bytes i 0 past }
     ]
 
-every_one : {X : Type 0} (n k : ℕ) (x y : X) → slice_get (replicate n x) k ≡ Some y → x ≡ y
+pub every_one : {X : Type 0} (n k : ℕ) (x y : X) → slice_get (replicate n x) k ≡ Some y → x ≡ y
 every_one zero k x y at = absurd (cc)
 every_one (suc n) zero x y at = cc
 every_one (suc n) (suc k) x y at = every_one n k x y at
@@ -62,7 +66,7 @@ part_3 : (a b c d : ℕ) → a < 256 → b < 256 → c < 256 → d < 256 → par
 unfolding part_of
 part_3 a b c d h i j k = omega arith
 
-part_of_number : (bytes : List ℕ) (place offset : ℕ) → ((i : ℕ) → slice_index bytes i < 256) → offset < 4 → part_of 1 offset (number_at bytes place 4) ≡ slice_index bytes (place + offset)
+pub part_of_number : (bytes : List ℕ) (place offset : ℕ) → ((i : ℕ) → slice_index bytes i < 256) → offset < 4 → part_of 1 offset (number_at bytes place 4) ≡ slice_index bytes (place + offset)
 unfolding number_at
 part_of_number bytes place zero small h = part_0 _ _ _ _ (small place) ∙ ap (slice_index bytes) (omega arith)
 part_of_number bytes place (suc zero) small h = part_1 _ _ _ _ (small place) (small (place + 1)) ∙ ap (slice_index bytes) (omega arith)
@@ -71,7 +75,7 @@ part_of_number bytes place (suc (suc (suc zero))) small h =
     part_3 _ _ _ _ (small place) (small (place + 1)) (small (place + 1 + 1)) (small (place + 1 + 1 + 1)) ∙ ap (slice_index bytes) (omega arith)
 part_of_number bytes place (suc (suc (suc (suc n)))) small h = absurd (omega arith)
 
-word_here : (bytes : List ℕ) (count i : ℕ) → i < count → slice_index (words_of bytes count) i ≡ number_at bytes (4 * i) 4
+pub word_here : (bytes : List ℕ) (count i : ℕ) → i < count → slice_index (words_of bytes count) i ≡ number_at bytes (4 * i) 4
 word_here bytes count i h = get_or-map-range_with_len (λ k. number_at bytes (4 * k) 4) 0 count i i 0 h (omega arith)
 
 module _ (config : Config) (file : List ℕ) (layout : Layout) (m : IsMeant config.shared_words file layout) where
