@@ -1,8 +1,8 @@
 pub mod StalledSteps
 pub mod Keeping
 pub mod Serially
-pub mod OpeningBytes
-pub mod InRange
+pub mod OpeningWords
+pub mod MadeOf
 pub mod LocalBytes
 pub mod Explaining
 pub mod Taken

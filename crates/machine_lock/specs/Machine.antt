@@ -19,6 +19,8 @@ use Rattle.flat_machine.specs.Effects.{effect_of}
 use Rattle.flat_machine.specs.Turns.{Turn, Retires, Reaches, Stops, turn_of, fetched}
 use Rattle.flat_machine.specs.Flat.{is_lawful, with_poked_register, with_poked_byte, with_shared_byte}
 use Rattle.flat_machine.specs.declared.setting.Setting.{Setting}
+use Rattle.flat_machine.specs.declared.config.Config.{Config}
+use Rattle.elf_image.specs.Images.{ImageContents}
 use Rattle.hart.specs.State.{CoreState}
 use Rattle.hart.specs.Deciding.{after_reply}
 use Rattle.machine_lock.specs.declared.step.Step.{Step}
@@ -40,6 +42,9 @@ pub record MachineState : Type 0 where
   -- the reply on its way back
   pub reply : Option Reply
   pub code : List ℕ
+  -- what it was made of, which no step changes
+  pub image : ImageContents
+  pub config : Config
 
 abbrev pub state_of : MachineState → Processor
 state_of m = m.core.state

@@ -1,22 +1,30 @@
 -- How a machine opens.
-use Rattle.std.specs.Int.{w32, to_le_bytes}
-use Rattle.std.specs.Prelude.{ℕ, ◌^◌, true, false, List, [], ◌∷◌, ◌++◌, None, replicate}
+use Rattle.std.specs.Prelude.{◌≡◌, false, None}
+use Rattle.flat_machine.specs.declared.config.Config.{Config}
+use Rattle.flat_machine.specs.Limits.{IsWithinLimits}
 use Rattle.local_memory.specs.Accesses.{region_of_bytes}
+use Rattle.elf_image.specs.Images.{ImageContents}
+use Rattle.elf_image.specs.Openings.{words_of}
 use Rattle.hart.specs.State.{new_core}
 use Rattle.machine_lock.specs.Machine.{MachineState}
 
--- the little-endian bytes of words, one word after another
-abbrev pub bytes_of_words : List ℕ → List ℕ
-bytes_of_words [] = []
-bytes_of_words (w ∷ ws) = to_le_bytes w32 w ++ bytes_of_words ws
+-- A machine of this size can be made of the image: each number of the size is within its limits, the machine has no
+-- switches, and the image was read for as many shared words.
+pub record IsMadeFor (config : Config) (image : ImageContents) : Type 0 where
+  pub limits : IsWithinLimits config
+  pub stages : config.k ≡ 0
+  pub words : image.shared_words ≡ config.shared_words
 
--- One processor at the first address of code, which begins with the words; 1,024 shared words. All else is zero.
-abbrev pub opening_of_words : List ℕ → MachineState
-opening_of_words words = record {
-  core = new_core (record { number = 0; processors = 1; shared_words = 1024 }) (2 ^ 16) [];
+-- One processor, which stands at the image's entry with the image's local bytes; the image's code; shared words that
+-- begin with the image's shared bytes. All else is zero, and nothing is under way.
+abbrev pub opening_machine : Config → ImageContents → MachineState
+opening_machine config image = record {
+  core = new_core (record { number = 0; processors = 1; shared_words = config.shared_words }) image.layout.entry image.layout.local;
   is_open = false;
   slot = None;
-  shared = replicate 1024 0;
+  shared = words_of image.layout.shared config.shared_words;
   reply = None;
-  code = region_of_bytes (bytes_of_words words);
+  code = region_of_bytes image.layout.code;
+  image = image;
+  config = config;
 }

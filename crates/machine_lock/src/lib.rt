@@ -3,15 +3,15 @@
 //! The machine is always the replay of its opening over the steps in the log, and its flat state is
 //! the flat run of the serial order that the outcomes of those steps give (`specs/Logs.antt`).
 //!
-//! The machine of this stage has one processor, one memory module and no switches. What each of its
-//! steps does is `outcome_of` and `after` of `specs/Machine.antt`. The log knows the two only as
+//! The machine of this stage has one processor, one memory module and no switches. It opens on an
+//! image (`specs/Openings.antt`), which it keeps. What each of its steps does is `outcome_of` and `after` of `specs/Machine.antt`. The log knows the two only as
 //! words, and that each step of a sound machine is its segment of the serial order.
 #![tactic(auto)]
 
 mod laws;
 mod log;
 mod machine;
-mod module;
+mod opening;
 mod step;
 #[cfg(test)]
 mod tests;
@@ -22,5 +22,4 @@ pub use laws::{
 };
 pub use log::{LockRefusal, Logged, MAX_STEPS};
 pub use machine::{Machine, NewError};
-pub use module::Module;
 pub use step::{Outcome, Reply, Request, Step};

@@ -1,34 +1,38 @@
 //! The machine of one processor and one memory module.
 
-ghost use Rattle.std.specs.Prelude.{◌≡◌, ◌≤◌, ◌*◌, ◌%◌, ◌^◌, ◌==◌, ◌&&◌, length, true, false, not, IfOk, Some, None, slice_get, slice_index, vec_len, if◌then◌else◌};
+ghost use Rattle.std.specs.Prelude.{◌≡◌, ◌↔◌, ◌%◌, ◌^◌, ◌==◌, ◌&&◌, length, true, false, not, IfOk, IsErrOf, IsTrue, Some, None, slice_get, slice_index, if◌then◌else◌};
 ghost use Rattle.std.specs.Option.{option_copied};
 ghost use Rattle.flat_machine.specs.State.{is_running, status_of};
 ghost use Rattle.flat_machine.specs.Memory.{in_local, in_shared};
 ghost use Rattle.machine_lock.specs.Machine.{outcome_of, after, moved, turned, served, poked, begun, finished, core_turn, with_state};
-ghost use Rattle.machine_lock.specs.Serial.{IsSerial};
+ghost use Rattle.elf_image.specs.Openings.{opening};
+ghost use Rattle.machine_lock.specs.Serial.{IsSerial, flat_of};
 ghost use Rattle.machine_lock.specs.Whole.{IsSound};
-ghost use Rattle.machine_lock.specs.Openings.{opening_of_words, bytes_of_words};
+ghost use Rattle.machine_lock.specs.Openings.{IsMadeFor, opening_machine};
 ghost use Rattle.machine_lock.specs.declared.step.Outcome.TheVariants.{Stalled};
 
-use crate::module::Module;
+use crate::opening::opening_words;
 use crate::step::{Outcome, Reply, Request, Step};
+use elf_image::Image;
 use flat_machine::{
-    CODE_START, Cause, LOCAL_START, PC, Poke, REGION_BYTES, SHARED_START, Setting, Status,
+    Cause, Config, LOCAL_START, PC, Poke, REGION_BYTES, SHARED_START, Setting, Status,
 };
 use hart::{Core, Decision};
 use local_memory::Code;
+use memory_module::Module;
 use phi_algebra::Phi;
 use rv_table::Register;
 use std::alloc::{AllocError, Global};
 use std::marker::Model;
 use thiserror::Error;
 
-/// How many words the shared memory has.
-const SHARED_WORDS: u32 = 1024;
-
 /// Why a machine was not made.
 #[derive(Clone, Copy, Debug, PartialEq, Eq, Drop, Error)]
 pub enum NewError {
+    /// A number of its size is outside its limits, or is one of another machine than this: a size
+    /// with switches, or with another number of shared words than the image was read for.
+    #[error("K1")]
+    Config,
     /// There was no memory for it.
     #[error("K2")]
     Memory,
@@ -43,6 +47,8 @@ pub struct Machine {
     memory: Module,
     reply: Option<Reply>,
     code: Code,
+    image: Image,
+    config: Config,
 }
 
 impl Model for Machine {
@@ -51,25 +57,48 @@ impl Model for Machine {
 
     ghost Value = { MachineState };
 
-    ghost view = { λ m. record { core = m.core; is_open = m.is_open; slot = m.slot; shared = m.memory; reply = m.reply; code = m.code } };
+    ghost view = { λ m. record { core = m.core; is_open = m.is_open; slot = m.slot; shared = m.memory; reply = m.reply; code = m.code; image = m.image; config = m.config } };
 
-    ghost invariant = { λ m. IsSound (record { core = m.core; is_open = m.is_open; slot = m.slot; shared = m.memory; reply = m.reply; code = m.code }) };
+    ghost invariant = { λ m. IsSound (record { core = m.core; is_open = m.is_open; slot = m.slot; shared = m.memory; reply = m.reply; code = m.code; image = m.image; config = m.config }) };
 }
 
 impl Machine {
-    /// The machine with these words as code. Its processor stands at the first of them.
+    /// The machine of this size that opens on the image, which it keeps. The size has no switches.
     ///
     /// # Errors
     ///
-    /// [`NewError::Memory`] where there is no memory for it.
-    pub fn of_words(alloc: Global, words: &[u32]) -> Result<Self, NewError>
-        requires { length words.now ≤ 16384 }
-        ensures { IfOk result (λ m. m ≡ opening_of_words words.now) }
+    /// [`NewError::Config`] exactly where a number of the size is outside its limits, the size has
+    /// switches, or the image was read for another number of shared words; [`NewError::Memory`] where
+    /// there is no memory for the machine.
+    #[tactic(auto, using(crate::proofs::MadeOf::opens_flat))]
+    pub fn new(alloc: Global, image: Image, config: Config) -> Result<Self, NewError>
+        ensures ok { IfOk result (λ m. m ≡ opening_machine config image) }
+        ensures flat { IfOk result (λ m. flat_of m ≡ opening config image.layout) }
+        ensures idle { IfOk result (λ m. m.is_open ≡ false) }
+        ensures sound { IfOk result IsSound }
+        ensures config { IsErrOf result NewError.Config ↔ (IsMadeFor config image → ⊥) }
     {
-        match made_of_words(alloc, words) {
+        if !is_made_for(&config, &image) {
+            return Err(NewError::Config);
+        }
+        match made(alloc, image, config) {
             Ok(machine) => Ok(machine),
             Err(_) => Err(NewError::Memory),
         }
+    }
+
+    /// The image that the machine was made of.
+    pub fn image(&self) -> &Image
+        ensures { result.now ≡ self.now.image }
+    {
+        &self.image
+    }
+
+    /// The size of the machine.
+    pub fn config(&self) -> Config
+        ensures { result ≡ self.now.config }
+    {
+        self.config
     }
 
     /// Where a processor stands: the address of its next instruction. None where the machine has no
@@ -135,6 +164,8 @@ impl Machine {
         ensures after { self.new ≡ after self.old step }
         ensures stalled { result ≡ Stalled → self.new ≡ self.old }
         ensures serial { IsSerial self.old step result self.new }
+        ensures image { self.new.image ≡ self.old.image }
+        ensures config { self.new.config ≡ self.old.config }
         ensures sound { IsSound self.new }
     {
         let _ = &self.core;
@@ -295,37 +326,35 @@ impl Machine {
     }
 }
 
-/// The opening of a machine, or want of memory.
-fn made_of_words(alloc: Global, words: &[u32]) -> Result<Machine, AllocError>
-    requires { length words.now ≤ 16384 }
-    ensures { IfOk result (λ m. m ≡ opening_of_words words.now) }
+/// Whether a machine of this size can be made of the image.
+fn is_made_for(config: &Config, image: &Image) -> bool
+    ensures { IsTrue result ↔ IsMadeFor config.now image.now }
 {
-    let bytes = bytes_of_words(alloc, words)?;
+    config.is_within_limits() && config.k == 0 && image.shared_words() == config.shared_words
+}
+
+/// The machine that opens on the image.
+fn made(alloc: Global, image: Image, config: Config) -> Result<Machine, AllocError>
+    requires { IsMadeFor config image }
+    ensures { IfOk result (λ m. m ≡ opening_machine config image) }
+{
+    let layout = image.layout();
     let setting = Setting {
         number: 0,
         processors: 1,
-        shared_words: SHARED_WORDS,
+        shared_words: config.shared_words,
     };
+    let core = Core::new(alloc, setting, layout.entry, layout.local.as_slice())?;
+    let words = opening_words(alloc, layout.shared.as_slice(), config.shared_words)?;
+    let code = Code::new(alloc, layout.code.as_slice())?;
     Ok(Machine {
-        core: Core::new(alloc, setting, CODE_START, &[])?,
+        core,
         is_open: false,
         slot: None,
-        memory: Module::new(alloc, SHARED_WORDS)?,
+        memory: Module::of_words(words),
         reply: None,
-        code: Code::new(alloc, bytes.as_slice())?,
+        code,
+        image,
+        config,
     })
-}
-
-/// The little-endian bytes of words, one word after another.
-#[tactic(auto, using(crate::proofs::OpeningBytes::bytes_step))]
-fn bytes_of_words(alloc: Global, words: &[u32]) -> Result<Vec<u8>, AllocError>
-    requires { length words.now ≤ 16384 }
-    ensures bytes { IfOk result (λ bytes. bytes.items ≡ bytes_of_words words.now) }
-    ensures count { IfOk result (λ bytes. vec_len bytes ≡ 4 * length words.now) }
-{
-    let mut bytes = Vec::with_capacity(alloc, 4 * words.len())?;
-    for word in words {
-        bytes.extend_from_slice(&word.to_le_bytes())?;
-    }
-    Ok(bytes)
 }

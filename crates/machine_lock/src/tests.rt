@@ -8,8 +8,10 @@ mod readers;
 mod steps;
 
 use crate::{Logged, Machine, Outcome, Step};
-use flat_machine::{Poke, Status};
-use std::alloc::AllocGlobal;
+use elf_image::{Bytes, Image, ImageError, Layout, read_image, write_image};
+use flat_machine::{Config, Poke, Status};
+use link::Meter;
+use std::alloc::{AllocGlobal, Global};
 use std::process::Abort;
 use std::test::Fail;
 
@@ -19,14 +21,51 @@ const AMOADD: u32 = 0x0020_A1AF;
 /// `ecall`.
 const ECALL: u32 = 0x0000_0073;
 
+/// A machine of one processor and 1,024 shared words.
+const SIZE: Config = Config {
+    k: 0,
+    c: 2,
+    b: 0,
+    shared_words: 1024,
+};
+
+/// What is read of a file.
+fn read(alloc: Global, file: &[u8], config: Config) -> Result<Image, ImageError> {
+    let mut reader = Meter::new(file);
+    read_image(alloc, &mut reader, &config)
+}
+
+/// An image with these words as code, which begins with the first of them.
+fn image(
+    rt: &(impl Abort + AllocGlobal),
+    words: &[u32],
+    config: Config,
+) -> Result<Image, ImageError> {
+    let mut code = Bytes::new(rt.alloc());
+    for word in words {
+        code.extend_from_slice(&word.to_le_bytes())?;
+    }
+    let layout = Layout {
+        entry: 0x0001_0000,
+        code,
+        local: Bytes::new(rt.alloc()),
+        shared: Bytes::new(rt.alloc()),
+    };
+    assert!(rt; layout.code.len() <= 0x1_0000);
+    assert!(rt; layout.local.len() <= 0x1_0000);
+    assert!(rt; layout.shared.len() <= 0x10_0000);
+    let mut file = Meter::new(Vec::new(rt.alloc()));
+    write_image(&mut file, &layout)?;
+    read(rt.alloc(), file.device.as_slice(), config)
+}
+
 /// A machine with these words as code, and these registers.
 fn machine(
     rt: &(impl Abort + AllocGlobal),
     words: &[u32],
     registers: &[(u8, u32)],
 ) -> Result<Machine, Fail> {
-    assert!(rt; words.len() <= 16_384);
-    let mut machine = Machine::of_words(rt.alloc(), words)?;
+    let mut machine = Machine::new(rt.alloc(), image(rt, words, SIZE)?, SIZE)?;
     for &(register, value) in registers {
         let poke = Poke::Register {
             processor: 0,

@@ -4,11 +4,10 @@ use Rattle.std.specs.Io.KnownBytes.{Appends}
 use Rattle.flat_machine.specs.declared.event.Status.{Status}
 use Rattle.flat_machine.specs.declared.event.Status.TheVariants.{Running, Halted, Faulted}
 use Rattle.flat_machine.specs.State.{Processor, FlatState, is_running}
-use Rattle.machine_lock.specs.Openings.{opening_of_words}
-use Rattle.machine_lock.specs.Serial.{flat_of}
 use Rattle.ultra.specs.declared.words.command.WordsFault.{WordsFault}
 use Rattle.ultra.specs.declared.words.command.WordsFault.TheVariants as fault
 use Rattle.ultra.specs.HexText.{words_of_text}
+use Rattle.ultra.specs.Loading.{flat_of_words}
 use Rattle.ultra.specs.Report.{report_of}
 use Rattle.ultra.specs.Running.{HasRun}
 
@@ -33,7 +32,7 @@ pub record IsReported (text : List ℕ) (old new : Option (List ℕ)) (status : 
   pub last : FlatState
   pub retired : ℕ
   pub few : retired ≤ 1000000
-  pub run : HasRun (flat_of (opening_of_words words)) last retired
+  pub run : HasRun (flat_of_words words) last retired
   pub processor : Processor
   pub alone : HasProcessor last processor
   pub stopped : is_running processor.status ≡ false
@@ -45,7 +44,7 @@ pub record IsOverBudget (text : List ℕ) : Type 0 where
   pub words : List ℕ
   pub spelled : words_of_text text ≡ Ok words
   pub last : FlatState
-  pub run : HasRun (flat_of (opening_of_words words)) last 1000000
+  pub run : HasRun (flat_of_words words) last 1000000
 
 -- what each fault says of the text
 abbrev pub IsFaultOf : WordsFault → List ℕ → Type 0

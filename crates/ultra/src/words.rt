@@ -1,6 +1,7 @@
 //! `ultra words FILE`: a program of hex words on one processor.
 
 mod command;
+mod load;
 mod print;
 mod read;
 mod report;

@@ -1,9 +1,7 @@
-//! What is read of a machine, and of a module alone.
+//! What is read of a machine.
 
 use super::machine;
-use crate::Module;
 use flat_machine::Status;
-use phi_algebra::Phi;
 use std::test::Fail;
 
 /// There is one processor, number 0.
@@ -39,35 +37,5 @@ fn shared_words(rt: HostRuntime) -> Result<(), Fail> {
     ] {
         assert_eq!(rt; machine.word(number), word, "{number}");
     }
-    Ok(())
-}
-
-/// Three words, and what a module answers and holds as it executes requests.
-#[test]
-fn module_serves(rt: HostRuntime) -> Result<(), Fail> {
-    let mut module = Module::new(rt.alloc(), 3)?;
-    for (place, phi, old, new) in [
-        (1, Phi::Add(7), 0, 7),
-        (1, Phi::Add(0xFFFF_FFFF), 7, 6),
-        (1, Phi::Bits { and: 0, xor: 0x55 }, 6, 0x55),
-        (
-            2,
-            Phi::Bits {
-                and: u32::MAX,
-                xor: 0x0F,
-            },
-            0,
-            0x0F,
-        ),
-        (0, Phi::Add(0), 0, 0),
-    ] {
-        assert_eq!(rt; module.len(), 3);
-        assert_eq!(rt; module.serve(place, &phi), old, "{phi:?}");
-        assert_eq!(rt; module.word(place), Some(new), "{phi:?}");
-    }
-    assert_eq!(rt; module.word(0), Some(0));
-    assert_eq!(rt; module.word(1), Some(0x55));
-    assert_eq!(rt; module.word(2), Some(0x0F));
-    assert_eq!(rt; module.word(3), None);
     Ok(())
 }

@@ -5,11 +5,12 @@ ghost use Rattle.machine_lock.specs.Logs.{machine_of};
 ghost use Rattle.ultra.specs.Command.{IsRead, IsReported, IsFaultOf, IsToldOf, exit_status_of, status_of_fault};
 ghost use Rattle.ultra.specs.Faults.{fault_of_reading, fault_of_running, fault_of_printing};
 
+use crate::words::load::words_machine;
 use crate::words::print::{PrintError, words_print};
 use crate::words::read::{MAX_WORDS, WordsError, words_read};
 use crate::words::run::{WordsEnd, words_run};
 use flat_machine::Status;
-use machine_lock::{Logged, Machine};
+use machine_lock::Logged;
 use std::alloc::Global;
 use std::io::{ErrorKind, Read, Write};
 use thiserror::Error;
@@ -151,7 +152,7 @@ fn run_text<W: Write>(alloc: Global, text: &[u8], out: &mut W) -> Result<u8, Wor
     ensures silent { IfErr result (λ fault. fault ≢ WordsFault.Link → out.new ≡ out.old) }
 {
     let words = words_read(alloc, text)?;
-    let Ok(machine) = Machine::of_words(alloc, words.as_slice()) else {
+    let Ok(machine) = words_machine(alloc, words.as_slice()) else {
         return Err(WordsFault::Memory);
     };
     let mut log = Logged::new(alloc, machine);
