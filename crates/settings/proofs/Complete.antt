@@ -1,5 +1,5 @@
 -- At words with no fault, the program's command meets a subcommand of its own, with all that has to be given.
-use Rattle.std.proofs.Common.{◌≡◌, ◌∙◌, ◌||◌, Bool, cond, true, false, not, refl, sym, true≢false, List, [], Option, Some, None, is_some}
+use Rattle.std.proofs.Common.{◌≡◌, ◌∙◌, ◌||◌, inl, inr, Bool, cond, true, false, not, refl, sym, true≢false, List, [], Option, Some, None, is_some}
 use Rattle.std.proofs.Common.{codes, option_map}
 use Rattle.std.specs.Option.{option_map_or}
 use Rattle.std.specs.Str.{bytes_eq}
@@ -10,18 +10,20 @@ use Rattle.clap.specs.Simple.{App, Shape, argument_words, built, built_leaf, ent
 use Rattle.clap.specs.Simple.{subcommand_of}
 use Rattle.clap.specs.Takes.{is_given}
 use Rattle.clap.specs.Walk.{Row, Text, finished, nothing_held, rows_after, settled, walk, walk_from}
-use Rattle.settings.specs.Lines.{HasPath, IsComplete, ultra_command, words_command}
+use Rattle.settings.specs.Lines.{HasAsm, HasDis, HasNumber, HasPath, IsComplete, IsWhole, asm_command, dis_command, ultra_command, words_command}
 use Rattle.settings.proofs.NoHelp.{IsNoHelp, StopsAtNoHelp, walk_stops}
-use Rattle.settings.proofs.Rows.{neither, required_there}
+use Rattle.settings.proofs.Numbers.{number_there}
+use Rattle.settings.proofs.Rows.{required_there}
+use Rattle.settings.proofs.Walks.{neither}
 
 -- clap gives its matches as a function of the words
 pub is_simple_ultra : is_simple ultra_command ≡ true
-unfolding ultra_command words_command
+unfolding ultra_command words_command asm_command dis_command
 is_simple_ultra = refl
 
 -- and the kinds of its errors too
 pub is_free_ultra : is_simple_and_free ultra_command ≡ true
-unfolding ultra_command words_command
+unfolding ultra_command words_command asm_command dis_command
 is_free_ultra = refl
 
 -- a required argument that is missing is a fault
@@ -29,18 +31,46 @@ required : (given : Bool) → check_kinds false false (not given || false) ≡ [
 required true e = refl
 required false e = cc
 
--- the subcommand, as it is built
+-- the subcommands, as they are built
 built_words : Shape
 unfolding words_command
 built_words = built_leaf words_command.top
+
+built_asm : Shape
+unfolding asm_command
+built_asm = built_leaf asm_command.top
+
+built_dis : Shape
+unfolding dis_command
+built_dis = built_leaf dis_command.top
 
 file_there : (words : List Text) → level_fault built_words [] nothing_held words false [] ≡ [] → HasPath (codes "FILE") (rows_after built_words.rules [] words)
 unfolding built_words words_command
 file_there words e = required_there built_words (codes "FILE") words refl (λ rows. required (is_given (codes "FILE") rows)) e
 
+-- of two required arguments neither is missing
+both_required : (one other : Bool) → check_kinds false false (not one || (not other || false)) ≡ [] → (one ≡ true) × (other ≡ true)
+both_required true true e = (refl, refl)
+both_required true false e = cc
+both_required false other e = cc
+
+asm_there : (words : List Text) → level_fault built_asm [] nothing_held words false [] ≡ [] → HasAsm (rows_after built_asm.rules [] words)
+unfolding built_asm asm_command
+asm_there words e = (
+  required_there built_asm (codes "FILE") words refl (λ rows h. (both_required (is_given (codes "FILE") rows) (is_given (codes "OUT") rows) h).0) e,
+  required_there built_asm (codes "OUT") words refl (λ rows h. (both_required (is_given (codes "FILE") rows) (is_given (codes "OUT") rows) h).1) e,
+)
+
+dis_there : (words : List Text) → level_fault built_dis [] nothing_held words false [] ≡ [] → HasDis (rows_after built_dis.rules [] words)
+unfolding built_dis dis_command
+dis_there words e = (
+  required_there built_dis (codes "FILE") words refl (λ rows. required (is_given (codes "FILE") rows)) e,
+  number_there built_dis (codes "words") 1 262144 words refl e,
+)
+
 -- the program's command, as it is built
 built_ultra : App
-unfolding ultra_command words_command
+unfolding ultra_command words_command asm_command dis_command
 built_ultra = built ultra_command
 
 -- the words name a subcommand, or are a fault
@@ -56,21 +86,55 @@ no_help name e = go (bytes_eq (codes "help") name) refl
     go false is = refl
     go true is = absurd (true≢false (sym ((bytes_eq-Decides name (codes "help")).1 (sym ((bytes_eq-Decides (codes "help") name).0 is))) ∙ e))
 
+-- two names that are told apart by their spelling
+told_apart : (x y name : Text) → bytes_eq x y ≡ false → name ≡ x → name ≡ y → ⊥
+told_apart x y name not e f = true≢false (sym ((bytes_eq-Decides x y).1 (sym e ∙ f)) ∙ not)
+
+-- the names of the subcommands
+is_words : (name : Text) (rows : List Row) → name ≡ codes "words" → HasPath (codes "FILE") rows → IsWhole name rows
+is_words name rows e has = record {
+  known = inl e;
+  words = λ _. has;
+  asm = λ f. absurd (told_apart (codes "words") (codes "asm") name refl e f);
+  dis = λ f. absurd (told_apart (codes "words") (codes "dis") name refl e f);
+}
+
+is_asm : (name : Text) (rows : List Row) → name ≡ codes "asm" → HasAsm rows → IsWhole name rows
+is_asm name rows e has = record {
+  known = inr (inl e);
+  words = λ f. absurd (told_apart (codes "asm") (codes "words") name refl e f);
+  asm = λ _. has;
+  dis = λ f. absurd (told_apart (codes "asm") (codes "dis") name refl e f);
+}
+
+is_dis : (name : Text) (rows : List Row) → name ≡ codes "dis" → HasDis rows → IsWhole name rows
+is_dis name rows e has = record {
+  known = inr (inr e);
+  words = λ f. absurd (told_apart (codes "dis") (codes "words") name refl e f);
+  asm = λ f. absurd (told_apart (codes "dis") (codes "asm") name refl e f);
+  dis = λ _. has;
+}
+
 -- the subcommand that a walk stopped at, which is not `help`
 enters : (stop : Option (Text × List Text)) → StopsAtNoHelp stop → entered_fault built_ultra stop ≡ []
     → is_some (entered built_ultra stop) ≡ true → IsComplete (entered built_ultra stop)
-unfolding built_ultra ultra_command words_command built_words
+unfolding built_ultra ultra_command words_command asm_command dis_command built_words built_asm built_dis
 enters None unhelped e has = absurd (true≢false (sym has))
-enters (Some p) unhelped e has = go (bytes_eq (codes "words") p.0) (bytes_eq (codes "help") p.0) (no_help p.0 unhelped) e has
+enters (Some p) unhelped e has = go (bytes_eq (codes "words") p.0) (bytes_eq (codes "asm") p.0) (bytes_eq (codes "dis") p.0) (bytes_eq (codes "help") p.0) (no_help p.0 unhelped) e has
   where
-    found : Bool → Bool → Option Shape
-    found b d = cond (b || false) (Some built_words) (cond (d || false) (Some (built_leaf (inherited built_ultra.top help_shape))) None)
+    helped : Bool → Option Shape
+    helped d = cond (d || false) (Some (built_leaf (inherited built_ultra.top help_shape))) None
 
-    go : (b d : Bool) → d ≡ false → option_map_or (λ s. level_fault s [] nothing_held p.1 false []) (found b d) [] ≡ []
-        → is_some (option_map (λ s. rows_at s p.1) (found b d)) ≡ true → IsComplete (option_map (λ s. rows_at s p.1) (found b d))
-    go true d other e has = (refl, file_there p.1 e)
-    go false true other e has = absurd (true≢false other)
-    go false false other e has = absurd (true≢false (sym has))
+    found : Bool → Bool → Bool → Bool → Option Shape
+    found w a b d = cond (w || false) (Some built_words) (cond (a || false) (Some built_asm) (cond (b || false) (Some built_dis) (helped d)))
+
+    go : (w a b d : Bool) → d ≡ false → option_map_or (λ s. level_fault s [] nothing_held p.1 false []) (found w a b d) [] ≡ []
+        → is_some (option_map (λ s. rows_at s p.1) (found w a b d)) ≡ true → IsComplete (option_map (λ s. rows_at s p.1) (found w a b d))
+    go true a b d other e has = is_words _ _ refl (file_there p.1 e)
+    go false true b d other e has = is_asm _ _ refl (asm_there p.1 e)
+    go false false true d other e has = is_dis _ _ refl (dis_there p.1 e)
+    go false false false true other e has = absurd (true≢false other)
+    go false false false false other e has = absurd (true≢false (sym has))
 
 -- words with no fault name a subcommand of the program's own, with all that has to be given
 pub complete : (words : List Text) → fault_of ultra_command words ≡ [] → IsComplete (subcommand_of ultra_command words)

@@ -1,8 +1,14 @@
 -- What a getter of clap's matches gives, over plain values.
-use Rattle.std.proofs.Common.{◌≡◌, ◌∙◌, ap, sym, true≢false, Option, Some, None, true, option_map, is_some, refl}
-use Rattle.std.specs.Prelude.{IsSome}
+use Rattle.std.proofs.Common.{◌≡◌, ◌∙◌, ◌==◌, ◌<◌, ◌≤◌, ◌^◌, ℕ, Bool, cond, ap, sym, arith, true≢false, List, [], ◌∷◌, drop, Option, Some, None, Result, Ok, true, false, option_map, is_some, refl, pos}
+use Rattle.std.specs.Prelude.{IfSome, IsSome, MatchOption, unwrap_or}
 use Rattle.std.specs.Borrow.{Bor}
-use Rattle.clap.specs.Words.{Text}
+use Rattle.std.specs.Str.Parse.{IsNumeral, ParsesUnsigned, digits_value, signed_digits_value, starts_with_minus, without_leading_plus}
+use Rattle.std.proofs.lemmas.Bool.{ne_eqb}
+use Rattle.std.proofs.lemmas.Int.{ints}
+use Rattle.std.proofs.lemmas.Str.Parse.{digit_from_value}
+use Rattle.clap.specs.Lexer.{without_minus}
+use Rattle.clap.specs.Words.{IsSignedIn, ReadsOne, Text}
+use Rattle.clap.proofs.CallerReads.{signed_reads}
 
 -- the text is there, so the getter gives it
 pub text_there : (o : Option (Bor Text)) (t : Option Text) → option_map (λ s. s.now) o ≡ t → is_some t ≡ true → IsSome o
@@ -11,3 +17,44 @@ text_there (Some s) t e there = refl
 
 pub text_given : (o : Option (Bor Text)) (t : Option Text) (s : Bor Text) → option_map (λ s. s.now) o ≡ t → o ≡ Some s → t ≡ Some s.now
 text_given o t s e is = sym e ∙ ap (option_map (λ s. s.now)) is
+
+-- ---- numbers
+
+without_minus_by : (t : Text) → without_minus t ≡ cond (starts_with_minus t) (drop 1 t) t
+without_minus_by [] = refl
+without_minus_by (x ∷ xs) = go (x == 45)
+  where
+    go : (b : Bool) → unwrap_or (cond b (Some xs) None) (x ∷ xs) ≡ cond b xs (x ∷ xs)
+    go true = refl
+    go false = refl
+
+no_plus : (digits : Text) → IsNumeral 10 digits → without_leading_plus digits ≡ digits
+no_plus [] h = refl
+no_plus (d ∷ ds) h =
+    let plus : (d == 43) ≡ false = ne_eqb _ _ (λ e. omega (arith, digit_from_value d h.1.0)) in
+    ap (λ (b : Bool). drop (cond b 1 0) (d ∷ ds)) plus
+
+-- what is read without a minus is the number that the text spells, where that is in a range with no negative number
+spelled : (low high : ℕ) (t : Text) (n : ℕ) → IsSignedIn (pos low) (pos high) t → n ≡ digits_value 10 (without_leading_plus (without_minus t)) → pos n ≡ signed_digits_value 10 t
+spelled low high t n passed is = go (starts_with_minus t) refl (is ∙ ap (λ u. digits_value 10 (without_leading_plus u)) (without_minus_by t))
+  where
+    go : (b : Bool) → starts_with_minus t ≡ b → n ≡ digits_value 10 (without_leading_plus (cond (starts_with_minus t) (drop 1 t) t)) → pos n ≡ signed_digits_value 10 t
+    go true minus e =
+        let low_ok = rw minus at passed.2 in
+        let numeral : IsNumeral 10 (drop 1 t) = rw minus at passed.0 in
+        let digits : n ≡ digits_value 10 (drop 1 t) = rw minus at e ∙ ap (digits_value 10) (no_plus (drop 1 t) numeral) in
+        let none : digits_value 10 (drop 1 t) ≡ 0 = omega (arith, ints) in
+        rw (digits, minus, none) refl
+    go false minus e = let digits : n ≡ digits_value 10 (without_leading_plus t) = rw minus at e in rw (minus, digits) refl
+
+-- the number that a getter of numbers gives, or the default
+pub number_given : {E : Type 0} (G : Text → Result ℕ E → Type 0) (default low high : ℕ) (first one : Option Text) (r : Option ℕ)
+    → one ≡ option_map without_minus first → IfSome first (IsSignedIn (pos low) (pos high)) → (one ≡ None → r ≡ None) → ((t : Text) → one ≡ Some t → ReadsOne G t r)
+    → ((u : Text) (x : Result ℕ E) → G u x → ParsesUnsigned 32 10 u x) → high < 2 ^ 32 → low ≤ default → default ≤ high
+    → MatchOption first (unwrap_or r default ≡ default) (λ text. pos (unwrap_or r default) ≡ signed_digits_value 10 text) × (low ≤ unwrap_or r default) × (unwrap_or r default ≤ high)
+number_given {E} G default low high None one r same passed none some only fits least most = rw (none same) (refl, least, most)
+number_given {E} G default low high (Some t) one r same passed none some only fits least most =
+    let read = some (without_minus t) same in
+    let got = signed_reads E G 32 low high t r read only fits passed in
+    let value : G (without_minus t) (Ok got.0) = rw got.1 at read in
+    rw got.1 (spelled low high t got.0 passed (only (without_minus t) (Ok got.0) value).1, got.2, got.3)

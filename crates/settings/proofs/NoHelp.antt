@@ -11,7 +11,7 @@ use Rattle.clap.specs.Walk.{Held, Names, Outcome, Rule, Step, Text, Waiting, Wal
 use Rattle.clap.specs.Walk.{long_or_other, next, option, plain, plain_word, positional, refused, short_or_plain, subcommand}
 use Rattle.clap.specs.Walk.{subcommand_met, subcommand_or_other, to_positional, trailing, value, waits, walked, walked_from, word_met}
 use Rattle.clap.specs.declared.error.kind.ErrorKind.TheVariants as kind
-use Rattle.settings.proofs.Rows.{neither}
+use Rattle.settings.proofs.Walks.{neither}
 
 abbrev pub IsNoHelp : Text → Type 0
 IsNoHelp name = bytes_eq name (codes "help") ≡ false

@@ -1,7 +1,7 @@
 //! The words of the command line, as settings.
 ghost use Rattle.std.specs.Prelude.{◌≡◌, ◌≢◌, ℕ, List, IfOk, MatchResult, map};
 ghost use Rattle.clap.specs.Words.{FailsBy, fault_of, kind_of, subcommand_of, subcommand_rows_of};
-ghost use Rattle.settings.specs.Lines.{AreWordsOf, IsAsked, NameWordsOf, ultra_command};
+ghost use Rattle.settings.specs.Lines.{AreAsmOf, AreDisOf, AreWordsOf, IsAsked, NameAsmOf, NameDisOf, NameWordsOf, ultra_command};
 
 use crate::choice::Settings;
 use crate::command::ultra_shape;
@@ -21,16 +21,20 @@ fn matched<'a>(alloc: Global, words: &'a [&'a str]) -> Result<ArgMatches<'a>, Er
 /// What the words ask for, of which the first is the program's name. An `Err` is a mistake in the words, a request for
 /// help or the version, or a lack of memory, and its `Display` is the text for the user.
 pub fn settings<'a>(alloc: Global, words: &'a [&'a str]) -> Result<Settings<'a>, Error>
-    // The command and its file are those that `clap` finds in the words.
+    // The command, its files and its numbers are those that `clap` finds in the words.
     ensures asked { IfOk result (IsAsked (map (λ w. w.now) words.entry.now)) }
 
     // Settings come only where `clap` finds no fault in the words, and an error is one of their faults or a lack of
     // memory. A request for help or the version is a fault too.
     ensures kinds { FailsBy (fault_of ultra_command (map (λ w. w.now) words.entry.now)) result }
 
-    // So `words FILE` gives the file.
-    ensures file { (file : List ℕ) → NameWordsOf file (map (λ w. w.now) words.entry.now)
+    // So `words FILE` and `dis FILE` give the file, and `asm FILE OUT` both files.
+    ensures words_file { (file : List ℕ) → NameWordsOf file (map (λ w. w.now) words.entry.now)
         → MatchResult result (AreWordsOf file) (λ e. kind_of e ≡ ErrorKind.OutOfMemory) }
+    ensures asm_files { (file out : List ℕ) → NameAsmOf file out (map (λ w. w.now) words.entry.now)
+        → MatchResult result (AreAsmOf file out) (λ e. kind_of e ≡ ErrorKind.OutOfMemory) }
+    ensures dis_file { (file : List ℕ) → NameDisOf file (map (λ w. w.now) words.entry.now)
+        → MatchResult result (AreDisOf file) (λ e. kind_of e ≡ ErrorKind.OutOfMemory) }
 {
     let matches = matched(alloc, words)?;
     Ok(chosen(&matches))

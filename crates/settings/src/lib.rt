@@ -7,7 +7,7 @@ mod command;
 mod reads;
 
 pub use asked::{settings, status_of};
-pub use choice::{Settings, Words};
+pub use choice::{Asm, Dis, Settings, Words};
 
 #[cfg(test)]
 mod tests;

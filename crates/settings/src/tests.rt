@@ -1,7 +1,7 @@
 //! What no clause says: the texts of the errors, that right words are taken where there is memory, and what an
 //! allocation that is refused leaves of an error's text.
 
-use crate::{Settings, Words, settings, status_of};
+use crate::{Asm, Dis, Settings, Words, settings, status_of};
 use clap::error::ErrorKind;
 use std::test::Fail;
 
@@ -12,11 +12,11 @@ struct Refused {
     text: &'static str,
 }
 
-static REFUSED: [Refused; 9] = [
+static REFUSED: [Refused; 17] = [
     Refused {
         words: &["ultra"],
         kind: ErrorKind::MissingSubcommand,
-        text: "error: 'ultra' requires a subcommand but one was not provided\n  [subcommands: words, help]\n\nUsage: ultra <COMMAND>\n",
+        text: "error: 'ultra' requires a subcommand but one was not provided\n  [subcommands: words, asm, dis, help]\n\nUsage: ultra <COMMAND>\n",
     },
     Refused {
         words: &["ultra", "frob"],
@@ -54,6 +54,46 @@ static REFUSED: [Refused; 9] = [
         text: "Run a program of hex words on one processor and print its registers\n\nUsage: ultra words <FILE>\n",
     },
     Refused {
+        words: &["ultra", "asm", "a.s"],
+        kind: ErrorKind::MissingRequiredArgument,
+        text: "error: the following required arguments were not provided:\n  <OUT>\n\nUsage: ultra asm <FILE> <OUT>\n",
+    },
+    Refused {
+        words: &["ultra", "asm", "a.s", "a.elf", "b.elf"],
+        kind: ErrorKind::UnknownArgument,
+        text: "error: unexpected argument 'b.elf' found\n\nUsage: ultra asm <FILE> <OUT>\n",
+    },
+    Refused {
+        words: &["ultra", "dis", "--words", "0", "a.elf"],
+        kind: ErrorKind::ValueValidation,
+        text: "error: invalid value '0' for '--words <NUMBER>': 0 is not in 1..=262144\n",
+    },
+    Refused {
+        words: &["ultra", "dis", "a.elf", "--words=262145"],
+        kind: ErrorKind::ValueValidation,
+        text: "error: invalid value '262145' for '--words <NUMBER>': 262145 is not in 1..=262144\n",
+    },
+    Refused {
+        words: &["ultra", "dis", "a.elf", "--words", "1k"],
+        kind: ErrorKind::ValueValidation,
+        text: "error: invalid value '1k' for '--words <NUMBER>': invalid digit found in string\n",
+    },
+    Refused {
+        words: &["ultra", "dis", "--words", "1", "--words", "2", "a.elf"],
+        kind: ErrorKind::ArgumentConflict,
+        text: "error: the argument '--words <NUMBER>' cannot be used multiple times\n",
+    },
+    Refused {
+        words: &["ultra", "asm", "--help"],
+        kind: ErrorKind::DisplayHelp,
+        text: "Exit status: 0 done, 2 a fault of the text or of the command line,",
+    },
+    Refused {
+        words: &["ultra", "dis", "--help"],
+        kind: ErrorKind::DisplayHelp,
+        text: "--words <NUMBER>  Shared words of four bytes that the machine has, 1 to 262144 [default: 1024]\n",
+    },
+    Refused {
         words: &["ultra", "--version"],
         kind: ErrorKind::DisplayVersion,
         text: "ultra 0.1.0\n",
@@ -64,8 +104,21 @@ static FILE: [&str; 3] = ["ultra", "words", "a.hex"];
 
 static HYPHENS: [&str; 4] = ["ultra", "words", "--", "--a"];
 
+static FILES: [&str; 4] = ["ultra", "asm", "a.s", "a.elf"];
+
+/// Ways to ask for `dis`, and the number of words that each gives.
+static SIZED: [(&[&str], u32); 7] = [
+    (&["ultra", "dis", "a.elf"], 1024),
+    (&["ultra", "dis", "a.elf", "--words", "1"], 1),
+    (&["ultra", "dis", "--words", "262144", "a.elf"], 262_144),
+    (&["ultra", "dis", "--words=1000", "a.elf"], 1000),
+    (&["ultra", "dis", "a.elf", "--words=+7"], 7),
+    (&["ultra", "dis", "a.elf", "--words", "00009"], 9),
+    (&["ultra", "dis", "--words", "0001024", "--", "a.elf"], 1024),
+];
+
 #[test]
-fn takes_a_file(rt: HostRuntime) -> Result<(), Fail> {
+fn takes_files(rt: HostRuntime) -> Result<(), Fail> {
     let alloc = rt.alloc();
     assert_eq!(rt;
         settings(alloc, &FILE)?,
@@ -75,6 +128,29 @@ fn takes_a_file(rt: HostRuntime) -> Result<(), Fail> {
         settings(alloc, &HYPHENS)?,
         Settings::Words(Words { file: "--a" })
     );
+    assert_eq!(rt;
+        settings(alloc, &FILES)?,
+        Settings::Asm(Asm {
+            file: "a.s",
+            out: "a.elf"
+        })
+    );
+    Ok(())
+}
+
+#[test]
+fn takes_how_many_words(rt: HostRuntime) -> Result<(), Fail> {
+    let alloc = rt.alloc();
+    for (words, count) in &SIZED {
+        assert_eq!(rt;
+            settings(alloc, words)?,
+            Settings::Dis(Dis {
+                file: "a.elf",
+                words: *count
+            }),
+            "at {words:?}"
+        );
+    }
     Ok(())
 }
 
@@ -103,6 +179,21 @@ fn is_short_of_memory(rt: HostRuntime) -> Result<(), Fail> {
             (error.kind(), status_of(&error)),
             (ErrorKind::OutOfMemory, 4)
         ),
+    }
+    for (words, count) in &SIZED {
+        match settings(alloc, words) {
+            Ok(taken) => assert_eq!(rt;
+                taken,
+                Settings::Dis(Dis {
+                    file: "a.elf",
+                    words: *count
+                })
+            ),
+            Err(error) => assert_eq!(rt;
+                (error.kind(), status_of(&error)),
+                (ErrorKind::OutOfMemory, 4)
+            ),
+        }
     }
     for refused in &REFUSED {
         let words = refused.words;

@@ -5,3 +5,8 @@ pub mod Running
 pub mod Loading
 pub mod Command
 pub mod Faults
+pub mod Files
+pub mod OnFirstWrite
+pub mod Assembling
+pub mod Listing
+pub mod Disassembling

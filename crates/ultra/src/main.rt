@@ -1,10 +1,17 @@
 //! `ultra`: simulates the NYU Ultracomputer.
 #![tactic(auto)]
 
+mod asm;
+#[cfg(test)]
+mod devices;
+mod dis;
 mod words;
 
+use asm::{CreateAt, OnFirstWrite, asm_command};
 use clap::Error;
-use settings::{Settings, settings, status_of};
+use dis::dis_command;
+use link::Meter;
+use settings::{Asm, Settings, settings, status_of};
 use std::alloc::{AllocError, Global};
 use std::io::{self, ErrorKind, Write};
 use std::process::ExitCode;
@@ -43,8 +50,25 @@ fn carry_out<R: Env + Files + AllocGlobal, W: Write, E: Write>(
             Ok(file) => words_command(alloc, file, out, err),
             Err(_) => tell(WordsFault::Link, err),
         },
+        Ok(Settings::Asm(asm)) => assemble_file(rt, &asm, err),
+        Ok(Settings::Dis(dis)) => match fs::open(rt, dis.file) {
+            Ok(file) => dis_command(alloc, file, dis.words, out, err),
+            Err(_) => tell(WordsFault::Link, err),
+        },
         Err(error) => refuse(&error, out, err),
     }
+}
+
+/// Does what `asm FILE OUT` asks for. OUT is opened by the first write to it.
+fn assemble_file<R: Files + AllocGlobal, E: Write>(rt: &R, asm: &Asm<'_>, err: &mut E) -> u8 {
+    let Ok(file) = fs::open(rt, asm.file) else {
+        return tell(WordsFault::Link, err);
+    };
+    let mut out = Meter::new(OnFirstWrite::new(CreateAt {
+        files: rt,
+        path: asm.out,
+    }));
+    asm_command(rt.alloc(), file, &mut out, err)
 }
 
 /// The arguments as texts.

@@ -1,13 +1,27 @@
 use Rattle.settings.proofs.Complete.{complete}
-use Rattle.settings.proofs.Plain.{file_asked, memory_short}
+use Rattle.settings.proofs.Plain.{asm_asked, asm_short, dis_asked, dis_short, words_asked, words_short}
 use Rattle.settings.proofs.asked.settings.Goals as goal
 
 pub chosen-requires : goal.chosen-requires
 chosen-requires c = rw c.in_ok-matches.ensures.rows (complete _ c.in_ok-matches.ensures.kinds)
 
-pub returns-clause-file : goal.returns-clause-file
-returns-clause-file c file named = file_asked _ file c.chosen.result named (rw c.in_ok-matches.ensures.rows at c.chosen.ensures)
+pub returns-clause-words_file : goal.returns-clause-words_file
+returns-clause-words_file c file named = words_asked _ file c.chosen.result named (rw c.in_ok-matches.ensures.rows at c.chosen.ensures)
 
-pub returns-in_err-matches-clause-file : goal.returns-in_err-matches-clause-file
-returns-in_err-matches-clause-file c file named =
-    memory_short c.from_residual.result c.in_err-matches.field-0.0 _ file named c.from_residual.ensures.1 c.in_err-matches.ensures.kinds
+pub returns-clause-asm_files : goal.returns-clause-asm_files
+returns-clause-asm_files c file out named = asm_asked _ file out c.chosen.result named (rw c.in_ok-matches.ensures.rows at c.chosen.ensures)
+
+pub returns-clause-dis_file : goal.returns-clause-dis_file
+returns-clause-dis_file c file named = dis_asked _ file c.chosen.result named (rw c.in_ok-matches.ensures.rows at c.chosen.ensures)
+
+pub returns-in_err-matches-clause-words_file : goal.returns-in_err-matches-clause-words_file
+returns-in_err-matches-clause-words_file c file named =
+    words_short c.from_residual.result c.in_err-matches.field-0.0 _ file named c.from_residual.ensures.1 c.in_err-matches.ensures.kinds
+
+pub returns-in_err-matches-clause-asm_files : goal.returns-in_err-matches-clause-asm_files
+returns-in_err-matches-clause-asm_files c file out named =
+    asm_short c.from_residual.result c.in_err-matches.field-0.0 _ file out named c.from_residual.ensures.1 c.in_err-matches.ensures.kinds
+
+pub returns-in_err-matches-clause-dis_file : goal.returns-in_err-matches-clause-dis_file
+returns-in_err-matches-clause-dis_file c file named =
+    dis_short c.from_residual.result c.in_err-matches.field-0.0 _ file named c.from_residual.ensures.1 c.in_err-matches.ensures.kinds

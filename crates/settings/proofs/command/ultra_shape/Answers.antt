@@ -1,0 +1,13 @@
+use Rattle.std.proofs.Common.{◌∙◌, ap, ap₂}
+use Rattle.std.proofs.lemmas.Result.{IfOk-weaker}
+use Rattle.clap.specs.Words.{App, with_subcommand}
+use Rattle.settings.specs.Lines.{ultra_command}
+use Rattle.settings.proofs.command.ultra_shape.Goals as goal
+
+pub returns : goal.returns
+unfolding ultra_command
+returns c =
+    let top = λ (a : App). a.top in
+    let words = c.in_ok-command.ensures.shape ∙ ap₂ with_subcommand c.program_shape.ensures.shape (ap top c.in_ok-words_shape.ensures.shape) in
+    let asm = c.in_ok-command-2.ensures.shape ∙ ap₂ with_subcommand words (ap top c.in_ok-asm_shape.ensures.shape) in
+    IfOk-weaker c.above-3.result _ _ (λ r e. e ∙ ap₂ with_subcommand asm (ap top c.in_ok-dis_shape.ensures.shape)) c.above-3.ensures.shape
