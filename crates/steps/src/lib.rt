@@ -7,4 +7,4 @@
 
 mod step;
 
-pub use step::{Outcome, Step};
+pub use step::{MAX_STEPS, Outcome, Step};

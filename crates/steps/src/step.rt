@@ -5,6 +5,9 @@ ghost use Rattle.steps.specs.Answers.{is_stalled};
 
 use flat_machine::{Cause, Poke, Retired};
 
+/// The most steps that a trace has.
+pub const MAX_STEPS: usize = 4_194_304;
+
 /// One step of the machine, which is applied whole.
 #[derive(Clone, Copy, Debug, PartialEq, Eq, Drop)]
 pub enum Step {

@@ -1,0 +1,9 @@
+pub mod Numbers
+pub mod Named
+pub mod Records
+pub mod Pieces
+pub mod Refused
+pub mod Written
+pub mod Uniqueness
+pub mod Faulty
+pub mod Decided

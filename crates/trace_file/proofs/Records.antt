@@ -1,0 +1,40 @@
+-- Records in a row.
+use Rattle.std.proofs.Common.{◌≡◌, ℕ, ◌*◌, List, [], ◌∷◌, ◌++◌, length, refl, ap, ◌∙◌, arith, append_assoc, append-nil, length-append}
+use Rattle.std.proofs.lemmas.Grind.{flat_map-append}
+use Rattle.std.proofs.lemmas.List.Elements.{All-append, All-nil, All-cons}
+use Rattle.steps.specs.declared.step.Step.{Step}
+use Rattle.trace_file.specs.declared.fields.Fields.{Fields}
+use Rattle.trace_file.specs.declared.header.Header.{Header}
+use Rattle.trace_file.specs.Records.{fields_of, field_bytes, record_bytes, HasRecord}
+use Rattle.trace_file.specs.Traces.{header_bytes, records_bytes, HaveRecords}
+
+pub length-field_bytes : (f : Fields) → length (field_bytes f) ≡ 12
+unfolding field_bytes
+length-field_bytes f = refl
+
+pub length-header_bytes : (h : Header) → length (header_bytes h) ≡ 12
+unfolding header_bytes
+length-header_bytes h = refl
+
+pub length-records_bytes : (steps : List Step) → length (records_bytes steps) ≡ 12 * length steps
+length-records_bytes [] = refl
+length-records_bytes (step ∷ steps) =
+    let first = length-field_bytes (fields_of step) in
+    let others = length-records_bytes steps in
+    omega (arith, length-append (record_bytes step) (records_bytes steps))
+
+pub records_bytes-append : (xs ys : List Step) → records_bytes (xs ++ ys) ≡ records_bytes xs ++ records_bytes ys
+records_bytes-append xs ys = flat_map-append record_bytes xs ys
+
+-- a record that stands behind others
+pub records_bytes-more : (xs : List Step) (step : Step) (rest : List ℕ) → records_bytes (xs ++ step ∷ []) ++ rest ≡ records_bytes xs ++ (record_bytes step ++ rest)
+records_bytes-more xs step rest =
+    ap (λ (z : List ℕ). z ++ rest) (records_bytes-append xs (step ∷ []))
+    ∙ append_assoc (records_bytes xs) (record_bytes step ++ []) rest
+    ∙ ap (λ (z : List ℕ). records_bytes xs ++ (z ++ rest)) (append-nil (record_bytes step))
+
+pub one_record : (k : ℕ) (step : Step) → HasRecord k step → HaveRecords k (step ∷ [])
+one_record k step has = All-cons (HasRecord k) step [] has (All-nil (HasRecord k))
+
+pub records_join : (k : ℕ) (xs ys : List Step) → HaveRecords k xs → HaveRecords k ys → HaveRecords k (xs ++ ys)
+records_join k xs ys = All-append (HasRecord k) xs ys

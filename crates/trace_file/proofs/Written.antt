@@ -1,0 +1,45 @@
+-- What is written in parts.
+use Rattle.std.proofs.Common.{◌≡◌, ℕ, List, ◌++◌, take, drop, Option, Some, None, Result, Ok, Err, append_assoc, length-append, ap, sym, subst, ◌∙◌, arith}
+use Rattle.std.specs.Prelude.{OnErr, IfErr, IsErrAnd, IfNone}
+use Rattle.std.proofs.lemmas.List.{take-append-drop}
+use Rattle.steps.specs.declared.step.Step.{Step}
+use Rattle.trace_file.specs.Traces.{records_bytes}
+use Rattle.trace_file.proofs.Records.{records_bytes-append}
+use Rattle.std.specs.Io.KnownBytes.{Appends}
+use Rattle.std.proofs.KnownBytes.{Appends-trans}
+use Rattle.link.specs.Transfer.{AppendsPart}
+
+-- a beginning of a text's beginning
+pub part_front : (a b : Option (List ℕ)) (t u : List ℕ) → AppendsPart a b t → AppendsPart a b (t ++ u)
+part_front a b t u (written, missing, whole, some, appends) =
+    (written, missing ++ u, ap (λ x. x ++ u) whole ∙ append_assoc written missing u, omega (arith, length-append missing u, some), appends)
+
+-- a text, and a beginning of what follows it
+pub part_behind : (a b c : Option (List ℕ)) (t u : List ℕ) → Appends a b t → AppendsPart b c u → AppendsPart a c (t ++ u)
+part_behind a b c t u before (written, missing, whole, some, appends) =
+    (t ++ written, missing, ap (λ x. t ++ x) whole ∙ sym (append_assoc t written missing), some, Appends-trans a b c t written before appends)
+
+pub on_err : {T E : Type 0} (r : Result T E) (P : Type 0) → P → OnErr r P
+on_err (Ok x) P p = tt
+on_err (Err e) P p = p
+
+-- an error that is known
+pub if_err : {T E : Type 0} (r : Result T E) (e : E) (P : E → Type 0) → IsErrAnd r (λ x. x ≡ e) → P e → IfErr r P
+if_err (Ok x) e P h p = tt
+if_err (Err x) e P h p = subst P (sym h) p
+
+-- a value that is not there
+pub on_none : {T : Type 0} (r : Option T) (P : Type 0) → P → IfNone r P
+on_none None P p = p
+on_none (Some x) P p = tt
+
+-- a piece of the steps whose records were written, and what is left
+pub written_parts : (steps written rest : List Step) (n : ℕ) → steps ≡ written ++ rest → (records_bytes written ++ records_bytes (take n rest)) ++ records_bytes (drop n rest) ≡ records_bytes steps
+written_parts steps written rest n whole =
+    append_assoc (records_bytes written) (records_bytes (take n rest)) (records_bytes (drop n rest))
+    ∙ ap (λ (x : List ℕ). records_bytes written ++ x) (sym (records_bytes-append (take n rest) (drop n rest)) ∙ ap records_bytes (take-append-drop n rest))
+    ∙ sym (records_bytes-append written rest)
+    ∙ ap records_bytes (sym whole)
+
+pub steps_parts : (steps written rest : List Step) (n : ℕ) → steps ≡ written ++ rest → steps ≡ (written ++ take n rest) ++ drop n rest
+steps_parts steps written rest n whole = whole ∙ ap (λ (x : List Step). written ++ x) (sym (take-append-drop n rest)) ∙ sym (append_assoc written (take n rest) (drop n rest))

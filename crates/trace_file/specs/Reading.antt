@@ -1,0 +1,89 @@
+-- What the parts of reading give.
+use Rattle.std.specs.Prelude.{◌≡◌, ℕ, ◌<◌, ◌≤◌, Bool, true, false, List, [], ◌∷◌, ◌++◌, length, slice_index, Option, Result, Ok, Err}
+use Rattle.std.specs.Int.{w32, from_le_bytes}
+use Rattle.std.specs.Io.KnownBytes.{Consumes}
+use Rattle.link.specs.Transfer.{ConsumesAll}
+use Rattle.steps.specs.declared.step.Step.{Step}
+use Rattle.trace_file.specs.declared.error.TraceError.{TraceError}
+use Rattle.trace_file.specs.declared.error.TraceError.TheVariants as error
+use Rattle.trace_file.specs.declared.fields.Fields.{Fields}
+use Rattle.trace_file.specs.Traces.{records_bytes, HaveRecords}
+use Rattle.trace_file.specs.Faults.{RecordFault}
+
+-- the number of four bytes of a list, the lowest first
+abbrev pub word_in : List ℕ → (i j k l : ℕ) → ℕ
+word_in xs i j k l = from_le_bytes w32 (slice_index xs i ∷ slice_index xs j ∷ slice_index xs k ∷ slice_index xs l ∷ [])
+
+-- the fields of twelve bytes
+unfoldable pub fields_in : List ℕ → Fields
+fields_in xs = record {
+  kind = slice_index xs 0;
+  a = slice_index xs 1;
+  b = slice_index xs 2;
+  unused = slice_index xs 3;
+  address = word_in xs 4 5 6 7;
+  value = word_in xs 8 9 10 11;
+}
+
+abbrev pub is_link : TraceError → Bool
+is_link error.Link = true
+is_link error.Truncated = false
+is_link error.Header = false
+is_link error.Record = false
+is_link error.Trailing = false
+is_link error.Memory = false
+
+-- the link failed
+abbrev pub is_link_fault : {T : Type 0} → Result T TraceError → Bool
+is_link_fault (Ok x) = false
+is_link_fault (Err fault) = is_link fault
+
+-- Steps were added, and a piece begins with their records. The rest of the piece stands behind them.
+pub record Adds (k : ℕ) (old new : List Step) (piece rest : List ℕ) : Type 0 where
+  pub added : List Step
+  pub grown : new ≡ old ++ added
+  pub records : HaveRecords k added
+  pub spelled : piece ≡ records_bytes added ++ rest
+
+-- why not all whole records of a piece were added: memory was short, or behind the records of these steps stands none
+abbrev pub IsNotAdded : (k : ℕ) → (piece : List ℕ) → TraceError → Type 0
+IsNotAdded k piece error.Memory = Unit {0}
+IsNotAdded k piece error.Record = (steps : List Step) × (rest : List ℕ) × HaveRecords k steps × (piece ≡ records_bytes steps ++ rest) × RecordFault k rest error.Record
+IsNotAdded k piece error.Truncated = ⊥
+IsNotAdded k piece error.Header = ⊥
+IsNotAdded k piece error.Trailing = ⊥
+IsNotAdded k piece error.Link = ⊥
+
+-- so many steps were added, and their records were read
+pub record AddsRead (k count : ℕ) (old new : List Step) (before after : Option (List ℕ)) : Type 0 where
+  pub added : List Step
+  pub grown : new ≡ old ++ added
+  pub records : HaveRecords k added
+  pub whole : length added ≡ count
+  pub consumed : Consumes before after (records_bytes added)
+
+-- the records of these steps were read, and the rest behind them, in which the next of so many records is wrong
+pub record StopsBehind (k count : ℕ) (steps : List Step) (rest : List ℕ) (fault : TraceError) : Type 0 where
+  pub records : HaveRecords k steps
+  pub few : length steps < count
+  pub wrong : RecordFault k rest fault
+
+-- why not so many records were read
+abbrev pub IsStopped : (piece k count : ℕ) → (old new : Option (List ℕ)) → TraceError → Type 0
+IsStopped piece k count old new error.Link = Unit {0}
+IsStopped piece k count old new error.Memory = Unit {0}
+IsStopped piece k count old new error.Header = ⊥
+IsStopped piece k count old new error.Trailing = ⊥
+IsStopped piece k count old new error.Truncated =
+    (steps : List Step) × (rest : List ℕ) × ConsumesAll old new (records_bytes steps ++ rest) × StopsBehind k count steps rest error.Truncated
+IsStopped piece k count old new error.Record =
+    (steps : List Step) × (rest : List ℕ) × Consumes old new (records_bytes steps ++ rest) × StopsBehind k count steps rest error.Record × (length rest ≤ piece)
+
+-- why there is no end: the link failed, or there is a byte
+abbrev pub IsNoEnd : (old new : Option (List ℕ)) → TraceError → Type 0
+IsNoEnd old new error.Link = Unit {0}
+IsNoEnd old new error.Trailing = (byte : ℕ) × Consumes old new (byte ∷ [])
+IsNoEnd old new error.Memory = ⊥
+IsNoEnd old new error.Truncated = ⊥
+IsNoEnd old new error.Header = ⊥
+IsNoEnd old new error.Record = ⊥

@@ -1,0 +1,48 @@
+//! Why there is no trace.
+
+ghost use Rattle.std.specs.Prelude.{◌≡◌};
+ghost use Rattle.trace_file.specs.declared.error.TraceError.TheVariants.{Link as LinkFailed, Memory as NoMemory};
+
+use link::Failed;
+use std::alloc::AllocFailed;
+use thiserror::Error;
+
+/// Why a trace was not read or not written. The variants stand in the order of their numbers.
+#[derive(Clone, Copy, Debug, PartialEq, Eq, Drop, Error)]
+pub enum TraceError {
+    /// The bytes end within the header or within a record, whatever these have before the end.
+    #[error("X1")]
+    Truncated,
+    /// The header is no trace's: its first five bytes, a size out of its range, or a number of
+    /// records over 4,194,304.
+    #[error("X2")]
+    Header,
+    /// A record is no step's: its kind, a number out of its range, or an unused byte that is not 0.
+    #[error("X3")]
+    Record,
+    /// There are bytes behind the last record.
+    #[error("X4")]
+    Trailing,
+    /// The link failed.
+    #[error("X5")]
+    Link,
+    /// There was no memory for the steps.
+    #[error("X6")]
+    Memory,
+}
+
+impl From<Failed> for TraceError {
+    ghost from_gives = { λ fault error. error ≡ LinkFailed };
+
+    fn from(_fault: Failed) -> Self {
+        TraceError::Link
+    }
+}
+
+impl<T: Drop> From<AllocFailed<T>> for TraceError {
+    ghost from_gives = { λ fault error. error ≡ NoMemory };
+
+    fn from(_fault: AllocFailed<T>) -> Self {
+        TraceError::Memory
+    }
+}
