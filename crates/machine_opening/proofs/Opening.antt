@@ -21,7 +21,7 @@ states_are c layout [] = refl
 states_are c layout (x ∷ xs) = ap (λ ps. opening_processor layout ∷ ps) (states_are c layout xs)
 
 -- a smaller number has no greater quotient
-quotient_small : (i n d : ℕ) → 0 < d → i < n → i / d < n / d + 1
+pub quotient_small : (i n d : ℕ) → 0 < d → i < n → i / d < n / d + 1
 quotient_small i n d some less = by (cases_lt (i / d) (n / d + 1))
   where
     by : (i / d < n / d + 1) ⊎ (n / d + 1 ≤ i / d) → i / d < n / d + 1

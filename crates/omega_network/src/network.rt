@@ -1,6 +1,6 @@
 //! Networks.
 
-ghost use Rattle.std.specs.Prelude.{◌≡◌, ◌↔◌, ◌<◌, ◌≤◌, ◌^◌, ◌/◌, ◌%◌, ◌*◌, ◌+◌, suc, [], drop, length, slice_get, All, IfOk, IsNone, IsTrue};
+ghost use Rattle.std.specs.Prelude.{◌≡◌, ◌↔◌, ◌<◌, ◌≤◌, ◌^◌, ◌/◌, ◌%◌, ◌*◌, ◌+◌, suc, [], drop, length, slice_get, is_some, All, IfOk, IsNone, IsTrue};
 ghost use Rattle.std.specs.Option.{option_to_list};
 ghost use Rattle.omega_wires.specs.Wires.{switch_of};
 ghost use Rattle.messages.specs.Network.{Sizes, put_replies, put_requests};
@@ -221,6 +221,24 @@ impl Network {
         let reply = self.port_reply(p);
         self.take_reply(0, p);
         reply
+    }
+
+    /// Whether a request stands before a stage on a wire, or at a module for stage `k`.
+    pub fn has_request(&self, stage: u8, wire: u8) -> bool
+        requires stage { stage ≤ self.now.k }
+        requires wire { wire < 2 ^ self.now.k }
+        ensures { result ≡ is_some (slice_get ((net_of self.now).requests stage wire) 0) }
+    {
+        self.request_before(stage, wire).is_some()
+    }
+
+    /// Whether a reply stands before a stage on a wire, or at a module for stage `k`.
+    pub fn has_reply(&self, stage: u8, wire: u8) -> bool
+        requires stage { stage ≤ self.now.k }
+        requires wire { wire < 2 ^ self.now.k }
+        ensures { result ≡ is_some (slice_get ((net_of self.now).replies stage wire) 0) }
+    {
+        self.reply_before(stage, wire).is_some()
     }
 
     /// The first request before a stage on a wire, or at a module for stage `k`.

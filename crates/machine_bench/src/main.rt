@@ -1,0 +1,149 @@
+//! Runs a program on all processors of a machine by the sweep, and tells how long a step takes.
+//!
+//! `machine_bench K RUNS`: each processor of a machine of `K` stages adds 1 to one shared word a hundred
+//! times, writes a byte to the console and halts; that is done RUNS times, on a new machine each time.
+//! With no arguments it is done once, with two stages. Standard output has what the run came to, standard
+//! error the time of the steps that did something, which does not have that of making the machines.
+#![tactic(auto)]
+
+use anyhow::bail;
+use assembler::assemble;
+use elf_image::{Image, read_image, write_image};
+use flat_machine::{Config, Status};
+use link::Meter;
+use machine_steps::Machine;
+use std::alloc::Global;
+use std::env;
+use std::time::{Duration, Instant};
+use steps::{Outcome, Step};
+
+/// What each processor runs. It stops by EBREAK where the word has less than its own adds.
+const TEXT: &str = "
+start: lui x5, 0x80000
+ addi x6, x0, 100
+ addi x7, x0, 1
+loop: amoadd.w x8, x7, (x5)
+ addi x6, x6, -1
+ bne x6, x0, loop
+ lw x9, 0(x5)
+ addi x11, x0, 100
+ bltu x9, x11, bad
+ addi x17, x0, 1
+ addi x10, x0, 65
+ ecall
+ addi x17, x0, 0
+ addi x10, x0, 0
+ ecall
+bad: ebreak
+";
+
+/// The most rounds of a run. It takes some thousands.
+const MAX_ROUNDS: u32 = 1_000_000;
+
+/// What the steps did.
+#[derive(Clone, Copy, Drop)]
+struct Counts {
+    /// Steps that did something.
+    moved: u64,
+    /// Instructions that retired.
+    retired: u64,
+}
+
+impl Counts {
+    fn add(&mut self, outcome: &Outcome) {
+        match outcome {
+            Outcome::Stalled => return,
+            Outcome::Retired(_) => self.retired = self.retired.wrapping_add(1),
+            _ => {}
+        }
+        self.moved = self.moved.wrapping_add(1);
+    }
+}
+
+/// One round of the sweep: a turn of each processor, a move of each request, those nearest to the
+/// modules first, a service by each module, a move of each reply, those nearest to the processors first.
+fn round(machine: &mut Machine, counts: &mut Counts) {
+    let config = machine.config();
+    let wires = config.processors();
+    for p in 0..wires {
+        counts.add(&machine.apply(Step::Turn(p)));
+    }
+    for stage in (0..config.k).rev() {
+        for wire in 0..wires {
+            counts.add(&machine.apply(Step::Up { stage, wire }));
+        }
+    }
+    for m in 0..wires {
+        counts.add(&machine.apply(Step::Serve(m)));
+    }
+    for stage in 0..config.k {
+        for wire in 0..wires {
+            counts.add(&machine.apply(Step::Down { stage, wire }));
+        }
+    }
+}
+
+/// Whether a processor of the machine still runs.
+fn is_running(machine: &Machine) -> bool {
+    (0..64u8).any(|p| machine.status(p) == Some(Status::Running))
+}
+
+/// Rounds of the sweep, until no processor runs.
+fn sweep(machine: &mut Machine, counts: &mut Counts) {
+    for _ in 0..MAX_ROUNDS {
+        if !is_running(machine) {
+            return;
+        }
+        round(machine, counts);
+    }
+}
+
+/// The image of the program.
+fn image(alloc: Global, config: &Config) -> anyhow::Result<Image> {
+    let program = assemble(alloc, TEXT)?;
+    let mut writer = Meter::new(Vec::new(alloc));
+    write_image(&mut writer, program.layout())?;
+    let mut reader = Meter::new(writer.device.as_slice());
+    Ok(read_image(alloc, &mut reader, config)?)
+}
+
+fn main(rt: HostRuntime) -> anyhow::Result<()> {
+    let arguments = env::args(&rt)?.skip(1).collect::<Vec<String>>(rt.alloc())?;
+    let (k, runs): (u8, u32) = match arguments.as_slice() {
+        [] => (2, 1),
+        [k, runs] => (k.parse()?, runs.parse()?),
+        _ => bail!("usage: machine_bench [K RUNS]"),
+    };
+    let config = Config {
+        k,
+        c: 4,
+        b: 4,
+        shared_words: 1024,
+    };
+    let mut counts = Counts {
+        moved: 0,
+        retired: 0,
+    };
+    let mut time = Duration::ZERO;
+    for run in 0..runs {
+        let mut machine = Machine::new(rt.alloc(), image(rt.alloc(), &config)?, config)?;
+        let start = Instant::now(&rt)?;
+        sweep(&mut machine, &mut counts);
+        time = time.saturating_add(start.elapsed(&rt)?);
+        if run == 0 {
+            let word = machine.word(0).unwrap_or(0);
+            println!(rt;
+                "k {}: {} instructions retire, and word 0 is {}",
+                k, counts.retired, word
+            )?;
+        }
+    }
+    eprintln!(rt;
+        "k {}: {} runs, {} steps that did something in {} microseconds",
+        k,
+        runs,
+        counts.moved,
+        time.as_micros()
+    )?;
+    Ok(())
+}

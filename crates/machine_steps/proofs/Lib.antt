@@ -1,0 +1,13 @@
+pub mod Keeping
+pub mod Flattening
+pub mod Running
+pub mod Handling
+pub mod LocalBytes
+pub mod Opening
+pub mod Stalling
+pub mod Draining
+pub mod Drained
+pub mod Lone
+pub mod Whole
+mod Grouping
+mod Ordering

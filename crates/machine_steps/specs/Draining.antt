@@ -1,0 +1,43 @@
+-- What a drain does: the steps that bring every reference to its end, by the theory's drain.
+use Rattle.std.specs.Prelude.{◌≡◌, ℕ, ◌*◌, ◌+◌, ◌^◌, ◌≤◌, List, [], length, map, Option, Some, None}
+use Rattle.flat_machine.specs.declared.config.Config.{Config}
+use Rattle.abstract_machine.specs.Machine as theory
+use Rattle.abstract_machine.specs.Draining as draining
+use Rattle.steps.specs.declared.step.Step.{Step}
+use Rattle.steps.specs.declared.step.Step.TheVariants as step
+use Rattle.machine_program.specs.Processors.{sizes_of, program}
+use Rattle.machine_steps.specs.Machines.{MachineLists, machine_of, IsIdle}
+use Rattle.machine_steps.specs.Runs.{IsRun}
+
+-- the step that the theory names
+abbrev pub step_of : theory.Step → Step
+step_of (theory.Turn p) = step.Turn p
+step_of (theory.Up s w) = step.Up s w
+step_of (theory.Serve m) = step.Serve m
+step_of (theory.Down s w) = step.Down s w
+step_of (theory.Poke poke) = step.Poke poke
+
+abbrev pub some_step : Option theory.Step → Option Step
+some_step None = None
+some_step (Some st) = Some (step_of st)
+
+-- The step that a drain takes next: the turn of the smallest processor with a reply on its wire; else a reply goes down, the
+-- smallest stage first, and then the smallest wire; else the smallest module with a request serves; else a request goes up,
+-- the greatest stage first, and then the smallest wire.
+abbrev pub drain_step : MachineLists → Option Step
+drain_step m = some_step (draining.drain_step (sizes_of m.config) (machine_of m (λ p. [])))
+
+-- no drain takes more steps
+abbrev pub drain_bound : Config → ℕ
+drain_bound c = 2 ^ c.k * (2 * c.k + 2)
+
+-- all steps of a drain, one after another
+abbrev pub drain_steps : MachineLists → List Step
+drain_steps m = map step_of (draining.drain_steps (sizes_of m.config) (program m.config m.code) (drain_bound m.config) (machine_of m (λ p. [])))
+
+-- The machine is drained: it took the drain's steps, and no reference is open.
+pub record IsDrained (old : MachineLists) (count : ℕ) (new : MachineLists) : Type 0 where
+  pub run : IsRun old (drain_steps old) new
+  pub moves : count ≡ length (drain_steps old)
+  pub bound : count ≤ drain_bound old.config
+  pub idle : IsIdle new

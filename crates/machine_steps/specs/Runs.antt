@@ -1,0 +1,72 @@
+-- What a machine opens as, and what runs of it do.
+use Rattle.std.specs.Prelude.{◌≡◌, ℕ, List, [], ◌∷◌, map}
+use Rattle.std.specs.List.{range_with_len}
+use Rattle.flat_machine.specs.declared.config.Config.{Config}
+use Rattle.flat_machine.specs.declared.event.Event.{Event}
+use Rattle.flat_machine.specs.State.{FlatState}
+use Rattle.flat_machine.specs.Flat.{flat_run, flat_events}
+use Rattle.elf_image.specs.Images.{ImageContents}
+use Rattle.elf_image.specs.Openings.{opening}
+use Rattle.abstract_machine.specs.Machine as theory
+use Rattle.serialization.specs.Order.{Passed, ran, outcomes}
+use Rattle.serialization.specs.Serialization.{EachServedOnce}
+use Rattle.steps.specs.declared.step.Step.{Step}
+use Rattle.machine_ports.specs.Ports.{PortState}
+use Rattle.machine_program.specs.Processors.{Told, sizes_of, program, word_at}
+use Rattle.machine_program.specs.Flatness.{with_events}
+use Rattle.machine_program.specs.Steps.{named, after}
+use Rattle.machine_program.specs.Explained.{IsExplained}
+use Rattle.machine_steps.specs.Machines.{MachineLists, machine_of, IsIdle}
+
+-- the flat machine that a machine's processors, words and code make
+abbrev pub flat_state : MachineLists → FlatState
+flat_state m = record {
+  processors = map (λ (p : PortState). p.core.state) m.ports;
+  shared = map (word_at m.config.k m.modules) (range_with_len 0 m.config.shared_words);
+  code = m.code;
+}
+
+-- The machine of this size that opens on an image: no reference is open, and its processors, words and code are those that
+-- the image means.
+pub record IsOpening (c : Config) (image : ImageContents) (m : MachineLists) : Type 0 where
+  pub config : m.config ≡ c
+  pub image_is : m.image ≡ image
+  pub idle : IsIdle m
+  pub flat : flat_state m ≡ opening c image.layout
+
+-- ---- runs
+
+-- the machine after a list of steps
+unfoldable pub all_after : Config → List ℕ → theory.Machine Told → List Step → theory.Machine Told
+all_after c code M [] = M
+all_after c code M (s ∷ ss) = all_after c code (after c code M s) ss
+
+-- what a machine's processors have shown
+abbrev pub events_of : theory.Machine Told → ℕ → List Event
+events_of M p = (M.core p).events
+
+-- The machine keeps its size, its image and its code, and stands after the steps, whatever its processors have shown before.
+pub record IsRun (old : MachineLists) (steps : List Step) (new : MachineLists) : Type 0 where
+  pub config : new.config ≡ old.config
+  pub image : new.image ≡ old.image
+  pub code : new.code ≡ old.code
+  pub after : (shown : ℕ → List Event) →
+      machine_of new (events_of (all_after old.config old.code (machine_of old shown) steps)) ≡ all_after old.config old.code (machine_of old shown) steps
+
+-- ---- the theorem
+
+-- after a list of steps: the machine, and what the outcomes gave
+abbrev pub passed : MachineLists → List Step → Passed Told
+passed m steps = ran (sizes_of m.config) (program m.config m.code) (machine_of m (λ p. [])) (map named steps)
+
+-- One serial order of whole instructions explains what a machine did since no reference was open in it.
+pub record IsSerialized (old : MachineLists) (steps : List Step) (new : MachineLists) : Type 0 where
+  -- the machine stands after the steps, and what its processors have shown since are their retirements and stops
+  pub machine : machine_of new (events_of (passed old steps).machine) ≡ (passed old steps).machine
+  -- the flat machine, which takes the order so far, explains it
+  pub explained : IsExplained old.config old.code (flat_state old) (passed old steps)
+  -- each reference is served once, between its issue and its retirement
+  pub once : EachServedOnce (outcomes (sizes_of old.config) (program old.config old.code) (map named steps) (machine_of old (λ p. [])))
+  -- where no reference is open, the machine is the flat machine after the order, which has shown the same events
+  pub flat : IsIdle new → flat_state new ≡ flat_run (flat_state old) (passed old steps).order
+  pub shown : IsIdle new → (p : ℕ) → events_of (passed old steps).machine p ≡ with_events (λ p. []) (flat_events (flat_state old) (passed old steps).order) p

@@ -1,0 +1,78 @@
+//! Draining: the steps that bring every open reference to its end.
+
+ghost use Rattle.std.specs.Prelude.{◌≡◌, ◌≤◌, ◌^◌};
+ghost use Rattle.omega_network.specs.Networks.{net_of, sizes_of};
+ghost use Rattle.abstract_machine.specs.Draining.{down_step, first_wire, is_any, least, or_else, up_step};
+ghost use Rattle.abstract_machine.specs.Machine.{Serve, Turn};
+ghost use Rattle.machine_steps.specs.Draining.{some_step};
+
+use omega_network::Network;
+use steps::Step;
+
+/// The first wire with a request before a stage.
+fn first_request(network: &Network, stage: u8) -> Option<u8>
+    requires { stage ≤ network.now.k }
+    ensures { result ≡ least (λ w. is_any ((net_of network.now).requests stage w)) (2 ^ network.now.k) }
+{
+    for wire in 0..network.wires() {
+        if network.has_request(stage, wire) {
+            return Some(wire);
+        }
+    }
+    None
+}
+
+/// The first wire with a reply before a stage.
+fn first_reply(network: &Network, stage: u8) -> Option<u8>
+    requires { stage ≤ network.now.k }
+    ensures { result ≡ least (λ w. is_any ((net_of network.now).replies stage w)) (2 ^ network.now.k) }
+{
+    for wire in 0..network.wires() {
+        if network.has_reply(stage, wire) {
+            return Some(wire);
+        }
+    }
+    None
+}
+
+/// The step that brings down the next reply.
+fn next_down(network: &Network) -> Option<Step>
+    ensures { result ≡ some_step (down_step (sizes_of network.now) (net_of network.now)) }
+{
+    for stage in 0..network.stages() {
+        if let Some(wire) = first_reply(network, stage + 1) {
+            return Some(Step::Down { stage, wire });
+        }
+    }
+    None
+}
+
+/// The step that brings up the next request.
+fn next_up(network: &Network) -> Option<Step>
+    ensures { result ≡ some_step (up_step (sizes_of network.now) (net_of network.now)) }
+{
+    let k = network.stages();
+    for passed in 0..k {
+        let stage = k - 1 - passed;
+        if let Some(wire) = first_request(network, stage) {
+            return Some(Step::Up { stage, wire });
+        }
+    }
+    None
+}
+
+/// The step that a drain takes next.
+pub(crate) fn next_step(network: &Network) -> Option<Step>
+    ensures { result ≡ some_step (or_else (first_wire ((net_of network.now).replies 0) (2 ^ network.now.k) Turn) (or_else (down_step (sizes_of network.now) (net_of network.now)) (or_else (first_wire ((net_of network.now).requests network.now.k) (2 ^ network.now.k) Serve) (up_step (sizes_of network.now) (net_of network.now))))) }
+{
+    if let Some(p) = first_reply(network, 0) {
+        return Some(Step::Turn(p));
+    }
+    if let Some(step) = next_down(network) {
+        return Some(step);
+    }
+    match first_request(network, network.stages()) {
+        Some(m) => Some(Step::Serve(m)),
+        None => next_up(network),
+    }
+}

@@ -1,0 +1,523 @@
+//! The machine.
+
+ghost use Rattle.std.specs.Prelude.{◌≡◌, ◌↔◌, ◌<◌, ◌*◌, ◌+◌, ◌/◌, ◌%◌, ◌^◌, ◌&&◌, ℕ, List, [], true, false, nat_lt, slice_get, slice_index, Some, None, Err, IfOk, IsTrue, if◌then◌else◌, IfErr, OnOk, OnErr};
+ghost use Rattle.std.specs.Option.{option_copied};
+ghost use Rattle.flat_machine.specs.declared.event.Event.{Event};
+ghost use Rattle.flat_machine.specs.declared.poke.Poke.TheVariants as pokes;
+ghost use Rattle.flat_machine.specs.Laws.{AreBelow};
+ghost use Rattle.flat_machine.specs.Limits.{IsWithinLimits};
+ghost use Rattle.flat_machine.specs.Memory.{in_local};
+ghost use Rattle.abstract_machine.specs.Steadiness.{Few};
+ghost use Rattle.machine_program.specs.Processors.{port_at, word_at, sizes_of, program};
+ghost use Rattle.machine_program.specs.Steps.{outcome_of};
+ghost use Rattle.machine_program.specs.Turning.{told_of_down, told_of_up};
+ghost use Rattle.flat_machine.specs.State.{is_running};
+ghost use Rattle.machine_steps.specs.Machines.{MachineLists, IsIdle, IsStep, machine_of};
+ghost use Rattle.machine_steps.specs.Draining.{drain_bound, drain_step, IsDrained};
+ghost use Rattle.machine_steps.specs.Whole.{IsOne, IsSent};
+ghost use Rattle.machine_steps.specs.Runs.{IsOpening, IsRun, IsSerialized, passed};
+ghost use Rattle.machine_steps.specs.Ordering.{is_open_at};
+
+use crate::drain::next_step;
+use crate::error::NewError;
+use crate::order::SerialOrder;
+use crate::service::execute;
+use crate::turns;
+use elf_image::Image;
+use flat_machine::{Config, Entry, Poke, SHARED_START, Status};
+use hart::Core;
+use local_memory::Code;
+use machine_opening::{new_modules, new_ports};
+use machine_ports::Port;
+use memory_module::Module;
+use messages::{DownMove, UpMove};
+use omega_network::Network;
+use omega_wires::module_of;
+use phi_algebra::Phi;
+use std::alloc::{AllocError, Global};
+use std::marker::Model;
+use steps::{Outcome, Step};
+
+/// A machine of 1 to 64 processors and as many memory modules, with a network of combining switches
+/// between them.
+#[derive(Drop)]
+pub struct Machine {
+    config: Config,
+    image: Image,
+    code: Code,
+    ports: Vec<Port>,
+    network: Network,
+    modules: Vec<Module>,
+}
+
+impl Model for Machine {
+    ghost use Rattle.machine_steps.specs.Machines.{MachineLists, IsMachine};
+
+    ghost Value = { MachineLists };
+
+    ghost view = { λ m. record { config = m.config; image = m.image; network = m.network; ports = m.ports.items; modules = m.modules.items; code = m.code } };
+
+    ghost invariant = { λ m. IsMachine (record { config = m.config; image = m.image; network = m.network; ports = m.ports.items; modules = m.modules.items; code = m.code }) };
+}
+
+impl Machine {
+    /// The machine of this configuration that opens on an image: each processor stands at the image's
+    /// entry and runs, with registers of zero. No reference is open.
+    ///
+    /// # Errors
+    ///
+    /// [`NewError::Config`] where a number of the configuration is out of its limits, or the image was
+    /// read for another number of shared words; else [`NewError::Memory`] where there is no memory.
+    pub fn new(alloc: Global, image: Image, config: Config) -> Result<Self, NewError>
+        ensures opening { IfOk result (λ m. IsOpening config image m) }
+        ensures refused { (result ≡ Err NewError.Config) ↔ ((IsWithinLimits config × (image.shared_words ≡ config.shared_words)) → ⊥) }
+    {
+        if !config.is_within_limits() || image.shared_words() != config.shared_words {
+            return Err(NewError::Config);
+        }
+        match made(alloc, image, config) {
+            Ok(machine) => Ok(machine),
+            Err(_) => Err(NewError::Memory),
+        }
+    }
+
+    /// The image that the machine opened on.
+    pub fn image(&self) -> &Image
+        ensures { result.now ≡ self.now.image }
+    {
+        &self.image
+    }
+
+    /// The machine's size.
+    pub fn config(&self) -> Config
+        ensures config { result ≡ self.now.config }
+        ensures limits { IsWithinLimits result }
+    {
+        self.config
+    }
+
+    /// Where a processor stands: the address of its next instruction. None where the machine has no
+    /// processor of this number.
+    pub fn pc(&self, processor: u8) -> Option<u32>
+        ensures { result ≡ (if nat_lt processor (2 ^ self.now.config.k) then Some (port_at self.now.ports processor).core.state.pc else None) }
+    {
+        Some(self.core(processor)?.pc())
+    }
+
+    /// A register of a processor, 0 to 31. None where the machine has no processor of this number, or
+    /// the processor no register of that one.
+    pub fn reg(&self, processor: u8, register: u8) -> Option<u32>
+        ensures { result ≡ (if nat_lt processor (2 ^ self.now.config.k) then slice_get (port_at self.now.ports processor).core.state.registers register else None) }
+    {
+        let registers = self.core(processor)?.registers();
+        registers.get(usize::from(register)).copied()
+    }
+
+    /// What a processor is doing. None where the machine has no processor of this number.
+    pub fn status(&self, processor: u8) -> Option<Status>
+        ensures { result ≡ (if nat_lt processor (2 ^ self.now.config.k) then Some (port_at self.now.ports processor).core.state.status else None) }
+    {
+        Some(self.core(processor)?.status())
+    }
+
+    /// A byte of a processor's local memory. None where the machine has no processor of this number,
+    /// or the address is outside local memory.
+    pub fn byte(&self, processor: u8, address: u32) -> Option<u8>
+        ensures { result ≡ (if nat_lt processor (2 ^ self.now.config.k) && in_local address then Some (slice_index (port_at self.now.ports processor).core.state.local (address % 2 ^ 16)) else None) }
+    {
+        self.core(processor)?.byte(address).ok()
+    }
+
+    /// A shared word, as its module holds it. None where shared memory has no word of this number.
+    pub fn word(&self, number: u32) -> Option<u32>
+        ensures { result ≡ (if nat_lt number self.now.config.shared_words then Some (word_at self.now.config.k self.now.modules number) else None) }
+    {
+        if number >= self.config.shared_words {
+            return None;
+        }
+        let k = self.config.k;
+        let place = usize::from(module_of(number, k));
+        self.modules[place].word(number >> k)
+    }
+
+    /// The core of a processor.
+    fn core(&self, processor: u8) -> Option<&Core>
+        ensures { option_copied result ≡ (if nat_lt processor (2 ^ self.now.config.k) then Some (port_at self.now.ports processor).core else None) }
+    {
+        match self.ports.get(usize::from(processor)) {
+            Some(port) => Some(port.core()),
+            None => None,
+        }
+    }
+
+    /// Whether no reference is open.
+    pub fn is_idle(&self) -> bool
+        ensures { IsTrue result ↔ IsIdle self.now }
+    {
+        self.ports.iter().all(|port| !port.is_open())
+    }
+
+    /// Applies a step, whole, and answers what it did.
+    pub fn apply(&mut self, step: Step) -> Outcome
+        ensures step { IsStep self.old step result self.new }
+        ensures outcome { result ≡ outcome_of self.old.config self.old.code (machine_of self.old (λ p. [])) step }
+        ensures stalled { result ≡ Outcome.Stalled → (shown : ℕ → List Event) → machine_of self.new shown ≡ machine_of self.old shown }
+        ensures few { Few (sizes_of self.new.config) (program self.new.config self.new.code) (machine_of self.new (λ p. [])) }
+    {
+        // The proof needs that the machine is one, before and after.
+        let _ = &self.config;
+        let outcome = self.take(step);
+        let _ = &self.config;
+        outcome
+    }
+
+    /// What a step of each kind does.
+    fn take(&mut self, step: Step) -> Outcome
+        ensures { IsStep self.old step result self.new }
+    {
+        match step {
+            Step::Turn(p) => self.turn(p),
+            Step::Up { stage, wire } => self.up(stage, wire),
+            Step::Serve(m) => self.serve(m),
+            Step::Down { stage, wire } => self.down(stage, wire),
+            Step::Poke(poke) => self.poke(poke),
+        }
+    }
+
+    /// Applies each of these steps in turn.
+    pub fn run(&mut self, steps: &[Step])
+        ensures run { IsRun self.old steps.now self.new }
+        ensures serialized { IsIdle self.old → IsSerialized self.old steps.now self.new }
+    {
+        let _ = &self.config;
+        for step in steps {
+            self.apply(*step);
+        }
+        let _ = &self.config;
+    }
+
+    /// Applies each of these steps in turn, as [`Machine::run`] does, and lists the serial order that
+    /// the outcomes give: the flat machine that takes it does what this one did. No reference may be
+    /// open before. It asks first for one place a step, and for the groups of references that wait.
+    ///
+    /// # Errors
+    ///
+    /// [`NewError::Memory`] where there is no memory for them. Then no step is taken.
+    pub fn order(&mut self, alloc: Global, steps: &[Step]) -> Result<Vec<Entry>, NewError>
+        requires idle { IsIdle self.old }
+        ensures order { IfOk result (λ entries. entries.items ≡ (passed self.old steps.now).order) }
+        ensures run { OnOk result (IsRun self.old steps.now self.new) }
+        ensures serialized { OnOk result (IsSerialized self.old steps.now self.new) }
+        ensures refused { OnErr result (self.new ≡ self.old) }
+        ensures memory { IfErr result (λ e. e ≡ NewError.Memory) }
+    {
+        let Ok(mut order) = SerialOrder::new(alloc, steps.len()) else {
+            return Err(NewError::Memory);
+        };
+        let _ = &self.config;
+        for &step in steps {
+            let was_open = self.is_open_at(step);
+            let outcome = self.apply(step);
+            order.enter(step, was_open, outcome);
+        }
+        let _ = &self.config;
+        Ok(order.into_entries())
+    }
+
+    /// Whether the step is a turn of a processor that is open.
+    fn is_open_at(&self, step: Step) -> bool
+        ensures { result ≡ is_open_at self.now step }
+    {
+        match step {
+            Step::Turn(p) => match self.ports.get(usize::from(p)) {
+                Some(port) => port.is_open(),
+                None => false,
+            },
+            _ => false,
+        }
+    }
+
+    /// The step that a drain takes next. None where no reference is open.
+    pub fn drain_step(&self) -> Option<Step>
+        ensures next { result ≡ drain_step self.now }
+        ensures none { (result ≡ None) ↔ IsIdle self.now }
+    {
+        next_step(&self.network)
+    }
+
+    /// Takes steps until no reference is open, each the one that [`Machine::drain_step`] names, and
+    /// answers how many: `2^k * (2k + 2)` at most.
+    pub fn drain(&mut self) -> u32
+        ensures { IsDrained self.old result self.new }
+    {
+        // The proof needs that the machine is one.
+        let _ = &self.config;
+        let bound = self.most_moves();
+        for moves in 0..bound {
+            let Some(step) = self.drain_step() else {
+                return moves;
+            };
+            self.apply(step);
+        }
+        bound
+    }
+
+    /// How many moves a drain takes at most.
+    fn most_moves(&self) -> u32
+        ensures { result ≡ drain_bound self.now.config }
+    {
+        let k = u32::from(self.config.k);
+        u32::from(self.config.processors()) * (2 * k + 2)
+    }
+
+    /// One instruction of a processor, whole, on a machine in which no reference is open: its turn,
+    /// and where that sends a request, a drain. Answers what the instruction did, `Retired` or
+    /// `Stopped`. Where a reference is open, the processor does not run or the machine has none of
+    /// this number, it is `Stalled`, and nothing changes.
+    pub fn one(&mut self, p: u8) -> Outcome
+        ensures whole { IsIdle self.old → IsOne self.old p result self.new }
+        ensures busy { (IsIdle self.old → ⊥) → (result ≡ Outcome.Stalled) × (self.new ≡ self.old) }
+    {
+        // The proof needs that the machine is one, before and after.
+        let _ = &self.config;
+        let is_idle = self.is_idle();
+        if !is_idle {
+            return Outcome::Stalled;
+        }
+        let outcome = self.apply(Step::Turn(p));
+        let _ = &self.config;
+        match outcome {
+            Outcome::Issued => self.bring_back(),
+            whole => whole,
+        }
+    }
+
+    /// Drains a machine in which one processor has sent a request, and answers what it retires.
+    fn bring_back(&mut self) -> Outcome
+        ensures { (before : MachineLists) (p : ℕ) → IsSent before p self.old → IsOne before p result self.new }
+    {
+        // The proof needs that the machine is one, before and after.
+        let _ = &self.config;
+        let bound = self.most_moves();
+        let mut last = Outcome::Issued;
+        for moves in 0..bound {
+            let Some(step) = self.drain_step() else {
+                return last;
+            };
+            last = self.apply(step);
+            let _ = &self.config;
+        }
+        last
+    }
+
+    /// A turn of a processor.
+    fn turn(&mut self, p: u8) -> Outcome
+        ensures { IsStep self.old (Step.Turn p) result self.new }
+    {
+        let place = usize::from(p);
+        if place >= self.ports.len() {
+            return Outcome::Stalled;
+        }
+        if self.ports[place].is_open() {
+            return self.finish(p);
+        }
+        if !self.ports[place].is_running() {
+            return Outcome::Stalled;
+        }
+        self.begin(p)
+    }
+
+    /// The turn of a processor that runs and is not open.
+    fn begin(&mut self, p: u8) -> Outcome
+        requires there { p < 2 ^ self.old.config.k }
+        requires closed { (port_at self.old.ports p).is_open ≡ false }
+        requires running { is_running (port_at self.old.ports p).core.state.status ≡ true }
+        ensures { IsStep self.old (Step.Turn p) result self.new }
+    {
+        let place = usize::from(p);
+        turns::begin(&mut self.ports[place], &mut self.network, &self.code, p)
+    }
+
+    /// The turn of a processor that is open.
+    fn finish(&mut self, p: u8) -> Outcome
+        requires there { p < 2 ^ self.old.config.k }
+        requires opened { (port_at self.old.ports p).is_open ≡ true }
+        ensures { IsStep self.old (Step.Turn p) result self.new }
+    {
+        let place = usize::from(p);
+        turns::finish(&mut self.ports[place], &mut self.network, &self.code, p)
+    }
+
+    /// A request goes up a stage.
+    fn up(&mut self, stage: u8, wire: u8) -> Outcome
+        ensures { IsStep self.old (Step.Up stage wire) result self.new }
+    {
+        if stage >= self.network.stages() {
+            return Outcome::Stalled;
+        }
+        if wire >= self.network.wires() {
+            return Outcome::Stalled;
+        }
+        up_outcome(self.network.up(stage, wire))
+    }
+
+    /// A reply goes down a stage.
+    fn down(&mut self, stage: u8, wire: u8) -> Outcome
+        ensures { IsStep self.old (Step.Down stage wire) result self.new }
+    {
+        if stage >= self.network.stages() {
+            return Outcome::Stalled;
+        }
+        if wire >= self.network.wires() {
+            return Outcome::Stalled;
+        }
+        down_outcome(self.network.down(stage, wire))
+    }
+
+    /// A module's step.
+    fn serve(&mut self, m: u8) -> Outcome
+        ensures { IsStep self.old (Step.Serve m) result self.new }
+    {
+        let place = usize::from(m);
+        if place >= self.modules.len() {
+            return Outcome::Stalled;
+        }
+        execute(&mut self.modules[place], &mut self.network, m)
+    }
+
+    /// A write from outside.
+    fn poke(&mut self, poke: Poke) -> Outcome
+        ensures { IsStep self.old (Step.Poke poke) result self.new }
+    {
+        // The proof needs that the machine is one.
+        let _ = &self.config;
+        if !self.is_idle() {
+            return Outcome::Stalled;
+        }
+        match poke {
+            Poke::Register {
+                processor,
+                register,
+                value,
+            } => self.poke_register(processor, register, value),
+            Poke::Local {
+                processor,
+                address,
+                value,
+            } => self.poke_local(processor, address, value),
+            Poke::Shared { address, value } => self.poke_shared(address, value),
+        }
+    }
+
+    /// Writes a register, or `pc` as 32.
+    fn poke_register(&mut self, p: u8, register: u8, value: u32) -> Outcome
+        requires { IsIdle self.old }
+        ensures { IsStep self.old (Step.Poke (pokes.Register p register value)) result self.new }
+    {
+        let place = usize::from(p);
+        if place >= self.ports.len() {
+            return Outcome::Stalled;
+        }
+        told(self.ports[place].poke_register(register, value))
+    }
+
+    /// Writes a byte of local memory.
+    fn poke_local(&mut self, p: u8, address: u32, value: u8) -> Outcome
+        requires { IsIdle self.old }
+        ensures { IsStep self.old (Step.Poke (pokes.Local p address value)) result self.new }
+    {
+        let place = usize::from(p);
+        if place >= self.ports.len() {
+            return Outcome::Stalled;
+        }
+        told(self.ports[place].poke_byte(address, value))
+    }
+
+    /// Writes a byte of shared memory.
+    fn poke_shared(&mut self, address: u32, value: u8) -> Outcome
+        requires { IsIdle self.old }
+        ensures { IsStep self.old (Step.Poke (pokes.Shared address value)) result self.new }
+    {
+        // The proof needs that the machine is one.
+        let _ = &self.config;
+        if address < SHARED_START {
+            return Outcome::Stalled;
+        }
+        let word = (address - SHARED_START) / 4;
+        if word >= self.config.shared_words {
+            return Outcome::Stalled;
+        }
+        let k = self.config.k;
+        let place = usize::from(module_of(word, k));
+        let byte = Phi::store_byte(address % 4, u32::from(value));
+        self.modules[place].serve(word >> k, &byte);
+        Outcome::Poked
+    }
+}
+
+/// What a step answers that moved a request.
+fn up_outcome(moved: UpMove) -> Outcome
+    ensures { result ≡ told_of_up moved }
+{
+    match moved {
+        UpMove::Moved => Outcome::Moved,
+        UpMove::Combined { first, second } => Outcome::Combined { first, second },
+        UpMove::Stalled => Outcome::Stalled,
+    }
+}
+
+/// What a step answers that moved a reply.
+fn down_outcome(moved: DownMove) -> Outcome
+    ensures { result ≡ told_of_down moved }
+{
+    match moved {
+        DownMove::Moved => Outcome::Moved,
+        DownMove::Answered { to } => Outcome::Answered { to },
+        DownMove::Stalled => Outcome::Stalled,
+    }
+}
+
+/// What a poke answers that is written, and one that is not.
+fn told(is_written: bool) -> Outcome
+    ensures { result ≡ (if is_written then Outcome.Poked else Outcome.Stalled) }
+{
+    if is_written {
+        Outcome::Poked
+    } else {
+        Outcome::Stalled
+    }
+}
+
+/// The opening of a machine, or want of memory.
+fn made(alloc: Global, image: Image, config: Config) -> Result<Machine, AllocError>
+    requires limits { IsWithinLimits config }
+    requires words { image.shared_words ≡ config.shared_words }
+    ensures { IfOk result (λ m. IsOpening config image m) }
+{
+    let layout = image.layout();
+    let (code_bytes, local, shared) = (
+        layout.code.as_slice(),
+        layout.local.as_slice(),
+        layout.shared.as_slice(),
+    );
+    bytes_are_below_256(code_bytes);
+    bytes_are_below_256(local);
+    bytes_are_below_256(shared);
+    let code = Code::new(alloc, code_bytes)?;
+    let ports = new_ports(alloc, config, layout)?;
+    let modules = new_modules(alloc, config, shared)?;
+    let network = Network::new(alloc, config.k, config.c, config.b)?;
+    Ok(Machine {
+        config,
+        image,
+        code,
+        ports,
+        network,
+        modules,
+    })
+}
+
+/// A byte is below 256: the proof of [`made`] needs it said.
+fn bytes_are_below_256(bytes: &[u8])
+    ensures { AreBelow 256 bytes.now }
+{}
