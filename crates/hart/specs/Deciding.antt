@@ -15,6 +15,8 @@ use Rattle.flat_machine.specs.Turns.{Turn, Retires, Reaches, Stops}
 use Rattle.hart.specs.declared.decision.Decision.{Decision}
 use Rattle.hart.specs.declared.decision.Decision.TheVariants.{Local, Refer, Halt, Fault}
 use Rattle.hart.specs.declared.decision.Shape.TheVariants as shape
+use Rattle.hart.specs.declared.decision.Taken.{Taken}
+use Rattle.hart.specs.declared.decision.Taken.TheVariants as taken
 
 -- ---- turns
 
@@ -55,6 +57,24 @@ IsOfEffect _ _ = Unit {0}
 abbrev pub NamesWord : Decision → Setting → Type 0
 NamesWord (Refer word phi shape) s = word < s.shared_words
 NamesWord _ s = Unit {0}
+
+-- ---- turns that a core takes
+
+-- What came of a turn, and the processor before and after: it has taken what is local whole, and of all else nothing.
+abbrev pub IsTaken : Taken → (old new : Processor) → Turn → Type 0
+IsTaken (taken.Retired retired) old new (Retires after told) = (new ≡ after) × (retired ≡ told)
+IsTaken (taken.Refers word phi) old new (Reaches reached change after) = (new ≡ old) × (word ≡ reached) × ((x : ℕ) → x < 2 ^ 32 → apply phi x ≡ change x)
+IsTaken (taken.Halts byte) old new (Stops cause) = (new ≡ old) × (cause ≡ because.Halt byte)
+IsTaken (taken.Faults fault) old new (Stops cause) = (new ≡ old) × (cause ≡ because.Fault fault)
+IsTaken _ old new _ = ⊥
+
+-- a reference has the phi of the table
+abbrev pub HasPhiOf : Taken → Effect → Type 0
+HasPhiOf (taken.Refers word phi) (does.Load op rd address) = phi ≡ load_phi
+HasPhiOf (taken.Refers word phi) (does.Store op address value) = phi ≡ store_phi (store_size op) (address % 4) value
+HasPhiOf (taken.Refers word phi) (does.Amo op rd address value) = phi ≡ amo_phi op value
+HasPhiOf (taken.Refers word phi) _ = ⊥
+HasPhiOf _ _ = Unit {0}
 
 -- ---- regions
 

@@ -5,6 +5,7 @@
 //! word's number and the function that its value goes through. Whoever has the word applies the
 //! function, and [`Core::retire`] takes the value that the word had before. Between the two nothing
 //! else of the core changes. A turn that stops the processor is recorded by [`Core::stop`].
+//! [`Core::take`] decides and takes in one call.
 //!
 //! What a turn does is the flat machine's definition (`flat_machine`, `specs/Turns.antt`). A core
 //! holds no word of shared memory, and none of these calls takes memory.
@@ -15,5 +16,5 @@ mod processor;
 #[cfg(test)]
 mod tests;
 
-pub use decision::{Decision, Shape};
+pub use decision::{Decision, Shape, Taken};
 pub use processor::Core;

@@ -28,7 +28,7 @@ impl Core {
     }
 
     /// What an effect asks for.
-    fn decision(&self, effect: Effect) -> Decision
+    pub(super) fn decision(&self, effect: Effect) -> Decision
         ensures turn { (code : List ℕ) (insn : Insn) → Decides result (performed self.now.setting code self.now.state insn effect) }
         ensures table { IsOfEffect result effect }
         ensures word { NamesWord result self.now.setting }

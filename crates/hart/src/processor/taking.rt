@@ -1,11 +1,13 @@
 //! Turns that are taken: alone, or with the word that a reference read.
 
-ghost use Rattle.std.specs.Prelude.{◌≡◌, ◌%◌, Some};
-ghost use Rattle.flat_machine.specs.Effects.{with_register};
-ghost use Rattle.flat_machine.specs.Turns.{Retires, gone_to, next_pc, performed, retired_printing, retired_writing, turn_of};
-ghost use Rattle.hart.specs.Deciding.{IsLocal, IsReference, after_reply};
+ghost use Rattle.std.specs.Prelude.{◌≡◌, ◌%◌, Ok, Some};
+ghost use Rattle.rv_table.specs.declared.insn.Insn.{Insn};
+ghost use Rattle.flat_machine.specs.Effects.{effect_of, with_register};
+ghost use Rattle.flat_machine.specs.Turns.{Retires, fetched, gone_to, next_pc, performed, retired_printing, retired_writing, turn_of};
+ghost use Rattle.hart.specs.Deciding.{HasPhiOf, IsLocal, IsReference, IsTaken, after_reply};
 
 use super::Core;
+use crate::decision::{Decision, Taken};
 use flat_machine::{Effect, Region, Retired, Size};
 use hart_ops::{amo_result, load_result, load_size, part, store_size};
 use local_memory::Code;
@@ -24,6 +26,38 @@ impl Core {
                 self.perform(code, insn, effect)
             }
             Err(_) => unreachable!(),
+        }
+    }
+
+    /// Takes the next turn of a processor that runs, where it needs nothing but what the core has, and
+    /// says what it came to. The instruction is read once, where [`Core::decide`] and
+    /// [`Core::take_local`] read it twice.
+    pub fn take(&mut self, code: &Code) -> Taken
+        ensures turn { IsTaken result self.old.state self.new.state (turn_of self.old.setting code.now self.old.state) }
+        ensures table { (i : Insn) → fetched code.now self.old.state.pc ≡ Ok i → HasPhiOf result (effect_of self.old.setting self.old.state.pc self.old.state.registers i) }
+        ensures setting { self.new.setting ≡ self.old.setting }
+    {
+        match code.fetch(self.pc()) {
+            Ok(insn) => {
+                let effect = self.effect(&insn);
+                self.take_effect(code, insn, effect)
+            }
+            Err(fault) => Taken::Faults(fault),
+        }
+    }
+
+    /// Does what the effect says, where it needs nothing but what the core has.
+    fn take_effect(&mut self, code: &Code, insn: Insn, effect: Effect) -> Taken
+        ensures turn { IsTaken result self.old.state self.new.state (performed self.old.setting code.now self.old.state insn effect) }
+        ensures table { HasPhiOf result effect }
+        ensures setting { self.new.setting ≡ self.old.setting }
+    {
+        let asked = effect;
+        match self.decision(asked) {
+            Decision::Local => Taken::Retired(self.perform(code, insn, effect)),
+            Decision::Refer { word, phi, .. } => Taken::Refers { word, phi },
+            Decision::Halt(byte) => Taken::Halts(byte),
+            Decision::Fault(fault) => Taken::Faults(fault),
         }
     }
 
