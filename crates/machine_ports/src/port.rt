@@ -11,7 +11,7 @@ ghost use Rattle.machine_ports.specs.declared.begun.Begun.TheVariants as begins;
 
 use crate::begun::Begun;
 use flat_machine::{Cause, LOCAL_START, PC, REGION_BYTES, Retired, Setting, Status};
-use hart::{Core, Decision};
+use hart::{Core, Taken};
 use local_memory::Code;
 use rv_table::Register;
 use std::alloc::{AllocError, Global};
@@ -81,14 +81,14 @@ impl Port {
         ensures begun { result ≡ (begun self.old code.now (turn self.old code.now)).0 }
         ensures after { self.new ≡ (begun self.old code.now (turn self.old code.now)).1 }
     {
-        match self.core.decide(code) {
-            Decision::Local => Begun::Retired(self.core.take_local(code)),
-            Decision::Refer { word, phi, .. } => {
+        match self.core.take(code) {
+            Taken::Retired(retired) => Begun::Retired(retired),
+            Taken::Refers { word, phi } => {
                 self.is_open = true;
                 Begun::Referred { word, phi }
             }
-            Decision::Halt(byte) => self.stop(Cause::Halt(byte)),
-            Decision::Fault(fault) => self.stop(Cause::Fault(fault)),
+            Taken::Halts(byte) => self.stop(Cause::Halt(byte)),
+            Taken::Faults(fault) => self.stop(Cause::Fault(fault)),
         }
     }
 
