@@ -26,6 +26,12 @@ place_within k s i n l m e =
     let up : suc s * half k ≤ k * half k = mul-le-mul_right (half k) l in
     omega arith
 
+pub place_is : (k s w : ℕ) → s < k → (s * 2 ^ k + w) / 2 ≡ s * half k + w / 2
+place_is k s w l =
+    let e : s * 2 ^ k ≡ s * (half k * 2) = ap (λ n. s * n) (two_halves k s l) in
+    let f : s * (half k * 2) ≡ s * half k * 2 = omega arith in
+    omega (arith, e, f)
+
 -- ---- one switch replaced
 
 module _ (n : NetworkLists) (s i : ℕ) (t : SwitchLists) (stage : s < n.k) (number : i < half n.k) (all : length n.switches ≡ n.k * half n.k) where

@@ -1,6 +1,6 @@
 //! Networks.
 
-ghost use Rattle.std.specs.Prelude.{◌≡◌, ◌↔◌, ◌<◌, ◌≤◌, ◌^◌, ◌/◌, ◌%◌, ◌*◌, ◌+◌, suc, [], drop, length, slice_get, is_some, All, IfOk, IsNone, IsTrue};
+ghost use Rattle.std.specs.Prelude.{◌≡◌, ◌↔◌, ◌<◌, ◌≤◌, ◌^◌, ◌/◌, ◌%◌, ◌*◌, ◌+◌, suc, [], drop, length, slice_get, is_some, Some, All, IfOk, IsNone, IsTrue};
 ghost use Rattle.std.specs.Option.{option_to_list};
 ghost use Rattle.omega_wires.specs.Wires.{switch_of};
 ghost use Rattle.messages.specs.Network.{Sizes, put_replies, put_requests};
@@ -12,7 +12,7 @@ ghost use Rattle.omega_network.specs.Offers.{accepted_on, answered_on, first_rep
 
 use combining_switch::{Accepted, Answered, Switch};
 use messages::{DownMove, Reply, Request, UpMove};
-use omega_wires::{input_port, module_of, rotations_are_inverse, switch_of, wire_after};
+use omega_wires::{input_port, module_of, rotate_left, rotations_are_inverse, wire_after};
 use phi_algebra::Phi;
 use std::alloc::{AllocError, Global};
 use std::marker::Model;
@@ -110,6 +110,7 @@ impl Network {
 
     /// Moves the first request on a wire before a stage: it is offered to the output that its word's
     /// module lies behind.
+    #[inline(always)]
     pub fn up(&mut self, stage: u8, wire: u8) -> UpMove
         requires stage { stage < self.old.k }
         requires wire { wire < 2 ^ self.old.k }
@@ -120,6 +121,19 @@ impl Network {
         let Some(request) = self.request_before(stage, wire) else {
             return UpMove::Stalled;
         };
+        self.move_up(stage, wire, request)
+    }
+
+    /// Moves a request that is the first on a wire before a stage.
+    #[inline(never)]
+    fn move_up(&mut self, stage: u8, wire: u8, request: Request) -> UpMove
+        requires stage { stage < self.old.k }
+        requires wire { wire < 2 ^ self.old.k }
+        requires first { slice_get ((net_of self.old).requests stage wire) 0 ≡ Some request }
+        ensures outcome { result ≡ (moved_up (sizes_of self.old) (net_of self.old) stage wire).0 }
+        ensures after { net_of self.new ≡ (moved_up (sizes_of self.old) (net_of self.old) stage wire).1 }
+        ensures sizes { sizes_of self.new ≡ sizes_of self.old }
+    {
         let (word, second) = (request.word, request.leader);
         let out = wire_after(self.k, stage, wire, module_of(word, self.k));
         match self.accept(stage, out, request) {
@@ -137,6 +151,7 @@ impl Network {
 
     /// Moves the first reply on a wire after a stage back over the stage: it is answered at the
     /// output that the wire comes from.
+    #[inline(always)]
     pub fn down(&mut self, stage: u8, wire: u8) -> DownMove
         requires stage { stage < self.old.k }
         requires wire { wire < 2 ^ self.old.k }
@@ -149,6 +164,21 @@ impl Network {
         let Some(reply) = self.reply_before(stage + 1, wire) else {
             return DownMove::Stalled;
         };
+        self.move_down(stage, wire, reply)
+    }
+
+    /// Moves a reply that is the first on a wire after a stage back over the stage.
+    #[inline(never)]
+    fn move_down(&mut self, stage: u8, wire: u8, reply: Reply) -> DownMove
+        requires stage { stage < self.old.k }
+        requires wire { wire < 2 ^ self.old.k }
+        requires first { slice_get ((net_of self.old).replies (suc stage) wire) 0 ≡ Some reply }
+        ensures outcome { result ≡ (moved_down (sizes_of self.old) (net_of self.old) stage wire).0 }
+        ensures after { net_of self.new ≡ (moved_down (sizes_of self.old) (net_of self.old) stage wire).1 }
+        ensures sizes { sizes_of self.new ≡ sizes_of self.old }
+    {
+        // There are few stages.
+        let _ = &self.k;
         match self.answer(stage, wire, reply) {
             Answered::One => {
                 self.take_reply(stage + 1, wire);
@@ -371,23 +401,25 @@ impl Network {
     }
 
     /// Where the switch that a wire comes from after a stage stands among all.
+    #[tactic(auto, using(crate::proofs::Switches::place_is, crate::proofs::Switches::half_of_wire, crate::proofs::Switches::place_within))]
     fn place_behind(&self, stage: u8, wire: u8) -> usize
         requires stage { stage < self.now.k }
         requires wire { wire < 2 ^ self.now.k }
         ensures exact { result ≡ stage * half self.now.k + wire / 2 }
         ensures within { result < length self.now.switches }
     {
-        usize::from(stage) * switches_per_stage(self.k) + usize::from(wire / 2)
+        (usize::from(stage) * wires_of(self.k) + usize::from(wire)) / 2
     }
 
     /// Where the switch that a wire goes to before a stage stands among all.
+    #[tactic(auto, using(crate::proofs::Switches::place_is, crate::proofs::Switches::half_of_wire, crate::proofs::Switches::place_within))]
     fn place_before(&self, stage: u8, wire: u8) -> usize
         requires stage { stage < self.now.k }
         requires wire { wire < 2 ^ self.now.k }
         ensures exact { result ≡ stage * half self.now.k + switch_of self.now.k wire }
         ensures within { result < length self.now.switches }
     {
-        usize::from(stage) * switches_per_stage(self.k) + usize::from(switch_of(self.k, wire))
+        (usize::from(stage) * wires_of(self.k) + usize::from(rotate_left(self.k, wire))) / 2
     }
 }
 
