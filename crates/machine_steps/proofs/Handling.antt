@@ -73,17 +73,21 @@ module _ (m : MachineLists) (is : IsMachine m) where
 
   -- ---- moves
 
+  -- there are as many wires as ports
+  pub on_a_wire : (w : ℕ) → w < length m.ports → w < 2 ^ m.network.k
+  on_a_wire w within = subst (λ k. w < 2 ^ k) (sym k_is) (subst (λ n. w < n) is.ports.all within)
+
   pub up_no_stage : (s w : ℕ) → m.network.k ≤ s → IsStep m (step.Up s w) Stalled m
   up_no_stage s w past = same (step.Up s w) (no_stage_up c m.code (net_of m.network) m.ports m.modules s w (subst (λ k. k ≤ s) k_is past))
 
-  pub up_no_wire : (s w : ℕ) → 2 ^ m.network.k ≤ w → IsStep m (step.Up s w) Stalled m
-  up_no_wire s w past = same (step.Up s w) (no_wire_up c m.code (net_of m.network) m.ports m.modules s w (subst (λ k. 2 ^ k ≤ w) k_is past))
+  pub up_no_wire : (s w : ℕ) → length m.ports ≤ w → IsStep m (step.Up s w) Stalled m
+  up_no_wire s w past = same (step.Up s w) (no_wire_up c m.code (net_of m.network) m.ports m.modules s w (subst (λ n. n ≤ w) is.ports.all past))
 
   pub down_no_stage : (s w : ℕ) → m.network.k ≤ s → IsStep m (step.Down s w) Stalled m
   down_no_stage s w past = same (step.Down s w) (no_stage_down c m.code (net_of m.network) m.ports m.modules s w (subst (λ k. k ≤ s) k_is past))
 
-  pub down_no_wire : (s w : ℕ) → 2 ^ m.network.k ≤ w → IsStep m (step.Down s w) Stalled m
-  down_no_wire s w past = same (step.Down s w) (no_wire_down c m.code (net_of m.network) m.ports m.modules s w (subst (λ k. 2 ^ k ≤ w) k_is past))
+  pub down_no_wire : (s w : ℕ) → length m.ports ≤ w → IsStep m (step.Down s w) Stalled m
+  down_no_wire s w past = same (step.Down s w) (no_wire_down c m.code (net_of m.network) m.ports m.modules s w (subst (λ n. n ≤ w) is.ports.all past))
 
   pub up_done : (s w : ℕ) (r : UpMove) (net' : NetworkLists) → w < 2 ^ m.network.k → r ≡ (moved_up (network.sizes_of m.network) (net_of m.network) s w).0 → net_of net' ≡ (moved_up (network.sizes_of m.network) (net_of m.network) s w).1 →
       network.sizes_of net' ≡ network.sizes_of m.network → Done m (step.Up s w) (told_of_up r) (with_network m net')

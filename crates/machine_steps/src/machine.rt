@@ -158,6 +158,9 @@ impl Machine {
     }
 
     /// Applies a step, whole, and answers what it did.
+    // A schedule that asks for all steps has many that stall, so their tests are made a part of the
+    // caller. What moves something is called.
+    #[inline(always)]
     pub fn apply(&mut self, step: Step) -> Outcome
         ensures step { IsStep self.old step result self.new }
         ensures outcome { result ≡ outcome_of self.old.config self.old.code (machine_of self.old (λ p. [])) step }
@@ -172,6 +175,7 @@ impl Machine {
     }
 
     /// What a step of each kind does.
+    #[inline(always)]
     fn take(&mut self, step: Step) -> Outcome
         ensures { IsStep self.old step result self.new }
     {
@@ -311,6 +315,7 @@ impl Machine {
     }
 
     /// A turn of a processor.
+    #[inline(always)]
     fn turn(&mut self, p: u8) -> Outcome
         ensures { IsStep self.old (Step.Turn p) result self.new }
     {
@@ -328,6 +333,7 @@ impl Machine {
     }
 
     /// The turn of a processor that runs and is not open.
+    #[inline(always)]
     fn begin(&mut self, p: u8) -> Outcome
         requires there { p < 2 ^ self.old.config.k }
         requires closed { (port_at self.old.ports p).is_open ≡ false }
@@ -339,6 +345,7 @@ impl Machine {
     }
 
     /// The turn of a processor that is open.
+    #[inline(always)]
     fn finish(&mut self, p: u8) -> Outcome
         requires there { p < 2 ^ self.old.config.k }
         requires opened { (port_at self.old.ports p).is_open ≡ true }
@@ -349,32 +356,39 @@ impl Machine {
     }
 
     /// A request goes up a stage.
+    #[inline(always)]
     fn up(&mut self, stage: u8, wire: u8) -> Outcome
         ensures { IsStep self.old (Step.Up stage wire) result self.new }
     {
         if stage >= self.network.stages() {
             return Outcome::Stalled;
         }
-        if wire >= self.network.wires() {
+        // There are as many wires as processors.
+        let place = usize::from(wire);
+        if place >= self.ports.len() {
             return Outcome::Stalled;
         }
         up_outcome(self.network.up(stage, wire))
     }
 
     /// A reply goes down a stage.
+    #[inline(always)]
     fn down(&mut self, stage: u8, wire: u8) -> Outcome
         ensures { IsStep self.old (Step.Down stage wire) result self.new }
     {
         if stage >= self.network.stages() {
             return Outcome::Stalled;
         }
-        if wire >= self.network.wires() {
+        // There are as many wires as processors.
+        let place = usize::from(wire);
+        if place >= self.ports.len() {
             return Outcome::Stalled;
         }
         down_outcome(self.network.down(stage, wire))
     }
 
     /// A module's step.
+    #[inline(always)]
     fn serve(&mut self, m: u8) -> Outcome
         ensures { IsStep self.old (Step.Serve m) result self.new }
     {
@@ -386,6 +400,7 @@ impl Machine {
     }
 
     /// A write from outside.
+    #[inline(never)]
     fn poke(&mut self, poke: Poke) -> Outcome
         ensures { IsStep self.old (Step.Poke poke) result self.new }
     {

@@ -6,13 +6,13 @@ ghost use Rattle.omega_network.specs.Networks.{net_of, sizes_of};
 ghost use Rattle.machine_steps.specs.Serving.{IsExecuted, IsKept};
 
 use memory_module::Module;
-use messages::Reply;
+use messages::{Reply, Request};
 use omega_network::Network;
 use steps::Outcome;
 
 /// The first request at a module is executed, where the module's reply slot is free: the word before
 /// goes into it.
-#[tactic(auto, unfolding(messages::specs::Moves::module_taken))]
+#[inline(always)]
 pub(crate) fn execute(memory: &mut Module, network: &mut Network, m: u8) -> Outcome
     requires few { network.old.k ≤ 6 }
     requires there { m < 2 ^ network.old.k }
@@ -27,6 +27,21 @@ pub(crate) fn execute(memory: &mut Module, network: &mut Network, m: u8) -> Outc
     let Some(request) = network.module_front(m) else {
         return Outcome::Stalled;
     };
+    serve(memory, network, m, request)
+}
+
+/// A request that is the first at a module is executed, where the module's reply slot is free.
+#[inline(never)]
+#[tactic(auto, unfolding(messages::specs::Moves::module_taken))]
+fn serve(memory: &mut Module, network: &mut Network, m: u8, request: Request) -> Outcome
+    requires few { network.old.k ≤ 6 }
+    requires there { m < 2 ^ network.old.k }
+    requires first { slice_get ((net_of network.old).requests network.old.k m) 0 ≡ Some request }
+    requires place { request.word / 2 ^ network.old.k < length memory.old }
+    requires free { (net_of network.old).replies network.old.k m ≡ [] }
+    ensures executed { IsExecuted (sizes_of network.old) m (net_of network.old) memory.old (Some request) result (net_of network.new) memory.new }
+    ensures sizes { sizes_of network.new ≡ sizes_of network.old }
+{
     let k = network.stages();
     network.module_take(m);
     let (leader, phi) = (request.leader, request.phi);

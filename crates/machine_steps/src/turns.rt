@@ -1,20 +1,21 @@
 //! What a port does in its turn, with the network.
 
-ghost use Rattle.std.specs.Prelude.{◌≡◌, ◌<◌, ◌^◌, [], true, false, slice_get};
+ghost use Rattle.std.specs.Prelude.{◌≡◌, ◌<◌, ◌^◌, [], true, false, slice_get, Some};
 ghost use Rattle.flat_machine.specs.State.{is_running};
 ghost use Rattle.hart.specs.Deciding.{IsReference};
 ghost use Rattle.machine_ports.specs.Ports.{begun, turn};
 ghost use Rattle.omega_network.specs.Networks.{net_of, sizes_of};
-ghost use Rattle.machine_program.specs.Turning.{IsBegun, IsFinishedBy};
+ghost use Rattle.machine_program.specs.Turning.{IsBegun, IsFinished, IsFinishedBy};
 
 use local_memory::Code;
 use machine_ports::{Begun, Port};
-use messages::Request;
+use messages::{Reply, Request};
 use omega_network::Network;
 use steps::Outcome;
 
 /// The turn of a port that runs and is not open: the instruction is done, or stops the processor, or
 /// its request is put into the slot.
+#[inline(never)]
 pub(crate) fn begin(port: &mut Port, network: &mut Network, code: &Code, p: u8) -> Outcome
     requires closed { port.old.is_open ≡ false }
     requires running { is_running port.old.core.state.status ≡ true }
@@ -41,6 +42,7 @@ pub(crate) fn begin(port: &mut Port, network: &mut Network, code: &Code, p: u8) 
 }
 
 /// The turn of an open port: it takes its reply, if that is there, and the instruction is done.
+#[inline(always)]
 pub(crate) fn finish(port: &mut Port, network: &mut Network, code: &Code, p: u8) -> Outcome
     requires reference { IsReference (turn port.old code.now) }
     requires there { p < 2 ^ network.old.k }
@@ -50,6 +52,18 @@ pub(crate) fn finish(port: &mut Port, network: &mut Network, code: &Code, p: u8)
     let Some(reply) = network.port_reply(p) else {
         return Outcome::Stalled;
     };
+    retire(port, network, code, p, reply)
+}
+
+/// The turn of an open port whose reply is there: it takes the reply, and the instruction is done.
+#[inline(never)]
+fn retire(port: &mut Port, network: &mut Network, code: &Code, p: u8, reply: Reply) -> Outcome
+    requires reference { IsReference (turn port.old code.now) }
+    requires there { p < 2 ^ network.old.k }
+    requires first { slice_get ((net_of network.old).replies 0 p) 0 ≡ Some reply }
+    ensures finished { IsFinished p (turn port.old code.now) port.old (net_of network.old) reply result port.new (net_of network.new) }
+    ensures sizes { sizes_of network.new ≡ sizes_of network.old }
+{
     network.port_take(p);
     Outcome::Retired(port.finish(code, reply.value))
 }
