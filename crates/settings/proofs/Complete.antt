@@ -10,7 +10,8 @@ use Rattle.clap.specs.Simple.{App, Shape, argument_words, built, built_leaf, ent
 use Rattle.clap.specs.Simple.{subcommand_of}
 use Rattle.clap.specs.Takes.{is_given}
 use Rattle.clap.specs.Walk.{Row, Text, finished, nothing_held, rows_after, settled, walk, walk_from}
-use Rattle.settings.specs.Lines.{HasAsm, HasDis, HasNumber, HasPath, IsComplete, IsWhole, asm_command, dis_command, ultra_command, words_command}
+use Rattle.settings.specs.Lines.{HasAsm, HasDis, HasPath, HasReplay, HasRun, IsComplete, IsWhole, asm_command, budget, dis_command}
+use Rattle.settings.specs.Lines.{queue, records, replay_command, run_command, shared_words, stages, start, ultra_command, words_command}
 use Rattle.settings.proofs.NoHelp.{IsNoHelp, StopsAtNoHelp, walk_stops}
 use Rattle.settings.proofs.Numbers.{number_there}
 use Rattle.settings.proofs.Rows.{required_there}
@@ -18,12 +19,12 @@ use Rattle.settings.proofs.Walks.{neither}
 
 -- clap gives its matches as a function of the words
 pub is_simple_ultra : is_simple ultra_command ≡ true
-unfolding ultra_command words_command asm_command dis_command
+unfolding ultra_command words_command asm_command dis_command run_command replay_command
 is_simple_ultra = refl
 
 -- and the kinds of its errors too
 pub is_free_ultra : is_simple_and_free ultra_command ≡ true
-unfolding ultra_command words_command asm_command dis_command
+unfolding ultra_command words_command asm_command dis_command run_command replay_command
 is_free_ultra = refl
 
 -- a required argument that is missing is a fault
@@ -43,6 +44,14 @@ built_asm = built_leaf asm_command.top
 built_dis : Shape
 unfolding dis_command
 built_dis = built_leaf dis_command.top
+
+built_run : Shape
+unfolding run_command
+built_run = built_leaf run_command.top
+
+built_replay : Shape
+unfolding replay_command
+built_replay = built_leaf replay_command.top
 
 file_there : (words : List Text) → level_fault built_words [] nothing_held words false [] ≡ [] → HasPath (codes "FILE") (rows_after built_words.rules [] words)
 unfolding built_words words_command
@@ -65,12 +74,32 @@ dis_there : (words : List Text) → level_fault built_dis [] nothing_held words 
 unfolding built_dis dis_command
 dis_there words e = (
   required_there built_dis (codes "FILE") words refl (λ rows. required (is_given (codes "FILE") rows)) e,
-  number_there built_dis (codes "words") 1 262144 words refl e,
+  number_there built_dis shared_words words refl e,
+)
+
+run_there : (words : List Text) → level_fault built_run [] nothing_held words false [] ≡ [] → HasRun (rows_after built_run.rules [] words)
+unfolding built_run run_command
+run_there words e = (
+  required_there built_run (codes "FILE") words refl (λ rows. required (is_given (codes "FILE") rows)) e,
+  number_there built_run stages words refl e,
+  number_there built_run queue words refl e,
+  number_there built_run records words refl e,
+  number_there built_run shared_words words refl e,
+  number_there built_run budget words refl e,
+  number_there built_run start words refl e,
+)
+
+replay_there : (words : List Text) → level_fault built_replay [] nothing_held words false [] ≡ [] → HasReplay (rows_after built_replay.rules [] words)
+unfolding built_replay replay_command
+replay_there words e = (
+  required_there built_replay (codes "TRACE") words refl (λ rows h. (both_required (is_given (codes "TRACE") rows) (is_given (codes "FILE") rows) h).0) e,
+  required_there built_replay (codes "FILE") words refl (λ rows h. (both_required (is_given (codes "TRACE") rows) (is_given (codes "FILE") rows) h).1) e,
+  number_there built_replay shared_words words refl e,
 )
 
 -- the program's command, as it is built
 built_ultra : App
-unfolding ultra_command words_command asm_command dis_command
+unfolding ultra_command words_command asm_command dis_command run_command replay_command
 built_ultra = built ultra_command
 
 -- the words name a subcommand, or are a fault
@@ -86,55 +115,87 @@ no_help name e = go (bytes_eq (codes "help") name) refl
     go false is = refl
     go true is = absurd (true≢false (sym ((bytes_eq-Decides name (codes "help")).1 (sym ((bytes_eq-Decides (codes "help") name).0 is))) ∙ e))
 
--- two names that are told apart by their spelling
-told_apart : (x y name : Text) → bytes_eq x y ≡ false → name ≡ x → name ≡ y → ⊥
-told_apart x y name not e f = true≢false (sym ((bytes_eq-Decides x y).1 (sym e ∙ f)) ∙ not)
+-- a name that is one of two texts that are told apart by their spelling is not the other
+apart : {P : Type 0} (x y name : Text) → bytes_eq x y ≡ false → name ≡ x → name ≡ y → P
+apart x y name not e f = absurd (true≢false (sym ((bytes_eq-Decides x y).1 (sym e ∙ f)) ∙ not))
 
 -- the names of the subcommands
 is_words : (name : Text) (rows : List Row) → name ≡ codes "words" → HasPath (codes "FILE") rows → IsWhole name rows
 is_words name rows e has = record {
   known = inl e;
   words = λ _. has;
-  asm = λ f. absurd (told_apart (codes "words") (codes "asm") name refl e f);
-  dis = λ f. absurd (told_apart (codes "words") (codes "dis") name refl e f);
+  asm = apart (codes "words") (codes "asm") name refl e;
+  dis = apart (codes "words") (codes "dis") name refl e;
+  run = apart (codes "words") (codes "run") name refl e;
+  replay = apart (codes "words") (codes "replay") name refl e;
 }
 
 is_asm : (name : Text) (rows : List Row) → name ≡ codes "asm" → HasAsm rows → IsWhole name rows
 is_asm name rows e has = record {
   known = inr (inl e);
-  words = λ f. absurd (told_apart (codes "asm") (codes "words") name refl e f);
+  words = apart (codes "asm") (codes "words") name refl e;
   asm = λ _. has;
-  dis = λ f. absurd (told_apart (codes "asm") (codes "dis") name refl e f);
+  dis = apart (codes "asm") (codes "dis") name refl e;
+  run = apart (codes "asm") (codes "run") name refl e;
+  replay = apart (codes "asm") (codes "replay") name refl e;
 }
 
 is_dis : (name : Text) (rows : List Row) → name ≡ codes "dis" → HasDis rows → IsWhole name rows
 is_dis name rows e has = record {
-  known = inr (inr e);
-  words = λ f. absurd (told_apart (codes "dis") (codes "words") name refl e f);
-  asm = λ f. absurd (told_apart (codes "dis") (codes "asm") name refl e f);
+  known = inr (inr (inl e));
+  words = apart (codes "dis") (codes "words") name refl e;
+  asm = apart (codes "dis") (codes "asm") name refl e;
   dis = λ _. has;
+  run = apart (codes "dis") (codes "run") name refl e;
+  replay = apart (codes "dis") (codes "replay") name refl e;
+}
+
+is_run : (name : Text) (rows : List Row) → name ≡ codes "run" → HasRun rows → IsWhole name rows
+is_run name rows e has = record {
+  known = inr (inr (inr (inl e)));
+  words = apart (codes "run") (codes "words") name refl e;
+  asm = apart (codes "run") (codes "asm") name refl e;
+  dis = apart (codes "run") (codes "dis") name refl e;
+  run = λ _. has;
+  replay = apart (codes "run") (codes "replay") name refl e;
+}
+
+is_replay : (name : Text) (rows : List Row) → name ≡ codes "replay" → HasReplay rows → IsWhole name rows
+is_replay name rows e has = record {
+  known = inr (inr (inr (inr e)));
+  words = apart (codes "replay") (codes "words") name refl e;
+  asm = apart (codes "replay") (codes "asm") name refl e;
+  dis = apart (codes "replay") (codes "dis") name refl e;
+  run = apart (codes "replay") (codes "run") name refl e;
+  replay = λ _. has;
 }
 
 -- the subcommand that a walk stopped at, which is not `help`
 enters : (stop : Option (Text × List Text)) → StopsAtNoHelp stop → entered_fault built_ultra stop ≡ []
     → is_some (entered built_ultra stop) ≡ true → IsComplete (entered built_ultra stop)
-unfolding built_ultra ultra_command words_command asm_command dis_command built_words built_asm built_dis
+unfolding built_ultra ultra_command words_command asm_command dis_command run_command replay_command built_words built_asm built_dis built_run built_replay
 enters None unhelped e has = absurd (true≢false (sym has))
-enters (Some p) unhelped e has = go (bytes_eq (codes "words") p.0) (bytes_eq (codes "asm") p.0) (bytes_eq (codes "dis") p.0) (bytes_eq (codes "help") p.0) (no_help p.0 unhelped) e has
+enters (Some p) unhelped e has =
+    go (bytes_eq (codes "words") p.0) (bytes_eq (codes "asm") p.0) (bytes_eq (codes "dis") p.0) (bytes_eq (codes "run") p.0) (bytes_eq (codes "replay") p.0)
+    (bytes_eq (codes "help") p.0) (no_help p.0 unhelped) e has
   where
     helped : Bool → Option Shape
-    helped d = cond (d || false) (Some (built_leaf (inherited built_ultra.top help_shape))) None
+    helped h = cond (h || false) (Some (built_leaf (inherited built_ultra.top help_shape))) None
 
-    found : Bool → Bool → Bool → Bool → Option Shape
-    found w a b d = cond (w || false) (Some built_words) (cond (a || false) (Some built_asm) (cond (b || false) (Some built_dis) (helped d)))
+    -- the shape of the first whose name is that
+    found : Bool → Bool → Bool → Bool → Bool → Bool → Option Shape
+    found w a d r t h = cond (w || false) (Some built_words) (cond (a || false) (Some built_asm) (cond (d || false) (Some built_dis)
+        (cond (r || false) (Some built_run) (cond (t || false) (Some built_replay) (helped h)))))
 
-    go : (w a b d : Bool) → d ≡ false → option_map_or (λ s. level_fault s [] nothing_held p.1 false []) (found w a b d) [] ≡ []
-        → is_some (option_map (λ s. rows_at s p.1) (found w a b d)) ≡ true → IsComplete (option_map (λ s. rows_at s p.1) (found w a b d))
-    go true a b d other e has = is_words _ _ refl (file_there p.1 e)
-    go false true b d other e has = is_asm _ _ refl (asm_there p.1 e)
-    go false false true d other e has = is_dis _ _ refl (dis_there p.1 e)
-    go false false false true other e has = absurd (true≢false other)
-    go false false false false other e has = absurd (true≢false (sym has))
+    go : (w a d r t h : Bool) → h ≡ false → option_map_or (λ s. level_fault s [] nothing_held p.1 false []) (found w a d r t h) [] ≡ []
+        → is_some (option_map (λ s. rows_at s p.1) (found w a d r t h)) ≡ true → IsComplete (option_map (λ s. rows_at s p.1) (found w a d r t h))
+    go true a d r t h other e has = is_words _ _ refl (file_there p.1 e)
+    go false true d r t h other e has = is_asm _ _ refl (asm_there p.1 e)
+    go false false true r t h other e has = is_dis _ _ refl (dis_there p.1 e)
+    go false false false true t h other e has = is_run _ _ refl (run_there p.1 e)
+    go false false false false true h other e has = is_replay _ _ refl (replay_there p.1 e)
+    go false false false false false true other e has = absurd (true≢false other)
+    go false false false false false false other e has = absurd (true≢false (sym has))
 
 -- words with no fault name a subcommand of the program's own, with all that has to be given
 pub complete : (words : List Text) → fault_of ultra_command words ≡ [] → IsComplete (subcommand_of ultra_command words)

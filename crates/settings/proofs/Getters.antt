@@ -1,10 +1,12 @@
 -- What a getter of clap's matches gives, over plain values.
-use Rattle.std.proofs.Common.{◌≡◌, ◌∙◌, ◌==◌, ◌<◌, ◌≤◌, ◌^◌, ℕ, Bool, cond, ap, sym, arith, true≢false, List, [], ◌∷◌, drop, Option, Some, None, Result, Ok, true, false, option_map, is_some, refl, pos}
+use Rattle.std.proofs.Common.{◌≡◌, ◌∙◌, ◌==◌, ◌<◌, ◌≤◌, ◌^◌, ℕ, Bool, cond, ap, sym, arith, true≢false, [], ◌∷◌, drop, Option, Some, None, Result, Ok, true, false, option_map, is_some, refl, pos, codes}
 use Rattle.std.specs.Prelude.{IfSome, IsSome, MatchOption, unwrap_or}
 use Rattle.std.specs.Borrow.{Bor}
+use Rattle.std.specs.Str.{bytes_eq}
 use Rattle.std.specs.Str.Parse.{IsNumeral, ParsesUnsigned, digits_value, signed_digits_value, starts_with_minus, without_leading_plus}
 use Rattle.std.proofs.lemmas.Bool.{ne_eqb}
 use Rattle.std.proofs.lemmas.Int.{ints}
+use Rattle.std.proofs.lemmas.Slice.Eq.{bytes_eq-Decides}
 use Rattle.std.proofs.lemmas.Str.Parse.{digit_from_value}
 use Rattle.clap.specs.Lexer.{without_minus}
 use Rattle.clap.specs.Words.{IsSignedIn, ReadsOne, Text}
@@ -17,6 +19,23 @@ text_there (Some s) t e there = refl
 
 pub text_given : (o : Option (Bor Text)) (t : Option Text) (s : Bor Text) → option_map (λ s. s.now) o ≡ t → o ≡ Some s → t ≡ Some s.now
 text_given o t s e is = sym e ∙ ap (option_map (λ s. s.now)) is
+
+-- ---- flags
+
+-- the text is there, and is compared
+pub flag_by : (s : Text) (t : Option Text) → Some s ≡ t
+    → (bytes_eq s (codes "true") ≡ true → t ≡ Some (codes "true")) × (t ≡ Some (codes "true") → bytes_eq s (codes "true") ≡ true)
+flag_by s t e = (
+  (λ h. sym e ∙ ap (λ x. Some x) ((bytes_eq-Decides s (codes "true")).0 h)),
+  (λ h. (bytes_eq-Decides s (codes "true")).1 (same s (codes "true") (e ∙ h))),
+)
+  where
+    same : (x y : Text) → Some x ≡ Some y → x ≡ y
+    same x y h = cc
+
+-- no text, so the flag is not set
+pub no_flag : (t : Option Text) → None ≡ t → (false ≡ true → t ≡ Some (codes "true")) × (t ≡ Some (codes "true") → false ≡ true)
+no_flag t e = ((λ h. cc), λ h. cc)
 
 -- ---- numbers
 

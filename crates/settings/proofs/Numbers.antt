@@ -1,5 +1,5 @@
 -- At words with no fault, the text of an option that takes a number in a range spells such a number.
-use Rattle.std.proofs.Common.{◌≡◌, ◌&&◌, ◌||◌, ◌==◌, ◌++◌, ◌+◌, ◌∙◌, ℕ, Bool, cond, true, false, not, refl, sym, ap, subst, true≢false, List, [], ◌∷◌, length, arith, Option, Some, None, pos, negsuc, min, option_map}
+use Rattle.std.proofs.Common.{◌≡◌, ◌&&◌, ◌||◌, ◌==◌, ◌++◌, ◌+◌, ◌∙◌, ℕ, Bool, cond, true, false, not, refl, sym, ap, true≢false, List, [], ◌∷◌, length, arith, Option, Some, None, pos, negsuc, min, option_map}
 use Rattle.std.specs.Prelude.{⊤, IfSome, find, option_and_then, slice_get}
 use Rattle.std.specs.List.{list_all}
 use Rattle.std.specs.Str.{bytes_eq}
@@ -7,13 +7,13 @@ use Rattle.std.proofs.lemmas.Bool.{eqb-true}
 use Rattle.std.proofs.lemmas.Slice.Eq.{bytes_eq-Decides}
 use Rattle.clap.specs.Facts.{parser_of_value}
 use Rattle.clap.specs.Faults.{action_fault, level_fault, repeat_fault, use_fault}
-use Rattle.clap.specs.Kinds.{Kinds, or_else, value_kinds, values_kinds}
+use Rattle.clap.specs.Kinds.{values_kinds}
 use Rattle.clap.specs.Lexer.{without_minus}
 use Rattle.clap.specs.Matches.{count_text}
 use Rattle.clap.specs.Simple.{Shape}
-use Rattle.clap.specs.Values.{IsSignedIn, read_as, refused_kind}
+use Rattle.clap.specs.Values.{IsSignedIn, read_as}
 use Rattle.clap.specs.ValueTests.{is_signed_in}
-use Rattle.clap.specs.Walk.{Row, Rule, Text, action_of, at_row, count_of, default_rows, first_of, has_row, is_empty, more_values, new_count, nothing_held, one_of, reading_by}
+use Rattle.clap.specs.Walk.{Row, Rule, Text, action_of, at_row, count_of, default_rows, has_row, is_empty, more_values, new_count, nothing_held, reading_by}
 use Rattle.clap.specs.Walk.{row_text, rows_after, used, used_as, values_or_missing, with_count, with_default, with_values, without}
 use Rattle.clap.proofs.ValueTestLemmas.{accepts-Accepts}
 use Rattle.clap.proofs.WalkLemmas.{both}
@@ -26,7 +26,7 @@ use Rattle.clap.specs.declared.builder.value_parser.ValueParser.TheVariants as v
 use Rattle.clap.specs.declared.error.kind.ErrorKind.TheVariants as kind
 use Rattle.clap.specs.declared.parser.matches.ValueSource.{ValueSource}
 use Rattle.clap.specs.declared.parser.matches.ValueSource.TheVariants.{DefaultValue, CommandLine}
-use Rattle.settings.specs.Lines.{HasNumber}
+use Rattle.settings.specs.Lines.{HasNumber, Ranged}
 use Rattle.settings.proofs.Walks.{neither, rows_kept}
 
 -- ---- rows
@@ -206,22 +206,23 @@ read_without_minus low high r is first = (ap (λ (how : Reading). option_map (re
     go None h = tt
     go (Some v) h = accepts-Accepts false (vp.Signed (pos low) (pos high)) v h
 
-number_of_rows : (id : Text) (low high : ℕ) (rows : List Row) → AllFit id low high rows → HasNumber id low high rows
-number_of_rows id low high [] h = (refl, tt)
-number_of_rows id low high (r ∷ rs) h = go (bytes_eq r.id id) refl (number_of_rows id low high rs h.1)
+number_of_rows : (o : Ranged) (rows : List Row) → AllFit o.name o.low o.high rows → HasNumber o rows
+number_of_rows o [] h = (refl, tt)
+number_of_rows o (r ∷ rs) h = go (bytes_eq r.id o.name) refl (number_of_rows o rs h.1)
   where
     found : Bool → Option Row
-    found b = cond b (Some r) (find (λ x. bytes_eq x.id id) rs)
+    found b = cond b (Some r) (find (λ x. bytes_eq x.id o.name) rs)
 
-    go : (b : Bool) → bytes_eq r.id id ≡ b → HasNumber id low high rs
+    go : (b : Bool) → bytes_eq r.id o.name ≡ b → HasNumber o rs
         → (option_and_then row_text (found b) ≡ option_map without_minus (option_and_then (λ (x : Row). slice_get x.values 0) (found b)))
-        × IfSome (option_and_then (λ (x : Row). slice_get x.values 0) (found b)) (IsSignedIn (pos low) (pos high))
-    go true is rest = let fits = h.0 is in read_without_minus low high r fits.0 fits.1
+        × IfSome (option_and_then (λ (x : Row). slice_get x.values 0) (found b)) (IsSignedIn (pos o.low) (pos o.high))
+    go true is rest = let fits = h.0 is in read_without_minus o.low o.high r fits.0 fits.1
     go false is rest = rest
 
 -- the option's text, where it has one, spells a number in the range
-pub number_there : (s : Shape) (id : Text) (low high : ℕ) (words : List Text) → list_all (is_apart_or_number id low high) s.rules ≡ true
-    → level_fault s [] nothing_held words false [] ≡ [] → HasNumber id low high (rows_after s.rules [] words)
-number_there s id low high words all e =
-    let kept = rows_kept (AllFit id low high) (is_apart_or_number id low high) (fit_used id low high) (fit_default id low high) tt s words all e in
-    number_of_rows id low high (rows_after s.rules [] words) kept.0
+pub number_there : (s : Shape) (o : Ranged) (words : List Text) → list_all (is_apart_or_number o.name o.low o.high) s.rules ≡ true
+    → level_fault s [] nothing_held words false [] ≡ [] → HasNumber o (rows_after s.rules [] words)
+number_there s o words all e =
+    let good = is_apart_or_number o.name o.low o.high in
+    let kept = rows_kept (AllFit o.name o.low o.high) good (fit_used o.name o.low o.high) (fit_default o.name o.low o.high) tt s words all e in
+    number_of_rows o (rows_after s.rules [] words) kept.0

@@ -1,21 +1,24 @@
--- The command lines `words FILE`, `asm FILE OUT` and `dis FILE`.
-use Rattle.std.proofs.Common.{◌≡◌, ◌∙◌, ◌==◌, ℕ, pos, Bool, true, false, true≢false, refl, sym, ap, subst, inl, inr, arith, List, [], ◌∷◌, Option, None, Some, Result}
+-- The command lines without options.
+use Rattle.std.proofs.Common.{◌≡◌, ◌∙◌, ◌==◌, Bool, true, false, true≢false, refl, sym, ap, subst, inl, inr, arith, List, [], ◌∷◌, Option, None, Some, Result}
 use Rattle.std.proofs.Common.{Ok, Err, IsErrAnd, MatchResult, codes, option_map}
-use Rattle.std.specs.Prelude.{MatchOption}
+use Rattle.std.specs.Borrow.{Bor}
 use Rattle.std.specs.Str.{bytes_eq}
-use Rattle.std.specs.Str.Parse.{signed_digits_value}
 use Rattle.std.proofs.lemmas.Bool.Decides.{nat_tests}
 use Rattle.std.proofs.lemmas.Slice.Eq.{bytes_eq-Decides}
 use Rattle.clap.specs.Lexer.{strip_byte}
 use Rattle.clap.specs.Kinds.{HasKind, IsAmong}
-use Rattle.clap.specs.Words.{Row, Text, fault_of, first_of, kind_of, subcommand_of}
+use Rattle.clap.specs.Words.{Row, Text, fault_of, kind_of, subcommand_of}
+use Rattle.clap.specs.declared.builder.value_parser.Reading.TheVariants.{AsWritten}
+use Rattle.clap.specs.declared.parser.matches.ValueSource.{ValueSource}
+use Rattle.clap.specs.declared.parser.matches.ValueSource.TheVariants.{CommandLine, DefaultValue}
 use Rattle.clap.specs.declared.error.Error.{Error}
 use Rattle.clap.specs.declared.error.kind.ErrorKind.TheVariants.{OutOfMemory}
 use Rattle.settings.specs.declared.choice.Settings.{Settings}
 use Rattle.settings.specs.declared.choice.Settings.TheVariants as asked
 use Rattle.clap.proofs.OnLiterals.{clap_on_literals}
-use Rattle.settings.specs.Lines.{AreAsmOf, AreDisOf, AreWordsOf, IsAsked, IsPlain, NameAsmOf, NameDisOf, NameWordsOf}
-use Rattle.settings.specs.Lines.{asm_command, dis_command, ultra_command, words_command}
+use Rattle.settings.specs.Lines.{AreAsmOf, AreDisOf, AreReplayOf, AreRunOf, AreWordsOf, IsAsked, IsAsm, IsChosen, IsDis, IsPlain, IsReplay, IsRun, IsWords}
+use Rattle.settings.specs.Lines.{Named, NameAsmOf, NameDisOf, NameReplayOf, NameRunOf, NameWordsOf}
+use Rattle.settings.specs.Lines.{asm_command, dis_command, replay_command, run_command, ultra_command, words_command}
 
 no_hyphen : (file : Text) → IsPlain file → strip_byte 45 file ≡ None
 no_hyphen [] h = refl
@@ -33,123 +36,208 @@ no_hyphens file h = go (bytes_eq file (45 ∷ 45 ∷ [])) refl
     go false is = refl
     go true is = absurd (begins file ((bytes_eq-Decides file (45 ∷ 45 ∷ [])).0 is) h)
 
-file_of : Option (Text × List Row) → Option (Option Text)
-file_of = option_map (λ p. first_of (codes "FILE") p.1)
+-- ---- the subcommand and its rows
 
-out_of : Option (Text × List Row) → Option (Option Text)
-out_of = option_map (λ p. first_of (codes "OUT") p.1)
+-- an argument with its one value
+row : Text → Text → ValueSource → Row
+row id value source = record { id = id; values = value ∷ []; count = None; source = Some source; reading = AsWritten }
 
-words_of : Option (Text × List Row) → Option (Option Text)
-words_of = option_map (λ p. first_of (codes "words") p.1)
+-- the subcommand of the settings
+name_of : Settings → Text
+name_of (asked.Words w) = codes "words"
+name_of (asked.Asm a) = codes "asm"
+name_of (asked.Dis d) = codes "dis"
+name_of (asked.Run r) = codes "run"
+name_of (asked.Replay r) = codes "replay"
 
-name_of : Option (Text × List Row) → Option Text
-name_of = option_map (λ p. p.0)
+-- the settings are those of the rows
+abbrev AreOf : List Row → Settings → Type 0
+AreOf rows (asked.Words w) = IsWords rows w
+AreOf rows (asked.Asm a) = IsAsm rows a
+AreOf rows (asked.Dis d) = IsDis rows d
+AreOf rows (asked.Run r) = IsRun rows r
+AreOf rows (asked.Replay r) = IsReplay rows r
+
+same_pair : (x y : Text × List Row) → Some x ≡ Some y → x ≡ y
+same_pair x y e = cc
+
+named_as : (stop : Option (Text × List Row)) (name other : Text) (rows : List Row) (rest : List Row → Type 0) → stop ≡ Some (name, rows) → Named stop other rest
+    → (other ≡ name) × rest rows
+named_as stop name other rows rest is chosen =
+    let pair = same_pair (other, chosen.0) (name, rows) (sym chosen.1 ∙ is) in
+    (ap (λ (p : Text × List Row). p.0) pair, subst rest (ap (λ (p : Text × List Row). p.1) pair) chosen.2)
+
+-- where the subcommand and its rows are known, the settings are of that subcommand, and those of the rows
+chosen_as : (stop : Option (Text × List Row)) (name : Text) (rows : List Row) (s : Settings) → stop ≡ Some (name, rows) → IsChosen stop s → (name_of s ≡ name) × AreOf rows s
+unfolding name_of
+chosen_as stop name rows (asked.Words w) is chosen = named_as stop name (codes "words") rows (λ them. IsWords them w) is chosen
+chosen_as stop name rows (asked.Asm a) is chosen = named_as stop name (codes "asm") rows (λ them. IsAsm them a) is chosen
+chosen_as stop name rows (asked.Dis d) is chosen = named_as stop name (codes "dis") rows (λ them. IsDis them d) is chosen
+chosen_as stop name rows (asked.Run r) is chosen = named_as stop name (codes "run") rows (λ them. IsRun them r) is chosen
+chosen_as stop name rows (asked.Replay r) is chosen = named_as stop name (codes "replay") rows (λ them. IsReplay them r) is chosen
 
 -- one of the program's subcommands is not another
-other_name : (stop : Option (Text × List Row)) (name asked : Text) (rows : List Row) → bytes_eq name asked ≡ false → name_of stop ≡ Some name → stop ≡ Some (asked, rows) → ⊥
-unfolding name_of
-other_name stop name asked rows not is chosen =
-    let both : Some name ≡ Some asked = sym is ∙ ap name_of chosen in
-    let same : name ≡ asked = cc in
-    true≢false (sym ((bytes_eq-Decides name asked).1 same) ∙ not)
+apart : {P : Type 0} (x y : Text) → bytes_eq x y ≡ false → x ≡ y → P
+apart x y not e = absurd (true≢false (sym ((bytes_eq-Decides x y).1 e) ∙ not))
 
 -- ---- `words FILE`
 
-plain_words : (program file : Text) → IsPlain file → fault_of ultra_command (program ∷ codes "words" ∷ file ∷ []) ≡ []
-unfolding clap_on_literals ultra_command words_command asm_command dis_command
-plain_words program file h = rw (no_hyphens file h, no_hyphen file h, no_hyphen file h) refl
+words_fault : (program file : Text) → IsPlain file → fault_of ultra_command (program ∷ codes "words" ∷ file ∷ []) ≡ []
+unfolding clap_on_literals ultra_command words_command asm_command dis_command run_command replay_command
+words_fault program file h = rw (no_hyphens file h, no_hyphen file h, no_hyphen file h) refl
 
-words_name : (program file : Text) → name_of (subcommand_of ultra_command (program ∷ codes "words" ∷ file ∷ [])) ≡ Some (codes "words")
-unfolding name_of clap_on_literals ultra_command words_command asm_command dis_command
-words_name program file = refl
+words_rows : (file : Text) → List Row
+words_rows file = row (codes "FILE") file CommandLine ∷ []
 
-words_file : (program file : Text) → IsPlain file → file_of (subcommand_of ultra_command (program ∷ codes "words" ∷ file ∷ [])) ≡ Some (Some file)
-unfolding file_of clap_on_literals ultra_command words_command asm_command dis_command
-words_file program file h = rw (no_hyphens file h, no_hyphen file h, no_hyphen file h) refl
+words_found : (program file : Text) → IsPlain file → subcommand_of ultra_command (program ∷ codes "words" ∷ file ∷ []) ≡ Some (codes "words", words_rows file)
+unfolding row words_rows clap_on_literals ultra_command words_command asm_command dis_command run_command replay_command
+words_found program file h = rw (no_hyphens file h, no_hyphen file h, no_hyphen file h) refl
+
+words_are : (file : Text) (s : Settings) → (name_of s ≡ codes "words") × AreOf (words_rows file) s → AreWordsOf file s
+unfolding name_of row words_rows
+words_are file (asked.Words w) said = let e : Some file ≡ Some w.file.now = said.1 in cc
+words_are file (asked.Asm a) said = apart (codes "asm") (codes "words") refl said.0
+words_are file (asked.Dis d) said = apart (codes "dis") (codes "words") refl said.0
+words_are file (asked.Run r) said = apart (codes "run") (codes "words") refl said.0
+words_are file (asked.Replay r) said = apart (codes "replay") (codes "words") refl said.0
 
 -- `words FILE` gives the file
 pub words_asked : (words : List Text) (file : Text) (s : Settings) → NameWordsOf file words → IsAsked words s → AreWordsOf file s
-unfolding file_of
-words_asked words file (asked.Words w) named chosen =
-    let stop = subcommand_of ultra_command words in
-    let read : file_of stop ≡ Some (Some w.file.now) = ap file_of chosen.1 ∙ ap (λ t. Some t) chosen.2 in
-    let given : file_of stop ≡ Some (Some file) = ap (λ ws. file_of (subcommand_of ultra_command ws)) named.1 ∙ words_file named.0 file named.2 in
-    cc
-words_asked words file (asked.Asm a) named chosen =
-    other_name _ _ (codes "asm") chosen.0 refl (ap (λ ws. name_of (subcommand_of ultra_command ws)) named.1 ∙ words_name named.0 file) chosen.1
-words_asked words file (asked.Dis d) named chosen =
-    other_name _ _ (codes "dis") chosen.0 refl (ap (λ ws. name_of (subcommand_of ultra_command ws)) named.1 ∙ words_name named.0 file) chosen.1
+words_asked words file s named chosen =
+    let found = ap (subcommand_of ultra_command) named.1 ∙ words_found named.0 file named.2 in
+    words_are file s (chosen_as (subcommand_of ultra_command words) (codes "words") (words_rows file) s found chosen)
 
 -- ---- `asm FILE OUT`
 
-plain_asm : (program file out : Text) → IsPlain file → IsPlain out → fault_of ultra_command (program ∷ codes "asm" ∷ file ∷ out ∷ []) ≡ []
-unfolding clap_on_literals ultra_command words_command asm_command dis_command
-plain_asm program file out h k = rw (no_hyphens file h, no_hyphen file h, no_hyphen file h, no_hyphens out k, no_hyphen out k, no_hyphen out k) refl
+asm_fault : (program file out : Text) → IsPlain file → IsPlain out → fault_of ultra_command (program ∷ codes "asm" ∷ file ∷ out ∷ []) ≡ []
+unfolding clap_on_literals ultra_command words_command asm_command dis_command run_command replay_command
+asm_fault program file out h k = rw (no_hyphens file h, no_hyphen file h, no_hyphen file h, no_hyphens out k, no_hyphen out k, no_hyphen out k) refl
 
-asm_name : (program file out : Text) → name_of (subcommand_of ultra_command (program ∷ codes "asm" ∷ file ∷ out ∷ [])) ≡ Some (codes "asm")
-unfolding name_of clap_on_literals ultra_command words_command asm_command dis_command
-asm_name program file out = refl
+asm_rows : (file out : Text) → List Row
+asm_rows file out = row (codes "FILE") file CommandLine ∷ row (codes "OUT") out CommandLine ∷ []
 
-asm_file : (program file out : Text) → IsPlain file → IsPlain out → file_of (subcommand_of ultra_command (program ∷ codes "asm" ∷ file ∷ out ∷ [])) ≡ Some (Some file)
-unfolding file_of clap_on_literals ultra_command words_command asm_command dis_command
-asm_file program file out h k = rw (no_hyphens file h, no_hyphen file h, no_hyphen file h, no_hyphens out k, no_hyphen out k, no_hyphen out k) refl
+asm_found : (program file out : Text) → IsPlain file → IsPlain out → subcommand_of ultra_command (program ∷ codes "asm" ∷ file ∷ out ∷ []) ≡ Some (codes "asm", asm_rows file out)
+unfolding row asm_rows clap_on_literals ultra_command words_command asm_command dis_command run_command replay_command
+asm_found program file out h k = rw (no_hyphens file h, no_hyphen file h, no_hyphen file h, no_hyphens out k, no_hyphen out k, no_hyphen out k) refl
 
-asm_out : (program file out : Text) → IsPlain file → IsPlain out → out_of (subcommand_of ultra_command (program ∷ codes "asm" ∷ file ∷ out ∷ [])) ≡ Some (Some out)
-unfolding out_of clap_on_literals ultra_command words_command asm_command dis_command
-asm_out program file out h k = rw (no_hyphens file h, no_hyphen file h, no_hyphen file h, no_hyphens out k, no_hyphen out k, no_hyphen out k) refl
+asm_are : (file out : Text) (s : Settings) → (name_of s ≡ codes "asm") × AreOf (asm_rows file out) s → AreAsmOf file out s
+unfolding name_of row asm_rows
+asm_are file out (asked.Words w) said = apart (codes "words") (codes "asm") refl said.0
+asm_are file out (asked.Asm a) said =
+    let e : Some file ≡ Some a.file.now = said.1.0 in
+    let f : Some out ≡ Some a.out.now = said.1.1 in
+    (cc, cc)
+asm_are file out (asked.Dis d) said = apart (codes "dis") (codes "asm") refl said.0
+asm_are file out (asked.Run r) said = apart (codes "run") (codes "asm") refl said.0
+asm_are file out (asked.Replay r) said = apart (codes "replay") (codes "asm") refl said.0
 
 -- `asm FILE OUT` gives both files
 pub asm_asked : (words : List Text) (file out : Text) (s : Settings) → NameAsmOf file out words → IsAsked words s → AreAsmOf file out s
-unfolding file_of out_of
-asm_asked words file out (asked.Asm a) named chosen =
-    let stop = subcommand_of ultra_command words in
-    let read : file_of stop ≡ Some (Some a.file.now) = ap file_of chosen.1 ∙ ap (λ t. Some t) chosen.2.0 in
-    let given : file_of stop ≡ Some (Some file) = ap (λ ws. file_of (subcommand_of ultra_command ws)) named.1 ∙ asm_file named.0 file out named.2 named.3 in
-    let read_out : out_of stop ≡ Some (Some a.out.now) = ap out_of chosen.1 ∙ ap (λ t. Some t) chosen.2.1 in
-    let given_out : out_of stop ≡ Some (Some out) = ap (λ ws. out_of (subcommand_of ultra_command ws)) named.1 ∙ asm_out named.0 file out named.2 named.3 in
-    (cc, cc)
-asm_asked words file out (asked.Words w) named chosen =
-    other_name _ _ (codes "words") chosen.0 refl (ap (λ ws. name_of (subcommand_of ultra_command ws)) named.1 ∙ asm_name named.0 file out) chosen.1
-asm_asked words file out (asked.Dis d) named chosen =
-    other_name _ _ (codes "dis") chosen.0 refl (ap (λ ws. name_of (subcommand_of ultra_command ws)) named.1 ∙ asm_name named.0 file out) chosen.1
+asm_asked words file out s named chosen =
+    let found = ap (subcommand_of ultra_command) named.1 ∙ asm_found named.0 file out named.2 named.3 in
+    asm_are file out s (chosen_as (subcommand_of ultra_command words) (codes "asm") (asm_rows file out) s found chosen)
 
 -- ---- `dis FILE`
 
-plain_dis : (program file : Text) → IsPlain file → fault_of ultra_command (program ∷ codes "dis" ∷ file ∷ []) ≡ []
-unfolding clap_on_literals ultra_command words_command asm_command dis_command
-plain_dis program file h = rw (no_hyphens file h, no_hyphen file h, no_hyphen file h) refl
+dis_fault : (program file : Text) → IsPlain file → fault_of ultra_command (program ∷ codes "dis" ∷ file ∷ []) ≡ []
+unfolding clap_on_literals ultra_command words_command asm_command dis_command run_command replay_command
+dis_fault program file h = rw (no_hyphens file h, no_hyphen file h, no_hyphen file h) refl
 
-dis_name : (program file : Text) → name_of (subcommand_of ultra_command (program ∷ codes "dis" ∷ file ∷ [])) ≡ Some (codes "dis")
-unfolding name_of clap_on_literals ultra_command words_command asm_command dis_command
-dis_name program file = refl
+dis_rows : (file : Text) → List Row
+dis_rows file = row (codes "FILE") file CommandLine ∷ []
 
-dis_file : (program file : Text) → IsPlain file → file_of (subcommand_of ultra_command (program ∷ codes "dis" ∷ file ∷ [])) ≡ Some (Some file)
-unfolding file_of clap_on_literals ultra_command words_command asm_command dis_command
-dis_file program file h = rw (no_hyphens file h, no_hyphen file h, no_hyphen file h) refl
+dis_found : (program file : Text) → IsPlain file → subcommand_of ultra_command (program ∷ codes "dis" ∷ file ∷ []) ≡ Some (codes "dis", dis_rows file)
+unfolding row dis_rows clap_on_literals ultra_command words_command asm_command dis_command run_command replay_command
+dis_found program file h = rw (no_hyphens file h, no_hyphen file h, no_hyphen file h) refl
 
-dis_words : (program file : Text) → IsPlain file → words_of (subcommand_of ultra_command (program ∷ codes "dis" ∷ file ∷ [])) ≡ Some None
-unfolding words_of clap_on_literals ultra_command words_command asm_command dis_command
-dis_words program file h = rw (no_hyphens file h, no_hyphen file h, no_hyphen file h) refl
-
--- an option with no text has its default
-default_taken : (first : Option Text) (n default : ℕ) → first ≡ None → MatchOption first (n ≡ default) (λ text. pos n ≡ signed_digits_value 10 text) → n ≡ default
-default_taken None n default e h = h
-default_taken (Some text) n default e h = cc
+dis_are : (file : Text) (s : Settings) → (name_of s ≡ codes "dis") × AreOf (dis_rows file) s → AreDisOf file s
+unfolding name_of row dis_rows
+dis_are file (asked.Words w) said = apart (codes "words") (codes "dis") refl said.0
+dis_are file (asked.Asm a) said = apart (codes "asm") (codes "dis") refl said.0
+dis_are file (asked.Dis d) said =
+    let e : Some file ≡ Some d.file.now = said.1.0 in
+    (cc, said.1.1.0)
+dis_are file (asked.Run r) said = apart (codes "run") (codes "dis") refl said.0
+dis_are file (asked.Replay r) said = apart (codes "replay") (codes "dis") refl said.0
 
 -- `dis FILE` gives the file, for 1,024 words
 pub dis_asked : (words : List Text) (file : Text) (s : Settings) → NameDisOf file words → IsAsked words s → AreDisOf file s
-unfolding file_of words_of
-dis_asked words file (asked.Dis d) named chosen =
-    let stop = subcommand_of ultra_command words in
-    let read : file_of stop ≡ Some (Some d.file.now) = ap file_of chosen.1 ∙ ap (λ t. Some t) chosen.2.0 in
-    let given : file_of stop ≡ Some (Some file) = ap (λ ws. file_of (subcommand_of ultra_command ws)) named.1 ∙ dis_file named.0 file named.2 in
-    let read_words : words_of stop ≡ Some (first_of (codes "words") chosen.0) = ap words_of chosen.1 in
-    let given_words : words_of stop ≡ Some None = ap (λ ws. words_of (subcommand_of ultra_command ws)) named.1 ∙ dis_words named.0 file named.2 in
-    (cc, default_taken (first_of (codes "words") chosen.0) d.words 1024 (cc) chosen.2.1.0)
-dis_asked words file (asked.Words w) named chosen =
-    other_name _ _ (codes "words") chosen.0 refl (ap (λ ws. name_of (subcommand_of ultra_command ws)) named.1 ∙ dis_name named.0 file) chosen.1
-dis_asked words file (asked.Asm a) named chosen =
-    other_name _ _ (codes "asm") chosen.0 refl (ap (λ ws. name_of (subcommand_of ultra_command ws)) named.1 ∙ dis_name named.0 file) chosen.1
+dis_asked words file s named chosen =
+    let found = ap (subcommand_of ultra_command) named.1 ∙ dis_found named.0 file named.2 in
+    dis_are file s (chosen_as (subcommand_of ultra_command words) (codes "dis") (dis_rows file) s found chosen)
+
+-- ---- `run FILE`
+
+run_fault : (program file : Text) → IsPlain file → fault_of ultra_command (program ∷ codes "run" ∷ file ∷ []) ≡ []
+unfolding clap_on_literals ultra_command words_command asm_command dis_command run_command replay_command
+run_fault program file h = rw (no_hyphens file h, no_hyphen file h, no_hyphen file h) refl
+
+run_rows : (file : Text) → List Row
+run_rows file = row (codes "FILE") file CommandLine ∷ row (codes "sweep") (codes "false") DefaultValue ∷ []
+
+run_found : (program file : Text) → IsPlain file → subcommand_of ultra_command (program ∷ codes "run" ∷ file ∷ []) ≡ Some (codes "run", run_rows file)
+unfolding row run_rows clap_on_literals ultra_command words_command asm_command dis_command run_command replay_command
+run_found program file h = rw (no_hyphens file h, no_hyphen file h, no_hyphen file h) refl
+
+no_text : (o : Option (Bor Text)) → None ≡ option_map (λ t. t.now) o → o ≡ None
+no_text None e = refl
+no_text (Some t) e = cc
+
+unset : (b : Bool) → (b ≡ true → Some (codes "false") ≡ Some (codes "true")) → b ≡ false
+unset false f = refl
+unset true f = let bad : Some (codes "false") ≡ Some (codes "true") = f refl in cc
+
+run_are : (file : Text) (s : Settings) → (name_of s ≡ codes "run") × AreOf (run_rows file) s → AreRunOf file s
+unfolding name_of row run_rows
+run_are file (asked.Words w) said = apart (codes "words") (codes "run") refl said.0
+run_are file (asked.Asm a) said = apart (codes "asm") (codes "run") refl said.0
+run_are file (asked.Dis d) said = apart (codes "dis") (codes "run") refl said.0
+run_are file (asked.Run r) said =
+    let e : Some file ≡ Some r.file.now = said.1.0 in
+    let k = said.1.3 in
+    let c = said.1.4 in
+    let b = said.1.5 in
+    let words = said.1.6 in
+    let budget = said.1.7 in
+    let start = said.1.8 in
+    (cc, no_text r.trace said.1.1, unset r.sweep said.1.2.0, k.0, c.0, b.0, words.0, budget.0, start.0)
+run_are file (asked.Replay r) said = apart (codes "replay") (codes "run") refl said.0
+
+-- `run FILE` gives the file, no trace, no flag, and each number its default
+pub run_asked : (words : List Text) (file : Text) (s : Settings) → NameRunOf file words → IsAsked words s → AreRunOf file s
+run_asked words file s named chosen =
+    let found = ap (subcommand_of ultra_command) named.1 ∙ run_found named.0 file named.2 in
+    run_are file s (chosen_as (subcommand_of ultra_command words) (codes "run") (run_rows file) s found chosen)
+
+-- ---- `replay TRACE FILE`
+
+replay_fault : (program trace file : Text) → IsPlain trace → IsPlain file → fault_of ultra_command (program ∷ codes "replay" ∷ trace ∷ file ∷ []) ≡ []
+unfolding clap_on_literals ultra_command words_command asm_command dis_command run_command replay_command
+replay_fault program trace file h k = rw (no_hyphens trace h, no_hyphen trace h, no_hyphen trace h, no_hyphens file k, no_hyphen file k, no_hyphen file k) refl
+
+replay_rows : (trace file : Text) → List Row
+replay_rows trace file = row (codes "TRACE") trace CommandLine ∷ row (codes "FILE") file CommandLine ∷ []
+
+replay_found : (program trace file : Text) → IsPlain trace → IsPlain file → subcommand_of ultra_command (program ∷ codes "replay" ∷ trace ∷ file ∷ []) ≡ Some (codes "replay", replay_rows trace file)
+unfolding row replay_rows clap_on_literals ultra_command words_command asm_command dis_command run_command replay_command
+replay_found program trace file h k = rw (no_hyphens trace h, no_hyphen trace h, no_hyphen trace h, no_hyphens file k, no_hyphen file k, no_hyphen file k) refl
+
+replay_are : (trace file : Text) (s : Settings) → (name_of s ≡ codes "replay") × AreOf (replay_rows trace file) s → AreReplayOf trace file s
+unfolding name_of row replay_rows
+replay_are trace file (asked.Words w) said = apart (codes "words") (codes "replay") refl said.0
+replay_are trace file (asked.Asm a) said = apart (codes "asm") (codes "replay") refl said.0
+replay_are trace file (asked.Dis d) said = apart (codes "dis") (codes "replay") refl said.0
+replay_are trace file (asked.Run r) said = apart (codes "run") (codes "replay") refl said.0
+replay_are trace file (asked.Replay r) said =
+    let e : Some trace ≡ Some r.trace.now = said.1.0 in
+    let f : Some file ≡ Some r.file.now = said.1.1 in
+    (cc, cc, said.1.2.0)
+
+-- `replay TRACE FILE` gives both files, for 1,024 words
+pub replay_asked : (words : List Text) (trace file : Text) (s : Settings) → NameReplayOf trace file words → IsAsked words s → AreReplayOf trace file s
+replay_asked words trace file s named chosen =
+    let found = ap (subcommand_of ultra_command) named.1 ∙ replay_found named.0 trace file named.2 named.3 in
+    replay_are trace file s (chosen_as (subcommand_of ultra_command words) (codes "replay") (replay_rows trace file) s found chosen)
 
 -- ---- want of memory
 
@@ -165,12 +253,20 @@ memory_short Q (Err y) e words none is kinds = ap kind_of is ∙ go kinds
 
 pub words_short : (r : Result Settings Error) (e : Error) (words : List Text) (file : Text) → NameWordsOf file words → IsErrAnd r (λ y. y ≡ e)
     → HasKind (fault_of ultra_command words) e → MatchResult r (AreWordsOf file) (λ y. kind_of y ≡ OutOfMemory)
-words_short r e words file named = memory_short (AreWordsOf file) r e words (ap (fault_of ultra_command) named.1 ∙ plain_words named.0 file named.2)
+words_short r e words file named = memory_short (AreWordsOf file) r e words (ap (fault_of ultra_command) named.1 ∙ words_fault named.0 file named.2)
 
 pub asm_short : (r : Result Settings Error) (e : Error) (words : List Text) (file out : Text) → NameAsmOf file out words → IsErrAnd r (λ y. y ≡ e)
     → HasKind (fault_of ultra_command words) e → MatchResult r (AreAsmOf file out) (λ y. kind_of y ≡ OutOfMemory)
-asm_short r e words file out named = memory_short (AreAsmOf file out) r e words (ap (fault_of ultra_command) named.1 ∙ plain_asm named.0 file out named.2 named.3)
+asm_short r e words file out named = memory_short (AreAsmOf file out) r e words (ap (fault_of ultra_command) named.1 ∙ asm_fault named.0 file out named.2 named.3)
 
 pub dis_short : (r : Result Settings Error) (e : Error) (words : List Text) (file : Text) → NameDisOf file words → IsErrAnd r (λ y. y ≡ e)
     → HasKind (fault_of ultra_command words) e → MatchResult r (AreDisOf file) (λ y. kind_of y ≡ OutOfMemory)
-dis_short r e words file named = memory_short (AreDisOf file) r e words (ap (fault_of ultra_command) named.1 ∙ plain_dis named.0 file named.2)
+dis_short r e words file named = memory_short (AreDisOf file) r e words (ap (fault_of ultra_command) named.1 ∙ dis_fault named.0 file named.2)
+
+pub run_short : (r : Result Settings Error) (e : Error) (words : List Text) (file : Text) → NameRunOf file words → IsErrAnd r (λ y. y ≡ e)
+    → HasKind (fault_of ultra_command words) e → MatchResult r (AreRunOf file) (λ y. kind_of y ≡ OutOfMemory)
+run_short r e words file named = memory_short (AreRunOf file) r e words (ap (fault_of ultra_command) named.1 ∙ run_fault named.0 file named.2)
+
+pub replay_short : (r : Result Settings Error) (e : Error) (words : List Text) (trace file : Text) → NameReplayOf trace file words → IsErrAnd r (λ y. y ≡ e)
+    → HasKind (fault_of ultra_command words) e → MatchResult r (AreReplayOf trace file) (λ y. kind_of y ≡ OutOfMemory)
+replay_short r e words trace file named = memory_short (AreReplayOf trace file) r e words (ap (fault_of ultra_command) named.1 ∙ replay_fault named.0 trace file named.2 named.3)

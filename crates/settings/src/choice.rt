@@ -6,6 +6,8 @@ pub enum Settings<'a> {
     Words(Words<'a>),
     Asm(Asm<'a>),
     Dis(Dis<'a>),
+    Run(Run<'a>),
+    Replay(Replay<'a>),
 }
 
 /// `words FILE`.
@@ -29,5 +31,39 @@ pub struct Dis<'a> {
     /// The image.
     pub file: &'a str,
     /// How many shared words the machine has that the image is read for, from 1 to 262,144.
+    pub words: u32,
+}
+
+/// `run FILE`, with the sizes of the machine that the image is run on.
+#[derive(Debug, PartialEq, Eq, Drop)]
+pub struct Run<'a> {
+    /// The image.
+    pub file: &'a str,
+    /// Where the trace of the run is written, if anywhere.
+    pub trace: Option<&'a str>,
+    /// Whether the schedule is to be the sweep.
+    pub sweep: bool,
+    /// How many stages of switches the network has, from 0 to 6, so 2^`k` processors and modules.
+    pub k: u8,
+    /// How many messages a queue of a switch holds, from 2 to 16.
+    pub c: u8,
+    /// How many records a wait buffer of a switch holds, from 0 to 16.
+    pub b: u8,
+    /// How many shared words the machine has, from 1 to 262,144.
+    pub words: u32,
+    /// How long the run may take, from 1. The schedule says what is counted.
+    pub budget: u32,
+    /// Where the choices of the schedule begin: any number. The sweep chooses nothing.
+    pub start: u32,
+}
+
+/// `replay TRACE FILE`.
+#[derive(Debug, PartialEq, Eq, Drop)]
+pub struct Replay<'a> {
+    /// The trace, which has the other sizes of its machine.
+    pub trace: &'a str,
+    /// The image.
+    pub file: &'a str,
+    /// How many shared words the machine has, from 1 to 262,144.
     pub words: u32,
 }

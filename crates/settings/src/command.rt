@@ -1,56 +1,24 @@
 //! The command that `clap` parses.
 ghost use Rattle.std.specs.Prelude.{◌≡◌, false, IfOk};
-ghost use Rattle.clap.specs.Words.{app_of, rule_of, with_rule, with_subcommand};
+ghost use Rattle.clap.specs.Words.{app_of, new_app, with_subcommand};
 ghost use Rattle.clap.specs.declared.builder.command.Command.TheViews.{out-Command};
-ghost use Rattle.settings.specs.Lines.{path, number, program, with_file, with_words, words_command, asm_command, dis_command, ultra_command};
+ghost use Rattle.settings.specs.Lines.{program, with_sizes, words_command, asm_command, dis_command, run_command, replay_command, ultra_command};
 
-use clap::{Arg, Command};
+use crate::args::{flag_arg, option_arg, path_arg, with, with_file, with_number};
+use crate::help::{ASM_ENDS, DIS_ENDS, REPLAY_ENDS, RUN_ENDS};
+use crate::ranges::{BUDGET, QUEUE, RECORDS, SHARED_WORDS, STAGES, START};
+use clap::Command;
 use std::alloc::{AllocError, Global};
 
-/// What `asm` tells, and its exit statuses.
-const ASM_ENDS: &str = "\
-Faults are told on standard error, as `ultra: A3 line 2`, and then OUT is not opened: A1 unknown
-first word, A2 form, A3 number out of range or place not divisible by 4, A4 label twice, A5 label
-missing, A6 section full, each with its line.
+/// What an image is, where it is read.
+const IMAGE_HELP: &str = "An image, as `ultra asm` writes it";
 
-Exit status: 0 done, 2 a fault of the text or of the command line, 3 FILE cannot be read or is not
-UTF-8 (`link`) or OUT cannot be written (`I9`), 4 no memory.";
-
-/// What `dis` prints and tells, and its exit statuses.
-const DIS_ENDS: &str = "\
-Each line is an address, the word there and its instruction, as `00010000 00100073 ebreak`; `-`
-stands where the word is no instruction.
-
-Exit status: 0 done, 2 a refused image (`ultra: I1` to `I8`) or command line, 3 FILE cannot be opened
-(`link`) or read (`I9`) or standard output cannot be written (`link`), 4 no memory.";
-
-fn path_arg<'a>(alloc: Global, id: &'a str, help: &'a str) -> Arg<'a>
-    ensures rule { rule_of result ≡ path id.entry.now }
-    ensures global { result.global ≡ false }
+/// A command as yet with no argument, with what its help says first and last.
+fn described<'a>(alloc: Global, name: &'a str, about: &'a str, ends: &'a str) -> Command<'a>
+    ensures app { app_of result ≡ new_app name.entry.now }
+    ensures globals { (out-Command result).has_globals ≡ false }
 {
-    Arg::new(alloc, id).required(true).help(help)
-}
-
-// An option whose value is a number in a range.
-fn number_arg<'a>(alloc: Global, name: &'a str, low: u32, high: u32, help: &'a str) -> Arg<'a>
-    ensures rule { rule_of result ≡ number name.entry.now low high }
-    ensures global { result.global ≡ false }
-{
-    Arg::new(alloc, name)
-        .long(name)
-        .value_name("NUMBER")
-        .value_parser(clap::value_parser!(u32).range(i64::from(low)..=i64::from(high)))
-        .help(help)
-}
-
-// The command with one more argument.
-fn with<'a>(command: Command<'a>, arg: Arg<'a>) -> Result<Command<'a>, AllocError>
-    requires command { (out-Command command).has_globals ≡ false }
-    requires arg { arg.global ≡ false }
-    ensures shape { IfOk result (λ c. app_of c ≡ with_rule (app_of command.entry) (rule_of arg.entry)) }
-    ensures globals { IfOk result (λ c. (out-Command c).has_globals ≡ false) }
-{
-    command.arg(arg)
+    Command::new(alloc, name).about(about).after_help(ends)
 }
 
 // The command with one more subcommand.
@@ -63,34 +31,16 @@ fn above<'a>(command: Command<'a>, subcommand: Command<'a>) -> Result<Command<'a
     command.subcommand(subcommand)
 }
 
-fn with_file<'a>(
-    alloc: Global,
-    command: Command<'a>,
-    help: &'a str,
-) -> Result<Command<'a>, AllocError>
+// The command with a machine's sizes.
+fn with_sizes<'a>(alloc: Global, command: Command<'a>) -> Result<Command<'a>, AllocError>
     requires { (out-Command command).has_globals ≡ false }
-    ensures shape { IfOk result (λ c. app_of c ≡ with_file (app_of command.entry)) }
+    ensures shape { IfOk result (λ c. app_of c ≡ with_sizes (app_of command.entry)) }
     ensures globals { IfOk result (λ c. (out-Command c).has_globals ≡ false) }
 {
-    with(command, path_arg(alloc, "FILE", help))
-}
-
-// How many shared words the machine has that an image is read for.
-fn with_words<'a>(alloc: Global, command: Command<'a>) -> Result<Command<'a>, AllocError>
-    requires { (out-Command command).has_globals ≡ false }
-    ensures shape { IfOk result (λ c. app_of c ≡ with_words (app_of command.entry)) }
-    ensures globals { IfOk result (λ c. (out-Command c).has_globals ≡ false) }
-{
-    with(
-        command,
-        number_arg(
-            alloc,
-            "words",
-            1,
-            262_144,
-            "Shared words of four bytes that the machine has, 1 to 262144 [default: 1024]",
-        ),
-    )
+    let command = with_number(alloc, command, STAGES)?;
+    let command = with_number(alloc, command, QUEUE)?;
+    let command = with_number(alloc, command, RECORDS)?;
+    with_number(alloc, command, SHARED_WORDS)
 }
 
 #[tactic(auto, unfolding(crate::specs::Lines::words_command))]
@@ -113,11 +63,12 @@ fn asm_shape<'a>(alloc: Global) -> Result<Command<'a>, AllocError>
     ensures shape { IfOk result (λ c. app_of c ≡ asm_command) }
     ensures globals { IfOk result (λ c. (out-Command c).has_globals ≡ false) }
 {
-    let command = Command::new(alloc, "asm")
-        .about(
-            "Assemble a text to an image, which says what stands at which address when a machine starts",
-        )
-        .after_help(ASM_ENDS);
+    let command = described(
+        alloc,
+        "asm",
+        "Assemble a text to an image, which says what stands at which address when a machine starts",
+        ASM_ENDS,
+    );
     let command = with_file(
         alloc,
         command,
@@ -138,11 +89,71 @@ fn dis_shape<'a>(alloc: Global) -> Result<Command<'a>, AllocError>
     ensures shape { IfOk result (λ c. app_of c ≡ dis_command) }
     ensures globals { IfOk result (λ c. (out-Command c).has_globals ≡ false) }
 {
-    let command = Command::new(alloc, "dis")
-        .about("Print the code of an image, a line for each word up to the last that is not zero")
-        .after_help(DIS_ENDS);
-    let command = with_file(alloc, command, "An image, as `ultra asm` writes it")?;
-    with_words(alloc, command)
+    let command = described(
+        alloc,
+        "dis",
+        "Print the code of an image, a line for each word up to the last that is not zero",
+        DIS_ENDS,
+    );
+    let command = with_file(alloc, command, IMAGE_HELP)?;
+    with_number(alloc, command, SHARED_WORDS)
+}
+
+#[tactic(auto, unfolding(crate::specs::Lines::run_command))]
+fn run_shape<'a>(alloc: Global) -> Result<Command<'a>, AllocError>
+    ensures shape { IfOk result (λ c. app_of c ≡ run_command) }
+    ensures globals { IfOk result (λ c. (out-Command c).has_globals ≡ false) }
+{
+    let command = described(
+        alloc,
+        "run",
+        "Run an image on a machine of up to 64 processors and print its report",
+        RUN_ENDS,
+    );
+    let command = with_file(alloc, command, IMAGE_HELP)?;
+    let command = with(
+        command,
+        option_arg(
+            alloc,
+            "trace",
+            "OUT",
+            "Where to write the steps of the run, for `ultra replay`; opened only once the run is over",
+        ),
+    )?;
+    let command = with(
+        command,
+        flag_arg(
+            alloc,
+            "sweep",
+            "Run by the sweep, on one thread; each run does at this stage",
+        ),
+    )?;
+    let command = with_sizes(alloc, command)?;
+    let command = with_number(alloc, command, BUDGET)?;
+    with_number(alloc, command, START)
+}
+
+#[tactic(auto, unfolding(crate::specs::Lines::replay_command))]
+fn replay_shape<'a>(alloc: Global) -> Result<Command<'a>, AllocError>
+    ensures shape { IfOk result (λ c. app_of c ≡ replay_command) }
+    ensures globals { IfOk result (λ c. (out-Command c).has_globals ≡ false) }
+{
+    let command = described(
+        alloc,
+        "replay",
+        "Take the steps of a trace on a machine that opens on an image, and print its report",
+        REPLAY_ENDS,
+    );
+    let command = with(
+        command,
+        path_arg(alloc, "TRACE", "A trace, as `ultra run --trace` writes it"),
+    )?;
+    let command = with_file(
+        alloc,
+        command,
+        "The image of that run, as `ultra asm` writes it",
+    )?;
+    with_number(alloc, command, SHARED_WORDS)
 }
 
 /// The program, as yet with no subcommand.
@@ -163,5 +174,7 @@ pub(crate) fn ultra_shape<'a>(alloc: Global) -> Result<Command<'a>, AllocError>
 {
     let command = above(program_shape(alloc), words_shape(alloc)?)?;
     let command = above(command, asm_shape(alloc)?)?;
-    above(command, dis_shape(alloc)?)
+    let command = above(command, dis_shape(alloc)?)?;
+    let command = above(command, run_shape(alloc)?)?;
+    above(command, replay_shape(alloc)?)
 }

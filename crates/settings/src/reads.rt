@@ -1,9 +1,11 @@
 //! What the matches of a subcommand say.
-ghost use Rattle.std.specs.Prelude.{◌≤◌, codes};
+ghost use Rattle.std.specs.Prelude.{◌≡◌, ◌≤◌, ◌<◌, ◌^◌, codes, option_map};
 ghost use Rattle.clap.specs.Words.{found_of, rows_of, subcommand_rows_of};
-ghost use Rattle.settings.specs.Lines.{IsPath, IsNumber, IsWords, IsAsm, IsDis, IsChosen, HasPath, HasNumber, HasAsm, HasDis, IsComplete};
+ghost use Rattle.settings.specs.Lines.{IsPath, IsOption, IsFlag, IsNumber, IsWords, IsAsm, IsDis, IsRun, IsReplay, IsChosen, HasPath, HasNumber, HasAsm, HasDis, HasRun, HasReplay, IsComplete};
+ghost use Rattle.settings.specs.Options.{ranged, ranged_as};
 
-use crate::choice::{Asm, Dis, Settings, Words};
+use crate::choice::{Asm, Dis, Replay, Run, Settings, Words};
+use crate::ranges::{BUDGET, NumberOption, QUEUE, RECORDS, SHARED_WORDS, STAGES, START};
 use clap::ArgMatches;
 
 /// A file that has to be given.
@@ -14,14 +16,58 @@ fn path<'a>(matches: &ArgMatches<'a>, id: &str) -> &'a str
     matches.get_str(id).unwrap()
 }
 
-/// The number of an option, or its default.
-fn number(matches: &ArgMatches<'_>, id: &str, default: u32, low: u32, high: u32) -> u32
-    requires text { HasNumber id.now low high (rows_of (found_of matches.now)) }
+/// A file that need not be given.
+fn option<'a>(matches: &ArgMatches<'a>, id: &str) -> Option<&'a str>
+    ensures { IsOption id.now (rows_of (found_of matches.now)) (option_map (λ file. file.now) result) }
+{
+    matches.get_str(id)
+}
+
+/// Whether a flag is given.
+fn flag(matches: &ArgMatches<'_>, id: &str) -> bool
+    ensures { IsFlag id.now (rows_of (found_of matches.now)) result }
+{
+    match matches.get_str(id) {
+        Some(text) => text == "true",
+        None => false,
+    }
+}
+
+/// The number of the option of a name, or its default.
+fn number_of(matches: &ArgMatches<'_>, id: &str, default: u32, low: u32, high: u32) -> u32
+    requires text { HasNumber (ranged_as id.now default low high) (rows_of (found_of matches.now)) }
     requires least { low ≤ default }
     requires most { default ≤ high }
-    ensures { IsNumber id.now default low high (rows_of (found_of matches.now)) result }
+    ensures { IsNumber (ranged_as id.now default low high) (rows_of (found_of matches.now)) result }
 {
     matches.get_one::<u32>(id).unwrap_or(default)
+}
+
+/// The number of an option, or its default.
+fn number(matches: &ArgMatches<'_>, option: NumberOption) -> u32
+    requires text { HasNumber (ranged option) (rows_of (found_of matches.now)) }
+    requires least { option.low ≤ option.default }
+    requires most { option.default ≤ option.high }
+    ensures { IsNumber (ranged option) (rows_of (found_of matches.now)) result }
+{
+    number_of(
+        matches,
+        option.name,
+        option.default,
+        option.low,
+        option.high,
+    )
+}
+
+/// The same, of an option whose numbers are bytes.
+fn byte(matches: &ArgMatches<'_>, option: NumberOption) -> u8
+    requires text { HasNumber (ranged option) (rows_of (found_of matches.now)) }
+    requires least { option.low ≤ option.default }
+    requires most { option.default ≤ option.high }
+    requires byte { option.high < 2 ^ 8 }
+    ensures { IsNumber (ranged option) (rows_of (found_of matches.now)) result }
+{
+    number(matches, option) as u8
 }
 
 fn words<'a>(matches: &ArgMatches<'a>) -> Words<'a>
@@ -49,7 +95,35 @@ fn dis<'a>(matches: &ArgMatches<'a>) -> Dis<'a>
 {
     Dis {
         file: path(matches, "FILE"),
-        words: number(matches, "words", 1024, 1, 262_144),
+        words: number(matches, SHARED_WORDS),
+    }
+}
+
+fn run<'a>(matches: &ArgMatches<'a>) -> Run<'a>
+    requires { HasRun (rows_of (found_of matches.now)) }
+    ensures { IsRun (rows_of (found_of matches.now)) result }
+{
+    Run {
+        file: path(matches, "FILE"),
+        trace: option(matches, "trace"),
+        sweep: flag(matches, "sweep"),
+        k: byte(matches, STAGES),
+        c: byte(matches, QUEUE),
+        b: byte(matches, RECORDS),
+        words: number(matches, SHARED_WORDS),
+        budget: number(matches, BUDGET),
+        start: number(matches, START),
+    }
+}
+
+fn replay<'a>(matches: &ArgMatches<'a>) -> Replay<'a>
+    requires { HasReplay (rows_of (found_of matches.now)) }
+    ensures { IsReplay (rows_of (found_of matches.now)) result }
+{
+    Replay {
+        trace: path(matches, "TRACE"),
+        file: path(matches, "FILE"),
+        words: number(matches, SHARED_WORDS),
     }
 }
 
@@ -63,6 +137,8 @@ pub(crate) fn chosen<'a>(matches: &ArgMatches<'a>) -> Settings<'a>
         "words" => Settings::Words(words(inner)),
         "asm" => Settings::Asm(asm(inner)),
         "dis" => Settings::Dis(dis(inner)),
+        "run" => Settings::Run(run(inner)),
+        "replay" => Settings::Replay(replay(inner)),
         _ => unreachable!(),
     }
 }

@@ -1,8 +1,13 @@
 //! What no clause says: the texts of the errors, that right words are taken where there is memory, and what an
 //! allocation that is refused leaves of an error's text.
 
+mod replay;
+mod run;
+
 use crate::{Asm, Dis, Settings, Words, settings, status_of};
 use clap::error::ErrorKind;
+use std::alloc::AllocGlobal;
+use std::process::Abort;
 use std::test::Fail;
 
 /// A command line that is refused, the kind of the error and its text.
@@ -16,7 +21,7 @@ static REFUSED: [Refused; 17] = [
     Refused {
         words: &["ultra"],
         kind: ErrorKind::MissingSubcommand,
-        text: "error: 'ultra' requires a subcommand but one was not provided\n  [subcommands: words, asm, dis, help]\n\nUsage: ultra <COMMAND>\n",
+        text: "error: 'ultra' requires a subcommand but one was not provided\n  [subcommands: words, asm, dis, run, replay, help]\n\nUsage: ultra <COMMAND>\n",
     },
     Refused {
         words: &["ultra", "frob"],
@@ -41,7 +46,7 @@ static REFUSED: [Refused; 17] = [
     Refused {
         words: &["ultra", "--help"],
         kind: ErrorKind::DisplayHelp,
-        text: "  words  Run a program of hex words on one processor and print its registers\n",
+        text: "  words   Run a program of hex words on one processor and print its registers\n",
     },
     Refused {
         words: &["ultra", "words", "--help"],
@@ -117,53 +122,98 @@ static SIZED: [(&[&str], u32); 7] = [
     (&["ultra", "dis", "--words", "0001024", "--", "a.elf"], 1024),
 ];
 
+/// The words give these settings.
+fn takes(
+    rt: &(impl Abort + AllocGlobal),
+    words: &'static [&'static str],
+    wanted: &Settings<'_>,
+) -> Result<(), Fail> {
+    let taken = settings(rt.alloc(), words)?;
+    assert_eq!(rt; taken, *wanted, "at {words:?}");
+    Ok(())
+}
+
+/// The words give these settings, or memory is short.
+fn takes_or_is_short(
+    rt: &(impl Abort + AllocGlobal),
+    words: &'static [&'static str],
+    wanted: &Settings<'_>,
+) {
+    match settings(rt.alloc(), words) {
+        Ok(taken) => assert_eq!(rt; taken, *wanted, "at {words:?}"),
+        Err(error) => assert_eq!(rt;
+            (error.kind(), status_of(&error)),
+            (ErrorKind::OutOfMemory, 4),
+            "at {words:?}"
+        ),
+    }
+}
+
+/// The words are refused as they should be.
+fn refuses(rt: &(impl Abort + AllocGlobal), refused: &Refused) -> Result<(), Fail> {
+    let alloc = rt.alloc();
+    let words = refused.words;
+    let error = settings(alloc, words).err().expect(rt, "an error");
+    assert_eq!(rt; error.kind(), refused.kind, "at {words:?}");
+    assert_eq!(rt; status_of(&error), 2, "at {words:?}");
+    let text = format!(in alloc; "{error}")?;
+    assert!(rt; text.contains(refused.text), "at {words:?}: {text}");
+    Ok(())
+}
+
+/// The words are refused as they should be, or memory is short.
+fn refuses_or_is_short(rt: &(impl Abort + AllocGlobal), refused: &Refused) {
+    let alloc = rt.alloc();
+    let words = refused.words;
+    let error = settings(alloc, words).err().expect(rt, "an error");
+    if error.kind() == ErrorKind::OutOfMemory {
+        assert_eq!(rt; status_of(&error), 4, "at {words:?}");
+        return;
+    }
+    assert_eq!(rt;
+        (error.kind(), status_of(&error)),
+        (refused.kind, 2),
+        "at {words:?}"
+    );
+    if let Ok(text) = format!(in alloc; "{error}") {
+        assert!(rt; text.contains(refused.text), "at {words:?}: {text}");
+    }
+}
+
 #[test]
 fn takes_files(rt: HostRuntime) -> Result<(), Fail> {
-    let alloc = rt.alloc();
-    assert_eq!(rt;
-        settings(alloc, &FILE)?,
-        Settings::Words(Words { file: "a.hex" })
-    );
-    assert_eq!(rt;
-        settings(alloc, &HYPHENS)?,
-        Settings::Words(Words { file: "--a" })
-    );
-    assert_eq!(rt;
-        settings(alloc, &FILES)?,
-        Settings::Asm(Asm {
+    takes(&rt, &FILE, &Settings::Words(Words { file: "a.hex" }))?;
+    takes(&rt, &HYPHENS, &Settings::Words(Words { file: "--a" }))?;
+    takes(
+        &rt,
+        &FILES,
+        &Settings::Asm(Asm {
             file: "a.s",
-            out: "a.elf"
-        })
-    );
-    Ok(())
+            out: "a.elf",
+        }),
+    )
+}
+
+/// What `dis` of the image is, for so many words.
+fn sized(words: u32) -> Settings<'static> {
+    Settings::Dis(Dis {
+        file: "a.elf",
+        words,
+    })
 }
 
 #[test]
 fn takes_how_many_words(rt: HostRuntime) -> Result<(), Fail> {
-    let alloc = rt.alloc();
     for (words, count) in &SIZED {
-        assert_eq!(rt;
-            settings(alloc, words)?,
-            Settings::Dis(Dis {
-                file: "a.elf",
-                words: *count
-            }),
-            "at {words:?}"
-        );
+        takes(&rt, words, &sized(*count))?;
     }
     Ok(())
 }
 
 #[test]
 fn says_what_is_wrong(rt: HostRuntime) -> Result<(), Fail> {
-    let alloc = rt.alloc();
     for refused in &REFUSED {
-        let words = refused.words;
-        let error = settings(alloc, words).err().expect(&rt, "an error");
-        assert_eq!(rt; error.kind(), refused.kind, "at {words:?}");
-        assert_eq!(rt; status_of(&error), 2, "at {words:?}");
-        let text = format!(in alloc; "{error}")?;
-        assert!(rt; text.contains(refused.text), "at {words:?}: {text}");
+        refuses(&rt, refused)?;
     }
     Ok(())
 }
@@ -171,45 +221,12 @@ fn says_what_is_wrong(rt: HostRuntime) -> Result<(), Fail> {
 /// Each allocation of this test is to be refused in turn. Then the answer is the same, its text too, or it is that memory
 /// ran out.
 #[test]
-fn is_short_of_memory(rt: HostRuntime) -> Result<(), Fail> {
-    let alloc = rt.alloc();
-    match settings(alloc, &FILE) {
-        Ok(taken) => assert_eq!(rt; taken, Settings::Words(Words { file: "a.hex" })),
-        Err(error) => assert_eq!(rt;
-            (error.kind(), status_of(&error)),
-            (ErrorKind::OutOfMemory, 4)
-        ),
-    }
+fn is_short_of_memory(rt: HostRuntime) {
+    takes_or_is_short(&rt, &FILE, &Settings::Words(Words { file: "a.hex" }));
     for (words, count) in &SIZED {
-        match settings(alloc, words) {
-            Ok(taken) => assert_eq!(rt;
-                taken,
-                Settings::Dis(Dis {
-                    file: "a.elf",
-                    words: *count
-                })
-            ),
-            Err(error) => assert_eq!(rt;
-                (error.kind(), status_of(&error)),
-                (ErrorKind::OutOfMemory, 4)
-            ),
-        }
+        takes_or_is_short(&rt, words, &sized(*count));
     }
     for refused in &REFUSED {
-        let words = refused.words;
-        let error = settings(alloc, words).err().expect(&rt, "an error");
-        if error.kind() == ErrorKind::OutOfMemory {
-            assert_eq!(rt; status_of(&error), 4, "at {words:?}");
-            continue;
-        }
-        assert_eq!(rt;
-            (error.kind(), status_of(&error)),
-            (refused.kind, 2),
-            "at {words:?}"
-        );
-        if let Ok(text) = format!(in alloc; "{error}") {
-            assert!(rt; text.contains(refused.text), "at {words:?}: {text}");
-        }
+        refuses_or_is_short(&rt, refused);
     }
-    Ok(())
 }

@@ -1,9 +1,9 @@
-use Rattle.std.proofs.Common.{◌∙◌, ◌<◌, ◌^◌, arith, sym}
+use Rattle.std.proofs.Common.{◌∙◌, ◌<◌, ◌^◌}
 use Rattle.std.specs.Str.Parse.{ParsesUnsigned, ExplainsUnsignedError, HasUnsignedDigitsIfOk}
 use Rattle.clap.specs.Words.{first_of, found_of, one_of, rows_of}
 use Rattle.clap.proofs.WalkLemmas.{one_text-rows}
 use Rattle.settings.proofs.Getters.{number_given}
-use Rattle.settings.proofs.reads.number.Goals as goal
+use Rattle.settings.proofs.reads.number_of.Goals as goal
 
 pub returns : goal.returns
 returns c =
