@@ -1,5 +1,5 @@
 -- The step that a drain takes next does not stall.
-use Rattle.std.proofs.Common.{◌≡◌, ℕ, zero, suc, ◌+◌, ◌-◌, ◌*◌, ◌%◌, ◌<◌, ◌≤◌, Bool, true, false, List, [], ◌∷◌, ◌++◌, length, nat_lt, inl, inr, Option, Some, None, is_some, refl, sym, ap, ◌∙◌, subst, arith, lt-ltb, le-leb, length-append}
+use Rattle.std.proofs.Common.{◌≡◌, ℕ, zero, suc, ◌+◌, ◌-◌, ◌*◌, ◌%◌, ◌<◌, ◌≤◌, Bool, true, false, List, [], ◌∷◌, ◌++◌, length, nat_lt, ◌⊎◌, inl, inr, Option, Some, None, is_some, refl, sym, ap, ◌∙◌, subst, arith, lt-ltb, le-leb, length-append}
 use Rattle.std.specs.Prelude.{if◌then◌else◌}
 use Rattle.std.proofs.lemmas.Bool.{cases_eq, cases_lt, cases_Bool, true≢false}
 use Rattle.std.proofs.lemmas.List.{length-map}
@@ -203,6 +203,33 @@ far_of z P M role ok f h p l = elim (cases_Bool (M.is_open p)) [
 
 pub bound : {Core : Type 0} → (z : Sizes) (P : Program Core) (M : Machine Core) (role : ℕ → Role) → Steady z P M role → (f : ℕ → ℕ) → AreDistances z M f → total f (wires z) ≤ wires z * (2 * z.k + 2)
 bound z P M role ok f h = total_bound f (wires z) (2 * z.k + 2) (λ i l. far_bound z P M role ok i (f i) (far_of z P M role ok f h i l))
+
+-- a sum of which one part alone is not zero
+total_none : (f : ℕ → ℕ) (n : ℕ) → ((q : ℕ) → q < n → f q ≡ 0) → total f n ≡ 0
+unfolding total
+total_none f zero none = refl
+total_none f (suc n) none =
+    let rest = total_none f n (λ q l. none q (omega (arith, l))) in
+    let last = none n (omega arith) in omega (arith, rest, last)
+
+total_one : (f : ℕ → ℕ) (p b n : ℕ) → ((q : ℕ) → q < n → (q ≡ p → ⊥) → f q ≡ 0) → (p < n → f p ≤ b) → total f n ≤ b
+unfolding total
+total_one f p b zero none one = omega arith
+total_one f p b (suc n) none one = by (total_one f p b n) (cases_eq n p)
+  where
+    by : (((q : ℕ) → q < n → (q ≡ p → ⊥) → f q ≡ 0) → (p < n → f p ≤ b) → total f n ≤ b) → (n ≡ p) ⊎ (n ≡ p → ⊥) → total f n + f n ≤ b
+    by rest (inl same) =
+        let nothing = total_none f n (λ q l. none q (omega (arith, l)) (λ e. omega (arith, l, e, same))) in
+        let last : f n ≤ b = subst (λ i. f i ≤ b) (sym same) (one (omega (arith, same))) in omega (arith, nothing, last)
+    by rest (inr other) =
+        let before = rest (λ q l d. none q (omega (arith, l)) d) (λ l. one (omega (arith, l))) in
+        let last = none n (omega arith) other in omega (arith, before, last)
+
+-- the distance of a reference that is open alone
+pub bound_alone : {Core : Type 0} → (z : Sizes) (P : Program Core) (M : Machine Core) (role : ℕ → Role) → Steady z P M role → (p : ℕ) → ((q : ℕ) → (q ≡ p → ⊥) → M.is_open q ≡ false) →
+    (f : ℕ → ℕ) → AreDistances z M f → total f (wires z) ≤ 2 * z.k + 2
+bound_alone z P M role ok p others f h =
+    total_one f p (2 * z.k + 2) (wires z) (λ q l n. (h q l).0 (others q n)) (λ l. far_bound z P M role ok p (f p) (far_of z P M role ok f h p l))
 
 advances_lower : (o : Outcome) (X : Type 0) → Closer o → Advances o X → X
 advances_lower (Issued p) X c a = absurd c

@@ -1,9 +1,1 @@
-pub mod StalledSteps
-pub mod Keeping
-pub mod Serially
-pub mod OpeningWords
-pub mod MadeOf
-pub mod LocalBytes
-pub mod Explaining
-pub mod Taken
-pub mod Poking
+pub mod Taking

@@ -1,117 +1,134 @@
-//! Steps, one by one. Words of instructions and what they do are the RISC-V manual's; all other
+//! Logs of small programs. Words of instructions and what they do are the RISC-V manual's; all other
 //! values are worked out by hand.
 
 mod limits;
-mod opening;
-mod pokes;
-mod readers;
-mod steps;
+mod steps_taken;
+mod whole;
 
-use crate::{Logged, Machine, Outcome, Step};
-use elf_image::{Bytes, Image, ImageError, Layout, read_image, write_image};
-use flat_machine::{Config, Poke, Status};
+use crate::Logged;
+use elf_image::{Bytes, Image, Layout, read_image, write_image};
+use flat_machine::{CODE_START, Config, Poke, SHARED_START, Status};
 use link::Meter;
-use std::alloc::{AllocGlobal, Global};
+use machine_steps::Machine;
+use std::alloc::{AllocError, AllocGlobal, Global};
 use std::process::Abort;
 use std::test::Fail;
+use steps::{Outcome, Step};
 
-/// `amoadd.w x3, x2, (x1)`.
-const AMOADD: u32 = 0x0020_A1AF;
-
-/// `ecall`.
-const ECALL: u32 = 0x0000_0073;
-
-/// A machine of one processor and 1,024 shared words.
-const SIZE: Config = Config {
+/// A machine of one processor.
+const ONE: Config = Config {
     k: 0,
     c: 2,
     b: 0,
     shared_words: 1024,
 };
 
-/// What is read of a file.
-fn read(alloc: Global, file: &[u8], config: Config) -> Result<Image, ImageError> {
-    let mut reader = Meter::new(file);
-    read_image(alloc, &mut reader, &config)
-}
+/// A machine of four processors.
+const FOUR: Config = Config {
+    k: 2,
+    c: 4,
+    b: 4,
+    shared_words: 1024,
+};
 
-/// An image with these words as code, which begins with the first of them.
-fn image(
-    rt: &(impl Abort + AllocGlobal),
-    words: &[u32],
-    config: Config,
-) -> Result<Image, ImageError> {
-    let mut code = Bytes::new(rt.alloc());
+/// An instruction that refers to the shared word at `a2`, one that refers to none, and a stop.
+const CODE: [u32; 3] = [
+    0x00B6_252F, // amoadd.w a0, a1, (a2)
+    0x0015_0513, // addi a0, a0, 1
+    0x0010_0073, // ebreak
+];
+
+/// A layout with this code, which begins at its first word.
+fn layout_of(alloc: Global, words: &[u32]) -> Result<Layout, AllocError> {
+    let mut code = Bytes::new(alloc);
     for word in words {
         code.extend_from_slice(&word.to_le_bytes())?;
     }
-    let layout = Layout {
-        entry: 0x0001_0000,
+    Ok(Layout {
+        entry: CODE_START,
         code,
-        local: Bytes::new(rt.alloc()),
-        shared: Bytes::new(rt.alloc()),
-    };
-    assert!(rt; layout.code.len() <= 0x1_0000);
-    assert!(rt; layout.local.len() <= 0x1_0000);
-    assert!(rt; layout.shared.len() <= 0x10_0000);
-    let mut file = Meter::new(Vec::new(rt.alloc()));
-    write_image(&mut file, &layout)?;
-    read(rt.alloc(), file.device.as_slice(), config)
+        local: Bytes::new(alloc),
+        shared: Bytes::new(alloc),
+    })
 }
 
-/// A machine with these words as code, and these registers.
-fn machine(
+/// A write of a register.
+fn register(processor: u8, register: u8, value: u32) -> Step {
+    Step::Poke(Poke::Register {
+        processor,
+        register,
+        value,
+    })
+}
+
+/// A machine of this size with the code of these tests. Shared word 0 is 10, and each of these
+/// processors has its addend in `a1` and the word's address in `a2`.
+fn machine_of(
     rt: &(impl Abort + AllocGlobal),
-    words: &[u32],
-    registers: &[(u8, u32)],
+    config: Config,
+    addends: &[(u8, u32)],
 ) -> Result<Machine, Fail> {
-    let mut machine = Machine::new(rt.alloc(), image(rt, words, SIZE)?, SIZE)?;
-    for &(register, value) in registers {
-        let poke = Poke::Register {
-            processor: 0,
-            register,
-            value,
-        };
-        assert_eq!(rt; machine.apply(Step::Poke(poke)), Outcome::Poked);
+    let layout = layout_of(rt.alloc(), &CODE)?;
+    assert!(rt; layout.code.len() <= 0x0001_0000);
+    assert!(rt; layout.local.len() <= 0x0001_0000);
+    assert!(rt; layout.shared.len() <= 0x0010_0000);
+    let mut writer = Meter::new(Vec::new(rt.alloc()));
+    assert_eq!(rt; write_image(&mut writer, &layout), Ok(()));
+    let mut reader = Meter::new(writer.device.as_slice());
+    let image: Image = read_image(rt.alloc(), &mut reader, &config)?;
+    let mut machine = Machine::new(rt.alloc(), image, config)?;
+    let word = Poke::Shared {
+        address: SHARED_START,
+        value: 10,
+    };
+    assert_eq!(rt; machine.apply(Step::Poke(word)), Outcome::Poked);
+    for &(p, addend) in addends {
+        assert_eq!(rt; machine.apply(register(p, 11, addend)), Outcome::Poked);
+        assert_eq!(rt;
+            machine.apply(register(p, 12, SHARED_START)),
+            Outcome::Poked
+        );
     }
     Ok(machine)
 }
 
-/// The log of a machine that stands before `amoadd.w x3, x2, (x1)`, where `x1` is the address of the
-/// shared word 2, which is 10, and `x2` is 5.
-fn before_an_add(rt: &(impl Abort + AllocGlobal)) -> Result<Logged, Fail> {
-    let registers = [(1, 0x8000_0008), (2, 5)];
-    let mut machine = machine(rt, &[AMOADD, ECALL], &registers)?;
-    let poke = Poke::Shared {
-        address: 0x8000_0008,
-        value: 10,
-    };
-    assert_eq!(rt; machine.apply(Step::Poke(poke)), Outcome::Poked);
+/// The log of a machine of one processor, which is to add 5 to the word.
+fn one_add(rt: &(impl Abort + AllocGlobal)) -> Result<Logged, Fail> {
+    let machine = machine_of(rt, ONE, &[(0, 5)])?;
+    assert!(rt; machine.is_idle());
     Ok(Logged::new(rt.alloc(), machine))
 }
 
-/// What is seen of a machine: where its processor stands and what it does, registers 1 to 3, the
-/// shared word 2, the first local byte, and whether it is idle.
+/// A machine of four processors, which are to add 1, 2, 4 and 8 to the word.
+fn four_machine(rt: &(impl Abort + AllocGlobal)) -> Result<Machine, Fail> {
+    machine_of(rt, FOUR, &[(0, 1), (1, 2), (2, 4), (3, 8)])
+}
+
+/// The log of such a machine.
+fn four_adds(rt: &(impl Abort + AllocGlobal)) -> Result<Logged, Fail> {
+    let machine = four_machine(rt)?;
+    assert!(rt; machine.is_idle());
+    Ok(Logged::new(rt.alloc(), machine))
+}
+
+/// What is seen of a machine of four: where each processor stands, its `a0` and what it does, word 0,
+/// and whether no reference is open.
 #[derive(Clone, Copy, Debug, PartialEq, Eq, Drop)]
 struct Seen {
-    pc: Option<u32>,
-    status: Option<Status>,
-    registers: Option<(u32, u32, u32)>,
+    processors: [(Option<u32>, Option<u32>, Option<Status>); 4],
     word: Option<u32>,
-    byte: Option<u8>,
     is_idle: bool,
 }
 
 fn look_at(machine: &Machine) -> Seen {
     Seen {
-        pc: machine.pc(0),
-        status: machine.status(0),
-        registers: match machine.registers(0) {
-            Some(registers) => Some((registers[1], registers[2], registers[3])),
-            None => None,
-        },
-        word: machine.word(2),
-        byte: machine.byte(0, 0x0002_0000),
+        processors: [
+            (machine.pc(0), machine.reg(0, 10), machine.status(0)),
+            (machine.pc(1), machine.reg(1, 10), machine.status(1)),
+            (machine.pc(2), machine.reg(2, 10), machine.status(2)),
+            (machine.pc(3), machine.reg(3, 10), machine.status(3)),
+        ],
+        word: machine.word(0),
         is_idle: machine.is_idle(),
     }
 }

@@ -1,24 +1,26 @@
 -- The next step of a drain, and where a drain ends.
-use Rattle.std.proofs.Common.{◌≡◌, ℕ, zero, suc, ◌+◌, ◌-◌, ◌<◌, List, [], ◌∷◌, ◌++◌, length, Option, Some, None, refl, sym, ap, ap₂, ◌∙◌, subst, arith}
-use Rattle.std.specs.Prelude.{map}
+use Rattle.std.proofs.Common.{◌≡◌, ℕ, zero, suc, ◌+◌, ◌^◌, ◌<◌, ◌≤◌, List, [], ◌∷◌, ◌++◌, length, Option, Some, None, refl, sym, ap, ap₂, ◌∙◌, subst, arith}
+use Rattle.std.specs.Prelude.{map, IfSome}
 use Rattle.std.proofs.lemmas.List.{length-append, append-nil, append_assoc}
 use Rattle.messages.specs.Network.{Sizes, wires}
 use Rattle.omega_network.specs.Networks.{net_of}
 use Rattle.omega_network.specs.Networks as network
 use Rattle.abstract_machine.specs.Machine as theory
 use Rattle.abstract_machine.specs.Machine.{Turn, Serve}
-use Rattle.abstract_machine.specs.Draining.{first_wire, or_else, down_step, up_step, DrainIs}
+use Rattle.abstract_machine.specs.Steadiness.{total}
+use Rattle.abstract_machine.specs.Draining.{first_wire, or_else, down_step, up_step, AreDistances, DrainIs}
 use Rattle.abstract_machine.specs.Draining as draining
-use Rattle.abstract_machine.proofs.Draining.{drain_is}
-use Rattle.abstract_machine.proofs.Drained.{idle_names_none, drain_ends}
+use Rattle.abstract_machine.proofs.Draining.{drain_is, bound as distances_bound, distances_are}
+use Rattle.abstract_machine.proofs.Drained.{idle_names_none, drained}
 use Rattle.steps.specs.declared.step.Step.{Step}
 use Rattle.steps.specs.declared.step.Outcome.{Outcome}
 use Rattle.machine_program.specs.Processors.{Told, sizes_of, program}
-use Rattle.machine_program.specs.Steps.{named, after, machine_of_parts}
+use Rattle.machine_program.specs.Steps.{named, outcome_of, after, machine_of_parts}
 use Rattle.machine_steps.specs.Machines.{MachineLists, machine_of, IsIdle, IsMachine, IsStep}
 use Rattle.machine_steps.specs.Runs.{all_after, events_of, IsRun}
-use Rattle.machine_steps.specs.Draining.{step_of, some_step, drain_step, drain_bound, drain_steps, IsDrained}
+use Rattle.machine_steps.specs.Draining.{step_of, some_step, drain_step, GoesOn, drain_bound, first_steps, drain_steps, IsDrained}
 use Rattle.machine_steps.proofs.Running.{all_after_more, run_begins, run_more}
+use Rattle.machine_steps.proofs.Stalling.{keeps}
 
 -- ---- the next step
 
@@ -29,6 +31,13 @@ some_none (Some st) e = absurd (cc)
 pub named_step : (o : Option theory.Step) (s : Step) → some_step o ≡ Some s → (st : theory.Step) × (o ≡ Some st) × (step_of st ≡ s)
 named_step None s e = absurd (cc)
 named_step (Some st) s e = (st, refl, (let same : step_of st ≡ s = cc in same))
+
+pub named_again : (st : theory.Step) → named (step_of st) ≡ st
+named_again (theory.Turn p) = refl
+named_again (theory.Up s w) = refl
+named_again (theory.Serve m) = refl
+named_again (theory.Down s w) = refl
+named_again (theory.Poke q) = refl
 
 module _ (m : MachineLists) (is : IsMachine m) where
   -- what is searched for in the network is the machine's
@@ -41,6 +50,27 @@ module _ (m : MachineLists) (is : IsMachine m) where
 
   room : 1 < m.config.c
   room = is.limits.some_capacity
+
+  -- the step that is named does something, and lowers the sum of the distances
+  pub goes_on : (s : Step) → drain_step m ≡ Some s → GoesOn m s
+  unfolding outcome_of after machine_of_parts
+  goes_on s names =
+      let M : theory.Machine Told = machine_of m (λ p. []) in
+      let n = named_step (draining.drain_step (sizes_of m.config) M) s names in
+      let d = subst (DrainIs (sizes_of m.config) (program m.config m.code) M) n.1 (drain_is (sizes_of m.config) (program m.config m.code) M is.role is.steady room) in
+      let same : n.0 ≡ named s = sym (named_again n.0) ∙ ap named n.2 in
+      let nearer = subst (λ st. (f g : ℕ → ℕ) → AreDistances (sizes_of m.config) M f → AreDistances (sizes_of m.config) (theory.step (sizes_of m.config) (program m.config m.code) M st).machine g → total g (2 ^ m.config.k) < total f (2 ^ m.config.k)) same d.1 in
+      let f = distances_are (sizes_of m.config) (program m.config m.code) M is.role is.steady in
+      record {
+        moves = λ e.
+            let kept = keeps m.config m.code M is.steady.refers s e in
+            let less = nearer f.0 f.0 f.1 (subst (λ N. AreDistances (sizes_of m.config) N f.0) (sym kept) f.1) in omega (arith, less);
+        nearer = nearer;
+      }
+
+  pub named_goes_on : (o : Option Step) → o ≡ drain_step m → IfSome o (GoesOn m)
+  named_goes_on None e = tt
+  named_goes_on (Some s) e = goes_on s (sym e)
 
   pub none_idle : drain_step m ≡ None → IsIdle m
   unfolding machine_of_parts
@@ -56,31 +86,23 @@ module _ (m : MachineLists) (is : IsMachine m) where
 
 -- ---- a drain under way
 
-pub named_again : (st : theory.Step) → named (step_of st) ≡ st
-named_again (theory.Turn p) = refl
-named_again (theory.Up s w) = refl
-named_again (theory.Serve m) = refl
-named_again (theory.Down s w) = refl
-named_again (theory.Poke q) = refl
-
-pub record IsUnderWay (old : MachineLists) (i : ℕ) (m : MachineLists) : Type 0 where
-  pub done : List Step
+-- A drain of at most so many steps has taken these. Those that are still to come are named from where the machine stands.
+pub record IsUnderWay (old : MachineLists) (bound : ℕ) (done : List Step) (m : MachineLists) : Type 0 where
   pub left : ℕ
-  pub split : i + left ≡ drain_bound old.config
+  pub split : length done + left ≡ bound
   pub run : IsRun old done m
-  pub count : length done ≡ i
-  pub rest : drain_steps old ≡ done ++ map step_of (draining.drain_steps (sizes_of old.config) (program old.config old.code) left (all_after old.config old.code (machine_of old (λ p. [])) done))
+  pub rest : first_steps bound old ≡ done ++ map step_of (draining.drain_steps (sizes_of old.config) (program old.config old.code) left (all_after old.config old.code (machine_of old (λ p. [])) done))
 
-pub drain_begins : (m : MachineLists) → IsUnderWay m 0 m
+pub drain_begins : (bound : ℕ) (m : MachineLists) → IsUnderWay m bound [] m
 unfolding all_after
-drain_begins m = record { done = []; left = drain_bound m.config; split = omega arith; run = run_begins m; count = refl; rest = refl }
+drain_begins bound m = record { left = bound; split = omega arith; run = run_begins m; rest = refl }
 
-module _ (old m : MachineLists) (i : ℕ) (d : IsUnderWay old i m) where
+module _ (old m : MachineLists) (bound : ℕ) (done : List Step) (d : IsUnderWay old bound done m) where
   abbrev M0 : theory.Machine Told
   M0 = machine_of old (λ p. [])
 
   abbrev here : theory.Machine Told
-  here = all_after old.config old.code M0 d.done
+  here = all_after old.config old.code M0 done
 
   -- the step that is named is the theory's
   same_next : draining.drain_step (sizes_of old.config) here ≡ draining.drain_step (sizes_of m.config) (machine_of m (λ p. []))
@@ -104,46 +126,41 @@ module _ (old m : MachineLists) (i : ℕ) (d : IsUnderWay old i m) where
   unfolding draining.drain_steps
   none_left = refl
 
-  after_is : (st : theory.Step) (s : Step) → step_of st ≡ s → after_named st ≡ all_after old.config old.code M0 (d.done ++ s ∷ [])
+  after_is : (st : theory.Step) (s : Step) → step_of st ≡ s → after_named st ≡ all_after old.config old.code M0 (done ++ s ∷ [])
   unfolding after
   after_is st s e =
-      ap after_named (sym (named_again st)) ∙ ap (λ t. after_named (named t)) e ∙ sym (all_after_more old.config old.code M0 d.done s)
+      ap after_named (sym (named_again st)) ∙ ap (λ t. after_named (named t)) e ∙ sym (all_after_more old.config old.code M0 done s)
 
-  pub drain_goes_on : (s : Step) (o : Outcome) (new : MachineLists) → i < drain_bound old.config → drain_step m ≡ Some s → IsStep m s o new → IsUnderWay old (i + 1) new
+  pub drain_goes_on : (s : Step) (o : Outcome) (new : MachineLists) → length done < bound → drain_step m ≡ Some s → IsStep m s o new → IsUnderWay old bound (done ++ s ∷ []) new
   drain_goes_on s o new within names is =
       let n = named_step (draining.drain_step (sizes_of m.config) (machine_of m (λ p. []))) s names in
       by n.0 (same_next ∙ n.1) n.2 d.left refl
     where
-      by : (st : theory.Step) → draining.drain_step (sizes_of old.config) here ≡ Some st → step_of st ≡ s → (left : ℕ) → left ≡ d.left → IsUnderWay old (i + 1) new
+      by : (st : theory.Step) → draining.drain_step (sizes_of old.config) here ≡ Some st → step_of st ≡ s → (left : ℕ) → left ≡ d.left → IsUnderWay old bound (done ++ s ∷ []) new
       by st e same zero l = let split = d.split in absurd (omega (arith, within, split, l))
       by st e same (suc n) l = record {
-        done = d.done ++ s ∷ [];
         left = n;
-        split = (let split = d.split in omega (arith, split, l));
-        run = run_more old m new d.done s o d.run is;
-        count = length-append d.done (s ∷ []) ∙ (let count = d.count in omega (arith, count));
+        split = (let split = d.split in let more = length-append done (s ∷ []) in omega (arith, split, l, more));
+        run = run_more old m new done s o d.run is;
         rest =
             d.rest
-            ∙ ap (λ n. d.done ++ map step_of (draining.drain_steps (sizes_of old.config) (program old.config old.code) n here)) (sym l)
-            ∙ ap (λ xs. d.done ++ map step_of xs) (next_rest st n e)
-            ∙ ap₂ (λ a M. d.done ++ a ∷ map step_of (draining.drain_steps (sizes_of old.config) (program old.config old.code) n M)) same (after_is st s same)
-            ∙ sym (append_assoc d.done (s ∷ []) (map step_of (draining.drain_steps (sizes_of old.config) (program old.config old.code) n (all_after old.config old.code M0 (d.done ++ s ∷ [])))));
+            ∙ ap (λ n. done ++ map step_of (draining.drain_steps (sizes_of old.config) (program old.config old.code) n here)) (sym l)
+            ∙ ap (λ xs. done ++ map step_of xs) (next_rest st n e)
+            ∙ ap₂ (λ a M. done ++ a ∷ map step_of (draining.drain_steps (sizes_of old.config) (program old.config old.code) n M)) same (after_is st s same)
+            ∙ sym (append_assoc done (s ∷ []) (map step_of (draining.drain_steps (sizes_of old.config) (program old.config old.code) n (all_after old.config old.code M0 (done ++ s ∷ [])))));
       }
 
-  ended : draining.drain_steps (sizes_of old.config) (program old.config old.code) d.left here ≡ [] → drain_steps old ≡ d.done
-  ended e = d.rest ∙ ap (λ xs. d.done ++ map step_of xs) e ∙ append-nil d.done
+  ended : draining.drain_steps (sizes_of old.config) (program old.config old.code) d.left here ≡ [] → first_steps bound old ≡ done
+  ended e = d.rest ∙ ap (λ xs. done ++ map step_of xs) e ∙ append-nil done
 
-  drained : drain_steps old ≡ d.done → IsIdle m → IsDrained old i m
-  drained e idle = record {
-    run = subst (λ steps. IsRun old steps m) (sym e) d.run;
-    moves = sym d.count ∙ ap length (sym e);
-    bound = (let split = d.split in omega (arith, split));
-    idle = idle;
-  }
+  -- all steps were taken where no more is named, and at the bound
+  pub all_taken : drain_step m ≡ None → first_steps bound old ≡ done
+  all_taken none = ended (no_rest d.left (same_next ∙ some_none (draining.drain_step (sizes_of m.config) (machine_of m (λ p. []))) none))
 
-  -- where no step is named
-  pub drain_stops : drain_step m ≡ None → IsIdle m → IsDrained old i m
-  drain_stops none idle = drained (ended (no_rest d.left (same_next ∙ some_none (draining.drain_step (sizes_of m.config) (machine_of m (λ p. []))) none))) idle
+  pub bound_taken : length done ≡ bound → first_steps bound old ≡ done
+  bound_taken over =
+      let nothing : d.left ≡ zero = (let split = d.split in omega (arith, split, over)) in
+      ended (ap (λ n. draining.drain_steps (sizes_of old.config) (program old.config old.code) n here) nothing ∙ none_left)
 
   machine_is : (ts : List theory.Step) (M : theory.Machine Told) → all_after old.config old.code M (map step_of ts) ≡ theory.machine_after (sizes_of old.config) (program old.config old.code) ts M
   unfolding all_after after theory.machine_after
@@ -152,13 +169,51 @@ module _ (old m : MachineLists) (i : ℕ) (d : IsUnderWay old i m) where
       ap (λ u. all_after old.config old.code (theory.step (sizes_of old.config) (program old.config old.code) M u).machine (map step_of ts)) (named_again t)
       ∙ machine_is ts (theory.step (sizes_of old.config) (program old.config old.code) M t).machine
 
-  -- and at the bound
-  pub drain_is_over : IsMachine old → i ≡ drain_bound old.config → IsDrained old i m
+  -- no reference is open then, where the distances were no more together than the bound
+  pub taken_idle : IsMachine old → first_steps bound old ≡ done → (f : ℕ → ℕ) → AreDistances (sizes_of old.config) M0 f → total f (2 ^ old.config.k) ≤ bound → IsIdle m
   unfolding machine_of_parts
-  drain_is_over is over =
-      let nothing : d.left ≡ zero = (let split = d.split in omega (arith, split, over)) in
-      let e = ended (ap (λ n. draining.drain_steps (sizes_of old.config) (program old.config old.code) n here) nothing ∙ none_left) in
-      let all = draining.drain_steps (sizes_of old.config) (program old.config old.code) (drain_bound old.config) M0 in
+  taken_idle is e f are enough =
+      let all = draining.drain_steps (sizes_of old.config) (program old.config old.code) bound M0 in
       let there : here ≡ theory.machine_after (sizes_of old.config) (program old.config old.code) all M0 = ap (all_after old.config old.code M0) (sym e) ∙ machine_is all M0 in
-      let shut = drain_ends (sizes_of old.config) (program old.config old.code) M0 is.role is.steady (room old is) in
-      drained e (λ p within. ap (λ (M : theory.Machine Told). M.is_open p) (d.run.after (λ p. []) ∙ there) ∙ shut p)
+      let shut = drained (sizes_of old.config) (program old.config old.code) bound M0 is.role f is.steady (room old is) are enough in
+      λ p within. ap (λ (M : theory.Machine Told). M.is_open p) (d.run.after (λ p. []) ∙ there) ∙ shut p
+
+-- ---- a whole drain
+
+module _ (old m : MachineLists) (done : List Step) (d : IsUnderWay old (drain_bound old.config) done m) where
+  is_drained : drain_steps old ≡ done → IsIdle m → IsDrained old (length done) m
+  is_drained e idle = record {
+    run = subst (λ steps. IsRun old steps m) (sym e) d.run;
+    moves = ap length (sym e);
+    bound = (let split = d.split in omega (arith, split));
+    idle = idle;
+  }
+
+  -- where no step is named
+  pub drain_stops : drain_step m ≡ None → IsIdle m → IsDrained old (length done) m
+  drain_stops none idle = is_drained (all_taken old m (drain_bound old.config) done d none) idle
+
+  -- and at the bound
+  pub drain_is_over : IsMachine old → length done ≡ drain_bound old.config → IsDrained old (length done) m
+  drain_is_over is over =
+      let e = bound_taken old m (drain_bound old.config) done d over in
+      let M = machine_of old (λ p. []) in
+      let f = distances_are (sizes_of old.config) (program old.config old.code) M is.role is.steady in
+      is_drained e (taken_idle old m (drain_bound old.config) done d is e f.0 f.1 (distances_bound (sizes_of old.config) (program old.config old.code) M is.role is.steady f.0 f.1))
+
+-- ---- as a loop counts its turns
+
+pub record IsDraining (old : MachineLists) (bound i : ℕ) (m : MachineLists) : Type 0 where
+  pub done : List Step
+  pub under_way : IsUnderWay old bound done m
+  pub count : length done ≡ i
+
+pub draining_begins : (bound : ℕ) (m : MachineLists) → IsDraining m bound 0 m
+draining_begins bound m = record { done = []; under_way = drain_begins bound m; count = refl }
+
+pub draining_goes_on : (old m : MachineLists) (bound i : ℕ) → IsDraining old bound i m → (s : Step) (o : Outcome) (new : MachineLists) → i < bound → drain_step m ≡ Some s → IsStep m s o new → IsDraining old bound (i + 1) new
+draining_goes_on old m bound i d s o new within names is = record {
+  done = d.done ++ s ∷ [];
+  under_way = drain_goes_on old m bound d.done d.under_way s o new (let count = d.count in omega (arith, count, within)) names is;
+  count = length-append d.done (s ∷ []) ∙ (let count = d.count in omega (arith, count));
+}

@@ -1,6 +1,7 @@
 pub mod Keeping
 pub mod Flattening
 pub mod Running
+pub mod Replaying
 pub mod Handling
 pub mod LocalBytes
 pub mod Opening

@@ -28,14 +28,14 @@ use Rattle.machine_program.proofs.Good.{reaches_of, runs_by}
 use Rattle.machine_steps.specs.Machines.{MachineLists, machine_of, IsMachine, IsStep}
 
 -- what a step answers that stalls
-abbrev Keeps : (answer : theory.Outcome → Outcome) → Machine Told → Result Told → Type 0
+abbrev pub Keeps : (answer : theory.Outcome → Outcome) → Machine Told → Result Told → Type 0
 Keeps answer M r = answer r.outcome ≡ Stalled → r.machine ≡ M
 
 module _ (c : Config) (code : List ℕ) (M : Machine Told) (refers : (p : ℕ) → M.is_open p ≡ true → (program c code).kind p (M.core p) ≡ Refers) where
-  abbrev turns : ℕ → Turn
+  abbrev pub turns : ℕ → Turn
   turns p = next c code p (M.core p).state
 
-  abbrev answer : theory.Outcome → Outcome
+  abbrev pub answer : theory.Outcome → Outcome
   answer = answer_of turns
 
   either : (b : Bool) (r : Result Told) → Keeps answer M r → Keeps answer M (if b then r else stalled M)
@@ -80,7 +80,7 @@ module _ (c : Config) (code : List ℕ) (M : Machine Told) (refers : (p : ℕ) �
   serves m (x ∷ rest) (y ∷ ys) e = refl
   serves m (x ∷ rest) [] e = absurd (cc)
 
-  keeps : (s : Step) → Keeps answer M (taken c code M s)
+  pub keeps : (s : Step) → Keeps answer M (taken c code M s)
   keeps (step.Turn p) = either (nat_lt p (2 ^ c.k)) (turned (program c code) M p (M.is_open p)) (turn p (M.is_open p) refl)
   keeps (step.Up s w) = either (nat_lt w (2 ^ c.k)) (went_up M (moved_up (sizes_of c) M.net s w)) (goes_up (moved_up (sizes_of c) M.net s w))
   keeps (step.Serve m) = either (nat_lt m (2 ^ c.k)) (serve_from (sizes_of c) M m (M.net.requests c.k m) (M.net.replies c.k m)) (serves m (M.net.requests c.k m) (M.net.replies c.k m))
@@ -95,10 +95,10 @@ shown_stalled shown (step.Down s w) = refl
 shown_stalled shown (step.Poke q) = refl
 
 -- a machine whose processors have shown other events
-abbrev retell : (shown : ℕ → List Event) → Machine Told → Machine Told
+abbrev pub retell : (shown : ℕ → List Event) → Machine Told → Machine Told
 retell shown M = record { net = M.net; mem = M.mem; core = λ p. record { state = (M.core p).state; events = shown p }; is_open = M.is_open }
 
-retold : (m : MachineLists) (shown : ℕ → List Event) → retell shown (machine_of m (λ p. [])) ≡ machine_of m shown
+pub retold : (m : MachineLists) (shown : ℕ → List Event) → retell shown (machine_of m (λ p. [])) ≡ machine_of m shown
 unfolding machine_of_parts
 retold m shown = refl
 

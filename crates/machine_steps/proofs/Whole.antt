@@ -1,5 +1,5 @@
 -- One instruction at a time: the flat machine's step.
-use Rattle.std.proofs.Common.{◌≡◌, ℕ, ◌+◌, ◌^◌, ◌<◌, Bool, true, false, List, [], ◌∷◌, ◌++◌, nat_lt, Option, Some, None, ◌⊎◌, inl, inr, refl, sym, ap, ap₂, ◌∙◌, subst}
+use Rattle.std.proofs.Common.{◌≡◌, ℕ, ◌+◌, ◌*◌, ◌^◌, ◌<◌, Bool, true, false, List, [], ◌∷◌, ◌++◌, length, nat_lt, Option, Some, None, ◌⊎◌, inl, inr, refl, sym, ap, ap₂, ◌∙◌, subst}
 use Rattle.std.specs.Prelude.{map, slice_get, if◌then◌else◌}
 use Rattle.std.proofs.lemmas.Bool.{true≢false, lt-ltb}
 use Rattle.flat_machine.specs.declared.config.Config.{Config}
@@ -17,6 +17,7 @@ use Rattle.placement.proofs.Places.{put_same}
 use Rattle.abstract_machine.specs.Program.{Rests}
 use Rattle.abstract_machine.specs.Machine as theory
 use Rattle.abstract_machine.specs.Draining as draining
+use Rattle.abstract_machine.proofs.Draining.{bound_alone, distances_are}
 use Rattle.serialization.specs.Order.{Passed, passed_by, pass, passes, from_machine}
 use Rattle.steps.specs.declared.step.Step.{Step}
 use Rattle.steps.specs.declared.step.Step.TheVariants as step
@@ -32,7 +33,7 @@ use Rattle.machine_steps.specs.Draining.{step_of, drain_step}
 use Rattle.machine_steps.specs.Whole.{event_of, IsOne, IsSent}
 use Rattle.machine_steps.proofs.Flattening.{all_shut, state_at, count_is}
 use Rattle.machine_steps.proofs.Running.{run_begins, run_more, passes_machine, serialized}
-use Rattle.machine_steps.proofs.Drained.{named_again, named_step}
+use Rattle.machine_steps.proofs.Drained.{named_again, named_step, IsUnderWay, bound_taken, taken_idle}
 use Rattle.machine_steps.proofs.Lone.{IsLone, IsAsking, IsAnswered, FirstTurn, first_turn, starts, After, goes_on, is_open_yet}
 
 -- ---- events
@@ -351,3 +352,15 @@ module _ (old : MachineLists) (p : ℕ) (is : IsMachine old) (idle : IsIdle old)
 
 pub begins_back : (before : MachineLists) (p : ℕ) (m : MachineLists) → IsSent before p m → IsComingBack before p m Issued
 begins_back before p m s = sent_comes_back before p s.machine s.idle Issued m s.turn refl
+
+-- ---- and is back in time
+
+pub sent_ends : (before : MachineLists) (p : ℕ) (m new : MachineLists) (done : List Step) → IsSent before p m → IsMachine m → IsUnderWay m (2 * m.config.k + 2) done new → length done ≡ 2 * m.config.k + 2 → IsIdle new
+unfolding machine_of_parts
+sent_ends before p m new done sent is d over =
+    let b = begins_back before p m sent in
+    let M : theory.Machine Told = machine_of m (λ q. []) in
+    let f = distances_are (sizes_of m.config) (program m.config m.code) M is.role is.steady in
+    let others : (q : ℕ) → (q ≡ p → ⊥) → M.is_open q ≡ false = (λ q n. open_same before m b.done b.run q ∙ b.lone.others q n) in
+    let near = bound_alone (sizes_of m.config) (program m.config m.code) M is.role is.steady p others f.0 f.1 in
+    taken_idle m new (2 * m.config.k + 2) done d is (bound_taken m new (2 * m.config.k + 2) done d over) f.0 f.1 near

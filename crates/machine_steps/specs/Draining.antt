@@ -1,11 +1,14 @@
 -- What a drain does: the steps that bring every reference to its end, by the theory's drain.
-use Rattle.std.specs.Prelude.{◌≡◌, ℕ, ◌*◌, ◌+◌, ◌^◌, ◌≤◌, List, [], length, map, Option, Some, None}
+use Rattle.std.specs.Prelude.{◌≡◌, ℕ, ◌*◌, ◌+◌, ◌^◌, ◌≤◌, ◌<◌, List, [], length, map, Option, Some, None}
 use Rattle.flat_machine.specs.declared.config.Config.{Config}
 use Rattle.abstract_machine.specs.Machine as theory
 use Rattle.abstract_machine.specs.Draining as draining
 use Rattle.steps.specs.declared.step.Step.{Step}
+use Rattle.abstract_machine.specs.Steadiness.{total}
 use Rattle.steps.specs.declared.step.Step.TheVariants as step
+use Rattle.steps.specs.declared.step.Outcome.TheVariants.{Stalled}
 use Rattle.machine_program.specs.Processors.{sizes_of, program}
+use Rattle.machine_program.specs.Steps.{outcome_of, after}
 use Rattle.machine_steps.specs.Machines.{MachineLists, machine_of, IsIdle}
 use Rattle.machine_steps.specs.Runs.{IsRun}
 
@@ -27,13 +30,24 @@ some_step (Some st) = Some (step_of st)
 abbrev pub drain_step : MachineLists → Option Step
 drain_step m = some_step (draining.drain_step (sizes_of m.config) (machine_of m (λ p. [])))
 
+-- It does something, and brings the references that are open nearer to their ends: whatever the distances of all of them are
+-- before and after it, their sum falls.
+pub record GoesOn (m : MachineLists) (s : Step) : Type 0 where
+  pub moves : outcome_of m.config m.code (machine_of m (λ p. [])) s ≡ Stalled → ⊥
+  pub nearer : (f g : ℕ → ℕ) → draining.AreDistances (sizes_of m.config) (machine_of m (λ p. [])) f → draining.AreDistances (sizes_of m.config) (after m.config m.code (machine_of m (λ p. [])) s) g →
+      total g (2 ^ m.config.k) < total f (2 ^ m.config.k)
+
 -- no drain takes more steps
 abbrev pub drain_bound : Config → ℕ
 drain_bound c = 2 ^ c.k * (2 * c.k + 2)
 
--- all steps of a drain, one after another
+-- the steps of a drain, one after another, and at most so many
+abbrev pub first_steps : ℕ → MachineLists → List Step
+first_steps bound m = map step_of (draining.drain_steps (sizes_of m.config) (program m.config m.code) bound (machine_of m (λ p. [])))
+
+-- all steps of a drain
 abbrev pub drain_steps : MachineLists → List Step
-drain_steps m = map step_of (draining.drain_steps (sizes_of m.config) (program m.config m.code) (drain_bound m.config) (machine_of m (λ p. [])))
+drain_steps m = first_steps (drain_bound m.config) m
 
 -- The machine is drained: it took the drain's steps, and no reference is open.
 pub record IsDrained (old : MachineLists) (count : ℕ) (new : MachineLists) : Type 0 where

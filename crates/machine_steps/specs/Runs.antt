@@ -11,10 +11,11 @@ use Rattle.abstract_machine.specs.Machine as theory
 use Rattle.serialization.specs.Order.{Passed, ran, outcomes}
 use Rattle.serialization.specs.Serialization.{EachServedOnce}
 use Rattle.steps.specs.declared.step.Step.{Step}
+use Rattle.steps.specs.declared.step.Outcome.TheVariants.{Stalled}
 use Rattle.machine_ports.specs.Ports.{PortState}
 use Rattle.machine_program.specs.Processors.{Told, sizes_of, program, word_at}
 use Rattle.machine_program.specs.Flatness.{with_events}
-use Rattle.machine_program.specs.Steps.{named, after}
+use Rattle.machine_program.specs.Steps.{named, outcome_of, after}
 use Rattle.machine_program.specs.Explained.{IsExplained}
 use Rattle.machine_steps.specs.Machines.{MachineLists, machine_of, IsIdle}
 
@@ -41,6 +42,11 @@ unfoldable pub all_after : Config → List ℕ → theory.Machine Told → List 
 all_after c code M [] = M
 all_after c code M (s ∷ ss) = all_after c code (after c code M s) ss
 
+-- Each of the steps does something.
+abbrev pub NoneStalls : Config → (code : List ℕ) → theory.Machine Told → List Step → Type 0
+NoneStalls c code M [] = Unit {0}
+NoneStalls c code M (s ∷ ss) = (outcome_of c code M s ≡ Stalled → ⊥) × NoneStalls c code (after c code M s) ss
+
 -- what a machine's processors have shown
 abbrev pub events_of : theory.Machine Told → ℕ → List Event
 events_of M p = (M.core p).events
@@ -52,6 +58,11 @@ pub record IsRun (old : MachineLists) (steps : List Step) (new : MachineLists) :
   pub code : new.code ≡ old.code
   pub after : (shown : ℕ → List Event) →
       machine_of new (events_of (all_after old.config old.code (machine_of old shown) steps)) ≡ all_after old.config old.code (machine_of old shown) steps
+
+-- The machine stands after the steps, each of which did something.
+pub record IsReplay (old : MachineLists) (steps : List Step) (new : MachineLists) : Type 0 where
+  pub run : IsRun old steps new
+  pub moved : NoneStalls old.config old.code (machine_of old (λ p. [])) steps
 
 -- ---- the theorem
 

@@ -19,6 +19,3 @@ mod turns;
 
 pub use error::NewError;
 pub use machine::Machine;
-
-#[cfg(test)]
-mod tests;

@@ -1,6 +1,6 @@
 //! The machine.
 
-ghost use Rattle.std.specs.Prelude.{◌≡◌, ◌↔◌, ◌<◌, ◌*◌, ◌+◌, ◌/◌, ◌%◌, ◌^◌, ◌&&◌, ℕ, List, [], true, false, nat_lt, slice_get, slice_index, Some, None, Err, IfOk, IsTrue, if◌then◌else◌, IfErr, OnOk, OnErr};
+ghost use Rattle.std.specs.Prelude.{◌≡◌, ◌↔◌, ◌<◌, ◌*◌, ◌+◌, ◌/◌, ◌%◌, ◌^◌, ◌&&◌, ℕ, List, [], true, false, nat_lt, slice_get, slice_index, Some, None, Err, IfOk, IfSome, IsTrue, if◌then◌else◌, IfErr, OnOk, OnErr};
 ghost use Rattle.std.specs.Option.{option_copied};
 ghost use Rattle.flat_machine.specs.declared.event.Event.{Event};
 ghost use Rattle.flat_machine.specs.declared.poke.Poke.TheVariants as pokes;
@@ -12,8 +12,8 @@ ghost use Rattle.machine_program.specs.Processors.{port_at, word_at, sizes_of, p
 ghost use Rattle.machine_program.specs.Steps.{outcome_of};
 ghost use Rattle.machine_program.specs.Turning.{told_of_down, told_of_up};
 ghost use Rattle.flat_machine.specs.State.{is_running};
-ghost use Rattle.machine_steps.specs.Machines.{MachineLists, IsIdle, IsStep, machine_of};
-ghost use Rattle.machine_steps.specs.Draining.{drain_bound, drain_step, IsDrained};
+ghost use Rattle.machine_steps.specs.Machines.{MachineLists, IsIdle, IsMachine, IsStep, machine_of};
+ghost use Rattle.machine_steps.specs.Draining.{drain_bound, drain_step, GoesOn, IsDrained};
 ghost use Rattle.machine_steps.specs.Whole.{IsOne, IsSent};
 ghost use Rattle.machine_steps.specs.Runs.{IsOpening, IsRun, IsSerialized, passed};
 ghost use Rattle.machine_steps.specs.Ordering.{is_open_at};
@@ -104,13 +104,21 @@ impl Machine {
         Some(self.core(processor)?.pc())
     }
 
+    /// Registers 0 to 31 of a processor. None where the machine has no processor of this number.
+    pub fn registers(&self, processor: u8) -> Option<&[u32; 32]>
+        ensures { option_copied result ≡ (if nat_lt processor (2 ^ self.now.config.k) then Some (port_at self.now.ports processor).core.state.registers else None) }
+    {
+        Some(self.core(processor)?.registers())
+    }
+
     /// A register of a processor, 0 to 31. None where the machine has no processor of this number, or
     /// the processor no register of that one.
     pub fn reg(&self, processor: u8, register: u8) -> Option<u32>
         ensures { result ≡ (if nat_lt processor (2 ^ self.now.config.k) then slice_get (port_at self.now.ports processor).core.state.registers register else None) }
     {
-        let registers = self.core(processor)?.registers();
-        registers.get(usize::from(register)).copied()
+        self.registers(processor)?
+            .get(usize::from(register))
+            .copied()
     }
 
     /// What a processor is doing. None where the machine has no processor of this number.
@@ -152,7 +160,8 @@ impl Machine {
 
     /// Whether no reference is open.
     pub fn is_idle(&self) -> bool
-        ensures { IsTrue result ↔ IsIdle self.now }
+        ensures idle { IsTrue result ↔ IsIdle self.now }
+        ensures sound { IsMachine self.now }
     {
         self.ports.iter().all(|port| !port.is_open())
     }
@@ -166,6 +175,7 @@ impl Machine {
         ensures outcome { result ≡ outcome_of self.old.config self.old.code (machine_of self.old (λ p. [])) step }
         ensures stalled { result ≡ Outcome.Stalled → (shown : ℕ → List Event) → machine_of self.new shown ≡ machine_of self.old shown }
         ensures few { Few (sizes_of self.new.config) (program self.new.config self.new.code) (machine_of self.new (λ p. [])) }
+        ensures sound { IsMachine self.new }
     {
         // The proof needs that the machine is one, before and after.
         let _ = &self.config;
@@ -244,6 +254,7 @@ impl Machine {
     /// The step that a drain takes next. None where no reference is open.
     pub fn drain_step(&self) -> Option<Step>
         ensures next { result ≡ drain_step self.now }
+        ensures goes_on { IfSome result (GoesOn self.now) }
         ensures none { (result ≡ None) ↔ IsIdle self.now }
     {
         next_step(&self.network)
@@ -266,8 +277,8 @@ impl Machine {
         bound
     }
 
-    /// How many moves a drain takes at most.
-    fn most_moves(&self) -> u32
+    /// How many steps a drain takes at most: `2^k * (2k + 2)`.
+    pub fn most_moves(&self) -> u32
         ensures { result ≡ drain_bound self.now.config }
     {
         let k = u32::from(self.config.k);
@@ -302,7 +313,7 @@ impl Machine {
     {
         // The proof needs that the machine is one, before and after.
         let _ = &self.config;
-        let bound = self.most_moves();
+        let bound = 2 * u32::from(self.config.k) + 2;
         let mut last = Outcome::Issued;
         for moves in 0..bound {
             let Some(step) = self.drain_step() else {

@@ -11,7 +11,7 @@ use Rattle.assembler.specs.declared.fault.AsmFault.TheVariants as line_fault
 use Rattle.assembler.specs.Meaning.{IsMeaning, IsPresent}
 use Rattle.ultra.specs.declared.asm.command.AssembleFault.{AssembleFault}
 use Rattle.ultra.specs.declared.asm.command.AssembleFault.TheVariants as fault
-use Rattle.ultra.specs.Files.{IsWhole}
+use Rattle.command_io.specs.Files.{IsWhole}
 
 -- The image of what the file's text means is written, in its one spelling.
 pub record IsAssembled (known old new : Option (List ℕ)) : Type 0 where

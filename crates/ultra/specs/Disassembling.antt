@@ -9,7 +9,7 @@ use Rattle.elf_image.specs.Images.{ImageContents, IsAccepted, IsMeant}
 use Rattle.elf_image.specs.Refusals.{refusal_of}
 use Rattle.ultra.specs.declared.dis.command.DisassembleFault.{DisassembleFault}
 use Rattle.ultra.specs.declared.dis.command.DisassembleFault.TheVariants as fault
-use Rattle.ultra.specs.Files.{IsWhole}
+use Rattle.command_io.specs.Files.{IsWhole}
 use Rattle.ultra.specs.Listing.{IsListing}
 
 -- the file is accepted, and the image is what it means

@@ -1,12 +1,3 @@
-pub mod HexText
-pub mod Refused
-pub mod Report
-pub mod Running
-pub mod Loading
-pub mod Command
-pub mod Faults
-pub mod Files
-pub mod OnFirstWrite
 pub mod Assembling
 pub mod Listing
 pub mod Disassembling

@@ -1,8 +1,7 @@
 -- The lines of `ultra dis`: the words of code, and the instructions that they spell.
 use Rattle.std.specs.Prelude.{◌≡◌, ◌≢◌, ◌≤◌, ◌<◌, ◌+◌, ◌-◌, ◌*◌, ◌^◌, ℕ, zero, suc, List, [], ◌∷◌, ◌++◌, codes}
-use Rattle.std.specs.Int.{w32, to_be_bytes}
 use Rattle.std.specs.Option.{option_map_or}
-use Rattle.hex.specs.Hex.{encode_lower}
+use Rattle.command_io.specs.Digits.{hex_of_word}
 use Rattle.rv_table.specs.Rows.{insn_of}
 use Rattle.asm_lines.specs.Written.{text_of}
 use Rattle.flat_machine.specs.Memory.{number_at}
@@ -11,17 +10,13 @@ use Rattle.flat_machine.specs.Memory.{number_at}
 abbrev pub word_at : (code : List ℕ) → (index : ℕ) → ℕ
 word_at code index = number_at code (4 * index) 4
 
--- eight hex digits in lower case, the highest first
-abbrev pub hex_digits : ℕ → List ℕ
-hex_digits word = encode_lower (to_be_bytes w32 word)
-
 -- the text of the instruction that a word spells, or `-`
 abbrev pub text_of_word : ℕ → List ℕ
 text_of_word word = option_map_or text_of (insn_of word) (codes "-")
 
 -- `AAAAAAAA WWWWWWWW text`
 abbrev pub line_of : (address word : ℕ) → List ℕ
-line_of address word = hex_digits address ++ codes " " ++ hex_digits word ++ codes " " ++ text_of_word word ++ 10 ∷ []
+line_of address word = hex_of_word address ++ codes " " ++ hex_of_word word ++ codes " " ++ text_of_word word ++ 10 ∷ []
 
 -- the lines of so many words of code, the first of which stands at 0x00010000
 abbrev pub lines_of : (code : List ℕ) → (count : ℕ) → List ℕ

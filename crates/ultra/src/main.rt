@@ -2,25 +2,22 @@
 #![tactic(auto)]
 
 mod asm;
-#[cfg(test)]
-mod devices;
 mod dis;
-mod words;
 
-use asm::{CreateAt, OnFirstWrite, asm_command};
+use asm::asm_command;
 use clap::Error;
+use command_io::{CreateAt, OnFirstWrite, REFUSED};
 use dis::dis_command;
+use flat_machine::Config;
 use link::Meter;
-use settings::{Asm, Settings, settings, status_of};
+use run_commands::{replay_command, run_command};
+use settings::{Asm, Replay, Run, Settings, settings, status_of};
 use std::alloc::{AllocError, Global};
 use std::io::{self, ErrorKind, Write};
 use std::process::ExitCode;
 use std::rt::{Env, Files};
 use std::{env, fs};
-use words::{WordsFault, tell, words_command};
-
-/// The exit status of a command line that is refused.
-const REFUSED: u8 = 2;
+use words_command::{WordsFault, tell, words_command};
 
 fn main(rt: HostRuntime) -> ExitCode {
     let (stdout, stderr) = (rt.stdout(), rt.stderr());
@@ -55,6 +52,8 @@ fn carry_out<R: Env + Files + AllocGlobal, W: Write, E: Write>(
             Ok(file) => dis_command(alloc, file, dis.words, out, err),
             Err(_) => tell(WordsFault::Link, err),
         },
+        Ok(Settings::Run(run)) => run_file(rt, &run, out, err),
+        Ok(Settings::Replay(replay)) => replay_file(rt, &replay, out, err),
         Err(error) => refuse(&error, out, err),
     }
 }
@@ -69,6 +68,49 @@ fn assemble_file<R: Files + AllocGlobal, E: Write>(rt: &R, asm: &Asm<'_>, err: &
         path: asm.out,
     }));
     asm_command(rt.alloc(), file, &mut out, err)
+}
+
+/// Does what `run FILE` asks for, by the sweep. OUT is opened by the first write to it.
+fn run_file<R: Files + AllocGlobal, W: Write, E: Write>(
+    rt: &R,
+    run: &Run<'_>,
+    out: &mut W,
+    err: &mut E,
+) -> u8 {
+    let Ok(file) = fs::open(rt, run.file) else {
+        return tell(WordsFault::Link, err);
+    };
+    let config = Config {
+        k: run.k,
+        c: run.c,
+        b: run.b,
+        shared_words: run.words,
+    };
+    match run.trace {
+        Some(path) => {
+            let writer = OnFirstWrite::new(CreateAt { files: rt, path });
+            let mut trace = Some(Meter::new(writer));
+            run_command(rt.alloc(), file, config, run.budget, &mut trace, out, err)
+        }
+        None => {
+            let mut trace: Option<Meter<Vec<u8>>> = None;
+            run_command(rt.alloc(), file, config, run.budget, &mut trace, out, err)
+        }
+    }
+}
+
+/// Does what `replay TRACE FILE` asks for.
+fn replay_file<R: Files + AllocGlobal, W: Write, E: Write>(
+    rt: &R,
+    replay: &Replay<'_>,
+    out: &mut W,
+    err: &mut E,
+) -> u8 {
+    let Ok(trace) = fs::open(rt, replay.trace) else {
+        return tell(WordsFault::Link, err);
+    };
+    let file = fs::open(rt, replay.file);
+    replay_command(rt.alloc(), trace, file, replay.words, out, err)
 }
 
 /// The arguments as texts.

@@ -1,22 +1,41 @@
-//! A log that is full.
+//! A log that is almost full, and one that is full.
 
-use super::{look_at, machine};
-use crate::{LockRefusal, Logged, MAX_STEPS, Outcome, Step};
-use flat_machine::Poke;
+use super::{look_at, one_add};
+use crate::{LockRefusal, Logged};
+use flat_machine::{Poke, SHARED_START};
+use std::alloc::AllocGlobal;
+use std::process::Abort;
 use std::test::Fail;
+use steps::{MAX_STEPS, Outcome, Step};
 
-/// A log of 4,194,304 steps takes no step more, not even one that would stall, and nothing is
-/// changed. A step that names no place of the machine is refused as such.
-#[test]
-fn full_log_takes_no_step(rt: HostRuntime) -> Result<(), Fail> {
-    let mut log = Logged::new(rt.alloc(), machine(&rt, &[0x0071_0193], &[(1, 1)])?);
-    for number in 0..4_194_304_u32 {
+/// The log of a machine of one processor, with so many pokes of one shared byte.
+fn poked(rt: &(impl Abort + AllocGlobal), count: u32) -> Result<Logged, Fail> {
+    let mut log = one_add(rt)?;
+    for number in 0..count {
         let poke = Poke::Shared {
-            address: 0x8000_0008,
+            address: SHARED_START + 8,
             value: (number % 251) as u8,
         };
         assert_eq!(rt; log.step(Step::Poke(poke)), Ok(Outcome::Poked));
     }
+    Ok(log)
+}
+
+/// With one processor a drain asks for two places and an instruction for three, whatever they turn out to
+/// need. A log of 4,194,304 steps takes no step more, not even one that would stall, and nothing is
+/// changed. What names no place of the machine is refused as such.
+#[test]
+fn log_has_a_limit(rt: HostRuntime) -> Result<(), Fail> {
+    let mut log = poked(&rt, 4_194_302)?;
+    assert_eq!(rt; log.room(2), Ok(()));
+    assert_eq!(rt; log.room(3), Err(LockRefusal::Full));
+    assert_eq!(rt; log.one(0), Err(LockRefusal::Full));
+    assert_eq!(rt; log.drain(), Ok(0));
+    assert_eq!(rt; log.step(Step::Turn(0)), Ok(Outcome::Issued));
+    assert_eq!(rt; log.drain(), Err(LockRefusal::Full));
+    assert_eq!(rt; log.steps().len(), 4_194_303);
+    let served = Outcome::Served { leader: 0 };
+    assert_eq!(rt; log.step(Step::Serve(0)), Ok(served));
     assert_eq!(rt; log.steps().len(), MAX_STEPS);
     let before = look_at(log.machine());
     for (step, refusal) in [
@@ -26,8 +45,13 @@ fn full_log_takes_no_step(rt: HostRuntime) -> Result<(), Fail> {
         (Step::Up { stage: 0, wire: 0 }, LockRefusal::Unnamed),
     ] {
         assert_eq!(rt; log.step(step), Err(refusal), "{step:?}");
-        assert_eq!(rt; look_at(log.machine()), before, "{step:?}");
-        assert_eq!(rt; log.steps().len(), 4_194_304, "{step:?}");
     }
+    assert_eq!(rt; log.one(1), Err(LockRefusal::Unnamed));
+    assert_eq!(rt; log.one(0), Err(LockRefusal::Full));
+    assert_eq!(rt; log.drain(), Err(LockRefusal::Full));
+    assert_eq!(rt; log.room(1), Err(LockRefusal::Full));
+    assert_eq!(rt; log.room(0), Ok(()));
+    assert_eq!(rt; look_at(log.machine()), before);
+    assert_eq!(rt; log.steps().len(), 4_194_304);
     Ok(())
 }

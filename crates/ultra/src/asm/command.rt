@@ -5,10 +5,11 @@ ghost use Rattle.std.specs.Io.KnownBytes.{Appends};
 ghost use Rattle.link.specs.Transfer.{AppendsPart};
 ghost use Rattle.elf_image.specs.Spellings.{spelling};
 ghost use Rattle.assembler.specs.Meaning.{IsMeaning};
-ghost use Rattle.ultra.specs.Files.{IsWhole};
+ghost use Rattle.command_io.specs.Files.{IsWhole};
 ghost use Rattle.ultra.specs.Assembling.{IsAssembled, IsRefusalOf, IsUnread, IsToldOf, fault_of_text, status_of_fault};
 
 use assembler::{AsmError, AsmFault, Program, assemble};
+use command_io::{DONE, LINK_FAILED, REFUSED, SPENT};
 use elf_image::write_image;
 use link::{LinkWrite, Meter, ReadError, read_within};
 use std::alloc::Global;
@@ -18,9 +19,6 @@ use thiserror::Error;
 /// How many bytes a text may have. A text that fills every section of an image needs less than half of
 /// them; the limit is so that an input without an end does not take all memory.
 pub const MAX_TEXT_BYTES: usize = 16_777_216;
-
-/// The exit status of a text that was assembled.
-const DONE: u8 = 0;
 
 /// Why no image was written, or not all of it.
 #[derive(Clone, Copy, Debug, PartialEq, Eq, Drop, Error)]
@@ -48,9 +46,9 @@ impl AssembleFault {
         ensures { result ≡ status_of_fault self }
     {
         match self {
-            AssembleFault::Text(_) => 2,
-            AssembleFault::NotUtf8 | AssembleFault::Read | AssembleFault::Image => 3,
-            AssembleFault::Memory => 4,
+            AssembleFault::Text(_) => REFUSED,
+            AssembleFault::NotUtf8 | AssembleFault::Read | AssembleFault::Image => LINK_FAILED,
+            AssembleFault::Memory => SPENT,
         }
     }
 }

@@ -2,12 +2,13 @@
 
 ghost use Rattle.std.specs.Prelude.{◌≡◌, false};
 
-use crate::asm::{OnFirstWrite, Open, asm_command};
-use crate::devices::{Deaf, EBREAK, Endless, Sink, Source};
+use crate::asm::asm_command;
+use command_io::{OnFirstWrite, Open};
 use link::Meter;
 use std::alloc::Global;
 use std::io::{self, ErrorKind, Read, Write};
 use std::test::Fail;
+use test_devices::{Deaf, EBREAK, Endless, Sink, Source};
 
 /// What assembling a file comes to.
 #[derive(Drop)]

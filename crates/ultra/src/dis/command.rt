@@ -7,6 +7,7 @@ ghost use Rattle.ultra.specs.Listing.{IsListing};
 ghost use Rattle.ultra.specs.Disassembling.{IsDisassembled, IsImageOf, IsRefusalOf, fault_of_image, status_of_fault};
 
 use crate::dis::listing::listing;
+use command_io::{DONE, LINK_FAILED, REFUSED, SPENT};
 use elf_image::{Image, ImageError, read_image};
 use flat_machine::{Config, MIN_QUEUE_CAPACITY};
 use link::Meter;
@@ -14,9 +15,6 @@ use local_memory::Code;
 use std::alloc::{AllocError, Global};
 use std::io::{Read, Write};
 use thiserror::Error;
-
-/// The exit status of code that was printed.
-const DONE: u8 = 0;
 
 /// Why no code is printed, or not all of it.
 #[derive(Clone, Copy, Debug, PartialEq, Eq, Drop, Error)]
@@ -38,9 +36,9 @@ impl DisassembleFault {
         ensures { result ≡ status_of_fault self }
     {
         match self {
-            DisassembleFault::Image(ImageError::Link) | DisassembleFault::Print => 3,
-            DisassembleFault::Image(_) => 2,
-            DisassembleFault::Memory => 4,
+            DisassembleFault::Image(ImageError::Link) | DisassembleFault::Print => LINK_FAILED,
+            DisassembleFault::Image(_) => REFUSED,
+            DisassembleFault::Memory => SPENT,
         }
     }
 }

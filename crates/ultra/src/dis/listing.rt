@@ -1,11 +1,11 @@
 //! The lines of code.
 
 ghost use Rattle.std.specs.Prelude.{◌≡◌, ◌≢◌, ◌≤◌, ◌<◌, ◌-◌, ◌++◌, ◌^◌, ℕ, IfOk, OnOk, string_bytes};
-ghost use Rattle.hex.specs.Hex.{encode_lower};
-ghost use Rattle.ultra.specs.Listing.{IsListing, hex_digits, line_of, lines_of, text_of_word, word_at};
+ghost use Rattle.ultra.specs.Listing.{IsListing, line_of, lines_of, text_of_word, word_at};
 
 use arrayvec::ArrayString;
 use assembler::disassemble;
+use command_io::push_word;
 use decode::decode;
 use flat_machine::{CODE_START, Size};
 use local_memory::Code;
@@ -56,20 +56,12 @@ fn word_at(code: &Code, index: u32) -> u32
 fn push_line(alloc: Global, text: &mut String, address: u32, word: u32) -> Result<(), AllocError>
     ensures { OnOk result (string_bytes text.new ≡ string_bytes text.old ++ line_of address word) }
 {
-    push_digits(alloc, text, address)?;
+    push_word(alloc, text, address)?;
     text.push(' ')?;
-    push_digits(alloc, text, word)?;
+    push_word(alloc, text, word)?;
     text.push(' ')?;
     push_instruction(text, word)?;
     text.push('\n')
-}
-
-/// Appends eight hex digits in lower case.
-fn push_digits(alloc: Global, text: &mut String, word: u32) -> Result<(), AllocError>
-    ensures { OnOk result (string_bytes text.new ≡ string_bytes text.old ++ hex_digits word) }
-{
-    let digits = hex::encode(alloc, word.to_be_bytes())?;
-    text.push_str(digits.as_str())
 }
 
 /// Appends the text of the instruction that a word spells, or `-`.

@@ -1,12 +1,12 @@
 //! The command, from the bytes of an image to the lines of its code: what no clause says of it.
 
 use crate::asm::asm_command;
-use crate::devices::{Deaf, EBREAK, Endless, Source};
 use crate::dis::dis_command;
 use link::Meter;
 use std::alloc::Global;
 use std::io::Read;
 use std::test::Fail;
+use test_devices::{Deaf, EBREAK, Endless, Source};
 
 /// What disassembling a file comes to.
 #[derive(Drop)]

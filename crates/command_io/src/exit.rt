@@ -1,0 +1,16 @@
+//! Exit statuses.
+
+/// All that was asked for is done.
+pub const DONE: u8 = 0;
+
+/// All that was asked for is done, and a fault has stopped a processor.
+pub const STOPPED_BY_FAULT: u8 = 1;
+
+/// The command line or an input is refused.
+pub const REFUSED: u8 = 2;
+
+/// A file or standard output could not be opened, read or written.
+pub const LINK_FAILED: u8 = 3;
+
+/// There was no memory, or no room in the log, or the budget was used up.
+pub const SPENT: u8 = 4;

@@ -1,0 +1,88 @@
+//! Texts of numbers, and a writer that is opened by its first write.
+
+use crate::{OnFirstWrite, Open, push_bytes, push_status, push_word};
+use flat_machine::{Fault, Status};
+use std::alloc::Global;
+use std::io::{self, ErrorKind, Write};
+use std::test::Fail;
+
+#[test]
+fn digits(rt: HostRuntime) -> Result<(), Fail> {
+    let alloc = rt.alloc();
+    let mut text = String::new(alloc);
+    push_word(alloc, &mut text, 0x00C0_FFEE)?;
+    text.push(' ')?;
+    push_bytes(alloc, &mut text, &[0, 0x7F, 0xA0])?;
+    assert_eq!(rt; text.as_str(), "00c0ffee 007fa0");
+    Ok(())
+}
+
+#[test]
+fn statuses(rt: HostRuntime) -> Result<(), Fail> {
+    let alloc = rt.alloc();
+    for (status, is) in [
+        (Status::Running, "run"),
+        (Status::Halted(0x0A), "halt 0a"),
+        (Status::Faulted(Fault::Breakpoint), "fault 8"),
+    ] {
+        let mut text = String::new(alloc);
+        push_status(alloc, &mut text, status)?;
+        assert_eq!(rt; text.as_str(), is);
+    }
+    Ok(())
+}
+
+/// Opens a buffer, or fails, and counts the openings.
+#[derive(Drop)]
+struct Door {
+    alloc: Global,
+    is_shut: bool,
+    openings: usize,
+}
+
+impl Open for Door {
+    type Device = Vec<u8>;
+
+    fn open(&mut self) -> io::Result<Vec<u8>> {
+        self.openings = self.openings.saturating_add(1);
+        if self.is_shut {
+            Err(ErrorKind::PermissionDenied.into())
+        } else {
+            Ok(Vec::new(self.alloc))
+        }
+    }
+}
+
+#[test]
+fn opens_at_the_first_write(rt: HostRuntime) {
+    let alloc = rt.alloc();
+    let mut writer = OnFirstWrite::new(Door {
+        alloc,
+        is_shut: false,
+        openings: 0,
+    });
+    assert!(rt; writer.flush().is_ok());
+    assert_eq!(rt; writer.opener.openings, 0);
+    assert!(rt; writer.device.is_none());
+    assert!(rt; writer.write_all(b"a").is_ok());
+    assert!(rt; writer.write_all(b"b").is_ok());
+    assert!(rt; writer.flush().is_ok());
+    assert_eq!(rt; writer.opener.openings, 1);
+    assert_eq!(rt;
+        writer.device.as_ref().map(|bytes| bytes.as_slice()),
+        Some(b"ab".as_slice())
+    );
+}
+
+#[test]
+fn failed_opening_is_a_failed_write(rt: HostRuntime) {
+    let mut writer = OnFirstWrite::new(Door {
+        alloc: rt.alloc(),
+        is_shut: true,
+        openings: 0,
+    });
+    assert!(rt; writer.write(b"a").is_err());
+    assert!(rt; writer.write(b"a").is_err());
+    assert_eq!(rt; writer.opener.openings, 2);
+    assert!(rt; writer.device.is_none());
+}

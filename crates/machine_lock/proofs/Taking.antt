@@ -1,0 +1,163 @@
+-- Steps that are taken and entered, one after another.
+use Rattle.std.proofs.Common.{◌≡◌, ℕ, ◌+◌, ◌*◌, ◌<◌, ◌≤◌, Bool, true, false, List, [], ◌∷◌, ◌++◌, length, Some, None, refl, sym, ap, ◌∙◌, subst, arith}
+use Rattle.std.specs.Prelude.{if◌then◌else◌}
+use Rattle.std.proofs.lemmas.Bool.{true≢false}
+use Rattle.std.proofs.lemmas.List.{length-append, append-nil, append_assoc}
+use Rattle.flat_machine.specs.declared.event.Event.{Event}
+use Rattle.steps.specs.declared.step.Step.{Step}
+use Rattle.steps.specs.declared.step.Step.TheVariants as step
+use Rattle.steps.specs.declared.step.Outcome.{Outcome}
+use Rattle.steps.specs.declared.step.Outcome.TheVariants.{Issued, Stalled}
+use Rattle.steps.specs.Answers.{is_stalled}
+use Rattle.machine_steps.specs.Machines.{MachineLists, machine_of, IsIdle, IsMachine, IsStep}
+use Rattle.machine_steps.specs.Runs.{IsReplay}
+use Rattle.machine_steps.specs.Draining.{drain_step, GoesOn, drain_bound, drain_steps, IsDrained}
+use Rattle.machine_steps.specs.Whole.{IsOne, IsSent}
+use Rattle.machine_steps.proofs.Replaying.{stalled_is, replay_begins, replay_more, replay_kept}
+use Rattle.machine_steps.proofs.Drained.{IsUnderWay, drain_begins, drain_goes_on, all_taken, bound_taken, drain_stops, drain_is_over, IsDraining, draining_begins, draining_goes_on}
+use Rattle.machine_steps.proofs.Whole.{IsComingBack, begins_back, comes_on, is_back, sent_ends}
+use Rattle.machine_lock.specs.Logs.{Log, entered, IsKept, IsEntered}
+
+-- ---- stalls
+
+pub moving_is : (o : Outcome) → is_stalled o ≡ false → o ≡ Stalled → ⊥
+moving_is o moves e = true≢false (sym (ap is_stalled e) ∙ moves)
+
+-- what does not stall is entered
+pub entered_moving : (steps : List Step) (s : Step) (o : Outcome) → (o ≡ Stalled → ⊥) → entered steps s o ≡ steps ++ s ∷ []
+entered_moving steps s o moves = by (is_stalled o) refl
+  where
+    by : (b : Bool) → is_stalled o ≡ b → (if b then steps else steps ++ s ∷ []) ≡ steps ++ s ∷ []
+    by true e = absurd (moves (stalled_is o e))
+    by false e = refl
+
+-- and what stalls is not
+pub entered_stalled : (steps : List Step) (s : Step) (o : Outcome) → is_stalled o ≡ true → entered steps s o ≡ steps
+entered_stalled steps s o stalls = ap (λ b. if b then steps else steps ++ s ∷ []) stalls
+
+-- ---- one step, and one after another
+
+pub entered_none : (m : MachineLists) (steps : List Step) (most : ℕ) → IsMachine m → IsEntered m steps most m steps
+entered_none m steps most is = record { sound = is; more = []; is = sym (append-nil steps); count = omega arith; replay = λ opening r. r }
+
+pub entered_one : (m new : MachineLists) (steps : List Step) (s : Step) (o : Outcome) → IsMachine new → IsStep m s o new → (o ≡ Stalled → (shown : ℕ → List Event) → machine_of new shown ≡ machine_of m shown) →
+    IsEntered m steps 1 new (entered steps s o)
+entered_one m new steps s o is st kept = by (is_stalled o) refl
+  where
+    by : (b : Bool) → is_stalled o ≡ b → IsEntered m steps 1 new (if b then steps else steps ++ s ∷ [])
+    by true e = record {
+      sound = is;
+      more = [];
+      is = sym (append-nil steps);
+      count = omega arith;
+      replay = λ opening r. replay_kept opening m new steps s o r st (kept (stalled_is o e));
+    }
+    by false e = record { sound = is; more = s ∷ []; is = refl; count = omega arith; replay = λ opening r. replay_more opening m new steps s o r st (moving_is o e) }
+
+pub entered_join : (m0 m1 m2 : MachineLists) (steps0 steps1 steps2 : List Step) (a b most : ℕ) → IsEntered m0 steps0 a m1 steps1 → IsEntered m1 steps1 b m2 steps2 → a + b ≤ most → IsEntered m0 steps0 most m2 steps2
+entered_join m0 m1 m2 steps0 steps1 steps2 a b most first second few = record {
+  sound = second.sound;
+  more = first.more ++ second.more;
+  is = second.is ∙ ap (λ xs. xs ++ second.more) first.is ∙ append_assoc steps0 first.more second.more;
+  count = (let l = length-append first.more second.more in let x = first.count in let y = second.count in omega (arith, l, x, y, few));
+  replay = λ opening r. second.replay opening (first.replay opening r);
+}
+
+pub entered_most : (m new : MachineLists) (steps steps' : List Step) (a b : ℕ) → IsEntered m steps a new steps' → a ≤ b → IsEntered m steps b new steps'
+entered_most m new steps steps' a b e few = record { sound = e.sound; more = e.more; is = e.is; count = (let x = e.count in omega (arith, x, few)); replay = e.replay }
+
+-- how many steps there are then
+pub entered_length : (m new : MachineLists) (steps steps' : List Step) (most : ℕ) → IsEntered m steps most new steps' → length steps' ≤ length steps + most
+entered_length m new steps steps' most e =
+    let all : length steps' ≡ length steps + length e.more = ap length e.is ∙ length-append steps e.more in
+    let few = e.count in omega (arith, all, few)
+
+-- a log is kept where it is new
+pub kept_new : (opening m : MachineLists) (steps : List Step) → IsMachine m → IsIdle m → opening ≡ m → steps ≡ [] → IsKept (record { opening = opening; steps = steps; machine = m })
+kept_new opening m steps is idle same none =
+    subst (λ (o : MachineLists). IsKept (record { opening = o; steps = steps; machine = m })) (sym same)
+    (subst (λ xs. IsKept (record { opening = m; steps = xs; machine = m })) (sym none) (record { opens = is; idle = idle; sound = is; replay = replay_begins m; room = omega arith }))
+
+-- and where its machine's steps are entered, and there is room for them
+pub kept_after : (l : Log) (new : MachineLists) (steps' : List Step) (most : ℕ) → IsKept l → IsEntered l.machine l.steps most new steps' → length steps' ≤ 4194304 → IsKept (record { opening = l.opening; steps = steps'; machine = new })
+kept_after l new steps' most k e room = record { opens = k.opens; idle = k.idle; sound = e.sound; replay = e.replay l.opening k.replay; room = room }
+
+-- ---- a drain
+
+-- So many steps of a drain are taken, and entered behind the steps that stood there.
+pub record IsDrainEntered (old : MachineLists) (steps : List Step) (i : ℕ) (m : MachineLists) (steps' : List Step) : Type 0 where
+  pub done : List Step
+  pub under_way : IsUnderWay old (drain_bound old.config) done m
+  pub count : length done ≡ i
+  pub is : steps' ≡ steps ++ done
+  pub entered : IsEntered old steps i m steps'
+
+pub drain_entered_none : (m : MachineLists) (steps : List Step) → IsMachine m → IsDrainEntered m steps 0 m steps
+drain_entered_none m steps is = record {
+  done = [];
+  under_way = drain_begins (drain_bound m.config) m;
+  count = refl;
+  is = sym (append-nil steps);
+  entered = entered_none m steps 0 is;
+}
+
+module _ (old : MachineLists) (steps : List Step) (i : ℕ) (m : MachineLists) (steps' : List Step) (d : IsDrainEntered old steps i m steps') where
+  pub drain_entered_more : (s : Step) (o : Outcome) (new : MachineLists) (steps2 : List Step) → i < drain_bound old.config → drain_step m ≡ Some s → GoesOn m s → IsStep m s o new →
+      steps2 ≡ entered steps' s o → IsEntered m steps' 1 new steps2 → IsDrainEntered old steps (i + 1) new steps2
+  drain_entered_more s o new steps2 within names goes st is e =
+      let moves : o ≡ Stalled → ⊥ = (λ f. goes.moves (sym st.step.outcome ∙ f)) in
+      record {
+        done = d.done ++ s ∷ [];
+        under_way = drain_goes_on old m (drain_bound old.config) d.done d.under_way s o new (let n = d.count in omega (arith, n, within)) names st;
+        count = length-append d.done (s ∷ []) ∙ (let n = d.count in omega (arith, n));
+        is = is ∙ entered_moving steps' s o moves ∙ ap (λ xs. xs ++ s ∷ []) d.is ∙ append_assoc steps d.done (s ∷ []);
+        entered = entered_join old m new steps steps' steps2 i 1 (i + 1) d.entered e (omega arith);
+      }
+
+  pub drain_entered_stops : drain_step m ≡ None → IsIdle m → IsDrained old i m × (steps' ≡ steps ++ drain_steps old)
+  drain_entered_stops none idle = (
+    subst (λ n. IsDrained old n m) d.count (drain_stops old m d.done d.under_way none idle),
+    d.is ∙ ap (λ xs. steps ++ xs) (sym (all_taken old m (drain_bound old.config) d.done d.under_way none)),
+  )
+
+  pub drain_entered_over : IsMachine old → i ≡ drain_bound old.config → IsDrained old i m × (steps' ≡ steps ++ drain_steps old)
+  drain_entered_over is over = (
+    subst (λ n. IsDrained old n m) d.count (drain_is_over old m d.done d.under_way is (d.count ∙ over)),
+    d.is ∙ ap (λ xs. steps ++ xs) (sym (bound_taken old m (drain_bound old.config) d.done d.under_way (d.count ∙ over))),
+  )
+
+  pub drain_entered_all : i ≤ drain_bound old.config → IsEntered old steps (drain_bound old.config) m steps'
+  drain_entered_all few = entered_most old m steps steps' i (drain_bound old.config) d.entered few
+
+-- ---- a reference that is brought back
+
+pub record IsBringingBack (sent : MachineLists) (steps : List Step) (i : ℕ) (m : MachineLists) (steps' : List Step) (last : Outcome) : Type 0 where
+  pub draining : IsDraining sent (2 * sent.config.k + 2) i m
+  pub entered : IsEntered sent steps i m steps'
+  pub coming : (before : MachineLists) (p : ℕ) → IsSent before p sent → IsComingBack before p m last
+
+pub bringing_none : (m : MachineLists) (steps : List Step) → IsMachine m → IsBringingBack m steps 0 m steps Issued
+bringing_none m steps is = record {
+  draining = draining_begins (2 * m.config.k + 2) m;
+  entered = entered_none m steps 0 is;
+  coming = λ before p sent. begins_back before p m sent;
+}
+
+module _ (sent : MachineLists) (steps : List Step) (i : ℕ) (m : MachineLists) (steps' : List Step) (last : Outcome) (b : IsBringingBack sent steps i m steps' last) where
+  pub bringing_more : (s : Step) (o : Outcome) (new : MachineLists) (steps2 : List Step) → i < 2 * sent.config.k + 2 → drain_step m ≡ Some s → IsStep m s o new → IsEntered m steps' 1 new steps2 →
+      IsBringingBack sent steps (i + 1) new steps2 o
+  bringing_more s o new steps2 within names st e = record {
+    draining = draining_goes_on sent m (2 * sent.config.k + 2) i b.draining s o new within names st;
+    entered = entered_join sent m new steps steps' steps2 i 1 (i + 1) b.entered e (omega arith);
+    coming = λ before p is. comes_on before p m last (b.coming before p is) s o new st names;
+  }
+
+  pub brought_back : IsIdle m → (before : MachineLists) (p : ℕ) → IsSent before p sent → IsOne before p last m
+  brought_back idle before p is = is_back before p m last (b.coming before p is) is.machine is.idle b.entered.sound idle
+
+  pub brought_in_time : IsMachine sent → i ≡ 2 * sent.config.k + 2 → (before : MachineLists) (p : ℕ) → IsSent before p sent → IsOne before p last m
+  brought_in_time here over before p is =
+      brought_back (sent_ends before p sent m b.draining.done is here b.draining.under_way (b.draining.count ∙ over)) before p is
+
+  pub bringing_all : i ≤ 2 * sent.config.k + 2 → IsEntered sent steps (2 * sent.config.k + 2) m steps'
+  bringing_all few = entered_most sent m steps steps' i (2 * sent.config.k + 2) b.entered few

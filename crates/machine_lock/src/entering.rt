@@ -1,0 +1,104 @@
+//! Steps of a machine, entered in a list as they are taken.
+
+ghost use Rattle.std.specs.Prelude.{◌≡◌, ◌≤◌, ◌<◌, ◌+◌, ◌*◌, ◌↔◌, ◌++◌, ℕ, List, length, Err, OnOk};
+ghost use Rattle.std.specs.Vec.{vec_capacity};
+ghost use Rattle.flat_machine.specs.declared.event.Event.{Event};
+ghost use Rattle.machine_steps.specs.Machines.{MachineLists, machine_of, IsIdle, IsStep};
+ghost use Rattle.machine_steps.specs.Draining.{drain_bound, drain_steps, IsDrained};
+ghost use Rattle.machine_steps.specs.Whole.{IsOne, IsSent};
+ghost use Rattle.machine_lock.specs.Logs.{entered, IsEntered};
+
+use crate::log::LockRefusal;
+use machine_steps::Machine;
+use steps::{MAX_STEPS, Outcome, Step};
+
+/// Makes room for more steps, so that entering them takes no memory.
+pub(crate) fn make_room(steps: &mut Vec<Step>, extra: u32) -> Result<(), LockRefusal>
+    requires { length steps.old.items ≤ 4194304 }
+    ensures room { OnOk result (length steps.old.items + extra ≤ vec_capacity steps.new) }
+    ensures full { (result ≡ Err LockRefusal.Full) ↔ (4194304 < length steps.old.items + extra) }
+    ensures named { result ≡ Err LockRefusal.Unnamed → ⊥ }
+    ensures kept { steps.new.items ≡ steps.old.items }
+{
+    if extra as usize > MAX_STEPS - steps.len() {
+        return Err(LockRefusal::Full);
+    }
+    match steps.reserve(extra as usize) {
+        Ok(()) => Ok(()),
+        Err(_) => Err(LockRefusal::Memory),
+    }
+}
+
+/// Takes a step, and enters it unless it stalls. There is room for it.
+pub(crate) fn enter(machine: &mut Machine, steps: &mut Vec<Step>, step: Step) -> Outcome
+    requires room { length steps.old.items < vec_capacity steps.old }
+    ensures step { IsStep machine.old step result machine.new }
+    ensures stalled { result ≡ Outcome.Stalled → (shown : ℕ → List Event) → machine_of machine.new shown ≡ machine_of machine.old shown }
+    ensures steps { steps.new.items ≡ entered steps.old.items step result }
+    ensures entered { IsEntered machine.old steps.old.items 1 machine.new steps.new.items }
+    ensures capacity { vec_capacity steps.new ≡ vec_capacity steps.old }
+{
+    let outcome = machine.apply(step);
+    if !outcome.is_stalled() {
+        steps.push_reserved(step);
+    }
+    outcome
+}
+
+/// Takes and enters the steps of a drain, and answers how many. There is room for as many as a drain
+/// takes at most.
+pub(crate) fn drain(machine: &mut Machine, steps: &mut Vec<Step>) -> u32
+    requires room { length steps.old.items + drain_bound machine.old.config ≤ vec_capacity steps.old }
+    ensures drained { IsDrained machine.old result machine.new }
+    ensures steps { steps.new.items ≡ steps.old.items ++ drain_steps machine.old }
+    ensures entered { IsEntered machine.old steps.old.items (drain_bound machine.old.config) machine.new steps.new.items }
+{
+    // The proof needs that the machine is one.
+    let _ = machine.is_idle();
+    let bound = machine.most_moves();
+    for moves in 0..bound {
+        let Some(step) = machine.drain_step() else {
+            return moves;
+        };
+        enter(machine, steps, step);
+    }
+    bound
+}
+
+/// Takes and enters the steps of one whole instruction of a processor, on a machine in which no
+/// reference is open. There is room for them.
+pub(crate) fn one(machine: &mut Machine, steps: &mut Vec<Step>, p: u8) -> Outcome
+    requires idle { IsIdle machine.old }
+    requires room { length steps.old.items + (2 * machine.old.config.k + 3) ≤ vec_capacity steps.old }
+    ensures whole { IsOne machine.old p result machine.new }
+    ensures entered { IsEntered machine.old steps.old.items (2 * machine.old.config.k + 3) machine.new steps.new.items }
+{
+    // The proof needs that the machine is one.
+    let _ = machine.is_idle();
+    let outcome = enter(machine, steps, Step::Turn(p));
+    match outcome {
+        Outcome::Issued => bring_back(machine, steps),
+        whole => whole,
+    }
+}
+
+/// Drains a machine in which one processor has sent a request, enters the steps, and answers what the
+/// processor retires. There is room for them.
+fn bring_back(machine: &mut Machine, steps: &mut Vec<Step>) -> Outcome
+    requires sent { (before : MachineLists) × (p : ℕ) × IsSent before p machine.old }
+    requires room { length steps.old.items + (2 * machine.old.config.k + 2) ≤ vec_capacity steps.old }
+    ensures whole { (before : MachineLists) (p : ℕ) → IsSent before p machine.old → IsOne before p result machine.new }
+    ensures entered { IsEntered machine.old steps.old.items (2 * machine.old.config.k + 2) machine.new steps.new.items }
+{
+    // The proof needs that the machine is one.
+    let _ = machine.is_idle();
+    let bound = 2 * u32::from(machine.config().k) + 2;
+    let mut last = Outcome::Issued;
+    for moves in 0..bound {
+        let Some(step) = machine.drain_step() else {
+            return last;
+        };
+        last = enter(machine, steps, step);
+    }
+    last
+}

@@ -1,0 +1,102 @@
+-- What the commands do: from the bytes of files to the bytes of a report.
+use Rattle.std.specs.Prelude.{◌≡◌, Bool, false, ℕ, List, [], ◌++◌, length, Option, Some, None, Result, Ok, Err}
+use Rattle.std.specs.Io.KnownBytes.{Appends}
+use Rattle.flat_machine.specs.declared.config.Config.{Config}
+use Rattle.elf_image.specs.Images.{ImageContents, IsAccepted, IsMeant}
+use Rattle.elf_image.specs.Refusals.{refusal_of}
+use Rattle.elf_image.specs.declared.error.ImageError.{ImageError}
+use Rattle.elf_image.specs.declared.error.ImageError.TheVariants as image
+use Rattle.steps.specs.declared.step.Step.{Step}
+use Rattle.trace_file.specs.Traces.{TraceContents, trace_bytes, trace_of, config_of, IsTrace}
+use Rattle.machine_steps.specs.Machines.{MachineLists, IsIdle}
+use Rattle.machine_steps.specs.Runs.{IsOpening, IsReplay, IsSerialized}
+use Rattle.machine_lock.specs.Logs.{Log}
+use Rattle.run_commands.specs.declared.fault.Fault.{Fault}
+use Rattle.run_commands.specs.declared.fault.Fault.TheVariants as fault
+use Rattle.run_report.specs.Tallies.{TallyState}
+use Rattle.command_io.specs.Files.{IsWhole}
+use Rattle.run_commands.specs.Retaking.{IsRetaken}
+use Rattle.run_commands.specs.Reports.{report_of, HasEnded, IsExitOf}
+
+-- the file is accepted, and the image is what it means
+pub record IsImageOf (shared_words : ℕ) (known : Option (List ℕ)) (image : ImageContents) : Type 0 where
+  pub file : List ℕ
+  pub whole : IsWhole known file
+  pub accepted : IsAccepted shared_words file
+  pub meant : IsMeant shared_words file image.layout
+  pub words : image.shared_words ≡ shared_words
+
+-- the file spells the trace
+pub record IsTraceOf (known : Option (List ℕ)) (t : TraceContents) : Type 0 where
+  pub trace : IsTrace t
+  pub whole : IsWhole known (trace_bytes t)
+
+-- This is the report of the machine of this size that opens on the image, after the steps, and this is its exit status.
+pub record IsReportOf (c : Config) (image : ImageContents) (steps : List Step) (text : List ℕ) (status : ℕ) : Type 0 where
+  pub opening : MachineLists
+  pub opens : IsOpening c image opening
+  pub machine : MachineLists
+  pub tally : TallyState
+  pub retaken : IsRetaken opening steps machine tally
+  pub is : text ≡ report_of machine tally.shown
+  pub exit : IsExitOf machine status
+
+-- No reference is open in the machine after the steps, which begin with those of a trace.
+pub record IsDrainedReport (c : Config) (image : ImageContents) (steps : List Step) (text : List ℕ) (status : ℕ) : Type 0 where
+  pub drain : List Step
+  pub report : IsReportOf c image (steps ++ drain) text status
+  pub idle : IsIdle report.machine
+
+-- The report of a trace that is replayed, and then drained, is printed.
+pub record IsReplayed (shared_words : ℕ) (trace known old new : Option (List ℕ)) (status : ℕ) : Type 0 where
+  pub steps : TraceContents
+  pub read : IsTraceOf trace steps
+  pub image : ImageContents
+  pub meant : IsImageOf shared_words known image
+  pub text : List ℕ
+  pub report : IsDrainedReport (config_of steps shared_words) image steps.steps text status
+  pub printed : Appends old new text
+
+-- what is known of a file's bytes, where it could be opened
+abbrev pub known_of : {R E : Type 0} → (R → Option (List ℕ)) → Result R E → Option (List ℕ)
+known_of remaining (Ok file) = remaining file
+known_of remaining (Err error) = None
+
+-- ---- a run
+
+-- a writer of which no call has failed, where there is one
+abbrev pub IsWorking : {T : Type 0} → (T → Bool) → Option T → Type 0
+IsWorking has_failed None = Unit {0}
+IsWorking has_failed (Some writer) = has_failed writer ≡ false
+
+-- the bytes are written, where there is a writer
+abbrev pub IsSaved : {T : Type 0} → (T → Option (List ℕ)) → (old new : Option T) → List ℕ → Type 0
+IsSaved contents None None bytes = Unit {0}
+IsSaved contents (Some old) (Some new) bytes = Appends (contents old) (contents new) bytes
+IsSaved contents None (Some new) bytes = ⊥
+IsSaved contents (Some old) None bytes = ⊥
+
+-- no byte of the trace is written before such a fault is told
+abbrev pub IsBeforeTheTrace : Fault → Type 0
+IsBeforeTheTrace (fault.Trace e) = ⊥
+IsBeforeTheTrace fault.Link = ⊥
+IsBeforeTheTrace _ = Unit {0}
+
+-- the log of a run, which has ended, of the image that a file means
+pub record HasRun (c : Config) (known : Option (List ℕ)) (log : Log) : Type 0 where
+  pub image : ImageContents
+  pub meant : IsImageOf c.shared_words known image
+  pub opens : IsOpening c image log.opening
+  pub trace : IsTrace (trace_of c log.steps)
+  pub config : log.machine.config ≡ c
+  pub image_is : log.machine.image ≡ image
+  pub ended : HasEnded log.machine
+
+-- The image that a file means has run; the trace of the run is written, where one is asked for, and its report is printed.
+pub record IsRun (c : Config) {T : Type 0} (contents : T → Option (List ℕ)) (trace trace' : Option T) (known old new : Option (List ℕ)) (status : ℕ) : Type 0 where
+  pub log : Log
+  pub ran : HasRun c known log
+  pub text : List ℕ
+  pub report : IsReportOf c ran.image log.steps text status
+  pub saved : IsSaved contents trace trace' (trace_bytes (trace_of c log.steps))
+  pub printed : Appends old new text

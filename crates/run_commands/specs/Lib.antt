@@ -1,0 +1,4 @@
+pub mod Retaking
+pub mod Reports
+pub mod Faults
+pub mod Commands

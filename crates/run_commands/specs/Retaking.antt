@@ -1,0 +1,33 @@
+-- Steps that are taken, and what the processors show in them.
+use Rattle.std.specs.Prelude.{◌≡◌, ℕ, ◌^◌, ◌<◌, List, [], length, take, slice_index_or}
+use Rattle.flat_machine.specs.declared.event.Event.{Event}
+use Rattle.steps.specs.declared.step.Step.{Step}
+use Rattle.steps.specs.declared.step.Step.TheVariants as step
+use Rattle.steps.specs.declared.step.Outcome.TheVariants as step_outcome
+use Rattle.machine_program.specs.Steps.{outcome_of}
+use Rattle.machine_steps.specs.Machines.{MachineLists, machine_of}
+use Rattle.machine_steps.specs.Runs.{all_after, events_of, IsReplay}
+use Rattle.run_report.specs.Tallies.{TallyState}
+use Rattle.run_report.specs.Events.{IsTally}
+use Rattle.run_commands.specs.declared.taking.RetakeError.{RetakeError}
+use Rattle.run_commands.specs.declared.taking.RetakeError.TheVariants.{Stalled, Memory}
+
+-- the events that the processors of a machine show in these steps
+abbrev pub events_in : MachineLists → List Step → ℕ → List Event
+events_in opening steps = events_of (all_after opening.config opening.code (machine_of opening (λ p. [])) steps)
+
+-- The machine is the replay of its opening over the steps, and the tally has what each processor has shown in them.
+pub record IsRetaken (opening : MachineLists) (steps : List Step) (m : MachineLists) (t : TallyState) : Type 0 where
+  pub replay : IsReplay opening steps m
+  pub tally : IsTally (2 ^ opening.config.k) t (events_in opening steps) (length steps)
+
+-- The step at this place is the first that stalls: the machine stands after those before it, each of which did something.
+pub record StallsAt (old : MachineLists) (steps : List Step) (place : ℕ) (new : MachineLists) : Type 0 where
+  pub inside : place < length steps
+  pub before : IsReplay old (take place steps) new
+  pub stalls : outcome_of new.config new.code (machine_of new (λ p. [])) (slice_index_or steps place (step.Turn 0)) ≡ step_outcome.Stalled
+
+-- Why not all steps were taken. Of want of memory nothing is said.
+abbrev pub IsNotRetaken : (old : MachineLists) → List Step → (new : MachineLists) → RetakeError → Type 0
+IsNotRetaken old steps new (Stalled place) = StallsAt old steps place new
+IsNotRetaken old steps new Memory = Unit {0}

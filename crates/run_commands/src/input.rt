@@ -1,0 +1,44 @@
+//! What is read before a machine takes steps.
+
+ghost use Rattle.std.specs.Prelude.{◌≡◌, ◌≢◌, IfOk, IfErr};
+ghost use Rattle.machine_steps.specs.Runs.{IsOpening};
+ghost use Rattle.run_commands.specs.Commands.{IsBeforeTheTrace, IsImageOf, IsTraceOf};
+
+use crate::fault::Fault;
+use elf_image::{Image, read_image};
+use flat_machine::Config;
+use link::Meter;
+use machine_steps::Machine;
+use std::alloc::Global;
+use std::io::Read;
+use trace_file::{Trace, read_trace};
+
+/// The trace that a file is.
+pub(crate) fn trace_of<R: Read + Drop>(alloc: Global, file: R) -> Result<Trace, Fault>
+    ensures trace { IfOk result (IsTraceOf (R.remaining file)) }
+    ensures refused { IfErr result (λ fault. fault ≢ Fault.Link) }
+{
+    Ok(read_trace(alloc, &mut Meter::new(file))?)
+}
+
+/// The image that a file is, for machines of this size.
+pub(crate) fn image_of<R: Read + Drop>(
+    alloc: Global,
+    file: R,
+    config: &Config,
+) -> Result<Image, Fault>
+    ensures image { IfOk result (IsImageOf config.now.shared_words (R.remaining file)) }
+    ensures refused { IfErr result (λ fault. fault ≢ Fault.Link) }
+    ensures early { IfErr result IsBeforeTheTrace }
+{
+    Ok(read_image(alloc, &mut Meter::new(file), config)?)
+}
+
+/// The machine that opens on an image.
+pub(crate) fn machine_of(alloc: Global, image: Image, config: Config) -> Result<Machine, Fault>
+    ensures opening { IfOk result (IsOpening config image) }
+    ensures refused { IfErr result (λ fault. fault ≢ Fault.Link) }
+    ensures early { IfErr result IsBeforeTheTrace }
+{
+    Ok(Machine::new(alloc, image, config)?)
+}

@@ -1,0 +1,26 @@
+//! `ultra run` and `ultra replay`: from the bytes of an image to the report of a machine.
+//!
+//! [`run_command`] runs a program by the sweep, and [`replay_command`] takes the steps of a trace. What
+//! they report is a function of the image, the machine's size and the steps: the steps are taken on a
+//! machine that opens on the image ([`retaken`]), and what each step answers is counted. The report is
+//! made whole before its first byte is written.
+#![tactic(auto)]
+
+mod fault;
+mod input;
+mod output;
+mod replay;
+mod reporting;
+mod run;
+mod states;
+mod sweeping;
+mod taking;
+#[cfg(test)]
+mod tests;
+
+pub use fault::Fault;
+pub use replay::replay_command;
+pub use reporting::report;
+pub use run::run_command;
+pub use sweeping::{MOST_STEPS, RunEnd, follow_sweep};
+pub use taking::{RetakeError, drained, retaken};

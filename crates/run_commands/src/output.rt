@@ -1,0 +1,41 @@
+//! What is written, once all of it is there.
+
+ghost use Rattle.std.specs.Prelude.{◌≡◌, IfErr, OnOk};
+ghost use Rattle.std.specs.Io.KnownBytes.{Appends};
+ghost use Rattle.trace_file.specs.Traces.{IsTrace, trace_bytes, trace_of};
+ghost use Rattle.run_commands.specs.Commands.{IsSaved, IsWorking};
+
+use crate::fault::Fault;
+use flat_machine::Config;
+use link::LinkWrite;
+use std::io::Write;
+use steps::Step;
+use trace_file::{TraceError, write_trace};
+
+/// Writes the trace of a run, where one is asked for.
+pub(crate) fn save<T: LinkWrite>(
+    trace: &mut Option<T>,
+    config: &Config,
+    steps: &[Step],
+) -> Result<(), Fault>
+    requires works { IsWorking T.has_failed trace.old }
+    requires trace { IsTrace (trace_of config.now steps.now) }
+    ensures saved { OnOk result (IsSaved T.contents trace.old trace.new (trace_bytes (trace_of config.now steps.now))) }
+    ensures failed { IfErr result (λ fault. fault ≡ Fault.Trace TraceError.Link) }
+{
+    match trace {
+        Some(writer) => Ok(write_trace(writer, config, steps)?),
+        None => Ok(()),
+    }
+}
+
+/// Prints a report.
+pub(crate) fn print<W: Write>(out: &mut W, text: &str) -> Result<(), Fault>
+    ensures printed { OnOk result (Appends (W.contents out.old) (W.contents out.new) text.now) }
+    ensures failed { IfErr result (λ fault. fault ≡ Fault.Link) }
+{
+    match out.write_all(text.as_bytes()) {
+        Ok(()) => Ok(()),
+        Err(_) => Err(Fault::Link),
+    }
+}

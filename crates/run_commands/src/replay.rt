@@ -1,0 +1,85 @@
+//! `ultra replay`: from the bytes of a trace and of an image to the report of the machine.
+
+ghost use Rattle.std.specs.Prelude.{◌≡◌, ◌≢◌, ◌≤◌, IfOk, IfErr, length, string_bytes};
+ghost use Rattle.run_commands.specs.Commands.{IsDrainedReport, IsReplayed, known_of};
+ghost use Rattle.run_commands.specs.Faults.{status_of_fault};
+
+use crate::fault::{Fault, tell};
+use crate::input::{image_of, machine_of, trace_of};
+use crate::output::print;
+use crate::reporting::report;
+use crate::states::exit_status;
+use crate::taking::{drained, retaken};
+use elf_image::Image;
+use flat_machine::Config;
+use std::alloc::Global;
+use std::io;
+use std::io::{Read, Write};
+use steps::Step;
+
+/// Takes the steps of the trace that a file is, on the machine of the trace's size, and of so many shared
+/// words, that opens on the image that another file is; then takes steps until no reference is open, and
+/// prints the report. What processors show in these last steps counts too. That the image's file cannot be
+/// opened is told where the trace has no fault.
+///
+/// Answers the exit status: 0 where the report is printed, 1 where it is and a processor is faulted, else
+/// that of the fault that is told on standard error. A fault is told in this order: of the trace, of the
+/// image, of the machine's size, of a step that stalls, of the report.
+pub fn replay_command<T: Read + Drop, R: Read + Drop, W: Write, E: Write>(
+    alloc: Global,
+    trace: T,
+    file: io::Result<R>,
+    shared_words: u32,
+    out: &mut W,
+    err: &mut E,
+) -> u8
+    ensures replayed { result ≤ 1 → IsReplayed shared_words (T.remaining trace) (known_of R.remaining file) (W.contents out.old) (W.contents out.new) result }
+    ensures told { 2 ≤ result → (fault : Fault) × (result ≡ status_of_fault fault) × (fault ≢ Fault.Link → out.new ≡ out.old) }
+{
+    match carried_out(alloc, trace, file, shared_words, out) {
+        Ok(status) => status,
+        Err(fault) => tell(fault, err),
+    }
+}
+
+/// Carries the command out.
+fn carried_out<T: Read + Drop, R: Read + Drop, W: Write>(
+    alloc: Global,
+    trace: T,
+    file: io::Result<R>,
+    shared_words: u32,
+    out: &mut W,
+) -> Result<u8, Fault>
+    ensures replayed { IfOk result (IsReplayed shared_words (T.remaining trace) (known_of R.remaining file) (W.contents out.old) (W.contents out.new)) }
+    ensures low { IfOk result (λ status. status ≤ 1) }
+    ensures silent { IfErr result (λ fault. fault ≢ Fault.Link → out.new ≡ out.old) }
+{
+    let trace = trace_of(alloc, trace)?;
+    let config = trace.config(shared_words);
+    let Ok(file) = file else {
+        return Err(Fault::Link);
+    };
+    let image = image_of(alloc, file, &config)?;
+    let (text, status) = reported(alloc, image, config, trace.steps())?;
+    print(out, text.as_str())?;
+    Ok(status)
+}
+
+/// The report of the machine after these steps and a drain, and its exit status.
+fn reported(
+    alloc: Global,
+    image: Image,
+    config: Config,
+    steps: &[Step],
+) -> Result<(String, u8), Fault>
+    requires { length steps.now ≤ 4194304 }
+    ensures report { IfOk result (λ done. IsDrainedReport config image steps.now (string_bytes done.0) done.1) }
+    ensures low { IfOk result (λ done. done.1 ≤ 1) }
+    ensures refused { IfErr result (λ fault. fault ≢ Fault.Link) }
+{
+    let mut machine = machine_of(alloc, image, config)?;
+    let mut tally = retaken(alloc, &mut machine, steps)?;
+    drained(&mut machine, &mut tally)?;
+    let text = report(alloc, &machine, &tally)?;
+    Ok((text, exit_status(&machine)))
+}

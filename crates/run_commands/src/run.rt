@@ -1,0 +1,92 @@
+//! `ultra run`: from the bytes of an image to the report of its run.
+
+ghost use Rattle.std.specs.Prelude.{◌≡◌, ◌≢◌, ◌≤◌, IfOk, IfErr, string_bytes};
+ghost use Rattle.run_commands.specs.Commands.{HasRun, IsBeforeTheTrace, IsReportOf, IsRun, IsWorking};
+ghost use Rattle.run_commands.specs.Faults.{status_of_fault};
+
+use crate::fault::{Fault, tell};
+use crate::input::{image_of, machine_of};
+use crate::output::{print, save};
+use crate::reporting::report;
+use crate::states::exit_status;
+use crate::sweeping::follow_sweep;
+use crate::taking::retaken;
+use flat_machine::Config;
+use link::LinkWrite;
+use machine_lock::Logged;
+use std::alloc::Global;
+use std::io::{Read, Write};
+
+/// Runs the image that a file is on a machine of this size, by the sweep, and prints the report. The run
+/// ends where no processor runs, or where as many steps are entered as the budget has. Where a trace is
+/// asked for, that of the run is written before the report.
+///
+/// Answers the exit status: 0 where the report is printed, 1 where it is and a processor is faulted, else
+/// that of the fault that is told on standard error. A fault is told in this order: of the image, of the
+/// machine's size, of the run, of the trace, of the report.
+pub fn run_command<R: Read + Drop, T: LinkWrite, W: Write, E: Write>(
+    alloc: Global,
+    file: R,
+    config: Config,
+    budget: u32,
+    trace: &mut Option<T>,
+    out: &mut W,
+    err: &mut E,
+) -> u8
+    requires works { IsWorking T.has_failed trace.old }
+    ensures reported { result ≤ 1 → IsRun config T.contents trace.old trace.new (R.remaining file) (W.contents out.old) (W.contents out.new) result }
+    ensures told { 2 ≤ result → (fault : Fault) × (result ≡ status_of_fault fault) × (fault ≢ Fault.Link → out.new ≡ out.old) × (IsBeforeTheTrace fault → trace.new ≡ trace.old) }
+{
+    match carried_out(alloc, file, config, budget, trace, out) {
+        Ok(status) => status,
+        Err(fault) => tell(fault, err),
+    }
+}
+
+/// Carries the command out.
+fn carried_out<R: Read + Drop, T: LinkWrite, W: Write>(
+    alloc: Global,
+    file: R,
+    config: Config,
+    budget: u32,
+    trace: &mut Option<T>,
+    out: &mut W,
+) -> Result<u8, Fault>
+    requires works { IsWorking T.has_failed trace.old }
+    ensures reported { IfOk result (IsRun config T.contents trace.old trace.new (R.remaining file) (W.contents out.old) (W.contents out.new)) }
+    ensures low { IfOk result (λ status. status ≤ 1) }
+    ensures silent { IfErr result (λ fault. fault ≢ Fault.Link → out.new ≡ out.old) }
+    ensures unsaved { IfErr result (λ fault. IsBeforeTheTrace fault → trace.new ≡ trace.old) }
+{
+    let log = ran(alloc, file, config, budget)?;
+    let (text, status) = reported(alloc, &log)?;
+    save(trace, &config, log.steps())?;
+    print(out, text.as_str())?;
+    Ok(status)
+}
+
+/// The log of a run that has ended.
+fn ran<R: Read + Drop>(alloc: Global, file: R, config: Config, budget: u32) -> Result<Logged, Fault>
+    ensures ran { IfOk result (HasRun config (R.remaining file)) }
+    ensures refused { IfErr result IsBeforeTheTrace }
+{
+    let image = image_of(alloc, file, &config)?;
+    let mut log = Logged::new(alloc, machine_of(alloc, image, config)?);
+    follow_sweep(&mut log, budget)?;
+    Ok(log)
+}
+
+/// The report of a log, and its exit status. The steps are taken again, on a machine that opens on a copy
+/// of the image.
+fn reported(alloc: Global, log: &Logged) -> Result<(String, u8), Fault>
+    ensures report { IfOk result (λ done. IsReportOf log.now.machine.config log.now.machine.image log.now.steps (string_bytes done.0) done.1) }
+    ensures low { IfOk result (λ done. done.1 ≤ 1) }
+    ensures refused { IfErr result IsBeforeTheTrace }
+{
+    let config = log.machine().config();
+    let image = log.machine().image().copy(alloc)?;
+    let mut machine = machine_of(alloc, image, config)?;
+    let tally = retaken(alloc, &mut machine, log.steps())?;
+    let text = report(alloc, &machine, &tally)?;
+    Ok((text, exit_status(&machine)))
+}

@@ -1,0 +1,77 @@
+//! Steps that are taken on a machine, and what its processors show.
+
+ghost use Rattle.std.specs.Prelude.{◌≡◌, ◌≤◌, ◌++◌, List, IfOk, IfErr, OnOk, length};
+ghost use Rattle.steps.specs.declared.step.Step.{Step};
+ghost use Rattle.machine_steps.specs.Machines.{MachineLists, IsIdle};
+ghost use Rattle.machine_steps.specs.Draining.{drain_steps};
+ghost use Rattle.run_commands.specs.declared.taking.RetakeError.TheVariants.{Memory as NoMemory};
+ghost use Rattle.run_commands.specs.Retaking.{IsRetaken, IsNotRetaken};
+
+use machine_steps::Machine;
+use run_report::Tally;
+use std::alloc::{AllocError, Global};
+use steps::Step;
+use thiserror::Error;
+
+/// Why not all steps were taken.
+#[derive(Clone, Copy, Debug, PartialEq, Eq, Drop, Error)]
+pub enum RetakeError {
+    /// The step at this place, from 0, stalls. The machine stands after the steps before.
+    #[error("X7 step {0}")]
+    Stalled(usize),
+    /// There was no memory for the tally.
+    #[error("memory")]
+    Memory,
+}
+
+impl From<AllocError> for RetakeError {
+    ghost from_gives = { λ e f. f ≡ NoMemory };
+
+    fn from(_error: AllocError) -> Self {
+        RetakeError::Memory
+    }
+}
+
+/// Takes these steps, and answers what each processor has shown in them.
+///
+/// # Errors
+///
+/// [`RetakeError::Stalled`] at the first step that stalls: then the machine stands after the steps before.
+/// [`RetakeError::Memory`] where there is no memory for the tally.
+pub fn retaken(alloc: Global, machine: &mut Machine, steps: &[Step]) -> Result<Tally, RetakeError>
+    requires { length steps.now ≤ 4194304 }
+    ensures taken { IfOk result (λ tally. IsRetaken machine.old steps.now machine.new tally) }
+    ensures refused { IfErr result (IsNotRetaken machine.old steps.now machine.new) }
+{
+    let mut tally = Tally::new(alloc, machine.config().processors())?;
+    for (place, step) in steps.iter().enumerate() {
+        let outcome = machine.apply(*step);
+        if outcome.is_stalled() {
+            return Err(RetakeError::Stalled(place));
+        }
+        tally.note(*step, outcome)?;
+    }
+    Ok(tally)
+}
+
+/// Takes steps until no reference is open, as [`Machine::drain`] does, and notes what each answers.
+///
+/// # Errors
+///
+/// [`AllocError`] where there is no memory for a byte of the console.
+pub fn drained(machine: &mut Machine, tally: &mut Tally) -> Result<(), AllocError>
+    requires { tally.old.noted ≤ 4194304 }
+    ensures idle { OnOk result (IsIdle machine.new) }
+    ensures taken { OnOk result ((opening : MachineLists) (steps : List Step) → IsRetaken opening steps machine.old tally.old → IsRetaken opening (steps ++ drain_steps machine.old) machine.new tally.new) }
+{
+    // The proof needs that the machine is one.
+    let _ = machine.is_idle();
+    for _ in 0..machine.most_moves() {
+        let Some(step) = machine.drain_step() else {
+            return Ok(());
+        };
+        let outcome = machine.apply(step);
+        tally.note(step, outcome)?;
+    }
+    Ok(())
+}

@@ -1,0 +1,111 @@
+//! Reports of programs that end.
+
+use super::{AMPLE, image_of, replay, run_text, size};
+use std::fmt::Write;
+use std::test::Fail;
+
+/// Each processor adds 1 to one shared word a hundred times, writes `A` to the console and halts. It stops
+/// by EBREAK where the word has less than its own adds.
+const HUNDRED_ADDS: &str = "
+start: lui x5, 0x80000
+ addi x6, x0, 100
+ addi x7, x0, 1
+loop: amoadd.w x8, x7, (x5)
+ addi x6, x6, -1
+ bne x6, x0, loop
+ lw x9, 0(x5)
+ addi x11, x0, 100
+ bltu x9, x11, bad
+ addi x17, x0, 1
+ addi x10, x0, 65
+ ecall
+ addi x17, x0, 0
+ addi x10, x0, 0
+ ecall
+bad: ebreak
+";
+
+/// Three instructions at the beginning, three for each of the hundred adds, and eight behind them, of
+/// which the last halts and does not retire: 311. `ecall` stands at 0x00010038.
+#[test]
+fn hundred_adds(rt: HostRuntime) -> Result<(), Fail> {
+    let alloc = rt.alloc();
+    let image = image_of(alloc, HUNDRED_ADDS)?;
+    for (k, processors, sum) in [
+        (0, 1u8, "00000064"),
+        (1, 2, "000000c8"),
+        (6, 64, "00001900"),
+    ] {
+        let mut report = String::new(alloc);
+        for p in 0..processors {
+            write!(
+                report,
+                "processor {p} pc 00010038 halt 00 retired 311 console 41\n"
+            )?;
+        }
+        write!(report, "word 0 {sum}\n")?;
+
+        let ran = run_text(alloc, HUNDRED_ADDS, size(k), AMPLE)?;
+        assert_eq!(rt; ran.out.as_slice(), report.as_bytes(), "k {k}");
+        assert_eq!(rt; ran.err.len(), 0, "k {k}");
+        assert_eq!(rt; ran.status, 0, "k {k}");
+
+        let again = replay(alloc, ran.trace.as_slice(), Ok(image.as_slice()), 1024);
+        assert_eq!(rt; again.out.as_slice(), report.as_bytes(), "k {k}");
+        assert_eq!(rt; again.err.len(), 0, "k {k}");
+        assert_eq!(rt; again.status, 0, "k {k}");
+    }
+    Ok(())
+}
+
+#[test]
+fn stopped_by_a_fault(rt: HostRuntime) -> Result<(), Fail> {
+    let ran = run_text(rt.alloc(), "ebreak", size(2), AMPLE)?;
+    let report = "processor 0 pc 00010000 fault 8 retired 0 console -
+processor 1 pc 00010000 fault 8 retired 0 console -
+processor 2 pc 00010000 fault 8 retired 0 console -
+processor 3 pc 00010000 fault 8 retired 0 console -
+";
+    assert_eq!(rt; ran.out.as_slice(), report.as_bytes());
+    assert_eq!(rt; ran.err.len(), 0);
+    assert_eq!(rt; ran.status, 1);
+    Ok(())
+}
+
+/// Each processor halts with its own number, and has written it to the console two times.
+#[test]
+fn processors_of_a_report(rt: HostRuntime) -> Result<(), Fail> {
+    let text = "
+ addi x17, x0, 2
+ ecall
+ addi x17, x0, 1
+ ecall
+ ecall
+ addi x17, x0, 0
+ ecall
+";
+    let ran = run_text(rt.alloc(), text, size(1), AMPLE)?;
+    let report = "processor 0 pc 00010018 halt 00 retired 6 console 0000
+processor 1 pc 00010018 halt 01 retired 6 console 0101
+";
+    assert_eq!(rt; ran.out.as_slice(), report.as_bytes());
+    assert_eq!(rt; ran.status, 0);
+    Ok(())
+}
+
+/// Shared words as the image has them, but for the third, which is zero.
+#[test]
+fn words_of_a_report(rt: HostRuntime) -> Result<(), Fail> {
+    let text = "ecall\n.shared\n.word 1, 0x89abcdef, 0, 0xffffffff\n.zero 24\n.word 7\n";
+    let ran = run_text(rt.alloc(), text, size(1), AMPLE)?;
+    let report = "processor 0 pc 00010000 halt 00 retired 0 console -
+processor 1 pc 00010000 halt 00 retired 0 console -
+word 0 00000001
+word 1 89abcdef
+word 3 ffffffff
+word 10 00000007
+";
+    assert_eq!(rt; ran.out.as_slice(), report.as_bytes());
+    assert_eq!(rt; ran.status, 0);
+    Ok(())
+}

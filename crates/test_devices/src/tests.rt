@@ -1,0 +1,30 @@
+//! What the devices do at their calls.
+
+use crate::{Deaf, Endless, Sink, Source};
+use std::io::{Read, Write};
+
+#[test]
+fn gives_a_byte_at_a_call(rt: HostRuntime) {
+    let mut source = Source::new(b"ab", 2);
+    let mut buf = [0u8; 4];
+    assert_eq!(rt; source.read(&mut buf).ok(), Some(1));
+    assert_eq!(rt; buf[0], b'a');
+    assert_eq!(rt; source.read(&mut buf).ok(), None);
+    assert_eq!(rt; source.read(&mut buf).ok(), Some(1));
+    assert_eq!(rt; buf[0], b'b');
+    assert_eq!(rt; source.read(&mut buf).ok(), Some(0));
+    assert_eq!(rt; Endless.read(&mut buf).ok(), Some(4));
+}
+
+#[test]
+fn takes_a_byte_at_a_call(rt: HostRuntime) {
+    let mut sink = Sink::new(Vec::new(rt.alloc()), 2);
+    assert_eq!(rt; sink.write(b"ab").ok(), Some(1));
+    assert_eq!(rt; sink.write(b"b").ok(), None);
+    assert_eq!(rt; sink.write(b"b").ok(), Some(1));
+    assert_eq!(rt; sink.write(b"").ok(), Some(0));
+    assert!(rt; sink.flush().is_ok());
+    assert_eq!(rt; sink.bytes.as_slice(), b"ab".as_slice());
+    assert_eq!(rt; Deaf.write(b"ab").ok(), Some(0));
+    assert!(rt; Deaf.flush().is_ok());
+}

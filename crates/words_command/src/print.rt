@@ -1,0 +1,47 @@
+//! Printing the processor.
+
+ghost use Rattle.std.specs.Prelude.{◌≡◌, Err, OnOk};
+ghost use Rattle.std.specs.Io.KnownBytes.{Appends, Keeps};
+ghost use Rattle.words_command.specs.Report.{report_of};
+ghost use Rattle.words_command.specs.Running.{processor_of};
+
+use crate::report::report;
+use machine_lock::Logged;
+use std::alloc::Global;
+use std::io::Write;
+use thiserror::Error;
+
+/// Why a report was not printed.
+#[derive(Clone, Copy, Debug, PartialEq, Eq, Drop, Error)]
+pub enum PrintError {
+    /// A write failed. A beginning of the report may be written.
+    #[error("link")]
+    Link,
+    /// There was no memory for the report. Nothing of it is written.
+    #[error("memory")]
+    Memory,
+}
+
+/// Prints registers 0 to 31 of processor 0, its `pc` and its status: 34 lines, which are made whole
+/// before the first is printed.
+pub fn words_print<W: Write>(alloc: Global, log: &Logged, out: &mut W) -> Result<(), PrintError>
+    ensures printed { OnOk result (Appends (W.contents out.old) (W.contents out.new) (report_of (processor_of log.now.machine))) }
+    ensures memory { result ≡ Err PrintError.Memory → out.new ≡ out.old }
+{
+    let machine = log.machine();
+    let (Some(registers), Some(pc), Some(status)) = (
+        machine.registers(0),
+        machine.pc(0),
+        machine.status(0),
+    ) else {
+        unreachable!()
+    };
+    let text = match report(alloc, registers, pc, status) {
+        Ok(text) => text,
+        Err(_) => return Err(PrintError::Memory),
+    };
+    match out.write_all(text.as_bytes()) {
+        Ok(()) => Ok(()),
+        Err(_) => Err(PrintError::Link),
+    }
+}
