@@ -8,10 +8,11 @@ use steps::Step;
 fn rounds_without_stages(rt: HostRuntime) {
     let mut sweep = Sweep::new(0);
     assert_eq!(rt; sweep.round(), 2);
-    for _ in 0..3 {
-        assert_eq!(rt; sweep.next(), Some(Step::Turn(0)));
-        assert_eq!(rt; sweep.next(), Some(Step::Serve(0)));
-    }
+    assert_eq!(rt; sweep.next(), Some(Step::Turn(0)));
+    assert_eq!(rt; sweep.next(), Some(Step::Serve(0)));
+    assert_eq!(rt; sweep.next(), Some(Step::Turn(0)));
+    assert_eq!(rt; sweep.next(), Some(Step::Serve(0)));
+    assert_eq!(rt; sweep.next(), Some(Step::Turn(0)));
 }
 
 /// Four processors: 24 steps, and then the first again.
