@@ -158,10 +158,11 @@ module _ (c : Config) (layout : Layout) (limits : IsWithinLimits c) (placed : Is
       steady = steady (region_of_bytes layout.code);
     }
 
-  pub new_opens : (net : NetworkLists) → IsOpening c (record { layout = layout; shared_words = c.shared_words }) (record { config = c; image = record { layout = layout; shared_words = c.shared_words }; network = net; ports = ports; modules = modules; code = region_of_bytes layout.code })
-  new_opens net = record {
-    config = refl;
-    image_is = refl;
-    idle = λ p within. ports_shut p;
-    flat = λ i. record { processors = (the_opening c layout).processors i; shared = (the_opening c layout).shared i; code = region_of_bytes layout.code };
-  }
+    pub new_opens : IsOpening c (record { layout = layout; shared_words = c.shared_words }) (record { config = c; image = record { layout = layout; shared_words = c.shared_words }; network = net; ports = ports; modules = modules; code = region_of_bytes layout.code })
+    new_opens = record {
+      config = refl;
+      image_is = refl;
+      idle = λ p within. ports_shut p;
+      flat = λ i. record { processors = (the_opening c layout).processors i; shared = (the_opening c layout).shared i; code = region_of_bytes layout.code };
+      machine = λ shown. ap (λ n. machine_of_parts c n ports modules shown) net_is;
+    }

@@ -1,21 +1,24 @@
 -- What a machine opens as, and what runs of it do.
-use Rattle.std.specs.Prelude.{◌≡◌, ℕ, List, [], ◌∷◌, map}
+use Rattle.std.specs.Prelude.{◌≡◌, ℕ, ◌^◌, List, [], ◌∷◌, map}
 use Rattle.std.specs.List.{range_with_len}
 use Rattle.flat_machine.specs.declared.config.Config.{Config}
 use Rattle.flat_machine.specs.declared.event.Event.{Event}
 use Rattle.flat_machine.specs.State.{FlatState}
 use Rattle.flat_machine.specs.Flat.{flat_run, flat_events}
+use Rattle.elf_image.specs.declared.layout.Layout.{Layout}
 use Rattle.elf_image.specs.Images.{ImageContents}
 use Rattle.elf_image.specs.Openings.{opening}
+use Rattle.messages.specs.Network.{empty_net}
 use Rattle.abstract_machine.specs.Machine as theory
 use Rattle.serialization.specs.Order.{Passed, ran, outcomes}
 use Rattle.serialization.specs.Serialization.{EachServedOnce}
 use Rattle.steps.specs.declared.step.Step.{Step}
 use Rattle.steps.specs.declared.step.Outcome.TheVariants.{Stalled}
 use Rattle.machine_ports.specs.Ports.{PortState}
+use Rattle.machine_opening.specs.Openings.{opening_ports, opening_modules}
 use Rattle.machine_program.specs.Processors.{Told, sizes_of, program, word_at}
 use Rattle.machine_program.specs.Flatness.{with_events}
-use Rattle.machine_program.specs.Steps.{named, outcome_of, after}
+use Rattle.machine_program.specs.Steps.{named, outcome_of, after, machine_of_parts}
 use Rattle.machine_program.specs.Explained.{IsExplained}
 use Rattle.machine_steps.specs.Machines.{MachineLists, machine_of, IsIdle}
 
@@ -27,13 +30,18 @@ flat_state m = record {
   code = m.code;
 }
 
+-- the one machine of this size that opens on a layout, whose processors have shown these events: its network is empty
+abbrev pub opening_machine : Config → Layout → (shown : ℕ → List Event) → theory.Machine Told
+opening_machine c layout shown = machine_of_parts c empty_net (opening_ports c layout (2 ^ c.k)) (opening_modules c layout.shared (2 ^ c.k)) shown
+
 -- The machine of this size that opens on an image: no reference is open, and its processors, words and code are those that
--- the image means.
+-- the image means. All machines that open on an image are one.
 pub record IsOpening (c : Config) (image : ImageContents) (m : MachineLists) : Type 0 where
   pub config : m.config ≡ c
   pub image_is : m.image ≡ image
   pub idle : IsIdle m
   pub flat : flat_state m ≡ opening c image.layout
+  pub machine : (shown : ℕ → List Event) → machine_of m shown ≡ opening_machine c image.layout shown
 
 -- ---- runs
 

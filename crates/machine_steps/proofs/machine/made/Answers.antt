@@ -35,4 +35,4 @@ returns c =
     let words = c.requires.words in
     subst (λ (m : ImageContents × MachineLists). IsOpening c.args.config m.0 m.1)
     (λ i. (record { layout = same i; shared_words = sym words i }, record { config = c.args.config; image = record { layout = same i; shared_words = sym words i }; network = c.in_ok-network.network; ports = sym ports i; modules = sym modules i; code = sym code i }))
-    (new_opens c.args.config layout c.requires.limits placed c.in_ok-network.network)
+    (new_opens c.args.config layout c.requires.limits placed c.in_ok-network.network c.in_ok-network.ensures.empty)
