@@ -1,5 +1,5 @@
 -- Steps that are taken, one after another, and noted.
-use Rattle.std.proofs.Common.{◌≡◌, ℕ, ◌+◌, ◌^◌, ◌<◌, ◌≤◌, List, [], ◌∷◌, ◌++◌, length, Some, None, refl, sym, ap, ap₂, ◌∙◌, subst, arith}
+use Rattle.std.proofs.Common.{◌≡◌, ℕ, ◌+◌, ◌^◌, ◌<◌, List, [], ◌∷◌, ◌++◌, length, Some, None, refl, sym, ap, ap₂, ◌∙◌, subst, arith}
 use Rattle.std.specs.Prelude.{replicate}
 use Rattle.std.proofs.lemmas.List.{length-append, append-nil, append_assoc}
 use Rattle.flat_machine.specs.declared.event.Event.{Event}
@@ -11,11 +11,11 @@ use Rattle.steps.specs.declared.step.Outcome.TheVariants.{Stalled}
 use Rattle.machine_program.specs.Processors.{Told}
 use Rattle.machine_program.specs.Steps.{after, with_shown, machine_of_parts}
 use Rattle.machine_steps.specs.Machines.{MachineLists, machine_of, IsIdle, IsMachine, IsStep}
-use Rattle.machine_steps.specs.Runs.{all_after, events_of, IsRun, IsReplay}
-use Rattle.machine_steps.specs.Draining.{drain_step, GoesOn, drain_bound, drain_steps, IsDrained}
-use Rattle.machine_steps.proofs.Running.{all_after_more, shown_is, run_more}
+use Rattle.machine_steps.specs.Runs.{all_after, events_of, IsRun}
+use Rattle.machine_steps.specs.Draining.{drain_step, GoesOn, drain_bound, drain_steps}
+use Rattle.machine_steps.proofs.Running.{all_after_more, shown_is}
 use Rattle.machine_steps.proofs.Replaying.{replay_begins, replay_more}
-use Rattle.machine_steps.proofs.Drained.{IsUnderWay, drain_begins, drain_goes_on, all_taken, bound_taken, drain_stops, drain_is_over}
+use Rattle.machine_steps.proofs.Drained.{IsUnderWay, drain_begins, drain_goes_on, all_taken, bound_taken, drain_is_over}
 use Rattle.run_report.specs.Tallies.{TallyState, nothing_shown, noted_after}
 use Rattle.run_report.specs.Events.{IsTally}
 use Rattle.run_commands.specs.Retaking.{events_in, IsRetaken}

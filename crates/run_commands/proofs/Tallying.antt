@@ -1,5 +1,5 @@
 -- A tally goes on with what steps answer.
-use Rattle.std.proofs.Common.{◌≡◌, ℕ, zero, suc, ◌+◌, ◌<◌, ◌≤◌, ◌⊎◌, inl, inr, List, [], ◌∷◌, ◌++◌, length, get_or, Option, Some, None, refl, sym, ap, ◌∙◌, subst, arith}
+use Rattle.std.proofs.Common.{◌≡◌, ℕ, ◌+◌, ◌<◌, ◌≤◌, ◌⊎◌, inl, inr, List, [], ◌∷◌, ◌++◌, length, get_or, Some, None, refl, sym, ap, ◌∙◌, subst, arith}
 use Rattle.std.specs.Prelude.{slice_get, slice_set, slice_index_or, replicate}
 use Rattle.std.proofs.lemmas.List.{get_or-set_same, get_or-set_other, get_or-replicate, length-replicate, length-set}
 use Rattle.std.proofs.lemmas.Option.{slice_get-get_or, slice_get_cases}
@@ -14,7 +14,7 @@ use Rattle.steps.specs.declared.step.Outcome.TheVariants.{Retired, Issued, Stopp
 use Rattle.messages.specs.Places.{put}
 use Rattle.placement.proofs.Places.{put_same, put_other}
 use Rattle.machine_program.specs.Steps.{with_shown}
-use Rattle.run_report.specs.Tallies.{ShownBy, TallyState, nothing_shown, with_retired, retired_at, shown_after, noted_after}
+use Rattle.run_report.specs.Tallies.{ShownBy, TallyState, nothing_shown, with_retired, retired_at, noted_after}
 use Rattle.run_report.specs.Events.{with_event, shown_from, shown_by, IsTally}
 
 shown_more : (s : ShownBy) (events : List Event) (e : Event) → shown_from s (events ++ e ∷ []) ≡ with_event (shown_from s events) e

@@ -1,5 +1,5 @@
 -- The report of a machine: a line for each processor, and a line for each shared word that is not zero.
-use Rattle.std.specs.Prelude.{◌≡◌, ◌⊎◌, ℕ, zero, suc, ◌^◌, ◌<◌, List, [], ◌++◌, slice_index_or}
+use Rattle.std.specs.Prelude.{◌≡◌, ℕ, zero, suc, ◌^◌, ◌<◌, List, [], ◌++◌, slice_index_or}
 use Rattle.flat_machine.specs.declared.event.Status.{Status}
 use Rattle.flat_machine.specs.declared.event.Status.TheVariants.{Running, Halted, Faulted}
 use Rattle.flat_machine.specs.State.{Processor}
@@ -40,10 +40,6 @@ HasFaulted m = (p : ℕ) × (p < 2 ^ m.config.k) × IsFaulted (processor_of m p)
 -- a processor of the machine runs
 abbrev pub HasRunning : MachineLists → Type 0
 HasRunning m = (p : ℕ) × (p < 2 ^ m.config.k) × ((processor_of m p).status ≡ Running)
-
--- No processor of the machine runs, or a fault has stopped one.
-abbrev pub HasEnded : MachineLists → Type 0
-HasEnded m = (HasRunning m → ⊥) ⊎ HasFaulted m
 
 -- the exit status of a machine that is reported
 pub record IsExitOf (m : MachineLists) (status : ℕ) : Type 0 where

@@ -1,12 +1,10 @@
 -- Steps that are taken, and what the processors show in them.
-use Rattle.std.specs.Prelude.{◌≡◌, ℕ, ◌^◌, ◌<◌, List, [], length, take, slice_index_or}
+use Rattle.std.specs.Prelude.{ℕ, ◌^◌, List, [], length}
 use Rattle.flat_machine.specs.declared.event.Event.{Event}
 use Rattle.steps.specs.declared.step.Step.{Step}
-use Rattle.steps.specs.declared.step.Step.TheVariants as step
-use Rattle.steps.specs.declared.step.Outcome.TheVariants as step_outcome
-use Rattle.machine_program.specs.Steps.{outcome_of}
 use Rattle.machine_steps.specs.Machines.{MachineLists, machine_of}
 use Rattle.machine_steps.specs.Runs.{all_after, events_of, IsReplay}
+use Rattle.trace_replay.specs.Replays.{StallsAt}
 use Rattle.run_report.specs.Tallies.{TallyState}
 use Rattle.run_report.specs.Events.{IsTally}
 use Rattle.run_commands.specs.declared.taking.RetakeError.{RetakeError}
@@ -20,12 +18,6 @@ events_in opening steps = events_of (all_after opening.config opening.code (mach
 pub record IsRetaken (opening : MachineLists) (steps : List Step) (m : MachineLists) (t : TallyState) : Type 0 where
   pub replay : IsReplay opening steps m
   pub tally : IsTally (2 ^ opening.config.k) t (events_in opening steps) (length steps)
-
--- The step at this place is the first that stalls: the machine stands after those before it, each of which did something.
-pub record StallsAt (old : MachineLists) (steps : List Step) (place : ℕ) (new : MachineLists) : Type 0 where
-  pub inside : place < length steps
-  pub before : IsReplay old (take place steps) new
-  pub stalls : outcome_of new.config new.code (machine_of new (λ p. [])) (slice_index_or steps place (step.Turn 0)) ≡ step_outcome.Stalled
 
 -- Why not all steps were taken. Of want of memory nothing is said.
 abbrev pub IsNotRetaken : (old : MachineLists) → List Step → (new : MachineLists) → RetakeError → Type 0

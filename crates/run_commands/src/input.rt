@@ -1,8 +1,9 @@
 //! What is read before a machine takes steps.
 
-ghost use Rattle.std.specs.Prelude.{◌≡◌, ◌≢◌, IfOk, IfErr};
+ghost use Rattle.std.specs.Prelude.{◌≡◌, IfOk, IfErr};
 ghost use Rattle.machine_steps.specs.Runs.{IsOpening};
-ghost use Rattle.run_commands.specs.Commands.{IsBeforeTheTrace, IsImageOf, IsTraceOf};
+ghost use Rattle.run_commands.specs.Causes.{IsFaultOfImage, IsFaultOfSize, IsFaultOfTrace};
+ghost use Rattle.run_commands.specs.Commands.{IsImageOf, IsTraceOf};
 
 use crate::fault::Fault;
 use elf_image::{Image, read_image};
@@ -16,7 +17,7 @@ use trace_file::{Trace, read_trace};
 /// The trace that a file is.
 pub(crate) fn trace_of<R: Read + Drop>(alloc: Global, file: R) -> Result<Trace, Fault>
     ensures trace { IfOk result (IsTraceOf (R.remaining file)) }
-    ensures refused { IfErr result (λ fault. fault ≢ Fault.Link) }
+    ensures refused { IfErr result (IsFaultOfTrace (R.remaining file)) }
 {
     Ok(read_trace(alloc, &mut Meter::new(file))?)
 }
@@ -28,17 +29,16 @@ pub(crate) fn image_of<R: Read + Drop>(
     config: &Config,
 ) -> Result<Image, Fault>
     ensures image { IfOk result (IsImageOf config.now.shared_words (R.remaining file)) }
-    ensures refused { IfErr result (λ fault. fault ≢ Fault.Link) }
-    ensures early { IfErr result IsBeforeTheTrace }
+    ensures refused { IfErr result (IsFaultOfImage config.now.shared_words (R.remaining file)) }
 {
     Ok(read_image(alloc, &mut Meter::new(file), config)?)
 }
 
-/// The machine that opens on an image.
+/// The machine that opens on an image, which was read for as many shared words.
 pub(crate) fn machine_of(alloc: Global, image: Image, config: Config) -> Result<Machine, Fault>
+    requires { image.shared_words ≡ config.shared_words }
     ensures opening { IfOk result (IsOpening config image) }
-    ensures refused { IfErr result (λ fault. fault ≢ Fault.Link) }
-    ensures early { IfErr result IsBeforeTheTrace }
+    ensures refused { IfErr result (IsFaultOfSize config) }
 {
     Ok(Machine::new(alloc, image, config)?)
 }

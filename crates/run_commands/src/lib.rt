@@ -8,6 +8,7 @@
 
 mod fault;
 mod input;
+mod laws;
 mod output;
 mod replay;
 mod reporting;
@@ -19,6 +20,7 @@ mod taking;
 mod tests;
 
 pub use fault::Fault;
+pub use laws::steps_have_one_report;
 pub use replay::replay_command;
 pub use reporting::report;
 pub use run::run_command;

@@ -3,7 +3,7 @@
 ghost use Rattle.std.specs.Prelude.{◌≡◌, IfErr, OnOk};
 ghost use Rattle.std.specs.Io.KnownBytes.{Appends};
 ghost use Rattle.trace_file.specs.Traces.{IsTrace, trace_bytes, trace_of};
-ghost use Rattle.run_commands.specs.Commands.{IsSaved, IsWorking};
+ghost use Rattle.run_commands.specs.Commands.{IsPartSaved, IsSaved, IsWorking};
 
 use crate::fault::Fault;
 use flat_machine::Config;
@@ -21,7 +21,7 @@ pub(crate) fn save<T: LinkWrite>(
     requires works { IsWorking T.has_failed trace.old }
     requires trace { IsTrace (trace_of config.now steps.now) }
     ensures saved { OnOk result (IsSaved T.contents trace.old trace.new (trace_bytes (trace_of config.now steps.now))) }
-    ensures failed { IfErr result (λ fault. fault ≡ Fault.Trace TraceError.Link) }
+    ensures failed { IfErr result (λ fault. (fault ≡ Fault.Trace TraceError.Link) × IsPartSaved T.contents trace.old trace.new (trace_bytes (trace_of config.now steps.now))) }
 {
     match trace {
         Some(writer) => Ok(write_trace(writer, config, steps)?),

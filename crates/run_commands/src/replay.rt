@@ -1,6 +1,7 @@
 //! `ultra replay`: from the bytes of a trace and of an image to the report of the machine.
 
 ghost use Rattle.std.specs.Prelude.{◌≡◌, ◌≢◌, ◌≤◌, IfOk, IfErr, length, string_bytes};
+ghost use Rattle.run_commands.specs.Causes.{IsNoReplay, IsNotTaken};
 ghost use Rattle.run_commands.specs.Commands.{IsDrainedReport, IsReplayed, known_of};
 ghost use Rattle.run_commands.specs.Faults.{status_of_fault};
 
@@ -34,7 +35,7 @@ pub fn replay_command<T: Read + Drop, R: Read + Drop, W: Write, E: Write>(
     err: &mut E,
 ) -> u8
     ensures replayed { result ≤ 1 → IsReplayed shared_words (T.remaining trace) (known_of R.remaining file) (W.contents out.old) (W.contents out.new) result }
-    ensures told { 2 ≤ result → (fault : Fault) × (result ≡ status_of_fault fault) × (fault ≢ Fault.Link → out.new ≡ out.old) }
+    ensures told { 2 ≤ result → (fault : Fault) × (result ≡ status_of_fault fault) × IsNoReplay shared_words (T.remaining trace) (known_of R.remaining file) fault × (fault ≢ Fault.Link → out.new ≡ out.old) }
 {
     match carried_out(alloc, trace, file, shared_words, out) {
         Ok(status) => status,
@@ -52,6 +53,7 @@ fn carried_out<T: Read + Drop, R: Read + Drop, W: Write>(
 ) -> Result<u8, Fault>
     ensures replayed { IfOk result (IsReplayed shared_words (T.remaining trace) (known_of R.remaining file) (W.contents out.old) (W.contents out.new)) }
     ensures low { IfOk result (λ status. status ≤ 1) }
+    ensures told { IfErr result (IsNoReplay shared_words (T.remaining trace) (known_of R.remaining file)) }
     ensures silent { IfErr result (λ fault. fault ≢ Fault.Link → out.new ≡ out.old) }
 {
     let trace = trace_of(alloc, trace)?;
@@ -72,10 +74,11 @@ fn reported(
     config: Config,
     steps: &[Step],
 ) -> Result<(String, u8), Fault>
-    requires { length steps.now ≤ 4194304 }
+    requires few { length steps.now ≤ 4194304 }
+    requires words { image.shared_words ≡ config.shared_words }
     ensures report { IfOk result (λ done. IsDrainedReport config image steps.now (string_bytes done.0) done.1) }
     ensures low { IfOk result (λ done. done.1 ≤ 1) }
-    ensures refused { IfErr result (λ fault. fault ≢ Fault.Link) }
+    ensures refused { IfErr result (IsNotTaken config image steps.now) }
 {
     let mut machine = machine_of(alloc, image, config)?;
     let mut tally = retaken(alloc, &mut machine, steps)?;

@@ -1,7 +1,9 @@
 //! `ultra run`: from the bytes of an image to the report of its run.
 
 ghost use Rattle.std.specs.Prelude.{◌≡◌, ◌≢◌, ◌≤◌, IfOk, IfErr, string_bytes};
-ghost use Rattle.run_commands.specs.Commands.{HasRun, IsBeforeTheTrace, IsReportOf, IsRun, IsWorking};
+ghost use Rattle.machine_steps.specs.Runs.{IsOpening};
+ghost use Rattle.run_commands.specs.Causes.{IsNoRun, IsNotRun};
+ghost use Rattle.run_commands.specs.Commands.{HasRun, IsReportOf, IsRun, IsWorking};
 ghost use Rattle.run_commands.specs.Faults.{status_of_fault};
 
 use crate::fault::{Fault, tell};
@@ -34,8 +36,8 @@ pub fn run_command<R: Read + Drop, T: LinkWrite, W: Write, E: Write>(
     err: &mut E,
 ) -> u8
     requires works { IsWorking T.has_failed trace.old }
-    ensures reported { result ≤ 1 → IsRun config T.contents trace.old trace.new (R.remaining file) (W.contents out.old) (W.contents out.new) result }
-    ensures told { 2 ≤ result → (fault : Fault) × (result ≡ status_of_fault fault) × (fault ≢ Fault.Link → out.new ≡ out.old) × (IsBeforeTheTrace fault → trace.new ≡ trace.old) }
+    ensures reported { result ≤ 1 → IsRun T.contents config budget trace.old trace.new (R.remaining file) (W.contents out.old) (W.contents out.new) result }
+    ensures told { 2 ≤ result → (fault : Fault) × (result ≡ status_of_fault fault) × IsNoRun T.contents config budget (R.remaining file) trace.old trace.new fault × (fault ≢ Fault.Link → out.new ≡ out.old) }
 {
     match carried_out(alloc, file, config, budget, trace, out) {
         Ok(status) => status,
@@ -53,10 +55,10 @@ fn carried_out<R: Read + Drop, T: LinkWrite, W: Write>(
     out: &mut W,
 ) -> Result<u8, Fault>
     requires works { IsWorking T.has_failed trace.old }
-    ensures reported { IfOk result (IsRun config T.contents trace.old trace.new (R.remaining file) (W.contents out.old) (W.contents out.new)) }
+    ensures reported { IfOk result (IsRun T.contents config budget trace.old trace.new (R.remaining file) (W.contents out.old) (W.contents out.new)) }
     ensures low { IfOk result (λ status. status ≤ 1) }
+    ensures told { IfErr result (IsNoRun T.contents config budget (R.remaining file) trace.old trace.new) }
     ensures silent { IfErr result (λ fault. fault ≢ Fault.Link → out.new ≡ out.old) }
-    ensures unsaved { IfErr result (λ fault. IsBeforeTheTrace fault → trace.new ≡ trace.old) }
 {
     let log = ran(alloc, file, config, budget)?;
     let (text, status) = reported(alloc, &log)?;
@@ -67,8 +69,8 @@ fn carried_out<R: Read + Drop, T: LinkWrite, W: Write>(
 
 /// The log of a run that has ended.
 fn ran<R: Read + Drop>(alloc: Global, file: R, config: Config, budget: u32) -> Result<Logged, Fault>
-    ensures ran { IfOk result (HasRun config (R.remaining file)) }
-    ensures refused { IfErr result IsBeforeTheTrace }
+    ensures ran { IfOk result (HasRun config budget (R.remaining file)) }
+    ensures refused { IfErr result (IsNotRun config budget (R.remaining file)) }
 {
     let image = image_of(alloc, file, &config)?;
     let mut log = Logged::new(alloc, machine_of(alloc, image, config)?);
@@ -77,11 +79,13 @@ fn ran<R: Read + Drop>(alloc: Global, file: R, config: Config, budget: u32) -> R
 }
 
 /// The report of a log, and its exit status. The steps are taken again, on a machine that opens on a copy
-/// of the image.
+/// of the image; as the log's machine opened on it too, none of them stalls.
 fn reported(alloc: Global, log: &Logged) -> Result<(String, u8), Fault>
+    requires opens { IsOpening log.now.machine.config log.now.machine.image log.now.opening }
+    requires words { log.now.machine.image.shared_words ≡ log.now.machine.config.shared_words }
     ensures report { IfOk result (λ done. IsReportOf log.now.machine.config log.now.machine.image log.now.steps (string_bytes done.0) done.1) }
     ensures low { IfOk result (λ done. done.1 ≤ 1) }
-    ensures refused { IfErr result IsBeforeTheTrace }
+    ensures refused { IfErr result (λ fault. fault ≡ Fault.Memory) }
 {
     let config = log.machine().config();
     let image = log.machine().image().copy(alloc)?;

@@ -1,13 +1,13 @@
 //! Running a machine by the sweep.
 
-ghost use Rattle.std.specs.Prelude.{◌≡◌, ◌<◌, Err, IfErr, OnOk, length};
+ghost use Rattle.std.specs.Prelude.{◌≡◌, ◌≢◌, ◌≤◌, ◌<◌, Err, IfOk, IfErr, OnOk, length, true};
 ghost use Rattle.trace_file.specs.Records.{HasRecord};
 ghost use Rattle.trace_file.specs.Traces.{HaveRecords};
-ghost use Rattle.run_commands.specs.Reports.{HasEnded, HasFaulted, HasRunning};
+ghost use Rattle.run_commands.specs.Reports.{HasRunning};
+ghost use Rattle.run_commands.specs.Sweeps.{HasEnded, HasFollowed, IsEndless, WasAsked, WasAskedRound, most_of};
 
 use crate::states::{any_is_faulted, any_runs};
 use machine_lock::{LockRefusal, Logged};
-use machine_steps::Machine;
 use steps::{Outcome, Step};
 use sweep::Sweep;
 use thiserror::Error;
@@ -39,29 +39,26 @@ pub fn follow_sweep(log: &mut Logged, budget: u32) -> Result<(), RunEnd>
     ensures opening { log.new.opening ≡ log.old.opening }
     ensures config { log.new.machine.config ≡ log.old.machine.config }
     ensures records { HaveRecords log.new.machine.config.k log.new.steps }
-    ensures ended { OnOk result (HasEnded log.new.machine) }
-    ensures budget { result ≡ Err RunEnd.Budget → HasRunning log.new.machine × (HasFaulted log.new.machine → ⊥) }
+    ensures followed { result ≢ Err RunEnd.Memory → HasFollowed log.old log.new }
+    ensures few { length log.old.steps ≤ most_of budget → length log.new.steps ≤ most_of budget }
+    ensures ended { OnOk result (HasEnded (most_of budget) log.new) }
+    ensures budget { result ≡ Err RunEnd.Budget → IsEndless (most_of budget) log.new }
 {
-    let mut sweep = Sweep::new(log.machine().config().k);
     let most = budget.min(MOST_STEPS) as usize;
-    // In each round a step is entered while a processor runs, so there are no more rounds than steps.
-    for _ in 0..most * sweep.round() as usize {
-        if log.steps().len() >= most {
-            break;
-        }
-        let has_stopped = entered(log, sweep.step())?;
-        if has_stopped && !any_runs(log.machine()) {
-            return Ok(());
-        }
+    // While a processor runs, a round enters a step.
+    while log.steps().len() < most && any_runs(log.machine()) {
+        take_round(log, most)?;
     }
-    end_of(log.machine())
+    end_of(log, most)
 }
 
 /// The end of a run that takes no further step.
-fn end_of(machine: &Machine) -> Result<(), RunEnd>
-    ensures ended { OnOk result (HasEnded machine.now) }
-    ensures budget { IfErr result (λ end. (end ≡ RunEnd.Budget) × HasRunning machine.now × (HasFaulted machine.now → ⊥)) }
+fn end_of(log: &Logged, most: usize) -> Result<(), RunEnd>
+    requires { HasRunning log.now.machine → most ≤ length log.now.steps }
+    ensures ended { OnOk result (HasEnded most log.now) }
+    ensures budget { IfErr result (λ end. (end ≡ RunEnd.Budget) × IsEndless most log.now) }
 {
+    let machine = log.machine();
     if !any_runs(machine) {
         return Ok(());
     }
@@ -69,6 +66,35 @@ fn end_of(machine: &Machine) -> Result<(), RunEnd>
         return Ok(());
     }
     Err(RunEnd::Budget)
+}
+
+/// Takes a round of the sweep, up to the last step that there is room for, or that stops the last processor
+/// that runs.
+fn take_round(log: &mut Logged, most: usize) -> Result<(), RunEnd>
+    requires few { most ≤ 4000000 }
+    requires room { length log.old.steps < most }
+    requires running { HasRunning log.old.machine }
+    requires records { HaveRecords log.old.machine.config.k log.old.steps }
+    ensures opening { log.new.opening ≡ log.old.opening }
+    ensures config { log.new.machine.config ≡ log.old.machine.config }
+    ensures records { HaveRecords log.new.machine.config.k log.new.steps }
+    ensures few { length log.new.steps ≤ most }
+    ensures round { OnOk result (WasAskedRound most log.old log.new) }
+    ensures refused { IfErr result (λ end. end ≡ RunEnd.Memory) }
+{
+    // The proof needs that the machine is one.
+    let _ = log.machine().is_idle();
+    let mut sweep = Sweep::new(log.machine().config().k);
+    for _ in 0..sweep.round() {
+        if log.steps().len() >= most {
+            return Ok(());
+        }
+        let has_stopped = entered(log, sweep.step())?;
+        if has_stopped && !any_runs(log.machine()) {
+            return Ok(());
+        }
+    }
+    Ok(())
 }
 
 /// Takes a step of the sweep, enters it unless it stalled, and answers whether a processor has stopped by
@@ -80,12 +106,22 @@ fn entered(log: &mut Logged, step: Step) -> Result<bool, RunEnd>
     ensures opening { log.new.opening ≡ log.old.opening }
     ensures config { log.new.machine.config ≡ log.old.machine.config }
     ensures records { HaveRecords log.new.machine.config.k log.new.steps }
-    ensures refused { IfErr result (λ end. end ≡ RunEnd.Memory) }
+    ensures asked { IfOk result (λ has_stopped. WasAsked log.old step has_stopped log.new) }
+    ensures refused { IfErr result (λ end. (end ≡ RunEnd.Memory) × (log.new ≡ log.old)) }
 {
+    // The proof needs that the machine is the replay of the steps.
+    let _ = log.machine();
     match log.step(step) {
-        Ok(outcome) => Ok(matches!(outcome, Outcome::Stopped(_))),
+        Ok(outcome) => Ok(has_stopped(&outcome)),
         Err(LockRefusal::Memory) => Err(RunEnd::Memory),
         // The machine has the places of its sweep, and the log has room.
         Err(LockRefusal::Full | LockRefusal::Unnamed) => unreachable!(),
     }
+}
+
+/// Whether the step has stopped its processor.
+fn has_stopped(outcome: &Outcome) -> bool
+    ensures { result ≡ true → outcome.now ≢ Outcome.Stalled }
+{
+    matches!(outcome, Outcome::Stopped(_))
 }

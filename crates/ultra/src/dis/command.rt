@@ -4,7 +4,8 @@ ghost use Rattle.std.specs.Prelude.{◌≡◌, ◌≢◌, IfOk, IfErr, OnOk, str
 ghost use Rattle.std.specs.Io.KnownBytes.{Appends};
 ghost use Rattle.local_memory.specs.Accesses.{region_of_bytes};
 ghost use Rattle.ultra.specs.Listing.{IsListing};
-ghost use Rattle.ultra.specs.Disassembling.{IsDisassembled, IsImageOf, IsRefusalOf, fault_of_image, status_of_fault};
+ghost use Rattle.run_commands.specs.Commands.{IsImageOf};
+ghost use Rattle.ultra.specs.Disassembling.{IsDisassembled, IsRefusalOf, fault_of_image, status_of_fault};
 
 use crate::dis::listing::listing;
 use command_io::{DONE, LINK_FAILED, REFUSED, SPENT};

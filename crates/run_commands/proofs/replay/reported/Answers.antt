@@ -1,17 +1,19 @@
-use Rattle.machine_steps.specs.Draining.{drain_steps}
 use Rattle.run_commands.proofs.replay.reported.Goals as goal
 
 pub returns-clause-report : goal.returns-clause-report
 returns-clause-report c =
     let opening = c.in_ok-machine.machine in
+    let opens = c.in_ok-machine.ensures.opening in
+    let taken = c.in_ok-tally.ensures.taken in
     record {
-      drain = drain_steps c.retaken.new.machine;
+      before = c.retaken.new.machine;
+      stands = record { opening = opening; opens = opens; replay = taken.replay };
       report = record {
         opening = opening;
-        opens = c.in_ok-machine.ensures.opening;
+        opens = opens;
         machine = c.drained.new.machine;
         tally = c.drained.new.tally;
-        retaken = c.in_ok-drained.ensures.taken opening c.args.steps.now c.in_ok-tally.ensures.taken;
+        retaken = c.in_ok-drained.ensures.taken opening c.args.steps.now taken;
         is = c.in_ok-text.ensures;
         exit = c.exit_status.ensures;
       };

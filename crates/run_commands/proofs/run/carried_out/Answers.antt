@@ -1,22 +1,54 @@
-use Rattle.std.proofs.Common.{subst}
+use Rattle.std.proofs.Common.{refl, subst}
 use Rattle.std.specs.Prelude.{string_bytes}
 use Rattle.std.specs.Io.KnownBytes.{Appends}
+use Rattle.std.proofs.lemmas.Result.{err_from_is_err_and}
 use Rattle.trace_file.specs.Traces.{trace_bytes, trace_of}
-use Rattle.run_commands.specs.Commands.{IsReportOf, IsSaved}
+use Rattle.run_commands.specs.Commands.{IsPartSaved, IsReportOf, IsSaved}
+use Rattle.run_commands.proofs.Logging.{log_config, log_image, log_words, log_opens}
 use Rattle.run_commands.proofs.run.carried_out.Goals as goal
+
+pub reported-requires-clause-opens : goal.reported-requires-clause-opens
+reported-requires-clause-opens g c = log_opens c.args.config (g.R.Read.remaining c.args.file) c.in_ok-log.log c.in_ok-log.ensures.ran.run.log_of
+
+pub reported-requires-clause-words : goal.reported-requires-clause-words
+reported-requires-clause-words g c = log_words c.args.config (g.R.Read.remaining c.args.file) c.in_ok-log.log c.in_ok-log.ensures.ran.run.log_of
 
 pub returns-clause-reported : goal.returns-clause-reported
 returns-clause-reported g c =
     let log = c.in_ok-log.log in
     let ran = c.in_ok-log.ensures.ran in
+    let known = g.R.Read.remaining c.args.file in
     let text = string_bytes c.in_ok-text.text in
     record {
       log = log;
       ran = ran;
       text = text;
       report =
-          subst (λ size. IsReportOf size ran.image log.steps text c.in_ok-text.status) ran.config
-          (subst (λ image. IsReportOf log.machine.config image log.steps text c.in_ok-text.status) ran.image_is c.in_ok-text.ensures.report);
+          subst (λ size. IsReportOf size ran.run.log_of.image log.steps text c.in_ok-text.status) (log_config c.args.config known log ran.run.log_of)
+          (subst (λ image. IsReportOf log.machine.config image log.steps text c.in_ok-text.status) (log_image c.args.config known log ran.run.log_of) c.in_ok-text.ensures.report);
       saved = subst (λ steps. IsSaved {T = g.row.T.Denot} g.T.Write.contents c.args.trace.now c.save.new.trace (trace_bytes (trace_of c.args.config steps))) c.steps.ensures.steps c.in_ok-save.ensures.saved;
       printed = subst (λ bytes. Appends (g.W.Write.contents c.args.out.now) (g.W.Write.contents c.print.new.out) bytes) c.as_str.ensures.value c.in_ok-print.ensures.printed;
     }
+
+pub returns-in_err-save-clause-told : goal.returns-in_err-save-clause-told
+returns-in_err-save-clause-told g c =
+    let p = err_from_is_err_and c.from_residual-in_err-save.result c.from_residual-in_err-save.ensures.1 in
+    let f = c.in_err-save.ensures.failed in
+    rw (p.1, p.2, f.0) (
+      refl,
+      record {
+        log = c.in_ok-log.log;
+        ran = c.in_ok-log.ensures.ran;
+        part = subst (λ steps. IsPartSaved {T = g.row.T.Denot} g.T.Write.contents c.args.trace.now c.save.new.trace (trace_bytes (trace_of c.args.config steps))) c.steps.ensures.steps f.1;
+      },
+    )
+
+pub returns-in_err-print-clause-told : goal.returns-in_err-print-clause-told
+returns-in_err-print-clause-told g c =
+    let p = err_from_is_err_and c.from_residual-in_err-print.result c.from_residual-in_err-print.ensures.1 in
+    rw (p.1, p.2, c.in_err-print.ensures.failed)
+    (record {
+      log = c.in_ok-log.log;
+      ran = c.in_ok-log.ensures.ran;
+      saved = subst (λ steps. IsSaved {T = g.row.T.Denot} g.T.Write.contents c.args.trace.now c.save.new.trace (trace_bytes (trace_of c.args.config steps))) c.steps.ensures.steps c.in_ok-save.ensures.saved;
+    })

@@ -1,4 +1,4 @@
-use Rattle.std.proofs.Common.{◌≡◌, ◌∙◌, ◌<◌, true, false, sym, subst, arith}
+use Rattle.std.proofs.Common.{◌≡◌, ◌∙◌, ◌<◌, sym, subst, arith}
 use Rattle.run_commands.proofs.StepByStep.{drain_taken_none, drain_taken_more, drain_taken_stops, drain_taken_over}
 use Rattle.run_commands.proofs.taking.drained.Goals as goal
 

@@ -1,0 +1,139 @@
+-- What is entered of steps that are asked for.
+use Rattle.std.proofs.Common.{◌≡◌, ℕ, zero, suc, ◌+◌, ◌<◌, ◌≤◌, Bool, true, false, ◌⊎◌, inl, inr, List, [], ◌∷◌, ◌++◌, length, take, Some, refl, sym, ap, ◌∙◌, subst, arith}
+use Rattle.std.specs.Prelude.{slice_get, slice_index_or, if◌then◌else◌}
+use Rattle.std.proofs.lemmas.List.{length-append, append-nil, take_more}
+use Rattle.std.proofs.lemmas.Option.{get_or_from_slice_get}
+use Rattle.steps.specs.declared.step.Step.{Step}
+use Rattle.steps.specs.declared.step.Step.TheVariants as step
+use Rattle.steps.specs.declared.step.Outcome.{Outcome}
+use Rattle.steps.specs.declared.step.Outcome.TheVariants.{Stalled}
+use Rattle.steps.specs.Answers.{is_stalled}
+use Rattle.machine_steps.specs.Machines.{MachineLists}
+use Rattle.machine_steps.specs.Runs.{IsReplay}
+use Rattle.machine_steps.proofs.Replaying.{outcome_there, stalled_is}
+use Rattle.machine_lock.specs.Logs.{Log, entered, HasTaken}
+use Rattle.machine_lock.proofs.Taking.{entered_moving}
+use Rattle.sweep.specs.Rounds.{round}
+use Rattle.run_commands.specs.Reports.{HasRunning}
+use Rattle.run_commands.specs.Sweeps.{answer_after, entered_of, rounds, HasFollowed, WasAskedRound}
+
+-- ---- one step
+
+-- a step is entered, or the steps stay as they are
+entered_count : (steps : List Step) (s : Step) (o : Outcome) → (length steps ≤ length (entered steps s o)) × (length (entered steps s o) ≤ length steps + 1)
+entered_count steps s o = by (is_stalled o)
+  where
+    by : (b : Bool) → (length steps ≤ length (if b then steps else steps ++ s ∷ [])) × (length (if b then steps else steps ++ s ∷ []) ≤ length steps + 1)
+    by true = (omega arith, omega arith)
+    by false = let more : length (steps ++ s ∷ []) ≡ length steps + 1 = length-append steps (s ∷ []) in (omega (arith, more), omega (arith, more))
+
+pub at_most_one : (steps steps' : List Step) (s : Step) (o : Outcome) → steps' ≡ entered steps s o → length steps' ≤ length steps + 1
+at_most_one steps steps' s o is = subst (λ xs. length xs ≤ length steps + 1) (sym is) (entered_count steps s o).1
+
+pub is_entered : (steps steps' : List Step) (s : Step) (o : Outcome) → steps' ≡ entered steps s o → (o ≡ Stalled → ⊥) → length steps < length steps'
+is_entered steps steps' s o is moves =
+    let more : length steps' ≡ length steps + 1 = ap length (is ∙ entered_moving steps s o moves) ∙ length-append steps (s ∷ []) in omega (arith, more)
+
+pub one_asked : (old new : Log) (s : Step) (o : Outcome) → IsReplay old.opening old.steps old.machine → HasTaken old s o new → new.steps ≡ entered_of old.opening old.steps (s ∷ [])
+unfolding entered_of
+one_asked old new s o r t = t.steps ∙ ap (entered old.steps s) (t.step.step.outcome ∙ sym (outcome_there old.opening old.machine old.steps r.run s))
+
+-- ---- one after another
+
+pub asked_append : (m : MachineLists) (done xs ys : List Step) → entered_of m done (xs ++ ys) ≡ entered_of m (entered_of m done xs) ys
+unfolding entered_of
+asked_append m done [] ys = refl
+asked_append m done (x ∷ xs) ys = asked_append m (entered done x (answer_after m done x)) xs ys
+
+pub longer : (m : MachineLists) (done asked : List Step) → length done ≤ length (entered_of m done asked)
+unfolding entered_of
+longer m done [] = omega arith
+longer m done (s ∷ ss) =
+    let one = (entered_count done s (answer_after m done s)).0 in
+    let more = longer m (entered done s (answer_after m done s)) ss in omega (arith, one, more)
+
+-- where nothing is entered, each step stalls
+pub each_stalls : (m : MachineLists) (done asked : List Step) → length (entered_of m done asked) ≤ length done → (i : ℕ) (s : Step) → slice_get asked i ≡ Some s → answer_after m done s ≡ Stalled
+unfolding entered_of
+each_stalls m done [] none i s there = absurd (cc)
+each_stalls m done (x ∷ xs) none i s there =
+    by (is_stalled (answer_after m done x)) refl none i there (λ j short at. each_stalls m done xs short j s at)
+  where
+    by : (b : Bool) → is_stalled (answer_after m done x) ≡ b → length (entered_of m (if b then done else done ++ x ∷ []) xs) ≤ length done → (i : ℕ) → slice_get (x ∷ xs) i ≡ Some s →
+        ((j : ℕ) → length (entered_of m done xs) ≤ length done → slice_get xs j ≡ Some s → answer_after m done s ≡ Stalled) → answer_after m done s ≡ Stalled
+    by false e short i at later =
+        let one : length (done ++ x ∷ []) ≡ length done + 1 = length-append done (x ∷ []) in
+        let more = longer m (done ++ x ∷ []) xs in absurd (omega (arith, one, more, short))
+    by true e short zero at later = (let same : x ≡ s = cc in ap (answer_after m done) (sym same) ∙ stalled_is (answer_after m done x) e)
+    by true e short (suc i) at later = later i short at
+
+-- ---- rounds
+
+-- a step more of the round
+pub next_asked : (old l : Log) (k i : ℕ) (s : Step) (steps' : List Step) → l.opening ≡ old.opening → i < length (round k) → slice_get (round k) i ≡ Some s → l.steps ≡ entered_of old.opening old.steps (take i (round k)) →
+    steps' ≡ entered_of l.opening l.steps (s ∷ []) → steps' ≡ entered_of old.opening old.steps (take (i + 1) (round k))
+next_asked old l k i s steps' opens within there before is =
+    let all : List Step = round k in
+    let here : slice_index_or all i (step.Turn 0) ≡ s = get_or_from_slice_get all i s (step.Turn 0) there in
+    is
+    ∙ ap (λ m. entered_of m l.steps (s ∷ [])) opens
+    ∙ ap (λ xs. entered_of old.opening xs (s ∷ [])) before
+    ∙ sym (asked_append old.opening old.steps (take i all) (s ∷ []))
+    ∙ ap (λ x. entered_of old.opening old.steps (take i all ++ x ∷ [])) (sym here)
+    ∙ ap (entered_of old.opening old.steps) (sym (take_more all i (step.Turn 0) within))
+
+-- The log has followed the sweep so far, and goes on by a whole round, unless it has come to an end.
+pub record IsFollowing (most : ℕ) (old l : Log) : Type 0 where
+  pub whole : ℕ
+  pub part : ℕ
+  pub steps : l.steps ≡ entered_of old.opening old.steps (rounds old.machine.config.k whole ++ take part (round old.machine.config.k))
+  pub cut : (take part (round old.machine.config.k) ≡ []) ⊎ (most ≤ length l.steps) ⊎ (HasRunning l.machine → ⊥)
+
+pub none_asked : (m : MachineLists) (done : List Step) → done ≡ entered_of m done []
+unfolding entered_of
+none_asked m done = refl
+
+pub following_begins : (most : ℕ) (l : Log) → IsFollowing most l l
+following_begins most l = record { whole = 0; part = 0; steps = none_asked l.opening l.steps; cut = inl refl }
+
+module _ (most : ℕ) (old l new : Log) (f : IsFollowing most old l) (opens : l.opening ≡ old.opening) (size : l.machine.config.k ≡ old.machine.config.k) (room : length l.steps < most) (runs : HasRunning l.machine) (r : WasAskedRound most l new) where
+  abbrev k : ℕ
+  k = old.machine.config.k
+
+  -- so far there were whole rounds
+  so_far : l.steps ≡ entered_of old.opening old.steps (rounds k f.whole)
+  so_far = by f.cut
+    where
+      by : (take f.part (round k) ≡ []) ⊎ (most ≤ length l.steps) ⊎ (HasRunning l.machine → ⊥) → l.steps ≡ entered_of old.opening old.steps (rounds k f.whole)
+      by (inl none) = f.steps ∙ ap (λ xs. entered_of old.opening old.steps (rounds k f.whole ++ xs)) none ∙ ap (entered_of old.opening old.steps) (append-nil (rounds k f.whole))
+      by (inr (inl full)) = absurd (omega (arith, full, room))
+      by (inr (inr none)) = absurd (none runs)
+
+  part_is : take r.part (round l.machine.config.k) ≡ take r.part (round k)
+  part_is = ap (λ n. take r.part (round n)) size
+
+  after : new.steps ≡ entered_of old.opening old.steps (rounds k f.whole ++ take r.part (round k))
+  after =
+      r.steps
+      ∙ ap (λ m. entered_of m l.steps (take r.part (round l.machine.config.k))) opens
+      ∙ ap (λ xs. entered_of old.opening xs (take r.part (round l.machine.config.k))) so_far
+      ∙ ap (entered_of old.opening (entered_of old.opening old.steps (rounds k f.whole))) part_is
+      ∙ sym (asked_append old.opening old.steps (rounds k f.whole) (take r.part (round k)))
+
+  pub following_more : IsFollowing most old new
+  following_more = by r.whole
+    where
+      by : (take r.part (round l.machine.config.k) ≡ round l.machine.config.k) ⊎ (most ≤ length new.steps) ⊎ (HasRunning new.machine → ⊥) → IsFollowing most old new
+      by (inl all) = record {
+        whole = suc f.whole;
+        part = 0;
+        steps =
+            after
+            ∙ ap (λ xs. entered_of old.opening old.steps (rounds k f.whole ++ xs)) (sym part_is ∙ all ∙ ap round size)
+            ∙ ap (entered_of old.opening old.steps) (sym (append-nil (rounds k f.whole ++ round k)));
+        cut = inl refl;
+      }
+      by (inr ends) = record { whole = f.whole; part = r.part; steps = after; cut = inr ends }
+
+pub followed : (most : ℕ) (old l : Log) → IsFollowing most old l → HasFollowed old l
+followed most old l f = record { whole = f.whole; part = f.part; steps = f.steps }

@@ -1,0 +1,71 @@
+-- Where a round of the sweep ends.
+use Rattle.std.proofs.Common.{◌≡◌, ℕ, ◌+◌, ◌*◌, ◌^◌, ◌<◌, ◌≤◌, ◌⊎◌, inl, inr, List, [], ◌∷◌, length, take, Some, sym, ap, ◌∙◌, subst, arith}
+use Rattle.std.specs.Prelude.{slice_get}
+use Rattle.std.proofs.lemmas.Bool.{cases_lt}
+use Rattle.std.proofs.lemmas.List.{take_all}
+use Rattle.steps.specs.declared.step.Step.{Step}
+use Rattle.steps.specs.declared.step.Outcome.TheVariants.{Stalled}
+use Rattle.machine_steps.specs.Machines.{IsMachine}
+use Rattle.machine_steps.specs.Runs.{IsReplay}
+use Rattle.machine_steps.proofs.Replaying.{outcome_there}
+use Rattle.machine_lock.specs.Logs.{Log}
+use Rattle.sweep.specs.Rounds.{next_place, round}
+use Rattle.sweep.proofs.Places.{next_goes, round_length}
+use Rattle.run_commands.specs.Reports.{HasRunning}
+use Rattle.run_commands.specs.Sweeps.{answer_after, entered_of, WasAskedRound}
+use Rattle.run_commands.proofs.Asking.{longer, each_stalls, next_asked}
+use Rattle.run_commands.proofs.Progress.{in_round, some_step_moves}
+
+module _ (most : ℕ) (old l : Log) (i : ℕ) (room : length old.steps < most) (steps : l.steps ≡ entered_of old.opening old.steps (take i (round old.machine.config.k))) (few : length l.steps ≤ most) where
+  -- there is no room
+  pub full_round : most ≤ length l.steps → WasAskedRound most old l
+  full_round full = record { part = i; steps = steps; whole = inr (inl full); some = omega (arith, room, full); few = few }
+
+  -- no processor runs
+  pub stopped_round : (HasRunning l.machine → ⊥) → length old.steps < length l.steps → WasAskedRound most old l
+  stopped_round none some = record { part = i; steps = steps; whole = inr (inr none); some = some; few = few }
+
+  -- the round is over
+  pub whole_round : IsMachine old.machine → HasRunning old.machine → IsReplay old.opening old.steps old.machine → length (round old.machine.config.k) ≤ i → WasAskedRound most old l
+  whole_round is running replay over = record { part = i; steps = steps; whole = inl all; some = some (cases_lt (length old.steps) (length l.steps)); few = few }
+    where
+      all : take i (round old.machine.config.k) ≡ round old.machine.config.k
+      all = take_all i (round old.machine.config.k) over
+
+      each : length l.steps ≤ length old.steps → ⊥
+      each short =
+          let goes = some_step_moves old.machine is running in
+          let place = in_round old.machine.config.k goes.0 goes.1.0 in
+          let none : length (entered_of old.opening old.steps (round old.machine.config.k)) ≤ length old.steps =
+          subst (λ n. n ≤ length old.steps) (ap length (steps ∙ ap (entered_of old.opening old.steps) all)) short in
+          let stalls : answer_after old.opening old.steps goes.0 ≡ Stalled = each_stalls old.opening old.steps (round old.machine.config.k) none place.0 goes.0 place.1 in
+          goes.1.1 (sym (outcome_there old.opening old.machine old.steps replay.run goes.0) ∙ stalls)
+
+      some : (length old.steps < length l.steps) ⊎ (length l.steps ≤ length old.steps) → length old.steps < length l.steps
+      some (inl less) = less
+      some (inr short) = absurd (each short)
+
+-- a step that was entered is one more than the log had at first
+pub grown : (old before after : Log) (i : ℕ) → before.steps ≡ entered_of old.opening old.steps (take i (round old.machine.config.k)) → length before.steps < length after.steps → length old.steps < length after.steps
+grown old before after i steps more =
+    let at_least = longer old.opening old.steps (take i (round old.machine.config.k)) in
+    let same : length before.steps ≡ length (entered_of old.opening old.steps (take i (round old.machine.config.k))) = ap length steps in
+    omega (arith, at_least, same, more)
+
+-- ---- one step of the round more
+
+module _ (old before : Log) (k place i : ℕ) (s : Step) (opens : before.opening ≡ old.opening) (size : k ≡ old.machine.config.k) (few : k ≤ 6) (within : i < 2 ^ k * (2 * k + 2)) (at : place ≡ i) (there : slice_get (round k) place ≡ Some s) (steps : before.steps ≡ entered_of old.opening old.steps (take i (round old.machine.config.k))) where
+  pub asked_more : (steps' : List Step) → steps' ≡ entered_of before.opening before.steps (s ∷ []) → steps' ≡ entered_of old.opening old.steps (take (i + 1) (round old.machine.config.k))
+  asked_more steps' is =
+      let inside : i < length (round old.machine.config.k) = subst (λ n. i < length (round n)) size (subst (λ n. i < n) (sym (round_length k few)) within) in
+      let here : slice_get (round old.machine.config.k) i ≡ Some s = subst (λ n. slice_get (round n) i ≡ Some s) size (subst (λ n. slice_get (round k) n ≡ Some s) at there) in
+      next_asked old before old.machine.config.k i s steps' opens inside here steps is
+
+-- all of the round was asked for
+pub over : (old : Log) (k i : ℕ) → k ≡ old.machine.config.k → k ≤ 6 → 2 ^ k * (2 * k + 2) ≤ i → length (round old.machine.config.k) ≤ i
+over old k i size few past = subst (λ n. length (round n) ≤ i) size (subst (λ n. n ≤ i) (sym (round_length k few)) past)
+
+-- the sweep's place is how many steps of the round were asked for
+pub next_place_is : (k place i : ℕ) → k ≤ 6 → place ≡ i → i + 1 < 2 ^ k * (2 * k + 2) → next_place (record { k = k; place = place }) ≡ i + 1
+next_place_is k place i few at more =
+    next_goes (record { k = k; place = place }) few (λ e. omega (arith, e, at, more)) ∙ ap (λ n. n + 1) at
