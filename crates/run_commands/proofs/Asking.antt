@@ -15,7 +15,7 @@ use Rattle.machine_lock.specs.Logs.{Log, entered, HasTaken}
 use Rattle.machine_lock.proofs.Taking.{entered_moving}
 use Rattle.sweep.specs.Rounds.{round}
 use Rattle.run_commands.specs.Reports.{HasRunning}
-use Rattle.run_commands.specs.Sweeps.{answer_after, entered_of, rounds, HasFollowed, WasAskedRound}
+use Rattle.run_commands.specs.Sweeps.{answer_after, entered_of, rounds, WasAskedRound}
 
 -- ---- one step
 
@@ -134,6 +134,3 @@ module _ (most : ℕ) (old l new : Log) (f : IsFollowing most old l) (opens : l.
         cut = inl refl;
       }
       by (inr ends) = record { whole = f.whole; part = r.part; steps = after; cut = inr ends }
-
-pub followed : (most : ℕ) (old l : Log) → IsFollowing most old l → HasFollowed old l
-followed most old l f = record { whole = f.whole; part = f.part; steps = f.steps }

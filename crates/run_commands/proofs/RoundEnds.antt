@@ -17,10 +17,6 @@ use Rattle.run_commands.proofs.Asking.{longer, each_stalls, next_asked}
 use Rattle.run_commands.proofs.Progress.{in_round, some_step_moves}
 
 module _ (most : ℕ) (old l : Log) (i : ℕ) (room : length old.steps < most) (steps : l.steps ≡ entered_of old.opening old.steps (take i (round old.machine.config.k))) (few : length l.steps ≤ most) where
-  -- there is no room
-  pub full_round : most ≤ length l.steps → WasAskedRound most old l
-  full_round full = record { part = i; steps = steps; whole = inr (inl full); some = omega (arith, room, full); few = few }
-
   -- no processor runs
   pub stopped_round : (HasRunning l.machine → ⊥) → length old.steps < length l.steps → WasAskedRound most old l
   stopped_round none some = record { part = i; steps = steps; whole = inr (inr none); some = some; few = few }
