@@ -1,16 +1,45 @@
 -- Searching for the next step of a drain, and what a drain's steps do.
-use Rattle.std.proofs.Common.{◌≡◌, ℕ, zero, suc, ◌+◌, ◌<◌, ◌≤◌, Bool, true, false, List, [], ◌∷◌, Option, Some, None, is_some, ◌⊎◌, inl, inr, refl, sym, ap, ◌∙◌, subst, arith}
-use Rattle.std.proofs.lemmas.Bool.{cases_lt}
-use Rattle.std.specs.Prelude.{slice_get, if◌then◌else◌}
+use Rattle.std.proofs.Common.{◌≡◌, ℕ, zero, suc, ◌+◌, ◌^◌, ◌<◌, ◌≤◌, Bool, true, false, List, [], ◌∷◌, Option, Some, None, is_some, ◌⊎◌, inl, inr, refl, sym, ap, ◌∙◌, subst, arith}
+use Rattle.std.proofs.lemmas.Bool.{cases_lt, true≢false}
+use Rattle.std.specs.Prelude.{IfSome, slice_get, if◌then◌else◌}
+use Rattle.wire_sets.specs.Members.{HasNoneIn, IsFirst, members}
 use Rattle.messages.specs.Network.{Sizes, Net, wires}
 use Rattle.abstract_machine.specs.Machine.{Up, Down}
 use Rattle.abstract_machine.specs.Draining.{least, greatest, is_any, some_wire, first_wire, down_step, up_step}
+use Rattle.abstract_machine.proofs.Least.{LeastIs, least_is}
 use Rattle.steps.specs.declared.step.Step.TheVariants as step
 use Rattle.machine_steps.specs.Draining.{some_step}
+use Rattle.machine_steps.proofs.Keeping.{count_small}
 
 pub any_is : {X : Type 0} (xs : List X) → is_some (slice_get xs 0) ≡ is_any xs
 any_is [] = refl
 any_is (x ∷ xs) = refl
+
+-- The first wire of a set is the least on which something stands, where the set has the wires of k stages on which something does.
+pub first_is_least : {X : Type 0} (k : ℕ) (at : ℕ → List X) (s : ℕ) (o : Option ℕ) → k ≤ 6 → ((w : ℕ) → w < 2 ^ k → members s w ≡ is_some (slice_get (at w) 0)) → ((w : ℕ) → 2 ^ k ≤ w → members s w ≡ false)
+    → IfSome o (IsFirst (members s) 0) → (o ≡ None → HasNoneIn (members s) 0 64) → o ≡ least (λ w. is_any (at w)) (2 ^ k)
+first_is_least {X} k at s o few exact past first none = go (least (λ w. is_any (at w)) (2 ^ k)) (least_is (λ w. is_any (at w)) (2 ^ k)) o first none
+  where
+    member : (w : ℕ) → w < 2 ^ k → members s w ≡ is_any (at w)
+    member w within = exact w within ∙ any_is (at w)
+
+    not_both : (w : ℕ) → members s w ≡ true → members s w ≡ false → ⊥
+    not_both w is not_is = true≢false (sym is ∙ not_is)
+
+    inside : (w : ℕ) → members s w ≡ true → (w < 2 ^ k) ⊎ (2 ^ k ≤ w) → w < 2 ^ k
+    inside w is (inl within) = within
+    inside w is (inr beyond) = absurd (not_both w is (past w beyond))
+
+    go : (l : Option ℕ) → LeastIs (λ w. is_any (at w)) (2 ^ k) l → (o : Option ℕ) → IfSome o (IsFirst (members s) 0) → (o ≡ None → HasNoneIn (members s) 0 64) → o ≡ l
+    go None h None is none = refl
+    go None h (Some w) is none = let within = inside w is.member (cases_lt w (2 ^ k)) in absurd (not_both w is.member (member w within ∙ h w within))
+    go (Some i) h None is none = let within = h.within in let most = count_small k few in absurd (not_both i (member i within ∙ h.passes) (none refl i (omega arith) (omega (arith, within, most))))
+    go (Some i) h (Some w) is none = ap Some (by (cases_lt w i) (cases_lt i w))
+      where
+        by : (w < i) ⊎ (i ≤ w) → (i < w) ⊎ (w ≤ i) → w ≡ i
+        by (inl less) _ = let within : w < 2 ^ k = (let last = h.within in omega (arith, less, last)) in absurd (not_both w is.member (member w within ∙ h.before w less))
+        by (inr more) (inl less) = absurd (not_both i (member i h.within ∙ h.passes) (is.first i (omega arith) less))
+        by (inr more) (inr less) = omega (arith, more, less)
 
 least_step : (f : ℕ → Bool) (i : ℕ) → least f i ≡ None → least f (suc i) ≡ (if f i then Some i else None)
 unfolding least

@@ -6,37 +6,27 @@ ghost use Rattle.abstract_machine.specs.Draining.{down_step, first_wire, is_any,
 ghost use Rattle.abstract_machine.specs.Machine.{Serve, Turn};
 ghost use Rattle.machine_steps.specs.Draining.{some_step};
 
-use omega_network::Network;
+use indexed_network::IndexedNetwork;
 use steps::Step;
 
 /// The first wire with a request before a stage.
-fn first_request(network: &Network, stage: u8) -> Option<u8>
+fn first_request(network: &IndexedNetwork, stage: u8) -> Option<u8>
     requires { stage ≤ network.now.k }
     ensures { result ≡ least (λ w. is_any ((net_of network.now).requests stage w)) (2 ^ network.now.k) }
 {
-    for wire in 0..network.wires() {
-        if network.has_request(stage, wire) {
-            return Some(wire);
-        }
-    }
-    None
+    network.request_wires(stage).first_from(0)
 }
 
 /// The first wire with a reply before a stage.
-fn first_reply(network: &Network, stage: u8) -> Option<u8>
+fn first_reply(network: &IndexedNetwork, stage: u8) -> Option<u8>
     requires { stage ≤ network.now.k }
     ensures { result ≡ least (λ w. is_any ((net_of network.now).replies stage w)) (2 ^ network.now.k) }
 {
-    for wire in 0..network.wires() {
-        if network.has_reply(stage, wire) {
-            return Some(wire);
-        }
-    }
-    None
+    network.reply_wires(stage).first_from(0)
 }
 
 /// The step that brings down the next reply.
-fn next_down(network: &Network) -> Option<Step>
+fn next_down(network: &IndexedNetwork) -> Option<Step>
     ensures { result ≡ some_step (down_step (sizes_of network.now) (net_of network.now)) }
 {
     for stage in 0..network.stages() {
@@ -48,7 +38,7 @@ fn next_down(network: &Network) -> Option<Step>
 }
 
 /// The step that brings up the next request.
-fn next_up(network: &Network) -> Option<Step>
+fn next_up(network: &IndexedNetwork) -> Option<Step>
     ensures { result ≡ some_step (up_step (sizes_of network.now) (net_of network.now)) }
 {
     let k = network.stages();
@@ -62,7 +52,7 @@ fn next_up(network: &Network) -> Option<Step>
 }
 
 /// The step that a drain takes next.
-pub(crate) fn next_step(network: &Network) -> Option<Step>
+pub(crate) fn next_step(network: &IndexedNetwork) -> Option<Step>
     ensures { result ≡ some_step (or_else (first_wire ((net_of network.now).replies 0) (2 ^ network.now.k) Turn) (or_else (down_step (sizes_of network.now) (net_of network.now)) (or_else (first_wire ((net_of network.now).requests network.now.k) (2 ^ network.now.k) Serve) (up_step (sizes_of network.now) (net_of network.now))))) }
 {
     if let Some(p) = first_reply(network, 0) {

@@ -1,12 +1,14 @@
 //! The machine.
 
-ghost use Rattle.std.specs.Prelude.{◌≡◌, ◌↔◌, ◌<◌, ◌*◌, ◌+◌, ◌/◌, ◌%◌, ◌^◌, ◌&&◌, ℕ, List, [], true, false, nat_lt, slice_get, slice_index, Some, None, Err, IfOk, IfSome, IsTrue, if◌then◌else◌, IfErr, OnOk, OnErr};
+ghost use Rattle.std.specs.Prelude.{◌≡◌, ◌↔◌, ◌<◌, ◌≤◌, ◌*◌, ◌+◌, ◌/◌, ◌%◌, ◌^◌, ◌&&◌, ℕ, List, [], true, false, nat_lt, is_some, slice_get, slice_index, Some, None, Err, IfOk, IfSome, IsTrue, if◌then◌else◌, IfErr, OnOk, OnErr};
 ghost use Rattle.std.specs.Option.{option_copied};
 ghost use Rattle.flat_machine.specs.declared.event.Event.{Event};
 ghost use Rattle.flat_machine.specs.declared.poke.Poke.TheVariants as pokes;
 ghost use Rattle.flat_machine.specs.Laws.{AreBelow};
 ghost use Rattle.flat_machine.specs.Limits.{IsWithinLimits};
 ghost use Rattle.flat_machine.specs.Memory.{in_local};
+ghost use Rattle.wire_sets.specs.Members.{members};
+ghost use Rattle.omega_network.specs.Networks.{net_of};
 ghost use Rattle.abstract_machine.specs.Steadiness.{Few};
 ghost use Rattle.machine_program.specs.Processors.{port_at, word_at, sizes_of, program};
 ghost use Rattle.machine_program.specs.Steps.{outcome_of};
@@ -31,12 +33,13 @@ use machine_opening::{new_modules, new_ports};
 use machine_ports::Port;
 use memory_module::Module;
 use messages::{DownMove, UpMove};
-use omega_network::Network;
+use indexed_network::IndexedNetwork;
 use omega_wires::module_of;
 use phi_algebra::Phi;
 use std::alloc::{AllocError, Global};
 use std::marker::Model;
 use steps::{Outcome, Step};
+use wire_sets::WireSet;
 
 /// A machine of 1 to 64 processors and as many memory modules, with a network of combining switches
 /// between them.
@@ -46,7 +49,7 @@ pub struct Machine {
     image: Image,
     code: Code,
     ports: Vec<Port>,
-    network: Network,
+    network: IndexedNetwork,
     modules: Vec<Module>,
 }
 
@@ -146,6 +149,26 @@ impl Machine {
         let k = self.config.k;
         let place = usize::from(module_of(number, k));
         self.modules[place].word(number >> k)
+    }
+
+    /// The wires on which a request stands before a stage; for stage `k`, the modules at which one does.
+    #[inline(always)]
+    pub fn request_wires(&self, stage: u8) -> WireSet
+        requires { stage ≤ self.now.config.k }
+        ensures exact { (w : ℕ) → w < 2 ^ self.now.config.k → members result w ≡ is_some (slice_get ((net_of self.now.network).requests stage w) 0) }
+        ensures few { (w : ℕ) → 2 ^ self.now.config.k ≤ w → members result w ≡ false }
+    {
+        self.network.request_wires(stage)
+    }
+
+    /// The wires on which a reply stands before a stage; for stage `k`, the modules at which one does.
+    #[inline(always)]
+    pub fn reply_wires(&self, stage: u8) -> WireSet
+        requires { stage ≤ self.now.config.k }
+        ensures exact { (w : ℕ) → w < 2 ^ self.now.config.k → members result w ≡ is_some (slice_get ((net_of self.now.network).replies stage w) 0) }
+        ensures few { (w : ℕ) → 2 ^ self.now.config.k ≤ w → members result w ≡ false }
+    {
+        self.network.reply_wires(stage)
     }
 
     /// The core of a processor.
@@ -532,7 +555,7 @@ fn made(alloc: Global, image: Image, config: Config) -> Result<Machine, AllocErr
     let code = Code::new(alloc, code_bytes)?;
     let ports = new_ports(alloc, config, layout)?;
     let modules = new_modules(alloc, config, shared)?;
-    let network = Network::new(alloc, config.k, config.c, config.b)?;
+    let network = IndexedNetwork::new(alloc, config.k, config.c, config.b)?;
     Ok(Machine {
         config,
         image,

@@ -7,13 +7,13 @@ ghost use Rattle.machine_steps.specs.Serving.{IsExecuted, IsKept};
 
 use memory_module::Module;
 use messages::{Reply, Request};
-use omega_network::Network;
+use indexed_network::IndexedNetwork;
 use steps::Outcome;
 
 /// The first request at a module is executed, where the module's reply slot is free: the word before
 /// goes into it.
 #[inline(always)]
-pub(crate) fn execute(memory: &mut Module, network: &mut Network, m: u8) -> Outcome
+pub(crate) fn execute(memory: &mut Module, network: &mut IndexedNetwork, m: u8) -> Outcome
     requires few { network.old.k ≤ 6 }
     requires there { m < 2 ^ network.old.k }
     requires place { (x : Request) → slice_get ((net_of network.old).requests network.old.k m) 0 ≡ Some x → x.word / 2 ^ network.old.k < length memory.old }
@@ -33,7 +33,7 @@ pub(crate) fn execute(memory: &mut Module, network: &mut Network, m: u8) -> Outc
 /// A request that is the first at a module is executed, where the module's reply slot is free.
 #[inline(never)]
 #[tactic(auto, unfolding(messages::specs::Moves::module_taken))]
-fn serve(memory: &mut Module, network: &mut Network, m: u8, request: Request) -> Outcome
+fn serve(memory: &mut Module, network: &mut IndexedNetwork, m: u8, request: Request) -> Outcome
     requires few { network.old.k ≤ 6 }
     requires there { m < 2 ^ network.old.k }
     requires first { slice_get ((net_of network.old).requests network.old.k m) 0 ≡ Some request }

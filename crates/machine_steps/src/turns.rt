@@ -10,13 +10,13 @@ ghost use Rattle.machine_program.specs.Turning.{IsBegun, IsFinished, IsFinishedB
 use local_memory::Code;
 use machine_ports::{Begun, Port};
 use messages::{Reply, Request};
-use omega_network::Network;
+use indexed_network::IndexedNetwork;
 use steps::Outcome;
 
 /// The turn of a port that runs and is not open: the instruction is done, or stops the processor, or
 /// its request is put into the slot.
 #[inline(never)]
-pub(crate) fn begin(port: &mut Port, network: &mut Network, code: &Code, p: u8) -> Outcome
+pub(crate) fn begin(port: &mut Port, network: &mut IndexedNetwork, code: &Code, p: u8) -> Outcome
     requires closed { port.old.is_open ≡ false }
     requires running { is_running port.old.core.state.status ≡ true }
     requires there { p < 2 ^ network.old.k }
@@ -43,7 +43,7 @@ pub(crate) fn begin(port: &mut Port, network: &mut Network, code: &Code, p: u8) 
 
 /// The turn of an open port: it takes its reply, if that is there, and the instruction is done.
 #[inline(always)]
-pub(crate) fn finish(port: &mut Port, network: &mut Network, code: &Code, p: u8) -> Outcome
+pub(crate) fn finish(port: &mut Port, network: &mut IndexedNetwork, code: &Code, p: u8) -> Outcome
     requires reference { IsReference (turn port.old code.now) }
     requires there { p < 2 ^ network.old.k }
     ensures finished { IsFinishedBy p (turn port.old code.now) port.old (net_of network.old) (slice_get ((net_of network.old).replies 0 p) 0) result port.new (net_of network.new) }
@@ -57,7 +57,7 @@ pub(crate) fn finish(port: &mut Port, network: &mut Network, code: &Code, p: u8)
 
 /// The turn of an open port whose reply is there: it takes the reply, and the instruction is done.
 #[inline(never)]
-fn retire(port: &mut Port, network: &mut Network, code: &Code, p: u8, reply: Reply) -> Outcome
+fn retire(port: &mut Port, network: &mut IndexedNetwork, code: &Code, p: u8, reply: Reply) -> Outcome
     requires reference { IsReference (turn port.old code.now) }
     requires there { p < 2 ^ network.old.k }
     requires first { slice_get ((net_of network.old).replies 0 p) 0 ≡ Some reply }

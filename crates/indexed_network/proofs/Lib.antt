@@ -1,0 +1,3 @@
+mod Elsewhere
+mod Indexing
+mod Looking
