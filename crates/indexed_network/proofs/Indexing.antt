@@ -71,28 +71,28 @@ module _ (old new : NetworkLists) (rq rp : List ℕ) (is : IsIndexed old rq rp) 
   injected_indexed x p rq' after leader look =
       requests_change rq' (ap (λ (n : Net). n.replies) after)
       (λ knows. one_look new.k (net_of old).requests (net_of new).requests rq rq' 0 p knows
-          (λ d w away. ap (λ (n : Net). n.requests d w) after ∙ put2_other (net_of old).requests 0 x.leader _ d w (λ a e. away a (e ∙ leader))) look)
+      (λ d w away. ap (λ (n : Net). n.requests d w) after ∙ put2_other (net_of old).requests 0 x.leader _ d w (λ a e. away a (e ∙ leader))) look)
 
   pub taken_indexed : (m k : ℕ) (rq' : List ℕ) → k ≡ new.k → net_of new ≡ module_taken (sizes_of old) (net_of old) m → IsLookedAt new.k (net_of new).requests k m rq rq' → IsIndexed new rq' rp
   unfolding module_taken
   taken_indexed m k rq' at after look =
       requests_change rq' (ap (λ (n : Net). n.replies) after)
       (λ knows. one_look new.k (net_of old).requests (net_of new).requests rq rq' k m knows
-          (λ d w away. ap (λ (n : Net). n.requests d w) after ∙ put2_other (net_of old).requests old.k m _ d w (λ a e. away (a ∙ size ∙ sym at) e)) look)
+      (λ d w away. ap (λ (n : Net). n.requests d w) after ∙ put2_other (net_of old).requests old.k m _ d w (λ a e. away (a ∙ size ∙ sym at) e)) look)
 
   pub replied_indexed : (m k : ℕ) (y : Reply) (rp' : List ℕ) → k ≡ new.k → net_of new ≡ module_replied (sizes_of old) (net_of old) m y → IsLookedAt new.k (net_of new).replies k m rp rp' → IsIndexed new rq rp'
   unfolding module_replied
   replied_indexed m k y rp' at after look =
       replies_change rp' (ap (λ (n : Net). n.requests) after)
       (λ knows. one_look new.k (net_of old).replies (net_of new).replies rp rp' k m knows
-          (λ d w away. ap (λ (n : Net). n.replies d w) after ∙ put2_other (net_of old).replies old.k m _ d w (λ a e. away (a ∙ size ∙ sym at) e)) look)
+      (λ d w away. ap (λ (n : Net). n.replies d w) after ∙ put2_other (net_of old).replies old.k m _ d w (λ a e. away (a ∙ size ∙ sym at) e)) look)
 
   pub port_indexed : (p : ℕ) (rp' : List ℕ) → net_of new ≡ port_taken (net_of old) p → IsLookedAt new.k (net_of new).replies 0 p rp rp' → IsIndexed new rq rp'
   unfolding port_taken
   port_indexed p rp' after look =
       replies_change rp' (ap (λ (n : Net). n.requests) after)
       (λ knows. one_look new.k (net_of old).replies (net_of new).replies rp rp' 0 p knows
-          (λ d w away. ap (λ (n : Net). n.replies d w) after ∙ put2_other (net_of old).replies 0 p _ d w away) look)
+      (λ d w away. ap (λ (n : Net). n.replies d w) after ∙ put2_other (net_of old).replies 0 p _ d w away) look)
 
   -- the outputs of the switch that the wire goes into
   pub up_indexed : (s w out : ℕ) (rq1 rq2 rq3 : List ℕ) → net_of new ≡ (moved_up (sizes_of old) (net_of old) s w).1 → out ≡ 2 * (rotated_left old.k w / 2)
@@ -100,11 +100,11 @@ module _ (old new : NetworkLists) (rq rp : List ℕ) (is : IsIndexed old rq rp) 
   up_indexed s w out rq1 rq2 rq3 after at one two three =
       requests_change rq3 (ap (λ (n : Net). n.replies) after ∙ up_replies (sizes_of old) (net_of old) s w)
       (λ knows. three_looks new.k (net_of old).requests (net_of new).requests rq rq1 rq2 rq3 s w (s + 1) out (s + 1) (out + 1) knows
-          (λ d v away1 away2 away3.
-              let next : s + 1 ≡ suc s = omega arith in
-              ap (λ (n : Net). n.requests d v) after
-              ∙ up_elsewhere (sizes_of old) (net_of old) s w d v (away1, λ a half. by v (v % 2) refl half (omega arith) (λ e. away2 (a ∙ sym next) e) (λ e. away3 (a ∙ sym next) e)))
-          one two three)
+      (λ d v away1 away2 away3.
+      let next : s + 1 ≡ suc s = omega arith in
+      ap (λ (n : Net). n.requests d v) after
+      ∙ up_elsewhere (sizes_of old) (net_of old) s w d v (away1, λ a half. by v (v % 2) refl half (omega arith) (λ e. away2 (a ∙ sym next) e) (λ e. away3 (a ∙ sym next) e)))
+      one two three)
     where
       by : (v b : ℕ) → v % 2 ≡ b → v / 2 ≡ rotated_left old.k w / 2 → b < 2 → (v ≡ out → ⊥) → (v ≡ out + 1 → ⊥) → ⊥
       by v zero even half few not_first not_second = not_first (omega (arith, even, half, at))
@@ -117,11 +117,11 @@ module _ (old new : NetworkLists) (rq rp : List ℕ) (is : IsIndexed old rq rp) 
   down_indexed s w first second rp1 rp2 rp3 after at at' one two three =
       replies_change rp3 (ap (λ (n : Net). n.requests) after ∙ down_requests (sizes_of old) (net_of old) s w)
       (λ knows. three_looks new.k (net_of old).replies (net_of new).replies rp rp1 rp2 rp3 (s + 1) w s first s second knows
-          (λ d v away1 away2 away3.
-              let next : s + 1 ≡ suc s = omega arith in
-              ap (λ (n : Net). n.replies d v) after
-              ∙ down_elsewhere (sizes_of old) (net_of old) s w d v ((λ a e. away1 (a ∙ sym next) e), (λ p a e. by p v e (λ e'. away2 a e') (λ e'. away3 a e'))))
-          one two three)
+      (λ d v away1 away2 away3.
+      let next : s + 1 ≡ suc s = omega arith in
+      ap (λ (n : Net). n.replies d v) after
+      ∙ down_elsewhere (sizes_of old) (net_of old) s w d v ((λ a e. away1 (a ∙ sym next) e), (λ p a e. by p v e (λ e'. away2 a e') (λ e'. away3 a e'))))
+      one two three)
     where
       by : (p v : ℕ) → v ≡ wire_before old.k s w p → (v ≡ first → ⊥) → (v ≡ second → ⊥) → ⊥
       by p v is not_first not_second = go (input_is (sizes_of old) (net_of old) s w p)

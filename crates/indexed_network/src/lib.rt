@@ -7,5 +7,7 @@
 #![tactic(auto)]
 
 mod network;
+#[cfg(test)]
+mod tests;
 
 pub use network::IndexedNetwork;

@@ -65,6 +65,14 @@ impl IndexedNetwork {
         self.network.stages()
     }
 
+    /// Whether a processor's slot has no request.
+    pub fn slot_is_free(&self, p: u8) -> bool
+        requires { p < 2 ^ self.now.k }
+        ensures { IsTrue result ↔ ((net_of self.now).requests 0 p ≡ []) }
+    {
+        !self.has_request(0, p)
+    }
+
     /// Puts a processor's request into its slot, which must be free.
     pub fn inject(&mut self, p: u8, request: Request)
         requires processor { p < 2 ^ self.old.k }
@@ -224,7 +232,7 @@ impl IndexedNetwork {
         requires wire { wire < 2 ^ self.now.k }
         ensures { result ≡ is_some (slice_get ((net_of self.now).requests stage wire) 0) }
     {
-        self.requests[usize::from(stage)].contains(wire)
+        self.request_wires(stage).contains(wire)
     }
 
     /// Whether a reply stands before a stage on a wire, or at a module for stage `k`.
@@ -234,7 +242,7 @@ impl IndexedNetwork {
         requires wire { wire < 2 ^ self.now.k }
         ensures { result ≡ is_some (slice_get ((net_of self.now).replies stage wire) 0) }
     {
-        self.replies[usize::from(stage)].contains(wire)
+        self.reply_wires(stage).contains(wire)
     }
 
     /// The wires on which a request stands before a stage, or for stage `k` the modules at which one does.

@@ -1,8 +1,8 @@
 //! Sets of wires of one stage.
 #![tactic(auto)]
 
-mod wire_set;
 #[cfg(test)]
 mod tests;
+mod wire_set;
 
 pub use wire_set::WireSet;
