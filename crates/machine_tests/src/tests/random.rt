@@ -11,9 +11,9 @@ use std::test::Fail;
 use steps::{Outcome, Step};
 
 /// How many lists are run for each configuration, and how many steps each has.
-const LISTS: u32 = 20;
+const LISTS: u32 = 84;
 
-const STEPS: u32 = 2_000;
+const STEPS: u32 = 10_000;
 
 /// Random numbers: Marsaglia's xorshift of 32 bits.
 #[derive(Clone, Copy, Drop)]
@@ -194,24 +194,42 @@ fn run_list(
     Ok(has_combined)
 }
 
-/// Machines of 1 to 8 processors, with wait buffers of 0, 1 and 4 records.
-#[test]
-fn random_steps(rt: HostRuntime) -> Result<(), Fail> {
-    let mut random = Random { state: 1 };
-    for k in 0..4u8 {
-        for b in [0, 1, 4] {
-            let config = Config {
-                k,
-                c: 2 + b,
-                b,
-                shared_words: 4,
-            };
-            let mut has_combined = false;
-            for _ in 0..LISTS {
-                has_combined |= run_list(&rt, &mut random, config)?;
-            }
-            assert_eq!(rt; has_combined, k > 0 && b > 0, "{config:?}");
+/// Runs the lists of machines of so many stages, with wait buffers of 0, 1 and 4 records. Requests are
+/// combined exactly where there is a switch with a record.
+fn run_lists(rt: &(impl Abort + AllocGlobal), k: u8, seed: u32) -> Result<(), Fail> {
+    let mut random = Random { state: seed };
+    for b in [0, 1, 4] {
+        let config = Config {
+            k,
+            c: 2 + b,
+            b,
+            shared_words: 4,
+        };
+        let mut has_combined = false;
+        for _ in 0..LISTS {
+            has_combined |= run_list(rt, &mut random, config)?;
         }
+        assert_eq!(rt; has_combined, k > 0 && b > 0, "{config:?}");
     }
     Ok(())
+}
+
+#[test]
+fn random_steps_on_one_processor(rt: HostRuntime) -> Result<(), Fail> {
+    run_lists(&rt, 0, 1)
+}
+
+#[test]
+fn random_steps_on_two_processors(rt: HostRuntime) -> Result<(), Fail> {
+    run_lists(&rt, 1, 20)
+}
+
+#[test]
+fn random_steps_on_four_processors(rt: HostRuntime) -> Result<(), Fail> {
+    run_lists(&rt, 2, 300)
+}
+
+#[test]
+fn random_steps_on_eight_processors(rt: HostRuntime) -> Result<(), Fail> {
+    run_lists(&rt, 3, 4_000)
 }
