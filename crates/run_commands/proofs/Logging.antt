@@ -12,15 +12,15 @@ use Rattle.trace_replay.specs.Replays.{StallsAt}
 use Rattle.trace_replay.proofs.OneOpening.{none_stalls}
 use Rattle.machine_lock.specs.Logs.{Log, IsKept}
 use Rattle.run_commands.specs.declared.fault.Fault.TheVariants as fault
-use Rattle.run_commands.specs.declared.sweeping.RunEnd.{RunEnd}
-use Rattle.run_commands.specs.declared.sweeping.RunEnd.TheVariants as end
+use Rattle.machine_sweep.specs.declared.sweeping.RunEnd.{RunEnd}
+use Rattle.machine_sweep.specs.declared.sweeping.RunEnd.TheVariants as end
 use Rattle.run_commands.specs.declared.taking.RetakeError.{RetakeError}
 use Rattle.run_commands.specs.declared.taking.RetakeError.TheVariants as retake
 use Rattle.run_commands.specs.Causes.{IsNotRun}
 use Rattle.run_commands.specs.Commands.{HasRun, IsImageOf, IsLogOf, IsRunOf}
 use Rattle.run_commands.specs.Faults.{fault_of_retaking, fault_of_run}
 use Rattle.run_commands.specs.Retaking.{IsNotRetaken}
-use Rattle.run_commands.specs.Sweeps.{HasEnded, HasFollowed, IsEndless, most_of}
+use Rattle.machine_sweep.specs.Sweeps.{HasEnded, HasFollowed, IsEndless, most_of}
 
 module _ (c : Config) (known : Option (List ℕ)) (log : Log) (is : IsLogOf c known log) where
   pub log_config : log.machine.config ≡ c

@@ -16,7 +16,8 @@ use Rattle.run_report.specs.Events.{shown_by}
 use Rattle.run_report.specs.Lines.{processor_line, word_lines}
 use Rattle.run_report.specs.Tallies.{ShownBy, TallyState, nothing_shown}
 use Rattle.run_commands.specs.Commands.{IsReportOf}
-use Rattle.run_commands.specs.Reports.{HasFaulted, IsExitOf, IsFaulted, processor_of, processor_lines, report_of, shared_lines}
+use Rattle.machine_sweep.specs.Standing.{HasFaulted, IsFaulted, processor_of}
+use Rattle.run_commands.specs.Reports.{IsExitOf, processor_lines, report_of, shared_lines}
 
 -- ---- exit statuses
 

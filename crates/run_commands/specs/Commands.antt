@@ -10,11 +10,11 @@ use Rattle.machine_steps.specs.Machines.{MachineLists, IsIdle}
 use Rattle.machine_steps.specs.Runs.{IsOpening, IsReplay}
 use Rattle.machine_steps.specs.Draining.{drain_steps}
 use Rattle.machine_lock.specs.Logs.{Log}
+use Rattle.machine_sweep.specs.Sweeps.{HasEnded, HasFollowed, IsEndless, most_of}
 use Rattle.run_report.specs.Tallies.{TallyState}
 use Rattle.command_io.specs.Files.{IsWhole}
 use Rattle.run_commands.specs.Retaking.{IsRetaken}
 use Rattle.run_commands.specs.Reports.{report_of, IsExitOf}
-use Rattle.run_commands.specs.Sweeps.{HasEnded, HasFollowed, IsEndless, most_of}
 
 -- the file is accepted, and the image is what it means
 pub record IsImageOf (shared_words : ℕ) (known : Option (List ℕ)) (image : ImageContents) : Type 0 where

@@ -8,8 +8,8 @@ use Rattle.machine_steps.specs.declared.error.NewError.{NewError}
 use Rattle.machine_steps.specs.declared.error.NewError.TheVariants as new
 use Rattle.run_commands.specs.declared.taking.RetakeError.{RetakeError}
 use Rattle.run_commands.specs.declared.taking.RetakeError.TheVariants as retake
-use Rattle.run_commands.specs.declared.sweeping.RunEnd.{RunEnd}
-use Rattle.run_commands.specs.declared.sweeping.RunEnd.TheVariants as end
+use Rattle.machine_sweep.specs.declared.sweeping.RunEnd.{RunEnd}
+use Rattle.machine_sweep.specs.declared.sweeping.RunEnd.TheVariants as end
 use Rattle.run_commands.specs.declared.fault.Fault.{Fault}
 use Rattle.run_commands.specs.declared.fault.Fault.TheVariants as fault
 

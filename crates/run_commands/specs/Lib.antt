@@ -1,6 +1,5 @@
 pub mod Retaking
 pub mod Reports
 pub mod Faults
-pub mod Sweeps
 pub mod Commands
 pub mod Causes

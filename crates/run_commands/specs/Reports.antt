@@ -1,16 +1,10 @@
 -- The report of a machine: a line for each processor, and a line for each shared word that is not zero.
-use Rattle.std.specs.Prelude.{◌≡◌, ℕ, zero, suc, ◌^◌, ◌<◌, List, [], ◌++◌, slice_index_or}
-use Rattle.flat_machine.specs.declared.event.Status.{Status}
-use Rattle.flat_machine.specs.declared.event.Status.TheVariants.{Running, Halted, Faulted}
-use Rattle.flat_machine.specs.State.{Processor}
-use Rattle.machine_program.specs.Processors.{port_at, word_at}
+use Rattle.std.specs.Prelude.{◌≡◌, ℕ, zero, suc, ◌^◌, List, [], ◌++◌, slice_index_or}
+use Rattle.machine_program.specs.Processors.{word_at}
 use Rattle.machine_steps.specs.Machines.{MachineLists}
+use Rattle.machine_sweep.specs.Standing.{HasFaulted, processor_of}
 use Rattle.run_report.specs.Tallies.{ShownBy, nothing_shown}
 use Rattle.run_report.specs.Lines.{processor_line, word_lines}
-
--- a processor of a machine
-abbrev pub processor_of : MachineLists → ℕ → Processor
-processor_of m p = (port_at m.ports p).core.state
 
 -- the lines of the first processors, which have shown this
 abbrev pub processor_lines : MachineLists → List ShownBy → (count : ℕ) → List ℕ
@@ -25,21 +19,6 @@ shared_lines m (suc i) = shared_lines m i ++ word_lines i (word_at m.config.k m.
 -- the report of a machine whose processors have shown this
 abbrev pub report_of : MachineLists → List ShownBy → List ℕ
 report_of m shown = processor_lines m shown (2 ^ m.config.k) ++ shared_lines m m.config.shared_words
-
--- ---- what processors do
-
-abbrev pub IsFaulted : Status → Type 0
-IsFaulted (Faulted fault) = Unit {0}
-IsFaulted Running = ⊥
-IsFaulted (Halted byte) = ⊥
-
--- a fault has stopped a processor of the machine
-abbrev pub HasFaulted : MachineLists → Type 0
-HasFaulted m = (p : ℕ) × (p < 2 ^ m.config.k) × IsFaulted (processor_of m p).status
-
--- a processor of the machine runs
-abbrev pub HasRunning : MachineLists → Type 0
-HasRunning m = (p : ℕ) × (p < 2 ^ m.config.k) × ((processor_of m p).status ≡ Running)
 
 -- the exit status of a machine that is reported
 pub record IsExitOf (m : MachineLists) (status : ℕ) : Type 0 where

@@ -4,11 +4,11 @@ ghost use Rattle.std.specs.Prelude.{◌≡◌};
 ghost use Rattle.run_commands.specs.declared.fault.Fault.TheVariants.{Memory as NoMemory};
 ghost use Rattle.run_commands.specs.Faults.{fault_of_image, fault_of_new, fault_of_retaking, fault_of_run, fault_of_trace, status_of_fault};
 
-use crate::sweeping::RunEnd;
 use crate::taking::RetakeError;
 use command_io::{LINK_FAILED, REFUSED, SPENT};
 use elf_image::ImageError;
 use machine_steps::NewError;
+use machine_sweep::RunEnd;
 use std::alloc::AllocError;
 use std::io::Write;
 use thiserror::Error;

@@ -1,6 +1,6 @@
 //! `ultra run` and `ultra replay`: from the bytes of an image to the report of a machine.
 //!
-//! [`run_command`] runs a program by the sweep, and [`replay_command`] takes the steps of a trace. What
+//! [`run_command`] runs a program by the sweep (`machine_sweep`), and [`replay_command`] takes the steps of a trace. What
 //! they report is a function of the image, the machine's size and the steps: the steps are taken on a
 //! machine that opens on the image ([`retaken`]), and what each step answers is counted. The report is
 //! made whole before its first byte is written.
@@ -14,7 +14,6 @@ mod replay;
 mod reporting;
 mod run;
 mod states;
-mod sweeping;
 mod taking;
 #[cfg(test)]
 mod tests;
@@ -24,5 +23,4 @@ pub use laws::steps_have_one_report;
 pub use replay::replay_command;
 pub use reporting::report;
 pub use run::run_command;
-pub use sweeping::{MOST_STEPS, RunEnd, follow_sweep};
 pub use taking::{RetakeError, drained, retaken};

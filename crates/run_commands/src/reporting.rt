@@ -3,7 +3,8 @@
 ghost use Rattle.std.specs.Prelude.{◌≡◌, ◌<◌, ◌^◌, ◌++◌, IfOk, OnOk, length, slice_index_or, string_bytes};
 ghost use Rattle.run_report.specs.Lines.{processor_line};
 ghost use Rattle.run_report.specs.Tallies.{nothing_shown};
-ghost use Rattle.run_commands.specs.Reports.{processor_lines, processor_of, report_of, shared_lines};
+ghost use Rattle.machine_sweep.specs.Standing.{processor_of};
+ghost use Rattle.run_commands.specs.Reports.{processor_lines, report_of, shared_lines};
 
 use machine_steps::Machine;
 use run_report::{Tally, push_processor, push_shared_word};

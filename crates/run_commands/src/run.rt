@@ -11,11 +11,11 @@ use crate::input::{image_of, machine_of};
 use crate::output::{print, save};
 use crate::reporting::report;
 use crate::states::exit_status;
-use crate::sweeping::follow_sweep;
 use crate::taking::retaken;
 use flat_machine::Config;
 use link::LinkWrite;
 use machine_lock::Logged;
+use machine_sweep::follow_sweep;
 use std::alloc::Global;
 use std::io::{Read, Write};
 

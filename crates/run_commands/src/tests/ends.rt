@@ -1,12 +1,9 @@
 //! How runs end, and what is told where there is no report.
 
 use super::{AMPLE, ONE_TURN, Ran, image_of, replay, run, run_text, size};
-use crate::{Fault, RunEnd, follow_sweep};
-use elf_image::read_image;
+use crate::Fault;
 use flat_machine::Config;
 use link::Meter;
-use machine_lock::Logged;
-use machine_steps::Machine;
 use std::io::{self, ErrorKind};
 use std::process::Abort;
 use std::test::Fail;
@@ -94,20 +91,6 @@ fn log_of_a_sweep(rt: HostRuntime) -> Result<(), Fail> {
         trace.extend_from_slice(&record)?;
     }
     assert_eq!(rt; ran.trace.as_slice(), trace.as_slice());
-    Ok(())
-}
-
-#[test]
-fn follows_the_sweep(rt: HostRuntime) -> Result<(), Fail> {
-    let alloc = rt.alloc();
-    let image = read_image(alloc, &mut Meter::new(EBREAK.as_slice()), &size(2))?;
-    let machine = Machine::new(alloc, image, size(2))?;
-    assert!(rt; machine.is_idle());
-    let mut log = Logged::new(alloc, machine);
-    assert_eq!(rt; follow_sweep(&mut log, 0), Err(RunEnd::Budget));
-    assert_eq!(rt; log.steps().len(), 0);
-    assert_eq!(rt; follow_sweep(&mut log, 4), Ok(()));
-    assert_eq!(rt; log.steps().len(), 4);
     Ok(())
 }
 

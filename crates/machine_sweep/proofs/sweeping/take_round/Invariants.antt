@@ -1,8 +1,8 @@
 use Rattle.std.proofs.Common.{◌≡◌, ◌+◌, ◌*◌, ◌^◌, ◌<◌, ◌≤◌, length, take}
 use Rattle.trace_file.specs.Traces.{HaveRecords}
 use Rattle.sweep.specs.Rounds.{round}
-use Rattle.run_commands.specs.Sweeps.{entered_of}
-use Rattle.run_commands.proofs.sweeping.take_round.Given as goal
+use Rattle.machine_sweep.specs.Sweeps.{entered_of}
+use Rattle.machine_sweep.proofs.sweeping.take_round.Given as goal
 
 abbrev pub invariant-loop : goal.invariant-loop
 invariant-loop l = record {

@@ -1,8 +1,8 @@
 use Rattle.std.proofs.Common.{◌<◌, ◌∙◌, length, refl, ap, subst, arith}
 use Rattle.flat_machine.specs.declared.config.Config.{Config}
-use Rattle.run_commands.specs.Reports.{HasRunning}
-use Rattle.run_commands.proofs.Asking.{following_begins, following_more}
-use Rattle.run_commands.proofs.sweeping.follow_sweep.Goals as goal
+use Rattle.machine_sweep.specs.Standing.{HasRunning}
+use Rattle.machine_sweep.proofs.Asking.{following_begins, following_more}
+use Rattle.machine_sweep.proofs.sweeping.follow_sweep.Goals as goal
 
 pub loop-log-init : goal.loop-log-init
 loop-log-init c = record {

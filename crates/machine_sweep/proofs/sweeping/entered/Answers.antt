@@ -1,9 +1,9 @@
 use Rattle.std.proofs.Common.{sym, ap, subst}
 use Rattle.flat_machine.specs.declared.config.Config.{Config}
 use Rattle.trace_file.specs.Traces.{HaveRecords}
-use Rattle.run_commands.proofs.Asking.{at_most_one, is_entered, one_asked}
-use Rattle.run_commands.proofs.Schedule.{records_more}
-use Rattle.run_commands.proofs.sweeping.entered.Goals as goal
+use Rattle.machine_sweep.proofs.Asking.{at_most_one, is_entered, one_asked}
+use Rattle.machine_sweep.proofs.Schedule.{records_more}
+use Rattle.machine_sweep.proofs.sweeping.entered.Goals as goal
 
 pub returns-in-Ok-clause-records : goal.returns-in-Ok-clause-records
 returns-in-Ok-clause-records c =

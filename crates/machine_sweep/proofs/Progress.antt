@@ -25,7 +25,7 @@ use Rattle.machine_steps.specs.Machines.{MachineLists, machine_of, IsMachine, Is
 use Rattle.machine_steps.specs.Draining.{step_of, drain_step}
 use Rattle.machine_steps.proofs.Drained.{goes_on, none_idle, named_step}
 use Rattle.sweep.specs.Rounds.{on_each_wire, ups, downs, round}
-use Rattle.run_commands.specs.Reports.{HasRunning}
+use Rattle.machine_sweep.specs.Standing.{HasRunning}
 
 -- ---- the steps of a round
 

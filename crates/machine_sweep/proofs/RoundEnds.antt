@@ -11,10 +11,10 @@ use Rattle.machine_steps.proofs.Replaying.{outcome_there}
 use Rattle.machine_lock.specs.Logs.{Log}
 use Rattle.sweep.specs.Rounds.{next_place, round}
 use Rattle.sweep.proofs.Places.{next_goes, round_length}
-use Rattle.run_commands.specs.Reports.{HasRunning}
-use Rattle.run_commands.specs.Sweeps.{answer_after, entered_of, WasAskedRound}
-use Rattle.run_commands.proofs.Asking.{longer, each_stalls, next_asked}
-use Rattle.run_commands.proofs.Progress.{in_round, some_step_moves}
+use Rattle.machine_sweep.specs.Standing.{HasRunning}
+use Rattle.machine_sweep.specs.Sweeps.{answer_after, entered_of, WasAskedRound}
+use Rattle.machine_sweep.proofs.Asking.{longer, each_stalls, next_asked}
+use Rattle.machine_sweep.proofs.Progress.{in_round, some_step_moves}
 
 module _ (most : ℕ) (old l : Log) (i : ℕ) (room : length old.steps < most) (steps : l.steps ≡ entered_of old.opening old.steps (take i (round old.machine.config.k))) (few : length l.steps ≤ most) where
   -- no processor runs

@@ -3,8 +3,8 @@
 ghost use Rattle.std.specs.Prelude.{◌≡◌, ◌≢◌, ◌≤◌, ◌<◌, Err, IfOk, IfErr, OnOk, length, true};
 ghost use Rattle.trace_file.specs.Records.{HasRecord};
 ghost use Rattle.trace_file.specs.Traces.{HaveRecords};
-ghost use Rattle.run_commands.specs.Reports.{HasRunning};
-ghost use Rattle.run_commands.specs.Sweeps.{HasEnded, HasFollowed, IsEndless, WasAsked, WasAskedRound, most_of};
+ghost use Rattle.machine_sweep.specs.Standing.{HasRunning};
+ghost use Rattle.machine_sweep.specs.Sweeps.{HasEnded, HasFollowed, IsEndless, WasAsked, WasAskedRound, most_of};
 
 use crate::states::{any_is_faulted, any_runs};
 use machine_lock::{LockRefusal, Logged};

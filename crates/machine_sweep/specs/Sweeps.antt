@@ -7,7 +7,7 @@ use Rattle.machine_steps.specs.Machines.{MachineLists, machine_of}
 use Rattle.machine_steps.specs.Runs.{all_after}
 use Rattle.machine_lock.specs.Logs.{Log, entered}
 use Rattle.sweep.specs.Rounds.{round}
-use Rattle.run_commands.specs.Reports.{HasFaulted, HasRunning}
+use Rattle.machine_sweep.specs.Standing.{HasFaulted, HasRunning}
 
 -- what a step answers on the machine that these steps leave
 abbrev pub answer_after : (opening : MachineLists) → (done : List Step) → Step → Outcome

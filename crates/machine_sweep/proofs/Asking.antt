@@ -14,8 +14,8 @@ use Rattle.machine_steps.proofs.Replaying.{outcome_there, stalled_is}
 use Rattle.machine_lock.specs.Logs.{Log, entered, HasTaken}
 use Rattle.machine_lock.proofs.Taking.{entered_moving}
 use Rattle.sweep.specs.Rounds.{round}
-use Rattle.run_commands.specs.Reports.{HasRunning}
-use Rattle.run_commands.specs.Sweeps.{answer_after, entered_of, rounds, WasAskedRound}
+use Rattle.machine_sweep.specs.Standing.{HasRunning}
+use Rattle.machine_sweep.specs.Sweeps.{answer_after, entered_of, rounds, WasAskedRound}
 
 -- ---- one step
 

@@ -1,7 +1,7 @@
 use Rattle.std.proofs.Common.{◌≡◌, ◌≤◌, ◌-◌, length}
 use Rattle.trace_file.specs.Traces.{HaveRecords}
-use Rattle.run_commands.proofs.Asking.{IsFollowing}
-use Rattle.run_commands.proofs.sweeping.follow_sweep.Given as goal
+use Rattle.machine_sweep.proofs.Asking.{IsFollowing}
+use Rattle.machine_sweep.proofs.sweeping.follow_sweep.Given as goal
 
 abbrev pub invariant-loop-log : goal.invariant-loop-log
 invariant-loop-log l = record {

@@ -3,11 +3,11 @@ use Rattle.flat_machine.specs.declared.config.Config.{Config}
 use Rattle.machine_steps.specs.Machines.{IsMachine, MachineLists}
 use Rattle.trace_file.specs.Records.{HasRecord}
 use Rattle.sweep.specs.Rounds.{Sweeping}
-use Rattle.run_commands.specs.Reports.{HasRunning}
-use Rattle.run_commands.proofs.Asking.{none_asked}
-use Rattle.run_commands.proofs.RoundEnds.{asked_more, grown, next_place_is, over, stopped_round, whole_round}
-use Rattle.run_commands.proofs.Schedule.{step_has_record}
-use Rattle.run_commands.proofs.sweeping.take_round.Goals as goal
+use Rattle.machine_sweep.specs.Standing.{HasRunning}
+use Rattle.machine_sweep.proofs.Asking.{none_asked}
+use Rattle.machine_sweep.proofs.RoundEnds.{asked_more, grown, next_place_is, over, stopped_round, whole_round}
+use Rattle.machine_sweep.proofs.Schedule.{step_has_record}
+use Rattle.machine_sweep.proofs.sweeping.take_round.Goals as goal
 
 pub entered-requires-clause-named : goal.entered-requires-clause-named
 entered-requires-clause-named c =

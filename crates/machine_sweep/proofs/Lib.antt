@@ -1,0 +1,4 @@
+pub mod Schedule
+pub mod Asking
+pub mod Progress
+pub mod RoundEnds

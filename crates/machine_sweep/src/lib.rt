@@ -1,0 +1,13 @@
+//! A machine that runs by the sweep: the steps that its log enters, and where the run ends.
+//!
+//! [`follow_sweep`] asks for the steps of the sweep, round after round, and enters those that do something.
+//! [`any_runs`] and [`any_is_faulted`] say what the processors do, on which the end of a run rests.
+#![tactic(auto)]
+
+mod states;
+mod sweeping;
+#[cfg(test)]
+mod tests;
+
+pub use states::{any_is_faulted, any_runs};
+pub use sweeping::{MOST_STEPS, RunEnd, follow_sweep};
