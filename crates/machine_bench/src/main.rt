@@ -12,10 +12,11 @@ use elf_image::{Image, read_image, write_image};
 use flat_machine::{Config, Status};
 use link::Meter;
 use machine_steps::Machine;
+use machine_sweep::Round;
 use std::alloc::Global;
 use std::env;
 use std::time::{Duration, Instant};
-use steps::{Outcome, Step};
+use steps::Outcome;
 
 /// What each processor runs. It stops by EBREAK where the word has less than its own adds.
 const TEXT: &str = "
@@ -60,26 +61,11 @@ impl Counts {
     }
 }
 
-/// One round of the sweep: a turn of each processor, a move of each request, those nearest to the
-/// modules first, a service by each module, a move of each reply, those nearest to the processors first.
+/// One round of the sweep: each of its steps that may do something.
 fn round(machine: &mut Machine, counts: &mut Counts) {
-    let config = machine.config();
-    let wires = config.processors();
-    for p in 0..wires {
-        counts.add(&machine.apply(Step::Turn(p)));
-    }
-    for stage in (0..config.k).rev() {
-        for wire in 0..wires {
-            counts.add(&machine.apply(Step::Up { stage, wire }));
-        }
-    }
-    for m in 0..wires {
-        counts.add(&machine.apply(Step::Serve(m)));
-    }
-    for stage in 0..config.k {
-        for wire in 0..wires {
-            counts.add(&machine.apply(Step::Down { stage, wire }));
-        }
+    let mut round = Round::new();
+    while let Some(step) = round.next(machine) {
+        counts.add(&machine.apply(step));
     }
 }
 

@@ -47,21 +47,3 @@ grown old before after i steps more =
     let at_least = longer old.opening old.steps (take i (round old.machine.config.k)) in
     let same : length before.steps ≡ length (entered_of old.opening old.steps (take i (round old.machine.config.k))) = ap length steps in
     omega (arith, at_least, same, more)
-
--- ---- one step of the round more
-
-module _ (old before : Log) (k place i : ℕ) (s : Step) (opens : before.opening ≡ old.opening) (size : k ≡ old.machine.config.k) (few : k ≤ 6) (within : i < 2 ^ k * (2 * k + 2)) (at : place ≡ i) (there : slice_get (round k) place ≡ Some s) (steps : before.steps ≡ entered_of old.opening old.steps (take i (round old.machine.config.k))) where
-  pub asked_more : (steps' : List Step) → steps' ≡ entered_of before.opening before.steps (s ∷ []) → steps' ≡ entered_of old.opening old.steps (take (i + 1) (round old.machine.config.k))
-  asked_more steps' is =
-      let inside : i < length (round old.machine.config.k) = subst (λ n. i < length (round n)) size (subst (λ n. i < n) (sym (round_length k few)) within) in
-      let here : slice_get (round old.machine.config.k) i ≡ Some s = subst (λ n. slice_get (round n) i ≡ Some s) size (subst (λ n. slice_get (round k) n ≡ Some s) at there) in
-      next_asked old before old.machine.config.k i s steps' opens inside here steps is
-
--- all of the round was asked for
-pub over : (old : Log) (k i : ℕ) → k ≡ old.machine.config.k → k ≤ 6 → 2 ^ k * (2 * k + 2) ≤ i → length (round old.machine.config.k) ≤ i
-over old k i size few past = subst (λ n. length (round n) ≤ i) size (subst (λ n. n ≤ i) (sym (round_length k few)) past)
-
--- the sweep's place is how many steps of the round were asked for
-pub next_place_is : (k place i : ℕ) → k ≤ 6 → place ≡ i → i + 1 < 2 ^ k * (2 * k + 2) → next_place (record { k = k; place = place }) ≡ i + 1
-next_place_is k place i few at more =
-    next_goes (record { k = k; place = place }) few (λ e. omega (arith, e, at, more)) ∙ ap (λ n. n + 1) at

@@ -1,13 +1,16 @@
 //! A machine that runs by the sweep: the steps that its log enters, and where the run ends.
 //!
-//! [`follow_sweep`] asks for the steps of the sweep, round after round, and enters those that do something.
+//! [`follow_sweep`] follows the sweep, round after round, and enters the steps that do something. It does not
+//! ask for steps that find no message ([`Round`]), since they would stall.
 //! [`any_runs`] and [`any_is_faulted`] say what the processors do, on which the end of a run rests.
 #![tactic(auto)]
 
+mod round;
 mod states;
 mod sweeping;
 #[cfg(test)]
 mod tests;
 
+pub use round::Round;
 pub use states::{any_is_faulted, any_runs};
 pub use sweeping::{MOST_STEPS, RunEnd, follow_sweep};

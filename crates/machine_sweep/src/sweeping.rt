@@ -6,10 +6,10 @@ ghost use Rattle.trace_file.specs.Traces.{HaveRecords};
 ghost use Rattle.machine_sweep.specs.Standing.{HasRunning};
 ghost use Rattle.machine_sweep.specs.Sweeps.{HasEnded, HasFollowed, IsEndless, WasAsked, WasAskedRound, most_of};
 
+use crate::round::Round;
 use crate::states::{any_is_faulted, any_runs};
 use machine_lock::{LockRefusal, Logged};
 use steps::{Outcome, Step};
-use sweep::Sweep;
 use thiserror::Error;
 
 /// The most steps that a run enters, whatever its budget. The log of a new machine has room for them.
@@ -84,12 +84,12 @@ fn take_round(log: &mut Logged, most: usize) -> Result<(), RunEnd>
 {
     // The proof needs that the machine is one.
     let _ = log.machine().is_idle();
-    let mut sweep = Sweep::new(log.machine().config().k);
-    for _ in 0..sweep.round() {
-        if log.steps().len() >= most {
+    let mut round = Round::new();
+    while log.steps().len() < most {
+        let Some(step) = round.next(log.machine()) else {
             return Ok(());
-        }
-        let has_stopped = entered(log, sweep.step())?;
+        };
+        let has_stopped = entered(log, step)?;
         if has_stopped && !any_runs(log.machine()) {
             return Ok(());
         }

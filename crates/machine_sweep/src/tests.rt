@@ -1,26 +1,50 @@
-//! A run by hand.
+//! Runs and rounds by hand, and the sweep beside one that asks for each of its steps.
 
-use crate::{RunEnd, any_is_faulted, any_runs, follow_sweep};
+ghost use Rattle.std.specs.Prelude.{◌≤◌, IfOk};
+ghost use Rattle.trace_file.specs.Traces.{HaveRecords};
+
+use crate::{Round, RunEnd, any_is_faulted, any_runs, follow_sweep};
+use assembler::assemble;
 use elf_image::read_image;
 use flat_machine::Config;
 use link::Meter;
 use machine_lock::Logged;
 use machine_steps::Machine;
+use std::alloc::Global;
+use std::process::Abort;
 use std::test::Fail;
+use steps::Step;
+use sweep::Sweep;
 use test_devices::EBREAK;
+
+/// A machine of `k` stages that opens on the image that a file is, with queues of two and a record for each
+/// output of a switch.
+fn machine(alloc: Global, file: &[u8], k: u8) -> Result<Machine, Fail> {
+    let size = Config {
+        k,
+        c: 2,
+        b: 1,
+        shared_words: 1024,
+    };
+    let image = read_image(alloc, &mut Meter::new(file), &size)?;
+    Ok(Machine::new(alloc, image, size)?)
+}
+
+/// The log of a machine that opens on the image of a text.
+fn log_of(rt: &impl Abort, alloc: Global, text: &str, k: u8) -> Result<Logged, Fail>
+    ensures { IfOk result (λ log. HaveRecords log.machine.config.k log.steps) }
+{
+    let file = assemble(alloc, text)?.to_elf(alloc)?;
+    let machine = machine(alloc, file.as_slice(), k)?;
+    assert!(rt; machine.is_idle());
+    Ok(Logged::new(alloc, machine))
+}
 
 /// Each of four processors stops in its first turn.
 #[test]
 fn follows_the_sweep(rt: HostRuntime) -> Result<(), Fail> {
     let alloc = rt.alloc();
-    let size = Config {
-        k: 2,
-        c: 4,
-        b: 4,
-        shared_words: 1024,
-    };
-    let image = read_image(alloc, &mut Meter::new(EBREAK.as_slice()), &size)?;
-    let machine = Machine::new(alloc, image, size)?;
+    let machine = machine(alloc, &EBREAK, 2)?;
     assert!(rt; machine.is_idle());
     let mut log = Logged::new(alloc, machine);
     assert_eq!(rt; follow_sweep(&mut log, 0), Err(RunEnd::Budget));
@@ -31,5 +55,93 @@ fn follows_the_sweep(rt: HostRuntime) -> Result<(), Fail> {
     assert_eq!(rt; log.steps().len(), 4);
     assert!(rt; !any_runs(log.machine()));
     assert!(rt; any_is_faulted(log.machine()));
+    Ok(())
+}
+
+/// Takes a round, whose steps are these.
+fn takes(rt: &impl Abort, machine: &mut Machine, steps: &[Step]) {
+    let mut round = Round::new();
+    for step in steps {
+        assert_eq!(rt; round.next(machine), Some(*step));
+        machine.apply(*step);
+    }
+    assert_eq!(rt; round.next(machine), None);
+}
+
+/// Both of two processors load word 0 in their second turn. The second request combines with the first at
+/// the one stage, the module serves them, and the reply is split: all in the round in which they are sent,
+/// since each row finds what the row before has left.
+#[test]
+fn rounds_of_two_processors(rt: HostRuntime) -> Result<(), Fail> {
+    let alloc = rt.alloc();
+    let file = assemble(alloc, "lui x5, 0x80000\nlw x6, 0(x5)\necall")?.to_elf(alloc)?;
+    let mut machine = machine(alloc, file.as_slice(), 1)?;
+    let turns = [Step::Turn(0), Step::Turn(1)];
+    takes(&rt, &mut machine, &turns);
+    let all = [
+        Step::Turn(0),
+        Step::Turn(1),
+        Step::Up { stage: 0, wire: 0 },
+        Step::Up { stage: 0, wire: 1 },
+        Step::Serve(0),
+        Step::Down { stage: 0, wire: 0 },
+    ];
+    takes(&rt, &mut machine, &all);
+    assert!(rt; !machine.is_idle());
+    // Both retire, and halt.
+    takes(&rt, &mut machine, &turns);
+    assert!(rt; machine.is_idle());
+    takes(&rt, &mut machine, &turns);
+    assert!(rt; !any_runs(&machine));
+    Ok(())
+}
+
+/// Each processor adds 1 to one word ten times, and then to a word of its own, so that requests combine, find
+/// full queues, and go alone.
+const ADDS: &str = "
+ addi x17, x0, 2
+ ecall
+ slli x10, x10, 2
+ lui x5, 0x80000
+ add x10, x10, x5
+ addi x6, x0, 10
+ addi x7, x0, 1
+again: amoadd.w x8, x7, (x5)
+ addi x6, x6, -1
+ bne x6, x0, again
+ amoadd.w x8, x7, (x10)
+ addi x17, x0, 0
+ ecall
+";
+
+/// Whether the step was taken, or stalled.
+fn is_answered(log: &mut Logged, step: Step) -> bool {
+    log.step(step).is_ok()
+}
+
+/// Asks for each step of the sweep, until no processor runs.
+fn ask_for_all(rt: &impl Abort, log: &mut Logged, k: u8)
+    requires { k ≤ 6 }
+{
+    let mut sweep = Sweep::new(k);
+    for _ in 0..10_000_000 {
+        if !any_runs(log.machine()) {
+            return;
+        }
+        assert!(rt; is_answered(log, sweep.step()));
+    }
+}
+
+/// The log has the steps that it has where each step of the sweep is asked for.
+#[test]
+fn leaves_out_only_what_stalls(rt: HostRuntime) -> Result<(), Fail> {
+    for k in 0..7 {
+        let mut log = log_of(&rt, rt.alloc(), ADDS, k)?;
+        assert_eq!(rt; follow_sweep(&mut log, 1_000_000), Ok(()));
+        let mut plain = log_of(&rt, rt.alloc(), ADDS, k)?;
+        ask_for_all(&rt, &mut plain, k);
+        assert!(rt; !log.steps().is_empty());
+        assert_eq!(rt; log.steps(), plain.steps(), "of {k} stages");
+    }
     Ok(())
 }

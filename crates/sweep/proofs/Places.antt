@@ -1,10 +1,11 @@
 -- The step at each place of a round.
-use Rattle.std.proofs.Common.{◌≡◌, ℕ, zero, suc, ◌+◌, ◌-◌, ◌*◌, ◌<◌, ◌≤◌, List, [], ◌∷◌, length, Some, refl, sym, ap, ◌∙◌, subst, arith, add-zero, zero-add}
-use Rattle.std.proofs.Common.{Bool, true, false, eqb, eq-eqb}
+use Rattle.std.proofs.Common.{◌≡◌, ℕ, zero, suc, ◌+◌, ◌-◌, ◌*◌, ◌<◌, ◌≤◌, length, Some, refl, sym, ap, ap₂, ◌∙◌, arith, add-zero, zero-add}
+use Rattle.std.proofs.Common.{true, false, eqb, eq-eqb}
 use Rattle.std.proofs.lemmas.Bool.{ne_eqb, le-leb, lt-leb}
 use Rattle.std.specs.Prelude.{◌/◌, ◌%◌, ◌^◌, ◌==◌, nat_le, if◌then◌else◌, map, slice_get}
 use Rattle.std.specs.Option.{option_map}
 use Rattle.std.specs.List.{range_with_len}
+use Rattle.std.proofs.lemmas.Nat.{div-mul-add, mod-mul-add}
 use Rattle.std.proofs.lemmas.Option.{slice_get-map}
 use Rattle.std.proofs.lemmas.List.FromFn.{length-map-range_with_len}
 use Rattle.steps.specs.declared.step.Step.{Step}
@@ -49,17 +50,7 @@ round_at k place few within =
 pub round_length : (k : ℕ) → k ≤ 6 → length (round k) ≡ 2 ^ k * (2 * k + 2)
 round_length k few = ap length (round_is k few) ∙ length-map-range_with_len (there k) 0 (2 ^ k * (2 * k + 2))
 
--- ---- how the place gives row and wire
-
-wire_is : (k place : ℕ) → k ≤ 6 → place < 2 ^ 32 → place - place / 2 ^ k * 2 ^ k % 4294967296 ≡ place % 2 ^ k
-wire_is zero place few small = omega arith
-wire_is (suc zero) place few small = omega arith
-wire_is (suc (suc zero)) place few small = omega arith
-wire_is (suc (suc (suc zero))) place few small = omega arith
-wire_is (suc (suc (suc (suc zero)))) place few small = omega arith
-wire_is (suc (suc (suc (suc (suc zero))))) place few small = omega arith
-wire_is (suc (suc (suc (suc (suc (suc zero)))))) place few small = omega arith
-wire_is (suc (suc (suc (suc (suc (suc (suc n))))))) place few small = absurd (omega arith)
+-- ---- rows and wires
 
 turn_in : (k row wire : ℕ) → row ≡ 0 → in_row k row wire ≡ Turn wire
 turn_in k row wire is = let first : eqb row 0 ≡ true = eq-eqb row 0 is in rw first refl
@@ -84,21 +75,33 @@ down_in k row wire behind =
     let third : eqb row (k + 1) ≡ false = ne_eqb row (k + 1) (λ e. omega arith) in
     rw (first, second, third) refl
 
-module _ (k place : ℕ) (few : k ≤ 6) (small : place < 2 ^ 32) (within : place < 2 ^ k * (2 * k + 2)) where
-  at_wire : (step : ℕ → Step) → in_row k (place / 2 ^ k) (place % 2 ^ k) ≡ step (place % 2 ^ k) → slice_get (round k) place ≡ Some (step (place - place / 2 ^ k * 2 ^ k % 4294967296))
-  at_wire step is = round_at k place few within ∙ ap Some (is ∙ ap step (sym (wire_is k place few small)))
+inside : (k row wire : ℕ) → k ≤ 6 → row < 2 * k + 2 → wire < 2 ^ k → row * 2 ^ k + wire < 2 ^ k * (2 * k + 2)
+inside zero row wire few at_most within = omega arith
+inside (suc zero) row wire few at_most within = omega arith
+inside (suc (suc zero)) row wire few at_most within = omega arith
+inside (suc (suc (suc zero))) row wire few at_most within = omega arith
+inside (suc (suc (suc (suc zero)))) row wire few at_most within = omega arith
+inside (suc (suc (suc (suc (suc zero))))) row wire few at_most within = omega arith
+inside (suc (suc (suc (suc (suc (suc zero)))))) row wire few at_most within = omega arith
+inside (suc (suc (suc (suc (suc (suc (suc n))))))) row wire few at_most within = absurd (omega arith)
 
-  pub turn_at : place / 2 ^ k ≡ 0 → slice_get (round k) place ≡ Some (Turn (place - place / 2 ^ k * 2 ^ k % 4294967296))
-  turn_at is = at_wire Turn (turn_in k (place / 2 ^ k) (place % 2 ^ k) is)
+module _ (k row wire : ℕ) (few : k ≤ 6) (at_most : row < 2 * k + 2) (within : wire < 2 ^ k) where
+  at_wire : (s : Step) → in_row k row wire ≡ s → slice_get (round k) (row * 2 ^ k + wire) ≡ Some s
+  at_wire s is =
+      round_at k (row * 2 ^ k + wire) few (inside k row wire few at_most within)
+      ∙ ap Some (ap₂ (in_row k) (div-mul-add row (2 ^ k) wire within) (mod-mul-add row (2 ^ k) wire within) ∙ is)
 
-  pub up_at : 0 < place / 2 ^ k → place / 2 ^ k ≤ k → slice_get (round k) place ≡ Some (Up (k - place / 2 ^ k) (place - place / 2 ^ k * 2 ^ k % 4294967296))
-  up_at some at_most = at_wire (Up (k - place / 2 ^ k)) (up_in k (place / 2 ^ k) (place % 2 ^ k) some at_most)
+  pub turn_at : row ≡ 0 → slice_get (round k) (row * 2 ^ k + wire) ≡ Some (Turn wire)
+  turn_at is = at_wire (Turn wire) (turn_in k row wire is)
 
-  pub serve_at : place / 2 ^ k ≡ k + 1 → slice_get (round k) place ≡ Some (Serve (place - place / 2 ^ k * 2 ^ k % 4294967296))
-  serve_at is = at_wire Serve (serve_in k (place / 2 ^ k) (place % 2 ^ k) is)
+  pub up_at : 0 < row → row ≤ k → slice_get (round k) (row * 2 ^ k + wire) ≡ Some (Up (k - row) wire)
+  up_at some up = at_wire (Up (k - row) wire) (up_in k row wire some up)
 
-  pub down_at : k + 1 < place / 2 ^ k → slice_get (round k) place ≡ Some (Down (place / 2 ^ k - (k + 2)) (place - place / 2 ^ k * 2 ^ k % 4294967296))
-  down_at behind = at_wire (Down (place / 2 ^ k - (k + 2))) (down_in k (place / 2 ^ k) (place % 2 ^ k) behind)
+  pub serve_at : row ≡ k + 1 → slice_get (round k) (row * 2 ^ k + wire) ≡ Some (Serve wire)
+  serve_at is = at_wire (Serve wire) (serve_in k row wire is)
+
+  pub down_at : k + 1 < row → slice_get (round k) (row * 2 ^ k + wire) ≡ Some (Down (row - (k + 2)) wire)
+  down_at behind = at_wire (Down (row - (k + 2)) wire) (down_in k row wire behind)
 
 -- ---- the next place
 

@@ -10,4 +10,4 @@ mod schedule;
 #[cfg(test)]
 mod tests;
 
-pub use schedule::Sweep;
+pub use schedule::{Sweep, step_at};

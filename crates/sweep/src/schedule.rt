@@ -53,7 +53,9 @@ impl Sweep {
         ensures step { slice_get (round self.old.k) self.old.place ≡ Some result }
         ensures next { self.new ≡ record { k = self.old.k; place = next_place self.old } }
     {
-        let step = step_at(self.k, self.place);
+        let row = self.place >> self.k;
+        let wire = self.place - (row << self.k);
+        let step = step_at(self.k, row as u8, wire as u8);
         self.place += 1;
         if self.place == self.round {
             self.place = 0;
@@ -72,16 +74,15 @@ impl Iterator for Sweep {
     }
 }
 
-/// The step at a place of the round. The places are rows of a step for each wire: turns, the moves up by
-/// stage from the last, services, and the moves down by stage.
-fn step_at(k: u8, place: u32) -> Step
+/// The step on a wire of a row of the round. A row has a step for each wire. Row 0 has the turns, rows 1 to
+/// `k` the moves up by stage from the last, row `k + 1` the services, and each row behind it the moves down of
+/// a stage, from the first.
+pub fn step_at(k: u8, row: u8, wire: u8) -> Step
     requires stages { k ≤ 6 }
-    requires place { place < 2 ^ k * (2 * k + 2) }
-    ensures { slice_get (round k) place ≡ Some result }
+    requires row { row < 2 * k + 2 }
+    requires wire { wire < 2 ^ k }
+    ensures { slice_get (round k) (row * 2 ^ k + wire) ≡ Some result }
 {
-    let row = place >> k;
-    let wire = (place - (row << k)) as u8;
-    let row = row as u8;
     if row == 0 {
         Step::Turn(wire)
     } else if row <= k {

@@ -1,0 +1,9 @@
+use Rattle.std.proofs.Common.{◌≡◌, ◌-◌, length}
+use Rattle.sweep.specs.Rounds.{round}
+use Rattle.machine_bench.proofs.round.Given as goal
+
+abbrev pub invariant-loop-step : goal.invariant-loop-step
+invariant-loop-step l = l.machine.config ≡ l.initial.machine.config
+
+abbrev pub decreases-loop-step : goal.decreases-loop-step
+decreases-loop-step l = length (round l.initial.machine.config.k) - l.round
