@@ -1,5 +1,7 @@
 //! Texts of numbers, and a writer that is opened by its first write.
 
+ghost use Rattle.std.specs.Prelude.{None};
+
 use crate::{OnFirstWrite, Open, push_bytes, push_status, push_word};
 use flat_machine::{Fault, Status};
 use std::alloc::Global;
@@ -85,4 +87,37 @@ fn failed_opening_is_a_failed_write(rt: HostRuntime) {
     assert!(rt; writer.write(b"a").is_err());
     assert_eq!(rt; writer.opener.openings, 2);
     assert!(rt; writer.device.is_none());
+}
+
+/// Opens a device that takes all bytes, and whose flush fails.
+#[derive(Drop)]
+struct Stuck;
+
+impl Open for Stuck {
+    type Device = Stuck;
+
+    fn open(&mut self) -> io::Result<Stuck> {
+        Ok(Stuck)
+    }
+}
+
+impl Write for Stuck {
+    ghost contents = { λ s. None };
+
+    fn write(&mut self, buf: &[u8]) -> io::Result<usize> {
+        Ok(buf.len())
+    }
+
+    fn flush(&mut self) -> io::Result<()> {
+        Err(ErrorKind::StorageFull.into())
+    }
+}
+
+/// A flush is one of the device, once that is open.
+#[test]
+fn flushes_the_open_device(rt: HostRuntime) {
+    let mut writer = OnFirstWrite::new(Stuck);
+    assert!(rt; writer.flush().is_ok());
+    assert!(rt; writer.write_all(b"a").is_ok());
+    assert!(rt; writer.flush().is_err());
 }

@@ -85,7 +85,7 @@ impl From<PrintError> for WordsFault {
 
 /// Reads a program from a file, runs it, and prints its processor. Answers the exit status: 0 where
 /// the processor halted, 1 where a fault stopped it, else that of the fault that is told on
-/// standard error, with nothing printed.
+/// standard error. Nothing is printed then, unless it is printing that failed.
 pub fn words_command<R: Read + Drop, W: Write, E: Write>(
     alloc: Global,
     file: R,
