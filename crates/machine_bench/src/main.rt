@@ -63,7 +63,7 @@ impl Counts {
 
 /// One round of the sweep: each of its steps that may do something.
 fn round(machine: &mut Machine, counts: &mut Counts) {
-    let mut round = Round::new();
+    let mut round = Round::new(machine.config().k);
     while let Some(step) = round.next(machine) {
         counts.add(&machine.apply(step));
     }

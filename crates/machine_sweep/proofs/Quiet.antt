@@ -1,11 +1,8 @@
 -- Steps that find no message stall.
-use Rattle.std.proofs.Common.{◌≡◌, ℕ, zero, suc, ◌+◌, ◌-◌, ◌*◌, ◌^◌, ◌<◌, ◌≤◌, Bool, true, false, nat_lt, List, [], ◌∷◌, Some, refl, sym, ap, ◌∙◌, subst, arith}
+use Rattle.std.proofs.Common.{◌≡◌, ℕ, suc, ◌+◌, ◌-◌, ◌*◌, ◌^◌, ◌<◌, ◌≤◌, Bool, true, false, nat_lt, List, [], ◌∷◌, Some, refl, sym, ap, ◌∙◌, subst, arith}
 use Rattle.std.specs.Prelude.{is_some, slice_get, if◌then◌else◌}
 use Rattle.std.proofs.lemmas.Bool.{true≢false}
 use Rattle.flat_machine.specs.declared.config.Config.{Config}
-use Rattle.flat_machine.specs.Turns.{Turn}
-use Rattle.messages.specs.declared.message.Request.{Request}
-use Rattle.messages.specs.declared.message.Reply.{Reply}
 use Rattle.messages.specs.declared.moves.UpMove.TheVariants as up
 use Rattle.messages.specs.declared.moves.DownMove.TheVariants as down
 use Rattle.messages.specs.Moves.{moved_up, moved_down, up_from, down_from}
@@ -21,7 +18,7 @@ use Rattle.machine_program.specs.Steps.{answer_of, outcome_of, machine_of_parts}
 use Rattle.machine_steps.specs.Machines.{MachineLists, machine_of}
 use Rattle.sweep.specs.Rounds.{round}
 use Rattle.sweep.proofs.Places.{up_at, serve_at, down_at}
-use Rattle.machine_sweep.specs.Skips.{IsQuiet, AreQuiet}
+use Rattle.machine_sweep.specs.Skips.{IsQuiet}
 
 module _ (c : Config) (code : List ℕ) (M : theory.Machine Told) where
   abbrev answers : theory.Outcome → Outcome

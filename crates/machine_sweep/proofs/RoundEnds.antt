@@ -1,19 +1,16 @@
 -- Where a round of the sweep ends.
-use Rattle.std.proofs.Common.{◌≡◌, ℕ, ◌+◌, ◌*◌, ◌^◌, ◌<◌, ◌≤◌, ◌⊎◌, inl, inr, List, [], ◌∷◌, length, take, Some, sym, ap, ◌∙◌, subst, arith}
-use Rattle.std.specs.Prelude.{slice_get}
+use Rattle.std.proofs.Common.{◌≡◌, ℕ, ◌<◌, ◌≤◌, ◌⊎◌, inl, inr, length, take, sym, ap, ◌∙◌, subst, arith}
 use Rattle.std.proofs.lemmas.Bool.{cases_lt}
 use Rattle.std.proofs.lemmas.List.{take_all}
-use Rattle.steps.specs.declared.step.Step.{Step}
 use Rattle.steps.specs.declared.step.Outcome.TheVariants.{Stalled}
 use Rattle.machine_steps.specs.Machines.{IsMachine}
 use Rattle.machine_steps.specs.Runs.{IsReplay}
 use Rattle.machine_steps.proofs.Replaying.{outcome_there}
 use Rattle.machine_lock.specs.Logs.{Log}
-use Rattle.sweep.specs.Rounds.{next_place, round}
-use Rattle.sweep.proofs.Places.{next_goes, round_length}
+use Rattle.sweep.specs.Rounds.{round}
 use Rattle.machine_sweep.specs.Standing.{HasRunning}
 use Rattle.machine_sweep.specs.Sweeps.{answer_after, entered_of, WasAskedRound}
-use Rattle.machine_sweep.proofs.Asking.{longer, each_stalls, next_asked}
+use Rattle.machine_sweep.proofs.Asking.{longer, each_stalls}
 use Rattle.machine_sweep.proofs.Progress.{in_round, some_step_moves}
 
 module _ (most : ℕ) (old l : Log) (i : ℕ) (room : length old.steps < most) (steps : l.steps ≡ entered_of old.opening old.steps (take i (round old.machine.config.k))) (few : length l.steps ≤ most) where

@@ -1,5 +1,5 @@
 -- What is left out of a round enters nothing.
-use Rattle.std.proofs.Common.{◌≡◌, ℕ, zero, suc, ◌+◌, ◌-◌, ◌<◌, ◌≤◌, ◌⊎◌, inl, inr, List, [], ◌∷◌, length, take, get_or, Some, refl, sym, ap, ◌∙◌, subst, arith}
+use Rattle.std.proofs.Common.{◌≡◌, ℕ, zero, suc, ◌+◌, ◌-◌, ◌<◌, ◌≤◌, ◌⊎◌, inl, inr, List, [], ◌∷◌, length, take, get_or, Some, sym, ap, ◌∙◌, subst, arith}
 use Rattle.std.specs.Prelude.{slice_get}
 use Rattle.std.proofs.lemmas.Bool.{cases_lt}
 use Rattle.std.proofs.lemmas.Option.{slice_get-get_or, slice_get_within}
@@ -7,13 +7,13 @@ use Rattle.steps.specs.declared.step.Step.{Step}
 use Rattle.steps.specs.declared.step.Step.TheVariants as step
 use Rattle.steps.specs.declared.step.Outcome.TheVariants.{Stalled}
 use Rattle.machine_program.specs.Steps.{outcome_of}
-use Rattle.machine_steps.specs.Machines.{MachineLists, machine_of}
+use Rattle.machine_steps.specs.Machines.{machine_of}
 use Rattle.machine_steps.specs.Runs.{IsReplay}
 use Rattle.machine_steps.proofs.Replaying.{outcome_there}
 use Rattle.machine_lock.specs.Logs.{Log, entered}
 use Rattle.sweep.specs.Rounds.{round}
 use Rattle.machine_sweep.specs.Skips.{AreQuiet, IsNext, IsQuiet}
-use Rattle.machine_sweep.specs.Sweeps.{answer_after, entered_of}
+use Rattle.machine_sweep.specs.Sweeps.{entered_of}
 use Rattle.machine_sweep.proofs.Asking.{next_asked}
 
 -- a step that stalls is not entered

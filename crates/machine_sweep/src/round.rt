@@ -14,44 +14,48 @@ use wire_sets::WireSet;
 /// How far a machine has come in a round of the sweep.
 #[derive(Debug, Drop)]
 pub struct Round {
-    /// How many steps of the round are behind.
-    place: u32,
+    k: u8,
+    row: u8,
+    /// The next wire of the row, or how many there are.
+    wire: u8,
 }
 
 impl Model for Round {
-    ghost use Rattle.std.specs.Prelude.{ℕ};
+    ghost use Rattle.std.specs.Prelude.{◌≤◌, ◌*◌, ◌+◌, ◌^◌};
+    ghost use Rattle.sweep.specs.Rounds.{Sweeping};
 
-    ghost Value = { ℕ };
+    ghost Value = { Sweeping };
 
-    ghost view = { λ r. r.place };
+    ghost view = { λ r. record { k = r.k; place = r.row * 2 ^ r.k + r.wire } };
+
+    ghost invariant = { λ r. (r.k ≤ 6) × (r.row ≤ 2 * r.k + 2) × (r.wire ≤ 2 ^ r.k) };
 }
 
 impl Round {
-    /// The beginning of a round.
-    pub const fn new() -> Self
-        ensures { result ≡ 0 }
+    /// The beginning of a round of a machine of `k` stages.
+    pub fn new(k: u8) -> Self
+        requires { k ≤ 6 }
+        ensures { result ≡ record { k = k; place = 0 } }
     {
-        Round { place: 0 }
+        Round { k, row: 0, wire: 0 }
     }
 
     /// The next step of the round that may do something on a machine: a turn, or a move or a service of a
     /// message that stands there. Each step that it leaves out would stall. None where no step is left.
     pub fn next(&mut self, machine: &Machine) -> Option<Step>
-        ensures next { IfSome result (λ step. IsNext machine.now self.old step self.new) }
-        ensures on { IfSome result (λ step. (self.old < self.new) × (self.new ≤ length (round machine.now.config.k))) }
-        ensures over { result ≡ None → AreQuiet machine.now self.old (length (round machine.now.config.k)) }
+        requires { machine.now.config.k ≡ self.old.k }
+        ensures size { self.new.k ≡ self.old.k }
+        ensures next { IfSome result (λ step. IsNext machine.now self.old.place step self.new.place) }
+        ensures on { IfSome result (λ step. (self.old.place < self.new.place) × (self.new.place ≤ length (round self.old.k))) }
+        ensures over { result ≡ None → AreQuiet machine.now self.old.place (length (round self.old.k)) }
     {
-        let k = machine.config().k;
-        let rows = 2 * k + 2;
-        let mut row = self.place >> k;
-        let mut wire = (self.place - (row << k)) as u8;
-        while row < u32::from(rows) {
-            if let Some(wire) = first_from(machine, row as u8, wire) {
-                self.place = (row << k) + u32::from(wire) + 1;
-                return Some(step_at(k, row as u8, wire));
+        while self.row < 2 * self.k + 2 {
+            if let Some(wire) = first_from(machine, self.row, self.wire) {
+                self.wire = wire + 1;
+                return Some(step_at(self.k, self.row, wire));
             }
-            row += 1;
-            wire = 0;
+            self.row += 1;
+            self.wire = 0;
         }
         None
     }

@@ -85,7 +85,7 @@ fn take_round(log: &mut Logged, most: usize) -> Result<(), RunEnd>
 {
     // The proof needs that the machine is one.
     let _ = log.machine().is_idle();
-    let mut round = Round::new();
+    let mut round = Round::new(log.machine().config().k);
     while log.steps().len() < most {
         let Some(step) = round.next(log.machine()) else {
             return Ok(());

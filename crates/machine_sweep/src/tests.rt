@@ -60,7 +60,7 @@ fn follows_the_sweep(rt: HostRuntime) -> Result<(), Fail> {
 
 /// Takes a round, whose steps are these.
 fn takes(rt: &impl Abort, machine: &mut Machine, steps: &[Step]) {
-    let mut round = Round::new();
+    let mut round = Round::new(machine.config().k);
     for step in steps {
         assert_eq!(rt; round.next(machine), Some(*step));
         machine.apply(*step);

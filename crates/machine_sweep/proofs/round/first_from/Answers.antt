@@ -1,4 +1,4 @@
-use Rattle.std.proofs.Common.{◌+◌, ◌*◌, ◌^◌, ◌≤◌, subst}
+use Rattle.std.proofs.Common.{◌+◌, ◌*◌, ◌^◌}
 use Rattle.wire_sets.specs.Members.{members}
 use Rattle.machine_sweep.proofs.Rows.{few_wires, first_found, none_found, row_ends}
 use Rattle.machine_sweep.proofs.round.first_from.Goals as goal

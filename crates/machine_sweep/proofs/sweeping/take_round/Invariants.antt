@@ -9,10 +9,11 @@ invariant-loop-round l = record {
   opening : l.log.opening ≡ l.initial.log.opening;
   config : l.log.machine.config ≡ l.initial.log.machine.config;
   stages : l.log.machine.config.k ≤ 6;
+  size : l.round.k ≡ l.log.machine.config.k;
   records : HaveRecords l.log.machine.config.k l.log.steps;
-  entered : l.log.steps ≡ entered_of l.initial.log.opening l.initial.log.steps (take l.round (round l.initial.log.machine.config.k));
+  entered : l.log.steps ≡ entered_of l.initial.log.opening l.initial.log.steps (take l.round.place (round l.initial.log.machine.config.k));
   few : length l.log.steps ≤ l.most;
 }
 
 abbrev pub decreases-loop-round : goal.decreases-loop-round
-decreases-loop-round l = length (round l.initial.log.machine.config.k) - l.round
+decreases-loop-round l = length (round l.initial.log.machine.config.k) - l.round.place

@@ -2,13 +2,14 @@ use Rattle.std.proofs.Common.{◌≡◌, ◌+◌, ◌-◌, ◌*◌, ◌^◌, ◌
 use Rattle.machine_sweep.specs.Skips.{AreQuiet}
 use Rattle.machine_sweep.proofs.round.Round.next.Given as goal
 
-abbrev pub invariant-loop-row : goal.invariant-loop-row
-invariant-loop-row l = record {
-  kept : l.self-inside.place ≡ l.initial.self-inside.place;
-  wire : l.wire ≤ 2 ^ l.k;
-  reached : l.initial.self-inside.place ≤ l.row * 2 ^ l.k + l.wire;
-  quiet : AreQuiet l.machine l.initial.self-inside.place (l.row * 2 ^ l.k + l.wire);
+abbrev pub invariant-loop-self : goal.invariant-loop-self
+invariant-loop-self l = record {
+  size : l.self-inside.k ≡ l.initial.self-inside.k;
+  row : l.self-inside.row ≤ 2 * l.self-inside.k + 2;
+  wire : l.self-inside.wire ≤ 2 ^ l.self-inside.k;
+  reached : l.fn.self.place ≤ l.self-inside.row * 2 ^ l.self-inside.k + l.self-inside.wire;
+  quiet : AreQuiet l.machine l.fn.self.place (l.self-inside.row * 2 ^ l.self-inside.k + l.self-inside.wire);
 }
 
-abbrev pub decreases-loop-row : goal.decreases-loop-row
-decreases-loop-row l = l.rows - l.row
+abbrev pub decreases-loop-self : goal.decreases-loop-self
+decreases-loop-self l = 2 * l.self-inside.k + 2 - l.self-inside.row
