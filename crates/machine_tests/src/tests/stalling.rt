@@ -9,7 +9,7 @@ use std::test::Fail;
 use steps::{Outcome, Step};
 
 /// What the readers show of a machine's first four processors and of its first words.
-#[derive(Clone, Copy, Debug, PartialEq, Eq, Drop)]
+#[derive(Clone, Copy, PartialEq, Eq, Drop)]
 struct Seen {
     pcs: [Option<u32>; 4],
     statuses: [Option<Status>; 4],
@@ -47,7 +47,7 @@ fn expect_stalls(rt: &impl Abort, machine: &mut Machine, steps: &[Step]) {
     let before = look_at(machine);
     for step in steps {
         assert_eq!(rt; machine.apply(*step), Outcome::Stalled, "{step:?}");
-        assert_eq!(rt; look_at(machine), before, "{step:?}");
+        assert!(rt; look_at(machine) == before, "{step:?}");
     }
 }
 
