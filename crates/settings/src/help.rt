@@ -31,12 +31,12 @@ many instructions it has retired, and the bytes that it gave to the console in h
 Then `word I VVVVVVVV` is shared word I in hex, for each that is not zero.
 
 Faults are told on standard error, and then there is no report: `ultra: I1` to `I8` a refused image,
-`K1` a size that does not fit the image, `budget` steps used up while a processor runs and none has
-a fault, `L2` the log of steps full, `link` FILE cannot be opened or standard output cannot be
-written, `I9` FILE cannot be read, `X5` OUT cannot be written, `memory`.
+`K1` a size out of the machine's limits, `budget` steps used up while a processor runs and none has
+a fault, `link` FILE cannot be opened or standard output cannot be written, `I9` FILE cannot be
+read, `X5` OUT cannot be written, `memory`.
 
 Exit status: 0 done, 1 a processor stopped by a fault, 2 a refused image or command line, 3 a file or
-standard output failed, 4 no memory, the log full, or the budget used up.";
+standard output failed, 4 no memory, or the budget used up.";
 
 /// How `replay` goes, what it prints and tells, and its exit statuses.
 pub(crate) const REPLAY_ENDS: &str = "\
@@ -47,8 +47,8 @@ each shared word that is not zero.
 
 Faults are told on standard error, and then there is no report: `ultra: X1` TRACE is cut short, `X2`
 its header is refused, `X3` a record is refused, `X4` a byte stands behind the last record, `X7 step
-N` step N, from 0, stalls on this machine; `I1` to `I8` a refused image, `K1` a size that does not
-fit the image; `link` a file cannot be opened or standard output cannot be written, `X5` TRACE or
+N` step N, from 0, stalls on this machine; `I1` to `I8` a refused image, `K1` a size out of the
+machine's limits; `link` a file cannot be opened or standard output cannot be written, `X5` TRACE or
 `I9` FILE cannot be read, `memory`.
 
 Exit status: 0 done, 1 a processor stopped by a fault, 2 a refused trace, image or command line, 3 a
