@@ -1,6 +1,8 @@
 //! Texts of numbers, and a writer that is opened by its first write.
 
-use crate::{OnFirstWrite, Open, push_bytes, push_status, push_word};
+ghost use Rattle.std.specs.Prelude.{None};
+
+use crate::{OnFirstWrite, Open, print, push_bytes, push_status, push_word};
 use flat_machine::{Fault, Status};
 use std::alloc::Global;
 use std::io::{self, ErrorKind, Write};
@@ -85,4 +87,83 @@ fn failed_opening_is_a_failed_write(rt: HostRuntime) {
     assert!(rt; writer.write(b"a").is_err());
     assert_eq!(rt; writer.opener.openings, 2);
     assert!(rt; writer.device.is_none());
+}
+
+/// Opens a device that takes all bytes, and whose flush fails.
+#[derive(Drop)]
+struct Stuck;
+
+impl Open for Stuck {
+    type Device = Stuck;
+
+    fn open(&mut self) -> io::Result<Stuck> {
+        Ok(Stuck)
+    }
+}
+
+impl Write for Stuck {
+    ghost contents = { λ s. None };
+
+    fn write(&mut self, buf: &[u8]) -> io::Result<usize> {
+        Ok(buf.len())
+    }
+
+    fn flush(&mut self) -> io::Result<()> {
+        Err(ErrorKind::StorageFull.into())
+    }
+}
+
+/// A flush is one of the device, once that is open.
+#[test]
+fn flushes_the_open_device(rt: HostRuntime) {
+    let mut writer = OnFirstWrite::new(Stuck);
+    assert!(rt; writer.flush().is_ok());
+    assert!(rt; writer.write_all(b"a").is_ok());
+    assert!(rt; writer.flush().is_err());
+}
+
+/// Takes one byte at a call, and none when it is full.
+#[derive(Drop)]
+struct Narrow {
+    bytes: Vec<u8>,
+    room: usize,
+}
+
+impl Write for Narrow {
+    ghost contents = { λ n. None };
+
+    fn write(&mut self, buf: &[u8]) -> io::Result<usize> {
+        if self.bytes.len() >= self.room || buf.is_empty() {
+            return Ok(0);
+        }
+        self.bytes.push(buf[0])?;
+        Ok(1)
+    }
+
+    fn flush(&mut self) -> io::Result<()> {
+        Ok(())
+    }
+}
+
+/// A text goes out in as many writes as it takes, or a beginning of it does.
+#[test]
+fn prints_the_text_or_a_beginning(rt: HostRuntime) {
+    for (room, printed) in [(8, "hello"), (5, "hello"), (4, "hell"), (0, "")] {
+        let mut out = Narrow {
+            bytes: Vec::new(rt.alloc()),
+            room,
+        };
+        let is_printed = print(&mut out, "hello").is_ok();
+        assert_eq!(rt; is_printed, room >= 5, "{room}");
+        assert_eq!(rt; out.bytes.as_slice(), printed.as_bytes(), "{room}");
+    }
+    assert!(rt; print(&mut Stuck, "hello").is_ok());
+    let mut shut = OnFirstWrite::new(Door {
+        alloc: rt.alloc(),
+        is_shut: true,
+        openings: 0,
+    });
+    assert!(rt; print(&mut shut, "").is_ok());
+    assert!(rt; print(&mut shut, "hello").is_err());
+    assert_eq!(rt; shut.opener.openings, 1);
 }

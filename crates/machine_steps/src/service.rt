@@ -5,9 +5,9 @@ ghost use Rattle.messages.specs.declared.message.Request.{Request};
 ghost use Rattle.omega_network.specs.Networks.{net_of, sizes_of};
 ghost use Rattle.machine_steps.specs.Serving.{IsExecuted, IsKept};
 
+use indexed_network::IndexedNetwork;
 use memory_module::Module;
 use messages::{Reply, Request};
-use indexed_network::IndexedNetwork;
 use steps::Outcome;
 
 /// The first request at a module is executed, where the module's reply slot is free: the word before

@@ -7,10 +7,10 @@ ghost use Rattle.machine_ports.specs.Ports.{begun, turn};
 ghost use Rattle.omega_network.specs.Networks.{net_of, sizes_of};
 ghost use Rattle.machine_program.specs.Turning.{IsBegun, IsFinished, IsFinishedBy};
 
+use indexed_network::IndexedNetwork;
 use local_memory::Code;
 use machine_ports::{Begun, Port};
 use messages::{Reply, Request};
-use indexed_network::IndexedNetwork;
 use steps::Outcome;
 
 /// The turn of a port that runs and is not open: the instruction is done, or stops the processor, or
@@ -57,7 +57,13 @@ pub(crate) fn finish(port: &mut Port, network: &mut IndexedNetwork, code: &Code,
 
 /// The turn of an open port whose reply is there: it takes the reply, and the instruction is done.
 #[inline(never)]
-fn retire(port: &mut Port, network: &mut IndexedNetwork, code: &Code, p: u8, reply: Reply) -> Outcome
+fn retire(
+    port: &mut Port,
+    network: &mut IndexedNetwork,
+    code: &Code,
+    p: u8,
+    reply: Reply,
+) -> Outcome
     requires reference { IsReference (turn port.old code.now) }
     requires there { p < 2 ^ network.old.k }
     requires first { slice_get ((net_of network.old).replies 0 p) 0 ≡ Some reply }

@@ -33,7 +33,7 @@ pub enum RunEnd {
 /// # Errors
 ///
 /// [`RunEnd::Budget`] where a processor runs then, and none is faulted; [`RunEnd::Memory`] where there is
-/// no memory for the log. The log has the steps before.
+/// no memory for the log. The log has the steps before then, fewer than the budget has.
 pub fn follow_sweep(log: &mut Logged, budget: u32) -> Result<(), RunEnd>
     requires { HaveRecords log.old.machine.config.k log.old.steps }
     ensures opening { log.new.opening ≡ log.old.opening }
@@ -43,6 +43,7 @@ pub fn follow_sweep(log: &mut Logged, budget: u32) -> Result<(), RunEnd>
     ensures few { length log.old.steps ≤ most_of budget → length log.new.steps ≤ most_of budget }
     ensures ended { OnOk result (HasEnded (most_of budget) log.new) }
     ensures budget { result ≡ Err RunEnd.Budget → IsEndless (most_of budget) log.new }
+    ensures memory { result ≡ Err RunEnd.Memory → length log.new.steps < most_of budget }
 {
     let most = budget.min(MOST_STEPS) as usize;
     // While a processor runs, a round enters a step.
@@ -80,7 +81,7 @@ fn take_round(log: &mut Logged, most: usize) -> Result<(), RunEnd>
     ensures records { HaveRecords log.new.machine.config.k log.new.steps }
     ensures few { length log.new.steps ≤ most }
     ensures round { OnOk result (WasAskedRound most log.old log.new) }
-    ensures refused { IfErr result (λ end. end ≡ RunEnd.Memory) }
+    ensures refused { IfErr result (λ end. (end ≡ RunEnd.Memory) × (length log.new.steps < most)) }
 {
     // The proof needs that the machine is one.
     let _ = log.machine().is_idle();

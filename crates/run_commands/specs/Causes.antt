@@ -1,5 +1,6 @@
 -- Why there is no report: what each fault says of the files.
-use Rattle.std.specs.Prelude.{◌≡◌, ◌<◌, ℕ, List, length, Option, Some, IfSome}
+use Rattle.std.specs.Prelude.{◌≡◌, ◌<◌, ◌⊎◌, ℕ, List, length, Option, Some, IfSome}
+use Rattle.link.specs.Transfer.{AppendsPart}
 use Rattle.flat_machine.specs.declared.config.Config.{Config}
 use Rattle.flat_machine.specs.Limits.{IsWithinLimits}
 use Rattle.elf_image.specs.declared.error.ImageError.{ImageError}
@@ -18,7 +19,7 @@ use Rattle.machine_lock.specs.Logs.{Log}
 use Rattle.command_io.specs.Files.{IsWhole}
 use Rattle.run_commands.specs.declared.fault.Fault.{Fault}
 use Rattle.run_commands.specs.declared.fault.Fault.TheVariants as fault
-use Rattle.run_commands.specs.Commands.{IsImageOf, IsTraceOf, IsSaved, IsPartSaved, HasRun, IsUnfinished}
+use Rattle.run_commands.specs.Commands.{IsImageOf, IsTraceOf, IsReportOf, IsDrainedReport, IsSaved, IsPartSaved, HasRun, IsUnfinished}
 
 -- ---- the files
 
@@ -37,11 +38,16 @@ IsTraceRefusal known e = (rest : Option (List ℕ)) × IsRefused known rest e
 
 -- ---- a run
 
--- The run is there, which has ended, and its trace is written, where one is asked for.
-pub record IsSavedRun {T : Type 0} (contents : T → Option (List ℕ)) (c : Config) (budget : ℕ) (known : Option (List ℕ)) (old new : Option T) : Type 0 where
+-- The run is there, which has ended; its trace is written, where one is asked for, and a part of its report is printed, and not
+-- all of it.
+pub record IsPartPrintedRun {T : Type 0} (contents : T → Option (List ℕ)) (c : Config) (budget : ℕ) (known : Option (List ℕ)) (old new : Option T) (out out' : Option (List ℕ)) : Type 0 where
   pub log : Log
   pub ran : HasRun c budget known log
   pub saved : IsSaved contents old new (trace_bytes (trace_of c log.steps))
+  pub text : List ℕ
+  pub status : ℕ
+  pub report : IsReportOf c ran.run.log_of.image log.steps text status
+  pub part : AppendsPart out out' text
 
 -- The run is there, which has ended, and a part of its trace is written, and not all of it.
 pub record IsPartSavedRun {T : Type 0} (contents : T → Option (List ℕ)) (c : Config) (budget : ℕ) (known : Option (List ℕ)) (old new : Option T) : Type 0 where
@@ -62,10 +68,10 @@ IsNotRun c budget known fault.Link = ⊥
 
 -- Why a run is not reported: its trace cannot be written, or, once that is, its report; else the run is not there, and no byte
 -- of a trace is written.
-abbrev pub IsNoRun : {T : Type 0} → (contents : T → Option (List ℕ)) → (c : Config) → (budget : ℕ) → (known : Option (List ℕ)) → (old new : Option T) → Fault → Type 0
-IsNoRun contents c budget known old new (fault.Trace e) = (e ≡ of_trace.Link) × IsPartSavedRun contents c budget known old new
-IsNoRun contents c budget known old new fault.Link = IsSavedRun contents c budget known old new
-IsNoRun contents c budget known old new other = IsNotRun c budget known other × (new ≡ old)
+abbrev pub IsNoRun : {T : Type 0} → (contents : T → Option (List ℕ)) → (c : Config) → (budget : ℕ) → (known : Option (List ℕ)) → (old new : Option T) → (out out' : Option (List ℕ)) → Fault → Type 0
+IsNoRun contents c budget known old new out out' (fault.Trace e) = (e ≡ of_trace.Link) × IsPartSavedRun contents c budget known old new
+IsNoRun contents c budget known old new out out' fault.Link = IsPartPrintedRun contents c budget known old new out out'
+IsNoRun contents c budget known old new out out' other = IsNotRun c budget known other × (new ≡ old)
 
 -- ---- a replay
 
@@ -92,16 +98,33 @@ pub record IsStalledReplay (shared_words : ℕ) (trace known : Option (List ℕ)
   pub meant : IsImageOf shared_words known image
   pub stalled : IsStalled (config_of steps shared_words) image steps.steps place
 
+-- The trace is there, and nothing is printed: the image's file cannot be opened.
+pub record IsUnopened (trace out out' : Option (List ℕ)) : Type 0 where
+  pub steps : TraceContents
+  pub read : IsTraceOf trace steps
+  pub nothing : out' ≡ out
+
+-- The trace and the image are there, and a part of the report is printed, and not all of it.
+pub record IsPartPrintedReplay (shared_words : ℕ) (trace known out out' : Option (List ℕ)) : Type 0 where
+  pub steps : TraceContents
+  pub read : IsTraceOf trace steps
+  pub image : ImageContents
+  pub meant : IsImageOf shared_words known image
+  pub text : List ℕ
+  pub status : ℕ
+  pub report : IsDrainedReport (config_of steps shared_words) image steps.steps text status
+  pub part : AppendsPart out out' text
+
 -- Why a replay is not reported: the trace is refused; the image is; the machine's size is out of its limits; a step stalls; the
 -- image's file cannot be opened, or the report cannot be written. Of want of memory nothing is said.
-abbrev pub IsNoReplay : (shared_words : ℕ) → (trace known : Option (List ℕ)) → Fault → Type 0
-IsNoReplay shared_words trace known (fault.Trace e) = IsTraceRefusal trace e
-IsNoReplay shared_words trace known (fault.Image e) = ((steps : TraceContents) × IsTraceOf trace steps) × IsImageRefusal shared_words known e
-IsNoReplay shared_words trace known fault.Size = IsOutOfLimits shared_words trace known
-IsNoReplay shared_words trace known (fault.Stalled place) = IsStalledReplay shared_words trace known place
-IsNoReplay shared_words trace known fault.Budget = ⊥
-IsNoReplay shared_words trace known fault.Link = (steps : TraceContents) × IsTraceOf trace steps
-IsNoReplay shared_words trace known fault.Memory = Unit {0}
+abbrev pub IsNoReplay : (shared_words : ℕ) → (trace known : Option (List ℕ)) → (out out' : Option (List ℕ)) → Fault → Type 0
+IsNoReplay shared_words trace known out out' (fault.Trace e) = IsTraceRefusal trace e
+IsNoReplay shared_words trace known out out' (fault.Image e) = ((steps : TraceContents) × IsTraceOf trace steps) × IsImageRefusal shared_words known e
+IsNoReplay shared_words trace known out out' fault.Size = IsOutOfLimits shared_words trace known
+IsNoReplay shared_words trace known out out' (fault.Stalled place) = IsStalledReplay shared_words trace known place
+IsNoReplay shared_words trace known out out' fault.Budget = ⊥
+IsNoReplay shared_words trace known out out' fault.Link = IsUnopened trace out out' ⊎ IsPartPrintedReplay shared_words trace known out out'
+IsNoReplay shared_words trace known out out' fault.Memory = Unit {0}
 
 -- ---- the parts
 

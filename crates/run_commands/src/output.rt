@@ -2,12 +2,13 @@
 
 ghost use Rattle.std.specs.Prelude.{◌≡◌, IfErr, OnOk};
 ghost use Rattle.std.specs.Io.KnownBytes.{Appends};
+ghost use Rattle.link.specs.Transfer.{AppendsPart};
 ghost use Rattle.trace_file.specs.Traces.{IsTrace, trace_bytes, trace_of};
 ghost use Rattle.run_commands.specs.Commands.{IsPartSaved, IsSaved, IsWorking};
 
 use crate::fault::Fault;
 use flat_machine::Config;
-use link::LinkWrite;
+use link::{Failed, LinkWrite};
 use std::io::Write;
 use steps::Step;
 use trace_file::{TraceError, write_trace};
@@ -32,10 +33,10 @@ pub(crate) fn save<T: LinkWrite>(
 /// Prints a report.
 pub(crate) fn print<W: Write>(out: &mut W, text: &str) -> Result<(), Fault>
     ensures printed { OnOk result (Appends (W.contents out.old) (W.contents out.new) text.now) }
-    ensures failed { IfErr result (λ fault. fault ≡ Fault.Link) }
+    ensures failed { IfErr result (λ fault. (fault ≡ Fault.Link) × AppendsPart (W.contents out.old) (W.contents out.new) text.now) }
 {
-    match out.write_all(text.as_bytes()) {
+    match command_io::print(out, text) {
         Ok(()) => Ok(()),
-        Err(_) => Err(Fault::Link),
+        Err(Failed) => Err(Fault::Link),
     }
 }

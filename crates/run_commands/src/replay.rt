@@ -35,7 +35,7 @@ pub fn replay_command<T: Read + Drop, R: Read + Drop, W: Write, E: Write>(
     err: &mut E,
 ) -> u8
     ensures replayed { result ≤ 1 → IsReplayed shared_words (T.remaining trace) (known_of R.remaining file) (W.contents out.old) (W.contents out.new) result }
-    ensures told { 2 ≤ result → (fault : Fault) × (result ≡ status_of_fault fault) × IsNoReplay shared_words (T.remaining trace) (known_of R.remaining file) fault × (fault ≢ Fault.Link → out.new ≡ out.old) }
+    ensures told { 2 ≤ result → (fault : Fault) × (result ≡ status_of_fault fault) × IsNoReplay shared_words (T.remaining trace) (known_of R.remaining file) (W.contents out.old) (W.contents out.new) fault × (fault ≢ Fault.Link → out.new ≡ out.old) }
 {
     match carried_out(alloc, trace, file, shared_words, out) {
         Ok(status) => status,
@@ -53,7 +53,7 @@ fn carried_out<T: Read + Drop, R: Read + Drop, W: Write>(
 ) -> Result<u8, Fault>
     ensures replayed { IfOk result (IsReplayed shared_words (T.remaining trace) (known_of R.remaining file) (W.contents out.old) (W.contents out.new)) }
     ensures low { IfOk result (λ status. status ≤ 1) }
-    ensures told { IfErr result (IsNoReplay shared_words (T.remaining trace) (known_of R.remaining file)) }
+    ensures told { IfErr result (IsNoReplay shared_words (T.remaining trace) (known_of R.remaining file) (W.contents out.old) (W.contents out.new)) }
     ensures silent { IfErr result (λ fault. fault ≢ Fault.Link → out.new ≡ out.old) }
 {
     let trace = trace_of(alloc, trace)?;

@@ -37,7 +37,7 @@ pub fn run_command<R: Read + Drop, T: LinkWrite, W: Write, E: Write>(
 ) -> u8
     requires works { IsWorking T.has_failed trace.old }
     ensures reported { result ≤ 1 → IsRun T.contents config budget trace.old trace.new (R.remaining file) (W.contents out.old) (W.contents out.new) result }
-    ensures told { 2 ≤ result → (fault : Fault) × (result ≡ status_of_fault fault) × IsNoRun T.contents config budget (R.remaining file) trace.old trace.new fault × (fault ≢ Fault.Link → out.new ≡ out.old) }
+    ensures told { 2 ≤ result → (fault : Fault) × (result ≡ status_of_fault fault) × IsNoRun T.contents config budget (R.remaining file) trace.old trace.new (W.contents out.old) (W.contents out.new) fault × (fault ≢ Fault.Link → out.new ≡ out.old) }
 {
     match carried_out(alloc, file, config, budget, trace, out) {
         Ok(status) => status,
@@ -57,7 +57,7 @@ fn carried_out<R: Read + Drop, T: LinkWrite, W: Write>(
     requires works { IsWorking T.has_failed trace.old }
     ensures reported { IfOk result (IsRun T.contents config budget trace.old trace.new (R.remaining file) (W.contents out.old) (W.contents out.new)) }
     ensures low { IfOk result (λ status. status ≤ 1) }
-    ensures told { IfErr result (IsNoRun T.contents config budget (R.remaining file) trace.old trace.new) }
+    ensures told { IfErr result (IsNoRun T.contents config budget (R.remaining file) trace.old trace.new (W.contents out.old) (W.contents out.new)) }
     ensures silent { IfErr result (λ fault. fault ≢ Fault.Link → out.new ≡ out.old) }
 {
     let log = ran(alloc, file, config, budget)?;

@@ -1,6 +1,6 @@
 //! What one processor has shown.
 
-ghost use Rattle.std.specs.Prelude.{◌≡◌, ◌+◌, ◌<◌, ◌≤◌, ◌^◌, OnOk};
+ghost use Rattle.std.specs.Prelude.{◌≡◌, ◌+◌, ◌<◌, ◌≤◌, ◌^◌, OnErr, OnOk};
 ghost use Rattle.run_report.specs.Tallies.{ShownBy, nothing_shown, with_retired};
 
 use std::alloc::{AllocError, Global};
@@ -54,6 +54,7 @@ impl Shown {
     pub fn retire(&mut self, out: Option<u8>) -> Result<(), AllocError>
         requires { self.old.retired + 1 < 2 ^ 32 }
         ensures shown { OnOk result (self.new ≡ with_retired self.old out) }
+        ensures refused { OnErr result (self.new ≡ self.old) }
         ensures few { self.new.retired ≤ self.old.retired + 1 }
     {
         if let Some(byte) = out {

@@ -1,6 +1,7 @@
 -- What `ultra dis` does: from the bytes of an image to the lines of its code.
 use Rattle.std.specs.Prelude.{ℕ, List, Option}
 use Rattle.std.specs.Io.KnownBytes.{Appends}
+use Rattle.link.specs.Transfer.{AppendsPart}
 use Rattle.local_memory.specs.Accesses.{region_of_bytes}
 use Rattle.elf_image.specs.declared.error.ImageError.{ImageError}
 use Rattle.elf_image.specs.declared.error.ImageError.TheVariants as image
@@ -20,11 +21,19 @@ pub record IsDisassembled (shared_words : ℕ) (known old new : Option (List ℕ
   pub listing : IsListing (region_of_bytes image.layout.code) text
   pub printed : Appends old new text
 
--- What each fault says of the file. A failed write and want of memory say nothing of it.
-abbrev pub IsRefusalOf : (shared_words : ℕ) → (known : Option (List ℕ)) → DisassembleFault → Type 0
-IsRefusalOf shared_words known (fault.Image e) = IsImageRefusal shared_words known e
-IsRefusalOf shared_words known fault.Print = Unit {0}
-IsRefusalOf shared_words known fault.Memory = Unit {0}
+-- A part of those lines is printed, and not all of them.
+pub record IsPartDisassembled (shared_words : ℕ) (known old new : Option (List ℕ)) : Type 0 where
+  pub image : ImageContents
+  pub read : IsImageOf shared_words known image
+  pub text : List ℕ
+  pub listing : IsListing (region_of_bytes image.layout.code) text
+  pub part : AppendsPart old new text
+
+-- What each fault says of the file, and of what is printed. Want of memory says nothing.
+abbrev pub IsRefusalOf : (shared_words : ℕ) → (known old new : Option (List ℕ)) → DisassembleFault → Type 0
+IsRefusalOf shared_words known old new (fault.Image e) = IsImageRefusal shared_words known e
+IsRefusalOf shared_words known old new fault.Print = IsPartDisassembled shared_words known old new
+IsRefusalOf shared_words known old new fault.Memory = Unit {0}
 
 -- the fault of an image that is not there
 abbrev pub fault_of_image : ImageError → DisassembleFault

@@ -1,5 +1,5 @@
 -- What the command reads, and what its faults tell.
-use Rattle.std.proofs.Common.{◌≡◌, ℕ, ◌≤◌, List, take, Option, Some, None, IfSome, ap, ◌∙◌, arith}
+use Rattle.std.proofs.Common.{◌≡◌, ℕ, ◌≤◌, List, take, Option, Some, None, IfSome, inr, ap, ◌∙◌, arith}
 use Rattle.std.specs.Option.{option_map}
 use Rattle.words_command.specs.declared.command.WordsFault.{WordsFault}
 use Rattle.words_command.specs.declared.command.WordsFault.TheVariants as fault
@@ -11,11 +11,11 @@ pub read_known : (known : Option (List ℕ)) (items : List ℕ) → IfSome (opti
 read_known None items h = tt
 read_known (Some bytes) items h = ap words_of_text h ∙ bytes_read_tell bytes
 
-pub told_of : (known : Option (List ℕ)) (text : List ℕ) (f : WordsFault) → IsRead known text → IsFaultOf f text → IsToldOf known f
-told_of known text (fault.Line number) read is = (text, read, is)
-told_of known text fault.Budget read is = (text, read, is)
-told_of known text fault.Link read is = tt
-told_of known text fault.Memory read is = tt
+pub told_of : (known : Option (List ℕ)) (text : List ℕ) (old new : Option (List ℕ)) (f : WordsFault) → IsRead known text → IsFaultOf f text old new → IsToldOf known old new f
+told_of known text old new (fault.Line number) read is = (text, read, is)
+told_of known text old new fault.Budget read is = (text, read, is)
+told_of known text old new fault.Link read is = inr (text, read, is)
+told_of known text old new fault.Memory read is = tt
 
 pub fault_is_high : (f : WordsFault) → 2 ≤ status_of_fault f
 fault_is_high (fault.Line number) = omega arith

@@ -1,6 +1,7 @@
 -- What `ultra words` does: from the bytes of a file to the bytes of a report.
-use Rattle.std.specs.Prelude.{◌≡◌, ℕ, ◌≤◌, false, List, [], ◌∷◌, Option, Some, None, Ok, Err}
+use Rattle.std.specs.Prelude.{◌≡◌, ◌⊎◌, ℕ, ◌≤◌, false, List, [], ◌∷◌, Option, Some, None, Ok, Err}
 use Rattle.std.specs.Io.KnownBytes.{Appends}
+use Rattle.link.specs.Transfer.{AppendsPart}
 use Rattle.flat_machine.specs.declared.event.Status.{Status}
 use Rattle.flat_machine.specs.declared.event.Status.TheVariants.{Running, Halted, Faulted}
 use Rattle.flat_machine.specs.State.{Processor, FlatState, is_running}
@@ -39,6 +40,19 @@ pub record IsReported (text : List ℕ) (old new : Option (List ℕ)) (status : 
   pub exit : status ≡ exit_status_of processor.status
   pub printed : Appends old new (report_of processor)
 
+-- That program has run, and a part of the report of its processor is printed, and not all of it.
+pub record IsPartReported (text : List ℕ) (old new : Option (List ℕ)) : Type 0 where
+  pub words : List ℕ
+  pub spelled : words_of_text text ≡ Ok words
+  pub last : FlatState
+  pub retired : ℕ
+  pub few : retired ≤ 1000000
+  pub run : HasRun (flat_of_words words) last retired
+  pub processor : Processor
+  pub alone : HasProcessor last processor
+  pub stopped : is_running processor.status ≡ false
+  pub part : AppendsPart old new (report_of processor)
+
 -- The program that a text spells has retired a million instructions on the flat machine.
 pub record IsOverBudget (text : List ℕ) : Type 0 where
   pub words : List ℕ
@@ -46,19 +60,20 @@ pub record IsOverBudget (text : List ℕ) : Type 0 where
   pub last : FlatState
   pub run : HasRun (flat_of_words words) last 1000000
 
--- what each fault says of the text
-abbrev pub IsFaultOf : WordsFault → List ℕ → Type 0
-IsFaultOf (fault.Line number) text = words_of_text text ≡ Err number
-IsFaultOf fault.Budget text = IsOverBudget text
-IsFaultOf fault.Link text = Unit {0}
-IsFaultOf fault.Memory text = Unit {0}
+-- what each fault says of the text, and of what is printed
+abbrev pub IsFaultOf : WordsFault → List ℕ → (old new : Option (List ℕ)) → Type 0
+IsFaultOf (fault.Line number) text old new = words_of_text text ≡ Err number
+IsFaultOf fault.Budget text old new = IsOverBudget text
+IsFaultOf fault.Link text old new = IsPartReported text old new
+IsFaultOf fault.Memory text old new = Unit {0}
 
--- What each fault says of a file. A failed read or write, and want of memory, say nothing of its bytes.
-abbrev pub IsToldOf : Option (List ℕ) → WordsFault → Type 0
-IsToldOf bytes (fault.Line number) = (text : List ℕ) × IsRead bytes text × IsFaultOf (fault.Line number) text
-IsToldOf bytes fault.Budget = (text : List ℕ) × IsRead bytes text × IsFaultOf fault.Budget text
-IsToldOf bytes fault.Link = Unit {0}
-IsToldOf bytes fault.Memory = Unit {0}
+-- What each fault says of a file, and of what is printed. A failed read says nothing of the bytes, and nothing is printed then.
+-- Want of memory says nothing.
+abbrev pub IsToldOf : Option (List ℕ) → (old new : Option (List ℕ)) → WordsFault → Type 0
+IsToldOf bytes old new (fault.Line number) = (text : List ℕ) × IsRead bytes text × IsFaultOf (fault.Line number) text old new
+IsToldOf bytes old new fault.Budget = (text : List ℕ) × IsRead bytes text × IsFaultOf fault.Budget text old new
+IsToldOf bytes old new fault.Link = (new ≡ old) ⊎ ((text : List ℕ) × IsRead bytes text × IsFaultOf fault.Link text old new)
+IsToldOf bytes old new fault.Memory = Unit {0}
 
 -- the exit status that tells a fault
 abbrev pub status_of_fault : WordsFault → ℕ

@@ -1,6 +1,6 @@
 //! The command: from the bytes of a file to the bytes of a report.
 
-ghost use Rattle.std.specs.Prelude.{◌≡◌, ◌≢◌, ℕ, ◌≤◌, List, Ok, IfOk, IfErr};
+ghost use Rattle.std.specs.Prelude.{◌≡◌, ◌≢◌, ◌⊎◌, ℕ, ◌≤◌, List, Ok, IfOk, IfErr};
 ghost use Rattle.words_command.specs.Command.{IsRead, IsReported, IsFaultOf, IsToldOf, exit_status_of, status_of_fault};
 ghost use Rattle.words_command.specs.Faults.{fault_of_reading, fault_of_running, fault_of_printing};
 ghost use Rattle.words_command.specs.Running.{processor_of};
@@ -85,7 +85,7 @@ impl From<PrintError> for WordsFault {
 
 /// Reads a program from a file, runs it, and prints its processor. Answers the exit status: 0 where
 /// the processor halted, 1 where a fault stopped it, else that of the fault that is told on
-/// standard error, with nothing printed.
+/// standard error. Nothing is printed then, unless it is printing that failed.
 pub fn words_command<R: Read + Drop, W: Write, E: Write>(
     alloc: Global,
     file: R,
@@ -93,7 +93,7 @@ pub fn words_command<R: Read + Drop, W: Write, E: Write>(
     err: &mut E,
 ) -> u8
     ensures reported { result ≤ 1 → (text : List ℕ) × IsRead (R.remaining file) text × IsReported text (W.contents out.old) (W.contents out.new) result }
-    ensures told { 2 ≤ result → (fault : WordsFault) × (result ≡ status_of_fault fault) × IsToldOf (R.remaining file) fault }
+    ensures told { 2 ≤ result → (fault : WordsFault) × (result ≡ status_of_fault fault) × IsToldOf (R.remaining file) (W.contents out.old) (W.contents out.new) fault }
     ensures silent { 2 ≤ result → result ≢ 3 → out.new ≡ out.old }
 {
     match carried_out(alloc, file, out) {
@@ -118,7 +118,7 @@ fn carried_out<R: Read + Drop, W: Write>(
     out: &mut W,
 ) -> Result<u8, WordsFault>
     ensures reported { IfOk result (λ status. (text : List ℕ) × IsRead (R.remaining file) text × IsReported text (W.contents out.old) (W.contents out.new) status) }
-    ensures told { IfErr result (IsToldOf (R.remaining file)) }
+    ensures told { IfErr result (IsToldOf (R.remaining file) (W.contents out.old) (W.contents out.new)) }
     ensures silent { IfErr result (λ fault. fault ≢ WordsFault.Link → out.new ≡ out.old) }
 {
     match read_text(alloc, file) {
@@ -130,7 +130,7 @@ fn carried_out<R: Read + Drop, W: Write>(
 /// The bytes of a file, as many as can matter.
 fn read_text<R: Read + Drop>(alloc: Global, file: R) -> Result<Vec<u8>, WordsFault>
     ensures read { IfOk result (λ text. IsRead (R.remaining file) text.items) }
-    ensures told { IfErr result (IsToldOf (R.remaining file)) }
+    ensures told { IfErr result (λ fault. (fault ≡ WordsFault.Memory) ⊎ (fault ≡ WordsFault.Link)) }
 {
     let mut text = Vec::new(alloc);
     match file.take(MAX_TEXT).read_to_end(&mut text) {
@@ -143,7 +143,7 @@ fn read_text<R: Read + Drop>(alloc: Global, file: R) -> Result<Vec<u8>, WordsFau
 /// Runs the program that a text spells, and prints its processor.
 fn run_text<W: Write>(alloc: Global, text: &[u8], out: &mut W) -> Result<u8, WordsFault>
     ensures reported { IfOk result (IsReported text.now (W.contents out.old) (W.contents out.new)) }
-    ensures told { IfErr result (λ fault. IsFaultOf fault text.now) }
+    ensures told { IfErr result (λ fault. IsFaultOf fault text.now (W.contents out.old) (W.contents out.new)) }
     ensures silent { IfErr result (λ fault. fault ≢ WordsFault.Link → out.new ≡ out.old) }
 {
     let words = words_read(alloc, text)?;

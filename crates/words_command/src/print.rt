@@ -1,11 +1,13 @@
 //! Printing the processor.
 
 ghost use Rattle.std.specs.Prelude.{◌≡◌, Err, OnOk};
-ghost use Rattle.std.specs.Io.KnownBytes.{Appends, Keeps};
+ghost use Rattle.std.specs.Io.KnownBytes.{Appends};
+ghost use Rattle.link.specs.Transfer.{AppendsPart};
 ghost use Rattle.words_command.specs.Report.{report_of};
 ghost use Rattle.words_command.specs.Running.{processor_of};
 
 use crate::report::report;
+use link::Failed;
 use machine_lock::Logged;
 use std::alloc::Global;
 use std::io::Write;
@@ -14,7 +16,7 @@ use thiserror::Error;
 /// Why a report was not printed.
 #[derive(Clone, Copy, Debug, PartialEq, Eq, Drop, Error)]
 pub enum PrintError {
-    /// A write failed. A beginning of the report may be written.
+    /// A write failed. A beginning of the report is written then, and not all of it.
     #[error("link")]
     Link,
     /// There was no memory for the report. Nothing of it is written.
@@ -26,6 +28,7 @@ pub enum PrintError {
 /// before the first is printed.
 pub fn words_print<W: Write>(alloc: Global, log: &Logged, out: &mut W) -> Result<(), PrintError>
     ensures printed { OnOk result (Appends (W.contents out.old) (W.contents out.new) (report_of (processor_of log.now.machine))) }
+    ensures begun { result ≡ Err PrintError.Link → AppendsPart (W.contents out.old) (W.contents out.new) (report_of (processor_of log.now.machine)) }
     ensures memory { result ≡ Err PrintError.Memory → out.new ≡ out.old }
 {
     let machine = log.machine();
@@ -40,8 +43,8 @@ pub fn words_print<W: Write>(alloc: Global, log: &Logged, out: &mut W) -> Result
         Ok(text) => text,
         Err(_) => return Err(PrintError::Memory),
     };
-    match out.write_all(text.as_bytes()) {
+    match command_io::print(out, text.as_str()) {
         Ok(()) => Ok(()),
-        Err(_) => Err(PrintError::Link),
+        Err(Failed) => Err(PrintError::Link),
     }
 }

@@ -34,7 +34,7 @@ pub enum WordsEnd {
 /// # Errors
 ///
 /// [`WordsEnd::Budget`] where [`BUDGET`] instructions have retired and the processor still runs;
-/// [`WordsEnd::Memory`] where there is no memory for the log.
+/// [`WordsEnd::Memory`] where there is no memory for the log, before as many have retired.
 pub fn words_run(log: &mut Logged) -> Result<(), WordsEnd>
     requires fresh { log.old.steps ≡ [] }
     requires idle { IsIdle log.old.machine }
@@ -44,6 +44,7 @@ pub fn words_run(log: &mut Logged) -> Result<(), WordsEnd>
     ensures ran { (retired : ℕ) × (retired ≤ BUDGET) × HasRun (flat_state log.old.machine) (flat_state log.new.machine) retired }
     ensures stopped { OnOk result (is_running (processor_of log.new.machine).status ≡ false) }
     ensures budget { result ≡ Err WordsEnd.Budget → HasRun (flat_state log.old.machine) (flat_state log.new.machine) BUDGET × (is_running (processor_of log.new.machine).status ≡ true) }
+    ensures memory { result ≡ Err WordsEnd.Memory → (retired : ℕ) × (retired < BUDGET) × HasRun (flat_state log.old.machine) (flat_state log.new.machine) retired × (is_running (processor_of log.new.machine).status ≡ true) }
     ensures alone { HasProcessor (flat_state log.new.machine) (processor_of log.new.machine) }
     ensures one { log.new.machine.config.k ≡ 0 }
 {

@@ -1,6 +1,6 @@
 //! The command: from the bytes of an image to the lines of its code.
 
-ghost use Rattle.std.specs.Prelude.{◌≡◌, ◌≢◌, IfOk, IfErr, OnOk, string_bytes};
+ghost use Rattle.std.specs.Prelude.{◌≡◌, ◌≢◌, ℕ, List, Option, IfOk, IfErr, OnOk, string_bytes};
 ghost use Rattle.std.specs.Io.KnownBytes.{Appends};
 ghost use Rattle.local_memory.specs.Accesses.{region_of_bytes};
 ghost use Rattle.ultra.specs.Listing.{IsListing};
@@ -11,7 +11,7 @@ use crate::dis::listing::listing;
 use command_io::{DONE, LINK_FAILED, REFUSED, SPENT};
 use elf_image::{Image, ImageError, read_image};
 use flat_machine::{Config, MIN_QUEUE_CAPACITY};
-use link::Meter;
+use link::{Failed, Meter};
 use local_memory::Code;
 use std::alloc::{AllocError, Global};
 use std::io::{Read, Write};
@@ -66,7 +66,7 @@ pub fn dis_command<R: Read + Drop, W: Write, E: Write>(
     err: &mut E,
 ) -> u8
     ensures listed { result ≡ 0 → IsDisassembled shared_words (R.remaining file) (W.contents out.old) (W.contents out.new) }
-    ensures told { result ≢ 0 → (fault : DisassembleFault) × (result ≡ status_of_fault fault) × IsRefusalOf shared_words (R.remaining file) fault
+    ensures told { result ≢ 0 → (fault : DisassembleFault) × (result ≡ status_of_fault fault) × IsRefusalOf shared_words (R.remaining file) (W.contents out.old) (W.contents out.new) fault
         × (fault ≢ DisassembleFault.Print → out.new ≡ out.old) }
 {
     match carried_out(alloc, file, shared_words, out) {
@@ -92,16 +92,16 @@ fn carried_out<R: Read + Drop, W: Write>(
     out: &mut W,
 ) -> Result<(), DisassembleFault>
     ensures listed { OnOk result (IsDisassembled shared_words (R.remaining file) (W.contents out.old) (W.contents out.new)) }
-    ensures told { IfErr result (IsRefusalOf shared_words (R.remaining file)) }
+    ensures told { IfErr result (IsRefusalOf shared_words (R.remaining file) (W.contents out.old) (W.contents out.new)) }
     ensures silent { IfErr result (λ fault. fault ≢ DisassembleFault.Print → out.new ≡ out.old) }
 {
     let image = image_of(alloc, file, shared_words)?;
     let Ok(text) = listing_of(alloc, &image) else {
         return Err(DisassembleFault::Memory);
     };
-    match out.write_all(text.as_bytes()) {
+    match command_io::print(out, text.as_str()) {
         Ok(()) => Ok(()),
-        Err(_) => Err(DisassembleFault::Print),
+        Err(Failed) => Err(DisassembleFault::Print),
     }
 }
 
@@ -112,7 +112,7 @@ fn image_of<R: Read + Drop>(
     shared_words: u32,
 ) -> Result<Image, DisassembleFault>
     ensures image { IfOk result (IsImageOf shared_words (R.remaining file)) }
-    ensures refused { IfErr result (λ fault. (fault ≢ DisassembleFault.Print) × IsRefusalOf shared_words (R.remaining file) fault) }
+    ensures refused { IfErr result (λ fault. (fault ≢ DisassembleFault.Print) × ((old new : Option (List ℕ)) → IsRefusalOf shared_words (R.remaining file) old new fault)) }
 {
     // What an image means does not depend on the network's size.
     let config = Config {

@@ -2,6 +2,7 @@ use Rattle.std.proofs.Common.{refl, subst}
 use Rattle.std.specs.Prelude.{string_bytes}
 use Rattle.std.specs.Io.KnownBytes.{Appends}
 use Rattle.std.proofs.lemmas.Result.{err_from_is_err_and}
+use Rattle.link.specs.Transfer.{AppendsPart}
 use Rattle.trace_file.specs.Traces.{trace_bytes, trace_of}
 use Rattle.run_commands.specs.Commands.{IsPartSaved, IsReportOf, IsSaved}
 use Rattle.run_commands.proofs.Logging.{log_config, log_image, log_words, log_opens}
@@ -45,10 +46,26 @@ returns-in_err-save-clause-told g c =
 
 pub returns-in_err-print-clause-told : goal.returns-in_err-print-clause-told
 returns-in_err-print-clause-told g c =
+    let log = c.in_ok-log.log in
+    let ran = c.in_ok-log.ensures.ran in
+    let known = g.R.Read.remaining c.args.file in
+    let text = string_bytes c.in_ok-text.text in
     let p = err_from_is_err_and c.from_residual-in_err-print.result c.from_residual-in_err-print.ensures.1 in
-    rw (p.1, p.2, c.in_err-print.ensures.failed)
+    let f = c.in_err-print.ensures.failed in
+    rw (p.1, p.2, f.0)
     (record {
-      log = c.in_ok-log.log;
-      ran = c.in_ok-log.ensures.ran;
+      log = log;
+      ran = ran;
       saved = subst (λ steps. IsSaved {T = g.row.T.Denot} g.T.Write.contents c.args.trace.now c.save.new.trace (trace_bytes (trace_of c.args.config steps))) c.steps.ensures.steps c.in_ok-save.ensures.saved;
+      text = text;
+      status = c.in_ok-text.status;
+      report =
+          subst (λ size. IsReportOf size ran.run.log_of.image log.steps text c.in_ok-text.status) (log_config c.args.config known log ran.run.log_of)
+          (subst (λ image. IsReportOf log.machine.config image log.steps text c.in_ok-text.status) (log_image c.args.config known log ran.run.log_of) c.in_ok-text.ensures.report);
+      part = subst (λ bytes. AppendsPart (g.W.Write.contents c.args.out.now) (g.W.Write.contents c.print.new.out) bytes) c.as_str.ensures.value f.1;
     })
+
+pub returns-in_err-print-clause-silent : goal.returns-in_err-print-clause-silent
+returns-in_err-print-clause-silent g c =
+    let p = err_from_is_err_and c.from_residual-in_err-print.result c.from_residual-in_err-print.ensures.1 in
+    rw (p.1, p.2) (λ other. absurd (other c.in_err-print.ensures.failed.0))
