@@ -5,3 +5,5 @@ pub mod RoundEnds
 pub mod Quiet
 pub mod Rows
 pub mod Skipping
+pub mod Resting
+pub mod OneLog

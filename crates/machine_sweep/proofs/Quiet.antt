@@ -38,19 +38,19 @@ module _ (c : Config) (code : List ℕ) (M : theory.Machine Told) where
   down_same true false = refl
   down_same false a = refl
 
-  up_stalls : (s w : ℕ) → M.net.requests s w ≡ [] → outcome_of c code M (step.Up s w) ≡ Stalled
+  pub up_stalls : (s w : ℕ) → M.net.requests s w ≡ [] → outcome_of c code M (step.Up s w) ≡ Stalled
   unfolding outcome_of moved_up
   up_stalls s w none =
       ap (λ xs. answers (if nat_lt w (2 ^ c.k) then went_up M (if nat_lt s c.k then up_from (sizes_of c) M.net s w xs else (up.Stalled, M.net)) else stalled M).outcome) none
       ∙ up_same (nat_lt w (2 ^ c.k)) (nat_lt s c.k)
 
-  down_stalls : (s w : ℕ) → M.net.replies (suc s) w ≡ [] → outcome_of c code M (step.Down s w) ≡ Stalled
+  pub down_stalls : (s w : ℕ) → M.net.replies (suc s) w ≡ [] → outcome_of c code M (step.Down s w) ≡ Stalled
   unfolding outcome_of moved_down
   down_stalls s w none =
       ap (λ xs. answers (if nat_lt w (2 ^ c.k) then went_down M (if nat_lt s c.k then down_from (sizes_of c) M.net s w xs else (down.Stalled, M.net)) else stalled M).outcome) none
       ∙ down_same (nat_lt w (2 ^ c.k)) (nat_lt s c.k)
 
-  serve_stalls : (m : ℕ) → M.net.requests c.k m ≡ [] → outcome_of c code M (step.Serve m) ≡ Stalled
+  pub serve_stalls : (m : ℕ) → M.net.requests c.k m ≡ [] → outcome_of c code M (step.Serve m) ≡ Stalled
   unfolding outcome_of
   serve_stalls m none =
       ap (λ xs. answers (if nat_lt m (2 ^ c.k) then serve_from (sizes_of c) M m xs (M.net.replies c.k m) else stalled M).outcome) none

@@ -32,13 +32,3 @@ past_rows wires rows row wire past =
 
 pub row_ends : (row wires : ℕ) → (row + 1) * wires ≡ row * wires + wires
 row_ends row wires = omega arith
-
-pub few_wires : (k : ℕ) → k ≤ 6 → 2 ^ k ≤ 64
-few_wires zero few = omega arith
-few_wires (suc zero) few = omega arith
-few_wires (suc (suc zero)) few = omega arith
-few_wires (suc (suc (suc zero))) few = omega arith
-few_wires (suc (suc (suc (suc zero)))) few = omega arith
-few_wires (suc (suc (suc (suc (suc zero))))) few = omega arith
-few_wires (suc (suc (suc (suc (suc (suc zero)))))) few = omega arith
-few_wires (suc (suc (suc (suc (suc (suc (suc n))))))) few = absurd (omega arith)

@@ -1,10 +1,12 @@
 -- What a machine's log enters by the sweep, and where a run ends.
 use Rattle.std.specs.Prelude.{◌≡◌, ◌⊎◌, ℕ, zero, suc, ◌+◌, ◌≤◌, ◌<◌, Bool, true, min, List, [], ◌∷◌, ◌++◌, length, take}
+use Rattle.flat_machine.specs.declared.config.Config.{Config}
+use Rattle.elf_image.specs.Images.{ImageContents}
 use Rattle.steps.specs.declared.step.Step.{Step}
 use Rattle.steps.specs.declared.step.Outcome.{Outcome}
 use Rattle.machine_program.specs.Steps.{outcome_of}
 use Rattle.machine_steps.specs.Machines.{MachineLists, machine_of}
-use Rattle.machine_steps.specs.Runs.{all_after}
+use Rattle.machine_steps.specs.Runs.{all_after, IsOpening, IsReplay}
 use Rattle.machine_lock.specs.Logs.{Log, entered}
 use Rattle.sweep.specs.Rounds.{round}
 use Rattle.machine_sweep.specs.Standing.{HasFaulted, HasRunning}
@@ -59,3 +61,14 @@ pub record WasAskedRound (most : ℕ) (old new : Log) : Type 0 where
   pub whole : (take part (round old.machine.config.k) ≡ round old.machine.config.k) ⊎ (most ≤ length new.steps) ⊎ (HasRunning new.machine → ⊥)
   pub some : length old.steps < length new.steps
   pub few : length new.steps ≤ most
+
+-- ---- a whole run
+
+-- The log has followed the sweep from its machine's opening on an image, until no processor ran or as many steps were entered as
+-- may be.
+pub record IsWholeRun (c : Config) (image : ImageContents) (most : ℕ) (log : Log) : Type 0 where
+  pub opens : IsOpening c image log.opening
+  pub replay : IsReplay log.opening log.steps log.machine
+  pub followed : HasFollowed (record { opening = log.opening; steps = []; machine = log.opening }) log
+  pub few : length log.steps ≤ most
+  pub ended : (HasRunning log.machine → ⊥) ⊎ (most ≤ length log.steps)

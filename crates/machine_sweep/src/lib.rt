@@ -5,12 +5,14 @@
 //! [`any_runs`] and [`any_is_faulted`] say what the processors do, on which the end of a run rests.
 #![tactic(auto)]
 
+mod laws;
 mod round;
 mod states;
 mod sweeping;
 #[cfg(test)]
 mod tests;
 
+pub use laws::runs_have_one_log;
 pub use round::Round;
 pub use states::{any_is_faulted, any_runs};
 pub use sweeping::{MOST_STEPS, RunEnd, follow_sweep};

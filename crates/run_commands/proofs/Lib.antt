@@ -2,3 +2,4 @@ pub mod Tallying
 pub mod StepByStep
 pub mod Logging
 pub mod OneReport
+pub mod OneRun

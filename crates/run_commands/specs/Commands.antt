@@ -119,3 +119,10 @@ pub record IsRun {T : Type 0} (contents : T → Option (List ℕ)) (c : Config) 
   pub report : IsReportOf c ran.run.log_of.image log.steps text status
   pub saved : IsSaved contents trace trace' (trace_bytes (trace_of c log.steps))
   pub printed : Appends old new text
+
+-- A run of the image that a file means enters these steps; this is its report, and this its exit status.
+pub record IsReportedRun (c : Config) (budget : ℕ) (known : Option (List ℕ)) (steps : List Step) (text : List ℕ) (status : ℕ) : Type 0 where
+  pub log : Log
+  pub ran : HasRun c budget known log
+  pub entered : log.steps ≡ steps
+  pub report : IsReportOf c ran.run.log_of.image steps text status

@@ -19,7 +19,7 @@ mod taking;
 mod tests;
 
 pub use fault::Fault;
-pub use laws::steps_have_one_report;
+pub use laws::{runs_have_one_report, steps_have_one_report};
 pub use replay::replay_command;
 pub use reporting::report;
 pub use run::run_command;

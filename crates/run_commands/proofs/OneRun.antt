@@ -1,0 +1,56 @@
+-- A run is given by the machine's size, the budget and the bytes of the image's file.
+use Rattle.std.proofs.Common.{◌≡◌, ℕ, ◌≤◌, ◌⊎◌, inl, inr, List, length, Some, sym, ap, ◌∙◌, subst}
+use Rattle.flat_machine.specs.declared.config.Config.{Config}
+use Rattle.elf_image.specs.declared.layout.Layout.{Layout}
+use Rattle.elf_image.specs.Images.{ImageContents, IsMeant}
+use Rattle.steps.specs.declared.step.Step.{Step}
+use Rattle.machine_lock.specs.Logs.{Log}
+use Rattle.machine_sweep.specs.Standing.{HasFaulted, HasRunning}
+use Rattle.machine_sweep.specs.Sweeps.{IsWholeRun, HasEnded, most_of}
+use Rattle.run_commands.specs.Commands.{HasRun, IsImageOf, IsReportOf, IsReportedRun}
+use Rattle.run_commands.proofs.OneReport.{one_status, one_text}
+
+abbrev OneLayout : Type 0
+OneLayout = (shared_words : ℕ) (file : List ℕ) (one other : Layout) → IsMeant shared_words file one → IsMeant shared_words file other → one ≡ other
+
+abbrev OneLog : Type 0
+OneLog = (c : Config) (image : ImageContents) (most : ℕ) (first second : Log) → IsWholeRun c image most first → IsWholeRun c image most second → first.steps ≡ second.steps
+
+one_image : OneLayout → (shared_words : ℕ) (file : List ℕ) (one other : ImageContents) → IsImageOf shared_words (Some file) one → IsImageOf shared_words (Some file) other → other ≡ one
+one_image one_layout shared_words file one other a b =
+    let layout = one_layout shared_words file other.layout one.layout (subst (λ f. IsMeant shared_words f other.layout) b.whole b.meant) (subst (λ f. IsMeant shared_words f one.layout) a.whole a.meant) in
+    let words = b.words ∙ sym a.words in
+    (λ i. record { layout = layout i; shared_words = words i })
+
+whole_run : (c : Config) (budget : ℕ) (file : List ℕ) (log : Log) (ran : HasRun c budget (Some file) log) → IsWholeRun c ran.run.log_of.image (most_of budget) log
+whole_run c budget file log ran = record {
+  opens = ran.run.log_of.opens;
+  replay = ran.run.log_of.replay;
+  followed = ran.run.followed;
+  few = ran.run.few;
+  ended = by ran.ended;
+}
+  where
+    by : HasEnded (most_of budget) log → (HasRunning log.machine → ⊥) ⊎ (most_of budget ≤ length log.steps)
+    by (inl none) = inl none
+    by (inr faulted) = inr faulted.1
+
+module _ (one_layout : OneLayout) (one_log : OneLog) (c : Config) (budget : ℕ) (file : List ℕ) (steps others : List Step) (text other : List ℕ) (status another : ℕ)
+    (a : IsReportedRun c budget (Some file) steps text status) (b : IsReportedRun c budget (Some file) others other another) where
+  abbrev image : ImageContents
+  image = a.ran.run.log_of.image
+
+  image_is : b.ran.run.log_of.image ≡ image
+  image_is = one_image one_layout c.shared_words file image b.ran.run.log_of.image a.ran.run.log_of.meant b.ran.run.log_of.meant
+
+  steps_are : steps ≡ others
+  steps_are =
+      sym a.entered
+      ∙ one_log c image (most_of budget) a.log b.log (whole_run c budget file a.log a.ran) (subst (λ i. IsWholeRun c i (most_of budget) b.log) image_is (whole_run c budget file b.log b.ran))
+      ∙ b.entered
+
+  report_is : IsReportOf c image steps other another
+  report_is = subst (λ ss. IsReportOf c image ss other another) (sym steps_are) (subst (λ i. IsReportOf c i others other another) image_is b.report)
+
+  pub one_run : (steps ≡ others) × (text ≡ other) × (status ≡ another)
+  one_run = (steps_are, one_text c image steps text other status another a.report report_is, one_status c image steps text other status another a.report report_is)
