@@ -1,16 +1,13 @@
 -- What a move leaves as it was.
-use Rattle.std.proofs.Common.{◌≡◌, ℕ, zero, suc, ◌+◌, ◌*◌, ◌-◌, ◌/◌, ◌%◌, ◌^◌, ◌<◌, ◌≤◌, Bool, true, false, ◌⊎◌, inl, inr, nat_lt, List, [], ◌∷◌, ◌++◌, length, drop, Option, Some, None, refl, sym, ap, ◌∙◌, subst, arith}
+use Rattle.std.proofs.Common.{◌≡◌, ℕ, zero, suc, ◌+◌, ◌*◌, ◌/◌, ◌%◌, ◌<◌, Bool, true, false, ◌⊎◌, inl, inr, nat_lt, List, [], ◌∷◌, ◌++◌, length, Option, Some, None, refl, ap, ◌∙◌, arith}
 use Rattle.std.specs.Prelude.{if◌then◌else◌}
 use Rattle.omega_wires.specs.Wires.{bit, bit_of_stage, rotated_left, rotated_right, wire_after, wire_before}
 use Rattle.messages.specs.declared.message.Request.{Request}
 use Rattle.messages.specs.declared.message.Reply.{Reply}
 use Rattle.messages.specs.declared.message.Record.{Record}
 use Rattle.messages.specs.declared.moves.UpMove.{UpMove}
-use Rattle.messages.specs.declared.moves.UpMove.TheVariants as up
 use Rattle.messages.specs.declared.moves.DownMove.{DownMove}
-use Rattle.messages.specs.declared.moves.DownMove.TheVariants as down
-use Rattle.messages.specs.Places.{put2}
-use Rattle.messages.specs.Queues.{Combination, answers, combination, records_but, records_of, unmarked}
+use Rattle.messages.specs.Queues.{Combination, answers, combination, records_but, records_of}
 use Rattle.messages.specs.Network.{Net, Sizes, put_records, put_replies, put_requests, wires}
 use Rattle.messages.specs.Moves.{accepted, answer, down_from, has_room, moved_down, moved_up, push_all, up_from}
 use Rattle.omega_network.proofs.Puts.{put2_other}

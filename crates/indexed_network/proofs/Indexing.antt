@@ -1,13 +1,11 @@
 -- The sets after each call: they are again the network's.
-use Rattle.std.proofs.Common.{◌≡◌, ℕ, zero, suc, ◌+◌, ◌*◌, ◌/◌, ◌%◌, ◌^◌, ◌<◌, ◌≤◌, Bool, true, false, not, ◌⊎◌, inl, inr, List, [], ◌∷◌, ◌++◌, drop, Option, Some, None, refl, sym, ap, ◌∙◌, subst, arith}
+use Rattle.std.proofs.Common.{◌≡◌, ℕ, zero, suc, ◌+◌, ◌*◌, ◌/◌, ◌%◌, ◌^◌, ◌<◌, ◌≤◌, Bool, true, false, not, ◌⊎◌, inl, inr, List, [], ◌∷◌, Option, Some, None, refl, sym, ap, ◌∙◌, subst, arith}
 use Rattle.std.proofs.Common.{pow-suc}
 use Rattle.std.specs.Prelude.{IsTrue, is_some, slice_get, slice_index_or}
-use Rattle.omega_wires.specs.Wires.{rotated_left, rotated_right, switch_of, wire_before}
+use Rattle.omega_wires.specs.Wires.{rotated_left, rotated_right, wire_before}
 use Rattle.messages.specs.declared.message.Request.{Request}
 use Rattle.messages.specs.declared.message.Reply.{Reply}
-use Rattle.messages.specs.declared.moves.UpMove.{UpMove}
 use Rattle.messages.specs.declared.moves.UpMove.TheVariants as up
-use Rattle.messages.specs.declared.moves.DownMove.{DownMove}
 use Rattle.messages.specs.declared.moves.DownMove.TheVariants as down
 use Rattle.messages.specs.Network.{Net, Sizes}
 use Rattle.messages.specs.Moves.{injected, module_replied, module_taken, moved_down, moved_up, port_taken}
@@ -16,7 +14,7 @@ use Rattle.omega_network.proofs.Moves.{down_nothing, up_nothing}
 use Rattle.omega_network.proofs.Puts.{put2_other}
 use Rattle.wire_sets.specs.Members.{members}
 use Rattle.wire_sets.proofs.Changes.{empty_has_none}
-use Rattle.indexed_network.specs.Index.{IsIndexed, IsKnown, IsLookedAt, Knows}
+use Rattle.indexed_network.specs.Index.{IsIndexed, IsLookedAt, Knows}
 use Rattle.indexed_network.proofs.Elsewhere.{down_elsewhere, down_requests, input_is, up_elsewhere, up_replies}
 use Rattle.indexed_network.proofs.Looking.{no_look, one_look, three_looks}
 

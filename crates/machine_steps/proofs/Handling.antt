@@ -7,7 +7,6 @@ use Rattle.flat_machine.specs.declared.config.Config.{Config}
 use Rattle.flat_machine.specs.declared.poke.Poke.{Poke}
 use Rattle.flat_machine.specs.declared.poke.Poke.TheVariants as poke
 use Rattle.flat_machine.specs.State.{Processor, is_running}
-use Rattle.flat_machine.specs.Turns.{Turn}
 use Rattle.flat_machine.specs.Laws.{HasWords}
 use Rattle.flat_machine.specs.Flat.{is_lawful_register, with_poked_register, with_poked_byte}
 use Rattle.flat_machine.specs.Memory.{in_local, in_shared}

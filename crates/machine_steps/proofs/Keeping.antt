@@ -22,7 +22,7 @@ use Rattle.steps.specs.declared.step.Step.{Step}
 use Rattle.steps.specs.declared.step.Outcome.{Outcome}
 use Rattle.machine_opening.specs.Openings.{places_of}
 use Rattle.machine_opening.proofs.Opening.{quotient_small}
-use Rattle.machine_program.specs.Processors.{sizes_of, setting_of, port_at, no_port, word_at}
+use Rattle.machine_program.specs.Processors.{setting_of, port_at, no_port, word_at}
 use Rattle.machine_program.specs.Steps.{IsStepOf, with_shown}
 use Rattle.machine_program.proofs.ServeSteps.{words_set}
 use Rattle.machine_program.proofs.Standing.{retold, stays_steady}

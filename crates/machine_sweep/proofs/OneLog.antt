@@ -10,13 +10,12 @@ use Rattle.elf_image.specs.Images.{ImageContents}
 use Rattle.abstract_machine.specs.Machine as theory
 use Rattle.steps.specs.declared.step.Step.{Step}
 use Rattle.steps.specs.declared.step.Step.TheVariants as step
-use Rattle.steps.specs.declared.step.Outcome.{Outcome}
 use Rattle.steps.specs.declared.step.Outcome.TheVariants.{Stalled}
 use Rattle.steps.specs.Answers.{is_stalled}
 use Rattle.machine_program.specs.Processors.{Told}
 use Rattle.machine_program.specs.Steps.{machine_of_parts, outcome_of}
 use Rattle.machine_steps.specs.Machines.{MachineLists, machine_of}
-use Rattle.machine_steps.specs.Runs.{all_after, events_of, IsOpening}
+use Rattle.machine_steps.specs.Runs.{all_after}
 use Rattle.machine_lock.specs.Logs.{Log, entered}
 use Rattle.sweep.specs.Rounds.{downs, on_each_wire, round, ups}
 use Rattle.machine_sweep.specs.Standing.{HasRunning, processor_of}

@@ -1,25 +1,22 @@
 -- Where no processor runs, every step of a round stalls.
-use Rattle.std.proofs.Common.{◌≡◌, ℕ, suc, ◌^◌, ◌<◌, ◌≤◌, Bool, true, false, nat_lt, ◌⊎◌, inl, inr, List, [], ◌∷◌, length, refl, sym, ap, ◌∙◌, subst, arith}
+use Rattle.std.proofs.Common.{◌≡◌, ℕ, suc, ◌^◌, ◌<◌, ◌≤◌, Bool, true, false, nat_lt, ◌⊎◌, inl, inr, List, [], ◌∷◌, refl, sym, ap, ◌∙◌, subst, arith}
 use Rattle.std.specs.Prelude.{if◌then◌else◌}
 use Rattle.std.proofs.lemmas.Bool.{cases_lt, ltb-true}
 use Rattle.std.proofs.lemmas.List.FromFn.{length-map-range_with_len, get_or-map-range_with_len}
 use mathlib.Core.Path.{fun_ext}
 use Rattle.flat_machine.specs.declared.config.Config.{Config}
-use Rattle.flat_machine.specs.declared.event.Event.{Event}
 use Rattle.flat_machine.specs.declared.event.Status.{Status}
 use Rattle.flat_machine.specs.declared.event.Status.TheVariants.{Running, Halted, Faulted}
 use Rattle.flat_machine.specs.State.{is_running}
 use Rattle.elf_image.specs.declared.layout.Layout.{Layout}
 use Rattle.elf_image.specs.Images.{ImageContents}
-use Rattle.messages.specs.declared.message.Request.{Request}
-use Rattle.messages.specs.declared.message.Reply.{Reply}
 use Rattle.messages.specs.Places.{In}
-use Rattle.messages.specs.Network.{Net, empty_net}
+use Rattle.messages.specs.Network.{empty_net}
 use Rattle.placement.specs.Roles.{Role, Idle, Asking}
 use Rattle.placement.specs.Roles as roles
 use Rattle.abstract_machine.specs.Machine as theory
 use Rattle.abstract_machine.specs.Machine.{stalled, turned}
-use Rattle.abstract_machine.specs.Program.{Kind, Refers, Rests}
+use Rattle.abstract_machine.specs.Program.{Refers, Rests}
 use Rattle.abstract_machine.specs.Steadiness.{Steady}
 use Rattle.abstract_machine.proofs.Steadying.{goes_step, steady_start}
 use Rattle.steps.specs.declared.step.Step.{Step}

@@ -1,11 +1,11 @@
 -- A run is given by the machine's size, the budget and the bytes of the image's file.
-use Rattle.std.proofs.Common.{◌≡◌, ℕ, ◌≤◌, ◌⊎◌, inl, inr, List, length, Some, sym, ap, ◌∙◌, subst}
+use Rattle.std.proofs.Common.{◌≡◌, ℕ, ◌≤◌, ◌⊎◌, inl, inr, List, length, Some, sym, ◌∙◌, subst}
 use Rattle.flat_machine.specs.declared.config.Config.{Config}
 use Rattle.elf_image.specs.declared.layout.Layout.{Layout}
 use Rattle.elf_image.specs.Images.{ImageContents, IsMeant}
 use Rattle.steps.specs.declared.step.Step.{Step}
 use Rattle.machine_lock.specs.Logs.{Log}
-use Rattle.machine_sweep.specs.Standing.{HasFaulted, HasRunning}
+use Rattle.machine_sweep.specs.Standing.{HasRunning}
 use Rattle.machine_sweep.specs.Sweeps.{IsWholeRun, HasEnded, most_of}
 use Rattle.run_commands.specs.Commands.{HasRun, IsImageOf, IsReportOf, IsReportedRun}
 use Rattle.run_commands.proofs.OneReport.{one_status, one_text}

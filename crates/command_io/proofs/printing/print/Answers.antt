@@ -1,4 +1,4 @@
-use Rattle.std.proofs.Common.{length, arith, rules}
+use Rattle.std.proofs.Common.{length, arith}
 use Rattle.link.proofs.Steps.{part-more}
 use Rattle.command_io.proofs.printing.print.Goals as goal
 

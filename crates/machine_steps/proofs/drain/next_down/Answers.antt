@@ -1,4 +1,4 @@
-use Rattle.std.proofs.Common.{◌-◌, ◌+◌, refl, arith}
+use Rattle.std.proofs.Common.{◌+◌, refl, arith}
 use Rattle.omega_network.specs.Networks.{net_of, sizes_of}
 use Rattle.abstract_machine.specs.Draining.{least}
 use Rattle.machine_steps.proofs.Draining.{down_found, down_more, down_none}

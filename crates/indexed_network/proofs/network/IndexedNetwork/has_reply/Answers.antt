@@ -1,4 +1,3 @@
-use Rattle.std.proofs.Common.{◌∙◌}
 use Rattle.indexed_network.proofs.Looking.{few_wires}
 use Rattle.indexed_network.proofs.network.IndexedNetwork.has_reply.Goals as goal
 

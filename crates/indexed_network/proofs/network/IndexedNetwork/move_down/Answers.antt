@@ -1,4 +1,4 @@
-use Rattle.std.proofs.Common.{◌∙◌, ◌+◌, ◌*◌, ◌/◌, ◌^◌, ◌<◌, sym, ap, subst, arith}
+use Rattle.std.proofs.Common.{◌∙◌, ◌+◌, ◌*◌, ◌/◌, ◌^◌, ◌<◌, sym, ap, subst}
 use Rattle.omega_wires.specs.Wires.{rotated_right}
 use Rattle.omega_network.specs.Networks.{NetworkLists}
 use Rattle.indexed_network.proofs.Indexing.{down_indexed, second_wire}

@@ -1,4 +1,4 @@
-use Rattle.std.proofs.Common.{◌≡◌, ◌∙◌, ◌+◌, ◌*◌, ◌/◌, ◌^◌, ◌<◌, sym, ap, subst, arith}
+use Rattle.std.proofs.Common.{◌≡◌, ◌∙◌, ◌+◌, ◌*◌, ◌^◌, ◌<◌, sym, ap, subst}
 use Rattle.omega_wires.specs.Wires.{rotated_left, switch_of}
 use Rattle.messages.specs.Network.{Sizes}
 use Rattle.omega_network.specs.Networks.{NetworkLists}

@@ -1,4 +1,4 @@
-use Rattle.std.proofs.Common.{◌≡◌, ◌∙◌, ◌<◌, ◌*◌, ◌+◌, true, false, sym, ap, subst, arith}
+use Rattle.std.proofs.Common.{◌≡◌, ◌∙◌, ◌*◌, ◌+◌, sym, ap, subst, arith}
 use Rattle.machine_steps.specs.Machines.{MachineLists, IsMachine}
 use Rattle.machine_steps.proofs.Drained.{draining_begins, draining_goes_on}
 use Rattle.machine_steps.proofs.Whole.{begins_back, comes_on, is_back, sent_ends}

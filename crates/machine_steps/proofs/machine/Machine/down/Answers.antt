@@ -1,4 +1,4 @@
-use Rattle.std.proofs.Common.{true, false, arith}
+use Rattle.std.proofs.Common.{arith}
 use Rattle.machine_steps.proofs.Handling.{same_by, step_by, down_no_stage, on_a_wire, down_no_wire, down_done}
 use Rattle.machine_steps.proofs.machine.Machine.down.Goals as goal
 

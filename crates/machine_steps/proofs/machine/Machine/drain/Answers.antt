@@ -1,4 +1,4 @@
-use Rattle.std.proofs.Common.{◌≡◌, ◌∙◌, ◌<◌, true, false, sym, subst, arith}
+use Rattle.std.proofs.Common.{◌≡◌, ◌∙◌, ◌<◌, sym, subst, arith}
 use Rattle.machine_steps.specs.Machines.{IsMachine}
 use Rattle.machine_steps.specs.Draining.{drain_bound, IsDrained}
 use Rattle.machine_steps.proofs.Drained.{draining_begins, draining_goes_on, drain_stops, drain_is_over}

@@ -1,4 +1,4 @@
-use Rattle.std.proofs.Common.{true, false, refl, sym, subst, arith}
+use Rattle.std.proofs.Common.{refl, sym, subst, arith}
 use Rattle.machine_steps.specs.Machines.{MachineLists, IsIdle}
 use Rattle.machine_steps.proofs.Handling.{same_by, step_by, local_unnamed, local_there}
 use Rattle.machine_steps.proofs.machine.Machine.poke_local.Goals as goal

@@ -1,4 +1,4 @@
-use Rattle.std.proofs.Common.{◌≡◌, ◌<◌, ◌^◌, true, false, refl, sym, subst}
+use Rattle.std.proofs.Common.{◌≡◌, ◌<◌, ◌^◌, refl, sym, subst}
 use Rattle.machine_steps.specs.Machines.{MachineLists, IsIdle}
 use Rattle.std.proofs.Common.{ℕ, ◌%◌}
 use Rattle.flat_machine.specs.Words.{with_part}

@@ -1,4 +1,4 @@
-use Rattle.std.proofs.Common.{true, false, sym, subst}
+use Rattle.std.proofs.Common.{sym, subst}
 use Rattle.steps.specs.declared.step.Step.TheVariants as step
 use Rattle.std.proofs.Common.{take, slice_index_or}
 use Rattle.std.proofs.lemmas.List.{take_more, take_all}

@@ -1,4 +1,4 @@
-use Rattle.std.proofs.Common.{true, false, refl, arith}
+use Rattle.std.proofs.Common.{refl, arith}
 use Rattle.machine_steps.proofs.Handling.{same_by, step_by, serve_unnamed, request_place, serve_there}
 use Rattle.machine_steps.proofs.machine.Machine.serve.Goals as goal
 

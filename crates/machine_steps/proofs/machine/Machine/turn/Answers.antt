@@ -1,4 +1,4 @@
-use Rattle.std.proofs.Common.{◌∙◌, ◌<◌, true, false, length, sym, ap, arith}
+use Rattle.std.proofs.Common.{◌∙◌, ◌<◌, length, sym, ap, arith}
 use Rattle.flat_machine.specs.State.{is_running}
 use Rattle.machine_ports.specs.Ports.{PortState}
 use Rattle.machine_program.specs.Processors.{no_port}

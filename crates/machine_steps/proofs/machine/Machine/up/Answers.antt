@@ -1,4 +1,4 @@
-use Rattle.std.proofs.Common.{true, false, arith}
+use Rattle.std.proofs.Common.{arith}
 use Rattle.machine_steps.proofs.Handling.{same_by, step_by, up_no_stage, on_a_wire, up_no_wire, up_done}
 use Rattle.machine_steps.proofs.machine.Machine.up.Goals as goal
 

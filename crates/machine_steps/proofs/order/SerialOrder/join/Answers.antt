@@ -1,4 +1,4 @@
-use Rattle.std.proofs.Common.{◌≡◌, ◌∙◌, ◌≤◌, ◌<◌, ◌+◌, ◌++◌, ℕ, length, sym, ap, ap₂, subst, arith}
+use Rattle.std.proofs.Common.{◌≡◌, ◌∙◌, ◌≤◌, ◌<◌, ◌++◌, ℕ, length, sym, ap, ap₂, subst, arith}
 use Rattle.std.specs.Prelude.{slice_set}
 use Rattle.placement.specs.Meaning.{joined}
 use Rattle.abstract_machine.specs.Machine as theory
