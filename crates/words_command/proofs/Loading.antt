@@ -15,7 +15,7 @@ use Rattle.elf_image.specs.declared.error.ImageError.{ImageError}
 use Rattle.elf_image.specs.declared.error.ImageError.TheVariants as because
 use Rattle.elf_image.specs.declared.layout.Layout.{Layout}
 use Rattle.elf_image.specs.Images.{ImageContents, IsPlaced, IsMeant, IsGiven, IsRefused}
-use Rattle.elf_image.specs.Openings.{opening, words_of}
+use Rattle.elf_image.specs.Openings.{opening}
 use Rattle.elf_image.specs.Refusals.{refusal_of}
 use Rattle.elf_image.specs.Spellings.{file_header_bytes, program_header_bytes, spelling}
 use Rattle.words_command.specs.Loading.{bytes_of_words, flat_of_words, layout_of_words, IsWantOfMemory}

@@ -1,7 +1,5 @@
-use Rattle.std.proofs.Common.{◌∙◌, ap}
-use Rattle.flat_machine.specs.declared.config.Config.{Config}
 use Rattle.machine_steps.specs.Runs.{flat_state}
-use Rattle.words_command.proofs.Loading.{words_are_placed, words_open, made_for}
+use Rattle.words_command.proofs.Loading.{words_are_placed, words_open}
 use Rattle.words_command.proofs.load.words_machine.Goals as goal
 
 pub image_of-requires-clause-placed : goal.image_of-requires-clause-placed
