@@ -1,4 +1,5 @@
-//! Assembles the text on standard input, and prints how many bytes each section has.
+//! Assembles the text on standard input, and prints where it begins and how many bytes each section has, for
+//! `bench/measure_assembler`.
 #![tactic(auto)]
 
 use assembler::assemble;
