@@ -15,8 +15,6 @@
 mod answers;
 mod output;
 mod switch;
-#[cfg(test)]
-mod tests;
 
 pub use answers::{Accepted, Answered};
 pub use switch::{MAX_QUEUE, Switch};

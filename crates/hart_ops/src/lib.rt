@@ -3,8 +3,6 @@
 
 mod alu;
 mod memory;
-#[cfg(test)]
-mod tests;
 mod words;
 
 pub use alu::{immediate_result, is_branch_taken, register_result, shift_result};

@@ -7,7 +7,5 @@
 #![tactic(auto)]
 
 mod network;
-#[cfg(test)]
-mod tests;
 
 pub use network::IndexedNetwork;

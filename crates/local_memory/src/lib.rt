@@ -8,8 +8,6 @@
 mod bytes;
 mod code;
 mod local;
-#[cfg(test)]
-mod tests;
 
 pub use code::Code;
 pub use local::Local;

@@ -8,8 +8,6 @@
 mod laws;
 mod modules;
 mod ports;
-#[cfg(test)]
-mod tests;
 
 pub use laws::parts_are_the_opening;
 pub use modules::new_modules;

@@ -13,8 +13,6 @@
 mod begun;
 mod laws;
 mod port;
-#[cfg(test)]
-mod tests;
 
 pub use begun::Begun;
 pub use laws::references_mean_their_changes;

@@ -6,7 +6,5 @@
 #![tactic(auto)]
 
 mod module;
-#[cfg(test)]
-mod tests;
 
 pub use module::Module;

@@ -481,8 +481,3 @@ fn switches_per_stage(k: u8) -> usize
 {
     (1_usize << k) >> 1
 }
-
-#[cfg(test)]
-mod plain;
-#[cfg(test)]
-mod tests;

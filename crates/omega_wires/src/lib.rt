@@ -17,8 +17,6 @@
 #![tactic(auto)]
 
 mod laws;
-#[cfg(test)]
-mod tests;
 mod wires;
 
 pub use laws::{

@@ -17,8 +17,6 @@ mod instructions;
 mod laws;
 mod phi;
 mod range;
-#[cfg(test)]
-mod tests;
 
 pub use composition::compose;
 pub use laws::{

@@ -5,7 +5,5 @@
 #![tactic(auto)]
 
 mod buffer;
-#[cfg(test)]
-mod tests;
 
 pub use buffer::{MAX_RECORDS, Replies, WaitBuffer};

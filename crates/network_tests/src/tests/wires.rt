@@ -1,35 +1,31 @@
-//! Small networks, with every wire worked by hand.
+//! Small networks, with every wire worked by hand, and a set of wires.
 
-use crate::{
+use omega_wires::{
     bit, input_port, module_of, path, rotate_left, rotate_right, switch_of, wire_after, wire_before,
 };
+use wire_sets::WireSet;
 
 #[test]
-fn the_shuffle_of_eight_wires(rt: HostRuntime) {
-    // 000, 001, 010, 011, 100, 101, 110, 111, each with its first bit moved to the end.
+fn shuffle_of_eight_wires(rt: HostRuntime) {
+    // 000, 001, 010, 011, 100, 101, 110, 111, each with its first bit moved to the end, and with its last bit
+    // moved to the front.
     let shuffled: [u8; 8] = [0, 2, 4, 6, 1, 3, 5, 7];
+    let back: [u8; 8] = [0, 4, 1, 5, 2, 6, 3, 7];
     let switches: [u8; 8] = [0, 1, 2, 3, 0, 1, 2, 3];
     let ports: [u8; 8] = [0, 0, 0, 0, 1, 1, 1, 1];
     for wire in 0..8_u8 {
         let at = wire as usize;
         assert_eq!(rt; rotate_left(3, wire), shuffled[at], "{wire}");
+        assert_eq!(rt; rotate_right(3, wire), back[at], "{wire}");
         assert_eq!(rt; switch_of(3, wire), switches[at], "{wire}");
         assert_eq!(rt; input_port(3, wire), ports[at], "{wire}");
-    }
-}
-
-#[test]
-fn the_shuffle_undone(rt: HostRuntime) {
-    let back: [u8; 8] = [0, 4, 1, 5, 2, 6, 3, 7];
-    for wire in 0..8_u8 {
-        assert_eq!(rt; rotate_right(3, wire), back[wire as usize], "{wire}");
     }
     assert_eq!(rt; rotate_right(6, 33), 48);
     assert_eq!(rt; rotate_left(6, 48), 33);
 }
 
 #[test]
-fn small_networks(rt: HostRuntime) {
+fn networks_of_no_stage_and_of_one(rt: HostRuntime) {
     // No stage: one wire, from the processor to the module.
     assert_eq!(rt; (rotate_left(0, 0), rotate_right(0, 0)), (0, 0));
     assert_eq!(rt; (path(0, 0, 0, 0), module_of(7, 0)), (0, 0));
@@ -40,7 +36,7 @@ fn small_networks(rt: HostRuntime) {
 }
 
 #[test]
-fn a_message_goes_there_and_back(rt: HostRuntime) {
+fn message_goes_there_and_back(rt: HostRuntime) {
     // From processor 101 to module 011: 101, shuffled 011, out at 0: 010; shuffled 100, out at 1: 101;
     // shuffled 011, out at 1: 011.
     let wires: [u8; 4] = [5, 2, 5, 3];
@@ -62,7 +58,7 @@ fn a_message_goes_there_and_back(rt: HostRuntime) {
 }
 
 #[test]
-fn ways_of_the_largest_network(rt: HostRuntime) {
+fn way_through_the_largest_network(rt: HostRuntime) {
     // From 110001 to 010110, one bit more of the module's number at each stage.
     let wires: [u8; 7] = [
         0b110001, 0b100010, 0b000101, 0b001010, 0b010101, 0b101011, 0b010110,
@@ -75,12 +71,40 @@ fn ways_of_the_largest_network(rt: HostRuntime) {
         );
     }
     assert_eq!(rt; module_of(0xFFFF_FFD6, 6), 0b010110);
-}
-
-#[test]
-fn bits_from_the_lowest(rt: HostRuntime) {
+    // The bits of a number, from the lowest.
     let bits: [u8; 8] = [0, 1, 1, 0, 1, 0, 0, 1];
     for i in 0..8_u8 {
         assert_eq!(rt; bit(i, 0b1001_0110), bits[i as usize], "{i}");
     }
+}
+
+/// The lowest wire, the highest and one between them.
+#[test]
+fn wires_come_and_go(rt: HostRuntime) {
+    let mut set = WireSet::new();
+    assert_eq!(rt; set.first_from(0), None);
+    for wire in [63, 0, 17, 17] {
+        assert!(rt; !set.contains(wire) || wire == 17);
+        set.insert(wire);
+        assert!(rt; set.contains(wire));
+    }
+    assert!(rt; !set.contains(16));
+    for (wire, first) in [
+        (0, Some(0)),
+        (1, Some(17)),
+        (17, Some(17)),
+        (18, Some(63)),
+        (63, Some(63)),
+        (64, None),
+        (255, None),
+    ] {
+        assert_eq!(rt; set.first_from(wire), first, "{wire}");
+    }
+    set.remove(17);
+    set.remove(5);
+    assert_eq!(rt; set.first_from(1), Some(63));
+    assert!(rt; set.contains(0));
+    set.remove(63);
+    set.remove(0);
+    assert_eq!(rt; set.first_from(0), None);
 }

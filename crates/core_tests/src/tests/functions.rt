@@ -2,7 +2,7 @@
 
 ghost use Rattle.std.specs.Prelude.{◌≤◌, ◌≤ℤ◌};
 
-use crate::{Phi, SignedRange, UnsignedRange, compose};
+use phi_algebra::{Phi, SignedRange, UnsignedRange, compose};
 use rv_table::{AmoOp, StoreOp};
 
 const LOWEST: u32 = 0x8000_0000;

@@ -2,9 +2,9 @@
 
 ghost use Rattle.std.specs.Prelude.{◌≡◌, ◌≤◌, length};
 
-use crate::{new_modules, new_ports};
 use elf_image::{Bytes, Layout};
 use flat_machine::{Config, Status};
+use machine_opening::{new_modules, new_ports};
 use std::test::Fail;
 
 /// Two processors, which share five words.

@@ -11,14 +11,14 @@ pub struct Plain {
     stages: usize,
     queue: usize,
     buffer: usize,
-    pub slots: Vec<Vec<Request>>,
+    slots: Vec<Vec<Request>>,
     /// By the wires that go out.
-    pub requests: Vec<Vec<Request>>,
+    requests: Vec<Vec<Request>>,
     /// By the wires that go out.
-    pub records: Vec<Vec<Record>>,
+    records: Vec<Vec<Record>>,
     /// By the inputs' numbers, which are those of the shuffled wires.
-    pub replies: Vec<Vec<Reply>>,
-    pub module_slots: Vec<Vec<Reply>>,
+    replies: Vec<Vec<Reply>>,
+    module_slots: Vec<Vec<Reply>>,
 }
 
 impl Plain {
@@ -48,17 +48,17 @@ impl Plain {
         Ok(plain)
     }
 
-    pub fn wires(&self) -> usize {
+    fn wires(&self) -> usize {
         self.slots.len()
     }
 
     /// The number of a place of a stage among all of its kind.
-    pub fn place(&self, stage: usize, wire: usize) -> usize {
+    fn place(&self, stage: usize, wire: usize) -> usize {
         stage.wrapping_mul(self.wires()).wrapping_add(wire)
     }
 
     /// The wire's number with its first bit moved to the end.
-    pub fn shuffled(&self, wire: usize) -> usize {
+    fn shuffled(&self, wire: usize) -> usize {
         let twice = wire.wrapping_mul(2);
         if twice < self.wires() {
             twice
@@ -102,6 +102,16 @@ impl Plain {
             let place = self.place(stage, self.shuffled(wire));
             self.replies.get_mut(place)
         }
+    }
+
+    /// Whether a request stands before a stage on a wire, or at a module.
+    pub fn has_request(&mut self, stage: usize, wire: usize) -> Option<bool> {
+        Some(!self.requests_before(stage, wire)?.is_empty())
+    }
+
+    /// Whether a reply stands before a stage on a wire, or at a module.
+    pub fn has_reply(&mut self, stage: usize, wire: usize) -> Option<bool> {
+        Some(!self.replies_before(stage, wire)?.is_empty())
     }
 
     pub fn up(&mut self, stage: usize, wire: usize) -> Option<UpMove> {
@@ -205,6 +215,12 @@ impl Plain {
         Some(DownMove::Answered { to: record.second })
     }
 
+    /// The first request at a module, if there is one.
+    pub fn module_front(&mut self, m: usize) -> Option<Option<Request>> {
+        let stages = self.stages;
+        Some(self.requests_before(stages, m)?.first().copied())
+    }
+
     /// Takes the first request at a module.
     pub fn module_take(&mut self, m: usize) -> Option<Request> {
         let requests = self.requests_before(self.stages, m)?;
@@ -215,6 +231,11 @@ impl Plain {
 
     pub fn module_reply(&mut self, m: usize, reply: Reply) -> Option<()> {
         self.module_slots.get_mut(m)?.push(reply).ok()
+    }
+
+    /// The first reply on a processor's wire, if there is one.
+    pub fn port_reply(&mut self, p: usize) -> Option<Option<Reply>> {
+        Some(self.replies_before(0, p)?.first().copied())
     }
 
     /// Takes the first reply on a processor's wire.

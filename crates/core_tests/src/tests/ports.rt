@@ -1,8 +1,8 @@
 //! Turns and pokes of one port. The words and the values come from the manual.
 
-use crate::{Begun, Port};
 use flat_machine::{CODE_START, Cause, Fault, Retired, Setting, Status};
 use local_memory::Code;
+use machine_ports::{Begun, Port};
 use phi_algebra::Phi;
 use rv_table::{AmoOp, Immediate, ImmediateOp, Insn, Register};
 use std::alloc::AllocGlobal;

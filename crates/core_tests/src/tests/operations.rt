@@ -1,7 +1,10 @@
 //! Each function on values from the manual.
 
-use super::*;
 use flat_machine::Size;
+use hart_ops::{
+    amo_result, branch_offset, immediate_result, immediate_word, is_branch_taken, jump_offset,
+    load_result, load_size, part, register_result, shift_result, store_size, sum,
+};
 use rv_table::{AmoOp, BranchOp, Immediate, ImmediateOp, LoadOp, RegisterOp, ShiftOp, StoreOp};
 
 #[test]

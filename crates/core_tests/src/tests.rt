@@ -1,0 +1,7 @@
+//! Values from the RISC-V manual, and worked out by hand.
+
+mod functions;
+mod memory;
+mod opening;
+mod operations;
+mod ports;

@@ -1,0 +1,8 @@
+//! Tests of the network and its parts: wires and sets of them, wait buffers, one switch, all stages, and the network
+//! that knows where its messages are.
+//!
+//! They stand in a crate of their own, so that what stands on the network need not wait for them.
+#![tactic(auto)]
+
+#[cfg(test)]
+mod tests;

@@ -1,0 +1,77 @@
+//! Small networks and their parts, with each answer worked out by hand, and long runs beside a plain network.
+
+ghost use Rattle.std.specs.Prelude.{◌≡◌};
+
+mod buffers;
+mod indexed;
+mod plain;
+mod random;
+mod runs;
+mod switches;
+mod wires;
+
+use messages::{DownMove, Request, UpMove};
+use phi_algebra::Phi;
+
+/// What an AMO makes of a word, as the tables name it.
+#[derive(Clone, Copy, Debug, Drop)]
+enum Function {
+    Add(u32),
+    Swap(u32),
+    Minimum(u32),
+}
+
+impl Function {
+    fn phi(self) -> Phi {
+        match self {
+            Function::Add(amount) => Phi::amo_add(amount),
+            Function::Swap(word) => Phi::amo_swap(word),
+            Function::Minimum(with) => Phi::amo_min(with),
+        }
+    }
+}
+
+/// What a move answers, as the tables name it.
+#[derive(Clone, Copy, Debug, Drop)]
+enum Answer {
+    Moved,
+    /// The first leader, and the second.
+    Combined(u8, u8),
+    /// The leader that gets the second reply.
+    Answered(u8),
+    Stalled,
+}
+
+impl Answer {
+    /// The answer of a request's move.
+    fn up(self) -> Option<UpMove> {
+        match self {
+            Answer::Moved => Some(UpMove::Moved),
+            Answer::Combined(first, second) => Some(UpMove::Combined { first, second }),
+            Answer::Answered(_) => None,
+            Answer::Stalled => Some(UpMove::Stalled),
+        }
+    }
+
+    /// The answer of a reply's move.
+    fn down(self) -> Option<DownMove> {
+        match self {
+            Answer::Moved => Some(DownMove::Moved),
+            Answer::Combined(_, _) => None,
+            Answer::Answered(to) => Some(DownMove::Answered { to }),
+            Answer::Stalled => Some(DownMove::Stalled),
+        }
+    }
+}
+
+/// A request as it comes from a processor.
+fn request(leader: u8, word: u32, phi: Phi) -> Request
+    ensures { result.leader ≡ leader }
+{
+    Request {
+        leader,
+        word,
+        phi,
+        marks: 0,
+    }
+}
