@@ -1,3 +1,4 @@
 pub mod Outputs
+pub mod Accepting
 pub mod Partners
 pub mod Switches

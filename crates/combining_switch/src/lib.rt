@@ -6,15 +6,18 @@
 //! combined with it.
 //!
 //! `specs/Outputs.antt` and `specs/Switches.antt` say what each call does, by the definitions of the
-//! crate `messages`. Room is made by [`Switch::new`] alone: no other call takes memory.
+//! crate `messages`; `specs/Accepting.antt` says case by case what becomes of a request. Room is made
+//! by [`Switch::new`] alone: no other call takes memory.
 //!
 //! Source: the combining switch is that of Gottlieb et al., "The NYU Ultracomputer", IEEE
 //! Transactions on Computers C-32(2), 1983.
 #![tactic(auto)]
 
 mod answers;
+mod laws;
 mod output;
 mod switch;
 
 pub use answers::{Accepted, Answered};
+pub use laws::accepting_is_combining_queueing_or_refusing;
 pub use switch::{MAX_QUEUE, Switch};
