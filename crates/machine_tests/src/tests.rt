@@ -1,6 +1,10 @@
 //! The machine on small programs. Words of instructions and what they do are the RISC-V manual's;
 //! all other values are worked out by hand.
+//!
+//! Most tests are tables of cases, which [`cases::check`] runs. It and what stands below it are proved safe once,
+//! however many cases there are.
 
+mod cases;
 mod combining;
 mod draining;
 mod limits;
@@ -11,6 +15,7 @@ mod random;
 mod stalling;
 mod watched;
 mod whole;
+mod words;
 
 use elf_image::{Bytes, Image, Layout, read_image, write_image};
 use flat_machine::{CODE_START, Config, Poke, SHARED_START};
@@ -20,60 +25,63 @@ use std::alloc::{AllocError, AllocGlobal, Global};
 use std::process::Abort;
 use std::test::Fail;
 use steps::{Outcome, Step};
-use watched::Watched;
 
-/// The size of the machine of most tests: four processors.
-const FOUR: Config = Config {
-    k: 2,
-    c: 4,
-    b: 4,
-    shared_words: 1024,
-};
+/// The registers `a0`, `a1` and `a2`, and `pc` as a poke names it.
+const A0: u8 = 10;
 
-/// The code of most tests. Each of its instructions refers to the shared word at `a2`.
-const CODE: [u32; 5] = [
-    0x00B6_252F, // amoadd.w a0, a1, (a2)
-    0x08B6_252F, // amoswap.w a0, a1, (a2)
-    0x80B6_252F, // amomin.w a0, a1, (a2)
-    0x00B6_0023, // sb a1, 0(a2)
-    0x00B6_01A3, // sb a1, 3(a2)
-];
-
-/// Where the instructions of the code stand.
-const ADD: u32 = 0x0001_0000;
-
-const SWAP: u32 = 0x0001_0004;
-
-const MINIMUM: u32 = 0x0001_0008;
-
-const STORE_AT_0: u32 = 0x0001_000C;
-
-const STORE_AT_3: u32 = 0x0001_0010;
-
-/// The registers `a1` and `a2`, and `pc` as a poke names it.
 const A1: u8 = 11;
 
 const A2: u8 = 12;
 
 const PC: u8 = 32;
 
-/// A layout with this code, which begins at its first word, and these bytes.
-fn layout_of(
-    alloc: Global,
-    words: &[u32],
-    local: &[u8],
-    shared: &[u8],
-) -> Result<Layout, AllocError> {
+/// What an image is made of.
+#[derive(Clone, Copy, Drop)]
+struct Program<'a> {
+    entry: u32,
+    code: &'a [u32],
+    local: &'a [u8],
+    shared: &'a [u8],
+}
+
+/// The program of most tests. Each of its instructions refers to the shared word at `a2`.
+const REFERENCES: Program<'static> = Program {
+    entry: CODE_START,
+    code: &[
+        0x00B6_252F, // amoadd.w a0, a1, (a2)
+        0x08B6_252F, // amoswap.w a0, a1, (a2)
+        0x80B6_252F, // amomin.w a0, a1, (a2)
+        0x00B6_0023, // sb a1, 0(a2)
+        0x00B6_01A3, // sb a1, 3(a2)
+    ],
+    local: &[],
+    shared: &[],
+};
+
+/// The layout of a program.
+fn layout_of(alloc: Global, program: &Program) -> Result<Layout, AllocError> {
+    let code = code_of(alloc, program.code)?;
+    let local = bytes_of(alloc, program.local)?;
+    let shared = bytes_of(alloc, program.shared)?;
+    Ok(Layout {
+        entry: program.entry,
+        code,
+        local,
+        shared,
+    })
+}
+
+/// The bytes of these words, the lowest of each first.
+fn code_of(alloc: Global, words: &[u32]) -> Result<Bytes, AllocError> {
     let mut code = Bytes::new(alloc);
     for word in words {
         code.extend_from_slice(&word.to_le_bytes())?;
     }
-    Ok(Layout {
-        entry: CODE_START,
-        code,
-        local: Bytes::from_vec(Vec::from_slice(alloc, local)?),
-        shared: Bytes::from_vec(Vec::from_slice(alloc, shared)?),
-    })
+    Ok(code)
+}
+
+fn bytes_of(alloc: Global, bytes: &[u8]) -> Result<Bytes, AllocError> {
+    Ok(Bytes::from_vec(Vec::from_slice(alloc, bytes)?))
 }
 
 /// The image of a layout, written and read for machines of this size.
@@ -91,54 +99,36 @@ fn image_of(
     Ok(read_image(rt.alloc(), &mut reader, config)?)
 }
 
-/// A machine of this size whose processors run this code.
+/// The opening of a machine of this size on a program's image.
 fn machine_of(
     rt: &(impl Abort + AllocGlobal),
-    words: &[u32],
+    program: &Program,
     config: Config,
 ) -> Result<Machine, Fail> {
-    let layout = layout_of(rt.alloc(), words, &[], &[])?;
+    let layout = layout_of(rt.alloc(), program)?;
     let image = image_of(rt, &layout, &config)?;
     Ok(Machine::new(rt.alloc(), image, config)?)
 }
 
 /// A write of a register, or of `pc` as 32.
-fn register(processor: u8, register: u8, value: u32) -> Step {
-    Step::Poke(Poke::Register {
+fn register(processor: u8, register: u8, value: u32) -> Poke {
+    Poke::Register {
         processor,
         register,
         value,
-    })
+    }
+}
+
+/// Writes what a poke writes.
+fn poke(rt: &impl Abort, machine: &mut Machine, poke: Poke) {
+    assert_eq!(rt; machine.apply(Step::Poke(poke)), Outcome::Poked);
 }
 
 /// Writes a shared word, byte by byte, the lowest first.
-fn poke_word(rt: &impl Abort, machine: &mut Machine, number: u8, word: u32) {
-    let mut address = SHARED_START + 4 * u32::from(number);
+fn poke_word(rt: &impl Abort, machine: &mut Machine, number: u32, word: u32) {
+    let mut address = number.wrapping_mul(4).wrapping_add(SHARED_START);
     for value in word.to_le_bytes() {
-        let poke = Step::Poke(Poke::Shared { address, value });
-        assert_eq!(rt; machine.apply(poke), Outcome::Poked);
+        poke(rt, machine, Poke::Shared { address, value });
         address = address.wrapping_add(1);
     }
-}
-
-/// A machine of this size with the code of most tests. Its shared word 0 is this one, and of these
-/// processors each stands at its instruction, with its `a1` and with the word's address in `a2`.
-fn referring(
-    rt: &(impl Abort + AllocGlobal),
-    config: Config,
-    word: u32,
-    processors: &[(u8, u32, u32)],
-) -> Result<Watched, Fail> {
-    let mut machine = machine_of(rt, &CODE, config)?;
-    poke_word(rt, &mut machine, 0, word);
-    for &(p, pc, a1) in processors {
-        assert_eq!(rt; machine.apply(register(p, A1, a1)), Outcome::Poked);
-        assert_eq!(rt;
-            machine.apply(register(p, A2, SHARED_START)),
-            Outcome::Poked
-        );
-        assert_eq!(rt; machine.apply(register(p, PC, pc)), Outcome::Poked);
-    }
-    assert!(rt; machine.is_idle());
-    Ok(Watched::new(rt.alloc(), machine))
 }

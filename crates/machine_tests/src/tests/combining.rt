@@ -1,335 +1,293 @@
 //! References that meet in switches, or would.
 
-use super::{A2, ADD, FOUR, MINIMUM, STORE_AT_0, STORE_AT_3, SWAP, Watched, referring, register};
-use flat_machine::{Config, Retired, SHARED_START};
-use rv_table::{AmoOp, Insn, Register};
-use std::alloc::AllocGlobal;
-use std::process::Abort;
+use super::REFERENCES;
+use super::cases::{Case, check_orders};
 use std::test::Fail;
-use steps::{Outcome, Step};
 
-const MOVED: Outcome = Outcome::Moved;
-
-fn issued(p: u8) -> (Step, Outcome) {
-    (Step::Turn(p), Outcome::Issued)
-}
-
-fn up(stage: u8, wire: u8, outcome: Outcome) -> (Step, Outcome) {
-    (Step::Up { stage, wire }, outcome)
-}
-
-fn down(stage: u8, wire: u8, outcome: Outcome) -> (Step, Outcome) {
-    (Step::Down { stage, wire }, outcome)
-}
-
-fn served(module: u8, leader: u8) -> (Step, Outcome) {
-    (Step::Serve(module), Outcome::Served { leader })
-}
-
-fn combined(first: u8, second: u8) -> Outcome {
-    Outcome::Combined { first, second }
-}
-
-fn answered(to: u8) -> Outcome {
-    Outcome::Answered { to }
-}
-
-/// Four processors that are to add 1, 2, 4 and 8 to this word, with as many records and places.
-fn four_adds(rt: &(impl Abort + AllocGlobal), word: u32, c: u8, b: u8) -> Result<Watched, Fail> {
-    let config = Config { c, b, ..FOUR };
-    let processors = [(0, ADD, 1), (1, ADD, 2), (2, ADD, 4), (3, ADD, 8)];
-    referring(rt, config, word, &processors)
-}
-
-/// Two adds combine at each stage, so that one request at the module serves all four.
 #[test]
-fn two_adds_combine(rt: HostRuntime) -> Result<(), Fail> {
-    let mut watched = four_adds(&rt, 10, 4, 4)?;
-    let steps = [
-        issued(0),
-        issued(1),
-        issued(2),
-        issued(3),
-        up(0, 0, MOVED),
-        up(0, 2, combined(0, 2)),
-        up(0, 1, MOVED),
-        up(0, 3, combined(1, 3)),
-        up(1, 0, MOVED),
-        up(1, 2, combined(0, 1)),
-        served(0, 0),
-        down(1, 0, answered(1)),
-        down(0, 0, answered(2)),
-        down(0, 2, answered(3)),
-    ];
-    watched.take(&rt, rt.alloc(), &steps)?;
-    assert!(rt; !watched.machine.is_idle());
-    let retired = Retired {
-        pc: ADD,
-        insn: Insn::Amo {
-            op: AmoOp::Add,
-            rd: Register::new(10),
-            rs1: Register::new(12),
-            rs2: Register::new(11),
-            aq: false,
-            rl: false,
-        },
-        result: Some(10),
-        out: None,
-    };
-    let steps = [(Step::Turn(0), Outcome::Retired(retired))];
-    watched.take(&rt, rt.alloc(), &steps)?;
-    let results = [(1, Some(15)), (2, Some(11)), (3, Some(17))];
-    watched.retire(&rt, rt.alloc(), &results)?;
-    assert!(rt; watched.machine.is_idle());
-    assert_eq!(rt; watched.machine.word(0), Some(25));
-    watched.expect_order(&rt, &[0, 2, 1, 3]);
-    Ok(())
+fn requests_meet(rt: HostRuntime) -> Result<(), Fail> {
+    check_orders(&rt, &CASES)
 }
 
-/// A processor that adds and one that swaps: what is combined first comes first.
-#[test]
-fn order_decides(rt: HostRuntime) -> Result<(), Fail> {
-    for (first, second, added, swapped, word) in [(0, 2, 7, 12, 100), (2, 0, 100, 7, 105)] {
-        let mut watched = referring(&rt, FOUR, 7, &[(0, ADD, 5), (2, SWAP, 100)])?;
-        let steps = [
-            issued(0),
-            issued(2),
-            up(0, first, MOVED),
-            up(0, second, combined(first, second)),
-            up(1, 0, MOVED),
-            served(0, first),
-            down(1, 0, MOVED),
-            down(0, 0, answered(second)),
-        ];
-        watched.take(&rt, rt.alloc(), &steps)?;
-        let results = [(0, Some(added)), (2, Some(swapped))];
-        watched.retire(&rt, rt.alloc(), &results)?;
-        assert_eq!(rt; watched.machine.word(0), Some(word));
-        watched.expect_order(&rt, &[first, second]);
-    }
-    Ok(())
-}
+/// Four processors are to add 1, 2, 4 and 8 to word 0.
+pub const FOUR_ADDS: &str = "
+    poke 0 11 1, poke 0 12 0x80000000,
+    poke 1 11 2, poke 1 12 0x80000000,
+    poke 2 11 4, poke 2 12 0x80000000,
+    poke 3 11 8, poke 3 12 0x80000000";
 
-/// A minimum and an add do not compose: each goes by itself, and the module takes the second when
-/// the reply of the first has gone.
-#[test]
-fn minimum_and_add(rt: HostRuntime) -> Result<(), Fail> {
-    let mut watched = referring(&rt, FOUR, 5, &[(0, MINIMUM, 3), (2, ADD, 1)])?;
-    let steps = [
-        issued(0),
-        issued(2),
-        up(0, 0, MOVED),
-        up(0, 2, MOVED),
-        up(1, 0, MOVED),
-        up(1, 0, MOVED),
-        served(0, 0),
-        (Step::Serve(0), Outcome::Stalled),
-        down(1, 0, MOVED),
-        served(0, 2),
-        down(1, 0, MOVED),
-        down(0, 0, MOVED),
-        down(0, 0, MOVED),
-    ];
-    watched.take(&rt, rt.alloc(), &steps)?;
-    watched.retire(&rt, rt.alloc(), &[(0, Some(5)), (2, Some(3))])?;
-    assert_eq!(rt; watched.machine.word(0), Some(4));
-    watched.expect_order(&rt, &[0, 2]);
-    Ok(())
-}
+/// Processor 0 is to add 5 to word 0, and processor 2 to swap in 100.
+pub const ADD_AND_SWAP: &str = "
+    poke 0 11 5, poke 0 12 0x80000000,
+    poke 2 11 100, poke 2 12 0x80000000, poke 2 32 0x10004";
 
-/// Where no record is free, a request goes by itself that a record more would have combined.
-#[test]
-fn no_record_is_free(rt: HostRuntime) -> Result<(), Fail> {
-    for (b, last) in [(1, MOVED), (2, combined(1, 3))] {
-        let mut watched = four_adds(&rt, 0, 4, b)?;
-        let steps = [
-            issued(0),
-            issued(1),
-            issued(2),
-            issued(3),
-            up(0, 0, MOVED),
-            up(1, 0, MOVED),
-            up(0, 2, MOVED),
-            up(1, 0, combined(0, 2)),
-            up(0, 1, MOVED),
-            up(1, 2, MOVED),
-            up(0, 3, MOVED),
-            up(1, 2, last),
-        ];
-        watched.take(&rt, rt.alloc(), &steps)?;
-        assert_eq!(rt; watched.machine.word(0), Some(0));
-        back_from_the_module(&rt, &mut watched, b)?;
-        let results = [(0, Some(0)), (1, Some(5)), (2, Some(1)), (3, Some(7))];
-        watched.retire(&rt, rt.alloc(), &results)?;
-        assert_eq!(rt; watched.machine.word(0), Some(15), "{b}");
-        watched.expect_order(&rt, &[0, 2, 1, 3]);
-    }
-    Ok(())
-}
-
-/// The rest of that case: the module serves what stands at it, and the replies go to the processors.
-fn back_from_the_module(
-    rt: &(impl Abort + AllocGlobal),
-    watched: &mut Watched,
-    b: u8,
-) -> Result<(), Fail> {
-    let to_the_first = [served(0, 0), down(1, 0, answered(2))];
-    watched.take(rt, rt.alloc(), &to_the_first)?;
-    if b == 1 {
-        let one_by_one = [
-            served(0, 1),
-            down(1, 0, MOVED),
-            served(0, 3),
-            down(1, 0, MOVED),
-        ];
-        watched.take(rt, rt.alloc(), &one_by_one)?;
-    } else {
-        watched.take(rt, rt.alloc(), &[served(0, 1), down(1, 0, answered(3))])?;
-    }
-    let to_the_processors = [
-        down(0, 0, MOVED),
-        down(0, 0, MOVED),
-        down(0, 2, MOVED),
-        down(0, 2, MOVED),
-    ];
-    watched.take(rt, rt.alloc(), &to_the_processors)
-}
-
-/// A reply that splits needs two places: where one is free it stays.
-#[test]
-fn two_places_are_needed(rt: HostRuntime) -> Result<(), Fail> {
-    let config = Config {
-        k: 3,
-        c: 2,
-        b: 1,
-        ..FOUR
-    };
-    let processors = [(0, ADD, 1), (2, ADD, 2), (4, ADD, 4)];
-    let mut watched = referring(&rt, config, 0, &processors)?;
-    let at_word_1 = (register(4, A2, SHARED_START + 4), Outcome::Poked);
-    watched.take(&rt, rt.alloc(), &[at_word_1])?;
-    let steps = [
-        issued(0),
-        issued(2),
-        issued(4),
-        up(0, 4, MOVED),
-        up(1, 0, MOVED),
-        up(2, 0, MOVED),
-        served(1, 4),
-        down(2, 1, MOVED),
-        up(0, 0, MOVED),
-        up(1, 0, MOVED),
-        up(2, 0, MOVED),
-        up(0, 2, MOVED),
-        up(1, 4, MOVED),
-        up(2, 0, combined(0, 2)),
-        served(0, 0),
-        down(2, 0, Outcome::Stalled),
-        down(1, 0, MOVED),
-        down(2, 0, answered(2)),
-    ];
-    watched.take(&rt, rt.alloc(), &steps)?;
-    assert_eq!(rt; watched.machine.word(0), Some(3));
-    assert_eq!(rt; watched.machine.word(1), Some(4));
-    Ok(())
-}
-
-/// Two stores of bytes to one word: neither undoes the other.
-#[test]
-fn two_stores_of_bytes(rt: HostRuntime) -> Result<(), Fail> {
-    let processors = [(0, STORE_AT_0, 0xAA), (2, STORE_AT_3, 0xBB)];
-    let mut watched = referring(&rt, FOUR, 0x1122_3344, &processors)?;
-    let steps = [
-        issued(0),
-        issued(2),
-        up(0, 0, MOVED),
-        up(0, 2, combined(0, 2)),
-        up(1, 0, MOVED),
-        served(0, 0),
-        down(1, 0, MOVED),
-        down(0, 0, answered(2)),
-    ];
-    watched.take(&rt, rt.alloc(), &steps)?;
-    watched.retire(&rt, rt.alloc(), &[(0, None), (2, None)])?;
-    assert_eq!(rt; watched.machine.word(0), Some(0xBB22_33AA));
-    Ok(())
-}
-
-/// Without records nothing is combined, and each request is served by itself.
-#[test]
-fn no_combining(rt: HostRuntime) -> Result<(), Fail> {
-    let mut watched = four_adds(&rt, 10, 4, 0)?;
-    let steps = [
-        issued(0),
-        issued(1),
-        issued(2),
-        issued(3),
-        up(0, 0, MOVED),
-        up(0, 2, MOVED),
-        up(0, 1, MOVED),
-        up(0, 3, MOVED),
-        up(1, 0, MOVED),
-        up(1, 2, MOVED),
-        up(1, 0, MOVED),
-        up(1, 2, MOVED),
-    ];
-    watched.take(&rt, rt.alloc(), &steps)?;
-    for leader in 0..4u8 {
-        let steps = [served(0, leader), down(1, 0, MOVED)];
-        watched.take(&rt, rt.alloc(), &steps)?;
-    }
-    let steps = [
-        down(0, 0, MOVED),
-        down(0, 0, MOVED),
-        down(0, 2, MOVED),
-        down(0, 2, MOVED),
-    ];
-    watched.take(&rt, rt.alloc(), &steps)?;
-    let results = [(0, Some(10)), (1, Some(11)), (2, Some(13)), (3, Some(17))];
-    watched.retire(&rt, rt.alloc(), &results)?;
-    assert_eq!(rt; watched.machine.word(0), Some(25));
-    watched.expect_order(&rt, &[0, 1, 2, 3]);
-    Ok(())
-}
-
-/// A queue of two places takes no third request.
-#[test]
-fn queue_is_full(rt: HostRuntime) -> Result<(), Fail> {
-    let mut watched = four_adds(&rt, 10, 2, 0)?;
-    let steps = [
-        issued(0),
-        issued(1),
-        issued(2),
-        issued(3),
-        up(0, 0, MOVED),
-        up(0, 2, MOVED),
-        up(0, 1, MOVED),
-        up(0, 3, MOVED),
-        up(1, 0, MOVED),
-        up(1, 2, MOVED),
-        up(1, 0, Outcome::Stalled),
-        served(0, 0),
-        up(1, 0, MOVED),
-    ];
-    watched.take(&rt, rt.alloc(), &steps)
-}
-
-/// Both processors of a machine of one stage combine at its one switch.
-#[test]
-fn one_stage(rt: HostRuntime) -> Result<(), Fail> {
-    let config = Config { k: 1, ..FOUR };
-    let mut watched = referring(&rt, config, 1, &[(0, ADD, 2), (1, ADD, 3)])?;
-    let steps = [
-        issued(1),
-        issued(0),
-        up(0, 1, MOVED),
-        up(0, 0, combined(1, 0)),
-        served(0, 1),
-        down(0, 0, answered(0)),
-    ];
-    watched.take(&rt, rt.alloc(), &steps)?;
-    watched.retire(&rt, rt.alloc(), &[(0, Some(4)), (1, Some(1))])?;
-    assert_eq!(rt; watched.machine.word(0), Some(6));
-    watched.expect_order(&rt, &[1, 0]);
-    Ok(())
-}
+static CASES: [Case; 11] = [
+    // Two adds combine at each stage, so that one request at the module serves all four.
+    Case {
+        name: "two adds combine",
+        machine: "machine 2 4 4 1024",
+        program: &REFERENCES,
+        pokes: &["word 0 10", FOUR_ADDS],
+        calls: &[
+            "
+            turn 0, turn 1, turn 2, turn 3: issued
+            up 0 0: moved
+            up 0 2: combined 0 2
+            up 0 1: moved
+            up 0 3: combined 1 3
+            up 1 0: moved
+            up 1 2: combined 0 1
+            serve 0: served 0
+            down 1 0: answered 1
+            down 0 0: answered 2
+            down 0 2: answered 3
+            idle: no
+            turn 0: wrote 0x10000 0x00B6252F 10
+            turn 1: wrote 0x10000 0x00B6252F 15
+            turn 2: wrote 0x10000 0x00B6252F 11
+            turn 3: wrote 0x10000 0x00B6252F 17
+            idle: yes
+            register 0 10: is 10
+            register 1 10: is 15
+            register 2 10: is 11
+            register 3 10: is 17
+            word 0: is 25",
+        ],
+        order: "turn 0, turn 2, turn 1, turn 3",
+    },
+    // What is combined first comes first.
+    Case {
+        name: "the add comes before the swap",
+        machine: "machine 2 4 4 1024",
+        program: &REFERENCES,
+        pokes: &["word 0 7", ADD_AND_SWAP],
+        calls: &[
+            "
+            turn 0, turn 2: issued
+            up 0 0: moved
+            up 0 2: combined 0 2
+            up 1 0: moved
+            serve 0: served 0
+            down 1 0: moved
+            down 0 0: answered 2
+            turn 0: wrote 0x10000 0x00B6252F 7
+            turn 2: wrote 0x10004 0x08B6252F 12
+            word 0: is 100",
+        ],
+        order: "turn 0, turn 2",
+    },
+    Case {
+        name: "the swap comes before the add",
+        machine: "machine 2 4 4 1024",
+        program: &REFERENCES,
+        pokes: &["word 0 7", ADD_AND_SWAP],
+        calls: &[
+            "
+            turn 0, turn 2: issued
+            up 0 2: moved
+            up 0 0: combined 2 0
+            up 1 0: moved
+            serve 0: served 2
+            down 1 0: moved
+            down 0 0: answered 0
+            turn 0: wrote 0x10000 0x00B6252F 100
+            turn 2: wrote 0x10004 0x08B6252F 7
+            word 0: is 105",
+        ],
+        order: "turn 2, turn 0",
+    },
+    // A minimum and an add do not compose: each goes by itself, and the module takes the second when the reply of the
+    // first has gone.
+    Case {
+        name: "a minimum and an add go apart",
+        machine: "machine 2 4 4 1024",
+        program: &REFERENCES,
+        pokes: &[
+            "word 0 5",
+            "poke 0 11 3, poke 0 12 0x80000000, poke 0 32 0x10008, poke 2 11 1, poke 2 12 0x80000000",
+        ],
+        calls: &[
+            "
+            turn 0, turn 2: issued
+            up 0 0, up 0 2, up 1 0, up 1 0: moved
+            serve 0: served 0
+            serve 0: stalled
+            down 1 0: moved
+            serve 0: served 2
+            down 1 0, down 0 0, down 0 0: moved
+            turn 0: wrote 0x10008 0x80B6252F 5
+            turn 2: wrote 0x10000 0x00B6252F 3
+            word 0: is 4",
+        ],
+        order: "turn 0, turn 2",
+    },
+    // Where no record is free, a request goes by itself that a record more would have combined.
+    Case {
+        name: "no record is free",
+        machine: "machine 2 4 1 1024",
+        program: &REFERENCES,
+        pokes: &[FOUR_ADDS],
+        calls: &[
+            "
+            turn 0, turn 1, turn 2, turn 3: issued
+            up 0 0, up 1 0, up 0 2: moved
+            up 1 0: combined 0 2
+            up 0 1, up 1 2, up 0 3, up 1 2: moved
+            word 0: is 0
+            serve 0: served 0
+            down 1 0: answered 2
+            serve 0: served 1
+            down 1 0: moved
+            serve 0: served 3
+            down 1 0, down 0 0, down 0 0, down 0 2, down 0 2: moved
+            turn 0: wrote 0x10000 0x00B6252F 0
+            turn 1: wrote 0x10000 0x00B6252F 5
+            turn 2: wrote 0x10000 0x00B6252F 1
+            turn 3: wrote 0x10000 0x00B6252F 7
+            word 0: is 15",
+        ],
+        order: "turn 0, turn 2, turn 1, turn 3",
+    },
+    Case {
+        name: "a record more is free",
+        machine: "machine 2 4 2 1024",
+        program: &REFERENCES,
+        pokes: &[FOUR_ADDS],
+        calls: &[
+            "
+            turn 0, turn 1, turn 2, turn 3: issued
+            up 0 0, up 1 0, up 0 2: moved
+            up 1 0: combined 0 2
+            up 0 1, up 1 2, up 0 3: moved
+            up 1 2: combined 1 3
+            word 0: is 0
+            serve 0: served 0
+            down 1 0: answered 2
+            serve 0: served 1
+            down 1 0: answered 3
+            down 0 0, down 0 0, down 0 2, down 0 2: moved
+            turn 0: wrote 0x10000 0x00B6252F 0
+            turn 1: wrote 0x10000 0x00B6252F 5
+            turn 2: wrote 0x10000 0x00B6252F 1
+            turn 3: wrote 0x10000 0x00B6252F 7
+            word 0: is 15",
+        ],
+        order: "turn 0, turn 2, turn 1, turn 3",
+    },
+    // A reply that splits needs two places: where one is free it stays.
+    Case {
+        name: "two places are needed",
+        machine: "machine 3 2 1 1024",
+        program: &REFERENCES,
+        pokes: &[
+            "
+                poke 0 11 1, poke 0 12 0x80000000, poke 2 11 2, poke 2 12 0x80000000, poke 4 11 4,
+                poke 4 12 0x80000004",
+        ],
+        calls: &[
+            "
+            turn 0, turn 2, turn 4: issued
+            up 0 4, up 1 0, up 2 0: moved
+            serve 1: served 4
+            down 2 1, up 0 0, up 1 0, up 2 0, up 0 2, up 1 4: moved
+            up 2 0: combined 0 2
+            serve 0: served 0
+            down 2 0: stalled
+            down 1 0: moved
+            down 2 0: answered 2
+            word 0: is 3
+            word 1: is 4",
+        ],
+        order: "turn 4, turn 0, turn 2",
+    },
+    // Neither store undoes the other.
+    Case {
+        name: "two stores of bytes to one word",
+        machine: "machine 2 4 4 1024",
+        program: &REFERENCES,
+        pokes: &[
+            "word 0 0x11223344",
+            "
+                poke 0 11 0xAA, poke 0 12 0x80000000, poke 0 32 0x1000C, poke 2 11 0xBB,
+                poke 2 12 0x80000000, poke 2 32 0x10010",
+        ],
+        calls: &[
+            "
+            turn 0, turn 2: issued
+            up 0 0: moved
+            up 0 2: combined 0 2
+            up 1 0: moved
+            serve 0: served 0
+            down 1 0: moved
+            down 0 0: answered 2
+            turn 0: retired 0x1000C 0x00B60023
+            turn 2: retired 0x10010 0x00B601A3
+            word 0: is 0xBB2233AA",
+        ],
+        order: "turn 0, turn 2",
+    },
+    // Without records each request is served by itself.
+    Case {
+        name: "no combining",
+        machine: "machine 2 4 0 1024",
+        program: &REFERENCES,
+        pokes: &["word 0 10", FOUR_ADDS],
+        calls: &[
+            "
+            turn 0, turn 1, turn 2, turn 3: issued
+            up 0 0, up 0 2, up 0 1, up 0 3, up 1 0, up 1 2, up 1 0, up 1 2: moved
+            serve 0: served 0
+            down 1 0: moved
+            serve 0: served 1
+            down 1 0: moved
+            serve 0: served 2
+            down 1 0: moved
+            serve 0: served 3
+            down 1 0, down 0 0, down 0 0, down 0 2, down 0 2: moved
+            turn 0: wrote 0x10000 0x00B6252F 10
+            turn 1: wrote 0x10000 0x00B6252F 11
+            turn 2: wrote 0x10000 0x00B6252F 13
+            turn 3: wrote 0x10000 0x00B6252F 17
+            word 0: is 25",
+        ],
+        order: "turn 0, turn 1, turn 2, turn 3",
+    },
+    // A queue of two places takes no third request.
+    Case {
+        name: "the queue is full",
+        machine: "machine 2 2 0 1024",
+        program: &REFERENCES,
+        pokes: &["word 0 10", FOUR_ADDS],
+        calls: &[
+            "
+            turn 0, turn 1, turn 2, turn 3: issued
+            up 0 0, up 0 2, up 0 1, up 0 3, up 1 0, up 1 2: moved
+            up 1 0: stalled
+            serve 0: served 0
+            up 1 0: moved",
+        ],
+        order: "turn 0",
+    },
+    // Both processors of a machine of one stage combine at its one switch.
+    Case {
+        name: "one stage",
+        machine: "machine 1 4 4 1024",
+        program: &REFERENCES,
+        pokes: &[
+            "word 0 1",
+            "poke 0 11 2, poke 0 12 0x80000000, poke 1 11 3, poke 1 12 0x80000000",
+        ],
+        calls: &[
+            "
+            turn 1, turn 0: issued
+            up 0 1: moved
+            up 0 0: combined 1 0
+            serve 0: served 1
+            down 0 0: answered 0
+            turn 0: wrote 0x10000 0x00B6252F 4
+            turn 1: wrote 0x10000 0x00B6252F 1
+            word 0: is 6",
+        ],
+        order: "turn 1, turn 0",
+    },
+];

@@ -1,38 +1,45 @@
 //! Which machines there are, and what their readers answer at the ends of what they number.
 
-use super::{A1, CODE, FOUR, image_of, layout_of, machine_of, poke_word, register};
+use super::cases::{Case, check};
+use super::{REFERENCES, image_of, layout_of};
 use elf_image::Image;
-use flat_machine::{Config, Fault, Poke, Status};
+use flat_machine::Config;
 use machine_steps::{Machine, NewError};
-use std::alloc::AllocGlobal;
+use std::alloc::{AllocError, AllocGlobal, Global};
 use std::process::Abort;
 use std::test::Fail;
-use steps::{Outcome, Step};
 
 /// The image of most tests, read for machines with so many shared words.
 fn image(rt: &(impl Abort + AllocGlobal), shared_words: u32) -> Result<Image, Fail> {
-    let layout = layout_of(rt.alloc(), &CODE, &[], &[])?;
+    let layout = layout_of(rt.alloc(), &REFERENCES)?;
     let config = Config {
+        k: 2,
+        c: 4,
+        b: 4,
         shared_words,
-        ..FOUR
     };
     image_of(rt, &layout, &config)
 }
 
-/// Each number of a configuration at its limits, and one past them.
+/// Each number of a configuration at its limits, and one past them; and an image that was read for another number of shared
+/// words than the configuration's.
 #[test]
 fn limits_of_a_machine(rt: HostRuntime) -> Result<(), Fail> {
-    for (k, c, b, shared_words, is_within) in [
-        (0, 2, 0, 1, true),
-        (6, 16, 16, 262_144, true),
-        (7, 2, 0, 1, false),
-        (255, 2, 0, 1, false),
-        (0, 1, 0, 1, false),
-        (0, 0, 0, 1, false),
-        (0, 17, 0, 1, false),
-        (0, 2, 17, 1, false),
-        (0, 2, 0, 0, false),
-        (0, 2, 0, 262_145, false),
+    for (k, c, b, shared_words, read_for, refusal) in [
+        (0, 2, 0, 1, 1, None),
+        (6, 16, 16, 262_144, 262_144, None),
+        (7, 2, 0, 1, 1, Some(NewError::Config)),
+        (255, 2, 0, 1, 1, Some(NewError::Config)),
+        (0, 1, 0, 1, 1, Some(NewError::Config)),
+        (0, 0, 0, 1, 1, Some(NewError::Config)),
+        (0, 17, 0, 1, 1, Some(NewError::Config)),
+        (0, 2, 17, 1, 1, Some(NewError::Config)),
+        (0, 2, 0, 0, 0, Some(NewError::Config)),
+        (0, 2, 0, 262_145, 262_145, Some(NewError::Config)),
+        (2, 4, 4, 1024, 1024, None),
+        (2, 4, 4, 1024, 1023, Some(NewError::Config)),
+        (2, 4, 4, 1024, 1025, Some(NewError::Config)),
+        (2, 4, 4, 1, 1024, Some(NewError::Config)),
     ] {
         let config = Config {
             k,
@@ -40,143 +47,124 @@ fn limits_of_a_machine(rt: HostRuntime) -> Result<(), Fail> {
             b,
             shared_words,
         };
-        let made = Machine::new(rt.alloc(), image(&rt, shared_words)?, config);
-        match made {
-            Ok(machine) => {
-                assert!(rt; is_within, "{config:?}");
-                assert_eq!(rt; machine.config(), config);
-                assert!(rt; machine.is_idle());
-            }
-            Err(error) => {
-                assert!(rt; !is_within, "{config:?}");
-                assert_eq!(rt; error, NewError::Config, "{config:?}");
-            }
-        }
+        let found = refusal_of(&rt, config, read_for)?;
+        assert_eq!(rt; found, refusal, "{config:?} {read_for}");
     }
     Ok(())
 }
 
-/// An image is for machines with as many shared words as it was read for.
-#[test]
-fn image_for_another_machine(rt: HostRuntime) -> Result<(), Fail> {
-    for (read_for, shared_words, refusal) in [
-        (1024, 1024, None),
-        (1023, 1024, Some(NewError::Config)),
-        (1025, 1024, Some(NewError::Config)),
-        (1024, 1, Some(NewError::Config)),
-    ] {
-        let config = Config {
-            shared_words,
-            ..FOUR
-        };
-        let made = Machine::new(rt.alloc(), image(&rt, read_for)?, config);
-        assert_eq!(rt; made.err(), refusal, "{read_for} {shared_words}");
+/// The refusal of a machine of this size on an image that was read for so many shared words. One that is not refused is
+/// idle, and of this size.
+fn refusal_of(
+    rt: &(impl Abort + AllocGlobal),
+    config: Config,
+    read_for: u32,
+) -> Result<Option<NewError>, Fail> {
+    let image = image(rt, read_for)?;
+    match Machine::new(rt.alloc(), image, config) {
+        Ok(machine) => {
+            expect_idle(rt, &machine, config);
+            Ok(None)
+        }
+        Err(error) => Ok(Some(error)),
     }
-    Ok(())
+}
+
+fn expect_idle(rt: &impl Abort, machine: &Machine, config: Config) {
+    assert_eq!(rt; machine.config(), config);
+    assert!(rt; machine.is_idle());
 }
 
 /// The codes that refusals are told by.
 #[test]
 fn codes_of_refusals(rt: HostRuntime) -> Result<(), Fail> {
-    for (error, text) in [(NewError::Config, "K1"), (NewError::Memory, "K2")] {
-        assert_eq!(rt; format!(in rt.alloc(); "{error}")?.as_str(), text);
-    }
+    let code = text_of(rt.alloc(), NewError::Config)?;
+    assert_eq!(rt; code.as_str(), "K1");
+    let code = text_of(rt.alloc(), NewError::Memory)?;
+    assert_eq!(rt; code.as_str(), "K2");
     Ok(())
 }
 
-/// A machine has four processors, numbered from 0, with 32 registers each.
-#[test]
-fn processors_and_registers(rt: HostRuntime) -> Result<(), Fail> {
-    let mut machine = machine_of(&rt, &CODE, FOUR)?;
-    for (p, value) in [(0, 5), (1, 6), (2, 7), (3, 8)] {
-        assert_eq!(rt; machine.apply(register(p, A1, value)), Outcome::Poked);
-    }
-    // The address of processor 2's word is 0, in no region.
-    assert_eq!(rt; machine.apply(register(2, 32, 0x0001_0004)), Outcome::Poked);
-    machine.apply(Step::Turn(2));
-    let runs = Some(Status::Running);
-    let stopped = Some(Status::Faulted(Fault::NoRegion));
-    for (p, pc, status, a1) in [
-        (0, Some(0x0001_0000), runs, Some(5)),
-        (1, Some(0x0001_0000), runs, Some(6)),
-        (2, Some(0x0001_0004), stopped, Some(7)),
-        (3, Some(0x0001_0000), runs, Some(8)),
-        (4, None, None, None),
-        (63, None, None, None),
-        (64, None, None, None),
-        (255, None, None, None),
-    ] {
-        assert_eq!(rt; machine.pc(p), pc, "{p}");
-        assert_eq!(rt; machine.status(p), status, "{p}");
-        assert_eq!(rt; machine.reg(p, A1), a1, "{p}");
-        assert_eq!(rt; machine.reg(p, 0), a1.map(|_| 0), "{p}");
-        assert_eq!(rt; machine.reg(p, 31), a1.map(|_| 0), "{p}");
-        assert_eq!(rt; machine.reg(p, 32), None, "{p}");
-        assert_eq!(rt; machine.reg(p, 255), None, "{p}");
-    }
-    Ok(())
+fn text_of(alloc: Global, error: NewError) -> Result<String, AllocError> {
+    Ok(format!(in alloc; "{error}")?)
 }
 
-/// Local bytes are each processor's own, from 0x00020000 to 0x0002FFFF.
 #[test]
-fn local_bytes(rt: HostRuntime) -> Result<(), Fail> {
-    let mut machine = machine_of(&rt, &CODE, FOUR)?;
-    for (processor, address, value) in [
-        (0, 0x0002_0000, 1),
-        (1, 0x0002_0000, 2),
-        (3, 0x0002_FFFF, 3),
-    ] {
-        let poke = Poke::Local {
-            processor,
-            address,
-            value,
-        };
-        assert_eq!(rt; machine.apply(Step::Poke(poke)), Outcome::Poked);
-    }
-    for (p, address, byte) in [
-        (0, 0x0002_0000, Some(1)),
-        (0, 0x0002_0001, Some(0)),
-        (1, 0x0002_0000, Some(2)),
-        (2, 0x0002_0000, Some(0)),
-        (2, 0x0002_FFFF, Some(0)),
-        (3, 0x0002_FFFF, Some(3)),
-        (4, 0x0002_0000, None),
-        (64, 0x0002_0000, None),
-        (0, 0x0001_FFFF, None),
-        (0, 0x0003_0000, None),
-        (0, 0, None),
-        (0, 0x8000_0000, None),
-        (0, 0xFFFF_FFFF, None),
-    ] {
-        assert_eq!(rt; machine.byte(p, address), byte, "{p} {address:x}");
-    }
-    Ok(())
+fn readers_at_their_ends(rt: HostRuntime) -> Result<(), Fail> {
+    check(&rt, &CASES)
 }
 
-/// Shared words go round the modules, and there are as many as the configuration says.
-#[test]
-fn shared_words(rt: HostRuntime) -> Result<(), Fail> {
-    let config = Config {
-        shared_words: 6,
-        ..FOUR
-    };
-    let mut machine = machine_of(&rt, &CODE, config)?;
-    for number in 0..6u8 {
-        poke_word(&rt, &mut machine, number, 0x1122_3300 + u32::from(number));
-    }
-    for (number, word) in [
-        (0, Some(0x1122_3300)),
-        (1, Some(0x1122_3301)),
-        (3, Some(0x1122_3303)),
-        (4, Some(0x1122_3304)),
-        (5, Some(0x1122_3305)),
-        // There is room for these in the modules.
-        (6, None),
-        (7, None),
-        (8, None),
-        (0xFFFF_FFFF, None),
-    ] {
-        assert_eq!(rt; machine.word(number), word, "{number}");
-    }
-    Ok(())
-}
+static CASES: [Case; 3] = [
+    // A machine has four processors, numbered from 0, with 32 registers each. The address of processor 2's word is 0, in no
+    // region.
+    Case {
+        name: "processors and registers",
+        machine: "machine 2 4 4 1024",
+        program: &REFERENCES,
+        pokes: &["poke 0 11 5, poke 1 11 6, poke 2 11 7, poke 3 11 8, poke 2 32 0x10004"],
+        calls: &[
+            "
+            turn 2: faulted 5
+            pc 0, pc 1: is 0x10000
+            pc 2: is 0x10004
+            pc 3: is 0x10000
+            pc 4, pc 63, pc 64, pc 255: none
+            status 0, status 1: running
+            status 2: faulted 5
+            status 3: running
+            status 4, status 63, status 64, status 255: none
+            register 0 11: is 5
+            register 1 11: is 6
+            register 2 11: is 7
+            register 3 11: is 8
+            register 4 11, register 63 11, register 64 11, register 255 11: none
+            register 0 0, register 1 0, register 2 0, register 3 0: is 0
+            register 4 0, register 63 0, register 64 0, register 255 0: none
+            register 0 31, register 1 31, register 2 31, register 3 31: is 0
+            register 4 31, register 63 31, register 64 31, register 255 31, register 0 32, register 1 32: none
+            register 2 32, register 3 32, register 4 32, register 63 32, register 64 32, register 255 32: none
+            register 0 255, register 1 255, register 2 255, register 3 255, register 4 255, register 63 255: none
+            register 64 255, register 255 255: none",
+        ],
+        order: "turn 2",
+    },
+    // Local bytes are each processor's own, from 0x00020000 to 0x0002FFFF.
+    Case {
+        name: "local bytes",
+        machine: "machine 2 4 4 1024",
+        program: &REFERENCES,
+        pokes: &[],
+        calls: &[
+            "
+            poke_local 0 0x20000 1, poke_local 1 0x20000 2, poke_local 3 0x2FFFF 3: poked
+            byte 0 0x20000: is 1
+            byte 0 0x20001: is 0
+            byte 1 0x20000: is 2
+            byte 2 0x20000, byte 2 0x2FFFF: is 0
+            byte 3 0x2FFFF: is 3
+            byte 4 0x20000, byte 64 0x20000, byte 0 0x1FFFF, byte 0 0x30000, byte 0 0, byte 0 0x80000000: none
+            byte 0 0xFFFFFFFF: none",
+        ],
+        order: "poke_local 0 0x20000 1, poke_local 1 0x20000 2, poke_local 3 0x2FFFF 3",
+    },
+    // Shared words go round the modules, and there are as many as the configuration says. There is room for two more in the
+    // modules.
+    Case {
+        name: "shared words",
+        machine: "machine 2 4 4 6",
+        program: &REFERENCES,
+        pokes: &[
+            "word 0 0x11223300, word 1 0x11223301, word 2 0x11223302, word 3 0x11223303, word 4 0x11223304, word 5 0x11223305",
+        ],
+        calls: &[
+            "
+            word 0: is 0x11223300
+            word 1: is 0x11223301
+            word 3: is 0x11223303
+            word 4: is 0x11223304
+            word 5: is 0x11223305
+            word 6, word 7, word 8, word 0xFFFFFFFF: none",
+        ],
+        order: "",
+    },
+];

@@ -1,141 +1,196 @@
 //! What machines open with.
 
-use super::{FOUR, image_of, layout_of, machine_of};
-use flat_machine::{Config, Retired, Status};
+use super::cases::{Case, check};
+use super::{Program, machine_of};
+use flat_machine::{CODE_START, Config};
 use machine_steps::Machine;
-use rv_table::{Immediate, ImmediateOp, Insn, Register};
+use std::process::Abort;
 use std::test::Fail;
 use steps::{Outcome, Step};
 
-/// Each processor stands at the entry and runs, with registers of zero and the local bytes of the
-/// image in a memory of its own; the shared bytes of the image are in the words, the lowest first.
 #[test]
-fn opening_of_an_image(rt: HostRuntime) -> Result<(), Fail> {
-    let mut layout = layout_of(rt.alloc(), &[0x0000_0073; 3], &[7, 8], &[1, 2, 3, 4, 5])?;
-    layout.entry = 0x0001_0008;
-    let image = image_of(&rt, &layout, &FOUR)?;
-    let machine = Machine::new(rt.alloc(), image, FOUR)?;
-    assert_eq!(rt; machine.config(), FOUR);
-    assert_eq!(rt; machine.image().layout().entry, 0x0001_0008);
-    assert_eq!(rt; machine.image().shared_words(), 1024);
-    assert!(rt; machine.is_idle());
-    for p in 0..4u8 {
-        assert_eq!(rt; machine.pc(p), Some(0x0001_0008), "{p}");
-        assert_eq!(rt; machine.status(p), Some(Status::Running), "{p}");
-        for register in 0..32u8 {
-            assert_eq!(rt; machine.reg(p, register), Some(0), "{p} {register}");
-        }
-        for (address, byte) in [(0x0002_0000, 7), (0x0002_0001, 8), (0x0002_0002, 0)] {
-            assert_eq!(rt; machine.byte(p, address), Some(byte), "{p} {address:x}");
-        }
-    }
-    for (number, word) in [(0, 0x0403_0201), (1, 5), (2, 0), (1023, 0)] {
-        assert_eq!(rt; machine.word(number), Some(word), "{number}");
-    }
-    Ok(())
+fn machines_open(rt: HostRuntime) -> Result<(), Fail> {
+    check(&rt, &CASES)
 }
 
-/// What a processor stores in local memory no other sees.
-#[test]
-fn local_memories_are_apart(rt: HostRuntime) -> Result<(), Fail> {
-    // lui x1, 0x20; addi x2, x0, 5; sb x2, 1(x1)
-    let words = [0x0002_00B7, 0x0050_0113, 0x0020_80A3];
-    let layout = layout_of(rt.alloc(), &words, &[7, 8], &[])?;
-    let image = image_of(&rt, &layout, &FOUR)?;
-    let mut machine = Machine::new(rt.alloc(), image, FOUR)?;
-    for pc in [0x0001_0000, 0x0001_0004, 0x0001_0008] {
-        match machine.apply(Step::Turn(1)) {
-            Outcome::Retired(retired) => assert_eq!(rt; retired.pc, pc),
-            outcome => assert!(rt; false, "{pc:x}: {outcome:?}"),
-        }
-    }
-    assert!(rt; machine.is_idle());
-    for (p, byte) in [(0, 8), (1, 5), (2, 8), (3, 8)] {
-        assert_eq!(rt; machine.byte(p, 0x0002_0000), Some(7), "{p}");
-        assert_eq!(rt; machine.byte(p, 0x0002_0001), Some(byte), "{p}");
-    }
-    Ok(())
-}
+/// A store into local memory.
+const LOCAL_STORE: Program<'static> = Program {
+    entry: CODE_START,
+    code: &[
+        0x0002_00B7, // lui x1, 0x20
+        0x0050_0113, // addi x2, x0, 5
+        0x0020_80A3, // sb x2, 1(x1)
+    ],
+    local: &[7, 8],
+    shared: &[],
+};
 
-/// A machine of one processor has no stage: its requests stand at the module, and its replies at
-/// the processor.
-#[test]
-fn one_processor(rt: HostRuntime) -> Result<(), Fail> {
-    // lui x1, 0x80000; addi x2, x0, 5; sw x2, 4(x1); lw x3, 4(x1)
-    let words = [0x8000_00B7, 0x0050_0113, 0x0020_A223, 0x0040_A183];
-    let config = Config {
-        k: 0,
-        c: 2,
-        b: 0,
-        shared_words: 2,
-    };
-    let mut machine = machine_of(&rt, &words, config)?;
-    assert_eq!(rt; machine.pc(1), None);
-    assert_eq!(rt; machine.word(2), None);
-    machine.apply(Step::Turn(0));
-    let retired = Retired {
-        pc: 0x0001_0004,
-        insn: Insn::OpImm {
-            op: ImmediateOp::Addi,
-            rd: Register::new(2),
-            rs1: Register::new(0),
-            imm: Immediate::new(5),
+/// A store into shared memory, and a load of what it stored.
+const STORE_AND_LOAD: Program<'static> = Program {
+    entry: CODE_START,
+    code: &[
+        0x8000_00B7, // lui x1, 0x80000
+        0x0050_0113, // addi x2, x0, 5
+        0x0020_A223, // sw x2, 4(x1)
+        0x0040_A183, // lw x3, 4(x1)
+    ],
+    local: &[],
+    shared: &[],
+};
+
+const MOVES_AT_0: &str = "
+    up 0 0, down 0 0: stalled
+";
+
+static CASES: [Case; 3] = [
+    // Each processor stands at the entry and runs, with registers of zero and the local bytes of the image in a memory of
+    // its own; the shared bytes of the image are in the words, the lowest first.
+    Case {
+        name: "the opening of an image",
+        machine: "machine 2 4 4 1024",
+        program: &Program {
+            entry: 0x0001_0008,
+            code: &[0x0000_0073, 0x0000_0073, 0x0000_0073],
+            local: &[7, 8],
+            shared: &[1, 2, 3, 4, 5],
         },
-        result: Some(5),
-        out: None,
-    };
-    assert_eq!(rt; machine.apply(Step::Turn(0)), Outcome::Retired(retired));
-    for result in [None, Some(5)] {
-        assert_eq!(rt; machine.apply(Step::Serve(0)), Outcome::Stalled);
-        assert_eq!(rt; machine.apply(Step::Turn(0)), Outcome::Issued);
-        assert_eq!(rt; machine.apply(Step::Turn(0)), Outcome::Stalled);
-        for step in [
-            Step::Up { stage: 0, wire: 0 },
-            Step::Down { stage: 0, wire: 0 },
-        ] {
-            assert_eq!(rt; machine.apply(step), Outcome::Stalled, "{step:?}");
-        }
-        assert_eq!(rt;
-            machine.apply(Step::Serve(0)),
-            Outcome::Served { leader: 0 }
-        );
-        assert!(rt; !machine.is_idle());
-        match machine.apply(Step::Turn(0)) {
-            Outcome::Retired(retired) => assert_eq!(rt; retired.result, result),
-            outcome => assert!(rt; false, "{outcome:?}"),
-        }
-        assert!(rt; machine.is_idle());
-    }
-    assert_eq!(rt; machine.word(1), Some(5));
-    assert_eq!(rt; machine.word(0), Some(0));
-    Ok(())
-}
+        pokes: &[],
+        calls: &[
+            "
+            idle: yes
+            pc 0, pc 1, pc 2, pc 3: is 0x10008
+            status 0, status 1, status 2, status 3: running
+            blank 0, blank 1, blank 2, blank 3: yes
+            byte 0 0x20000: is 7
+            byte 0 0x20001: is 8
+            byte 0 0x20002: is 0
+            byte 1 0x20000: is 7
+            byte 1 0x20001: is 8
+            byte 1 0x20002: is 0
+            byte 2 0x20000: is 7
+            byte 2 0x20001: is 8
+            byte 2 0x20002: is 0
+            byte 3 0x20000: is 7
+            byte 3 0x20001: is 8
+            byte 3 0x20002: is 0
+            word 0: is 0x04030201
+            word 1: is 5
+            word 2, word 1023: is 0",
+        ],
+        order: "",
+    },
+    // What a processor stores in local memory no other sees.
+    Case {
+        name: "local memories are apart",
+        machine: "machine 2 4 4 1024",
+        program: &LOCAL_STORE,
+        pokes: &[],
+        calls: &[
+            "
+            turn 1: wrote 0x10000 0x000200B7 0x20000
+            turn 1: wrote 0x10004 0x00500113 5
+            turn 1: retired 0x10008 0x002080A3
+            idle: yes
+            byte 0 0x20000: is 7
+            byte 0 0x20001: is 8
+            byte 1 0x20000: is 7
+            byte 1 0x20001: is 5
+            byte 2 0x20000: is 7
+            byte 2 0x20001: is 8
+            byte 3 0x20000: is 7
+            byte 3 0x20001: is 8",
+        ],
+        order: "turn 1, turn 1, turn 1",
+    },
+    // A machine of one processor has no stage: its requests stand at the module, and its replies at the processor.
+    Case {
+        name: "one processor",
+        machine: "machine 0 2 0 2",
+        program: &STORE_AND_LOAD,
+        pokes: &[],
+        calls: &[
+            "
+            pc 1, word 2: none
+            turn 0: wrote 0x10000 0x800000B7 0x80000000
+            turn 0: wrote 0x10004 0x00500113 5
+            serve 0: stalled
+            turn 0: issued
+            turn 0: stalled",
+            MOVES_AT_0,
+            "
+            serve 0: served 0
+            idle: no
+            turn 0: retired 0x10008 0x0020A223
+            idle: yes
+            serve 0: stalled
+            turn 0: issued
+            turn 0: stalled",
+            MOVES_AT_0,
+            "
+            serve 0: served 0
+            idle: no
+            turn 0: wrote 0x1000C 0x0040A183 5
+            idle: yes
+            word 1: is 5
+            word 0: is 0",
+        ],
+        order: "turn 0, turn 0, turn 0, turn 0",
+    },
+];
+
+/// Each processor adds its number to a word of its own.
+const WORDS_OF_THEIR_OWN: Program<'static> = Program {
+    entry: CODE_START,
+    code: &[
+        0x8000_00B7, // lui x1, 0x80000
+        0x0020_0893, // addi x17, x0, 2
+        0x0000_0073, // ecall (its number, into x10)
+        0x0025_1593, // slli x11, x10, 2
+        0x00B0_80B3, // add x1, x1, x11
+        0x00A0_A62F, // amoadd.w x12, x10, (x1)
+    ],
+    local: &[],
+    shared: &[],
+};
 
 /// The most processors, the least of all else: each adds to a word of its own, all at once.
 #[test]
 fn largest_machine(rt: HostRuntime) -> Result<(), Fail> {
-    // lui x1, 0x80000; addi x17, x0, 2; ecall (its number, into x10); slli x11, x10, 2;
-    // add x1, x1, x11; amoadd.w x12, x10, (x1)
-    let words = [
-        0x8000_00B7,
-        0x0020_0893,
-        0x0000_0073,
-        0x0025_1593,
-        0x00B0_80B3,
-        0x00A0_A62F,
-    ];
     let config = Config {
         k: 6,
         c: 2,
         b: 0,
         shared_words: 64,
     };
-    let mut machine = machine_of(&rt, &words, config)?;
+    let mut machine = machine_of(&rt, &WORDS_OF_THEIR_OWN, config)?;
     for _ in 0..6 {
-        for p in 0..64u8 {
-            machine.apply(Step::Turn(p));
-        }
+        take_turns(&mut machine);
     }
+    go_there(&rt, &mut machine);
+    come_back(&rt, &mut machine);
+    take_turns(&mut machine);
+    expect_sums(&rt, &machine);
+    Ok(())
+}
+
+/// Each processor takes a turn.
+fn take_turns(machine: &mut Machine) {
+    for p in 0..64u8 {
+        machine.apply(Step::Turn(p));
+    }
+}
+
+/// Each processor has come to its end, and each word has its number.
+fn expect_sums(rt: &impl Abort, machine: &Machine) {
+    for p in 0..64u8 {
+        assert_eq!(rt; machine.pc(p), Some(0x0001_0018), "{p}");
+        assert_eq!(rt; machine.word(u32::from(p)), Some(u32::from(p)));
+    }
+    assert!(rt; machine.is_idle());
+}
+
+/// All requests go to the modules, and are served.
+fn go_there(rt: &impl Abort, machine: &mut Machine) {
     assert!(rt; !machine.is_idle());
     for stage in 0..6u8 {
         for wire in 0..64u8 {
@@ -147,17 +202,14 @@ fn largest_machine(rt: HostRuntime) -> Result<(), Fail> {
         let outcome = machine.apply(Step::Serve(m));
         assert_eq!(rt; outcome, Outcome::Served { leader: m });
     }
+}
+
+/// All replies go to the processors.
+fn come_back(rt: &impl Abort, machine: &mut Machine) {
     for stage in [5, 4, 3, 2, 1, 0] {
         for wire in 0..64u8 {
             let outcome = machine.apply(Step::Down { stage, wire });
             assert_eq!(rt; outcome, Outcome::Moved, "{stage} {wire}");
         }
     }
-    for p in 0..64u8 {
-        machine.apply(Step::Turn(p));
-        assert_eq!(rt; machine.pc(p), Some(0x0001_0018), "{p}");
-        assert_eq!(rt; machine.word(u32::from(p)), Some(u32::from(p)));
-    }
-    assert!(rt; machine.is_idle());
-    Ok(())
 }

@@ -3,12 +3,13 @@
 
 ghost use Rattle.std.specs.Prelude.{◌<◌};
 
+use super::watched::Shown;
 use super::{A1, A2};
 use flat_machine::{CODE_START, Entry, Poke, SHARED_START};
 use std::alloc::{AllocError, Global};
 
 /// What the instructions of the program do. `a2` is the address of a shared word.
-#[derive(Clone, Copy, Debug, PartialEq, Eq, Drop)]
+#[derive(Clone, Copy, Drop)]
 enum Operation {
     Add,
     Swap,
@@ -70,16 +71,8 @@ pub fn program(alloc: Global) -> Result<Vec<u32>, AllocError> {
     Ok(words)
 }
 
-/// An instruction that retired: on which processor, where it stands, and what it wrote to a register.
-#[derive(Clone, Copy, Debug, PartialEq, Eq, Drop)]
-pub struct Shown {
-    pub processor: u8,
-    pub pc: u32,
-    pub result: Option<u32>,
-}
-
 /// What a processor of the plain machine has.
-#[derive(Clone, Copy, Debug, PartialEq, Eq, Drop)]
+#[derive(Clone, Copy, Drop)]
 pub struct Processor {
     pub pc: u32,
     pub a0: u32,

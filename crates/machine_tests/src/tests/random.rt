@@ -1,14 +1,15 @@
 //! Lists of random steps, half of which name no place, on the machine and on a plain one that takes
 //! whole instructions in the serial order that the outcomes tell.
 
-use super::draining::drain_by_steps;
-use super::plain::{Plain, Shown, program};
-use super::{A1, A2, PC, Watched, machine_of, register};
+use super::plain::{Plain, program};
+use super::watched::{Shown, Watched};
+use super::{A0, A1, A2, PC, Program, machine_of, register};
 use flat_machine::{CODE_START, Config, Poke, SHARED_START};
+use machine_steps::Machine;
 use std::alloc::{AllocError, AllocGlobal, Global};
 use std::process::Abort;
 use std::test::Fail;
-use steps::{Outcome, Step};
+use steps::Step;
 
 /// How many lists are run for each configuration, and how many steps each has.
 const LISTS: u32 = 84;
@@ -57,8 +58,8 @@ fn found_step(kind: u8, number: u8, stage: u8, value: u32) -> Step {
             wire: number,
         },
         _ => match value % 3 {
-            0 => register(number, A1, value),
-            1 => register(number, PC, CODE_START + 4 * (value % 18)),
+            0 => Step::Poke(register(number, A1, value)),
+            1 => Step::Poke(register(number, PC, CODE_START + 4 * (value % 18))),
             _ => {
                 let [low, value, _, _] = value.to_le_bytes();
                 let address = SHARED_START + u32::from(low % 16);
@@ -90,86 +91,105 @@ fn lost_step(kind: u8, number: u8, stage: u8, high_stage: u8, wires: u8, value: 
             stage,
             wire: number,
         },
-        _ => register(number, A1, value),
+        _ => Step::Poke(register(number, A1, value)),
     }
 }
 
-/// A machine that runs the program, each processor from another place of it, and the plain one.
-fn opened(
-    rt: &(impl Abort + AllocGlobal),
-    random: &mut Random,
-    config: Config,
-) -> Result<(Watched, Plain), Fail> {
+/// A machine that runs the program.
+fn opened(rt: &(impl Abort + AllocGlobal), config: Config) -> Result<Watched, Fail> {
     let words = program(rt.alloc())?;
-    let machine = machine_of(rt, words.as_slice(), config)?;
-    let mut watched = Watched::new(rt.alloc(), machine);
-    for p in 0..1u8 << (config.k & 3) {
-        for step in [
-            register(p, A1, random.next() >> (random.next() % 32)),
-            register(p, A2, SHARED_START + 8 * (random.next() % 2)),
-            register(p, PC, CODE_START + 4 * (random.next() % 18)),
-        ] {
-            assert_eq!(rt; watched.apply(rt.alloc(), step)?, Outcome::Poked);
-        }
-    }
-    Ok((watched, Plain::new()))
+    let program = Program {
+        entry: CODE_START,
+        code: words.as_slice(),
+        local: &[],
+        shared: &[],
+    };
+    Ok(Watched::new(rt.alloc(), machine_of(rt, &program, config)?))
 }
 
-/// The instructions that retired, those of processor 0 first.
-fn by_processor(alloc: Global, shown: &[Shown]) -> Result<Vec<Shown>, AllocError> {
-    let mut sorted = Vec::new(alloc);
-    for p in 0..8u8 {
-        for one in shown {
-            if one.processor == p {
-                sorted.push(*one)?;
-            }
-        }
+/// Puts each processor at another place of the program, with operands of its own.
+fn place_processors(
+    rt: &(impl Abort + AllocGlobal),
+    watched: &mut Watched,
+    random: &mut Random,
+    k: u8,
+) -> Result<(), Fail> {
+    for p in 0..1u8 << (k & 3) {
+        let a1 = random.next() >> (random.next() % 32);
+        let a2 = SHARED_START + 8 * (random.next() % 2);
+        let pc = CODE_START + 4 * (random.next() % 18);
+        write(rt, watched, register(p, A1, a1))?;
+        write(rt, watched, register(p, A2, a2))?;
+        write(rt, watched, register(p, PC, pc))?;
     }
-    Ok(sorted)
+    Ok(())
 }
 
-/// What retired on the machine.
-fn shown_by(alloc: Global, watched: &Watched) -> Result<Vec<Shown>, AllocError> {
-    let mut shown = Vec::new(alloc);
-    for (processor, retired) in &watched.retired {
-        shown.push(Shown {
-            processor: *processor,
-            pc: retired.pc,
-            result: retired.result,
-        })?;
+/// Writes what a poke writes.
+fn write(rt: &(impl Abort + AllocGlobal), watched: &mut Watched, poke: Poke) -> Result<(), Fail> {
+    assert_eq!(rt; watched.apply(Step::Poke(poke))?.verb, "poked");
+    Ok(())
+}
+
+/// The instructions that retired on a processor.
+fn on_processor(alloc: Global, shown: &[Shown], p: u8) -> Result<Vec<Shown>, AllocError> {
+    let mut found = Vec::new(alloc);
+    for one in shown {
+        if one.processor == p {
+            found.push(*one)?;
+        }
     }
-    Ok(shown)
+    Ok(found)
 }
 
 /// The plain machine takes the serial order. It shows on each processor what the machine has shown,
 /// and then is as the machine.
-fn compare(
-    rt: &(impl Abort + AllocGlobal),
-    watched: &Watched,
-    mut plain: Plain,
-) -> Result<(), Fail> {
+fn compare(rt: &(impl Abort + AllocGlobal), watched: &Watched) -> Result<(), Fail> {
+    let mut plain = Plain::new();
     let mut shown = Vec::new(rt.alloc());
     for entry in &watched.order {
         if let Some(one) = plain.take(*entry) {
             shown.push(one)?;
         }
     }
-    let wanted = by_processor(rt.alloc(), shown.as_slice())?;
-    let found = shown_by(rt.alloc(), watched)?;
-    let found = by_processor(rt.alloc(), found.as_slice())?;
-    assert_eq!(rt; found.as_slice(), wanted.as_slice());
-    let machine = &watched.machine;
+    compare_ends(rt, &watched.machine, &plain);
+    compare_shown(rt, watched.retired.as_slice(), shown.as_slice())
+}
+
+/// The same has retired on each processor, in the same order.
+fn compare_shown(
+    rt: &(impl Abort + AllocGlobal),
+    found: &[Shown],
+    wanted: &[Shown],
+) -> Result<(), Fail> {
+    for p in 0..8u8 {
+        let found = on_processor(rt.alloc(), found, p)?;
+        let wanted = on_processor(rt.alloc(), wanted, p)?;
+        assert_eq!(rt; found.as_slice(), wanted.as_slice(), "{p}");
+    }
+    Ok(())
+}
+
+/// The machine is as the plain one.
+fn compare_ends(rt: &impl Abort, machine: &Machine, plain: &Plain) {
     for p in 0..1u8 << (machine.config().k & 3) {
-        let processor = plain.processors[usize::from(p & 7)];
-        assert_eq!(rt; machine.pc(p), Some(processor.pc), "{p}");
-        assert_eq!(rt; machine.reg(p, 10), Some(processor.a0), "{p}");
-        assert_eq!(rt; machine.reg(p, A1), Some(processor.a1), "{p}");
-        assert_eq!(rt; machine.reg(p, A2), Some(processor.a2), "{p}");
+        let wanted = plain.processors[usize::from(p & 7)];
+        let wanted = [wanted.pc, wanted.a0, wanted.a1, wanted.a2].map(Some);
+        assert_eq!(rt; values_of(machine, p), wanted, "{p}");
     }
     for (number, word) in [0, 1, 2, 3].iter().zip(&plain.words) {
         assert_eq!(rt; machine.word(*number), Some(*word), "{number}");
     }
-    Ok(())
+}
+
+/// What a processor of the machine has of what one of the plain machine has.
+fn values_of(machine: &Machine, p: u8) -> [Option<u32>; 4] {
+    [
+        machine.pc(p),
+        machine.reg(p, A0),
+        machine.reg(p, A1),
+        machine.reg(p, A2),
+    ]
 }
 
 /// Runs one list of random steps, drains the machine, and compares it with the plain one. Tells
@@ -179,18 +199,31 @@ fn run_list(
     random: &mut Random,
     config: Config,
 ) -> Result<bool, Fail> {
-    let (mut watched, plain) = opened(rt, random, config)?;
+    let mut watched = opened(rt, config)?;
+    run_list_on(rt, &mut watched, random, config.k)
+}
+
+fn run_list_on(
+    rt: &(impl Abort + AllocGlobal),
+    watched: &mut Watched,
+    random: &mut Random,
+    k: u8,
+) -> Result<bool, Fail> {
+    place_processors(rt, watched, random, k)?;
+    let has_combined = take_steps(watched, random, k)?;
+    watched.drain_by_steps()?;
+    assert!(rt; watched.machine.is_idle());
+    compare(rt, watched)?;
+    Ok(has_combined)
+}
+
+/// Takes random steps. Tells whether requests were combined.
+fn take_steps(watched: &mut Watched, random: &mut Random, k: u8) -> Result<bool, AllocError> {
     let mut has_combined = false;
     for _ in 0..STEPS {
-        let step = random_step(random, config.k);
-        match watched.apply(rt.alloc(), step)? {
-            Outcome::Combined { .. } => has_combined = true,
-            _ => {}
-        }
+        let step = random_step(random, k);
+        has_combined |= watched.apply(step)?.verb == "combined";
     }
-    drain_by_steps(rt, &mut watched)?;
-    assert!(rt; watched.machine.is_idle());
-    compare(rt, &watched, plain)?;
     Ok(has_combined)
 }
 

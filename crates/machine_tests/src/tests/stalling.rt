@@ -1,286 +1,199 @@
 //! Steps that do nothing: what they meet, and that nothing changes.
 
-use super::{A1, A2, ADD, FOUR, PC, Watched, machine_of, referring, register};
-use flat_machine::{Cause, Config, Fault, Poke, SHARED_START, Status};
-use machine_steps::Machine;
-use std::alloc::AllocGlobal;
-use std::process::Abort;
+use super::cases::{Case, check};
+use super::combining::FOUR_ADDS;
+use super::{Program, REFERENCES};
+use flat_machine::CODE_START;
 use std::test::Fail;
-use steps::{Outcome, Step};
 
-/// What the readers show of a machine's first four processors and of its first words.
-#[derive(Clone, Copy, PartialEq, Eq, Drop)]
-struct Seen {
-    pcs: [Option<u32>; 4],
-    statuses: [Option<Status>; 4],
-    operands: [Option<u32>; 4],
-    results: [Option<u32>; 4],
-    bytes: [Option<u8>; 4],
-    words: [Option<u32>; 4],
-    is_idle: bool,
-}
-
-fn look_at(machine: &Machine) -> Seen {
-    let mut seen = Seen {
-        pcs: [None; 4],
-        statuses: [None; 4],
-        operands: [None; 4],
-        results: [None; 4],
-        bytes: [None; 4],
-        words: [None; 4],
-        is_idle: machine.is_idle(),
-    };
-    for p in 0..4u8 {
-        let place = usize::from(p);
-        seen.pcs[place] = machine.pc(p);
-        seen.statuses[place] = machine.status(p);
-        seen.operands[place] = machine.reg(p, A1);
-        seen.results[place] = machine.reg(p, 10);
-        seen.bytes[place] = machine.byte(p, 0x0002_0000);
-        seen.words[place] = machine.word(u32::from(p));
-    }
-    seen
-}
-
-/// Each of these steps stalls, and leaves all that is seen of the machine.
-fn expect_stalls(rt: &impl Abort, machine: &mut Machine, steps: &[Step]) {
-    let before = look_at(machine);
-    for step in steps {
-        assert_eq!(rt; machine.apply(*step), Outcome::Stalled, "{step:?}");
-        assert!(rt; look_at(machine) == before, "{step:?}");
-    }
-}
-
-fn up(stage: u8, wire: u8) -> Step {
-    Step::Up { stage, wire }
-}
-
-fn down(stage: u8, wire: u8) -> Step {
-    Step::Down { stage, wire }
-}
-
-fn local(processor: u8, address: u32) -> Step {
-    Step::Poke(Poke::Local {
-        processor,
-        address,
-        value: 0xA5,
-    })
-}
-
-fn shared(address: u32) -> Step {
-    Step::Poke(Poke::Shared {
-        address,
-        value: 0xA5,
-    })
-}
-
-/// Four processors that are to add 1, 2, 4 and 8 to the word 10.
-fn four_adds(rt: &(impl Abort + AllocGlobal)) -> Result<Watched, Fail> {
-    let processors = [(0, ADD, 1), (1, ADD, 2), (2, ADD, 4), (3, ADD, 8)];
-    referring(rt, FOUR, 10, &processors)
-}
-
-/// Numbers that name no place of a machine of four processors and two stages, idle or not.
 #[test]
-fn places_that_there_are_not(rt: HostRuntime) -> Result<(), Fail> {
-    let mut machine = four_adds(&rt)?.machine;
-    let steps = [
-        Step::Turn(4),
-        Step::Turn(64),
-        Step::Turn(255),
-        Step::Serve(4),
-        Step::Serve(64),
-        Step::Serve(255),
-        up(2, 0),
-        up(6, 0),
-        up(255, 0),
-        up(0, 4),
-        up(1, 4),
-        up(0, 255),
-        down(2, 0),
-        down(255, 0),
-        down(0, 4),
-        down(1, 4),
-        down(0, 255),
-        register(4, A1, 1),
-        register(255, A1, 1),
-        local(4, 0x0002_0000),
-        local(255, 0x0002_0000),
-    ];
-    expect_stalls(&rt, &mut machine, &steps);
-    for p in 0..4u8 {
-        assert_eq!(rt; machine.apply(Step::Turn(p)), Outcome::Issued);
-    }
-    expect_stalls(&rt, &mut machine, &steps);
-    Ok(())
+fn steps_stall(rt: HostRuntime) -> Result<(), Fail> {
+    check(&rt, &CASES)
 }
 
-/// An idle machine has no message to move.
-#[test]
-fn nothing_to_move(rt: HostRuntime) -> Result<(), Fail> {
-    let mut machine = four_adds(&rt)?.machine;
-    for wire in 0..4u8 {
-        let steps = [
-            up(0, wire),
-            up(1, wire),
-            Step::Serve(wire),
-            down(1, wire),
-            down(0, wire),
-        ];
-        expect_stalls(&rt, &mut machine, &steps);
-    }
-    Ok(())
-}
+/// Numbers that name no place of a machine of four processors and two stages.
+const NO_PLACES: &str = "
+    turn 4, turn 64, turn 255, serve 4, serve 64, serve 255: stalled
+    up 2 0, up 6 0, up 255 0, up 0 4, up 1 4, up 0 255: stalled
+    down 2 0, down 255 0, down 0 4, down 1 4, down 0 255, poke 4 11 1, poke 255 11 1: stalled
+    poke_local 4 0x20000 0xA5, poke_local 255 0x20000 0xA5: stalled
+";
 
-/// One request goes to the module and back. Before each of its moves all others stall, and pokes
-/// stall as long as its reference is open.
-#[test]
-fn one_message_moves(rt: HostRuntime) -> Result<(), Fail> {
-    let mut machine = four_adds(&rt)?.machine;
-    assert_eq!(rt; machine.apply(Step::Turn(3)), Outcome::Issued);
-    // From wire 3 the message goes by switch 1 and wire 2, and then by switch 0 and wire 0.
-    let path = [
-        up(0, 3),
-        up(1, 2),
-        Step::Serve(0),
-        down(1, 0),
-        down(0, 2),
-        Step::Turn(3),
-    ];
-    let others = [
-        up(0, 0),
-        up(0, 1),
-        up(0, 2),
-        up(1, 0),
-        up(1, 1),
-        up(1, 3),
-        Step::Serve(1),
-        Step::Serve(2),
-        Step::Serve(3),
-        down(1, 1),
-        down(1, 2),
-        down(1, 3),
-        down(0, 0),
-        down(0, 1),
-        down(0, 3),
-        register(0, A1, 7),
-        register(3, A1, 7),
-        register(3, PC, ADD),
-        local(0, 0x0002_0000),
-        local(3, 0x0002_0000),
-        shared(SHARED_START),
-        shared(SHARED_START + 8),
-    ];
-    for (number, step) in path.iter().enumerate() {
-        expect_stalls(&rt, &mut machine, &others);
-        for (other_number, other) in path.iter().enumerate() {
-            if other_number != number {
-                expect_stalls(&rt, &mut machine, &[*other]);
-            }
-        }
-        let outcome = machine.apply(*step);
-        assert!(rt; outcome != Outcome::Stalled, "{step:?}");
-    }
-    assert!(rt; machine.is_idle());
-    assert_eq!(rt; machine.word(0), Some(18));
-    assert_eq!(rt; machine.reg(3, 10), Some(10));
-    assert_eq!(rt; machine.pc(3), Some(0x0001_0004));
-    Ok(())
-}
+/// All moves of messages, and all services, of such a machine.
+const ALL_MOVES: &str = "
+    up 0 0, up 1 0, serve 0, down 1 0, down 0 0, up 0 1, up 1 1, serve 1, down 1 1, down 0 1: stalled
+    up 0 2, up 1 2, serve 2, down 1 2, down 0 2, up 0 3, up 1 3, serve 3, down 1 3, down 0 3: stalled
+";
 
-/// A processor that has stopped takes no turn; it can be poked, and stays stopped.
-#[test]
-fn stopped_processors(rt: HostRuntime) -> Result<(), Fail> {
-    for (word, cause, status) in [
-        (0x0000_0073, Cause::Halt(0), Status::Halted(0)),
-        (
-            0x0010_0073,
-            Cause::Fault(Fault::Breakpoint),
-            Status::Faulted(Fault::Breakpoint),
-        ),
-    ] {
-        let mut machine = machine_of(&rt, &[word], FOUR)?;
-        assert_eq!(rt; machine.apply(Step::Turn(1)), Outcome::Stopped(cause));
-        assert!(rt; machine.is_idle());
-        assert_eq!(rt; machine.status(1), Some(status));
-        expect_stalls(&rt, &mut machine, &[Step::Turn(1)]);
-        for poke in [
-            register(1, A1, 5),
-            register(1, PC, 0x0001_0004),
-            local(1, 0x0002_0000),
-        ] {
-            assert_eq!(rt; machine.apply(poke), Outcome::Poked, "{poke:?}");
-        }
-        assert_eq!(rt; machine.reg(1, A1), Some(5));
-        assert_eq!(rt; machine.pc(1), Some(0x0001_0004));
-        assert_eq!(rt; machine.byte(1, 0x0002_0000), Some(0xA5));
-        assert_eq!(rt; machine.status(1), Some(status));
-        expect_stalls(&rt, &mut machine, &[Step::Turn(1)]);
-    }
-    Ok(())
-}
+/// All that is not on the way of a message of processor 3 to module 0, which goes from wire 3 by switch 1 and wire 2, and
+/// then by switch 0 and wire 0; and pokes.
+const OFF_THE_WAY: &str = "
+    up 0 0, up 0 1, up 0 2, up 1 0, up 1 1, up 1 3, serve 1, serve 2, serve 3: stalled
+    down 1 1, down 1 2, down 1 3, down 0 0, down 0 1, down 0 3, poke 0 11 7, poke 3 11 7: stalled
+    poke 3 32 0x10000, poke_local 0 0x20000 0xA5, poke_local 3 0x20000 0xA5: stalled
+    poke_shared 0x80000000 0xA5, poke_shared 0x80000008 0xA5: stalled
+";
 
-/// Pokes of what is no target, on an idle machine.
-#[test]
-fn unlawful_pokes(rt: HostRuntime) -> Result<(), Fail> {
-    let config = Config {
-        shared_words: 6,
-        ..FOUR
-    };
-    let mut machine = referring(&rt, config, 10, &[])?.machine;
-    let steps = [
-        register(0, 0, 1),
-        register(0, PC, 0x0001_0001),
-        register(0, PC, 0x0001_0002),
-        register(0, PC, 0xFFFF_FFFF),
-        register(0, 33, 4),
-        register(0, 255, 4),
-        local(0, 0),
-        local(0, 0x0001_0000),
-        local(0, 0x0001_FFFF),
-        local(0, 0x0003_0000),
-        local(0, SHARED_START),
-        shared(0),
-        shared(0x0001_0000),
-        shared(0x0002_0000),
-        shared(SHARED_START - 1),
-        shared(SHARED_START + 24),
-        shared(0xFFFF_FFFF),
-    ];
-    expect_stalls(&rt, &mut machine, &steps);
-    Ok(())
-}
+/// Pokes of what is no target on a machine of six shared words.
+const NO_TARGETS: &str = "
+    poke 0 0 1, poke 0 32 0x10001, poke 0 32 0x10002, poke 0 32 0xFFFFFFFF, poke 0 33 4: stalled
+    poke 0 255 4, poke_local 0 0 0xA5, poke_local 0 0x10000 0xA5, poke_local 0 0x1FFFF 0xA5: stalled
+    poke_local 0 0x30000 0xA5, poke_local 0 0x80000000 0xA5, poke_shared 0 0xA5: stalled
+    poke_shared 0x10000 0xA5, poke_shared 0x20000 0xA5, poke_shared 0x7FFFFFFF 0xA5: stalled
+    poke_shared 0x80000018 0xA5, poke_shared 0xFFFFFFFF 0xA5: stalled
+";
 
-/// Pokes at the ends of what can be written, and what they write.
-#[test]
-fn lawful_pokes(rt: HostRuntime) -> Result<(), Fail> {
-    let config = Config {
-        shared_words: 6,
-        ..FOUR
-    };
-    let mut machine = referring(&rt, config, 0x1122_3344, &[])?.machine;
-    for step in [
-        register(3, 1, 0xFFFF_FFFF),
-        register(3, 31, 6),
-        register(3, PC, 0xFFFF_FFFC),
-        register(0, A2, 7),
-        local(3, 0x0002_0000),
-        local(3, 0x0002_FFFF),
-        shared(SHARED_START + 2),
-        shared(SHARED_START + 23),
-    ] {
-        assert_eq!(rt; machine.apply(step), Outcome::Poked, "{step:?}");
-    }
-    assert_eq!(rt; machine.reg(3, 1), Some(0xFFFF_FFFF));
-    assert_eq!(rt; machine.reg(3, 31), Some(6));
-    assert_eq!(rt; machine.pc(3), Some(0xFFFF_FFFC));
-    assert_eq!(rt; machine.reg(0, A2), Some(7));
-    assert_eq!(rt; machine.reg(3, A2), Some(0));
-    assert_eq!(rt; machine.byte(3, 0x0002_0000), Some(0xA5));
-    assert_eq!(rt; machine.byte(3, 0x0002_FFFF), Some(0xA5));
-    assert_eq!(rt; machine.byte(3, 0x0002_0001), Some(0));
-    assert_eq!(rt; machine.word(0), Some(0x11A5_3344));
-    assert_eq!(rt; machine.word(5), Some(0xA500_0000));
-    assert_eq!(rt; machine.word(4), Some(0));
-    Ok(())
-}
+const TURN_OF_1: &str = "
+    turn 1: stalled
+";
+
+static CASES: [Case; 7] = [
+    Case {
+        name: "there are no such places",
+        machine: "machine 2 4 4 1024",
+        program: &REFERENCES,
+        pokes: &["word 0 10", FOUR_ADDS],
+        calls: &[
+            NO_PLACES,
+            "
+            turn 0, turn 1, turn 2, turn 3: issued",
+            NO_PLACES,
+        ],
+        order: "",
+    },
+    Case {
+        name: "an idle machine has nothing to move",
+        machine: "machine 2 4 4 1024",
+        program: &REFERENCES,
+        pokes: &["word 0 10", FOUR_ADDS],
+        calls: &[ALL_MOVES],
+        order: "",
+    },
+    // One request goes to the module and back. Before each of its moves all others stall, and pokes stall as long as its
+    // reference is open.
+    Case {
+        name: "one message moves",
+        machine: "machine 2 4 4 1024",
+        program: &REFERENCES,
+        pokes: &["word 0 10", FOUR_ADDS],
+        calls: &[
+            "
+            turn 3: issued",
+            OFF_THE_WAY,
+            "
+            up 1 2, serve 0, down 1 0, down 0 2, turn 3: stalled
+            up 0 3: moved",
+            OFF_THE_WAY,
+            "
+            up 0 3, serve 0, down 1 0, down 0 2, turn 3: stalled
+            up 1 2: moved",
+            OFF_THE_WAY,
+            "
+            up 0 3, up 1 2, down 1 0, down 0 2, turn 3: stalled
+            serve 0: served 3",
+            OFF_THE_WAY,
+            "
+            up 0 3, up 1 2, serve 0, down 0 2, turn 3: stalled
+            down 1 0: moved",
+            OFF_THE_WAY,
+            "
+            up 0 3, up 1 2, serve 0, down 1 0, turn 3: stalled
+            down 0 2: moved",
+            OFF_THE_WAY,
+            "
+            up 0 3, up 1 2, serve 0, down 1 0, down 0 2: stalled
+            turn 3: wrote 0x10000 0x00B6252F 10
+            idle: yes
+            word 0: is 18
+            register 3 10: is 10
+            pc 3: is 0x10004",
+        ],
+        order: "turn 3",
+    },
+    // A processor that has stopped takes no turn; it can be poked, and stays stopped.
+    Case {
+        name: "a processor has halted",
+        machine: "machine 2 4 4 1024",
+        program: &Program {
+            entry: CODE_START,
+            code: &[0x0000_0073], // ecall
+            local: &[],
+            shared: &[],
+        },
+        pokes: &[],
+        calls: &[
+            "
+            turn 1: halted 0
+            idle: yes
+            status 1: halted 0",
+            TURN_OF_1,
+            "
+            poke 1 11 5, poke 1 32 0x10004, poke_local 1 0x20000 0xA5: poked
+            register 1 11: is 5
+            pc 1: is 0x10004
+            byte 1 0x20000: is 0xA5
+            status 1: halted 0",
+            TURN_OF_1,
+        ],
+        order: "turn 1, poke 1 11 5, poke 1 32 0x10004, poke_local 1 0x20000 0xA5",
+    },
+    Case {
+        name: "a fault has stopped a processor",
+        machine: "machine 2 4 4 1024",
+        program: &Program {
+            entry: CODE_START,
+            code: &[0x0010_0073], // ebreak
+            local: &[],
+            shared: &[],
+        },
+        pokes: &[],
+        calls: &[
+            "
+            turn 1: faulted 8
+            idle: yes
+            status 1: faulted 8",
+            TURN_OF_1,
+            "
+            poke 1 11 5, poke 1 32 0x10004, poke_local 1 0x20000 0xA5: poked
+            register 1 11: is 5
+            pc 1: is 0x10004
+            byte 1 0x20000: is 0xA5
+            status 1: faulted 8",
+            TURN_OF_1,
+        ],
+        order: "turn 1, poke 1 11 5, poke 1 32 0x10004, poke_local 1 0x20000 0xA5",
+    },
+    Case {
+        name: "pokes of what is no target",
+        machine: "machine 2 4 4 6",
+        program: &REFERENCES,
+        pokes: &["word 0 10"],
+        calls: &[NO_TARGETS],
+        order: "",
+    },
+    Case {
+        name: "pokes at the ends of what can be written",
+        machine: "machine 2 4 4 6",
+        program: &REFERENCES,
+        pokes: &["word 0 0x11223344"],
+        calls: &[
+            "
+            poke 3 1 0xFFFFFFFF, poke 3 31 6, poke 3 32 0xFFFFFFFC, poke 0 12 7, poke_local 3 0x20000 0xA5: poked
+            poke_local 3 0x2FFFF 0xA5, poke_shared 0x80000002 0xA5, poke_shared 0x80000017 0xA5: poked
+            register 3 1: is 0xFFFFFFFF
+            register 3 31: is 6
+            pc 3: is 0xFFFFFFFC
+            register 0 12: is 7
+            register 3 12: is 0
+            byte 3 0x20000, byte 3 0x2FFFF: is 0xA5
+            byte 3 0x20001: is 0
+            word 0: is 0x11A53344
+            word 5: is 0xA5000000
+            word 4: is 0",
+        ],
+        order: "
+            poke 3 1 0xFFFFFFFF, poke 3 31 6, poke 3 32 0xFFFFFFFC, poke 0 12 7,
+            poke_local 3 0x20000 0xA5, poke_local 3 0x2FFFF 0xA5, poke_shared 0x80000002 0xA5,
+            poke_shared 0x80000017 0xA5",
+    },
+];

@@ -1,71 +1,108 @@
 //! A machine, and what the outcomes of its steps tell: the serial order, and what retired.
 
-use flat_machine::{Entry, Retired};
+ghost use Rattle.std.specs.Prelude.{◌<◌};
+
+use super::words::{Words, outcome_words};
+use flat_machine::Entry;
 use machine_steps::Machine;
 use std::alloc::{AllocError, Global};
-use std::process::Abort;
-use std::test::Fail;
 use steps::{Outcome, Step};
 
-/// A machine whose steps are watched from where no reference was open in it.
+/// An instruction that retired: on which processor, where it stands, and what it wrote to a register.
+#[derive(Clone, Copy, Debug, PartialEq, Eq, Drop)]
+pub struct Shown {
+    pub processor: u8,
+    pub pc: u32,
+    pub result: Option<u32>,
+}
+
+/// A machine of at most eight processors, whose steps are watched from where no reference was open in it.
 #[derive(Drop)]
 pub struct Watched {
     pub machine: Machine,
-    /// The groups of requests that are not served, each with its leader first.
-    groups: Vec<Vec<u8>>,
     /// Whether each processor is open.
-    is_open: [bool; 64],
+    is_open: [bool; 8],
+    /// Of each leader of a group of requests, the last of the group.
+    last: [u8; 8],
+    /// Of each processor of a group but its last, the one that follows.
+    next: [u8; 8],
     /// The serial order so far.
     pub order: Vec<Entry>,
-    /// What has retired so far, and on which processor.
-    pub retired: Vec<(u8, Retired)>,
+    /// What has retired so far.
+    pub retired: Vec<Shown>,
+}
+
+/// The place of a processor.
+fn place(processor: u8) -> usize
+    ensures { result < 8 }
+{
+    usize::from(processor & 7)
 }
 
 impl Watched {
     pub fn new(alloc: Global, machine: Machine) -> Self {
         Watched {
             machine,
-            groups: Vec::new(alloc),
-            is_open: [false; 64],
+            is_open: [false; 8],
+            last: [0; 8],
+            next: [0; 8],
             order: Vec::new(alloc),
             retired: Vec::new(alloc),
         }
     }
 
-    /// Whether a processor has sent a request since it retired an instruction last.
-    pub fn is_open(&self, processor: u8) -> bool {
-        self.is_open[usize::from(processor & 63)]
-    }
-
-    /// Takes a step, and learns from its outcome. Each step has a part of the serial order: a turn
+    /// Takes a step, and learns from its outcome, which it tells. Each step has a part of the serial order: a turn
     /// whose instruction retires at once, or that stops the processor, the processor; a service the
     /// group of its leader; a poke itself; all others nothing.
-    pub fn apply(&mut self, alloc: Global, step: Step) -> Result<Outcome, AllocError> {
+    pub fn apply(&mut self, step: Step) -> Result<Words<'static>, AllocError> {
         let outcome = self.machine.apply(step);
         match step {
-            Step::Turn(p) => self.note_turn(alloc, p, outcome)?,
+            Step::Turn(p) => self.note_turn(p, outcome)?,
             Step::Poke(poke) => {
                 if outcome == Outcome::Poked {
                     self.order.push(Entry::Poke(poke))?;
                 }
             }
-            _ => self.note_move(alloc, outcome)?,
+            _ => self.note_move(outcome)?,
         }
-        Ok(outcome)
+        Ok(outcome_words(outcome))
     }
 
-    fn note_turn(&mut self, alloc: Global, p: u8, outcome: Outcome) -> Result<(), AllocError> {
+    /// Takes a whole instruction, and learns from its outcome, which it tells.
+    pub fn one(&mut self, p: u8) -> Result<Words<'static>, AllocError> {
+        let outcome = self.machine.one(p);
+        match outcome {
+            Outcome::Retired(_) | Outcome::Stopped(_) => self.order.push(Entry::Processor(p))?,
+            _ => {}
+        }
+        Ok(outcome_words(outcome))
+    }
+
+    fn note_move(&mut self, outcome: Outcome) -> Result<(), AllocError> {
+        match outcome {
+            Outcome::Combined { first, second } => self.join(first, second),
+            Outcome::Served { leader } => self.note_service(leader)?,
+            _ => {}
+        }
+        Ok(())
+    }
+
+    fn note_turn(&mut self, p: u8, outcome: Outcome) -> Result<(), AllocError> {
         match outcome {
             Outcome::Issued => {
-                self.is_open[usize::from(p & 63)] = true;
-                self.groups.push(vec![in alloc; p]?)?;
+                self.is_open[place(p)] = true;
+                self.last[place(p)] = p;
             }
             Outcome::Retired(retired) => {
-                if !self.is_open(p) {
+                if !self.is_open[place(p)] {
                     self.order.push(Entry::Processor(p))?;
                 }
-                self.is_open[usize::from(p & 63)] = false;
-                self.retired.push((p, retired))?;
+                self.is_open[place(p)] = false;
+                self.retired.push(Shown {
+                    processor: p,
+                    pc: retired.pc,
+                    result: retired.result,
+                })?;
             }
             Outcome::Stopped(_) => self.order.push(Entry::Processor(p))?,
             _ => {}
@@ -73,69 +110,45 @@ impl Watched {
         Ok(())
     }
 
-    fn note_move(&mut self, alloc: Global, outcome: Outcome) -> Result<(), AllocError> {
-        match outcome {
-            Outcome::Combined { first, second } => {
-                let mut group = self.group(alloc, first);
-                let seconds = self.group(alloc, second);
-                group.extend_from_slice(seconds.as_slice())?;
-                self.groups.push(group)?;
+    /// The group of the second leader follows that of the first.
+    fn join(&mut self, first: u8, second: u8) {
+        self.next[place(self.last[place(first)])] = second;
+        self.last[place(first)] = self.last[place(second)];
+    }
+
+    /// Enters the group of a leader.
+    fn note_service(&mut self, leader: u8) -> Result<(), AllocError> {
+        let last = self.last[place(leader)];
+        let mut p = leader;
+        for _ in 0..8 {
+            self.order.push(Entry::Processor(p))?;
+            if p == last {
+                break;
             }
-            Outcome::Served { leader } => {
-                for p in self.group(alloc, leader) {
-                    self.order.push(Entry::Processor(p))?;
-                }
-            }
-            _ => {}
+            p = self.next[place(p)];
         }
         Ok(())
     }
 
-    /// Takes out the group of a leader. One that leads no group has one without processors.
-    fn group(&mut self, alloc: Global, leader: u8) -> Vec<u8> {
-        for place in 0..self.groups.len() {
-            if self.groups[place].first() == Some(&leader) {
-                return self.groups.swap_remove(place);
+    /// Takes the steps that the machine names until it names none, and gives how many there were.
+    /// Where no step of 10,000 is the last, it gives 10,000.
+    pub fn drain_by_steps(&mut self) -> Result<u32, AllocError> {
+        for moves in 0..10_000u32 {
+            if !self.drain_one()? {
+                return Ok(moves);
             }
         }
-        Vec::new(alloc)
+        Ok(10_000)
     }
 
-    /// Takes these steps, each with the outcome that it is to have.
-    pub fn take(
-        &mut self,
-        rt: &impl Abort,
-        alloc: Global,
-        steps: &[(Step, Outcome)],
-    ) -> Result<(), Fail> {
-        for (number, &(step, wanted)) in steps.iter().enumerate() {
-            let outcome = self.apply(alloc, step)?;
-            assert_eq!(rt; outcome, wanted, "{number}: {step:?}");
-        }
-        Ok(())
-    }
-
-    /// Takes the turn of each of these processors, which is to retire its instruction with this result.
-    pub fn retire(
-        &mut self,
-        rt: &impl Abort,
-        alloc: Global,
-        results: &[(u8, Option<u32>)],
-    ) -> Result<(), Fail> {
-        for &(p, wanted) in results {
-            match self.apply(alloc, Step::Turn(p))? {
-                Outcome::Retired(retired) => assert_eq!(rt; retired.result, wanted, "{p}"),
-                outcome => assert!(rt; false, "{p}: {outcome:?}"),
+    /// Takes the step that the machine names. Tells whether it names one.
+    fn drain_one(&mut self) -> Result<bool, AllocError> {
+        match self.machine.drain_step() {
+            Some(step) => {
+                self.apply(step)?;
+                Ok(true)
             }
-        }
-        Ok(())
-    }
-
-    /// The serial order so far is of these processors.
-    pub fn expect_order(&self, rt: &impl Abort, processors: &[u8]) {
-        assert_eq!(rt; self.order.len(), processors.len());
-        for (entry, p) in self.order.iter().zip(processors) {
-            assert_eq!(rt; *entry, Entry::Processor(*p), "{processors:?}");
+            None => Ok(false),
         }
     }
 }

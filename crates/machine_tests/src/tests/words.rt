@@ -1,0 +1,154 @@
+//! Words of cases: a verb and numbers, decimal ones, or hex digits behind `0x`.
+//!
+//! - Steps: `turn P`, `up S W`, `serve M`, `down S W`, `poke P R V` of register R, or of `pc` as 32, `poke_local P A V`,
+//!   `poke_shared A V`.
+//! - What they do: `issued`, `moved`, `combined FIRST SECOND`, `served LEADER`, `answered TO`, `poked`, `stalled`;
+//!   `wrote A W V` where the instruction at A, whose word is W, has retired and written V to a register, `retired A W`
+//!   where it has written none, `printed A W V` where it has given V to the console; `halted V`, `faulted N`.
+//! - Further calls: `whole P` takes a whole instruction, `drain` drains at once, `drain_by_steps` by the steps that the
+//!   machine names; `next` is the step that a drain takes next.
+//! - Readers: `pc P`, `register P R`, `status P`, `byte P A`, `word I`, `idle`, and `blank P`, whether all registers of a
+//!   processor are 0.
+
+use decode::encode;
+use flat_machine::{Cause, Poke, Retired, Status};
+use std::num::ParseIntError;
+use std::test::Fail;
+use steps::{Outcome, Step};
+
+/// A verb and its numbers, with zeros behind them.
+#[derive(Clone, Copy, Debug, PartialEq, Eq, Drop)]
+pub struct Words<'a> {
+    pub verb: &'a str,
+    pub numbers: [u32; 4],
+}
+
+/// A verb and numbers.
+pub fn said(verb: &str, numbers: [u32; 4]) -> Words<'_> {
+    Words { verb, numbers }
+}
+
+/// Reads a verb and up to four numbers.
+pub fn read_words(text: &str) -> Result<Words<'_>, Fail> {
+    let mut pieces = text.split_whitespace();
+    let verb = pieces.next().unwrap_or("");
+    let a = number_of(pieces.next())?;
+    let b = number_of(pieces.next())?;
+    let c = number_of(pieces.next())?;
+    let d = number_of(pieces.next())?;
+    Ok(said(verb, [a, b, c, d]))
+}
+
+/// The number that is written there. None stands for 0.
+fn number_of(piece: Option<&str>) -> Result<u32, ParseIntError> {
+    let piece = piece.unwrap_or("0");
+    match piece.strip_prefix("0x") {
+        Some(digits) => u32::from_str_radix(digits, 16),
+        None => piece.parse::<u32>(),
+    }
+}
+
+/// The lowest byte of a number.
+pub fn low(number: u32) -> u8 {
+    let [byte, _, _, _] = number.to_le_bytes();
+    byte
+}
+
+/// The step that is asked for.
+pub fn step_of(asked: Words) -> Option<Step> {
+    let [a, b, c, _] = asked.numbers;
+    match asked.verb {
+        "turn" => Some(Step::Turn(low(a))),
+        "up" => Some(Step::Up {
+            stage: low(a),
+            wire: low(b),
+        }),
+        "serve" => Some(Step::Serve(low(a))),
+        "down" => Some(Step::Down {
+            stage: low(a),
+            wire: low(b),
+        }),
+        "poke" => Some(Step::Poke(Poke::Register {
+            processor: low(a),
+            register: low(b),
+            value: c,
+        })),
+        "poke_local" => Some(Step::Poke(Poke::Local {
+            processor: low(a),
+            address: b,
+            value: low(c),
+        })),
+        "poke_shared" => Some(Step::Poke(Poke::Shared {
+            address: a,
+            value: low(b),
+        })),
+        _ => None,
+    }
+}
+
+/// What a step did.
+pub fn outcome_words(outcome: Outcome) -> Words<'static> {
+    match outcome {
+        Outcome::Retired(retired) => retired_words(&retired),
+        Outcome::Issued => said("issued", [0; 4]),
+        Outcome::Stopped(Cause::Halt(byte)) => said("halted", [u32::from(byte), 0, 0, 0]),
+        Outcome::Stopped(Cause::Fault(fault)) => {
+            said("faulted", [u32::from(fault.number()), 0, 0, 0])
+        }
+        Outcome::Moved => said("moved", [0; 4]),
+        Outcome::Combined { first, second } => {
+            said("combined", [u32::from(first), u32::from(second), 0, 0])
+        }
+        Outcome::Served { leader } => said("served", [u32::from(leader), 0, 0, 0]),
+        Outcome::Answered { to } => said("answered", [u32::from(to), 0, 0, 0]),
+        Outcome::Poked => said("poked", [0; 4]),
+        Outcome::Stalled => said("stalled", [0; 4]),
+    }
+}
+
+/// What an instruction that retired tells.
+fn retired_words(retired: &Retired) -> Words<'static> {
+    let word = encode(&retired.insn);
+    match (retired.out, retired.result) {
+        (Some(byte), _) => said("printed", [retired.pc, word, u32::from(byte), 0]),
+        (None, Some(result)) => said("wrote", [retired.pc, word, result, 0]),
+        (None, None) => said("retired", [retired.pc, word, 0, 0]),
+    }
+}
+
+/// A number, or none.
+pub fn number_words(number: Option<u32>) -> Words<'static> {
+    match number {
+        Some(number) => said("is", [number, 0, 0, 0]),
+        None => said("none", [0; 4]),
+    }
+}
+
+/// Whether something is so.
+pub fn truth_words(is_so: bool) -> Words<'static> {
+    said(if is_so { "yes" } else { "no" }, [0; 4])
+}
+
+/// What a processor is doing, or that there is none.
+pub fn status_words(status: Option<Status>) -> Words<'static> {
+    match status {
+        Some(Status::Running) => said("running", [0; 4]),
+        Some(Status::Halted(byte)) => said("halted", [u32::from(byte), 0, 0, 0]),
+        Some(Status::Faulted(fault)) => said("faulted", [u32::from(fault.number()), 0, 0, 0]),
+        None => said("none", [0; 4]),
+    }
+}
+
+/// A step that a drain takes next, which is a turn or a move, or that there is none.
+pub fn next_words(step: Option<Step>) -> Words<'static> {
+    match step {
+        Some(Step::Turn(p)) => said("turn", [u32::from(p), 0, 0, 0]),
+        Some(Step::Up { stage, wire }) => said("up", [u32::from(stage), u32::from(wire), 0, 0]),
+        Some(Step::Serve(m)) => said("serve", [u32::from(m), 0, 0, 0]),
+        Some(Step::Down { stage, wire }) => {
+            said("down", [u32::from(stage), u32::from(wire), 0, 0])
+        }
+        Some(Step::Poke(_)) => said("poke", [0; 4]),
+        None => said("none", [0; 4]),
+    }
+}
