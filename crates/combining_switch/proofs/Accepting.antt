@@ -1,18 +1,17 @@
 -- What an output does with a request, by whether some entry combines with it and by room.
 use Rattle.std.proofs.Common.{◌≡◌, ◌↔◌, ◌⊎◌, inl, inr, ℕ, zero, suc, ◌<◌, ◌≤◌, List, [], ◌∷◌, ◌++◌, length, Option, Some, None, refl, sym, ap, ◌∙◌, arith, Bool, true, false, ◌&&◌, nat_lt, ltb-true, eqb-true, eq-eqb}
-use Rattle.std.specs.Prelude.{slice_get, slice_set, ◌==◌, if◌then◌else◌}
+use Rattle.std.specs.Prelude.{slice_set, ◌==◌, if◌then◌else◌}
 use Rattle.std.proofs.lemmas.Bool.{lt-ltb, ltb-false, le-ltb}
 use Rattle.std.proofs.lemmas.Option.{slice_get_within}
 use Rattle.phi_algebra.specs.declared.phi.Phi.{Phi}
 use Rattle.phi_algebra.specs.Composition.{composed}
 use Rattle.messages.specs.declared.message.Request.{Request}
-use Rattle.messages.specs.declared.message.Record.{Record}
 use Rattle.messages.specs.Queues.{Combination, combination, combined_in, joint, merged, record_of, unmarked}
 use Rattle.combining_switch.specs.declared.answers.Accepted.{Accepted}
 use Rattle.combining_switch.specs.declared.answers.Accepted.TheVariants.{Queued, Combined, Full}
-use Rattle.combining_switch.specs.Outputs.{OutputLists, accepted, accepted_as, most_marks, queued}
+use Rattle.combining_switch.specs.Outputs.{OutputLists, accepted, accepted_as, most_marks}
 use Rattle.combining_switch.specs.Accepting.{CombinesAt, CanCombine, NoneInFront}
-use Rattle.combining_switch.proofs.Combinations.{NoneBefore, combined_at, combined_nowhere, joint_fewer}
+use Rattle.combining_switch.proofs.Combinations.{NoneBefore, combined_at, combined_nowhere}
 
 -- ---- one entry
 
