@@ -1,3 +1,4 @@
 mod Apart
 mod Candidates
+mod Formats
 pub mod Reading
