@@ -1,6 +1,8 @@
 -- What reading and writing do to the bytes that a device tells of.
 use Rattle.std.specs.Prelude.{◌≡◌, ℕ, ◌<◌, ◌≤◌, ◌+◌, List, ◌++◌, length, Option}
 use Rattle.std.specs.Io.KnownBytes.{Appends, Consumes, IsAtEnd}
+use Rattle.link.specs.declared.transfer.ReadError.{ReadError}
+use Rattle.link.specs.declared.transfer.ReadError.TheVariants.{Link, Memory, TooLong}
 use Rattle.link.specs.declared.transfer.TheConstants.{PIECE_BYTES}
 
 -- the known bytes are these, and none is left
@@ -10,6 +12,16 @@ ConsumesAll old new bytes = Consumes old new bytes × IsAtEnd new
 -- the known bytes lose more than limit bytes, by less than a piece
 abbrev pub ConsumesPast : ℕ → Option (List ℕ) → Option (List ℕ) → Type 0
 ConsumesPast limit old new = (bytes : List ℕ) × (limit < length bytes) × (length bytes ≤ limit + PIECE_BYTES) × Consumes old new bytes
+
+-- the known bytes lose limit bytes at most
+abbrev pub ConsumesAtMost : ℕ → Option (List ℕ) → Option (List ℕ) → Type 0
+ConsumesAtMost limit old new = (bytes : List ℕ) × (length bytes ≤ limit) × Consumes old new bytes
+
+-- what a reader has given where reading up to a limit stopped for this reason
+abbrev pub StopsFor : ℕ → Option (List ℕ) → Option (List ℕ) → ReadError → Type 0
+StopsFor limit old new Link = ConsumesAtMost limit old new
+StopsFor limit old new Memory = ConsumesAtMost limit old new
+StopsFor limit old new TooLong = ConsumesPast limit old new
 
 -- the known bytes lose fewer than limit bytes
 abbrev pub ConsumesLess : ℕ → Option (List ℕ) → Option (List ℕ) → Type 0

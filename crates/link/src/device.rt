@@ -1,20 +1,23 @@
 //! What a link is.
 
-ghost use Rattle.std.specs.Prelude.{◌≡◌, ◌<◌, ◌≤◌, Bool, false, ℕ, length, is_err, IfOk};
+ghost use Rattle.std.specs.Prelude.{◌≡◌, ◌<◌, ◌≤◌, Bool, true, ℕ, length, is_err, IfOk};
 ghost use Rattle.std.specs.Io.KnownBytes.{ReadConsumes, WriteAppends};
 
 use std::io::{Read, Write};
+use thiserror::Error;
 
-/// A call on the device failed.
-#[derive(Clone, Copy, Debug, PartialEq, Eq, Drop)]
+/// A call on the device failed, or one has before.
+#[derive(Clone, Copy, Debug, PartialEq, Eq, Drop, Error)]
+#[error("link")]
 pub struct Failed;
 
-/// A device whose failures last.
+/// A device whose failures last: after one, [`LinkRead::receive`] and [`LinkWrite::send`] fail and
+/// change nothing.
 pub trait Link {
     /// Whether a call on the device has failed.
     ghost has_failed: { Self → Bool };
 
-    /// Whether a call on the device has failed. Once true, it stays true.
+    /// Whether a call on the device has failed.
     fn failed(&self) -> bool
         ensures { result ≡ has_failed self.now };
 }
@@ -25,10 +28,11 @@ pub trait LinkRead: Read + Link {
     ///
     /// # Errors
     ///
-    /// [`Failed`] exactly where the link failed in this call. Nothing was taken then.
+    /// [`Failed`] exactly where the link failed in this call, or had failed before. Nothing was taken
+    /// then.
     fn receive(&mut self, buf: &mut [u8]) -> Result<usize, Failed>
-        requires { Self.has_failed self.old ≡ false }
         ensures failed { Self.has_failed self.new ≡ is_err result }
+        ensures ended { Self.has_failed self.old ≡ true → (self.new ≡ self.old) }
         ensures bound { IfOk result (λ count. count ≤ length buf.new) }
         ensures bytes { ReadConsumes (Self.remaining self.old) (Self.remaining self.new) result buf.new };
 }
@@ -39,12 +43,12 @@ pub trait LinkWrite: Write + Link {
     ///
     /// # Errors
     ///
-    /// [`Failed`] exactly where the link failed in this call: a write of no byte is a failure too.
-    /// Nothing was written then.
+    /// [`Failed`] exactly where the link failed in this call, or had failed before: a write of no byte
+    /// is a failure too. Nothing was written then.
     fn send(&mut self, bytes: &[u8]) -> Result<usize, Failed>
-        requires works { Self.has_failed self.old ≡ false }
-        requires some { 0 < length bytes.now }
+        requires { 0 < length bytes.now }
         ensures failed { Self.has_failed self.new ≡ is_err result }
+        ensures ended { Self.has_failed self.old ≡ true → (self.new ≡ self.old) }
         ensures bound { IfOk result (λ count. (0 < count) × (count ≤ length bytes.now)) }
         ensures written { WriteAppends (Self.contents self.old) (Self.contents self.new) result bytes.now };
 }

@@ -16,15 +16,14 @@ use std::io::{ErrorKind, Read, Write};
 pub struct Meter<T> {
     /// The reader or writer.
     pub device: T,
-    /// Whether a call on it has failed.
-    pub has_failed: bool,
+    has_failed: bool,
 }
 
 impl<T> Meter<T> {
     /// The device, of which no call has failed yet.
     pub fn new(device: T) -> Self
         ensures device { result.device ≡ device }
-        ensures works { result.has_failed ≡ false }
+        ensures works { ⟦<Meter<T> as Link>⟧.has_failed result ≡ false }
     {
         Meter {
             device,
@@ -47,8 +46,8 @@ impl<T: Read> Read for Meter<T> {
     fn read(&mut self, buf: &mut [u8]) -> io::Result<usize>
         ensures bound { ReadsAtMost result buf.new }
         ensures bytes { ReadConsumes (T.remaining self.old.device) (T.remaining self.new.device) result buf.new }
-        ensures failed { self.new.has_failed ≡ is_err result }
-        ensures ended { self.old.has_failed ≡ true → (self.new ≡ self.old) }
+        ensures failed { ⟦<Meter<T> as Link>⟧.has_failed self.new ≡ is_err result }
+        ensures ended { ⟦<Meter<T> as Link>⟧.has_failed self.old ≡ true → (self.new ≡ self.old) }
     {
         if self.has_failed {
             return Err(ErrorKind::Other.into());
@@ -74,9 +73,9 @@ impl<T: Write> Write for Meter<T> {
     fn write(&mut self, buf: &[u8]) -> io::Result<usize>
         ensures bound { WritesAtMost result buf.now }
         ensures bytes { WriteAppends (T.contents self.old.device) (T.contents self.new.device) result buf.now }
-        ensures failed { self.new.has_failed ≡ is_err result }
+        ensures failed { ⟦<Meter<T> as Link>⟧.has_failed self.new ≡ is_err result }
         ensures some { IfOk result (λ count. 0 < length buf.now → 0 < count) }
-        ensures ended { self.old.has_failed ≡ true → (self.new ≡ self.old) }
+        ensures ended { ⟦<Meter<T> as Link>⟧.has_failed self.old ≡ true → (self.new ≡ self.old) }
     {
         if self.has_failed {
             return Err(ErrorKind::Other.into());
@@ -96,8 +95,8 @@ impl<T: Write> Write for Meter<T> {
 
     fn flush(&mut self) -> io::Result<()>
         ensures bytes { Keeps (T.contents self.old.device) (T.contents self.new.device) }
-        ensures failed { self.new.has_failed ≡ is_err result }
-        ensures ended { self.old.has_failed ≡ true → (self.new ≡ self.old) }
+        ensures failed { ⟦<Meter<T> as Link>⟧.has_failed self.new ≡ is_err result }
+        ensures ended { ⟦<Meter<T> as Link>⟧.has_failed self.old ≡ true → (self.new ≡ self.old) }
     {
         if self.has_failed {
             return Err(ErrorKind::Other.into());

@@ -77,7 +77,7 @@ impl Write for Sink {
 }
 
 fn metered_sink(rt: &HostRuntime, fails_at: usize, is_quiet: bool) -> Meter<Sink>
-    ensures { result.has_failed ≡ false }
+    ensures { ⟦<Meter<Sink> as Link>⟧.has_failed result ≡ false }
 {
     Meter::new(Sink {
         bytes: Vec::new(rt.alloc()),

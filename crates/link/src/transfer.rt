@@ -1,23 +1,27 @@
 //! Reading all that there is, up to a limit, or a buffer full, and writing a whole text.
 
-ghost use Rattle.std.specs.Prelude.{◌≡◌, ◌≤◌, ◌<◌, ◌+◌, ◌↔◌, ◌^◌, ℕ, ◌++◌, true, false, length, is_err, IfOk, OnOk, OnErr, IsErrOf, List, take};
+ghost use Rattle.std.specs.Prelude.{◌≡◌, ◌≤◌, ◌<◌, ◌↔◌, ◌^◌, true, false, length, is_err, IfOk, IfErr, OnOk, OnErr, IsErrOf, take};
 ghost use Rattle.std.specs.Io.KnownBytes.{Appends, Consumes, IsAtEnd};
-ghost use Rattle.link.specs.Transfer.{AppendsPart, ConsumesAll, ConsumesPast, ConsumesLess};
+ghost use Rattle.link.specs.Transfer.{AppendsPart, ConsumesAll, ConsumesLess, StopsFor};
 
 use crate::device::{Failed, LinkRead, LinkWrite};
 use std::alloc::Global;
+use thiserror::Error;
 
 /// How many bytes are asked for at once.
 pub const PIECE_BYTES: usize = 4096;
 
 /// Why not all was read.
-#[derive(Clone, Copy, Debug, PartialEq, Eq, Drop)]
+#[derive(Clone, Copy, Debug, PartialEq, Eq, Drop, Error)]
 pub enum ReadError {
     /// The link failed.
+    #[error("link")]
     Link,
     /// There was no memory for the bytes.
+    #[error("memory")]
     Memory,
     /// There are more bytes than may be read.
+    #[error("too long")]
     TooLong,
 }
 
@@ -28,7 +32,8 @@ pub enum ReadError {
 ///
 /// [`ReadError::Link`] exactly where the link failed in this call, [`ReadError::TooLong`] only
 /// where there were more than `limit` bytes, of which at most [`PIECE_BYTES`] past the limit were
-/// read, and [`ReadError::Memory`] where there was no memory for the bytes.
+/// read, and [`ReadError::Memory`] where there was no memory for the bytes. The reader has given what
+/// was read: with the first and the last, a beginning of at most `limit` bytes.
 pub fn read_within<R: LinkRead>(
     alloc: Global,
     reader: &mut R,
@@ -39,7 +44,7 @@ pub fn read_within<R: LinkRead>(
     ensures all { IfOk result (λ bytes. ConsumesAll (R.remaining reader.old) (R.remaining reader.new) bytes.items) }
     ensures bound { IfOk result (λ bytes. length bytes.items ≤ limit) }
     ensures link { IsErrOf result ReadError.Link ↔ (R.has_failed reader.new ≡ true) }
-    ensures long { IsErrOf result ReadError.TooLong → ConsumesPast limit (R.remaining reader.old) (R.remaining reader.new) }
+    ensures refused { IfErr result (StopsFor limit (R.remaining reader.old) (R.remaining reader.new)) }
 {
     let mut bytes = Vec::new(alloc);
     let mut piece = [0u8; PIECE_BYTES];
