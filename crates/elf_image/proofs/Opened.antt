@@ -108,7 +108,9 @@ module _ (config : Config) (file : List ℕ) (layout : Layout) (m : IsMeant conf
       subst (λ x. IsByteAt file x (part_of 1 (a % 4) (slice_index (words_of layout.shared config.shared_words) i))) at (subst (IsByteAt file (0x80000000 + (a - 0x80000000))) (sym same) here)
 
   processor : (p : Processor) → opening_processor layout ≡ p → IsOpeningProcessor file p
-  processor p is = subst (IsOpeningProcessor file) is (record { pc = m.entry; registers = refl; zero = zero_of_replicate 32; running = refl; local = local })
+  processor p is =
+      subst (IsOpeningProcessor file) is
+      (record { pc = m.entry; registers = refl; zero = zero_of_replicate 32; running = refl; local_size = length-region_of_bytes layout.local m.local.fits; local = local })
 
 pub opens_on_the_file : (config : Config) (file : List ℕ) (layout : Layout) → IsMeant config.shared_words file layout → ((i : ℕ) → slice_index layout.shared i < 256) → IsOpening file config (opening config layout)
 opens_on_the_file config file layout m small = record {
@@ -116,5 +118,6 @@ opens_on_the_file config file layout m small = record {
   processors = λ k p at. processor config file layout m p (every_one (2 ^ config.k) k (opening_processor layout) p at);
   words = length-map-range_with_len (λ k. number_at layout.shared (4 * k) 4) 0 config.shared_words;
   shared = shared config file layout m small;
+  code_size = length-region_of_bytes layout.code m.code.fits;
   code = code config file layout m;
 }

@@ -1,6 +1,6 @@
 -- Accepted input, and the image that it means.
 use Rattle.std.specs.Prelude.{◌≡◌, ℕ, ◌+◌, ◌-◌, ◌*◌, ◌%◌, ◌<◌, ◌≤◌, Bool, true, List, length, Option, Some, slice_get, slice_index}
-use Rattle.link.specs.Transfer.{ConsumesAll, ConsumesPast}
+use Rattle.link.specs.Transfer.{ConsumesAll, ConsumesAtMost, ConsumesPast}
 use Rattle.flat_machine.specs.Memory.{in_code, in_local, in_shared}
 use Rattle.elf_image.specs.declared.error.ImageError.{ImageError}
 use Rattle.elf_image.specs.declared.error.ImageError.TheVariants as error
@@ -88,10 +88,10 @@ IsCause shared_words file error.Link = ⊥
 IsCause shared_words file error.Memory = Unit {0}
 IsCause shared_words file refusal = refusal_of shared_words file ≡ Some refusal
 
--- Why there is no image: the input is too long; or the link failed, of which another clause speaks; or memory was short;
--- or all that the reader had is refused.
+-- Why there is no image, and what the reader has given: the input is too long; or the link failed, of which another clause
+-- speaks, or memory was short, and a beginning of the input was read; or all that the reader had is refused.
 abbrev pub IsRefused : (shared_words : ℕ) → (old new : Option (List ℕ)) → ImageError → Type 0
 IsRefused shared_words old new error.TooLong = ConsumesPast 1048576 old new
-IsRefused shared_words old new error.Link = Unit {0}
-IsRefused shared_words old new error.Memory = Unit {0}
+IsRefused shared_words old new error.Link = ConsumesAtMost 1048576 old new
+IsRefused shared_words old new error.Memory = ConsumesAtMost 1048576 old new
 IsRefused shared_words old new refusal = (file : List ℕ) × ConsumesAll old new file × IsCause shared_words file refusal

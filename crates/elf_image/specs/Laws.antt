@@ -19,20 +19,22 @@ pub record IsByteAt (file : List ℕ) (address byte : ℕ) : Type 0 where
   pub set : (k : ℕ) (p : ProgramHeader) → slice_get (segments file) k ≡ Some p → Sets p address → byte ≡ byte_of file p address
   pub unset : IsUnset (segments file) address → byte ≡ 0
 
--- A processor opens on the file: it stands at the entry, its registers are zero, and it runs.
+-- A processor opens on the file: it stands at the entry, its registers are zero, and it runs. Its local memory has 2¹⁶ bytes.
 pub record IsOpeningProcessor (file : List ℕ) (p : Processor) : Type 0 where
   pub pc : p.pc ≡ (file_header file).e_entry
   pub registers : length p.registers ≡ 32
   pub zero : (r : ℕ) → slice_index p.registers r ≡ 0
   pub running : p.status ≡ Running
+  pub local_size : length p.local ≡ 2 ^ 16
   pub local : (address : ℕ) → in_local address ≡ true → IsByteAt file address (slice_index p.local (address % 2 ^ 16))
 
--- The flat machine of a configuration opens on the file, address by address.
+-- The flat machine of a configuration opens on the file, address by address. Its code has 2¹⁶ bytes.
 pub record IsOpening (file : List ℕ) (config : Config) (m : FlatState) : Type 0 where
   pub count : length m.processors ≡ 2 ^ config.k
   pub processors : (k : ℕ) (p : Processor) → slice_get m.processors k ≡ Some p → IsOpeningProcessor file p
   pub words : length m.shared ≡ config.shared_words
   pub shared : (address : ℕ) → in_shared config.shared_words address ≡ true → IsByteAt file address (part_of 1 (address % 4) (slice_index m.shared ((address - 2 ^ 31) / 4)))
+  pub code_size : length m.code ≡ 2 ^ 16
   pub code : (address : ℕ) → in_code address ≡ true → IsByteAt file address (slice_index m.code (address % 2 ^ 16))
 
 -- What is wrong with a file that is refused, in terms of its bytes and of addresses.

@@ -29,7 +29,8 @@ pub const MAX_IMAGE_BYTES: usize = 1_048_576;
 /// [`ImageError::UnsupportedHeader`], [`ImageError::Truncated`] of the program headers; for each
 /// segment in order [`ImageError::OutsideInput`] and [`ImageError::OutsideRegions`]; then
 /// [`ImageError::Overlap`], and [`ImageError::Entry`]. [`ImageError::Memory`] may still come where
-/// there is no memory for the image.
+/// there is no memory for the image. With a failed link and want of memory the reader has given a
+/// beginning of its bytes, [`MAX_IMAGE_BYTES`] at most.
 pub fn read_image<R: LinkRead>(
     alloc: Global,
     reader: &mut R,
