@@ -3,6 +3,7 @@ use Rattle.std.proofs.Common.{◌≡◌, ◌≢◌, ℕ, ◌+◌, ◌*◌, ◌/�
 use Rattle.std.proofs.lemmas.List.{nil_from_length, length-take-le}
 use Rattle.std.specs.Io.KnownBytes.{Consumes, IsAtEnd}
 use Rattle.std.proofs.KnownBytes.{Consumes-trans}
+use Rattle.link.specs.Transfer.{ConsumesAtMost}
 use Rattle.steps.specs.declared.step.Step.{Step}
 use Rattle.trace_file.specs.declared.error.TraceError.{TraceError}
 use Rattle.trace_file.specs.declared.error.TraceError.TheVariants as error
@@ -50,7 +51,7 @@ piece_short k old new a b bytes rest n size whole short adds consumed end =
 
 pub piece_wrong : (k : ℕ) (a b : Option (List ℕ)) (bytes : List ℕ) (n : ℕ) (fault : TraceError) → length bytes ≤ n → n % 12 ≡ 0 → n ≤ 4092 → IsNotAdded k bytes fault → Consumes a b bytes →
     IsStopped 4092 k (n / 12) a b fault
-piece_wrong k a b bytes n error.Memory size whole fits wrong consumed = tt
+piece_wrong k a b bytes n error.Memory size whole fits wrong consumed = (bytes, omega arith, consumed)
 piece_wrong k a b bytes n error.Record size whole fits (steps, rest, records, spelled, wrong) consumed =
     let count = length-records_bytes steps in
     let lengths : length bytes ≡ 12 * length steps + length rest = ap length spelled ∙ omega (arith, length-append (records_bytes steps) rest) in
@@ -93,9 +94,16 @@ behind k m n count old mid a b steps rest fault sum p stops = record {
   wrong = stops.wrong;
 }
 
+-- records that were read, and then a part of more of them
+further : (k m n count : ℕ) (old mid : List Step) (a b c : Option (List ℕ)) → m + n ≤ count → AddsRead k m old mid a b → ConsumesAtMost (12 * n) b c → ConsumesAtMost (12 * count) a c
+further k m n count old mid a b c sum p (bytes, few, consumed) =
+    let whole = p.whole in
+    let records = length-records_bytes p.added in
+    (records_bytes p.added ++ bytes, omega (arith, length-append (records_bytes p.added) bytes, few), Consumes-trans a b c _ _ p.consumed consumed)
+
 pub stopped_later : (k m n count : ℕ) (old mid : List Step) (a b c : Option (List ℕ)) (fault : TraceError) → m + n ≤ count → AddsRead k m old mid a b → IsStopped 4092 k n b c fault → IsStopped 4092 k count a c fault
-stopped_later k m n count old mid a b c error.Link sum p q = tt
-stopped_later k m n count old mid a b c error.Memory sum p q = tt
+stopped_later k m n count old mid a b c error.Link sum p q = further k m n count old mid a b c sum p q
+stopped_later k m n count old mid a b c error.Memory sum p q = further k m n count old mid a b c sum p q
 stopped_later k m n count old mid a b c error.Header sum p q = absurd q
 stopped_later k m n count old mid a b c error.Trailing sum p q = absurd q
 stopped_later k m n count old mid a b c error.Truncated sum p (steps, rest, consumed, stops) =

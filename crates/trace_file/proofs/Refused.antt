@@ -3,12 +3,13 @@ use Rattle.std.proofs.Common.{◌≡◌, ◌≢◌, ℕ, ◌+◌, ◌*◌, List,
 use Rattle.std.proofs.lemmas.List.{take_all}
 use Rattle.std.specs.Io.KnownBytes.{Consumes}
 use Rattle.std.proofs.KnownBytes.{Consumes-trans}
+use Rattle.link.specs.Transfer.{ConsumesAtMost}
 use Rattle.steps.specs.declared.step.Step.{Step}
 use Rattle.trace_file.specs.declared.header.Header.{Header}
 use Rattle.trace_file.specs.declared.error.TraceError.{TraceError}
 use Rattle.trace_file.specs.declared.error.TraceError.TheVariants as error
 use Rattle.trace_file.specs.Traces.{header_bytes, records_bytes, IsHeader}
-use Rattle.trace_file.specs.Faults.{BeginsWith, IsRefused}
+use Rattle.trace_file.specs.Faults.{BeginsWith, IsRefused, most_trace_bytes}
 use Rattle.trace_file.specs.Reading.{AddsRead, IsStopped, IsNoEnd, StopsBehind}
 use Rattle.trace_file.proofs.Records.{length-header_bytes, length-records_bytes}
 
@@ -26,9 +27,14 @@ module _ (h : Header) (header : IsHeader h) where
   length-spelled steps rest =
       omega (arith, length-append (header_bytes h) (records_bytes steps ++ rest), length-append (records_bytes steps) rest, length-header_bytes h, length-records_bytes steps)
 
+  -- the header, and fewer bytes behind it than its records have
+  body_stopped : (a b c : Option (List ℕ)) → Consumes a b (header_bytes h) → ConsumesAtMost (12 * h.count) b c → ConsumesAtMost most_trace_bytes a c
+  body_stopped a b c before (bytes, few, consumed) =
+      (header_bytes h ++ bytes, omega (arith, length-append (header_bytes h) bytes, length-header_bytes h, few, header.count), Consumes-trans a b c _ _ before consumed)
+
   pub body_refused : (a b c : Option (List ℕ)) (fault : TraceError) → Consumes a b (header_bytes h) → IsStopped 4092 h.k h.count b c fault → IsRefused a c fault
-  body_refused a b c error.Link before stopped = tt
-  body_refused a b c error.Memory before stopped = tt
+  body_refused a b c error.Link before stopped = body_stopped a b c before stopped
+  body_refused a b c error.Memory before stopped = body_stopped a b c before stopped
   body_refused a b c error.Header before stopped = absurd stopped
   body_refused a b c error.Trailing before stopped = absurd stopped
   body_refused a b c error.Truncated before (steps, rest, consumed, stops) =
@@ -37,8 +43,12 @@ module _ (h : Header) (header : IsHeader h) where
       (header_bytes h ++ (records_bytes steps ++ rest), 12 + 12 * length steps, Consumes-trans a b c _ _ before consumed, inr (h, steps, rest, begins steps rest error.Record stops, refl, inl (stops.few, stops.wrong)), omega (arith, length-spelled steps rest))
 
   pub end_refused : (steps : List Step) (a b c d : Option (List ℕ)) (fault : TraceError) → Consumes a b (header_bytes h) → AddsRead h.k h.count [] steps b c → IsNoEnd c d fault → IsRefused a d fault
-  end_refused steps a b c d error.Link before adds behind = tt
-  end_refused steps a b c d error.Memory before adds behind = tt
+  end_refused steps a b c d error.Link before adds (bytes, none, consumed) =
+      let whole = adds.whole in
+      let records = length-records_bytes adds.added in
+      body_stopped a b d before
+      (records_bytes adds.added ++ bytes, omega (arith, length-append (records_bytes adds.added) bytes), Consumes-trans b c d _ _ adds.consumed consumed)
+  end_refused steps a b c d error.Memory before adds behind = absurd behind
   end_refused steps a b c d error.Header before adds behind = absurd behind
   end_refused steps a b c d error.Record before adds behind = absurd behind
   end_refused steps a b c d error.Truncated before adds behind = absurd behind

@@ -1,7 +1,7 @@
 -- What is wrong with bytes that spell no trace, and where.
 use Rattle.std.specs.Prelude.{◌≡◌, ◌≢◌, ◌⊎◌, ℕ, ◌+◌, ◌*◌, ◌<◌, ◌≤◌, List, ◌++◌, length, take, Option}
 use Rattle.std.specs.Io.KnownBytes.{Consumes}
-use Rattle.link.specs.Transfer.{ConsumesAll}
+use Rattle.link.specs.Transfer.{ConsumesAll, ConsumesAtMost}
 use Rattle.steps.specs.declared.step.Step.{Step}
 use Rattle.trace_file.specs.declared.header.Header.{Header}
 use Rattle.trace_file.specs.declared.error.TraceError.{TraceError}
@@ -56,11 +56,15 @@ taken_at_most error.Trailing = 1
 taken_at_most error.Link = 0
 taken_at_most error.Memory = 0
 
--- Why there is no trace. Of bytes that were cut short the reader has no more. Of the link another clause speaks, and of want
--- of memory nothing is said.
+-- how many bytes the longest trace has
+abbrev pub most_trace_bytes : ℕ
+most_trace_bytes = 12 + 12 * 4194304
+
+-- Why there is no trace, and what the reader has given. Of bytes that were cut short it has no more. Where the link failed, of
+-- which another clause speaks, or memory was short, a beginning of its bytes was read, of no more than a trace has.
 abbrev pub IsRefused : (old new : Option (List ℕ)) → TraceError → Type 0
-IsRefused old new error.Link = Unit {0}
-IsRefused old new error.Memory = Unit {0}
+IsRefused old new error.Link = ConsumesAtMost most_trace_bytes old new
+IsRefused old new error.Memory = ConsumesAtMost most_trace_bytes old new
 IsRefused old new error.Truncated = (bytes : List ℕ) × (place : ℕ) × ConsumesAll old new bytes × FaultAt place bytes error.Truncated
 IsRefused old new fault =
     (bytes : List ℕ) × (place : ℕ) × Consumes old new bytes × FaultAt place bytes fault × (length bytes ≤ place + taken_at_most fault)

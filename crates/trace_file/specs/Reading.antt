@@ -1,8 +1,8 @@
 -- What the parts of reading give.
-use Rattle.std.specs.Prelude.{◌≡◌, ℕ, ◌<◌, ◌≤◌, Bool, true, false, List, [], ◌∷◌, ◌++◌, length, slice_index, Option, Result, Ok, Err}
+use Rattle.std.specs.Prelude.{◌≡◌, ℕ, ◌*◌, ◌<◌, ◌≤◌, Bool, true, false, List, [], ◌∷◌, ◌++◌, length, slice_index, Option, Result, Ok, Err}
 use Rattle.std.specs.Int.{w32, from_le_bytes}
 use Rattle.std.specs.Io.KnownBytes.{Consumes}
-use Rattle.link.specs.Transfer.{ConsumesAll}
+use Rattle.link.specs.Transfer.{ConsumesAll, ConsumesAtMost, ConsumesLess}
 use Rattle.steps.specs.declared.step.Step.{Step}
 use Rattle.trace_file.specs.declared.error.TraceError.{TraceError}
 use Rattle.trace_file.specs.declared.error.TraceError.TheVariants as error
@@ -68,10 +68,10 @@ pub record StopsBehind (k count : ℕ) (steps : List Step) (rest : List ℕ) (fa
   pub few : length steps < count
   pub wrong : RecordFault k rest fault
 
--- why not so many records were read
+-- why not so many records were read, and what was
 abbrev pub IsStopped : (piece k count : ℕ) → (old new : Option (List ℕ)) → TraceError → Type 0
-IsStopped piece k count old new error.Link = Unit {0}
-IsStopped piece k count old new error.Memory = Unit {0}
+IsStopped piece k count old new error.Link = ConsumesAtMost (12 * count) old new
+IsStopped piece k count old new error.Memory = ConsumesAtMost (12 * count) old new
 IsStopped piece k count old new error.Header = ⊥
 IsStopped piece k count old new error.Trailing = ⊥
 IsStopped piece k count old new error.Truncated =
@@ -79,9 +79,9 @@ IsStopped piece k count old new error.Truncated =
 IsStopped piece k count old new error.Record =
     (steps : List Step) × (rest : List ℕ) × Consumes old new (records_bytes steps ++ rest) × StopsBehind k count steps rest error.Record × (length rest ≤ piece)
 
--- why there is no end: the link failed, or there is a byte
+-- why there is no end: the link failed, before a byte was read, or there is a byte
 abbrev pub IsNoEnd : (old new : Option (List ℕ)) → TraceError → Type 0
-IsNoEnd old new error.Link = Unit {0}
+IsNoEnd old new error.Link = ConsumesLess 1 old new
 IsNoEnd old new error.Trailing = (byte : ℕ) × Consumes old new (byte ∷ [])
 IsNoEnd old new error.Memory = ⊥
 IsNoEnd old new error.Truncated = ⊥

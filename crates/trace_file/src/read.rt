@@ -27,7 +27,8 @@ use steps::Step;
 /// [`TraceError::Record`] and [`TraceError::Trailing`]: all before it is as it must be. Where a
 /// record is wrong, at most 4,092 bytes were taken from its place on.
 /// [`TraceError::Link`] exactly where the link failed in this call, and [`TraceError::Memory`] where
-/// there was no memory for the steps.
+/// there was no memory for the steps. With these the reader has given a beginning of its bytes, of no
+/// more than a trace has.
 pub fn read_trace<R: LinkRead>(alloc: Global, reader: &mut R) -> Result<Trace, TraceError>
     requires { R.has_failed reader.old ≡ false }
     ensures trace { IfOk result IsTrace }
