@@ -1,9 +1,9 @@
 //! A writer that is opened by its first write.
 
-ghost use Rattle.std.specs.Prelude.{◌≡◌, None, IsOk, is_some, true, OnOk};
+ghost use Rattle.std.specs.Prelude.{◌≡◌, ⊤, None, IfOk, IsOk, is_some, true, OnOk};
 ghost use Rattle.std.specs.Io.{WritesAtMost};
 ghost use Rattle.std.specs.Io.KnownBytes.{Keeps, WriteAppends};
-ghost use Rattle.command_io.specs.OnFirstWrite.{contents_of};
+ghost use Rattle.command_io.specs.OnFirstWrite.{contents_of, IsFirstWrite};
 
 use std::io::Write;
 use std::rt::Files;
@@ -13,8 +13,12 @@ use std::{fs, io};
 pub trait Open {
     type Device: Write + Drop;
 
+    /// What a device is like when it is opened.
+    ghost opens: { Self → Self.Device → Type 0 };
+
     /// Opens the device, which has nothing of what was there before.
-    fn open(&mut self) -> io::Result<Self::Device>;
+    fn open(&mut self) -> io::Result<Self::Device>
+        ensures { IfOk result (opens self.old) };
 }
 
 /// A file that is created, or emptied, where it is opened.
@@ -29,13 +33,17 @@ pub struct CreateAt<'a, R> {
 impl<'a, R: Files> Open for CreateAt<'a, R> {
     type Device = R::File;
 
+    // What a file has is known to no contract.
+    ghost opens = { λ c file. ⊤ };
+
     fn open(&mut self) -> io::Result<R::File> {
         fs::create(self.files, self.path)
     }
 }
 
 /// A writer whose device is opened by the first write, so that a command that is refused leaves the device
-/// as it was. A failed opening is a failed write, and the next write opens once more.
+/// as it was. A failed opening is a failed write, and the next write opens once more. The device has what it
+/// had when it was opened, and behind that what is written.
 #[derive(Drop)]
 pub struct OnFirstWrite<O: Open + Drop> {
     /// What opens the device.
@@ -63,6 +71,7 @@ impl<O: Open + Drop> Write for OnFirstWrite<O> {
         ensures bound { WritesAtMost result buf.now }
         ensures bytes { WriteAppends (contents_of O.Device.contents self.old.device) (contents_of O.Device.contents self.new.device) result buf.now }
         ensures open { OnOk result (is_some self.new.device ≡ true) }
+        ensures first { self.old.device ≡ None → IsFirstWrite (O.opens self.old.opener) O.Device.contents self.new.device result buf.now }
     {
         if let Some(device) = &mut self.device {
             return device.write(buf);

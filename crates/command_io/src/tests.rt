@@ -1,9 +1,10 @@
 //! Texts of numbers, and a writer that is opened by its first write.
 
-ghost use Rattle.std.specs.Prelude.{None};
+ghost use Rattle.std.specs.Prelude.{◌≡◌, [], ⊤, None};
 
 use crate::{OnFirstWrite, Open, print, push_bytes, push_status, push_word};
 use flat_machine::{Fault, Status};
+use link::{Failed, Link, Meter};
 use std::alloc::Global;
 use std::io::{self, ErrorKind, Write};
 use std::test::Fail;
@@ -44,6 +45,8 @@ struct Door {
 
 impl Open for Door {
     type Device = Vec<u8>;
+
+    ghost opens = { λ d bytes. bytes.items ≡ [] };
 
     fn open(&mut self) -> io::Result<Vec<u8>> {
         self.openings = self.openings.saturating_add(1);
@@ -95,6 +98,8 @@ struct Stuck;
 
 impl Open for Stuck {
     type Device = Stuck;
+
+    ghost opens = { λ s opened. ⊤ };
 
     fn open(&mut self) -> io::Result<Stuck> {
         Ok(Stuck)
@@ -148,22 +153,24 @@ impl Write for Narrow {
 /// A text goes out in as many writes as it takes, or a beginning of it does.
 #[test]
 fn prints_the_text_or_a_beginning(rt: HostRuntime) {
-    for (room, printed) in [(8, "hello"), (5, "hello"), (4, "hell"), (0, "")] {
-        let mut out = Narrow {
+    for (room, text) in [(8, "hello"), (5, "hello"), (4, "hell"), (0, "")] {
+        let mut out = Meter::new(Narrow {
             bytes: Vec::new(rt.alloc()),
             room,
-        };
-        let is_printed = print(&mut out, "hello").is_ok();
-        assert_eq!(rt; is_printed, room >= 5, "{room}");
-        assert_eq!(rt; out.bytes.as_slice(), printed.as_bytes(), "{room}");
+        });
+        let printed = print(&mut out, "hello");
+        let fails = room < 5;
+        assert_eq!(rt; printed, if fails { Err(Failed) } else { Ok(()) }, "{room}");
+        assert_eq!(rt; out.failed(), fails, "{room}");
+        assert_eq!(rt; out.device.bytes.as_slice(), text.as_bytes(), "{room}");
     }
-    assert!(rt; print(&mut Stuck, "hello").is_ok());
-    let mut shut = OnFirstWrite::new(Door {
+    assert!(rt; print(&mut Meter::new(Stuck), "hello").is_ok());
+    let mut shut = Meter::new(OnFirstWrite::new(Door {
         alloc: rt.alloc(),
         is_shut: true,
         openings: 0,
-    });
+    }));
     assert!(rt; print(&mut shut, "").is_ok());
     assert!(rt; print(&mut shut, "hello").is_err());
-    assert_eq!(rt; shut.opener.openings, 1);
+    assert_eq!(rt; shut.device.opener.openings, 1);
 }
