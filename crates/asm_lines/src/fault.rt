@@ -4,24 +4,30 @@ ghost use Rattle.std.specs.Prelude.{◌≡◌};
 ghost use Rattle.asm_lines.specs.declared.fault.LineError.TheVariants.{Memory, Fault};
 
 use std::alloc::{AllocError, AllocFailed};
+use thiserror::Error;
 
 /// What is wrong with a line.
-#[derive(Clone, Copy, Debug, PartialEq, Eq, Drop)]
+#[derive(Clone, Copy, Debug, PartialEq, Eq, Drop, Error)]
 pub enum LineFault {
     /// The first word is no mnemonic and no directive.
+    #[error("unknown word")]
     Unknown,
     /// Any other fault of form: an operand too few or too many, no register, no number, no label.
+    #[error("form")]
     Form,
     /// A number is out of range.
+    #[error("range")]
     Range,
 }
 
 /// Why a line was not read.
-#[derive(Clone, Copy, Debug, PartialEq, Eq, Drop)]
+#[derive(Clone, Copy, Debug, PartialEq, Eq, Drop, Error)]
 pub enum LineError {
     /// There was no memory for what the line says.
+    #[error("memory")]
     Memory,
     /// The line has this fault.
+    #[error("{0}")]
     Fault(LineFault),
 }
 
