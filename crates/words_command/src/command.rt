@@ -1,6 +1,6 @@
 //! The command: from the bytes of a file to the bytes of a report.
 
-ghost use Rattle.std.specs.Prelude.{◌≡◌, ◌≢◌, ◌⊎◌, ℕ, ◌≤◌, List, Ok, IfOk, IfErr};
+ghost use Rattle.std.specs.Prelude.{◌≡◌, ◌⊎◌, ℕ, ◌≤◌, true, false, List, Ok, IfOk, IfErr, IsErrOf, OnErr};
 ghost use Rattle.words_command.specs.Command.{IsRead, IsReported, IsFaultOf, IsToldOf, exit_status_of, status_of_fault};
 ghost use Rattle.words_command.specs.Faults.{fault_of_reading, fault_of_running, fault_of_printing};
 ghost use Rattle.words_command.specs.Running.{processor_of};
@@ -11,6 +11,7 @@ use crate::read::{MAX_WORDS, WordsError, words_read};
 use crate::run::{WordsEnd, words_run};
 use command_io::{DONE, LINK_FAILED, REFUSED, SPENT, STOPPED_BY_FAULT};
 use flat_machine::Status;
+use link::LinkWrite;
 use machine_lock::Logged;
 use std::alloc::Global;
 use std::io::{ErrorKind, Read, Write};
@@ -86,15 +87,17 @@ impl From<PrintError> for WordsFault {
 /// Reads a program from a file, runs it, and prints its processor. Answers the exit status: 0 where
 /// the processor halted, 1 where a fault stopped it, else that of the fault that is told on
 /// standard error. Nothing is printed then, unless it is printing that failed.
-pub fn words_command<R: Read + Drop, W: Write, E: Write>(
+pub fn words_command<R: Read + Drop, W: LinkWrite, E: Write>(
     alloc: Global,
     file: R,
     out: &mut W,
     err: &mut E,
 ) -> u8
+    requires works { W.has_failed out.old ≡ false }
     ensures reported { result ≤ 1 → (text : List ℕ) × IsRead (R.remaining file) text × IsReported text (W.contents out.old) (W.contents out.new) result }
     ensures told { 2 ≤ result → (fault : WordsFault) × (result ≡ status_of_fault fault) × IsToldOf (R.remaining file) (W.contents out.old) (W.contents out.new) fault }
-    ensures silent { 2 ≤ result → result ≢ 3 → out.new ≡ out.old }
+    ensures failed { W.has_failed out.new ≡ true → result ≡ 3 }
+    ensures silent { 2 ≤ result → W.has_failed out.new ≡ false → out.new ≡ out.old }
 {
     match carried_out(alloc, file, out) {
         Ok(status) => status,
@@ -112,14 +115,16 @@ pub fn tell<E: Write>(fault: WordsFault, err: &mut E) -> u8
 }
 
 /// Carries the command out.
-fn carried_out<R: Read + Drop, W: Write>(
+fn carried_out<R: Read + Drop, W: LinkWrite>(
     alloc: Global,
     file: R,
     out: &mut W,
 ) -> Result<u8, WordsFault>
+    requires works { W.has_failed out.old ≡ false }
     ensures reported { IfOk result (λ status. (text : List ℕ) × IsRead (R.remaining file) text × IsReported text (W.contents out.old) (W.contents out.new) status) }
     ensures told { IfErr result (IsToldOf (R.remaining file) (W.contents out.old) (W.contents out.new)) }
-    ensures silent { IfErr result (λ fault. fault ≢ WordsFault.Link → out.new ≡ out.old) }
+    ensures failed { W.has_failed out.new ≡ true → IsErrOf result WordsFault.Link }
+    ensures silent { OnErr result (W.has_failed out.new ≡ false → out.new ≡ out.old) }
 {
     match read_text(alloc, file) {
         Ok(text) => run_text(alloc, text.as_slice(), out),
@@ -141,10 +146,12 @@ fn read_text<R: Read + Drop>(alloc: Global, file: R) -> Result<Vec<u8>, WordsFau
 }
 
 /// Runs the program that a text spells, and prints its processor.
-fn run_text<W: Write>(alloc: Global, text: &[u8], out: &mut W) -> Result<u8, WordsFault>
+fn run_text<W: LinkWrite>(alloc: Global, text: &[u8], out: &mut W) -> Result<u8, WordsFault>
+    requires works { W.has_failed out.old ≡ false }
     ensures reported { IfOk result (IsReported text.now (W.contents out.old) (W.contents out.new)) }
     ensures told { IfErr result (λ fault. IsFaultOf fault text.now (W.contents out.old) (W.contents out.new)) }
-    ensures silent { IfErr result (λ fault. fault ≢ WordsFault.Link → out.new ≡ out.old) }
+    ensures failed { W.has_failed out.new ≡ true → IsErrOf result WordsFault.Link }
+    ensures silent { OnErr result (W.has_failed out.new ≡ false → out.new ≡ out.old) }
 {
     let words = words_read(alloc, text)?;
     let Ok(machine) = words_machine(alloc, words.as_slice()) else {

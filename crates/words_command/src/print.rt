@@ -1,22 +1,21 @@
 //! Printing the processor.
 
-ghost use Rattle.std.specs.Prelude.{◌≡◌, Err, OnOk};
+ghost use Rattle.std.specs.Prelude.{◌≡◌, ◌↔◌, true, false, Err, IsErrOf, OnOk};
 ghost use Rattle.std.specs.Io.KnownBytes.{Appends};
 ghost use Rattle.link.specs.Transfer.{AppendsPart};
 ghost use Rattle.words_command.specs.Report.{report_of};
 ghost use Rattle.words_command.specs.Running.{processor_of};
 
 use crate::report::report;
-use link::Failed;
+use link::{Failed, LinkWrite};
 use machine_lock::Logged;
 use std::alloc::Global;
-use std::io::Write;
 use thiserror::Error;
 
 /// Why a report was not printed.
 #[derive(Clone, Copy, Debug, PartialEq, Eq, Drop, Error)]
 pub enum PrintError {
-    /// A write failed. A beginning of the report is written then, and not all of it.
+    /// The link failed. A beginning of the report is written then, and not all of it.
     #[error("link")]
     Link,
     /// There was no memory for the report. Nothing of it is written.
@@ -26,7 +25,14 @@ pub enum PrintError {
 
 /// Prints registers 0 to 31 of processor 0, its `pc` and its status: 34 lines, which are made whole
 /// before the first is printed.
-pub fn words_print<W: Write>(alloc: Global, log: &Logged, out: &mut W) -> Result<(), PrintError>
+///
+/// # Errors
+///
+/// [`PrintError::Link`] exactly where the link failed in this call, and [`PrintError::Memory`] where there
+/// was no memory for the report.
+pub fn words_print<W: LinkWrite>(alloc: Global, log: &Logged, out: &mut W) -> Result<(), PrintError>
+    requires { W.has_failed out.old ≡ false }
+    ensures failed { IsErrOf result PrintError.Link ↔ (W.has_failed out.new ≡ true) }
     ensures printed { OnOk result (Appends (W.contents out.old) (W.contents out.new) (report_of (processor_of log.now.machine))) }
     ensures begun { result ≡ Err PrintError.Link → AppendsPart (W.contents out.old) (W.contents out.new) (report_of (processor_of log.now.machine)) }
     ensures memory { result ≡ Err PrintError.Memory → out.new ≡ out.old }

@@ -1,6 +1,7 @@
 //! The command, from the bytes of a file to the bytes of a report: what no clause says of it.
 
 use crate::{WordsFault, tell, words_command};
+use link::{Link, Meter};
 use std::alloc::{AllocError, Global};
 use std::fmt::Write as _;
 use std::io::{self, ErrorKind, Read, Write};
@@ -15,10 +16,14 @@ struct Ran {
 }
 
 fn run<R: Read + Drop>(alloc: Global, file: R) -> Ran {
-    let mut out = Vec::new(alloc);
+    let mut out = Meter::new(Vec::new(alloc));
     let mut err = Vec::new(alloc);
     let status = words_command(alloc, file, &mut out, &mut err);
-    Ran { status, out, err }
+    Ran {
+        status,
+        out: out.device,
+        err,
+    }
 }
 
 /// A report in which these registers are not 0.
@@ -203,7 +208,9 @@ fn tells_what_the_outside_refuses(rt: HostRuntime) {
     // Standard output comes before the processor's fault, and the exit status is told without
     // standard error too.
     let mut err = Vec::new(rt.alloc());
-    let status = words_command(rt.alloc(), b"00100093".as_slice(), &mut Full, &mut err);
+    let mut full = Meter::new(Full);
+    let status = words_command(rt.alloc(), b"00100093".as_slice(), &mut full, &mut err);
+    assert!(rt; full.failed());
     assert_eq!(rt; err.as_slice(), b"ultra: link\n".as_slice());
     assert_eq!(rt; status, 3);
     assert_eq!(rt; tell(WordsFault::Memory, &mut Full), 4);
