@@ -1,6 +1,6 @@
 //! What is written, once all of it is there.
 
-ghost use Rattle.std.specs.Prelude.{◌≡◌, IfErr, OnOk};
+ghost use Rattle.std.specs.Prelude.{◌≡◌, false, is_err, IfErr, OnOk};
 ghost use Rattle.std.specs.Io.KnownBytes.{Appends};
 ghost use Rattle.link.specs.Transfer.{AppendsPart};
 ghost use Rattle.trace_file.specs.Traces.{IsTrace, trace_bytes, trace_of};
@@ -9,7 +9,6 @@ ghost use Rattle.run_commands.specs.Commands.{IsPartSaved, IsSaved, IsWorking};
 use crate::fault::Fault;
 use flat_machine::Config;
 use link::{Failed, LinkWrite};
-use std::io::Write;
 use steps::Step;
 use trace_file::{TraceError, write_trace};
 
@@ -31,7 +30,9 @@ pub(crate) fn save<T: LinkWrite>(
 }
 
 /// Prints a report.
-pub(crate) fn print<W: Write>(out: &mut W, text: &str) -> Result<(), Fault>
+pub(crate) fn print<W: LinkWrite>(out: &mut W, text: &str) -> Result<(), Fault>
+    requires { W.has_failed out.old ≡ false }
+    ensures link { W.has_failed out.new ≡ is_err result }
     ensures printed { OnOk result (Appends (W.contents out.old) (W.contents out.new) text.now) }
     ensures failed { IfErr result (λ fault. (fault ≡ Fault.Link) × AppendsPart (W.contents out.old) (W.contents out.new) text.now) }
 {

@@ -1,6 +1,6 @@
 //! `ultra replay`: from the bytes of a trace and of an image to the report of the machine.
 
-ghost use Rattle.std.specs.Prelude.{◌≡◌, ◌≢◌, ◌≤◌, IfOk, IfErr, length, string_bytes};
+ghost use Rattle.std.specs.Prelude.{◌≡◌, ◌≢◌, ◌≤◌, ◌⊎◌, true, false, IfOk, IfErr, IsErr, IsErrOf, length, string_bytes};
 ghost use Rattle.run_commands.specs.Causes.{IsNoReplay, IsNotTaken};
 ghost use Rattle.run_commands.specs.Commands.{IsDrainedReport, IsReplayed, known_of};
 ghost use Rattle.run_commands.specs.Faults.{status_of_fault};
@@ -13,6 +13,7 @@ use crate::states::exit_status;
 use crate::taking::{drained, retaken};
 use elf_image::Image;
 use flat_machine::Config;
+use link::LinkWrite;
 use std::alloc::Global;
 use std::io;
 use std::io::{Read, Write};
@@ -26,7 +27,7 @@ use steps::Step;
 /// Answers the exit status: 0 where the report is printed, 1 where it is and a processor is faulted, else
 /// that of the fault that is told on standard error. A fault is told in this order: of the trace, of the
 /// image, of the machine's size, of a step that stalls, of the report.
-pub fn replay_command<T: Read + Drop, R: Read + Drop, W: Write, E: Write>(
+pub fn replay_command<T: Read + Drop, R: Read + Drop, W: LinkWrite, E: Write>(
     alloc: Global,
     trace: T,
     file: io::Result<R>,
@@ -34,8 +35,11 @@ pub fn replay_command<T: Read + Drop, R: Read + Drop, W: Write, E: Write>(
     out: &mut W,
     err: &mut E,
 ) -> u8
+    requires { W.has_failed out.old ≡ false }
     ensures replayed { result ≤ 1 → IsReplayed shared_words (T.remaining trace) (known_of R.remaining file) (W.contents out.old) (W.contents out.new) result }
-    ensures told { 2 ≤ result → (fault : Fault) × (result ≡ status_of_fault fault) × IsNoReplay shared_words (T.remaining trace) (known_of R.remaining file) (W.contents out.old) (W.contents out.new) fault × (fault ≢ Fault.Link → out.new ≡ out.old) }
+    ensures told { 2 ≤ result → (fault : Fault) × (result ≡ status_of_fault fault) × IsNoReplay shared_words (T.remaining trace) (known_of R.remaining file) (W.contents out.old) (W.contents out.new) fault × (fault ≢ Fault.Link → out.new ≡ out.old)
+        × (fault ≡ Fault.Link → IsErr file ⊎ (W.has_failed out.new ≡ true)) }
+    ensures failed { W.has_failed out.new ≡ true → result ≡ 3 }
 {
     match carried_out(alloc, trace, file, shared_words, out) {
         Ok(status) => status,
@@ -44,13 +48,16 @@ pub fn replay_command<T: Read + Drop, R: Read + Drop, W: Write, E: Write>(
 }
 
 /// Carries the command out.
-fn carried_out<T: Read + Drop, R: Read + Drop, W: Write>(
+fn carried_out<T: Read + Drop, R: Read + Drop, W: LinkWrite>(
     alloc: Global,
     trace: T,
     file: io::Result<R>,
     shared_words: u32,
     out: &mut W,
 ) -> Result<u8, Fault>
+    requires { W.has_failed out.old ≡ false }
+    ensures failed { W.has_failed out.new ≡ true → IsErrOf result Fault.Link }
+    ensures link { IsErrOf result Fault.Link → IsErr file ⊎ (W.has_failed out.new ≡ true) }
     ensures replayed { IfOk result (IsReplayed shared_words (T.remaining trace) (known_of R.remaining file) (W.contents out.old) (W.contents out.new)) }
     ensures low { IfOk result (λ status. status ≤ 1) }
     ensures told { IfErr result (IsNoReplay shared_words (T.remaining trace) (known_of R.remaining file) (W.contents out.old) (W.contents out.new)) }

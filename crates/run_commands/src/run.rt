@@ -1,6 +1,6 @@
 //! `ultra run`: from the bytes of an image to the report of its run.
 
-ghost use Rattle.std.specs.Prelude.{◌≡◌, ◌≢◌, ◌≤◌, IfOk, IfErr, string_bytes};
+ghost use Rattle.std.specs.Prelude.{◌≡◌, ◌≢◌, ◌≤◌, ◌↔◌, true, false, IfOk, IfErr, IsErrOf, string_bytes};
 ghost use Rattle.machine_steps.specs.Runs.{IsOpening};
 ghost use Rattle.run_commands.specs.Causes.{IsNoRun, IsNotRun};
 ghost use Rattle.run_commands.specs.Commands.{HasRun, IsReportOf, IsRun, IsWorking};
@@ -26,7 +26,7 @@ use std::io::{Read, Write};
 /// Answers the exit status: 0 where the report is printed, 1 where it is and a processor is faulted, else
 /// that of the fault that is told on standard error. A fault is told in this order: of the image, of the
 /// machine's size, of the run, of the trace, of the report.
-pub fn run_command<R: Read + Drop, T: LinkWrite, W: Write, E: Write>(
+pub fn run_command<R: Read + Drop, T: LinkWrite, W: LinkWrite, E: Write>(
     alloc: Global,
     file: R,
     config: Config,
@@ -36,8 +36,11 @@ pub fn run_command<R: Read + Drop, T: LinkWrite, W: Write, E: Write>(
     err: &mut E,
 ) -> u8
     requires works { IsWorking T.has_failed trace.old }
+    requires prints { W.has_failed out.old ≡ false }
     ensures reported { result ≤ 1 → IsRun T.contents config budget trace.old trace.new (R.remaining file) (W.contents out.old) (W.contents out.new) result }
-    ensures told { 2 ≤ result → (fault : Fault) × (result ≡ status_of_fault fault) × IsNoRun T.contents config budget (R.remaining file) trace.old trace.new (W.contents out.old) (W.contents out.new) fault × (fault ≢ Fault.Link → out.new ≡ out.old) }
+    ensures told { 2 ≤ result → (fault : Fault) × (result ≡ status_of_fault fault) × IsNoRun T.contents config budget (R.remaining file) trace.old trace.new (W.contents out.old) (W.contents out.new) fault × (fault ≢ Fault.Link → out.new ≡ out.old)
+        × ((fault ≡ Fault.Link) ↔ (W.has_failed out.new ≡ true)) }
+    ensures failed { W.has_failed out.new ≡ true → result ≡ 3 }
 {
     match carried_out(alloc, file, config, budget, trace, out) {
         Ok(status) => status,
@@ -46,7 +49,7 @@ pub fn run_command<R: Read + Drop, T: LinkWrite, W: Write, E: Write>(
 }
 
 /// Carries the command out.
-fn carried_out<R: Read + Drop, T: LinkWrite, W: Write>(
+fn carried_out<R: Read + Drop, T: LinkWrite, W: LinkWrite>(
     alloc: Global,
     file: R,
     config: Config,
@@ -55,6 +58,8 @@ fn carried_out<R: Read + Drop, T: LinkWrite, W: Write>(
     out: &mut W,
 ) -> Result<u8, Fault>
     requires works { IsWorking T.has_failed trace.old }
+    requires prints { W.has_failed out.old ≡ false }
+    ensures failed { IsErrOf result Fault.Link ↔ (W.has_failed out.new ≡ true) }
     ensures reported { IfOk result (IsRun T.contents config budget trace.old trace.new (R.remaining file) (W.contents out.old) (W.contents out.new)) }
     ensures low { IfOk result (λ status. status ≤ 1) }
     ensures told { IfErr result (IsNoRun T.contents config budget (R.remaining file) trace.old trace.new (W.contents out.old) (W.contents out.new)) }

@@ -51,7 +51,7 @@ struct Ran {
 
 /// Runs an image, with a trace.
 fn run(alloc: Global, image: &[u8], config: Config, budget: u32) -> Ran {
-    let mut out = Vec::new(alloc);
+    let mut out = Meter::new(Vec::new(alloc));
     let mut err = Vec::new(alloc);
     let mut trace = Some(Meter::new(Vec::new(alloc)));
     let status = run_command(alloc, image, config, budget, &mut trace, &mut out, &mut err);
@@ -61,7 +61,7 @@ fn run(alloc: Global, image: &[u8], config: Config, budget: u32) -> Ran {
     };
     Ran {
         status,
-        out,
+        out: out.device,
         err,
         trace,
     }
@@ -75,12 +75,12 @@ fn run_text(alloc: Global, text: &str, config: Config, budget: u32) -> Result<Ra
 
 /// Replays a trace on an image.
 fn replay(alloc: Global, trace: &[u8], file: io::Result<&[u8]>, shared_words: u32) -> Ran {
-    let mut out = Vec::new(alloc);
+    let mut out = Meter::new(Vec::new(alloc));
     let mut err = Vec::new(alloc);
     let status = replay_command(alloc, trace, file, shared_words, &mut out, &mut err);
     Ran {
         status,
-        out,
+        out: out.device,
         err,
         trace: Vec::new(alloc),
     }

@@ -170,7 +170,7 @@ fn statuses_of_faults(rt: HostRuntime) {
     ] {
         assert_eq!(rt; fault.status(), status, "{fault}");
     }
-    let mut out = Vec::new(rt.alloc());
+    let mut out = Meter::new(Vec::new(rt.alloc()));
     let mut err = Vec::new(rt.alloc());
     let mut trace = Some(Meter::new(Vec::new(rt.alloc())));
     let status = crate::run_command(
