@@ -4,12 +4,14 @@
 mod asm;
 mod dis;
 
+ghost use Rattle.std.specs.Prelude.{◌≡◌, false};
+
 use asm::asm_command;
 use clap::Error;
 use command_io::{CreateAt, OnFirstWrite, REFUSED};
 use dis::dis_command;
 use flat_machine::Config;
-use link::Meter;
+use link::{LinkWrite, Meter};
 use run_commands::{replay_command, run_command};
 use settings::{Asm, Replay, Run, Settings, settings, status_of};
 use std::alloc::{AllocError, Global};
@@ -21,16 +23,19 @@ use words_command::{WordsFault, tell, words_command};
 
 fn main(rt: HostRuntime) -> ExitCode {
     let (stdout, stderr) = (rt.stdout(), rt.stderr());
-    let status = carry_out(&rt, &mut io::writer(&stdout), &mut io::writer(&stderr));
+    let mut out = Meter::new(io::writer(&stdout));
+    let status = carry_out(&rt, &mut out, &mut io::writer(&stderr));
     ExitCode::from(status)
 }
 
 /// Does what the command line asks for, and answers the exit status.
-fn carry_out<R: Env + Files + AllocGlobal, W: Write, E: Write>(
+fn carry_out<R: Env + Files + AllocGlobal, W: LinkWrite, E: Write>(
     rt: &R,
     out: &mut W,
     err: &mut E,
-) -> u8 {
+) -> u8
+    requires works { W.has_failed out.old ≡ false }
+{
     let arguments = match env::args(rt) {
         Ok(arguments) => arguments,
         Err(error) => return refuse_arguments(error.kind(), err),
@@ -71,12 +76,14 @@ fn assemble_file<R: Files + AllocGlobal, E: Write>(rt: &R, asm: &Asm<'_>, err: &
 }
 
 /// Does what `run FILE` asks for, by the sweep. OUT is opened by the first write to it.
-fn run_file<R: Files + AllocGlobal, W: Write, E: Write>(
+fn run_file<R: Files + AllocGlobal, W: LinkWrite, E: Write>(
     rt: &R,
     run: &Run<'_>,
     out: &mut W,
     err: &mut E,
-) -> u8 {
+) -> u8
+    requires works { W.has_failed out.old ≡ false }
+{
     let Ok(file) = fs::open(rt, run.file) else {
         return tell(WordsFault::Link, err);
     };
@@ -100,12 +107,14 @@ fn run_file<R: Files + AllocGlobal, W: Write, E: Write>(
 }
 
 /// Does what `replay TRACE FILE` asks for.
-fn replay_file<R: Files + AllocGlobal, W: Write, E: Write>(
+fn replay_file<R: Files + AllocGlobal, W: LinkWrite, E: Write>(
     rt: &R,
     replay: &Replay<'_>,
     out: &mut W,
     err: &mut E,
-) -> u8 {
+) -> u8
+    requires works { W.has_failed out.old ≡ false }
+{
     let Ok(trace) = fs::open(rt, replay.trace) else {
         return tell(WordsFault::Link, err);
     };

@@ -1,6 +1,6 @@
 //! The command: from the bytes of a text to the bytes of an image.
 
-ghost use Rattle.std.specs.Prelude.{◌≡◌, ◌≢◌, false, IfOk, IfErr, OnOk};
+ghost use Rattle.std.specs.Prelude.{◌≡◌, ◌≢◌, ◌↔◌, true, false, is_err, IfOk, IfErr, IsErrOf, OnOk};
 ghost use Rattle.std.specs.Io.KnownBytes.{Appends};
 ghost use Rattle.link.specs.Transfer.{AppendsPart};
 ghost use Rattle.elf_image.specs.Spellings.{spelling};
@@ -76,7 +76,8 @@ pub fn asm_command<R: Read + Drop, W: LinkWrite, E: Write>(
     requires works { W.has_failed out.old ≡ false }
     ensures assembled { result ≡ 0 → IsAssembled (R.remaining file) (W.contents out.old) (W.contents out.new) }
     ensures told { result ≢ 0 → (fault : AssembleFault) × (result ≡ status_of_fault fault) × IsToldOf (R.remaining file) (W.contents out.old) (W.contents out.new) fault
-        × (fault ≢ AssembleFault.Image → out.new ≡ out.old) }
+        × ((fault ≡ AssembleFault.Image) ↔ (W.has_failed out.new ≡ true)) × (fault ≢ AssembleFault.Image → out.new ≡ out.old) }
+    ensures failed { W.has_failed out.new ≡ true → result ≡ 3 }
 {
     match carried_out(alloc, file, out) {
         Ok(()) => DONE,
@@ -100,6 +101,7 @@ fn carried_out<R: Read + Drop, W: LinkWrite>(
     out: &mut W,
 ) -> Result<(), AssembleFault>
     requires works { W.has_failed out.old ≡ false }
+    ensures failed { IsErrOf result AssembleFault.Image ↔ (W.has_failed out.new ≡ true) }
     ensures assembled { OnOk result (IsAssembled (R.remaining file) (W.contents out.old) (W.contents out.new)) }
     ensures told { IfErr result (IsToldOf (R.remaining file) (W.contents out.old) (W.contents out.new)) }
     ensures silent { IfErr result (λ fault. fault ≢ AssembleFault.Image → out.new ≡ out.old) }
@@ -135,6 +137,7 @@ fn program_of(alloc: Global, bytes: &[u8]) -> Result<Program, AssembleFault>
 /// Writes the image of a program.
 fn write_program<W: LinkWrite>(program: &Program, out: &mut W) -> Result<(), AssembleFault>
     requires works { W.has_failed out.old ≡ false }
+    ensures failed { W.has_failed out.new ≡ is_err result }
     ensures written { OnOk result (Appends (W.contents out.old) (W.contents out.new) (spelling program.now)) }
     ensures begun { IfErr result (λ fault. (fault ≡ AssembleFault.Image) × AppendsPart (W.contents out.old) (W.contents out.new) (spelling program.now)) }
 {

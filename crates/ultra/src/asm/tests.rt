@@ -1,10 +1,10 @@
 //! The command, from the bytes of a text to the bytes of an image: what no clause says of it.
 
-ghost use Rattle.std.specs.Prelude.{◌≡◌, false};
+ghost use Rattle.std.specs.Prelude.{◌≡◌, [], false};
 
 use crate::asm::asm_command;
 use command_io::{OnFirstWrite, Open};
-use link::Meter;
+use link::{Link, Meter};
 use std::alloc::Global;
 use std::io::{self, ErrorKind, Read, Write};
 use std::test::Fail;
@@ -147,6 +147,8 @@ struct Door {
 impl Open for Door {
     type Device = Vec<u8>;
 
+    ghost opens = { λ d bytes. bytes.items ≡ [] };
+
     fn open(&mut self) -> io::Result<Vec<u8>> {
         self.openings = self.openings.saturating_add(1);
         if self.is_shut {
@@ -158,7 +160,7 @@ impl Open for Door {
 }
 
 fn behind_door(alloc: Global, is_shut: bool) -> Meter<OnFirstWrite<Door>>
-    ensures { result.has_failed ≡ false }
+    ensures { ⟦<Meter<OnFirstWrite<Door>> as Link>⟧.has_failed result ≡ false }
 {
     Meter::new(OnFirstWrite::new(Door {
         alloc,

@@ -1,6 +1,6 @@
 //! The command: from the bytes of an image to the lines of its code.
 
-ghost use Rattle.std.specs.Prelude.{◌≡◌, ◌≢◌, ℕ, List, Option, IfOk, IfErr, OnOk, string_bytes};
+ghost use Rattle.std.specs.Prelude.{◌≡◌, ◌≢◌, ◌↔◌, true, false, ℕ, List, Option, IfOk, IfErr, IsErrOf, OnOk, string_bytes};
 ghost use Rattle.std.specs.Io.KnownBytes.{Appends};
 ghost use Rattle.local_memory.specs.Accesses.{region_of_bytes};
 ghost use Rattle.ultra.specs.Listing.{IsListing};
@@ -11,7 +11,7 @@ use crate::dis::listing::listing;
 use command_io::{DONE, LINK_FAILED, REFUSED, SPENT};
 use elf_image::{Image, ImageError, read_image};
 use flat_machine::{Config, MIN_QUEUE_CAPACITY};
-use link::{Failed, Meter};
+use link::{Failed, LinkWrite, Meter};
 use local_memory::Code;
 use std::alloc::{AllocError, Global};
 use std::io::{Read, Write};
@@ -58,16 +58,18 @@ impl From<ImageError> for DisassembleFault {
 /// Reads an image for machines with so many shared words, and prints its code: a line for each word up to
 /// the last that is not zero. Answers the exit status: 0 where all lines are printed, else that of the fault
 /// that is told on standard error. The lines are made whole before the first is printed.
-pub fn dis_command<R: Read + Drop, W: Write, E: Write>(
+pub fn dis_command<R: Read + Drop, W: LinkWrite, E: Write>(
     alloc: Global,
     file: R,
     shared_words: u32,
     out: &mut W,
     err: &mut E,
 ) -> u8
+    requires works { W.has_failed out.old ≡ false }
     ensures listed { result ≡ 0 → IsDisassembled shared_words (R.remaining file) (W.contents out.old) (W.contents out.new) }
     ensures told { result ≢ 0 → (fault : DisassembleFault) × (result ≡ status_of_fault fault) × IsRefusalOf shared_words (R.remaining file) (W.contents out.old) (W.contents out.new) fault
-        × (fault ≢ DisassembleFault.Print → out.new ≡ out.old) }
+        × ((fault ≡ DisassembleFault.Print) ↔ (W.has_failed out.new ≡ true)) × (fault ≢ DisassembleFault.Print → out.new ≡ out.old) }
+    ensures failed { W.has_failed out.new ≡ true → result ≡ 3 }
 {
     match carried_out(alloc, file, shared_words, out) {
         Ok(()) => DONE,
@@ -85,12 +87,14 @@ fn tell<E: Write>(fault: DisassembleFault, err: &mut E) -> u8
 }
 
 /// Carries the command out.
-fn carried_out<R: Read + Drop, W: Write>(
+fn carried_out<R: Read + Drop, W: LinkWrite>(
     alloc: Global,
     file: R,
     shared_words: u32,
     out: &mut W,
 ) -> Result<(), DisassembleFault>
+    requires works { W.has_failed out.old ≡ false }
+    ensures failed { IsErrOf result DisassembleFault.Print ↔ (W.has_failed out.new ≡ true) }
     ensures listed { OnOk result (IsDisassembled shared_words (R.remaining file) (W.contents out.old) (W.contents out.new)) }
     ensures told { IfErr result (IsRefusalOf shared_words (R.remaining file) (W.contents out.old) (W.contents out.new)) }
     ensures silent { IfErr result (λ fault. fault ≢ DisassembleFault.Print → out.new ≡ out.old) }

@@ -2,7 +2,7 @@
 
 use crate::asm::asm_command;
 use crate::dis::dis_command;
-use link::Meter;
+use link::{Link, Meter};
 use std::alloc::Global;
 use std::io::Read;
 use std::test::Fail;
@@ -17,10 +17,14 @@ struct Ran {
 }
 
 fn run<R: Read + Drop>(alloc: Global, file: R, shared_words: u32) -> Ran {
-    let mut out = Vec::new(alloc);
+    let mut out = Meter::new(Vec::new(alloc));
     let mut err = Vec::new(alloc);
     let status = dis_command(alloc, file, shared_words, &mut out, &mut err);
-    Ran { status, out, err }
+    Ran {
+        status,
+        out: out.device,
+        err,
+    }
 }
 
 /// The image of a text; no byte where there is none.
@@ -209,12 +213,14 @@ fn reads_the_file_or_tells_it(rt: HostRuntime) {
 fn tells_that_nothing_can_be_printed(rt: HostRuntime) {
     let alloc = rt.alloc();
     let mut err = Vec::new(alloc);
-    let status = dis_command(alloc, EBREAK.as_slice(), 1024, &mut Deaf, &mut err);
+    let mut deaf = Meter::new(Deaf);
+    let status = dis_command(alloc, EBREAK.as_slice(), 1024, &mut deaf, &mut err);
+    assert!(rt; deaf.failed());
     assert_eq!(rt; err.as_slice(), b"ultra: link\n".as_slice());
     assert_eq!(rt; status, 3);
 
     // Where standard error fails too, the exit status alone tells the fault.
-    let mut out = Vec::new(alloc);
+    let mut out = Meter::new(Vec::new(alloc));
     let status = dis_command(alloc, &EBREAK[..51], 1024, &mut out, &mut Deaf);
     assert_eq!(rt; status, 2);
 }
@@ -223,17 +229,21 @@ fn tells_that_nothing_can_be_printed(rt: HostRuntime) {
 #[test]
 fn is_short_of_memory(rt: HostRuntime) -> Result<(), Fail> {
     let alloc = rt.alloc();
-    let mut out = Vec::with_capacity(alloc, 64)?;
+    let mut out = Meter::new(Vec::with_capacity(alloc, 64)?);
     let mut err = Vec::with_capacity(alloc, 64)?;
     match dis_command(alloc, EBREAK.as_slice(), 1024, &mut out, &mut err) {
-        0 => assert_eq!(rt; out.as_slice(), b"00010000 00100073 ebreak\n".as_slice()),
+        0 => assert_eq!(rt;
+            out.device.as_slice(),
+            b"00010000 00100073 ebreak\n".as_slice()
+        ),
         status => {
             assert_eq!(rt; status, 4);
             assert_eq!(rt; err.as_slice(), b"ultra: memory\n".as_slice());
-            assert_eq!(rt; out.len(), 0);
+            assert_eq!(rt; out.device.len(), 0);
         }
     }
     err.clear();
+    let mut out = Meter::new(Deaf);
     match dis_command(alloc, &EBREAK[..87], 1024, &mut out, &mut err) {
         2 => assert_eq!(rt; err.as_slice(), b"ultra: I4\n".as_slice()),
         status => {
