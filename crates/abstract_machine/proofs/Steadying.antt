@@ -15,10 +15,10 @@ use Rattle.messages.specs.Moves.{combined, accepted, up_from, moved_up, push_all
 use Rattle.omega_wires.specs.Wires.{path as way, wire_after, wire_before}
 use Rattle.omega_wires.proofs.Paths.{path_zero, path_suc, before_path}
 use Rattle.flat_machine.specs.declared.poke.Poke as pokes
-use Rattle.placement.specs.Roles.{Role, Idle, Asking, Waiting, Told, depth, RecordPlaced, Unnamed, told_all}
+use Rattle.placement.specs.Roles.{Role, Idle, Asking, Waiting, Told, depth, Placed, RecordPlaced, Unnamed, told_all}
 use Rattle.abstract_machine.specs.Program.{Program, Kind, Rests, Alone, Refers, word_of, path_of}
 use Rattle.abstract_machine.specs.Machine.{Machine, Step, Turn, Up, Serve, Down, Poke, stalled, with_net, retire_from, request_of, issue, advance, begin, turned, went_up, went_down, serve_from, all_shut, poked, step, new_machine}
-use Rattle.abstract_machine.specs.Steadiness.{Stands, Steady, Far, idle, asking, told, waiting, Lower, MovedOn, GoesOn}
+use Rattle.abstract_machine.specs.Steadiness.{Few, Stands, Steady, Far, idle, asking, told, waiting, Lower, MovedOn, GoesOn}
 use Rattle.placement.proofs.Places.{put2_same, put2_other, In-append, In-append_left, In-append_right, In-put2, put_same, put_other, In-filter, filter_none}
 use Rattle.placement.proofs.Records.{records_none, records_path, records_other_stage, records_push_other, records_push_same, records_drop_other}
 use Rattle.placement.proofs.Roles.{pop_request, pop_request_unnamed, push_request, push_reply, pop_reply, pop_reply_unnamed, others_request, combine, placed_change, placed_nowhere, unnamed_idle, below_role, small_put, told_other, not_led, from_answers}
@@ -104,6 +104,18 @@ steady_moved z P M role s w v x rest ok l e on =
           (λ i f. let g = far_asking z.k role p i s f at.asks in (2 * z.k + 2 - suc s, asking p (2 * z.k + 2 - suc s) (suc s) (put_same role p (Asking (suc s))) (omega arith), omega arith));
     }
 
+-- In a buffer off its path a leader has no record: what holds of the buffer on each leader's path holds of all buffers.
+few_everywhere : (z : Sizes) (path : ℕ → ℕ → ℕ) (role : ℕ → Role) (net : Net) → Placed z.k path role net
+    → ((p s : ℕ) → length (records_on path net.records p s) ≤ z.r) → Few z net
+few_everywhere z path role net placed on_path p s w = elim (cases_eq (path p (suc s)) w) [
+  | inl e ↦ subst (λ v. length (records_of p (net.records s v)) ≤ z.r) e (on_path p s)
+  | inr n ↦ subst (λ m. m ≤ z.r) (ap length (sym (none_there n))) (omega arith)
+]
+  where
+    none_there : (path p (suc s) ≡ w → ⊥) → records_of p (net.records s w) ≡ []
+    none_there n = filter_none (λ (x : Record). x.leader == p) (net.records s w)
+        (λ x m is. n (ap (λ q. path q (suc s)) (sym (eqb-true x.leader p is)) ∙ (placed.records s w x m).wire))
+
 pub steady_combined : {Core : Type 0} → (z : Sizes) (P : Program Core) (M : Machine Core) (role : ℕ → Role) (s w v : ℕ) (x : Request) (rest : List Request) (j : Combination) → Steady z P M role → s < z.k → M.net.requests s w ≡ x ∷ rest
     → path_of z P M.core x.leader (suc s) ≡ v → Joins z.r x ((put_requests M.net s w rest).requests (suc s) v) j
     → MovedOn z P role (with_net M (combined (put_requests M.net s w rest) s v j).1)
@@ -132,10 +144,12 @@ steady_combined z P M role s w v x rest j ok l e on J =
     let role' : ℕ → Role = put role q (Waiting s p) in
     let asks_p : role' p ≡ Asking (suc s) = put_other role q (Waiting s p) p n ∙ place.asks in
     let queue : List Request = J.front ++ y ∷ J.behind in
+    let placed' = combine z.k path role net1 s v J.front J.behind J.entry y made placed1 J.was refl refl free
+    (subst (λ r. depth r ≤ s) (sym at.asks) (omega arith)) on in
     let done : MovedOn z P role (with_net M (combined net1 s v (record { queue = queue; made = made })).1) = record {
       role' = role';
       steady = record {
-        placed = combine z.k path role net1 s v J.front J.behind J.entry y made placed1 J.was refl refl free (subst (λ r. depth r ≤ s) (sym at.asks) (omega arith)) on;
+        placed = placed';
         worded = λ d u b m. elim (In-put2 net1.requests (suc s) v queue d u b m) [
           | inl h ↦ elim (In-append b J.front (y ∷ J.behind) h.2) [
             | inl o ↦ ok.worded (suc s) v b (old (suc s) v b (rw J.was (In-append_left b J.front (J.entry ∷ J.behind) o)))
@@ -155,13 +169,14 @@ steady_combined z P M role s w v x rest j ok l e on J =
               ])
           | inr h ↦ ok.marked t u b (old (suc t) u b h.1) ∙ ap length (sym (same b.leader t (lone.requests (suc t) u b (rw (put2_other net1.requests (suc s) v (J.front ++ J.behind) (suc t) u h.0) h.1))))
         ];
-        few = λ i t. elim (cases_eq i p) [
-          | inl f ↦ elim (cases_eq t s) [
-            | inl g ↦ rw (f, g) (let a = J.fewer in omega arith)
-            | inr m ↦ rw (other_stage i t m) (ok.few i t)
-          ]
-          | inr m ↦ rw (same i t m) (ok.few i t)
-        ];
+        few = few_everywhere z path role' (combined net1 s v (record { queue = queue; made = made })).1 placed'
+            (λ i t. elim (cases_eq i p) [
+              | inl f ↦ elim (cases_eq t s) [
+                | inl g ↦ rw (f, g) (let a = J.fewer in omega arith)
+                | inr m ↦ rw (other_stage i t m) (ok.few i t (path i (suc t)))
+              ]
+              | inr m ↦ rw (same i t m) (ok.few i t (path i (suc t)))
+            ]);
         stands = stands_put (put_records (put_requests net1 (suc s) v queue) s v (M.net.records s v ++ made ∷ [])) role q (Waiting s p)
             (λ i m. stands_push_record (put_requests net1 (suc s) v queue) s v made i (role i) (stands_entry net1 (suc s) v J.front J.behind J.entry y i (role i) J.was refl (stands_pop_request M.net s w x rest i (role i) e m (ok.stands i))))
             (v, made, subst (In made) (sym (put2_same M.net.records s v (M.net.records s v ++ made ∷ []))) (In-append_right made (M.net.records s v) (made ∷ []) (inl refl)), refl, refl);
@@ -265,21 +280,23 @@ steady_answer z P M role s w x rest ok l e =
       | inl h ↦ not_led r.leader p (eqb-true r.leader p g) ((In-filter (λ (e : Record). not (e.leader == p)) r (M.net.records s w) h.2).1)
       | inr h ↦ h.0 refl at.wire
     ]) in
+    let placed' = answering_places z.k path (wire_before z.k s w) role net1 s w x placed1 l free at.told at.wire back in
     record {
       role' = role';
       steady = record {
-        placed = answering_places z.k path (wire_before z.k s w) role net1 s w x placed1 l free at.told at.wire back;
+        placed = placed';
         worded = λ d u b i. ok.worded d u b (subst (λ (f : ℕ → ℕ → List Request). In b (f d u)) (kept_requests (wire_before z.k s w) s ys net2) i);
         marked = λ t u b i. let o = subst (λ (f : ℕ → ℕ → List Request). In b (f (suc t) u)) (kept_requests (wire_before z.k s w) s ys net2) i in
             ok.marked t u b o ∙ ap length (sym (records_drop_other path M.net.records s w p b.leader t (free.requests (suc t) u b o))) ∙ (λ i. length (records_on path (sym (kept_records (wire_before z.k s w) s ys net2) i) b.leader t));
-        few = λ i t. subst (λ (f : ℕ → ℕ → List Record). length (records_on path f i t) ≤ z.r) (sym (kept_records (wire_before z.k s w) s ys net2))
+        few = few_everywhere z path role' net3 placed'
+            (λ i t. subst (λ (f : ℕ → ℕ → List Record). length (records_on path f i t) ≤ z.r) (sym (kept_records (wire_before z.k s w) s ys net2))
             (elim (cases_eq i p) [
               | inl f ↦ elim (cases_eq t s) [
                 | inl g ↦ subst (λ n. n ≤ z.r) (ap length (sym gone) ∙ (λ j. length (records_on path (put2 M.net.records s w left) (sym f j) (sym g j)))) (omega arith)
-                | inr n ↦ subst (λ r. length r ≤ z.r) (sym (records_other_stage path M.net.records s w left i t n)) (ok.few i t)
+                | inr n ↦ subst (λ r. length r ≤ z.r) (sym (records_other_stage path M.net.records s w left i t n)) (ok.few i t (path i (suc t)))
               ]
-              | inr n ↦ subst (λ r. length r ≤ z.r) (sym (records_drop_other path M.net.records s w p i t n)) (ok.few i t)
-            ]);
+              | inr n ↦ subst (λ r. length r ≤ z.r) (sym (records_drop_other path M.net.records s w p i t n)) (ok.few i t (path i (suc t)))
+            ]));
         stands = λ q. elim (led_by ys q) [
           | inl h ↦ subst (λ v. Stands net3 v (role' v)) h.2 (subst (Stands net3 h.0.leader) (sym (told_in s ys role h.0 h.1)) (stands_pushed (wire_before z.k s w) s ys net2 h.0 h.1))
           | inr n ↦ subst (Stands net3 q) (sym (told_other s ys role q n))
@@ -346,10 +363,7 @@ steady_retire z P M role p y others ok from =
         placed = placed_change z.k path path' role Idle net1 p placed1 free leads_none same_way;
         worded = λ d w x m. ok.worded d w x m ∙ sym (ap (P.word_of x.leader) (same x.leader (free.requests d w x m)));
         marked = λ t u b m. ok.marked t u b m ∙ ap length (sym (records_path path path' M.net.records b.leader t (same_way b.leader (suc t) (free.requests (suc t) u b m))));
-        few = λ i t. elim (cases_eq i p) [
-          | inl f ↦ subst (λ n. n ≤ z.r) (ap length (sym (records_none path' M.net.records i t (λ w a m g. leads_none t w a m (g ∙ f))))) (omega arith)
-          | inr n ↦ subst (λ r. length r ≤ z.r) (sym (records_path path path' M.net.records i t (same_way i (suc t) n))) (ok.few i t)
-        ];
+        few = ok.few;
         stands = stands_put net1 role p Idle (λ q n. stands_pop_reply M.net 0 p y rest q (role q) e (λ f. n (f ∙ is)) (ok.stands q)) tt;
         refers = λ q f. elim (cases_eq q p) [
           | inl g ↦ absurd (true≢false (sym f ∙ ap (put M.is_open p false) g ∙ put_same M.is_open p false))
@@ -420,10 +434,7 @@ steady_advance z P M role p ok l shut =
       placed = placed_change z.k path path' role Idle M.net p ok.placed free leads_none same_way;
       worded = λ d w x m. ok.worded d w x m ∙ sym (ap (P.word_of x.leader) (same x.leader (free.requests d w x m)));
       marked = λ t u b m. ok.marked t u b m ∙ ap length (sym (records_path path path' M.net.records b.leader t (same_way b.leader (suc t) (free.requests (suc t) u b m))));
-      few = λ i t. elim (cases_eq i p) [
-        | inl f ↦ subst (λ n. n ≤ z.r) (ap length (sym (records_none path' M.net.records i t (λ w a m g. leads_none t w a m (g ∙ f))))) (omega arith)
-        | inr n ↦ subst (λ r. length r ≤ z.r) (sym (records_path path path' M.net.records i t (same_way i (suc t) n))) (ok.few i t)
-      ];
+      few = ok.few;
       stands = stands_put M.net role p Idle (λ q n. ok.stands q) tt;
       refers = λ q f. elim (cases_eq q p) [
         | inl g ↦ absurd (true≢false (sym f ∙ ap M.is_open g ∙ shut))
@@ -441,7 +452,7 @@ steady_start z P mem core = record {
   placed = record { requests = λ d w x m. absurd m; records = λ s w x m. absurd m; replies = λ d w x m. absurd m; requests_apart = λ d w. tt; records_apart = λ s w. tt; replies_apart = λ d w. tt };
   worded = λ d w x m. absurd m;
   marked = λ s w x m. absurd m;
-  few = λ p s. omega arith;
+  few = λ p s w. omega arith;
   stands = λ p. tt;
   shut = λ p. ((λ e. refl), (λ e. refl));
   small = λ p. inl refl;
@@ -474,7 +485,7 @@ steady_poked z P M role q ok shut =
       placed = placed_nowhere z.k (path_of z P M.core) (path_of z P (P.poked_core q M.core)) role M.net ok.placed idle;
       worded = λ d w x m. absurd (no_request d w x m);
       marked = λ s w x m. absurd (no_request (suc s) w x m);
-      few = λ p s. subst (λ n. n ≤ z.r) (ap length (sym (records_none (path_of z P (P.poked_core q M.core)) M.net.records p s (λ w a m g. no_record s w a m)))) (omega arith);
+      few = ok.few;
       stands = ok.stands;
       shut = ok.shut;
       small = ok.small;

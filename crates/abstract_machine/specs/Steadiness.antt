@@ -4,6 +4,7 @@ use Rattle.messages.specs.declared.message.Request.{Request}
 use Rattle.messages.specs.declared.message.Reply.{Reply}
 use Rattle.messages.specs.declared.message.Record.{Record}
 use Rattle.messages.specs.Places.{In}
+use Rattle.messages.specs.Queues.{records_of}
 use Rattle.messages.specs.Network.{Sizes, Net, wires, records_on}
 use Rattle.placement.specs.Roles.{Role, Idle, Asking, Waiting, Told, Placed}
 use Rattle.abstract_machine.specs.Program.{Program, Refers, word_of, path_of}
@@ -16,13 +17,16 @@ Stands net p (Asking d) = (w : ℕ) × (x : Request) × In x (net.requests d w) 
 Stands net p (Waiting s b) = (w : ℕ) × (x : Record) × In x (net.records s w) × (x.second ≡ p) × (x.leader ≡ b)
 Stands net p (Told d) = (w : ℕ) × (x : Reply) × In x (net.replies d w) × (x.leader ≡ p)
 
+-- no wait buffer, at any stage and wire, has more than r records of one leader
+abbrev pub Few : Sizes → Net → Type 0
+Few z net = (p s w : ℕ) → length (records_of p (net.records s w)) ≤ z.r
+
 pub record Steady {Core : Type 0} (z : Sizes) (P : Program Core) (M : Machine Core) (role : ℕ → Role) : Type 0 where
   pub placed : Placed z.k (path_of z P M.core) role M.net
   pub worded : (d w : ℕ) (x : Request) → In x (M.net.requests d w) → x.word ≡ word_of P M.core x.leader
   -- an entry of a queue was combined there as often as there are records of it
   pub marked : (s w : ℕ) (x : Request) → In x (M.net.requests (suc s) w) → x.marks ≡ length (records_on (path_of z P M.core) M.net.records x.leader s)
-  -- at most r records for a leader in a buffer
-  pub few : (p s : ℕ) → length (records_on (path_of z P M.core) M.net.records p s) ≤ z.r
+  pub few : Few z M.net
   pub stands : (p : ℕ) → Stands M.net p (role p)
   pub shut : (p : ℕ) → (M.is_open p ≡ false) ↔ (role p ≡ Idle)
   pub small : (p : ℕ) → (role p ≡ Idle) ⊎ (p < wires z)
@@ -69,10 +73,6 @@ Advances _ X = X
 abbrev pub GoesOn : {Core : Type 0} → Sizes → Program Core → (ℕ → Role) → Result Core → Type 0
 GoesOn z P role r = (role' : ℕ → Role) × Steady z P r.machine role' × Advances r.outcome (Lower z.k (wires z) role role')
 
--- no wait buffer has more than r records of one leader
-abbrev pub Few : {Core : Type 0} → Sizes → Program Core → Machine Core → Type 0
-Few z P M = (p s : ℕ) → length (records_on (path_of z P M.core) M.net.records p s) ≤ z.r
-
 -- ---- for every program
 
 module _ (Core : Type 0) where
@@ -84,4 +84,4 @@ module _ (Core : Type 0) where
   StepsKeepSteady = (z : Sizes) (P : Program Core) (M : Machine Core) (role : ℕ → Role) (st : Step) → Steady z P M role → (role' : ℕ → Role) × Steady z P (step z P M st).machine role'
 
   abbrev pub RecordsAreFew : Type 0
-  RecordsAreFew = (z : Sizes) (P : Program Core) (M : Machine Core) (role : ℕ → Role) → Steady z P M role → Few z P M
+  RecordsAreFew = (z : Sizes) (P : Program Core) (M : Machine Core) (role : ℕ → Role) → Steady z P M role → Few z M.net

@@ -10,7 +10,7 @@ ghost use Rattle.flat_machine.specs.Memory.{in_local};
 ghost use Rattle.wire_sets.specs.Members.{members};
 ghost use Rattle.omega_network.specs.Networks.{net_of};
 ghost use Rattle.abstract_machine.specs.Steadiness.{Few};
-ghost use Rattle.machine_program.specs.Processors.{port_at, word_at, sizes_of, program};
+ghost use Rattle.machine_program.specs.Processors.{port_at, word_at, sizes_of};
 ghost use Rattle.machine_program.specs.Steps.{outcome_of};
 ghost use Rattle.machine_program.specs.Turning.{told_of_down, told_of_up};
 ghost use Rattle.flat_machine.specs.State.{is_running};
@@ -197,7 +197,7 @@ impl Machine {
         ensures step { IsStep self.old step result self.new }
         ensures outcome { result ≡ outcome_of self.old.config self.old.code (machine_of self.old (λ p. [])) step }
         ensures stalled { result ≡ Outcome.Stalled → (shown : ℕ → List Event) → machine_of self.new shown ≡ machine_of self.old shown }
-        ensures few { Few (sizes_of self.new.config) (program self.new.config self.new.code) (machine_of self.new (λ p. [])) }
+        ensures few { Few (sizes_of self.new.config) (net_of self.new.network) }
         ensures sound { IsMachine self.new }
     {
         // The proof needs that the machine is one, before and after.
