@@ -1,6 +1,7 @@
 pub mod Labels
 pub mod LineByLine
 pub mod Words
+pub mod Parts
 pub mod Again
 pub mod Fits
 pub mod LineBytes

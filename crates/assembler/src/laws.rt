@@ -1,13 +1,15 @@
 //! Laws of what a text means.
 
-ghost use Rattle.std.specs.Prelude.{◌≡◌, ◌≤◌, ◌*◌, ℕ, true, List, [], length};
+ghost use Rattle.std.specs.Prelude.{◌≡◌, ◌≤◌, ◌<◌, ◌*◌, ◌^◌, ℕ, true, List, [], length, Some};
 ghost use Rattle.flat_machine.specs.declared.config.Config.{Config};
 ghost use Rattle.flat_machine.specs.Memory.{in_code};
 ghost use Rattle.elf_image.specs.declared.layout.Layout.{Layout};
 ghost use Rattle.elf_image.specs.Spellings.{spelling};
 ghost use Rattle.assembler.specs.declared.fault.AsmError.{AsmError};
-ghost use Rattle.assembler.specs.Meaning.{IsMeaning, IsPresent, FitsRegions, word_bytes};
+ghost use Rattle.assembler.specs.declared.symbol.Symbol.{Symbol};
+ghost use Rattle.assembler.specs.Meaning.{Labels, IsMeaning, IsPresent, FitsRegions, word_bytes};
 ghost use Rattle.assembler.specs.Openings.{IsReadAsText};
+ghost use Rattle.assembler.specs.Parts.{MakeValue};
 ghost use Rattle.asm_lines.specs.Written.{text_of};
 ghost use Rattle.rv_table.specs.Rows.{Spells};
 
@@ -30,6 +32,13 @@ pub fn one_meaning()
 /// What a text means fits into the regions of the memory.
 pub fn meaning_fits()
     ensures { (text : List ℕ) (layout : Layout) → IsMeaning text layout → FitsRegions layout }
+{}
+
+/// `%hi` and `%lo` of a label give its value back: what LUI leaves in a register by the one, ADDI makes
+/// the value by the other, and a load or a store from there refers to it.
+pub fn high_and_low_make_the_value()
+    ensures { (labels : Labels) (name : List ℕ) (symbol : Symbol) → labels name ≡ Some symbol
+        → symbol.address < 2 ^ 32 → MakeValue labels name symbol.address }
 {}
 
 /// The text of an instruction, as `disassemble` writes it, means the instruction's one word.

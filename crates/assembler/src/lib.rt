@@ -62,7 +62,8 @@ mod values;
 pub use disassembly::disassemble;
 pub use fault::{AsmError, AsmFault};
 pub use laws::{
-    disassembled_again, fault_or_meaning, image_opens_on_the_text, meaning_fits, one_meaning,
+    disassembled_again, fault_or_meaning, high_and_low_make_the_value, image_opens_on_the_text,
+    meaning_fits, one_meaning,
 };
 pub use passes::assemble;
 pub use program::Program;
