@@ -6,3 +6,11 @@ pub mod PlainWords
 pub mod Numerals
 pub mod Fields
 pub mod RoundTrip
+pub mod Alike
+pub mod Trims
+pub mod Readers
+pub mod StatementLines
+pub mod WithBracket
+pub mod Gaps
+pub mod Blanks
+pub mod Comments

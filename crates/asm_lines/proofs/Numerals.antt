@@ -49,7 +49,7 @@ second_digit : (bs : List ℕ) → AllDigits 10 bs → (slice_index bs 0 == 120)
 second_digit [] h = refl
 second_digit (b ∷ bs) h = not-true _ (digit_passes (λ b. not (eqb b 120)) refl b h.0)
 
-plain_digits : (bs : List ℕ) → IsNumeral 10 bs → number_of bs ≡ Some (pos (digits_value 10 bs))
+pub plain_digits : (bs : List ℕ) → IsNumeral 10 bs → number_of bs ≡ Some (pos (digits_value 10 bs))
 unfolding number_of digits_in
 plain_digits [] h = let none : 0 < 0 = h.0 in absurd (omega arith)
 plain_digits (b ∷ bs) h =

@@ -14,7 +14,7 @@ use Rattle.asm_lines.specs.Written.{after_commas, in_brackets}
 
 -- ---- tests of each byte
 
-weaker : (p q : ℕ → Bool) → ((b : ℕ) → p b ≡ true → q b ≡ true) → (xs : List ℕ) → list_all p xs ≡ true → list_all q xs ≡ true
+pub weaker : (p q : ℕ → Bool) → ((b : ℕ) → p b ≡ true → q b ≡ true) → (xs : List ℕ) → list_all p xs ≡ true → list_all q xs ≡ true
 weaker p q h [] e = refl
 weaker p q h (x ∷ xs) e = let a = and_parts (p x) (list_all p xs) e in and_from (q x) (list_all q xs) (h x a.0) (weaker p q h xs a.1)
 
@@ -153,11 +153,11 @@ last_operand front c op [] w none = ap (λ l. is_blank (get_or (reverse (front +
 last_operand front c op (o ∷ os) w (more v vs) =
     ap is_blank (last_seam front c (op ++ 44 ∷ 32 ∷ (o ++ after_commas os)) (some_append op _ w.nonempty) ∙ last_seam op 44 (32 ∷ (o ++ after_commas os)) (omega arith)) ∙ last_operand [] 32 o os v vs
 
-split_mid : (p : ℕ → Bool) (xs : List ℕ) (c : ℕ) (ys : List ℕ) → list_all (λ b. not (p b)) xs ≡ true → p c ≡ true → slice_split p (xs ++ c ∷ ys) ≡ xs ∷ slice_split p ys
+pub split_mid : (p : ℕ → Bool) (xs : List ℕ) (c : ℕ) (ys : List ℕ) → list_all (λ b. not (p b)) xs ≡ true → p c ≡ true → slice_split p (xs ++ c ∷ ys) ≡ xs ∷ slice_split p ys
 split_mid p [] c ys h e = slice_split-cons_yes p c ys e
 split_mid p (x ∷ xs) c ys h e = let a = and_parts (not (p x)) (list_all (λ b. not (p b)) xs) h in slice_split-cons_no p x (xs ++ c ∷ ys) (not-true _ a.0) ∙ rw (split_mid p xs c ys a.1 e) refl
 
-split_none : (p : ℕ → Bool) (xs : List ℕ) → list_all (λ b. not (p b)) xs ≡ true → slice_split p xs ≡ xs ∷ []
+pub split_none : (p : ℕ → Bool) (xs : List ℕ) → list_all (λ b. not (p b)) xs ≡ true → slice_split p xs ≡ xs ∷ []
 split_none p [] h = refl
 split_none p (x ∷ xs) h = let a = and_parts (not (p x)) (list_all (λ b. not (p b)) xs) h in slice_split-cons_no p x xs (not-true _ a.0) ∙ rw (split_none p xs a.1) refl
 

@@ -4,3 +4,4 @@ pub mod Number
 pub mod Names
 pub mod Statements
 pub mod Written
+pub mod Alike

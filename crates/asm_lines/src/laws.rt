@@ -1,11 +1,12 @@
 //! Laws of what a line says.
 
-ghost use Rattle.std.specs.Prelude.{◌≡◌, ℕ, ◌^◌, ◌/◌, ◌<◌, pos, negsuc, ◌∷◌, [], Some, None, Ok};
+ghost use Rattle.std.specs.Prelude.{◌≡◌, ℕ, List, ◌++◌, codes, true, ◌^◌, ◌/◌, ◌<◌, pos, negsuc, ◌∷◌, [], Some, None, Ok};
 ghost use Rattle.rv_table.specs.declared.insn.Insn.{Insn};
 ghost use Rattle.rv_table.specs.Rows.{InRange};
 ghost use Rattle.asm_lines.specs.Text.{parts_at};
-ghost use Rattle.asm_lines.specs.Number.{low_bits};
-ghost use Rattle.asm_lines.specs.Statements.{instruction, line_of};
+ghost use Rattle.asm_lines.specs.Alike.{IsNumeralOf, AreReadAlike, AreBlanks, IsQuiet, IsMark, IsFirstWord, IsLead, statement_line};
+ghost use Rattle.asm_lines.specs.Number.{low_bits, number_of};
+ghost use Rattle.asm_lines.specs.Statements.{instruction, is_name, line_of};
 ghost use Rattle.asm_lines.specs.Written.{text_of, as_said, signed, offset, IsEvenWithin};
 
 /// The text of an instruction is one line, which has no label and says the instruction.
@@ -24,4 +25,26 @@ pub fn fields_again()
     ensures branch_in_range { (f : ℕ) → f < 2 ^ 12 → IsEvenWithin (negsuc 4095) (pos 4094) (offset (2 ^ 11) f) }
     ensures jump { (f : ℕ) → f < 2 ^ 20 → low_bits (2 ^ 21) (offset (2 ^ 19) f) / 2 ≡ f }
     ensures jump_in_range { (f : ℕ) → f < 2 ^ 20 → IsEvenWithin (negsuc 1048575) (pos 1048574) (offset (2 ^ 19) f) }
+{}
+
+/// Numerals of one number, in decimal digits and in `0x` and hex digits, are read alike as operands.
+pub fn numerals_are_read_alike()
+    ensures number { (n : ℕ) (bytes : List ℕ) → IsNumeralOf n bytes → number_of bytes ≡ Some (pos n) }
+    ensures alike { (n : ℕ) (one other : List ℕ) → IsNumeralOf n one → IsNumeralOf n other → AreReadAlike one other }
+{}
+
+/// A line with a comment behind it is read as the line without.
+pub fn comments_change_nothing()
+    ensures { (line comment : List ℕ) → line_of (line ++ (codes "#" ++ comment)) ≡ line_of line }
+{}
+
+/// Blanks change nothing on either side of a comma or a bracket among the operands of a statement, on
+/// either side of a label's colon, and at the ends of a line.
+pub fn blanks_change_nothing()
+    ensures marks { (lead word front gap gap' back : List ℕ) (mark : ℕ) → IsLead lead → IsFirstWord word → IsQuiet front → IsQuiet back
+        → AreBlanks gap → AreBlanks gap' → IsMark mark
+        → line_of (statement_line lead word (front ++ (gap ++ mark ∷ (gap' ++ back)))) ≡ line_of (statement_line lead word (front ++ mark ∷ back)) }
+    ensures colon { (name gap gap' rest : List ℕ) → is_name name ≡ true → AreBlanks gap → AreBlanks gap'
+        → line_of (name ++ (gap ++ 58 ∷ (gap' ++ rest))) ≡ line_of (name ++ 58 ∷ rest) }
+    ensures ends { (before line after : List ℕ) → AreBlanks before → AreBlanks after → line_of (before ++ (line ++ after)) ≡ line_of line }
 {}

@@ -21,7 +21,10 @@ mod tests;
 mod text;
 
 pub use fault::{LineError, LineFault};
-pub use laws::{fields_again, written_again};
+pub use laws::{
+    blanks_change_nothing, comments_change_nothing, fields_again, numerals_are_read_alike,
+    written_again,
+};
 pub use line::read_line;
 pub use mnemonic::{Mnemonic, Order};
 pub use number::low_bits;

@@ -1,0 +1,170 @@
+-- Blanks at the ends of a text and of its parts.
+use Rattle.std.proofs.Common.{◌≡◌, ℕ, ◌<◌, Bool, true, false, cond, not, eqb, List, [], ◌∷◌, ◌++◌, length, get_or, map, refl, sym, ap, ◌∙◌, append_assoc, append-nil}
+use Rattle.std.specs.Prelude.{reverse}
+use Rattle.std.specs.List.{list_all, slice_split}
+use Rattle.std.proofs.lemmas.Bool.{and_parts, and_from, not_from_false, not-true, eqb-true}
+use Rattle.std.proofs.lemmas.List.{reverse-append, length-reverse}
+use Rattle.asm_lines.specs.Text.{is_blank, front_trimmed, trimmed, operands_of}
+use Rattle.asm_lines.specs.Alike.{AreBlanks}
+use Rattle.asm_lines.proofs.PlainWords.{weaker, joined_all, all_at, trimmed_same, split_mid, split_none}
+use Rattle.asm_lines.proofs.Comments.{Cut, uncut, cut, cut_of}
+
+-- where each byte passes, none is one that does not
+pub no_such : (p : ℕ → Bool) (c : ℕ) → p c ≡ false → (bs : List ℕ) → list_all p bs ≡ true → list_all (λ b. not (eqb b c)) bs ≡ true
+no_such p c fails bs h = weaker p (λ b. not (eqb b c)) (λ b e. go b e (eqb b c) refl) bs h
+  where
+    go : (b : ℕ) → p b ≡ true → (t : Bool) → eqb b c ≡ t → not t ≡ true
+    go b e false f = refl
+    go b e true f = let differ : false ≡ true = sym fails ∙ sym (ap p (eqb-true b c f)) ∙ e in differ
+
+-- ---- a text behind blanks, or before them
+
+reverse_cons : (x : ℕ) (xs : List ℕ) → reverse (x ∷ xs) ≡ reverse xs ++ x ∷ []
+reverse_cons x xs = reverse-append (x ∷ []) xs
+
+pub all_reversed : (q : ℕ → Bool) (xs : List ℕ) → list_all q xs ≡ true → list_all q (reverse xs) ≡ true
+all_reversed q [] h = refl
+all_reversed q (x ∷ xs) h =
+    let a = and_parts (q x) (list_all q xs) h in
+    ap (list_all q) (reverse_cons x xs) ∙ joined_all q (reverse xs) (x ∷ []) (all_reversed q xs a.1) (and_from (q x) true a.0 refl)
+
+front_behind : (gap xs : List ℕ) → AreBlanks gap → front_trimmed (gap ++ xs) ≡ front_trimmed xs
+front_behind [] xs h = refl
+front_behind (g ∷ gap) xs h = let a = and_parts (is_blank g) (list_all is_blank gap) h in rw a.0 (front_behind gap xs a.1)
+
+front_blank : (gap : List ℕ) → AreBlanks gap → front_trimmed gap ≡ []
+front_blank [] h = refl
+front_blank (g ∷ gap) h = let a = and_parts (is_blank g) (list_all is_blank gap) h in rw a.0 (front_blank gap a.1)
+
+-- up to a byte that is no blank, only what stands before it is trimmed
+pub front_before : (xs : List ℕ) (c : ℕ) (ys : List ℕ) → is_blank c ≡ false → front_trimmed (xs ++ c ∷ ys) ≡ front_trimmed xs ++ c ∷ ys
+front_before [] c ys h = rw h refl
+front_before (x ∷ xs) c ys h = go (is_blank x) (front_before xs c ys h)
+  where
+    go : (t : Bool) → front_trimmed (xs ++ c ∷ ys) ≡ front_trimmed xs ++ c ∷ ys → cond t (front_trimmed (xs ++ c ∷ ys)) (x ∷ (xs ++ c ∷ ys)) ≡ cond t (front_trimmed xs) (x ∷ xs) ++ c ∷ ys
+    go true more = more
+    go false more = refl
+
+pub trimmed_behind : (gap xs : List ℕ) → AreBlanks gap → trimmed (gap ++ xs) ≡ trimmed xs
+unfolding trimmed
+trimmed_behind gap xs h = ap (λ (l : List ℕ). reverse (front_trimmed (reverse l))) (front_behind gap xs h)
+
+pub trimmed_blanks : (gap : List ℕ) → AreBlanks gap → trimmed gap ≡ []
+unfolding trimmed
+trimmed_blanks gap h = ap (λ (l : List ℕ). reverse (front_trimmed (reverse l))) (front_blank gap h)
+
+back_before : (xs gap : List ℕ) → AreBlanks gap → front_trimmed (reverse (xs ++ gap)) ≡ front_trimmed (reverse xs)
+back_before xs gap h = ap front_trimmed (reverse-append xs gap) ∙ front_behind (reverse gap) (reverse xs) (all_reversed is_blank gap h)
+
+-- blanks behind a text stay where it has a byte that is no blank
+pub record Kept (xs gap : List ℕ) : Type 0 where
+  pub gap_left : List ℕ
+  pub is : front_trimmed (xs ++ gap) ≡ front_trimmed xs ++ gap_left
+  pub blanks : AreBlanks gap_left
+
+twice : (ys : List ℕ) → list_all (λ b. not (not (is_blank b))) ys ≡ true → AreBlanks ys
+twice ys e = weaker (λ b. not (not (is_blank b))) is_blank (λ b n. undone (is_blank b) n) ys e
+  where
+    undone : (t : Bool) → not (not t) ≡ true → t ≡ true
+    undone true n = refl
+    undone false n = n
+
+pub kept_of : (xs gap : List ℕ) → AreBlanks gap → Kept xs gap
+kept_of xs gap h = go (cut_of (λ b. not (is_blank b)) xs)
+  where
+    go : Cut (λ b. not (is_blank b)) xs → Kept xs gap
+    go (uncut e) = record {
+      gap_left = [];
+      is = front_blank (xs ++ gap) (joined_all is_blank xs gap (twice xs e) h) ∙ sym (append-nil (front_trimmed xs) ∙ front_blank xs (twice xs e));
+      blanks = refl;
+    }
+    go (cut front c behind is e n) =
+        let none : is_blank c ≡ false = not-true (is_blank c) n in
+        let one : front_trimmed xs ≡ front_trimmed front ++ c ∷ behind = ap front_trimmed is ∙ front_before front c behind none in
+        let whole : xs ++ gap ≡ front ++ c ∷ (behind ++ gap) = ap (λ l. l ++ gap) is ∙ append_assoc front (c ∷ behind) gap in
+        record {
+          gap_left = gap;
+          is = ap front_trimmed whole ∙ front_before front c (behind ++ gap) none ∙ sym (append_assoc (front_trimmed front) (c ∷ behind) gap) ∙ ap (λ l. l ++ gap) (sym one);
+          blanks = h;
+        }
+
+pub trimmed_before : (xs gap : List ℕ) → AreBlanks gap → trimmed (xs ++ gap) ≡ trimmed xs
+unfolding trimmed
+trimmed_before xs gap h =
+    let k = kept_of xs gap h in
+    ap (λ (l : List ℕ). reverse (front_trimmed (reverse l))) k.is ∙ ap reverse (back_before (front_trimmed xs) k.gap_left k.blanks)
+
+-- ---- the end of a text
+
+-- blanks alone, or a last byte that is none, with blanks behind it
+pub data Ends (xs : List ℕ) : Type 0 where
+  blank : AreBlanks xs → Ends xs
+  solid : (front : List ℕ) (c : ℕ) (gap : List ℕ) → xs ≡ (front ++ c ∷ []) ++ gap → is_blank c ≡ false → AreBlanks gap → Ends xs
+
+pub ends_of : (xs : List ℕ) → Ends xs
+ends_of [] = blank refl
+ends_of (x ∷ xs) = go (ends_of xs)
+  where
+    first : (t : Bool) → is_blank x ≡ t → AreBlanks xs → Ends (x ∷ xs)
+    first true e h = blank (and_from (is_blank x) _ e h)
+    first false e h = solid [] x xs refl e h
+
+    go : Ends xs → Ends (x ∷ xs)
+    go (blank h) = first (is_blank x) refl h
+    go (solid front c gap is n h) = solid (x ∷ front) c gap (ap (λ (ys : List ℕ). x ∷ ys) is) n h
+
+-- a text that begins and ends with no blank
+pub trimmed_solid : (xs : List ℕ) (c : ℕ) → is_blank (get_or (xs ++ c ∷ []) 0 32) ≡ false → is_blank c ≡ false → trimmed (xs ++ c ∷ []) ≡ xs ++ c ∷ []
+trimmed_solid xs c first last = trimmed_same (xs ++ c ∷ []) first (ap (λ l. is_blank (get_or l 0 32)) (reverse-append xs (c ∷ [])) ∙ last)
+
+-- no blank at all
+pub trimmed_word : (xs : List ℕ) → 0 < length xs → list_all (λ b. not (is_blank b)) xs ≡ true → trimmed xs ≡ xs
+trimmed_word xs some h = trimmed_same xs (not-true _ (all_at (λ b. not (is_blank b)) xs 0 32 some h))
+    (not-true _ (all_at (λ b. not (is_blank b)) (reverse xs) 0 32 (rw length-reverse some) (all_reversed (λ b. not (is_blank b)) xs h)))
+
+-- ---- operands
+
+abbrev pub is_comma : ℕ → Bool
+is_comma b = eqb b 44
+
+pub blanks_uncut : (gap : List ℕ) → AreBlanks gap → list_all (λ b. not (is_comma b)) gap ≡ true
+blanks_uncut gap h = no_such is_blank 44 refl gap h
+
+pub operands_behind : (gap xs : List ℕ) → AreBlanks gap → operands_of (gap ++ xs) ≡ operands_of xs
+unfolding operands_of
+operands_behind gap xs h = go (cut_of is_comma xs)
+  where
+    go : Cut is_comma xs → map trimmed (slice_split is_comma (gap ++ xs)) ≡ map trimmed (slice_split is_comma xs)
+    go (uncut e) = ap (map trimmed) (split_none is_comma (gap ++ xs) (joined_all _ gap xs (blanks_uncut gap h) e)) ∙ ap (λ (l : List ℕ). l ∷ []) (trimmed_behind gap xs h) ∙ ap (map trimmed) (sym (split_none is_comma xs e))
+    go (cut front c behind is e n) =
+        let whole : gap ++ xs ≡ (gap ++ front) ++ c ∷ behind = ap (λ l. gap ++ l) is ∙ sym (append_assoc gap front (c ∷ behind)) in
+        let none = joined_all (λ b. not (is_comma b)) gap front (blanks_uncut gap h) e in
+        ap (λ l. map trimmed (slice_split is_comma l)) whole
+        ∙ ap (map trimmed) (split_mid is_comma (gap ++ front) c behind none n)
+        ∙ ap (λ (l : List ℕ). l ∷ map trimmed (slice_split is_comma behind)) (trimmed_behind gap front h)
+        ∙ ap (map trimmed) (sym (split_mid is_comma front c behind e n))
+        ∙ ap (λ l. map trimmed (slice_split is_comma l)) (sym is)
+
+-- behind a beginning of an operand
+operands_after : (lead xs gap : List ℕ) → list_all (λ b. not (is_comma b)) lead ≡ true → AreBlanks gap → map trimmed (slice_split is_comma (lead ++ (xs ++ gap))) ≡ map trimmed (slice_split is_comma (lead ++ xs))
+operands_after lead [] gap l h =
+    ap (map trimmed) (split_none is_comma (lead ++ gap) (joined_all _ lead gap l (blanks_uncut gap h)))
+    ∙ ap (λ (x : List ℕ). x ∷ []) (trimmed_before lead gap h)
+    ∙ ap (map trimmed) (sym (split_none is_comma lead l))
+    ∙ ap (λ x. map trimmed (slice_split is_comma x)) (sym (append-nil lead))
+operands_after lead (x ∷ xs) gap l h = go (λ front none. operands_after front xs gap none h) (is_comma x) refl
+  where
+    go : ((front : List ℕ) → list_all (λ b. not (is_comma b)) front ≡ true → map trimmed (slice_split is_comma (front ++ (xs ++ gap))) ≡ map trimmed (slice_split is_comma (front ++ xs)))
+        → (t : Bool) → is_comma x ≡ t → map trimmed (slice_split is_comma (lead ++ x ∷ (xs ++ gap))) ≡ map trimmed (slice_split is_comma (lead ++ x ∷ xs))
+    go rest true e =
+        ap (map trimmed) (split_mid is_comma lead x (xs ++ gap) l e)
+        ∙ ap (λ (ys : List (List ℕ)). trimmed lead ∷ ys) (rest [] refl)
+        ∙ ap (map trimmed) (sym (split_mid is_comma lead x xs l e))
+    go rest false e =
+        ap (λ y. map trimmed (slice_split is_comma y)) (sym (append_assoc lead (x ∷ []) (xs ++ gap)))
+        ∙ rest (lead ++ x ∷ []) (joined_all (λ b. not (is_comma b)) lead (x ∷ []) l (and_from (not (is_comma x)) true (not_from_false (is_comma x) e) refl))
+        ∙ ap (λ y. map trimmed (slice_split is_comma y)) (append_assoc lead (x ∷ []) xs)
+
+pub operands_before : (xs gap : List ℕ) → AreBlanks gap → operands_of (xs ++ gap) ≡ operands_of xs
+unfolding operands_of
+operands_before xs gap h = operands_after [] xs gap refl h

@@ -1,0 +1,117 @@
+-- A text with a bracket is no number, no name and no register.
+use Rattle.std.proofs.Common.{◌≡◌, ℕ, ◌+◌, ◌*◌, Bool, true, false, not, eqb, eq-eqb, List, [], ◌∷◌, ◌++◌, Option, Some, None, Err, refl, sym, ◌∙◌, inl, inr, ◌⊎◌}
+use Rattle.std.specs.Prelude.{◌&&◌, ◌||◌, ℤ, if◌then◌else◌}
+use Rattle.std.specs.Option.{option_and_then}
+use Rattle.std.specs.List.{list_all}
+use Rattle.std.specs.Str.{bytes_eq}
+use Rattle.std.proofs.lemmas.Bool.{and_parts, and_left, and_right, not-true, ne_eqb, true≢false}
+use Rattle.asm_lines.specs.declared.fault.LineFault.TheVariants.{Form}
+use Rattle.asm_lines.specs.Text.{is_blank}
+use Rattle.asm_lines.specs.Number.{digit_in, digits_after, digits_in, number_of, number_within}
+use Rattle.asm_lines.specs.Names.{x_name, use_name, numbers, register_of}
+use Rattle.asm_lines.specs.Statements.{is_letter, is_name_byte, is_name, register_in, nothing_in}
+use Rattle.asm_lines.proofs.PlainWords.{weaker}
+use Rattle.asm_lines.proofs.Alike.{find_nothing}
+
+abbrev pub lacks : ℕ → List ℕ → Bool
+lacks m xs = list_all (λ b. not (eqb b m)) xs
+
+-- what a bracket is not
+pub record IsBracket (m : ℕ) : Type 0 where
+  pub which : (m ≡ 40) ⊎ (m ≡ 41)
+  pub solid : is_blank m ≡ false
+  pub letter : is_letter m ≡ false
+  pub name_byte : is_name_byte m ≡ false
+  pub decimal : digit_in 10 m ≡ None
+  pub hex : digit_in 16 m ≡ None
+  pub no_minus : eqb m 45 ≡ false
+  pub no_zero : eqb m 48 ≡ false
+  pub no_x : eqb m 120 ≡ false
+  pub registers : list_all (λ r. lacks m (x_name r) && lacks m (use_name r)) numbers ≡ true
+  pub high : lacks m (37 ∷ 104 ∷ 105 ∷ []) ≡ true
+  pub low : lacks m (37 ∷ 108 ∷ 111 ∷ []) ≡ true
+
+pub opening : IsBracket 40
+opening = record { which = inl refl; solid = refl; letter = refl; name_byte = refl; decimal = refl; hex = refl; no_minus = refl; no_zero = refl; no_x = refl; registers = refl; high = refl; low = refl }
+
+pub closing : IsBracket 41
+closing = record { which = inr refl; solid = refl; letter = refl; name_byte = refl; decimal = refl; hex = refl; no_minus = refl; no_zero = refl; no_x = refl; registers = refl; high = refl; low = refl }
+
+module _ (m : ℕ) (is : IsBracket m) where
+  eqb_other : (y : ℕ) → not (eqb y m) ≡ true → eqb m y ≡ false
+  eqb_other y h = ne_eqb m y (λ e. true≢false (sym (eq-eqb y m (sym e)) ∙ not-true _ h))
+
+  -- ---- other texts
+
+  pub unlike : (P Q ys : List ℕ) → lacks m ys ≡ true → bytes_eq (P ++ m ∷ Q) ys ≡ false
+  unlike [] Q [] h = refl
+  unlike [] Q (y ∷ ys) h = and_left (eqb m y) _ (eqb_other y (and_parts (not (eqb y m)) (lacks m ys) h).0)
+  unlike (p ∷ P) Q [] h = refl
+  unlike (p ∷ P) Q (y ∷ ys) h = and_right (eqb p y) _ (unlike P Q ys (and_parts (not (eqb y m)) (lacks m ys) h).1)
+
+  unlike_name : (ys P Q : List ℕ) → lacks m ys ≡ true → bytes_eq ys (P ++ m ∷ Q) ≡ false
+  unlike_name [] [] Q h = refl
+  unlike_name [] (p ∷ P) Q h = refl
+  unlike_name (y ∷ ys) [] Q h = and_left (eqb y m) _ (not-true _ (and_parts (not (eqb y m)) (lacks m ys) h).0)
+  unlike_name (y ∷ ys) (p ∷ P) Q h = and_right (eqb y p) _ (unlike_name ys P Q (and_parts (not (eqb y m)) (lacks m ys) h).1)
+
+  -- ---- registers and names
+
+  no_such_register : (P Q : List ℕ) → register_of (P ++ m ∷ Q) ≡ None
+  unfolding register_of
+  no_such_register P Q = find_nothing (λ r. bytes_eq (x_name r) (P ++ m ∷ Q) || bytes_eq (use_name r) (P ++ m ∷ Q)) numbers
+      (weaker (λ r. lacks m (x_name r) && lacks m (use_name r)) (λ r. not (bytes_eq (x_name r) (P ++ m ∷ Q) || bytes_eq (use_name r) (P ++ m ∷ Q)))
+      (λ r e. let a = and_parts (lacks m (x_name r)) (lacks m (use_name r)) e in rw (unlike_name (x_name r) P Q a.0, unlike_name (use_name r) P Q a.1) refl)
+      numbers is.registers)
+
+  pub register_fails : (P Q : List ℕ) → register_in (P ++ m ∷ Q) ≡ Err Form
+  unfolding register_in
+  register_fails P Q = rw (no_such_register P Q) refl
+
+  not_all : (P Q : List ℕ) → list_all is_name_byte (P ++ m ∷ Q) ≡ false
+  not_all [] Q = and_left (is_name_byte m) _ is.name_byte
+  not_all (p ∷ P) Q = and_right (is_name_byte p) _ (not_all P Q)
+
+  pub no_name : (P Q : List ℕ) → is_name (P ++ m ∷ Q) ≡ false
+  unfolding is_name
+  no_name [] Q = and_left (is_letter m) _ is.letter
+  no_name (p ∷ P) Q = and_right (is_letter p) _ (not_all P Q)
+
+  -- ---- numbers
+
+  after_none : (base : ℕ) (o : Option ℕ) (f : ℕ → Option ℕ) → ((d : ℕ) → f d ≡ None) → option_and_then f o ≡ None
+  after_none base None f h = refl
+  after_none base (Some d) f h = h d
+
+  no_digits : (base v : ℕ) (P Q : List ℕ) → digit_in base m ≡ None → digits_after base v (P ++ m ∷ Q) ≡ None
+  no_digits base v [] Q e = rw e refl
+  no_digits base v (p ∷ P) Q e = after_none base (digit_in base p) _ (λ d. no_digits base (v * base + d) P Q e)
+
+  none_written : (base : ℕ) (P Q : List ℕ) → digit_in base m ≡ None → digits_in base (P ++ m ∷ Q) ≡ None
+  unfolding digits_in
+  none_written base [] Q e = no_digits base 0 [] Q e
+  none_written base (p ∷ P) Q e = no_digits base 0 (p ∷ P) Q e
+
+  pick_none : (s t : Bool) (x y z : Option ℤ) → x ≡ None → y ≡ None → z ≡ None → (if s then x else (if t then y else z)) ≡ None
+  pick_none true t x y z a b c = a
+  pick_none false true x y z a b c = b
+  pick_none false false x y z a b c = c
+
+  either_none : (s : Bool) (x z : Option ℤ) → x ≡ None → z ≡ None → (if s then x else z) ≡ None
+  either_none true x z a c = a
+  either_none false x z a c = c
+
+  pub no_number : (P Q : List ℕ) → number_of (P ++ m ∷ Q) ≡ None
+  unfolding number_of
+  no_number [] Q = rw (is.no_minus, is.no_zero, none_written 10 [] Q is.decimal) refl
+  no_number (p ∷ []) Q = rw (and_right (eqb p 48) (eqb m 120) is.no_x) (either_none (eqb p 45) _ _ (rw (none_written 10 [] Q is.decimal) refl) (rw (none_written 10 (p ∷ []) Q is.decimal) refl))
+  no_number (p ∷ q ∷ P) Q = pick_none (eqb p 45) (eqb p 48 && eqb q 120) _ _ _ (rw (none_written 10 (q ∷ P) Q is.decimal) refl) (rw (none_written 16 P Q is.hex) refl) (rw (none_written 10 (p ∷ q ∷ P) Q is.decimal) refl)
+
+  pub number_fails : (least most : ℤ) (P Q : List ℕ) → number_within least most (P ++ m ∷ Q) ≡ Err Form
+  unfolding number_within
+  number_fails least most P Q = rw (no_number P Q) refl
+
+  pub some_operand : (P Q : List ℕ) → nothing_in ((P ++ m ∷ Q) ∷ []) ≡ Err Form
+  unfolding nothing_in
+  some_operand [] Q = refl
+  some_operand (p ∷ P) Q = refl
