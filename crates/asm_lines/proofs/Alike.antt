@@ -8,6 +8,7 @@ use Rattle.std.specs.Str.Parse.{digits_value_after, AllDigits}
 use Rattle.std.proofs.lemmas.Bool.{agree_below, agree_below_at, and_parts, and_from, and_left, or_cases, eqb-true, not-true, lt-ltb, true≢false}
 use Rattle.std.proofs.lemmas.Bool.Decides.{nat_tests}
 use Rattle.asm_lines.specs.declared.fault.LineFault.TheVariants.{Form}
+use Rattle.asm_lines.specs.Text.{is_blank}
 use Rattle.asm_lines.specs.Number.{digit_in, digits_after, digits_in, number_of, number_within, natural_within}
 use Rattle.asm_lines.specs.Names.{x_name, use_name, numbers, register_of}
 use Rattle.asm_lines.specs.Statements.{is_letter, is_name, register_in, value_in, bracketed, part_in, upper_in, lower_in, byte_in, nothing_in}
@@ -23,12 +24,14 @@ hex_below b h = grind (arith, nat_tests)
 -- what holds of each hex digit among the first 128 bytes
 hex_passes : (q : ℕ → Bool) → agree_below (λ b. not (nat_lt (digit_value b) 16) || q b) (λ _. true) 128 ≡ true → (b : ℕ) → digit_value b < 16 → q b ≡ true
 hex_passes q table b h =
-    elim (or_cases (not (nat_lt (digit_value b) 16)) (q b) (agree_below_at (λ b. not (nat_lt (digit_value b) 16) || q b) (λ _. true) 128 b table (hex_below b h))) [
+    elim (or_cases (not (nat_lt (digit_value b) 16)) (q b)
+    (agree_below_at (λ b. not (nat_lt (digit_value b) 16) || q b) (λ _. true) 128 b table (hex_below b h))) [
       | inl past ↦ absurd (true≢false (sym (lt-ltb (digit_value b) 16 h) ∙ not-true (nat_lt (digit_value b) 16) past))
       | inr passes ↦ passes
     ]
 
-hex_digits_pass : (q : ℕ → Bool) → agree_below (λ b. not (nat_lt (digit_value b) 16) || q b) (λ _. true) 128 ≡ true → (bs : List ℕ) → AllDigits 16 bs → list_all q bs ≡ true
+hex_digits_pass : (q : ℕ → Bool) → agree_below (λ b. not (nat_lt (digit_value b) 16) || q b) (λ _. true) 128 ≡ true → (bs : List ℕ) → AllDigits 16 bs
+    → list_all q bs ≡ true
 hex_digits_pass q table [] h = refl
 hex_digits_pass q table (b ∷ bs) h = and_from (q b) (list_all q bs) (hex_passes q table b h.0) (hex_digits_pass q table bs h.1)
 
@@ -61,22 +64,32 @@ numeral_number n bytes (inr hex) = hex_number n bytes hex
 
 -- ---- a numeral is nothing else
 
--- a numeral begins with a digit, and has no closing bracket
-record LooksLikeNumber (bytes : List ℕ) : Type 0 where
-  first : ℕ
-  rest : List ℕ
-  is : bytes ≡ first ∷ rest
-  digit : digit_value first < 10
-  unclosed : list_all (λ b. not (eqb b 41)) bytes ≡ true
+-- a numeral begins with a digit, and has no blank and no closing bracket
+pub record LooksLikeNumber (bytes : List ℕ) : Type 0 where
+  pub first : ℕ
+  pub rest : List ℕ
+  pub is : bytes ≡ first ∷ rest
+  pub digit : digit_value first < 10
+  pub solid : list_all (λ b. not (is_blank b)) bytes ≡ true
+  pub unclosed : list_all (λ b. not (eqb b 41)) bytes ≡ true
 
-looks : (n : ℕ) (bytes : List ℕ) → IsNumeralOf n bytes → LooksLikeNumber bytes
+pub looks : (n : ℕ) (bytes : List ℕ) → IsNumeralOf n bytes → LooksLikeNumber bytes
 looks n [] (inl decimal) = let none : 0 < 0 = decimal.0.0 in absurd (omega arith)
-looks n (b ∷ bs) (inl decimal) = record { first = b; rest = bs; is = refl; digit = decimal.0.1.0; unclosed = digits_pass (λ b. not (eqb b 41)) refl (b ∷ bs) decimal.0.1 }
+looks n (b ∷ bs) (inl decimal) = record {
+  first = b;
+  rest = bs;
+  is = refl;
+  digit = decimal.0.1.0;
+  solid =
+      digits_pass (λ b. not (is_blank b)) refl (b ∷ bs) decimal.0.1;
+  unclosed = digits_pass (λ b. not (eqb b 41)) refl (b ∷ bs) decimal.0.1;
+}
 looks n bytes (inr hex) = record {
   first = 48;
   rest = 120 ∷ hex.0;
   is = hex.1;
   digit = omega arith;
+  solid = rw hex.1 (hex_digits_pass (λ b. not (is_blank b)) refl hex.0 hex.2.1);
   unclosed = rw hex.1 (hex_digits_pass (λ b. not (eqb b 41)) refl hex.0 hex.2.1);
 }
 
@@ -97,7 +110,8 @@ find_nothing p (x ∷ xs) h =
 no_register : (b : ℕ) (bs : List ℕ) → digit_value b < 10 → register_of (b ∷ bs) ≡ None
 unfolding register_of
 no_register b bs h = find_nothing (λ r. bytes_eq (x_name r) (b ∷ bs) || bytes_eq (use_name r) (b ∷ bs)) numbers
-    (weaker (λ r. not (eqb (slice_index (x_name r) 0) b) && not (eqb (slice_index (use_name r) 0) b)) (λ r. not (bytes_eq (x_name r) (b ∷ bs) || bytes_eq (use_name r) (b ∷ bs)))
+    (weaker (λ r. not (eqb (slice_index (x_name r) 0) b) && not (eqb (slice_index (use_name r) 0) b))
+    (λ r. not (bytes_eq (x_name r) (b ∷ bs) || bytes_eq (use_name r) (b ∷ bs)))
     (λ r e. let a = and_parts (not (eqb (slice_index (x_name r) 0) b)) (not (eqb (slice_index (use_name r) 0) b)) e in
     rw (other_name (x_name r) b bs (not-true _ a.0), other_name (use_name r) b bs (not-true _ a.1)) refl)
     numbers (digit_passes begins_no_register refl b h))

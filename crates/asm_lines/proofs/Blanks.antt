@@ -1,16 +1,16 @@
 -- Blanks round commas, brackets and a label's colon, and at the ends of a line, change nothing.
 use Rattle.std.proofs.Common.{◌≡◌, ℕ, Bool, true, false, not, eqb, List, [], ◌∷◌, ◌++◌, map, Option, Some, None, refl, sym, ap, ap₂, subst, ◌∙◌, append_assoc, append-nil, Result, Ok, ◌⊎◌, inl, inr}
 use Rattle.std.specs.Prelude.{◌||◌, if◌then◌else◌}
-use Rattle.std.specs.List.{list_all, slice_split}
+use Rattle.std.specs.List.{slice_split}
 use Rattle.std.proofs.lemmas.Bool.{and_from, not_from_false, eqb-true}
 use Rattle.asm_lines.specs.declared.fault.LineFault.{LineFault}
 use Rattle.asm_lines.specs.Steps.{◌>>=◌}
 use Rattle.asm_lines.specs.Text.{is_blank, trimmed, cut_at, operands_of}
 use Rattle.asm_lines.specs.Statements.{Said, is_name, bracketed, rest_of_line, before_comment, label_parts, label_in, said_in, line_of}
-use Rattle.asm_lines.specs.Alike.{AreBracketedAlike, AreReadAlike, AllAlike, none, more, AreBlanks, IsQuiet, IsMark, IsFirstWord, IsLead, statement_line}
+use Rattle.asm_lines.specs.Alike.{AreBracketedAlike, AreReadAlike, Pairwise, none, more, AreBlanks, IsQuiet, IsMark, IsFirstWord, IsLead, statement_line}
 use Rattle.asm_lines.proofs.PlainWords.{weaker, joined_all, cut_at_none, cut_at_mid, split_mid, split_none}
 use Rattle.asm_lines.proofs.Comments.{Cut, uncut, cut, cut_of, is_mark}
-use Rattle.asm_lines.proofs.Trims.{no_such, is_comma, blanks_uncut, trimmed_behind, trimmed_before, operands_behind, operands_before}
+use Rattle.asm_lines.proofs.Trims.{lacks, lacks_both, no_such, is_comma, blanks_uncut, trimmed_behind, trimmed_before, operands_behind, operands_before}
 use Rattle.asm_lines.proofs.WithBracket.{IsBracket, opening, closing}
 use Rattle.asm_lines.proofs.Gaps.{gap_alike}
 use Rattle.asm_lines.proofs.StatementLines.{name_without, labelled, lines_alike}
@@ -20,13 +20,13 @@ use Rattle.asm_lines.proofs.StatementLines.{name_without, labelled, lines_alike}
 abbrev split_trimmed : List ℕ → List (List ℕ)
 split_trimmed xs = map trimmed (slice_split is_comma xs)
 
-comma_after : (lead xs ys : List ℕ) → list_all (λ b. not (is_comma b)) lead ≡ true → split_trimmed (lead ++ (xs ++ 44 ∷ ys)) ≡ split_trimmed (lead ++ xs) ++ split_trimmed ys
+comma_after : (lead xs ys : List ℕ) → lacks 44 lead ≡ true → split_trimmed (lead ++ (xs ++ 44 ∷ ys)) ≡ split_trimmed (lead ++ xs) ++ split_trimmed ys
 comma_after lead [] ys l =
     ap (map trimmed) (split_mid is_comma lead 44 ys l refl)
     ∙ ap (λ l. l ++ split_trimmed ys) (ap (map trimmed) (sym (split_none is_comma lead l)) ∙ ap split_trimmed (sym (append-nil lead)))
 comma_after lead (x ∷ xs) ys l = go (λ front h. comma_after front xs ys h) (is_comma x) refl
   where
-    go : ((front : List ℕ) → list_all (λ b. not (is_comma b)) front ≡ true → split_trimmed (front ++ (xs ++ 44 ∷ ys)) ≡ split_trimmed (front ++ xs) ++ split_trimmed ys)
+    go : ((front : List ℕ) → lacks 44 front ≡ true → split_trimmed (front ++ (xs ++ 44 ∷ ys)) ≡ split_trimmed (front ++ xs) ++ split_trimmed ys)
         → (t : Bool) → is_comma x ≡ t → split_trimmed (lead ++ x ∷ (xs ++ 44 ∷ ys)) ≡ split_trimmed (lead ++ x ∷ xs) ++ split_trimmed ys
     go rest true e =
         ap (map trimmed) (split_mid is_comma lead x (xs ++ 44 ∷ ys) l e)
@@ -34,10 +34,11 @@ comma_after lead (x ∷ xs) ys l = go (λ front h. comma_after front xs ys h) (i
         ∙ ap (λ zs. map trimmed zs ++ split_trimmed ys) (sym (split_mid is_comma lead x xs l e))
     go rest false e =
         ap split_trimmed (sym (append_assoc lead (x ∷ []) (xs ++ 44 ∷ ys)))
-        ∙ rest (lead ++ x ∷ []) (joined_all (λ b. not (is_comma b)) lead (x ∷ []) l (and_from (not (is_comma x)) true (not_from_false (is_comma x) e) refl))
+        ∙ rest (lead ++ x ∷ []) (lacks_both 44 lead (x ∷ []) l (and_from (not (is_comma x)) true (not_from_false (is_comma x) e) refl))
         ∙ ap (λ zs. split_trimmed zs ++ split_trimmed ys) (append_assoc lead (x ∷ []) xs)
 
-comma_gap : (front gap gap' back : List ℕ) → AreBlanks gap → AreBlanks gap' → operands_of (front ++ (gap ++ 44 ∷ (gap' ++ back))) ≡ operands_of (front ++ 44 ∷ back)
+comma_gap : (front gap gap' back : List ℕ) → AreBlanks gap → AreBlanks gap'
+    → operands_of (front ++ (gap ++ 44 ∷ (gap' ++ back))) ≡ operands_of (front ++ 44 ∷ back)
 unfolding operands_of
 comma_gap front gap gap' back h h' =
     ap split_trimmed (sym (append_assoc front gap (44 ∷ (gap' ++ back))))
@@ -47,65 +48,83 @@ comma_gap front gap gap' back h h' =
 
 -- ---- brackets
 
-alike_itself : (one : List ℕ) → AreReadAlike one one
-alike_itself one = record { register = refl; value = λ least most. refl; upper = refl; lower = refl; natural = λ most. refl; byte = refl; brackets = go (bracketed one); nothing = refl }
+pub alike_itself : (one : List ℕ) → AreReadAlike one one
+alike_itself one = record {
+  register = refl;
+  value = λ least most. refl;
+  upper = refl;
+  lower = refl;
+  natural = λ most. refl;
+  byte = refl;
+  brackets =
+      go (bracketed one);
+  nothing = refl;
+}
   where
     go : (o : Option (List ℕ × List ℕ)) → AreBracketedAlike o o
     go None = tt
     go (Some p) = (refl, refl, refl)
 
-pub all_alike : (ones : List (List ℕ)) → AllAlike ones ones
+pub all_alike : (ones : List (List ℕ)) → Pairwise AreReadAlike ones ones
 all_alike [] = none
 all_alike (one ∷ ones) = more (alike_itself one) (all_alike ones)
 
 -- two texts without commas in one place of the operands
-module _ (M N : List ℕ) (quiet : list_all (λ b. not (is_comma b)) M ≡ true) (quiet' : list_all (λ b. not (is_comma b)) N ≡ true)
+module _ (M N : List ℕ) (quiet : lacks 44 M ≡ true) (quiet' : lacks 44 N ≡ true)
     (alike : (front back : List ℕ) → AreReadAlike (trimmed (front ++ (M ++ back))) (trimmed (front ++ (N ++ back)))) where
-  last_operand : (lead X back : List ℕ) → list_all (λ b. not (is_comma b)) lead ≡ true → list_all (λ b. not (is_comma b)) X ≡ true → list_all (λ b. not (is_comma b)) back ≡ true
+  last_operand : (lead X back : List ℕ) → lacks 44 lead ≡ true → lacks 44 X ≡ true → lacks 44 back ≡ true
       → split_trimmed (lead ++ (X ++ back)) ≡ trimmed (lead ++ (X ++ back)) ∷ []
-  last_operand lead X back l x b = ap (map trimmed) (split_none is_comma (lead ++ (X ++ back)) (joined_all (λ b. not (is_comma b)) lead (X ++ back) l (joined_all (λ b. not (is_comma b)) X back x b)))
+  last_operand lead X back l x b = ap (map trimmed) (split_none is_comma (lead ++ (X ++ back)) (lacks_both 44 lead (X ++ back) l (lacks_both 44 X back x b)))
 
-  first_operand : (lead X front : List ℕ) (c : ℕ) (behind : List ℕ) → list_all (λ b. not (is_comma b)) lead ≡ true → list_all (λ b. not (is_comma b)) X ≡ true → list_all (λ b. not (is_comma b)) front ≡ true → is_comma c ≡ true
+  first_operand : (lead X front : List ℕ) (c : ℕ) (behind : List ℕ) → lacks 44 lead ≡ true → lacks 44 X ≡ true → lacks 44 front ≡ true → is_comma c ≡ true
       → split_trimmed (lead ++ (X ++ (front ++ c ∷ behind))) ≡ trimmed (lead ++ (X ++ front)) ∷ split_trimmed behind
   first_operand lead X front c behind l x f e =
       ap split_trimmed (ap (λ y. lead ++ y) (sym (append_assoc X front (c ∷ behind))) ∙ sym (append_assoc lead (X ++ front) (c ∷ behind)))
-      ∙ ap (map trimmed) (split_mid is_comma (lead ++ (X ++ front)) c behind (joined_all (λ b. not (is_comma b)) lead (X ++ front) l (joined_all (λ b. not (is_comma b)) X front x f)) e)
+      ∙ ap (map trimmed) (split_mid is_comma (lead ++ (X ++ front)) c behind (lacks_both 44 lead (X ++ front) l (lacks_both 44 X front x f)) e)
 
-  in_place : (lead front back : List ℕ) → list_all (λ b. not (is_comma b)) lead ≡ true → AllAlike (split_trimmed (lead ++ (front ++ (M ++ back)))) (split_trimmed (lead ++ (front ++ (N ++ back))))
+  in_place : (lead front back : List ℕ) → lacks 44 lead ≡ true
+      → Pairwise AreReadAlike (split_trimmed (lead ++ (front ++ (M ++ back)))) (split_trimmed (lead ++ (front ++ (N ++ back))))
   in_place lead [] back l = go (cut_of is_comma back)
     where
-      go : Cut is_comma back → AllAlike (split_trimmed (lead ++ (M ++ back))) (split_trimmed (lead ++ (N ++ back)))
+      go : Cut is_comma back → Pairwise AreReadAlike (split_trimmed (lead ++ (M ++ back))) (split_trimmed (lead ++ (N ++ back)))
       go (uncut b) = rw (last_operand lead M back l quiet b, last_operand lead N back l quiet' b) (more (alike lead back) none)
       go (cut front c behind is f e) =
-          rw (is, first_operand lead M front c behind l quiet f e, first_operand lead N front c behind l quiet' f e) (more (alike lead front) (all_alike (split_trimmed behind)))
+          rw (is, first_operand lead M front c behind l quiet f e, first_operand lead N front c behind l quiet' f e)
+          (more (alike lead front) (all_alike (split_trimmed behind)))
   in_place lead (x ∷ xs) back l = go (λ front h. in_place front xs back h) (is_comma x) refl
     where
-      go : ((front : List ℕ) → list_all (λ b. not (is_comma b)) front ≡ true → AllAlike (split_trimmed (front ++ (xs ++ (M ++ back)))) (split_trimmed (front ++ (xs ++ (N ++ back)))))
-          → (t : Bool) → is_comma x ≡ t → AllAlike (split_trimmed (lead ++ x ∷ (xs ++ (M ++ back)))) (split_trimmed (lead ++ x ∷ (xs ++ (N ++ back))))
+      go : ((front : List ℕ) → lacks 44 front ≡ true
+          → Pairwise AreReadAlike (split_trimmed (front ++ (xs ++ (M ++ back)))) (split_trimmed (front ++ (xs ++ (N ++ back)))))
+          → (t : Bool) → is_comma x ≡ t → Pairwise AreReadAlike (split_trimmed (lead ++ x ∷ (xs ++ (M ++ back)))) (split_trimmed
+          (lead ++ x ∷ (xs ++ (N ++ back))))
       go rest true e =
-          rw (split_mid is_comma lead x (xs ++ (M ++ back)) l e, split_mid is_comma lead x (xs ++ (N ++ back)) l e) (more (alike_itself (trimmed lead)) (rest [] refl))
+          rw (split_mid is_comma lead x (xs ++ (M ++ back)) l e, split_mid is_comma lead x (xs ++ (N ++ back)) l e)
+          (more (alike_itself (trimmed lead)) (rest [] refl))
       go rest false e =
           rw (← append_assoc lead (x ∷ []) (xs ++ (M ++ back)), ← append_assoc lead (x ∷ []) (xs ++ (N ++ back)))
-          (rest (lead ++ x ∷ []) (joined_all (λ b. not (is_comma b)) lead (x ∷ []) l (and_from (not (is_comma x)) true (not_from_false (is_comma x) e) refl)))
+          (rest (lead ++ x ∷ []) (lacks_both 44 lead (x ∷ []) l (and_from (not (is_comma x)) true (not_from_false (is_comma x) e) refl)))
 
-bracket_gap : (m : ℕ) → (m ≡ 40) ⊎ (m ≡ 41) → (front gap gap' back : List ℕ) → AreBlanks gap → AreBlanks gap' → AllAlike (operands_of (front ++ (gap ++ m ∷ (gap' ++ back)))) (operands_of (front ++ m ∷ back))
+bracket_gap : (m : ℕ) → (m ≡ 40) ⊎ (m ≡ 41) → (front gap gap' back : List ℕ) → AreBlanks gap → AreBlanks gap'
+    → Pairwise AreReadAlike (operands_of (front ++ (gap ++ m ∷ (gap' ++ back)))) (operands_of (front ++ m ∷ back))
 unfolding operands_of
 bracket_gap m which front gap gap' back h h' =
     let M : List ℕ = gap ++ m ∷ gap' in
     let free : eqb m 44 ≡ false = elim which [ inl e ↦ rw e refl | inr e ↦ rw e refl ] in
-    let quiet : list_all (λ b. not (is_comma b)) (gap ++ m ∷ gap') ≡ true
-    = joined_all (λ b. not (is_comma b)) gap (m ∷ gap') (blanks_uncut gap h) (and_from (not (is_comma m)) _ (not_from_false _ free) (blanks_uncut gap' h')) in
-    let one : list_all (λ b. not (is_comma b)) (m ∷ []) ≡ true = and_from (not (is_comma m)) true (not_from_false _ free) refl in
+    let quiet : lacks 44 (gap ++ m ∷ gap') ≡ true
+    = lacks_both 44 gap (m ∷ gap') (blanks_uncut gap h) (and_from (not (is_comma m)) _ (not_from_false _ free) (blanks_uncut gap' h')) in
+    let one : lacks 44 (m ∷ []) ≡ true = and_from (not (is_comma m)) true (not_from_false _ free) refl in
     let bracket : IsBracket m = elim which [ inl e ↦ subst IsBracket (sym e) opening | inr e ↦ subst IsBracket (sym e) closing ] in
     let alike : (A B : List ℕ) → AreReadAlike (trimmed (A ++ ((gap ++ m ∷ gap') ++ B))) (trimmed (A ++ ((m ∷ []) ++ B)))
     = (λ A B. rw (append_assoc gap (m ∷ gap') B) (gap_alike m bracket A gap gap' B h h')) in
-    subst (λ l. AllAlike (split_trimmed (front ++ l)) (split_trimmed (front ++ m ∷ back))) (append_assoc gap (m ∷ gap') back)
+    subst (λ l. Pairwise AreReadAlike (split_trimmed (front ++ l)) (split_trimmed (front ++ m ∷ back))) (append_assoc gap (m ∷ gap') back)
     (in_place (gap ++ m ∷ gap') (m ∷ []) quiet one alike [] front back refl)
 
-marks_alike : (m : ℕ) → IsMark m → (front gap gap' back : List ℕ) → AreBlanks gap → AreBlanks gap' → AllAlike (operands_of (front ++ (gap ++ m ∷ (gap' ++ back)))) (operands_of (front ++ m ∷ back))
+marks_alike : (m : ℕ) → IsMark m → (front gap gap' back : List ℕ) → AreBlanks gap → AreBlanks gap'
+    → Pairwise AreReadAlike (operands_of (front ++ (gap ++ m ∷ (gap' ++ back)))) (operands_of (front ++ m ∷ back))
 marks_alike m (inl e) front gap gap' back h h' =
-    subst (λ c. AllAlike (operands_of (front ++ (gap ++ c ∷ (gap' ++ back)))) (operands_of (front ++ c ∷ back))) (sym e)
-    (subst (λ l. AllAlike l (operands_of (front ++ 44 ∷ back))) (sym (comma_gap front gap gap' back h h')) (all_alike (operands_of (front ++ 44 ∷ back))))
+    subst (λ c. Pairwise AreReadAlike (operands_of (front ++ (gap ++ c ∷ (gap' ++ back)))) (operands_of (front ++ c ∷ back))) (sym e)
+    (subst (λ l. Pairwise AreReadAlike l (operands_of (front ++ 44 ∷ back))) (sym (comma_gap front gap gap' back h h'))
+    (all_alike (operands_of (front ++ 44 ∷ back))))
 marks_alike m (inr which) front gap gap' back h h' = bracket_gap m which front gap gap' back h h'
 
 -- ---- lines
@@ -123,7 +142,8 @@ quiet_blanks gap h = weaker is_blank (λ b. not (eqb b 58 || eqb b 35)) (λ b e.
     go b e true f t g = let differ : false ≡ true = sym (ap is_blank (eqb-true b 58 f)) ∙ e in absurd cc
     go b e false f true g = let differ : false ≡ true = sym (ap is_blank (eqb-true b 35 g)) ∙ e in absurd cc
 
-pub marks_change_nothing : (lead word front gap gap' back : List ℕ) (m : ℕ) → IsLead lead → IsFirstWord word → IsQuiet front → IsQuiet back → AreBlanks gap → AreBlanks gap' → IsMark m
+pub marks_change_nothing : (lead word front gap gap' back : List ℕ) (m : ℕ) → IsLead lead → IsFirstWord word → IsQuiet front → IsQuiet back
+    → AreBlanks gap → AreBlanks gap' → IsMark m
     → line_of (statement_line lead word (front ++ (gap ++ m ∷ (gap' ++ back)))) ≡ line_of (statement_line lead word (front ++ m ∷ back))
 marks_change_nothing lead word front gap gap' back m led is quiet quiet' h h' mark =
     let q : ℕ → Bool = λ b. not (eqb b 58 || eqb b 35) in
@@ -152,19 +172,24 @@ said_ends : (before text after : List ℕ) → AreBlanks before → AreBlanks af
 unfolding said_in label_in
 said_ends before text after b a = go (cut_of is_colon text)
   where
-    label_or : (t : Bool) (name behind : List ℕ) → said_from (if t then (Some name, behind ++ after) else (None, before ++ (text ++ after))) ≡ said_from (if t then (Some name, behind) else (None, text))
+    label_or : (t : Bool) (name behind : List ℕ)
+        → said_from (if t then (Some name, behind ++ after) else (None, before ++ (text ++ after)))
+        ≡ said_from (if t then (Some name, behind) else (None, text))
     label_or true name behind = rw (rest_ends [] behind after refl a) refl
     label_or false name behind = rw (rest_ends before text after b a) refl
 
-    go : Cut is_colon text → said_from (label_parts (before ++ (text ++ after)) (cut_at is_colon (before ++ (text ++ after)))) ≡ said_from (label_parts text (cut_at is_colon text))
+    go : Cut is_colon text → said_from (label_parts (before ++ (text ++ after))
+        (cut_at is_colon (before ++ (text ++ after)))) ≡ said_from (label_parts text (cut_at is_colon text))
     go (uncut h) =
-        let free = joined_all (λ b. not (is_colon b)) before (text ++ after) (no_such is_blank 58 refl before b) (joined_all (λ b. not (is_colon b)) text after h (no_such is_blank 58 refl after a)) in
+        let free = lacks_both 58 before (text ++ after) (no_such is_blank 58 refl before b) (lacks_both 58 text after h (no_such is_blank 58 refl after a)) in
         rw (cut_at_none is_colon (before ++ (text ++ after)) free, cut_at_none is_colon text h, rest_ends before text after b a) refl
     go (cut front c behind is h e) =
         let whole : before ++ (text ++ after) ≡ (before ++ front) ++ c ∷ (behind ++ after)
-        = ap (λ l. before ++ (l ++ after)) is ∙ ap (λ l. before ++ l) (append_assoc front (c ∷ behind) after) ∙ sym (append_assoc before front (c ∷ (behind ++ after))) in
+        = ap (λ l. before ++ (l ++ after)) is ∙ ap (λ l. before ++ l) (append_assoc front (c ∷ behind) after)
+        ∙ sym (append_assoc before front (c ∷ (behind ++ after))) in
         let one : cut_at is_colon (before ++ (text ++ after)) ≡ Some (before ++ front, behind ++ after)
-        = ap (cut_at is_colon) whole ∙ cut_at_mid is_colon (before ++ front) c (behind ++ after) (joined_all (λ b. not (is_colon b)) before front (no_such is_blank 58 refl before b) h) e in
+        = ap (cut_at is_colon) whole ∙ cut_at_mid is_colon (before ++ front) c (behind ++ after) (lacks_both 58 before front
+        (no_such is_blank 58 refl before b) h) e in
         let other : cut_at is_colon text ≡ Some (front, behind) = ap (cut_at is_colon) is ∙ cut_at_mid is_colon front c behind h e in
         rw (one, other, trimmed_behind before front b) (label_or (is_name (trimmed front)) (trimmed front) behind)
 
@@ -172,19 +197,19 @@ said_ends before text after b a = go (cut_of is_colon text)
 abbrev kept : List ℕ → List ℕ
 kept line = before_comment line (cut_at is_mark line)
 
-kept_uncut : (line : List ℕ) → list_all (λ b. not (is_mark b)) line ≡ true → kept line ≡ line
+kept_uncut : (line : List ℕ) → lacks 35 line ≡ true → kept line ≡ line
 kept_uncut line h = rw (cut_at_none is_mark line h) refl
 
-kept_cut : (front : List ℕ) (c : ℕ) (behind : List ℕ) → list_all (λ b. not (is_mark b)) front ≡ true → is_mark c ≡ true → kept (front ++ c ∷ behind) ≡ front
+kept_cut : (front : List ℕ) (c : ℕ) (behind : List ℕ) → lacks 35 front ≡ true → is_mark c ≡ true → kept (front ++ c ∷ behind) ≡ front
 kept_cut front c behind h e = rw (cut_at_mid is_mark front c behind h e) refl
 
-kept_behind : (text rest : List ℕ) → list_all (λ b. not (is_mark b)) text ≡ true → kept (text ++ rest) ≡ text ++ kept rest
+kept_behind : (text rest : List ℕ) → lacks 35 text ≡ true → kept (text ++ rest) ≡ text ++ kept rest
 kept_behind text rest h = go (cut_of is_mark rest)
   where
     go : Cut is_mark rest → kept (text ++ rest) ≡ text ++ kept rest
-    go (uncut r) = kept_uncut (text ++ rest) (joined_all (λ b. not (is_mark b)) text rest h r) ∙ ap (λ l. text ++ l) (sym (kept_uncut rest r))
+    go (uncut r) = kept_uncut (text ++ rest) (lacks_both 35 text rest h r) ∙ ap (λ l. text ++ l) (sym (kept_uncut rest r))
     go (cut front c behind is f e) =
-        ap kept (ap (λ l. text ++ l) is ∙ sym (append_assoc text front (c ∷ behind))) ∙ kept_cut (text ++ front) c behind (joined_all (λ b. not (is_mark b)) text front h f) e
+        ap kept (ap (λ l. text ++ l) is ∙ sym (append_assoc text front (c ∷ behind))) ∙ kept_cut (text ++ front) c behind (lacks_both 35 text front h f) e
         ∙ ap (λ l. text ++ l) (sym (ap kept is ∙ kept_cut front c behind f e))
 
 pub ends_change_nothing : (before line after : List ℕ) → AreBlanks before → AreBlanks after → line_of (before ++ (line ++ after)) ≡ line_of line
@@ -193,19 +218,30 @@ ends_change_nothing before line after b a = ap said_in (kept_behind before (line
   where
     go : Cut is_mark line → said_in (before ++ kept (line ++ after)) ≡ said_in (kept line)
     go (uncut h) =
-        ap (λ l. said_in (before ++ l)) (kept_uncut (line ++ after) (joined_all (λ b. not (is_mark b)) line after h (no_such is_blank 35 refl after a)))
+        ap (λ l. said_in (before ++ l)) (kept_uncut (line ++ after) (lacks_both 35 line after h (no_such is_blank 35 refl after a)))
         ∙ said_ends before line after b a ∙ ap said_in (sym (kept_uncut line h))
     go (cut front c behind is h e) =
-        ap (λ l. said_in (before ++ l)) (ap kept (ap (λ l. l ++ after) is ∙ append_assoc front (c ∷ behind) after) ∙ kept_cut front c (behind ++ after) h e ∙ sym (append-nil front))
+        ap (λ l. said_in (before ++ l)) (ap kept (ap (λ l. l ++ after) is ∙ append_assoc front (c ∷ behind) after)
+        ∙ kept_cut front c (behind ++ after) h e ∙ sym (append-nil front))
         ∙ said_ends before front [] b refl ∙ ap said_in (sym (ap kept is ∙ kept_cut front c behind h e))
 
-pub colon_changes_nothing : (name gap gap' rest : List ℕ) → is_name name ≡ true → AreBlanks gap → AreBlanks gap' → line_of (name ++ (gap ++ 58 ∷ (gap' ++ rest))) ≡ line_of (name ++ 58 ∷ rest)
+pub colon_changes_nothing : (name gap gap' rest : List ℕ) → is_name name ≡ true → AreBlanks gap → AreBlanks gap'
+    → line_of (name ++ (gap ++ 58 ∷ (gap' ++ rest))) ≡ line_of (name ++ 58 ∷ rest)
 unfolding line_of said_in
 colon_changes_nothing name gap gap' rest n h h' =
-    let marked : (g : List ℕ) → AreBlanks g → list_all (λ b. not (is_mark b)) (name ++ g) ≡ true = (λ g e. joined_all (λ b. not (is_mark b)) name g (name_without 35 refl name n) (no_such is_blank 35 refl g e)) in
+    let marked : (g : List ℕ) → AreBlanks g → lacks 35 (name ++ g) ≡ true
+    = (λ g e. lacks_both 35 name g (name_without 35 refl name n) (no_such is_blank 35 refl g e)) in
     let one : kept (name ++ (gap ++ 58 ∷ (gap' ++ rest))) ≡ (name ++ gap) ++ 58 ∷ (gap' ++ kept rest)
     = ap kept (sym (append_assoc name gap (58 ∷ (gap' ++ rest)))) ∙ kept_behind (name ++ gap) (58 ∷ (gap' ++ rest)) (marked gap h)
     ∙ ap (λ l. (name ++ gap) ++ l) (kept_behind (58 ∷ gap') rest (no_such is_blank 35 refl gap' h')) in
     let other : kept (name ++ 58 ∷ rest) ≡ (name ++ []) ++ 58 ∷ kept rest
-    = kept_behind name (58 ∷ rest) (name_without 35 refl name n) ∙ ap (λ l. name ++ l) (kept_behind (58 ∷ []) rest refl) ∙ ap (λ l. l ++ 58 ∷ kept rest) (sym (append-nil name)) in
-    rw (one, other, labelled name gap (gap' ++ kept rest) n h, labelled name [] (kept rest) n refl, by_trim (gap' ++ kept rest) (kept rest) (trimmed_behind gap' (kept rest) h')) refl
+    = kept_behind name (58 ∷ rest) (name_without 35 refl name n) ∙ ap (λ l. name ++ l) (kept_behind (58 ∷ []) rest refl)
+    ∙ ap (λ l. l ++ 58 ∷ kept rest) (sym (append-nil name)) in
+    rw (
+      one,
+      other,
+      labelled name gap (gap' ++ kept rest) n h,
+      labelled name [] (kept rest) n refl,
+      by_trim (gap' ++ kept rest) (kept rest)
+          (trimmed_behind gap' (kept rest) h'),
+    ) refl

@@ -18,7 +18,8 @@ cut_of p (x ∷ xs) = go (p x) refl (cut_of p xs)
     go : (t : Bool) → p x ≡ t → Cut p xs → Cut p (x ∷ xs)
     go true e c = cut [] x xs refl refl e
     go false e (uncut h) = uncut (and_from (not (p x)) _ (not_from_false (p x) e) h)
-    go false e (cut front c behind is h passes) = cut (x ∷ front) c behind (ap (λ (ys : List ℕ). x ∷ ys) is) (and_from (not (p x)) _ (not_from_false (p x) e) h) passes
+    go false e (cut front c behind is h passes) =
+        cut (x ∷ front) c behind (ap (λ (ys : List ℕ). x ∷ ys) is) (and_from (not (p x)) _ (not_from_false (p x) e) h) passes
 
 -- the mark of a comment
 abbrev pub is_mark : ℕ → Bool
@@ -31,7 +32,8 @@ comment_left_out line comment = ap said_in (go (cut_of is_mark line))
     go : Cut is_mark line → before_comment (line ++ 35 ∷ comment) (cut_at is_mark (line ++ 35 ∷ comment)) ≡ before_comment line (cut_at is_mark line)
     go (uncut h) = rw (cut_at_mid is_mark line 35 comment h refl, cut_at_none is_mark line h) refl
     go (cut front c behind is h e) =
-        let whole : line ++ 35 ∷ comment ≡ front ++ c ∷ (behind ++ 35 ∷ comment) = ap (λ l. l ++ 35 ∷ comment) is ∙ append_assoc front (c ∷ behind) (35 ∷ comment) in
+        let whole : line ++ 35 ∷ comment ≡ front ++ c ∷ (behind ++ 35 ∷ comment)
+        = ap (λ l. l ++ 35 ∷ comment) is ∙ append_assoc front (c ∷ behind) (35 ∷ comment) in
         ap (λ l. before_comment l (cut_at is_mark l)) whole
         ∙ ap (before_comment (front ++ c ∷ (behind ++ 35 ∷ comment))) (cut_at_mid is_mark front c (behind ++ 35 ∷ comment) h e)
         ∙ ap (before_comment (front ++ c ∷ behind)) (sym (cut_at_mid is_mark front c behind h e))

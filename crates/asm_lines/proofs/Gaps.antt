@@ -1,75 +1,16 @@
 -- Blanks on either side of a bracket change nothing in an operand.
-use Rattle.std.proofs.Common.{◌≡◌, ℕ, zero, suc, ◌+◌, ◌-◌, ◌<◌, ◌≤◌, Bool, true, false, not, eqb, List, [], ◌∷◌, ◌++◌, length, Option, Some, None, refl, sym, ap, ap₂, subst, ◌∙◌, append_assoc, arith, inl, inr, ◌⊎◌}
-use Rattle.std.specs.Prelude.{◌&&◌, reverse, nat_lt, if◌then◌else◌, codes, ℤ, pos, negsuc}
-use Rattle.std.specs.Option.{option_map}
-use Rattle.std.specs.List.{list_all, suffix_len, prefix_len}
+use Rattle.std.proofs.Common.{◌≡◌, ℕ, zero, suc, ◌+◌, ◌<◌, ◌≤◌, Bool, true, false, eqb, List, [], ◌∷◌, ◌++◌, length, Some, None, refl, sym, ap, ap₂, subst, ◌∙◌, append_assoc, arith, inl, inr, ◌⊎◌}
+use Rattle.std.specs.Prelude.{◌&&◌, reverse, if◌then◌else◌}
 use Rattle.std.specs.Str.{bytes_eq}
-use Rattle.std.proofs.lemmas.Bool.{and_right, and_from, not_from_false, le-ltb, and_parts, eqb-true, ne_eqb}
-use Rattle.std.proofs.lemmas.List.{reverse-append, reverse-reverse, length-append, length-reverse, take_at}
-use Rattle.std.proofs.Math.Seq.{get_or-append_seam}
-use Rattle.asm_lines.specs.Text.{is_blank, front_trimmed, trimmed, cut_last_at}
-use Rattle.asm_lines.specs.Number.{natural_within}
-use Rattle.asm_lines.specs.Statements.{is_name, register_in, value_in, bracketed, label_of_part, part_in, or_number, upper_in, lower_in, byte_in}
-use Rattle.asm_lines.specs.Alike.{AreBlanks, AreBracketedAlike, AreReadAlike}
+use Rattle.std.proofs.lemmas.Bool.{and_right, ne_eqb}
+use Rattle.std.proofs.lemmas.List.{reverse-append, reverse-reverse, length-append}
+use Rattle.asm_lines.specs.Text.{is_blank, front_trimmed, trimmed}
+use Rattle.asm_lines.specs.Statements.{is_name, register_in, bracketed}
+use Rattle.asm_lines.specs.Alike.{AreBlanks, AreReadAlike}
 use Rattle.asm_lines.proofs.PlainWords.{joined_all, cut_last_mid}
-use Rattle.asm_lines.proofs.Trims.{no_such, all_reversed, Ends, blank, solid, ends_of, trimmed_behind, trimmed_before, front_before, Kept, kept_of}
-use Rattle.asm_lines.proofs.WithBracket.{lacks, IsBracket, unlike, register_fails, no_name, number_fails, some_operand}
-
--- ---- the last opening bracket
-
-data LastCut (xs : List ℕ) : Type 0 where
-  without : lacks 40 xs ≡ true → LastCut xs
-  last : (front inside : List ℕ) → xs ≡ front ++ 40 ∷ inside → lacks 40 inside ≡ true → LastCut xs
-
-last_cut : (xs : List ℕ) → LastCut xs
-last_cut [] = without refl
-last_cut (x ∷ xs) = go (last_cut xs)
-  where
-    first : (t : Bool) → eqb x 40 ≡ t → lacks 40 xs ≡ true → LastCut (x ∷ xs)
-    first true e h = last [] xs (ap (λ b. b ∷ xs) (eqb-true x 40 e)) h
-    first false e h = without (and_from (not (eqb x 40)) _ (not_from_false (eqb x 40) e) h)
-
-    go : LastCut xs → LastCut (x ∷ xs)
-    go (without h) = first (eqb x 40) refl h
-    go (last front inside is h) = last (x ∷ front) inside (ap (λ (ys : List ℕ). x ∷ ys) is) h
-
-all_kept : (q : ℕ → Bool) (xs : List ℕ) → list_all q xs ≡ true → suffix_len q xs ≡ length xs
-all_kept q xs h = go (reverse xs) (all_reversed q xs h) ∙ length-reverse xs
-  where
-    go : (ys : List ℕ) → list_all q ys ≡ true → prefix_len q ys ≡ length ys
-    go [] e = refl
-    go (y ∷ ys) e = let a = and_parts (q y) (list_all q ys) e in rw (a.0, go ys a.1) (omega arith)
-
-cut_last_none : (xs : List ℕ) → lacks 40 xs ≡ true → cut_last_at 40 xs ≡ None
-unfolding cut_last_at
-cut_last_none xs h = let past : nat_lt (length xs) (length xs) ≡ false = le-ltb _ _ (omega arith) in rw (all_kept (λ b. not (eqb b 40)) xs h, past) refl
-
--- ---- brackets
-
-abbrev Parts : Type 0
-Parts = Option (List ℕ × List ℕ)
-
-abbrev cut_trimmed : List ℕ → Parts
-cut_trimmed xs = option_map (λ parts. (trimmed parts.0, trimmed parts.1)) (cut_last_at 40 xs)
-
-bracketed_snoc : (xs : List ℕ) (c : ℕ) → bracketed (xs ++ c ∷ []) ≡ (if eqb c 41 then cut_trimmed xs else None)
-unfolding bracketed
-bracketed_snoc xs c =
-    let count : length (xs ++ c ∷ []) - 1 ≡ length xs = simp length-append (omega arith) in
-    rw (count, get_or-append_seam xs c [] 0, take_at xs (c ∷ []) (length xs) refl) refl
-
--- Two cuts into what stands before an opening bracket and in it: both are read alike, and name the same label behind a modifier
--- without brackets.
-record SameCut (one other : Parts) : Type 0 where
-  brackets : AreBracketedAlike one other
-  named : (modifier : List ℕ) → lacks 40 modifier ≡ true → lacks 41 modifier ≡ true → label_of_part modifier one ≡ label_of_part modifier other
-
-same_cut : (one other : Parts) → one ≡ other → SameCut one other
-same_cut one other e = subst (SameCut one) e (record { brackets = itself one; named = λ modifier h i. refl })
-  where
-    itself : (o : Parts) → AreBracketedAlike o o
-    itself None = tt
-    itself (Some p) = (refl, refl, refl)
+use Rattle.asm_lines.proofs.Trims.{lacks, lacks_both, no_such, Ends, blank, solid, ends_of, trimmed_behind, trimmed_before, front_before, Kept, kept_of}
+use Rattle.asm_lines.proofs.Cuts.{parts_trimmed, LastCut, without, last, last_cut, cut_last_none, Parts, cut_trimmed, bracketed_snoc, SameCut, same_cut, from_cuts}
+use Rattle.asm_lines.proofs.WithBracket.{IsBracket, unlike, register_fails, no_name}
 
 -- ---- a text with a bracket, and the same with blanks on either side of it
 
@@ -88,7 +29,8 @@ trimmed_marked A m Q n (inl e) =
     ap (λ l. reverse (front_trimmed (reverse l))) (front_before A m Q n)
     ∙ ap (λ q. reverse (front_trimmed (reverse (front_trimmed A ++ m ∷ q)))) e ∙ back_solid (front_trimmed A) m n ∙ ap (λ q. front_trimmed A ++ m ∷ q) (sym e)
 trimmed_marked A m Q n (inr (front, c, e, s)) =
-    let apart : front_trimmed A ++ m ∷ Q ≡ (front_trimmed A ++ m ∷ front) ++ c ∷ [] = ap (λ q. front_trimmed A ++ m ∷ q) e ∙ sym (append_assoc (front_trimmed A) (m ∷ front) (c ∷ [])) in
+    let apart : front_trimmed A ++ m ∷ Q ≡ (front_trimmed A ++ m ∷ front) ++ c ∷ []
+    = ap (λ q. front_trimmed A ++ m ∷ q) e ∙ sym (append_assoc (front_trimmed A) (m ∷ front) (c ∷ [])) in
     ap (λ l. reverse (front_trimmed (reverse l))) (front_before A m Q n ∙ apart) ∙ back_solid (front_trimmed A ++ m ∷ front) c s ∙ sym apart
 
 -- both texts without the blanks at their ends: some blanks are left, or none
@@ -126,7 +68,6 @@ normal m A gap gap' B n h h' = go (kept_of A gap h) (ends_of B)
       shorter = omega arith;
     }
     go k (solid front c e is s b) =
-        let Q : List ℕ = front ++ c ∷ [] in
         let behind : gap' ++ B ≡ (gap' ++ (front ++ c ∷ [])) ++ e = ap (λ l. gap' ++ l) is ∙ sym (append_assoc gap' (front ++ c ∷ []) e) in
         let ends : gap' ++ (front ++ c ∷ []) ≡ (gap' ++ front) ++ c ∷ [] = sym (append_assoc gap' front (c ∷ [])) in
         let count : length B ≡ length (front ++ c ∷ []) + length e = ap length is ∙ length-append (front ++ c ∷ []) e in
@@ -135,10 +76,12 @@ normal m A gap gap' B n h h' = go (kept_of A gap h) (ends_of B)
           Q = front ++ c ∷ [];
           g = k.gap_left;
           g' = gap';
-          one = ap (λ l. trimmed (A ++ m ∷ l)) is ∙ ap trimmed (sym (append_assoc A (m ∷ (front ++ c ∷ [])) e)) ∙ trimmed_before (A ++ m ∷ (front ++ c ∷ [])) e b
+          one = ap (λ l. trimmed (A ++ m ∷ l)) is ∙ ap trimmed (sym (append_assoc A (m ∷ (front ++ c ∷ [])) e))
+              ∙ trimmed_before (A ++ m ∷ (front ++ c ∷ [])) e b
               ∙ trimmed_marked A m (front ++ c ∷ []) n (inr (front, c, refl, s));
           other = ap trimmed (apart (gap' ++ B)) ∙ ap (λ l. trimmed ((A ++ gap) ++ m ∷ l)) behind
-              ∙ ap trimmed (sym (append_assoc (A ++ gap) (m ∷ (gap' ++ (front ++ c ∷ []))) e)) ∙ trimmed_before ((A ++ gap) ++ m ∷ (gap' ++ (front ++ c ∷ []))) e b
+              ∙ ap trimmed (sym (append_assoc (A ++ gap) (m ∷ (gap' ++ (front ++ c ∷ []))) e))
+              ∙ trimmed_before ((A ++ gap) ++ m ∷ (gap' ++ (front ++ c ∷ []))) e b
               ∙ trimmed_marked (A ++ gap) m (gap' ++ (front ++ c ∷ [])) n (inr (gap' ++ front, c, ends, s))
               ∙ ap (λ l. l ++ m ∷ (gap' ++ (front ++ c ∷ []))) k.is ∙ append_assoc (front_trimmed A) k.gap_left (m ∷ (gap' ++ (front ++ c ∷ [])));
           blanks = k.blanks;
@@ -147,56 +90,42 @@ normal m A gap gap' B n h h' = go (kept_of A gap h) (ends_of B)
           shorter = omega (arith, count);
         }
 
--- ---- what the readers make of both
+-- ---- in an operand
 
 module _ (m : ℕ) (is : IsBracket m) where
-  -- Where the cuts are the same, all readers agree: a text with a bracket is nothing but %hi, %lo or an address.
-  from_cuts : (P Q P' Q' : List ℕ) → SameCut (bracketed (P ++ m ∷ Q)) (bracketed (P' ++ m ∷ Q')) → AreReadAlike (P ++ m ∷ Q) (P' ++ m ∷ Q')
-  unfolding value_in upper_in lower_in part_in natural_within byte_in
-  from_cuts P Q P' Q' same = record {
-    register = register_fails m is P Q ∙ sym (register_fails m is P' Q');
-    value = λ least most. rw (no_name m is P Q, no_name m is P' Q', number_fails m is least most P Q, number_fails m is least most P' Q') refl;
-    upper = numbered (pos 0) (pos 1048575) (codes "%hi") (same.named (codes "%hi") refl refl);
-    lower = numbered (negsuc 2047) (pos 2047) (codes "%lo") (same.named (codes "%lo") refl refl);
-    natural = λ most. rw (number_fails m is (pos 0) (pos most) P Q, number_fails m is (pos 0) (pos most) P' Q') refl;
-    byte = rw (number_fails m is (negsuc 127) (pos 255) P Q, number_fails m is (negsuc 127) (pos 255) P' Q') refl;
-    brackets = same.brackets;
-    nothing = some_operand m is P Q ∙ sym (some_operand m is P' Q');
-  }
-    where
-      or_fails : (least most : ℤ) (o : Option (List ℕ)) → or_number least most (P ++ m ∷ Q) o ≡ or_number least most (P' ++ m ∷ Q') o
-      or_fails least most (Some name) = refl
-      or_fails least most None = rw (number_fails m is least most P Q, number_fails m is least most P' Q') refl
-
-      numbered : (least most : ℤ) (modifier : List ℕ) → label_of_part modifier (bracketed (P ++ m ∷ Q)) ≡ label_of_part modifier (bracketed (P' ++ m ∷ Q'))
-          → or_number least most (P ++ m ∷ Q) (label_of_part modifier (bracketed (P ++ m ∷ Q))) ≡ or_number least most (P' ++ m ∷ Q') (label_of_part modifier (bracketed (P' ++ m ∷ Q')))
-      numbered least most modifier e = ap (or_number least most (P ++ m ∷ Q)) e ∙ or_fails least most (label_of_part modifier (bracketed (P' ++ m ∷ Q')))
-
-  -- a cut in which the opening bracket stands behind the gap
+  -- for texts with fewer than n bytes behind the bracket
   abbrev AlikeWithin : ℕ → Type 0
-  AlikeWithin n = (A gap gap' B : List ℕ) → AreBlanks gap → AreBlanks gap' → length B < n → AreReadAlike (trimmed (A ++ (gap ++ m ∷ (gap' ++ B)))) (trimmed (A ++ m ∷ B))
+  AlikeWithin n = (A gap gap' B : List ℕ) → AreBlanks gap → AreBlanks gap' → length B < n
+      → AreReadAlike (trimmed (A ++ (gap ++ m ∷ (gap' ++ B)))) (trimmed (A ++ m ∷ B))
 
   some_marked : (P Q : List ℕ) → eqb (length (P ++ m ∷ Q)) 0 ≡ false
   some_marked P Q = ne_eqb _ _ (λ e. absurd (omega (arith, e, length-append P (m ∷ Q))))
 
   module _ (n : ℕ) (within : AlikeWithin n) (P g g' : List ℕ) (blanks : AreBlanks g) (blanks' : AreBlanks g') where
-    -- the last opening bracket stands behind the gap: what stands before it has the gap in turn
+    -- The last opening bracket stands behind the gap: what stands before it has the gap in turn.
     cut_behind : (front inside : List ℕ) → lacks 40 inside ≡ true → length front < n
         → SameCut (cut_trimmed (P ++ (g ++ m ∷ (g' ++ (front ++ 40 ∷ inside))))) (cut_trimmed (P ++ m ∷ (front ++ 40 ∷ inside)))
     cut_behind front inside h less =
         let norm = normal m P g g' front is.solid blanks blanks' in
         let left : P ++ (g ++ m ∷ (g' ++ (front ++ 40 ∷ inside))) ≡ (P ++ (g ++ m ∷ (g' ++ front))) ++ 40 ∷ inside
-        = ap (λ l. P ++ (g ++ m ∷ l)) (sym (append_assoc g' front (40 ∷ inside))) ∙ ap (λ l. P ++ l) (sym (append_assoc g (m ∷ (g' ++ front)) (40 ∷ inside))) ∙ sym (append_assoc P (g ++ m ∷ (g' ++ front)) (40 ∷ inside)) in
+        = ap (λ l. P ++ (g ++ m ∷ l)) (sym (append_assoc g' front (40 ∷ inside)))
+        ∙ ap (λ l. P ++ l) (sym (append_assoc g (m ∷ (g' ++ front)) (40 ∷ inside))) ∙ sym (append_assoc P (g ++ m ∷ (g' ++ front)) (40 ∷ inside)) in
         let right : P ++ m ∷ (front ++ 40 ∷ inside) ≡ (P ++ m ∷ front) ++ 40 ∷ inside = sym (append_assoc P (m ∷ front) (40 ∷ inside)) in
         let one : cut_trimmed (P ++ (g ++ m ∷ (g' ++ (front ++ 40 ∷ inside)))) ≡ Some (trimmed (P ++ (g ++ m ∷ (g' ++ front))), trimmed inside)
-        = ap cut_trimmed left ∙ ap (option_map (λ parts. (trimmed parts.0, trimmed parts.1))) (cut_last_mid (P ++ (g ++ m ∷ (g' ++ front))) inside h) in
+        = ap cut_trimmed left ∙ ap parts_trimmed (cut_last_mid (P ++ (g ++ m ∷ (g' ++ front))) inside h) in
         let other : cut_trimmed (P ++ m ∷ (front ++ 40 ∷ inside)) ≡ Some (trimmed (P ++ m ∷ front), trimmed inside)
-        = ap cut_trimmed right ∙ ap (option_map (λ parts. (trimmed parts.0, trimmed parts.1))) (cut_last_mid (P ++ m ∷ front) inside h) in
+        = ap cut_trimmed right ∙ ap parts_trimmed (cut_last_mid (P ++ m ∷ front) inside h) in
         let alike = within P g g' front blanks blanks' less in
-        let shape : trimmed (P ++ (g ++ m ∷ (g' ++ front))) ≡ (norm.P ++ norm.g) ++ m ∷ (norm.g' ++ norm.Q) = norm.other ∙ sym (append_assoc norm.P norm.g (m ∷ (norm.g' ++ norm.Q))) in
+        let shape : trimmed (P ++ (g ++ m ∷ (g' ++ front))) ≡ (norm.P ++ norm.g) ++ m ∷ (norm.g' ++ norm.Q)
+        = norm.other ∙ sym (append_assoc norm.P norm.g (m ∷ (norm.g' ++ norm.Q))) in
         rw (one, other) (record {
-          brackets = (alike.lower, refl, ap (λ l. eqb (length l) 0) shape ∙ some_marked (norm.P ++ norm.g) (norm.g' ++ norm.Q) ∙ sym (ap (λ l. eqb (length l) 0) norm.one ∙ some_marked norm.P norm.Q));
-          named = λ modifier no_open no_close.
+          brackets = (
+            alike.lower,
+            refl,
+            ap (λ l. eqb (length l) 0) shape ∙ some_marked (norm.P ++ norm.g) (norm.g' ++ norm.Q)
+                ∙ sym (ap (λ l. eqb (length l) 0) norm.one ∙ some_marked norm.P norm.Q),
+          );
+          named = λ modifier percent no_open no_close.
               let free : lacks m modifier ≡ true = elim is.which [ inl e ↦ rw e no_open | inr e ↦ rw e no_close ] in
               ap (λ b. if b && is_name (trimmed inside) then Some (trimmed inside) else None)
               (ap (λ l. bytes_eq l modifier) shape ∙ unlike m is (norm.P ++ norm.g) (norm.g' ++ norm.Q) modifier free
@@ -206,13 +135,13 @@ module _ (m : ℕ) (is : IsBracket m) where
     -- it is the bracket itself
     cut_here : (inside : List ℕ) → m ≡ 40 → lacks 40 inside ≡ true → SameCut (cut_trimmed (P ++ (g ++ m ∷ (g' ++ inside)))) (cut_trimmed (P ++ m ∷ inside))
     cut_here inside e h =
-        let wide : lacks 40 (g' ++ inside) ≡ true = joined_all (λ b. not (eqb b 40)) g' inside (no_such is_blank 40 refl g' blanks') h in
+        let wide : lacks 40 (g' ++ inside) ≡ true = lacks_both 40 g' inside (no_such is_blank 40 refl g' blanks') h in
         same_cut _ _ (
         ap (λ b. cut_trimmed (P ++ (g ++ b ∷ (g' ++ inside)))) e
         ∙ ap cut_trimmed (sym (append_assoc P g (40 ∷ (g' ++ inside))))
-        ∙ ap (option_map (λ parts. (trimmed parts.0, trimmed parts.1))) (cut_last_mid (P ++ g) (g' ++ inside) wide)
+        ∙ ap parts_trimmed (cut_last_mid (P ++ g) (g' ++ inside) wide)
         ∙ ap₂ (λ x y. Some (x, y)) (trimmed_before P g blanks) (trimmed_behind g' inside blanks')
-        ∙ ap (option_map (λ parts. (trimmed parts.0, trimmed parts.1))) (sym (cut_last_mid P inside h))
+        ∙ ap parts_trimmed (sym (cut_last_mid P inside h))
         ∙ ap (λ b. cut_trimmed (P ++ b ∷ inside)) (sym e))
 
     -- a closing bracket stands behind it, so no register does
@@ -220,29 +149,38 @@ module _ (m : ℕ) (is : IsBracket m) where
     cut_before Q e h = go (last_cut P)
       where
         tight : (xs : List ℕ) → lacks 40 xs ≡ true → lacks 40 (xs ++ m ∷ Q) ≡ true
-        tight xs k = joined_all (λ b. not (eqb b 40)) xs (m ∷ Q) k (rw e h)
+        tight xs k = lacks_both 40 xs (m ∷ Q) k (rw e h)
 
         loose : (xs : List ℕ) → lacks 40 xs ≡ true → lacks 40 (xs ++ (g ++ m ∷ (g' ++ Q))) ≡ true
         loose xs k =
-            joined_all (λ b. not (eqb b 40)) xs (g ++ m ∷ (g' ++ Q)) k
-            (joined_all (λ b. not (eqb b 40)) g (m ∷ (g' ++ Q)) (no_such is_blank 40 refl g blanks)
-            (rw e (joined_all (λ b. not (eqb b 40)) g' Q (no_such is_blank 40 refl g' blanks') h)))
+            lacks_both 40 xs (g ++ m ∷ (g' ++ Q)) k
+            (lacks_both 40 g (m ∷ (g' ++ Q)) (no_such is_blank 40 refl g blanks)
+            (rw e (lacks_both 40 g' Q (no_such is_blank 40 refl g' blanks') h)))
 
-        within_brackets : (front inside : List ℕ) → P ≡ front ++ 40 ∷ inside → lacks 40 inside ≡ true → SameCut (cut_trimmed (P ++ (g ++ m ∷ (g' ++ Q)))) (cut_trimmed (P ++ m ∷ Q))
+        within_brackets : (front inside : List ℕ) → P ≡ front ++ 40 ∷ inside → lacks 40 inside ≡ true
+            → SameCut (cut_trimmed (P ++ (g ++ m ∷ (g' ++ Q)))) (cut_trimmed (P ++ m ∷ Q))
         within_brackets front inside f k =
             let norm = normal m inside g g' Q is.solid blanks blanks' in
-            let shape : trimmed (inside ++ (g ++ m ∷ (g' ++ Q))) ≡ (norm.P ++ norm.g) ++ m ∷ (norm.g' ++ norm.Q) = norm.other ∙ sym (append_assoc norm.P norm.g (m ∷ (norm.g' ++ norm.Q))) in
+            let shape : trimmed (inside ++ (g ++ m ∷ (g' ++ Q))) ≡ (norm.P ++ norm.g) ++ m ∷ (norm.g' ++ norm.Q)
+            = norm.other ∙ sym (append_assoc norm.P norm.g (m ∷ (norm.g' ++ norm.Q))) in
             let one : cut_trimmed (P ++ (g ++ m ∷ (g' ++ Q))) ≡ Some (trimmed front, trimmed (inside ++ (g ++ m ∷ (g' ++ Q))))
             = ap (λ l. cut_trimmed (l ++ (g ++ m ∷ (g' ++ Q)))) f ∙ ap cut_trimmed (append_assoc front (40 ∷ inside) (g ++ m ∷ (g' ++ Q)))
-            ∙ ap (option_map (λ parts. (trimmed parts.0, trimmed parts.1))) (cut_last_mid front (inside ++ (g ++ m ∷ (g' ++ Q))) (loose inside k)) in
+            ∙ ap parts_trimmed (cut_last_mid front (inside ++ (g ++ m ∷ (g' ++ Q))) (loose inside k)) in
             let other : cut_trimmed (P ++ m ∷ Q) ≡ Some (trimmed front, trimmed (inside ++ m ∷ Q))
             = ap (λ l. cut_trimmed (l ++ m ∷ Q)) f ∙ ap cut_trimmed (append_assoc front (40 ∷ inside) (m ∷ Q))
-            ∙ ap (option_map (λ parts. (trimmed parts.0, trimmed parts.1))) (cut_last_mid front (inside ++ m ∷ Q) (tight inside k)) in
-            let nameless : is_name (trimmed (inside ++ (g ++ m ∷ (g' ++ Q)))) ≡ false = ap is_name shape ∙ no_name m is (norm.P ++ norm.g) (norm.g' ++ norm.Q) in
+            ∙ ap parts_trimmed (cut_last_mid front (inside ++ m ∷ Q) (tight inside k)) in
+            let nameless : is_name (trimmed (inside ++ (g ++ m ∷ (g' ++ Q)))) ≡ false
+            = ap is_name shape ∙ no_name m is (norm.P ++ norm.g) (norm.g' ++ norm.Q) in
             let nameless' : is_name (trimmed (inside ++ m ∷ Q)) ≡ false = ap is_name norm.one ∙ no_name m is norm.P norm.Q in
             rw (one, other) (record {
-              brackets = (refl, ap register_in shape ∙ register_fails m is (norm.P ++ norm.g) (norm.g' ++ norm.Q) ∙ sym (ap register_in norm.one ∙ register_fails m is norm.P norm.Q), refl);
-              named = λ modifier no_open no_close. rw (and_right (bytes_eq (trimmed front) modifier) _ nameless, and_right (bytes_eq (trimmed front) modifier) _ nameless') refl;
+              brackets = (
+                refl,
+                ap register_in shape ∙ register_fails m is (norm.P ++ norm.g) (norm.g' ++ norm.Q)
+                    ∙ sym (ap register_in norm.one ∙ register_fails m is norm.P norm.Q),
+                refl,
+              );
+              named = λ modifier percent no_open no_close. rw
+                  (and_right (bytes_eq (trimmed front) modifier) _ nameless, and_right (bytes_eq (trimmed front) modifier) _ nameless') refl;
             })
 
         go : LastCut P → SameCut (cut_trimmed (P ++ (g ++ m ∷ (g' ++ Q)))) (cut_trimmed (P ++ m ∷ Q))
@@ -255,7 +193,8 @@ module _ (m : ℕ) (is : IsBracket m) where
         go : LastCut Q → SameCut (cut_trimmed (P ++ (g ++ m ∷ (g' ++ Q)))) (cut_trimmed (P ++ m ∷ Q))
         go (last front inside e h) =
             let count : length Q ≡ length front + suc (length inside) = ap length e ∙ length-append front (40 ∷ inside) in
-            subst (λ q. SameCut (cut_trimmed (P ++ (g ++ m ∷ (g' ++ q)))) (cut_trimmed (P ++ m ∷ q))) (sym e) (cut_behind front inside h (omega (arith, less, count)))
+            subst (λ q. SameCut (cut_trimmed (P ++ (g ++ m ∷ (g' ++ q)))) (cut_trimmed (P ++ m ∷ q))) (sym e)
+            (cut_behind front inside h (omega (arith, less, count)))
         go (without h) = elim is.which [ inl e ↦ cut_here Q e h | inr e ↦ cut_before Q e h ]
 
     -- the bracket is the last byte
@@ -266,12 +205,12 @@ module _ (m : ℕ) (is : IsBracket m) where
         free = no_such is_blank 40 refl g blanks
 
         go : LastCut P → SameCut (cut_trimmed (P ++ g)) (cut_trimmed P)
-        go (without h) = same_cut _ _ (rw (cut_last_none (P ++ g) (joined_all (λ b. not (eqb b 40)) P g h free), cut_last_none P h) refl)
+        go (without h) = same_cut _ _ (rw (cut_last_none (P ++ g) (lacks_both 40 P g h free), cut_last_none P h) refl)
         go (last front inside e h) = same_cut _ _ (
             ap (λ l. cut_trimmed (l ++ g)) e ∙ ap cut_trimmed (append_assoc front (40 ∷ inside) g)
-            ∙ ap (option_map (λ parts. (trimmed parts.0, trimmed parts.1))) (cut_last_mid front (inside ++ g) (joined_all (λ b. not (eqb b 40)) inside g h free))
+            ∙ ap parts_trimmed (cut_last_mid front (inside ++ g) (lacks_both 40 inside g h free))
             ∙ ap (λ y. Some (trimmed front, y)) (trimmed_before inside g blanks)
-            ∙ ap (option_map (λ parts. (trimmed parts.0, trimmed parts.1))) (sym (cut_last_mid front inside h))
+            ∙ ap parts_trimmed (sym (cut_last_mid front inside h))
             ∙ ap cut_trimmed (sym e))
 
   closed : (t : Bool) (one other : Parts) → SameCut one other → SameCut (if t then one else None) (if t then other else None)
@@ -284,14 +223,16 @@ module _ (m : ℕ) (is : IsBracket m) where
       let norm = normal m A gap gap' B is.solid h h' in
       subst (λ l. AreReadAlike l (trimmed (A ++ m ∷ B))) (sym (norm.other ∙ sym (append_assoc norm.P norm.g (m ∷ (norm.g' ++ norm.Q)))))
       (subst (λ l. AreReadAlike ((norm.P ++ norm.g) ++ m ∷ (norm.g' ++ norm.Q)) l) (sym norm.one)
-      (from_cuts (norm.P ++ norm.g) (norm.g' ++ norm.Q) norm.P norm.Q (elim norm.side [
+      (from_cuts m is (norm.P ++ norm.g) (norm.g' ++ norm.Q) norm.P norm.Q (elim norm.side [
         | inl e ↦ at_end norm.P norm.g norm.Q norm.g' norm.blanks e.0 e.1
-        | inr e ↦ before_end norm.P norm.g norm.Q norm.g' norm.blanks norm.blanks' e.0 e.1 e.2 (gap_within n) (omega (arith, less, norm.shorter, ap length e.2 ∙ length-append e.0 (e.1 ∷ [])))
+        | inr e ↦ before_end norm.P norm.g norm.Q norm.g' norm.blanks norm.blanks' e.0 e.1 e.2 (gap_within n)
+            (omega (arith, less, norm.shorter, ap length e.2 ∙ length-append e.0 (e.1 ∷ [])))
       ])))
     where
       at_end : (P g Q g' : List ℕ) → AreBlanks g → Q ≡ [] → g' ≡ [] → SameCut (bracketed ((P ++ g) ++ m ∷ (g' ++ Q))) (bracketed (P ++ m ∷ Q))
       at_end P g Q g' b e e' =
-          rw (e, e', bracketed_snoc (P ++ g) m, bracketed_snoc P m) (closed (eqb m 41) _ _ (cut_at_end zero (λ _ _ _ _ _ _ less. absurd (omega (arith, less))) P g [] b refl))
+          rw (e, e', bracketed_snoc (P ++ g) m, bracketed_snoc P m)
+          (closed (eqb m 41) _ _ (cut_at_end zero (λ _ _ _ _ _ _ less. absurd (omega (arith, less))) P g [] b refl))
 
       before_end : (P g Q g' : List ℕ) → AreBlanks g → AreBlanks g' → (front : List ℕ) (c : ℕ) → Q ≡ front ++ c ∷ [] → AlikeWithin n → length front < n
           → SameCut (bracketed ((P ++ g) ++ m ∷ (g' ++ Q))) (bracketed (P ++ m ∷ Q))
@@ -300,7 +241,8 @@ module _ (m : ℕ) (is : IsBracket m) where
           = append_assoc P g (m ∷ (g' ++ Q)) ∙ ap (λ q. P ++ (g ++ m ∷ (g' ++ q))) e ∙ ap (λ l. P ++ (g ++ m ∷ l)) (sym (append_assoc g' front (c ∷ [])))
           ∙ ap (λ l. P ++ l) (sym (append_assoc g (m ∷ (g' ++ front)) (c ∷ []))) ∙ sym (append_assoc P (g ++ m ∷ (g' ++ front)) (c ∷ [])) in
           let right : P ++ m ∷ Q ≡ (P ++ m ∷ front) ++ c ∷ [] = ap (λ q. P ++ m ∷ q) e ∙ sym (append_assoc P (m ∷ front) (c ∷ [])) in
-          rw (left, right, bracketed_snoc (P ++ (g ++ m ∷ (g' ++ front))) c, bracketed_snoc (P ++ m ∷ front) c) (closed (eqb c 41) _ _ (cut_same n within P g g' b b' front fits))
+          rw (left, right, bracketed_snoc (P ++ (g ++ m ∷ (g' ++ front))) c, bracketed_snoc (P ++ m ∷ front) c)
+          (closed (eqb c 41) _ _ (cut_same n within P g g' b b' front fits))
 
   -- in an operand
   pub gap_alike : (A gap gap' B : List ℕ) → AreBlanks gap → AreBlanks gap' → AreReadAlike (trimmed (A ++ (gap ++ m ∷ (gap' ++ B)))) (trimmed (A ++ m ∷ B))

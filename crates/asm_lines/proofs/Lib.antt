@@ -11,6 +11,8 @@ pub mod Trims
 pub mod Readers
 pub mod StatementLines
 pub mod WithBracket
+pub mod Cuts
 pub mod Gaps
 pub mod Blanks
+pub mod NumeralLines
 pub mod Comments

@@ -9,10 +9,10 @@ use Rattle.asm_lines.specs.Steps.{◌>>=◌}
 use Rattle.asm_lines.specs.Text.{is_blank, trimmed, operands_of}
 use Rattle.asm_lines.specs.Names.{directive_of, mnemonic_of}
 use Rattle.asm_lines.specs.Statements.{Stmt, Said, is_letter, is_name_byte, is_name, chosen, statement_in, rest_of_line, label_in, said_in, line_of}
-use Rattle.asm_lines.specs.Alike.{AllAlike, AreBlanks, IsQuiet, IsFirstWord, IsLead, statement_line}
-use Rattle.asm_lines.proofs.PlainWords.{weaker, joined_all, all_at, cut_at_none, cut_at_mid}
+use Rattle.asm_lines.specs.Alike.{AreReadAlike, Pairwise, AreBlanks, IsQuiet, IsFirstWord, IsLead, statement_line}
+use Rattle.asm_lines.proofs.PlainWords.{weaker, all_at, cut_at_none, cut_at_mid}
 use Rattle.asm_lines.proofs.Readers.{chosen_alike}
-use Rattle.asm_lines.proofs.Trims.{no_such, trimmed_before, trimmed_word, trimmed_solid, Ends, blank, solid, ends_of, operands_before}
+use Rattle.asm_lines.proofs.Trims.{lacks, lacks_both, no_such, trimmed_before, trimmed_word, trimmed_solid, Ends, blank, solid, ends_of, operands_before}
 
 -- ---- names and quiet texts
 
@@ -44,21 +44,23 @@ name_some (b ∷ bs) e = omega arith
 pub name_trimmed : (name : List ℕ) → is_name name ≡ true → trimmed name ≡ name
 name_trimmed name e = trimmed_word name (name_some name e) (name_solid name e)
 
-quiet_colon : (bytes : List ℕ) → IsQuiet bytes → list_all (λ b. not (eqb b 58)) bytes ≡ true
-quiet_colon bytes h = weaker (λ b. not (eqb b 58 || eqb b 35)) (λ b. not (eqb b 58)) (λ b e. not_from_false _ (or_parts (eqb b 58) (eqb b 35) (not-true _ e)).0) bytes h
+quiet_colon : (bytes : List ℕ) → IsQuiet bytes → lacks 58 bytes ≡ true
+quiet_colon bytes h = weaker (λ b. not (eqb b 58 || eqb b 35)) (λ b. not (eqb b 58))
+    (λ b e. not_from_false _ (or_parts (eqb b 58) (eqb b 35) (not-true _ e)).0) bytes h
 
-quiet_mark : (bytes : List ℕ) → IsQuiet bytes → list_all (λ b. not (eqb b 35)) bytes ≡ true
-quiet_mark bytes h = weaker (λ b. not (eqb b 58 || eqb b 35)) (λ b. not (eqb b 35)) (λ b e. not_from_false _ (or_parts (eqb b 58) (eqb b 35) (not-true _ e)).1) bytes h
+quiet_mark : (bytes : List ℕ) → IsQuiet bytes → lacks 35 bytes ≡ true
+quiet_mark bytes h = weaker (λ b. not (eqb b 58 || eqb b 35)) (λ b. not (eqb b 35))
+    (λ b e. not_from_false _ (or_parts (eqb b 58) (eqb b 35) (not-true _ e)).1) bytes h
 
 -- ---- labels
 
 pub labelled : (name gap rest : List ℕ) → is_name name ≡ true → AreBlanks gap → label_in ((name ++ gap) ++ 58 ∷ rest) ≡ (Some name, rest)
 unfolding label_in
 labelled name gap rest e h =
-    let quiet = joined_all (λ b. not (eqb b 58)) name gap (name_without 58 refl name e) (no_such is_blank 58 refl gap h) in
+    let quiet = lacks_both 58 name gap (name_without 58 refl name e) (no_such is_blank 58 refl gap h) in
     rw (cut_at_mid (λ b. eqb b 58) (name ++ gap) 58 rest quiet refl, trimmed_before name gap h, name_trimmed name e, e) refl
 
-unlabelled : (text : List ℕ) → list_all (λ b. not (eqb b 58)) text ≡ true → label_in text ≡ (None, text)
+unlabelled : (text : List ℕ) → lacks 58 text ≡ true → label_in text ≡ (None, text)
 unfolding label_in
 unlabelled text h = rw (cut_at_none (λ b. eqb b 58) text h) refl
 
@@ -71,14 +73,15 @@ same_operands : (word rest rest' : List ℕ) → operands_of rest ≡ operands_o
 unfolding statement_in
 same_operands word rest rest' e = ap (chosen (directive_of word) (mnemonic_of word)) e
 
-not_empty : (xs : List ℕ) → 0 < length xs → eqb (length xs) 0 ≡ false
+pub not_empty : (xs : List ℕ) → 0 < length xs → eqb (length xs) 0 ≡ false
 not_empty xs some = ne_eqb _ _ (λ e. absurd (omega (arith, e, some)))
 
 module _ (word : List ℕ) (is : IsFirstWord word) where
   read_blank : (rest : List ℕ) → AreBlanks rest → rest_of_line (word ++ 32 ∷ rest) ≡ some_statement (statement_in word rest)
   unfolding rest_of_line
   read_blank rest h =
-      let whole : trimmed (word ++ 32 ∷ rest) ≡ word = trimmed_before word (32 ∷ rest) (and_from (is_blank 32) _ refl h) ∙ trimmed_word word is.nonempty is.no_blank in
+      let whole : trimmed (word ++ 32 ∷ rest) ≡ word
+      = trimmed_before word (32 ∷ rest) (and_from (is_blank 32) _ refl h) ∙ trimmed_word word is.nonempty is.no_blank in
       rw (whole, not_empty word is.nonempty, cut_at_none is_blank word is.no_blank, same_operands word [] rest (sym (operands_before [] rest h))) refl
 
   read_solid : (front : List ℕ) (c : ℕ) (gap : List ℕ) → is_blank c ≡ false → AreBlanks gap
@@ -90,11 +93,18 @@ module _ (word : List ℕ) (is : IsFirstWord word) where
       = sym (append_assoc word (32 ∷ (front ++ c ∷ [])) gap) ∙ ap (λ l. l ++ gap) (sym (append_assoc word (32 ∷ front) (c ∷ []))) in
       let together : (word ++ 32 ∷ front) ++ c ∷ [] ≡ word ++ 32 ∷ (front ++ c ∷ []) = append_assoc word (32 ∷ front) (c ∷ []) in
       let first : is_blank (get_or ((word ++ 32 ∷ front) ++ c ∷ []) 0 32) ≡ false
-      = ap (λ l. is_blank (get_or l 0 32)) together ∙ ap is_blank (get_or_append_left word (32 ∷ (front ++ c ∷ [])) 32 0 is.nonempty) ∙ not-true _ (all_at (λ b. not (is_blank b)) word 0 32 is.nonempty is.no_blank) in
+      = ap (λ l. is_blank (get_or l 0 32)) together ∙ ap is_blank (get_or_append_left word (32 ∷ (front ++ c ∷ [])) 32 0 is.nonempty)
+      ∙ not-true _ (all_at (λ b. not (is_blank b)) word 0 32 is.nonempty is.no_blank) in
       let whole : trimmed (word ++ 32 ∷ ((front ++ c ∷ []) ++ gap)) ≡ word ++ 32 ∷ (front ++ c ∷ [])
       = ap trimmed apart ∙ trimmed_before ((word ++ 32 ∷ front) ++ c ∷ []) gap h ∙ trimmed_solid (word ++ 32 ∷ front) c first n ∙ together in
       let some : eqb (length (word ++ 32 ∷ (front ++ c ∷ []))) 0 ≡ false = not_empty (word ++ 32 ∷ (front ++ c ∷ [])) (simp length-append (omega arith)) in
-      rw (whole, some, cut_at_mid is_blank word 32 (front ++ c ∷ []) is.no_blank refl, same_operands word (front ++ c ∷ []) ((front ++ c ∷ []) ++ gap) (sym (operands_before (front ++ c ∷ []) gap h))) refl
+      rw (
+        whole,
+        some,
+        cut_at_mid is_blank word 32 (front ++ c ∷ []) is.no_blank refl,
+        same_operands word (front ++ c ∷ []) ((front ++ c ∷ []) ++ gap)
+            (sym (operands_before (front ++ c ∷ []) gap h)),
+      ) refl
 
   pub statement_read : (rest : List ℕ) → rest_of_line (word ++ 32 ∷ rest) ≡ some_statement (statement_in word rest)
   statement_read rest = go (ends_of rest)
@@ -118,23 +128,29 @@ module _ (lead word : List ℕ) (led : IsLead lead) (is : IsFirstWord word) wher
   unfolding line_of said_in
   line_read rest quiet = go led
     where
-      body : list_all (λ b. not (eqb b 35)) (word ++ 32 ∷ rest) ≡ true
-      body = joined_all (λ b. not (eqb b 35)) word (32 ∷ rest) (quiet_mark word is.quiet) (quiet_mark rest quiet)
+      body : lacks 35 (word ++ 32 ∷ rest) ≡ true
+      body = lacks_both 35 word (32 ∷ rest) (quiet_mark word is.quiet) (quiet_mark rest quiet)
 
       go : (led : IsLead lead) → line_of (lead ++ (word ++ 32 ∷ rest)) ≡ said_as (name_led lead led) (statement_in word rest)
       go (inl e) =
-          let colon : list_all (λ b. not (eqb b 58)) (word ++ 32 ∷ rest) ≡ true = joined_all (λ b. not (eqb b 58)) word (32 ∷ rest) (quiet_colon word is.quiet) (quiet_colon rest quiet) in
+          let colon : lacks 58 (word ++ 32 ∷ rest) ≡ true = lacks_both 58 word (32 ∷ rest) (quiet_colon word is.quiet) (quiet_colon rest quiet) in
           ap (λ l. line_of (l ++ (word ++ 32 ∷ rest))) e
           ∙ rw (cut_at_none (λ b. eqb b 35) (word ++ 32 ∷ rest) body, unlabelled (word ++ 32 ∷ rest) colon, statement_read word is rest) refl
       go (inr (name, named, e)) =
           let whole : lead ++ (word ++ 32 ∷ rest) ≡ (name ++ []) ++ 58 ∷ (word ++ 32 ∷ rest)
           = ap (λ l. l ++ (word ++ 32 ∷ rest)) e ∙ append_assoc name (58 ∷ []) (word ++ 32 ∷ rest) ∙ sym (append_assoc name [] (58 ∷ (word ++ 32 ∷ rest))) in
-          let mark : list_all (λ b. not (eqb b 35)) ((name ++ []) ++ 58 ∷ (word ++ 32 ∷ rest)) ≡ true
-          = joined_all (λ b. not (eqb b 35)) (name ++ []) (58 ∷ (word ++ 32 ∷ rest)) (joined_all (λ b. not (eqb b 35)) name [] (name_without 35 refl name named) refl) body in
+          let mark : lacks 35 ((name ++ []) ++ 58 ∷ (word ++ 32 ∷ rest)) ≡ true
+          = lacks_both 35 (name ++ []) (58 ∷ (word ++ 32 ∷ rest)) (lacks_both 35 name [] (name_without 35 refl name named) refl) body in
           ap line_of whole
-          ∙ rw (cut_at_none (λ b. eqb b 35) ((name ++ []) ++ 58 ∷ (word ++ 32 ∷ rest)) mark, labelled name [] (word ++ 32 ∷ rest) named refl, statement_read word is rest) refl
+          ∙ rw (
+            cut_at_none (λ b. eqb b 35) ((name ++ []) ++ 58 ∷ (word ++ 32 ∷ rest)) mark,
+            labelled name []
+                (word ++ 32 ∷ rest) named refl,
+            statement_read word is rest,
+          ) refl
 
-  pub lines_alike : (rest rest' : List ℕ) → IsQuiet rest → IsQuiet rest' → AllAlike (operands_of rest) (operands_of rest') → line_of (statement_line lead word rest) ≡ line_of (statement_line lead word rest')
+  pub lines_alike : (rest rest' : List ℕ) → IsQuiet rest → IsQuiet rest' → Pairwise AreReadAlike (operands_of rest) (operands_of rest')
+      → line_of (statement_line lead word rest) ≡ line_of (statement_line lead word rest')
   unfolding statement_in
   lines_alike rest rest' quiet quiet' alike =
       line_read rest quiet ∙ ap (said_as (name_led lead led)) (chosen_alike (directive_of word) (mnemonic_of word) alike) ∙ sym (line_read rest' quiet')

@@ -9,8 +9,15 @@ use Rattle.asm_lines.specs.Alike.{AreBlanks}
 use Rattle.asm_lines.proofs.PlainWords.{weaker, joined_all, all_at, trimmed_same, split_mid, split_none}
 use Rattle.asm_lines.proofs.Comments.{Cut, uncut, cut, cut_of}
 
+-- the text has no such byte
+abbrev pub lacks : ℕ → List ℕ → Bool
+lacks m xs = list_all (λ b. not (eqb b m)) xs
+
+pub lacks_both : (m : ℕ) (xs ys : List ℕ) → lacks m xs ≡ true → lacks m ys ≡ true → lacks m (xs ++ ys) ≡ true
+lacks_both m xs ys h i = joined_all (λ b. not (eqb b m)) xs ys h i
+
 -- where each byte passes, none is one that does not
-pub no_such : (p : ℕ → Bool) (c : ℕ) → p c ≡ false → (bs : List ℕ) → list_all p bs ≡ true → list_all (λ b. not (eqb b c)) bs ≡ true
+pub no_such : (p : ℕ → Bool) (c : ℕ) → p c ≡ false → (bs : List ℕ) → list_all p bs ≡ true → lacks c bs ≡ true
 no_such p c fails bs h = weaker p (λ b. not (eqb b c)) (λ b e. go b e (eqb b c) refl) bs h
   where
     go : (b : ℕ) → p b ≡ true → (t : Bool) → eqb b c ≡ t → not t ≡ true
@@ -41,17 +48,14 @@ pub front_before : (xs : List ℕ) (c : ℕ) (ys : List ℕ) → is_blank c ≡ 
 front_before [] c ys h = rw h refl
 front_before (x ∷ xs) c ys h = go (is_blank x) (front_before xs c ys h)
   where
-    go : (t : Bool) → front_trimmed (xs ++ c ∷ ys) ≡ front_trimmed xs ++ c ∷ ys → cond t (front_trimmed (xs ++ c ∷ ys)) (x ∷ (xs ++ c ∷ ys)) ≡ cond t (front_trimmed xs) (x ∷ xs) ++ c ∷ ys
+    go : (t : Bool) → front_trimmed (xs ++ c ∷ ys) ≡ front_trimmed xs ++ c ∷ ys
+        → cond t (front_trimmed (xs ++ c ∷ ys)) (x ∷ (xs ++ c ∷ ys)) ≡ cond t (front_trimmed xs) (x ∷ xs) ++ c ∷ ys
     go true more = more
     go false more = refl
 
 pub trimmed_behind : (gap xs : List ℕ) → AreBlanks gap → trimmed (gap ++ xs) ≡ trimmed xs
 unfolding trimmed
 trimmed_behind gap xs h = ap (λ (l : List ℕ). reverse (front_trimmed (reverse l))) (front_behind gap xs h)
-
-pub trimmed_blanks : (gap : List ℕ) → AreBlanks gap → trimmed gap ≡ []
-unfolding trimmed
-trimmed_blanks gap h = ap (λ (l : List ℕ). reverse (front_trimmed (reverse l))) (front_blank gap h)
 
 back_before : (xs gap : List ℕ) → AreBlanks gap → front_trimmed (reverse (xs ++ gap)) ≡ front_trimmed (reverse xs)
 back_before xs gap h = ap front_trimmed (reverse-append xs gap) ∙ front_behind (reverse gap) (reverse xs) (all_reversed is_blank gap h)
@@ -84,7 +88,8 @@ kept_of xs gap h = go (cut_of (λ b. not (is_blank b)) xs)
         let whole : xs ++ gap ≡ front ++ c ∷ (behind ++ gap) = ap (λ l. l ++ gap) is ∙ append_assoc front (c ∷ behind) gap in
         record {
           gap_left = gap;
-          is = ap front_trimmed whole ∙ front_before front c (behind ++ gap) none ∙ sym (append_assoc (front_trimmed front) (c ∷ behind) gap) ∙ ap (λ l. l ++ gap) (sym one);
+          is = ap front_trimmed whole ∙ front_before front c (behind ++ gap) none ∙ sym (append_assoc (front_trimmed front) (c ∷ behind) gap)
+              ∙ ap (λ l. l ++ gap) (sym one);
           blanks = h;
         }
 
@@ -127,7 +132,7 @@ trimmed_word xs some h = trimmed_same xs (not-true _ (all_at (λ b. not (is_blan
 abbrev pub is_comma : ℕ → Bool
 is_comma b = eqb b 44
 
-pub blanks_uncut : (gap : List ℕ) → AreBlanks gap → list_all (λ b. not (is_comma b)) gap ≡ true
+pub blanks_uncut : (gap : List ℕ) → AreBlanks gap → lacks 44 gap ≡ true
 blanks_uncut gap h = no_such is_blank 44 refl gap h
 
 pub operands_behind : (gap xs : List ℕ) → AreBlanks gap → operands_of (gap ++ xs) ≡ operands_of xs
@@ -135,10 +140,11 @@ unfolding operands_of
 operands_behind gap xs h = go (cut_of is_comma xs)
   where
     go : Cut is_comma xs → map trimmed (slice_split is_comma (gap ++ xs)) ≡ map trimmed (slice_split is_comma xs)
-    go (uncut e) = ap (map trimmed) (split_none is_comma (gap ++ xs) (joined_all _ gap xs (blanks_uncut gap h) e)) ∙ ap (λ (l : List ℕ). l ∷ []) (trimmed_behind gap xs h) ∙ ap (map trimmed) (sym (split_none is_comma xs e))
+    go (uncut e) = ap (map trimmed) (split_none is_comma (gap ++ xs) (joined_all _ gap xs (blanks_uncut gap h) e))
+        ∙ ap (λ (l : List ℕ). l ∷ []) (trimmed_behind gap xs h) ∙ ap (map trimmed) (sym (split_none is_comma xs e))
     go (cut front c behind is e n) =
         let whole : gap ++ xs ≡ (gap ++ front) ++ c ∷ behind = ap (λ l. gap ++ l) is ∙ sym (append_assoc gap front (c ∷ behind)) in
-        let none = joined_all (λ b. not (is_comma b)) gap front (blanks_uncut gap h) e in
+        let none = lacks_both 44 gap front (blanks_uncut gap h) e in
         ap (λ l. map trimmed (slice_split is_comma l)) whole
         ∙ ap (map trimmed) (split_mid is_comma (gap ++ front) c behind none n)
         ∙ ap (λ (l : List ℕ). l ∷ map trimmed (slice_split is_comma behind)) (trimmed_behind gap front h)
@@ -146,7 +152,8 @@ operands_behind gap xs h = go (cut_of is_comma xs)
         ∙ ap (λ l. map trimmed (slice_split is_comma l)) (sym is)
 
 -- behind a beginning of an operand
-operands_after : (lead xs gap : List ℕ) → list_all (λ b. not (is_comma b)) lead ≡ true → AreBlanks gap → map trimmed (slice_split is_comma (lead ++ (xs ++ gap))) ≡ map trimmed (slice_split is_comma (lead ++ xs))
+operands_after : (lead xs gap : List ℕ) → lacks 44 lead ≡ true → AreBlanks gap
+    → map trimmed (slice_split is_comma (lead ++ (xs ++ gap))) ≡ map trimmed (slice_split is_comma (lead ++ xs))
 operands_after lead [] gap l h =
     ap (map trimmed) (split_none is_comma (lead ++ gap) (joined_all _ lead gap l (blanks_uncut gap h)))
     ∙ ap (λ (x : List ℕ). x ∷ []) (trimmed_before lead gap h)
@@ -154,7 +161,8 @@ operands_after lead [] gap l h =
     ∙ ap (λ x. map trimmed (slice_split is_comma x)) (sym (append-nil lead))
 operands_after lead (x ∷ xs) gap l h = go (λ front none. operands_after front xs gap none h) (is_comma x) refl
   where
-    go : ((front : List ℕ) → list_all (λ b. not (is_comma b)) front ≡ true → map trimmed (slice_split is_comma (front ++ (xs ++ gap))) ≡ map trimmed (slice_split is_comma (front ++ xs)))
+    go : ((front : List ℕ) → lacks 44 front ≡ true
+        → map trimmed (slice_split is_comma (front ++ (xs ++ gap))) ≡ map trimmed (slice_split is_comma (front ++ xs)))
         → (t : Bool) → is_comma x ≡ t → map trimmed (slice_split is_comma (lead ++ x ∷ (xs ++ gap))) ≡ map trimmed (slice_split is_comma (lead ++ x ∷ xs))
     go rest true e =
         ap (map trimmed) (split_mid is_comma lead x (xs ++ gap) l e)
@@ -162,7 +170,7 @@ operands_after lead (x ∷ xs) gap l h = go (λ front none. operands_after front
         ∙ ap (map trimmed) (sym (split_mid is_comma lead x xs l e))
     go rest false e =
         ap (λ y. map trimmed (slice_split is_comma y)) (sym (append_assoc lead (x ∷ []) (xs ++ gap)))
-        ∙ rest (lead ++ x ∷ []) (joined_all (λ b. not (is_comma b)) lead (x ∷ []) l (and_from (not (is_comma x)) true (not_from_false (is_comma x) e) refl))
+        ∙ rest (lead ++ x ∷ []) (lacks_both 44 lead (x ∷ []) l (and_from (not (is_comma x)) true (not_from_false (is_comma x) e) refl))
         ∙ ap (λ y. map trimmed (slice_split is_comma y)) (append_assoc lead (x ∷ []) xs)
 
 pub operands_before : (xs gap : List ℕ) → AreBlanks gap → operands_of (xs ++ gap) ≡ operands_of xs

@@ -12,9 +12,7 @@ use Rattle.asm_lines.specs.Names.{x_name, use_name, numbers, register_of}
 use Rattle.asm_lines.specs.Statements.{is_letter, is_name_byte, is_name, register_in, nothing_in}
 use Rattle.asm_lines.proofs.PlainWords.{weaker}
 use Rattle.asm_lines.proofs.Alike.{find_nothing}
-
-abbrev pub lacks : ℕ → List ℕ → Bool
-lacks m xs = list_all (λ b. not (eqb b m)) xs
+use Rattle.asm_lines.proofs.Trims.{lacks}
 
 -- what a bracket is not
 pub record IsBracket (m : ℕ) : Type 0 where
@@ -32,10 +30,38 @@ pub record IsBracket (m : ℕ) : Type 0 where
   pub low : lacks m (37 ∷ 108 ∷ 111 ∷ []) ≡ true
 
 pub opening : IsBracket 40
-opening = record { which = inl refl; solid = refl; letter = refl; name_byte = refl; decimal = refl; hex = refl; no_minus = refl; no_zero = refl; no_x = refl; registers = refl; high = refl; low = refl }
+opening = record {
+  which = inl refl;
+  solid = refl;
+  letter = refl;
+  name_byte = refl;
+  decimal = refl;
+  hex = refl;
+  no_minus = refl;
+  no_zero = refl;
+  no_x =
+      refl;
+  registers = refl;
+  high = refl;
+  low = refl;
+}
 
 pub closing : IsBracket 41
-closing = record { which = inr refl; solid = refl; letter = refl; name_byte = refl; decimal = refl; hex = refl; no_minus = refl; no_zero = refl; no_x = refl; registers = refl; high = refl; low = refl }
+closing = record {
+  which = inr refl;
+  solid = refl;
+  letter = refl;
+  name_byte = refl;
+  decimal = refl;
+  hex = refl;
+  no_minus = refl;
+  no_zero = refl;
+  no_x =
+      refl;
+  registers = refl;
+  high = refl;
+  low = refl;
+}
 
 module _ (m : ℕ) (is : IsBracket m) where
   eqb_other : (y : ℕ) → not (eqb y m) ≡ true → eqb m y ≡ false
@@ -104,8 +130,10 @@ module _ (m : ℕ) (is : IsBracket m) where
   pub no_number : (P Q : List ℕ) → number_of (P ++ m ∷ Q) ≡ None
   unfolding number_of
   no_number [] Q = rw (is.no_minus, is.no_zero, none_written 10 [] Q is.decimal) refl
-  no_number (p ∷ []) Q = rw (and_right (eqb p 48) (eqb m 120) is.no_x) (either_none (eqb p 45) _ _ (rw (none_written 10 [] Q is.decimal) refl) (rw (none_written 10 (p ∷ []) Q is.decimal) refl))
-  no_number (p ∷ q ∷ P) Q = pick_none (eqb p 45) (eqb p 48 && eqb q 120) _ _ _ (rw (none_written 10 (q ∷ P) Q is.decimal) refl) (rw (none_written 16 P Q is.hex) refl) (rw (none_written 10 (p ∷ q ∷ P) Q is.decimal) refl)
+  no_number (p ∷ []) Q = rw (and_right (eqb p 48) (eqb m 120) is.no_x)
+      (either_none (eqb p 45) _ _ (rw (none_written 10 [] Q is.decimal) refl) (rw (none_written 10 (p ∷ []) Q is.decimal) refl))
+  no_number (p ∷ q ∷ P) Q = pick_none (eqb p 45) (eqb p 48 && eqb q 120) _ _ _ (rw (none_written 10 (q ∷ P) Q is.decimal) refl) (rw
+      (none_written 16 P Q is.hex) refl) (rw (none_written 10 (p ∷ q ∷ P) Q is.decimal) refl)
 
   pub number_fails : (least most : ℤ) (P Q : List ℕ) → number_within least most (P ++ m ∷ Q) ≡ Err Form
   unfolding number_within

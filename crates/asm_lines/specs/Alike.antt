@@ -4,6 +4,7 @@ use Rattle.std.specs.List.{list_all}
 use Rattle.std.specs.Str.Parse.{IsNumeral, digits_value}
 use Rattle.asm_lines.specs.Text.{is_blank}
 use Rattle.asm_lines.specs.Number.{natural_within}
+use Rattle.asm_lines.specs.Written.{in_brackets}
 use Rattle.asm_lines.specs.Statements.{is_name, register_in, value_in, bracketed, upper_in, lower_in, byte_in, nothing_in}
 
 -- ---- numerals
@@ -38,10 +39,17 @@ pub record AreReadAlike (one other : List ℕ) : Type 0 where
   pub brackets : AreBracketedAlike (bracketed one) (bracketed other)
   pub nothing : nothing_in (one ∷ []) ≡ nothing_in (other ∷ [])
 
--- as many operands, and each is read as the one in its place
-pub data AllAlike : List (List ℕ) → List (List ℕ) → Type 0 where
-  none : AllAlike [] []
-  more : {one other : List ℕ} {ones others : List (List ℕ)} → AreReadAlike one other → AllAlike ones others → AllAlike (one ∷ ones) (other ∷ others)
+-- as many operands, each with the one in its place
+pub data Pairwise (R : List ℕ → List ℕ → Type 0) : List (List ℕ) → List (List ℕ) → Type 0 where
+  none : Pairwise R [] []
+  more : {one other : List ℕ} {ones others : List (List ℕ)} → R one other → Pairwise R ones others → Pairwise R (one ∷ ones) (other ∷ others)
+
+-- two operands that are the same, or are numerals of one number, alone or in front of a base in brackets
+pub data SayTheSame : List ℕ → List ℕ → Type 0 where
+  same : (operand : List ℕ) → SayTheSame operand operand
+  numerals : (n : ℕ) (one other : List ℕ) → IsNumeralOf n one → IsNumeralOf n other → SayTheSame one other
+  offsets : (n : ℕ) (one other base : List ℕ) → IsNumeralOf n one → IsNumeralOf n other → list_all (λ b. not (b == 40)) base ≡ true
+      → SayTheSame (in_brackets one base) (in_brackets other base)
 
 -- ---- lines
 

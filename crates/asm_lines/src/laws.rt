@@ -3,8 +3,8 @@
 ghost use Rattle.std.specs.Prelude.{◌≡◌, ℕ, List, ◌++◌, codes, true, ◌^◌, ◌/◌, ◌<◌, pos, negsuc, ◌∷◌, [], Some, None, Ok};
 ghost use Rattle.rv_table.specs.declared.insn.Insn.{Insn};
 ghost use Rattle.rv_table.specs.Rows.{InRange};
-ghost use Rattle.asm_lines.specs.Text.{parts_at};
-ghost use Rattle.asm_lines.specs.Alike.{IsNumeralOf, AreReadAlike, AreBlanks, IsQuiet, IsMark, IsFirstWord, IsLead, statement_line};
+ghost use Rattle.asm_lines.specs.Text.{parts_at, operands_of};
+ghost use Rattle.asm_lines.specs.Alike.{IsNumeralOf, AreReadAlike, Pairwise, SayTheSame, AreBlanks, IsQuiet, IsMark, IsFirstWord, IsLead, statement_line};
 ghost use Rattle.asm_lines.specs.Number.{low_bits, number_of};
 ghost use Rattle.asm_lines.specs.Statements.{instruction, is_name, line_of};
 ghost use Rattle.asm_lines.specs.Written.{text_of, as_said, signed, offset, IsEvenWithin};
@@ -27,10 +27,14 @@ pub fn fields_again()
     ensures jump_in_range { (f : ℕ) → f < 2 ^ 20 → IsEvenWithin (negsuc 1048575) (pos 1048574) (offset (2 ^ 19) f) }
 {}
 
-/// Numerals of one number, in decimal digits and in `0x` and hex digits, are read alike as operands.
+/// Numerals of one number, in decimal digits and in `0x` and hex digits, are read alike as operands. So
+/// two lines that differ in such numerals alone say the same.
 pub fn numerals_are_read_alike()
     ensures number { (n : ℕ) (bytes : List ℕ) → IsNumeralOf n bytes → number_of bytes ≡ Some (pos n) }
     ensures alike { (n : ℕ) (one other : List ℕ) → IsNumeralOf n one → IsNumeralOf n other → AreReadAlike one other }
+    ensures lines { (lead word rest rest' : List ℕ) → IsLead lead → IsFirstWord word → IsQuiet rest → IsQuiet rest'
+        → Pairwise SayTheSame (operands_of rest) (operands_of rest')
+        → line_of (statement_line lead word rest) ≡ line_of (statement_line lead word rest') }
 {}
 
 /// A line with a comment behind it is read as the line without.

@@ -3,7 +3,7 @@
 //! The language is this project's own: the mnemonics and register names of the RISC-V manual, six
 //! directives, labels, decimal and hex numbers, `%hi` and `%lo`. What a line says is `line_of` of
 //! `specs/Statements.antt`, how an instruction is written `text_of` of `specs/Written.antt`, and
-//! what is written is read again (`written_again`).
+//! what is written is read again (`written_again`). `specs/Alike.antt` says which texts say the same.
 #![tactic(auto)]
 
 mod directive;
