@@ -45,17 +45,17 @@ statement_length labels at (instruction i) bs h =
 
 -- ---- places
 
-record IsWithin (at : Place) : Type 0 where
-  code : at.code ≤ 65536
-  local : at.local ≤ 65536
-  shared : at.shared ≤ 786432
+pub record IsWithin (at : Place) : Type 0 where
+  pub code : at.code ≤ 65536
+  pub local : at.local ≤ 65536
+  pub shared : at.shared ≤ 786432
 
 -- a place and the next one, with the bytes between them
-record Step (at next : Place) (piece : Piece) : Type 0 where
+pub record Step (at next : Place) (piece : Piece) : Type 0 where
   code : next.code ≡ at.code + length (bytes_in Code (Ok piece))
   local : next.local ≡ at.local + length (bytes_in Local (Ok piece))
   shared : next.shared ≡ at.shared + length (bytes_in Shared (Ok piece))
-  within : IsWithin next
+  pub within : IsWithin next
 
 grown_step : (s : Section) (n : ℕ) (bs : List ℕ) (at : Place) → IsWithin at → count_of s at + n ≤ room_of s → length bs ≡ n → Step at (grown s n at) (s, bs)
 grown_step Code n bs at h fits e = record { code = omega arith; local = omega arith; shared = omega arith; within = record { code = fits; local = h.local; shared = h.shared } }
@@ -145,7 +145,7 @@ read_step : (labels : Labels) (at : Place) (r : Result Said LineFault) (piece : 
 read_step labels at (Ok said) piece h e = said_step labels at said piece h e
 read_step labels at (Err f) piece h e = absurd cc
 
-line_step : (labels : Labels) (at : Place) (line : List ℕ) (piece : Piece) → IsWithin at → line_piece labels at line ≡ Ok piece → Step at (after at line) piece
+pub line_step : (labels : Labels) (at : Place) (line : List ℕ) (piece : Piece) → IsWithin at → line_piece labels at line ≡ Ok piece → Step at (after at line) piece
 line_step labels at line piece h e = read_step labels at (line_of line) piece h e
 
 -- ---- the whole text
@@ -155,7 +155,7 @@ record AllWithin (at : Place) (pieces : List (Result Piece AsmFault)) : Type 0 w
   local : at.local + length (section_bytes Local pieces) ≤ 65536
   shared : at.shared + length (section_bytes Shared pieces) ≤ 786432
 
-ok_piece : (r : Result Piece AsmFault) → IsOk r → (piece : Piece) × (r ≡ Ok piece)
+pub ok_piece : (r : Result Piece AsmFault) → IsOk r → (piece : Piece) × (r ≡ Ok piece)
 ok_piece (Ok piece) h = (piece, refl)
 ok_piece (Err f) h = absurd (false≢true h)
 

@@ -4,6 +4,7 @@ pub mod Words
 pub mod Parts
 pub mod Again
 pub mod Fits
+pub mod SmallLabels
 pub mod LineBytes
 pub mod PlacedBytes
 pub mod Opened

@@ -1,6 +1,6 @@
 -- The high and the low part of a value make it.
-use Rattle.std.proofs.Common.{◌≡◌, ℕ, ◌+◌, ◌-◌, ◌*◌, ◌/◌, ◌%◌, ◌^◌, ◌<◌, ◌≤◌, List, Some, refl, sym, ap, ◌∙◌, arith, inl, inr}
-use Rattle.std.specs.Prelude.{ℤ, pos, negsuc, ◌-ℤ◌}
+use Rattle.std.proofs.Common.{◌≡◌, ℕ, ◌+◌, ◌-◌, ◌*◌, ◌/◌, ◌%◌, ◌^◌, ◌<◌, ◌≤◌, List, Some, refl, ap, ◌∙◌, arith, inl, inr}
+use Rattle.std.specs.Prelude.{pos, negsuc, ◌-ℤ◌}
 use Rattle.std.proofs.lemmas.Bool.{cases_lt, lt-ltb, le-ltb}
 use Rattle.std.proofs.lemmas.Int.{ints}
 use Rattle.flat_machine.specs.declared.effect.Effect.TheVariants as does
@@ -9,7 +9,7 @@ use Rattle.flat_machine.specs.Operations.{immediate_value}
 use Rattle.flat_machine.specs.Effects.{effect_of, register_of}
 use Rattle.asm_lines.specs.Number.{low_bits}
 use Rattle.assembler.specs.declared.symbol.Symbol.{Symbol}
-use Rattle.assembler.specs.Meaning.{Labels, high_part, low_part, insn_at}
+use Rattle.assembler.specs.Meaning.{Labels, high_part, low_part}
 use Rattle.assembler.specs.Parts.{MakeValue}
 
 high_bits : (v : ℕ) → low_bits (2 ^ 20) (high_part v) ≡ (v + 2048) % 2 ^ 32 / 4096

@@ -7,7 +7,7 @@ ghost use Rattle.elf_image.specs.declared.layout.Layout.{Layout};
 ghost use Rattle.elf_image.specs.Spellings.{spelling};
 ghost use Rattle.assembler.specs.declared.fault.AsmError.{AsmError};
 ghost use Rattle.assembler.specs.declared.symbol.Symbol.{Symbol};
-ghost use Rattle.assembler.specs.Meaning.{Labels, IsMeaning, IsPresent, FitsRegions, word_bytes};
+ghost use Rattle.assembler.specs.Meaning.{Labels, labels_of, lines_of, IsMeaning, IsPresent, FitsRegions, word_bytes};
 ghost use Rattle.assembler.specs.Openings.{IsReadAsText};
 ghost use Rattle.assembler.specs.Parts.{MakeValue};
 ghost use Rattle.asm_lines.specs.Written.{text_of};
@@ -35,10 +35,13 @@ pub fn meaning_fits()
 {}
 
 /// `%hi` and `%lo` of a label give its value back: what LUI leaves in a register by the one, ADDI makes
-/// the value by the other, and a load or a store from there refers to it.
+/// the value by the other, and a load or a store from there refers to it. In a text that has a meaning
+/// this holds of each label.
 pub fn high_and_low_make_the_value()
-    ensures { (labels : Labels) (name : List ℕ) (symbol : Symbol) → labels name ≡ Some symbol
+    ensures value { (labels : Labels) (name : List ℕ) (symbol : Symbol) → labels name ≡ Some symbol
         → symbol.address < 2 ^ 32 → MakeValue labels name symbol.address }
+    ensures text { (text : List ℕ) (layout : Layout) (name : List ℕ) (symbol : Symbol) → IsMeaning text layout
+        → labels_of (lines_of text) name ≡ Some symbol → MakeValue (labels_of (lines_of text)) name symbol.address }
 {}
 
 /// The text of an instruction, as `disassemble` writes it, means the instruction's one word.
