@@ -28,6 +28,14 @@ pub fn register_op(match_: u32) -> Option<RegisterOp>
         0x4000_5033 => RegisterOp::Sra,
         0x0000_6033 => RegisterOp::Or,
         0x0000_7033 => RegisterOp::And,
+        0x0200_0033 => RegisterOp::Mul,
+        0x0200_1033 => RegisterOp::Mulh,
+        0x0200_2033 => RegisterOp::Mulhsu,
+        0x0200_3033 => RegisterOp::Mulhu,
+        0x0200_4033 => RegisterOp::Div,
+        0x0200_5033 => RegisterOp::Divu,
+        0x0200_6033 => RegisterOp::Rem,
+        0x0200_7033 => RegisterOp::Remu,
         _ => return None,
     })
 }

@@ -52,6 +52,18 @@ fn computations(rt: HostRuntime) {
         rs1: x(2),
         rs2: x(3),
     };
+    let mul = Insn::Op {
+        op: RegisterOp::Mul,
+        rd: x(1),
+        rs1: x(2),
+        rs2: x(3),
+    };
+    let remu = Insn::Op {
+        op: RegisterOp::Remu,
+        rd: x(31),
+        rs1: x(30),
+        rs2: x(29),
+    };
     let lui = Insn::Upper {
         op: UpperOp::Lui,
         rd: x(5),
@@ -62,6 +74,8 @@ fn computations(rt: HostRuntime) {
         (0xFFF0_0313, addi_minus_one), // addi x6, x0, -1
         (0x4031_5093, srai), // srai x1, x2, 3
         (0x4031_50B3, sra), // sra x1, x2, x3
+        (0x0231_00B3, mul), // mul x1, x2, x3
+        (0x03DF_7FB3, remu), // remu x31, x30, x29
         (0x8000_02B7, lui), // lui x5, 0x80000
     ] {
         assert_eq!(rt; decode(word), Some(insn));
@@ -151,6 +165,8 @@ fn words_that_spell_nothing(rt: HostRuntime) {
         0xFFFF_FFFF,
         0x4200_5013, // srai with bit 25 set
         0x0200_5013, // srli with bit 25 set
+        0x0631_00B3, // mul with bit 26 set
+        0x4231_00B3, // sub with bit 25 set
     ] {
         assert_eq!(rt; decode(word), None);
     }

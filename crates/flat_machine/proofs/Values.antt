@@ -1,5 +1,5 @@
 -- What instructions compute of words are words.
-use Rattle.std.proofs.Common.{ℕ, ◌*◌, ◌%◌, ◌^◌, ◌<◌, Bool, true, false, cond, eqb, ltb, List, ℤ, pos, negsuc, sym, subst, arith}
+use Rattle.std.proofs.Common.{ℕ, ◌*◌, ◌%◌, ◌^◌, ◌<◌, Bool, true, false, cond, eqb, ltb, List, ℤ, pos, negsuc, ◌*ℤ◌, sym, subst, arith}
 use Rattle.std.specs.Prelude.{slice_index}
 use Rattle.std.specs.Int.{w32, cast_signed, cast_unsigned, int_shr}
 use Rattle.std.proofs.lemmas.Int.{of_z-to_z}
@@ -23,6 +23,8 @@ use Rattle.flat_machine.specs.Effects.{call_of, effect_of, register_of}
 use Rattle.flat_machine.specs.Laws.{AreBelow, AsksForWords}
 use Rattle.flat_machine.specs.Operations.{immediate_value, is_taken, load_size, loaded, register_value, shift_value}
 use Rattle.flat_machine.specs.Words.{extended, flag, is_below, minus, plus}
+use Rattle.flat_machine.proofs.Products.{mixed_product_fits, signed_product_fits, upper_of_naturals_small, upper_small}
+use Rattle.flat_machine.proofs.Quotients.{natural_quotient_small, natural_remainder_small, quotient_small, remainder_small}
 
 -- ---- operations
 
@@ -63,6 +65,14 @@ register_value_small reg.Srl a b h g = omega (arith, shr_le a (b % 32))
 register_value_small reg.Sra a b h g = arithmetic_small a (b % 32) h
 register_value_small reg.Or a b h g = or_lt 32 a b h g
 register_value_small reg.And a b h g = omega (arith, and_le_l a b)
+register_value_small reg.Mul a b h g = omega arith
+register_value_small reg.Mulh a b h g = upper_small (cast_signed w32 a *ℤ cast_signed w32 b) (signed_product_fits a b h g)
+register_value_small reg.Mulhsu a b h g = upper_small (cast_signed w32 a *ℤ pos b) (mixed_product_fits a b h g)
+register_value_small reg.Mulhu a b h g = upper_of_naturals_small a b h g
+register_value_small reg.Div a b h g = quotient_small a b h
+register_value_small reg.Divu a b h g = natural_quotient_small a b h
+register_value_small reg.Rem a b h g = remainder_small a b h
+register_value_small reg.Remu a b h g = natural_remainder_small a b h
 
 pub immediate_value_small : (op : ImmediateOp) (a i : ℕ) → a < 2 ^ 32 → i < 2 ^ 32 → immediate_value op a i < 2 ^ 32
 unfolding immediate_value

@@ -1,9 +1,10 @@
 -- What the operations of each shape compute: one line a row of the table.
 --
--- Source: the manual's "Integer Computational Instructions", "Conditional Branches", "Load and Store Instructions" and
--- "Atomic Memory Operations". `a` is x[rs1], `b` is x[rs2], `i` the extended immediate or the shift amount.
-use Rattle.std.specs.Prelude.{ℕ, ◌*◌, ◌/◌, ◌%◌, ◌^◌, Bool, ◌==◌, not, bit_and, bit_or, bit_xor, nat_lt, if◌then◌else◌}
-use Rattle.std.specs.Int.{w32, cast_signed, cast_unsigned, int_shr}
+-- Source: the manual's "Integer Computational Instructions", "Multiplication Operations", "Division Operations",
+-- "Conditional Branches", "Load and Store Instructions" and "Atomic Memory Operations". `a` is x[rs1], `b` is x[rs2], `i`
+-- the extended immediate or the shift amount.
+use Rattle.std.specs.Prelude.{ℕ, ◌-◌, ◌*◌, ◌/◌, ◌%◌, ◌^◌, pos, ◌*ℤ◌, Bool, ◌==◌, not, bit_and, bit_or, bit_xor, nat_lt, if◌then◌else◌}
+use Rattle.std.specs.Int.{w32, cast_unsigned, int_shr}
 use Rattle.rv_table.specs.declared.operation.RegisterOp.{RegisterOp}
 use Rattle.rv_table.specs.declared.operation.RegisterOp.TheVariants as reg
 use Rattle.rv_table.specs.declared.operation.ImmediateOp.{ImmediateOp}
@@ -18,7 +19,7 @@ use Rattle.rv_table.specs.declared.operation.BranchOp.{BranchOp}
 use Rattle.rv_table.specs.declared.operation.BranchOp.TheVariants.{Beq, Bne, Blt, Bge, Bltu, Bgeu}
 use Rattle.rv_table.specs.declared.operation.AmoOp.{AmoOp}
 use Rattle.rv_table.specs.declared.operation.AmoOp.TheVariants as amo
-use Rattle.flat_machine.specs.Words.{plus, minus, extended, is_below, flag}
+use Rattle.flat_machine.specs.Words.{plus, minus, signed, upper, quotient, remainder, extended, is_below, flag}
 
 -- rd, of two registers
 unfoldable pub register_value : RegisterOp → (a b : ℕ) → ℕ
@@ -29,9 +30,17 @@ register_value reg.Slt a b = flag (is_below a b)
 register_value reg.Sltu a b = flag (nat_lt a b)
 register_value reg.Xor a b = bit_xor a b
 register_value reg.Srl a b = a / 2 ^ (b % 32)
-register_value reg.Sra a b = cast_unsigned w32 (int_shr (cast_signed w32 a) (b % 32))
+register_value reg.Sra a b = cast_unsigned w32 (int_shr (signed a) (b % 32))
 register_value reg.Or a b = bit_or a b
 register_value reg.And a b = bit_and a b
+register_value reg.Mul a b = a * b % 2 ^ 32
+register_value reg.Mulh a b = upper (signed a *ℤ signed b)
+register_value reg.Mulhsu a b = upper (signed a *ℤ pos b)
+register_value reg.Mulhu a b = a * b / 2 ^ 32
+register_value reg.Div a b = quotient a b
+register_value reg.Divu a b = if b == 0 then 2 ^ 32 - 1 else a / b
+register_value reg.Rem a b = remainder a b
+register_value reg.Remu a b = if b == 0 then a else a % b
 
 -- rd, of a register and an immediate
 unfoldable pub immediate_value : ImmediateOp → (a i : ℕ) → ℕ
@@ -46,7 +55,7 @@ immediate_value Andi a i = bit_and a i
 unfoldable pub shift_value : ShiftOp → (a i : ℕ) → ℕ
 shift_value Slli a i = a * 2 ^ i % 2 ^ 32
 shift_value Srli a i = a / 2 ^ i
-shift_value Srai a i = cast_unsigned w32 (int_shr (cast_signed w32 a) i)
+shift_value Srai a i = cast_unsigned w32 (int_shr (signed a) i)
 
 -- whether a branch is taken
 unfoldable pub is_taken : BranchOp → (a b : ℕ) → Bool

@@ -1,12 +1,16 @@
 //! Laws of the flat machine: each is the contract of a function that does nothing.
 
-ghost use Rattle.std.specs.Prelude.{◌≡◌, ◌≢◌, ℕ, ◌<◌, ◌≤◌, ◌+◌, ◌%◌, ◌^◌, ◌++◌, List, All, Some, None, length, slice_get, slice_set, false};
+ghost use Rattle.std.specs.Prelude.{◌≡◌, ◌≢◌, ℕ, ◌<◌, ◌≤◌, ◌+◌, ◌-◌, ◌*◌, ◌%◌, ◌^◌, pos, ◌+ℤ◌, ◌*ℤ◌, unsigned_abs, ◌++◌, List, All, Some, None, length, slice_get, slice_set, true, false};
+ghost use Rattle.std.specs.Int.{w64, cast_signed, is_negative};
 ghost use Rattle.flat_machine.specs.declared.event.Cause.{Cause};
 ghost use Rattle.flat_machine.specs.declared.event.Event.TheVariants.{Stopped};
 ghost use Rattle.flat_machine.specs.declared.poke.Entry.{Entry};
 ghost use Rattle.rv_table.specs.declared.insn.Insn.{Insn};
+ghost use Rattle.rv_table.specs.declared.operation.RegisterOp.TheVariants as reg;
 ghost use Rattle.rv_table.specs.Rows.{InRange};
 ghost use Rattle.flat_machine.specs.declared.setting.Setting.{Setting};
+ghost use Rattle.flat_machine.specs.Words.{overflows, signed};
+ghost use Rattle.flat_machine.specs.Operations.{register_value};
 ghost use Rattle.flat_machine.specs.Effects.{effect_of};
 ghost use Rattle.flat_machine.specs.Turns.{turn_of};
 ghost use Rattle.flat_machine.specs.State.{FlatState, Processor, is_running, status_of};
@@ -71,4 +75,23 @@ pub fn words_stay_words()
     ensures effect { (s : Setting) (pc : ℕ) (registers : List ℕ) (i : Insn) → s.number < 2 ^ 32 → s.processors < 2 ^ 32 → AreBelow (2 ^ 32) registers → InRange i → AsksForWords (effect_of s pc registers i) }
     ensures turn { (s : Setting) (code : List ℕ) (p : Processor) → s.number < 2 ^ 32 → s.processors < 2 ^ 32 → AreBelow 256 code → HasWords p → LeavesWords (turn_of s code p) }
     ensures run { (m : FlatState) (entries : List Entry) → IsInRange m → All WritesWords entries → IsInRange (flat_run m entries) }
+{}
+
+/// What products and quotients have to do with their operands. The two halves of a product are the
+/// whole product, of natural numbers, of two's complement, and of one factor each. A quotient times
+/// its divisor and the remainder are the dividend; for two's complement they are it as whole numbers
+/// unless the quotient is no word, and modulo 2^32 always. The remainder is nearer to zero than the
+/// divisor, with the dividend's sign. Where the divisor is zero, and where the quotient is no word,
+/// the results are those of the manual's table.
+pub fn products_and_quotients()
+    ensures unsigned_product { (a b : ℕ) → register_value reg.Mulhu a b * 2 ^ 32 + register_value reg.Mul a b ≡ a * b }
+    ensures signed_product { (a b : ℕ) → a < 2 ^ 32 → b < 2 ^ 32 → cast_signed w64 (register_value reg.Mulh a b * 2 ^ 32 + register_value reg.Mul a b) ≡ signed a *ℤ signed b }
+    ensures mixed_product { (a b : ℕ) → a < 2 ^ 32 → b < 2 ^ 32 → cast_signed w64 (register_value reg.Mulhsu a b * 2 ^ 32 + register_value reg.Mul a b) ≡ signed a *ℤ pos b }
+    ensures unsigned_division { (a b : ℕ) → b ≢ 0 → (register_value reg.Divu a b * b + register_value reg.Remu a b ≡ a) × (register_value reg.Remu a b < b) }
+    ensures signed_division { (a b : ℕ) → a < 2 ^ 32 → b < 2 ^ 32 → b ≢ 0 → overflows a b ≡ false → signed (register_value reg.Div a b) *ℤ signed b +ℤ signed (register_value reg.Rem a b) ≡ signed a }
+    ensures modulo { (a b : ℕ) → a < 2 ^ 32 → b < 2 ^ 32 → b ≢ 0 → (register_value reg.Div a b * b + register_value reg.Rem a b) % 2 ^ 32 ≡ a }
+    ensures remainder_is_nearer { (a b : ℕ) → a < 2 ^ 32 → b < 2 ^ 32 → b ≢ 0 → unsigned_abs (signed (register_value reg.Rem a b)) < unsigned_abs (signed b) }
+    ensures remainder_has_the_sign { (a b : ℕ) → a < 2 ^ 32 → register_value reg.Rem a b ≢ 0 → is_negative (signed (register_value reg.Rem a b)) ≡ is_negative (signed a) }
+    ensures by_zero { (a : ℕ) → (register_value reg.Div a 0 ≡ 2 ^ 32 - 1) × (register_value reg.Divu a 0 ≡ 2 ^ 32 - 1) × (register_value reg.Rem a 0 ≡ a) × (register_value reg.Remu a 0 ≡ a) }
+    ensures overflow { (a b : ℕ) → overflows a b ≡ true → (register_value reg.Div a b ≡ 2 ^ 31) × (register_value reg.Rem a b ≡ 0) }
 {}

@@ -29,8 +29,8 @@ pub use event::{Cause, Event, Retired, Status};
 pub use fault::Fault;
 pub use laws::{
     local_turns_commute, one_shared_word_changes, others_are_left_alone, pc_stays_aligned,
-    register_zero_is_zero, runs_join, stop_changes_the_status_alone, stopped_processor_stays,
-    words_stay_words,
+    products_and_quotients, register_zero_is_zero, runs_join, stop_changes_the_status_alone,
+    stopped_processor_stays, words_stay_words,
 };
 pub use poke::{Entry, PC, Poke};
 pub use setting::Setting;

@@ -3,6 +3,10 @@
 ghost use Rattle.std.specs.Prelude.{◌≡◌, ◌<◌};
 ghost use Rattle.flat_machine.specs.Operations.{immediate_value, is_taken, register_value, shift_value};
 
+use crate::products::{
+    mixed_product, quotient, remainder, signed_product, unsigned_quotient, unsigned_remainder,
+    unsigned_upper_half, upper_half,
+};
 use rv_table::{BranchOp, ImmediateOp, RegisterOp, ShiftOp};
 
 /// What `rd` gets from the values of two registers.
@@ -21,6 +25,14 @@ pub fn register_result(op: RegisterOp, a: u32, b: u32) -> u32
         RegisterOp::Sra => a.cast_signed().wrapping_shr(b).cast_unsigned(),
         RegisterOp::Or => a | b,
         RegisterOp::And => a & b,
+        RegisterOp::Mul => a.wrapping_mul(b),
+        RegisterOp::Mulh => upper_half(signed_product(a.cast_signed(), b.cast_signed())),
+        RegisterOp::Mulhsu => upper_half(mixed_product(a.cast_signed(), b)),
+        RegisterOp::Mulhu => unsigned_upper_half(a, b),
+        RegisterOp::Div => quotient(a, b),
+        RegisterOp::Divu => unsigned_quotient(a, b),
+        RegisterOp::Rem => remainder(a, b),
+        RegisterOp::Remu => unsigned_remainder(a, b),
     }
 }
 

@@ -3,6 +3,7 @@
 
 mod alu;
 mod memory;
+mod products;
 mod words;
 
 pub use alu::{immediate_result, is_branch_taken, register_result, shift_result};

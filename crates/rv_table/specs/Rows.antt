@@ -30,7 +30,7 @@ use Rattle.rv_table.specs.declared.table.Format.TheVariants as format
 abbrev pub row : (mask match : ℕ) → Format → Row
 row mask match operands = record { mask = mask; match_ = match; format = operands }
 
--- The 49 rows, in the order of the listing.
+-- The 57 rows, in the order of the listing, with those of extension "M" last.
 unfoldable pub rows : List Row
 rows =
     row 0x0000007F 0x00000037 format.UType ∷  -- LUI
@@ -82,6 +82,14 @@ rows =
     row 0xF800707F 0xA000202F format.Atomic ∷  -- AMOMAX.W
     row 0xF800707F 0xC000202F format.Atomic ∷  -- AMOMINU.W
     row 0xF800707F 0xE000202F format.Atomic ∷  -- AMOMAXU.W
+    row 0xFE00707F 0x02000033 format.RType ∷  -- MUL
+    row 0xFE00707F 0x02001033 format.RType ∷  -- MULH
+    row 0xFE00707F 0x02002033 format.RType ∷  -- MULHSU
+    row 0xFE00707F 0x02003033 format.RType ∷  -- MULHU
+    row 0xFE00707F 0x02004033 format.RType ∷  -- DIV
+    row 0xFE00707F 0x02005033 format.RType ∷  -- DIVU
+    row 0xFE00707F 0x02006033 format.RType ∷  -- REM
+    row 0xFE00707F 0x02007033 format.RType ∷  -- REMU
     []
 
 -- ---- the row of an instruction
@@ -112,6 +120,14 @@ register_match reg.Srl = 0x00005033
 register_match reg.Sra = 0x40005033
 register_match reg.Or = 0x00006033
 register_match reg.And = 0x00007033
+register_match reg.Mul = 0x02000033
+register_match reg.Mulh = 0x02001033
+register_match reg.Mulhsu = 0x02002033
+register_match reg.Mulhu = 0x02003033
+register_match reg.Div = 0x02004033
+register_match reg.Divu = 0x02005033
+register_match reg.Rem = 0x02006033
+register_match reg.Remu = 0x02007033
 
 abbrev pub immediate_match : ImmediateOp → ℕ
 immediate_match Addi = 0x00000013
@@ -239,7 +255,7 @@ InRange (Amo op rd rs1 rs2 aq rl) = (rd < 2 ^ 5) × (rs1 < 2 ^ 5) × (rs2 < 2 ^ 
 
 -- ---- reading
 
--- The 49 instructions that have their operands in the fields of a word: one for each row, in the order of the table.
+-- The 57 instructions that have their operands in the fields of a word: one for each row, in the order of the table.
 abbrev pub candidates : ℕ → List Insn
 candidates w =
     let rd = bits w 11 7 in
@@ -300,6 +316,14 @@ candidates w =
     (Amo amo.Max rd rs1 rs2 aq rl) ∷
     (Amo amo.Minu rd rs1 rs2 aq rl) ∷
     (Amo amo.Maxu rd rs1 rs2 aq rl) ∷
+    (Op reg.Mul rd rs1 rs2) ∷
+    (Op reg.Mulh rd rs1 rs2) ∷
+    (Op reg.Mulhsu rd rs1 rs2) ∷
+    (Op reg.Mulhu rd rs1 rs2) ∷
+    (Op reg.Div rd rs1 rs2) ∷
+    (Op reg.Divu rd rs1 rs2) ∷
+    (Op reg.Rem rd rs1 rs2) ∷
+    (Op reg.Remu rd rs1 rs2) ∷
     []
 
 -- The instruction that a word spells: of the candidates the one whose row the word fits.

@@ -1,6 +1,7 @@
 //! The operations of each shape of instruction, under the manual's mnemonics.
 
-/// Register-register operations (manual, "Integer Register-Register Operations").
+/// Register-register operations (manual, "Integer Register-Register Operations", and from `Mul` on
+/// "Multiplication Operations" and "Division Operations").
 #[derive(Clone, Copy, Debug, PartialEq, Eq, Drop)]
 pub enum RegisterOp {
     Add,
@@ -13,6 +14,14 @@ pub enum RegisterOp {
     Sra,
     Or,
     And,
+    Mul,
+    Mulh,
+    Mulhsu,
+    Mulhu,
+    Div,
+    Divu,
+    Rem,
+    Remu,
 }
 
 /// Register-immediate operations (manual, "Integer Register-Immediate Instructions").

@@ -1,4 +1,4 @@
-//! The table of the 49 rows.
+//! The table of the 57 rows.
 
 ghost use Rattle.std.specs.Prelude.{◌≡◌};
 ghost use Rattle.rv_table.specs.Rows.{row, row_of, register_match, amo_match};
@@ -42,8 +42,8 @@ macro_rules! rows {
     };
 }
 
-/// The 49 rows, in the order of the manual's listing.
-pub static TABLE: [Row; 49] = rows![
+/// The 57 rows, in the order of the manual's listing, with those of extension "M" last.
+pub static TABLE: [Row; 57] = rows![
     0x0000_007F 0x0000_0037 UType // LUI
     0x0000_007F 0x0000_0017 UType // AUIPC
     0x0000_007F 0x0000_006F JType // JAL
@@ -93,6 +93,14 @@ pub static TABLE: [Row; 49] = rows![
     0xF800_707F 0xA000_202F Atomic // AMOMAX.W
     0xF800_707F 0xC000_202F Atomic // AMOMINU.W
     0xF800_707F 0xE000_202F Atomic // AMOMAXU.W
+    0xFE00_707F 0x0200_0033 RType // MUL
+    0xFE00_707F 0x0200_1033 RType // MULH
+    0xFE00_707F 0x0200_2033 RType // MULHSU
+    0xFE00_707F 0x0200_3033 RType // MULHU
+    0xFE00_707F 0x0200_4033 RType // DIV
+    0xFE00_707F 0x0200_5033 RType // DIVU
+    0xFE00_707F 0x0200_6033 RType // REM
+    0xFE00_707F 0x0200_7033 RType // REMU
 ];
 
 /// The row of an instruction.
@@ -161,6 +169,14 @@ fn register_row(op: RegisterOp) -> &'static Row
         RegisterOp::Sra => &TABLE[34],
         RegisterOp::Or => &TABLE[35],
         RegisterOp::And => &TABLE[36],
+        RegisterOp::Mul => &TABLE[49],
+        RegisterOp::Mulh => &TABLE[50],
+        RegisterOp::Mulhsu => &TABLE[51],
+        RegisterOp::Mulhu => &TABLE[52],
+        RegisterOp::Div => &TABLE[53],
+        RegisterOp::Divu => &TABLE[54],
+        RegisterOp::Rem => &TABLE[55],
+        RegisterOp::Remu => &TABLE[56],
     }
 }
 
@@ -212,10 +228,17 @@ mod tests {
             rs1,
             rs2,
         };
+        let mulhsu = Insn::Op {
+            op: RegisterOp::Mulhsu,
+            rd,
+            rs1,
+            rs2,
+        };
         for (insn, mask, match_, format) in [
             (srai, 0xFE00_707F, 0x4000_5013, Format::Shift),
             (amomaxu, 0xF800_707F, 0xE000_202F, Format::Atomic),
             (sub, 0xFE00_707F, 0x4000_0033, Format::RType),
+            (mulhsu, 0xFE00_707F, 0x0200_2033, Format::RType),
             (Insn::Ecall, 0xFFFF_FFFF, 0x0000_0073, Format::System),
         ] {
             let want = Row {

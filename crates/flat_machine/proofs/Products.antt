@@ -1,0 +1,69 @@
+-- Products of words: that their halves are words, and that the two halves are the whole product.
+use Rattle.std.proofs.Common.{◌≡◌, ℕ, ◌+◌, ◌-◌, ◌*◌, ◌/◌, ◌%◌, ◌^◌, ◌<◌, ◌≤◌, ℤ, pos, negsuc, ◌*ℤ◌, sym, ap, ◌∙◌, arith}
+use Rattle.std.specs.Prelude.{unsigned_abs}
+use Rattle.std.specs.Int.{w32, w64, cast_signed, cast_unsigned, int_wrap}
+use Rattle.std.specs.Int.RustNames.{FitsSigned}
+use Rattle.std.proofs.lemmas.Int.{fits_signed_mul, int_wrap-mul_right, of_z-to_z, to_z-of_z, wrapping_mul-bits}
+use Rattle.std.proofs.lemmas.Nat.{div_below, mul-lt}
+use Rattle.flat_machine.specs.Words.{signed, upper}
+
+-- ---- ranges
+
+-- a word has a size of at most 2^31 in two's complement
+pub signed_size : (a : ℕ) → a < 2 ^ 32 → unsigned_abs (signed a) ≤ 2 ^ 31
+signed_size a h = grind arith
+
+pub signed_product_fits : (a b : ℕ) → a < 2 ^ 32 → b < 2 ^ 32 → FitsSigned w64 (signed a *ℤ signed b)
+signed_product_fits a b h g = fits_signed_mul w64 (signed a) (signed b) (2 ^ 31) (2 ^ 31) (signed_size a h) (signed_size b g) (omega arith)
+
+pub mixed_product_fits : (a b : ℕ) → a < 2 ^ 32 → b < 2 ^ 32 → FitsSigned w64 (signed a *ℤ pos b)
+mixed_product_fits a b h g = fits_signed_mul w64 (signed a) (pos b) (2 ^ 31) (2 ^ 32 - 1) (signed_size a h) (omega arith) (omega arith)
+
+upper_small_of : (z : ℤ) → FitsSigned w64 z → cast_unsigned w64 z / 2 ^ 32 < 2 ^ 32
+upper_small_of (pos n) fits = omega (arith, fits.sfits)
+upper_small_of (negsuc n) fits = omega arith
+
+pub upper_small : (z : ℤ) → FitsSigned w64 z → upper z < 2 ^ 32
+unfolding upper
+upper_small z fits = upper_small_of z fits
+
+pub upper_of_naturals_small : (a b : ℕ) → a < 2 ^ 32 → b < 2 ^ 32 → a * b / 2 ^ 32 < 2 ^ 32
+upper_of_naturals_small a b h g = div_below (a * b) (2 ^ 32) (2 ^ 32) (omega arith) (mul-lt a b (2 ^ 32) (2 ^ 32) h g)
+
+-- ---- the low half is one for all kinds of factors
+
+-- what is left of a number in 32 bits are the low bits of the number in 64 bits
+low_bits : (z : ℤ) (n : ℕ) → FitsSigned w64 z → n < 2 ^ 32 → signed n ≡ int_wrap w32 z → n ≡ cast_unsigned w64 z % 2 ^ 32
+unfolding int_wrap
+low_bits (pos m) n fits small e =
+    sym (of_z-to_z w32 n small) ∙ ap (cast_unsigned w32) e ∙ of_z-to_z w32 (m % 2 ^ 32) (omega arith)
+low_bits (negsuc m) n fits small e =
+    sym (of_z-to_z w32 n small) ∙ ap (cast_unsigned w32) e ∙ of_z-to_z w32 (2 ^ 32 - 1 - m % 2 ^ 32) (omega arith) ∙ omega (arith, fits.sfits)
+
+-- the low and the upper half together
+joined : (z : ℤ) (low : ℕ) → FitsSigned w64 z → low ≡ cast_unsigned w64 z % 2 ^ 32 → cast_signed w64 (upper z * 2 ^ 32 + low) ≡ z
+unfolding upper
+joined z low fits e =
+    let whole : cast_unsigned w64 z / 2 ^ 32 * 2 ^ 32 + low ≡ cast_unsigned w64 z = omega arith in
+    ap (cast_signed w64) whole ∙ to_z-of_z w64 z fits
+
+pub signed_halves : (a b : ℕ) → a < 2 ^ 32 → b < 2 ^ 32 →
+    cast_signed w64 (upper (signed a *ℤ signed b) * 2 ^ 32 + a * b % 2 ^ 32) ≡ signed a *ℤ signed b
+signed_halves a b h g =
+    let fits = signed_product_fits a b h g in
+    let product = signed a *ℤ signed b in
+    joined product (a * b % 2 ^ 32) fits (low_bits product (a * b % 2 ^ 32) fits (omega arith) (wrapping_mul-bits w32 a b h g))
+
+-- a word as a natural number and in two's complement are one modulo 2^32
+pub wrapped_word : (b : ℕ) → b < 2 ^ 32 → int_wrap w32 (pos b) ≡ signed b
+unfolding int_wrap
+wrapped_word b h = ap signed (let e : b % 2 ^ 32 ≡ b = omega arith in e)
+
+pub mixed_halves : (a b : ℕ) → a < 2 ^ 32 → b < 2 ^ 32 →
+    cast_signed w64 (upper (signed a *ℤ pos b) * 2 ^ 32 + a * b % 2 ^ 32) ≡ signed a *ℤ pos b
+mixed_halves a b h g =
+    let fits = mixed_product_fits a b h g in
+    let same : int_wrap w32 (signed a *ℤ signed b) ≡ int_wrap w32 (signed a *ℤ pos b) =
+    ap (λ y. int_wrap w32 (signed a *ℤ y)) (sym (wrapped_word b g)) ∙ int_wrap-mul_right w32 (signed a) (pos b) in
+    let product = signed a *ℤ pos b in
+    joined product (a * b % 2 ^ 32) fits (low_bits product (a * b % 2 ^ 32) fits (omega arith) (wrapping_mul-bits w32 a b h g ∙ same))
