@@ -70,6 +70,14 @@ name_of (Amo amo.Min) = codes "amomin.w"
 name_of (Amo amo.Max) = codes "amomax.w"
 name_of (Amo amo.Minu) = codes "amominu.w"
 name_of (Amo amo.Maxu) = codes "amomaxu.w"
+name_of (Op reg.Mul) = codes "mul"
+name_of (Op reg.Mulh) = codes "mulh"
+name_of (Op reg.Mulhsu) = codes "mulhsu"
+name_of (Op reg.Mulhu) = codes "mulhu"
+name_of (Op reg.Div) = codes "div"
+name_of (Op reg.Divu) = codes "divu"
+name_of (Op reg.Rem) = codes "rem"
+name_of (Op reg.Remu) = codes "remu"
 
 -- the mnemonics of the table of instructions, in its order
 abbrev pub mnemonics : List Mnemonic
@@ -123,6 +131,14 @@ mnemonics =
     (Amo amo.Max) ∷
     (Amo amo.Minu) ∷
     (Amo amo.Maxu) ∷
+    (Op reg.Mul) ∷
+    (Op reg.Mulh) ∷
+    (Op reg.Mulhsu) ∷
+    (Op reg.Mulhu) ∷
+    (Op reg.Div) ∷
+    (Op reg.Divu) ∷
+    (Op reg.Rem) ∷
+    (Op reg.Remu) ∷
     []
 
 -- ---- atomic memory operations

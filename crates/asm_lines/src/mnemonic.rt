@@ -94,6 +94,14 @@ macro_rules! mnemonics {
             Amo(AmoOp::Max) "amomax.w",
             Amo(AmoOp::Minu) "amominu.w",
             Amo(AmoOp::Maxu) "amomaxu.w",
+            Op(RegisterOp::Mul) "mul",
+            Op(RegisterOp::Mulh) "mulh",
+            Op(RegisterOp::Mulhsu) "mulhsu",
+            Op(RegisterOp::Mulhu) "mulhu",
+            Op(RegisterOp::Div) "div",
+            Op(RegisterOp::Divu) "divu",
+            Op(RegisterOp::Rem) "rem",
+            Op(RegisterOp::Remu) "remu",
         }
     };
 }
@@ -168,7 +176,7 @@ impl Order {
 }
 
 impl Mnemonic {
-    const ALL: [Mnemonic; 49] = mnemonics!(values);
+    const ALL: [Mnemonic; 57] = mnemonics!(values);
 
     /// How the mnemonic is written.
     pub fn name(self) -> &'static str

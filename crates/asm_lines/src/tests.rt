@@ -35,6 +35,8 @@ fn faults_are_told_apart(rt: HostRuntime) {
         (b"1a: ecall", LineFault::Unknown),
         (b"a: b: ecall", LineFault::Unknown),
         (b"addi.aq x1, x0, 1", LineFault::Unknown),
+        (b"div.rl x1, x2, x3", LineFault::Unknown),
+        (b"divw x1, x2, x3", LineFault::Unknown),
         (b"amoadd.w.rlaq x1, x2, (x3)", LineFault::Unknown),
         (b"ADDI x1, x0, 1", LineFault::Unknown),
         (b"ecall\r", LineFault::Unknown),
@@ -75,6 +77,7 @@ fn the_words_of_the_language(rt: HostRuntime) {
         b".word 4294967295 , -2147483648, a",
         b"lw x6 , %lo ( v ) ( x5 )",
         b"amoadd.w.aqrl a0, a1, ( a2 )",
+        b"mulhsu a0, a1, a2",
         b"addi : ecall",
         b"x1: addi x1, x0, 00000000000000000000000000000012",
     ] {

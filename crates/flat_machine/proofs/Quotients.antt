@@ -209,5 +209,5 @@ remainder_has_the_sign a (suc b) h some = by (overflows a (suc b)) refl
     by false normal =
         let is = signed_remainder a (suc b) h (λ e. omega arith) normal in
         let not_zero : int_rem (signed a) (signed (suc b)) ≢ pos 0 =
-            λ e. some (word_of (remainder a (suc b)) (pos 0) (remainder_small a (suc b) h) (is ∙ e)) in
+        λ e. some (word_of (remainder a (suc b)) (pos 0) (remainder_small a (suc b) h) (is ∙ e)) in
         ap is_negative is ∙ sign_of_remainder (signed a) (signed (suc b)) not_zero

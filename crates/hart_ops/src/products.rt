@@ -1,7 +1,7 @@
 //! Products and quotients of words (manual, extension "M").
 
 ghost use Rattle.std.specs.Prelude.{◌≡◌, ◌-◌, ◌*◌, ◌/◌, ◌%◌, ◌^◌, ◌==◌, ◌*ℤ◌, if◌then◌else◌, pos};
-ghost use Rattle.flat_machine.specs.Words.{quotient, remainder, upper};
+ghost use Rattle.flat_machine.specs.Words.{overflows, quotient, remainder, upper};
 
 /// The product of two numbers of two's complement. It never overflows.
 pub fn signed_product(a: i32, b: i32) -> i64
@@ -33,15 +33,15 @@ pub fn unsigned_upper_half(a: u32, b: u32) -> u32
 }
 
 /// The quotient of two's complement, rounded towards zero: all ones where the divisor is zero, and
-/// the dividend where the quotient is no word.
+/// -2^31 where the quotient is no word.
 #[tactic(auto, unfolding(flat_machine::specs::Words::quotient))]
 pub fn quotient(a: u32, b: u32) -> u32
     ensures { result ≡ quotient a b }
 {
     if b == 0 {
         u32::MAX
-    } else if a == 0x8000_0000 && b == u32::MAX {
-        a
+    } else if overflows(a, b) {
+        i32::MIN.cast_unsigned()
     } else {
         (a.cast_signed() / b.cast_signed()).cast_unsigned()
     }
@@ -55,11 +55,20 @@ pub fn remainder(a: u32, b: u32) -> u32
 {
     if b == 0 {
         a
-    } else if a == 0x8000_0000 && b == u32::MAX {
+    } else if overflows(a, b) {
         0
     } else {
-        a.cast_signed().wrapping_rem(b.cast_signed()).cast_unsigned()
+        a.cast_signed()
+            .wrapping_rem(b.cast_signed())
+            .cast_unsigned()
     }
+}
+
+/// Whether the quotient of two's complement is no word: that of -2^31 by -1.
+fn overflows(a: u32, b: u32) -> bool
+    ensures { result ≡ overflows a b }
+{
+    a == 0x8000_0000 && b == u32::MAX
 }
 
 /// The quotient of natural numbers: all ones where the divisor is zero.
