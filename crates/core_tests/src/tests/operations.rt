@@ -24,6 +24,57 @@ fn operations_on_registers(rt: HostRuntime) {
     assert!(rt; !is_branch_taken(BranchOp::Bltu, 0xFFFF_FFFF, 0));
 }
 
+/// Two operands, and what each operation of extension M gives.
+struct Row {
+    a: u32,
+    b: u32,
+    values: [u32; 8],
+}
+
+macro_rules! rows {
+    ($($a:literal $b:literal $mul:literal $mulh:literal $mulhsu:literal $mulhu:literal $div:literal $divu:literal $rem:literal $remu:literal)*) => {
+        [$(Row {
+            a: $a,
+            b: $b,
+            values: [$mul, $mulh, $mulhsu, $mulhu, $div, $divu, $rem, $remu],
+        }),*]
+    };
+}
+
+/// The overflow, a divisor of zero, and each sign of each operand.
+static PRODUCTS_AND_QUOTIENTS: [Row; 9] = rows![
+    // a        b           mul         mulh        mulhsu      mulhu       div         divu        rem         remu
+    0x8000_0000 0xFFFF_FFFF 0x8000_0000 0           0x8000_0000 0x7FFF_FFFF 0x8000_0000 0           0           0x8000_0000
+    7           0           0           0           0           0           0xFFFF_FFFF 0xFFFF_FFFF 7           7
+    0xFFFF_FFF9 0           0           0           0           0           0xFFFF_FFFF 0xFFFF_FFFF 0xFFFF_FFF9 0xFFFF_FFF9
+    7           2           14          0           0           0           3           3           1           1
+    7           0xFFFF_FFFE 0xFFFF_FFF2 0xFFFF_FFFF 6           6           0xFFFF_FFFD 0           1           7
+    0xFFFF_FFF9 2           0xFFFF_FFF2 0xFFFF_FFFF 0xFFFF_FFFF 1           0xFFFF_FFFD 0x7FFF_FFFC 0xFFFF_FFFF 1
+    0xFFFF_FFF9 0xFFFF_FFFE 14          0           0xFFFF_FFF9 0xFFFF_FFF7 3           0           0xFFFF_FFFF 0xFFFF_FFF9
+    0xFFFF_FFFF 2           0xFFFF_FFFE 0xFFFF_FFFF 0xFFFF_FFFF 1           0           0x7FFF_FFFF 0xFFFF_FFFF 1
+    0x8000_0000 0x8000_0000 0           0x4000_0000 0xC000_0000 0x4000_0000 1           1           0           0
+];
+
+#[test]
+fn products_and_quotients(rt: HostRuntime) {
+    let operations = [
+        RegisterOp::Mul,
+        RegisterOp::Mulh,
+        RegisterOp::Mulhsu,
+        RegisterOp::Mulhu,
+        RegisterOp::Div,
+        RegisterOp::Divu,
+        RegisterOp::Rem,
+        RegisterOp::Remu,
+    ];
+    for row in &PRODUCTS_AND_QUOTIENTS {
+        let (a, b) = (row.a, row.b);
+        for (op, value) in operations.iter().zip(row.values.iter()) {
+            assert_eq!(rt; register_result(*op, a, b), *value, "{op:?} of {a} and {b}");
+        }
+    }
+}
+
 #[test]
 fn operations_on_memory(rt: HostRuntime) {
     assert_eq!(rt; load_size(LoadOp::Lhu), Size::Half);
