@@ -22,7 +22,7 @@ static FAULTING: [Row; 24] = rows![
     "zeros"                  0x0000_0000 0           1
     "ones"                   0xFFFF_FFFF 0           1
     "slli x1, x1, 32"        0x0200_9093 0           1
-    "mul x1, x2, x3"         0x0231_00B3 0           1
+    "mul x1, x2, x3, bit 26" 0x0631_00B3 0           1
     "jal x1, 2"              0x0020_00EF 5           3
     "jalr x1, 0(x1)"         0x0000_80E7 0x0001_0006 3
     "beq x1, x1, 2"          0x0010_8163 5           3

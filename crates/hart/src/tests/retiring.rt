@@ -23,7 +23,7 @@ macro_rules! rows {
 /// The instruction, its word, `x1`, `x2`, the register that it writes (0 for none) and the value,
 /// and `pc` afterwards. The instruction stands at 0x00010000. Local memory begins with the bytes 80
 /// FF 7F 01 EF BE AD DE, and each shared word is 0x80FF7F01.
-static RETIRING: [Row; 114] = rows![
+static RETIRING: [Row; 128] = rows![
     "add x3, x1, x2"             0x0020_81B3 0xFFFF_FFFF 2           3 1           0x0001_0004
     "sub x3, x1, x2"             0x4020_81B3 1           2           3 0xFFFF_FFFF 0x0001_0004
     "sll x3, x1, x2"             0x0020_91B3 1           33          3 2           0x0001_0004
@@ -38,6 +38,19 @@ static RETIRING: [Row; 114] = rows![
     "sra x3, x1, x2"             0x4020_D1B3 0x4000_0000 36          3 0x0400_0000 0x0001_0004
     "or x3, x1, x2"              0x0020_E1B3 0xFF00_FF00 0x0FF0_0FF0 3 0xFFF0_FFF0 0x0001_0004
     "and x3, x1, x2"             0x0020_F1B3 0xFF00_FF00 0x0FF0_0FF0 3 0x0F00_0F00 0x0001_0004
+    "mul x3, x1, x2"             0x0220_81B3 0xFFFF_FFFF 2           3 0xFFFF_FFFE 0x0001_0004
+    "mulh x3, x1, x2"            0x0220_91B3 0xFFFF_FFFF 2           3 0xFFFF_FFFF 0x0001_0004
+    "mulhsu x3, x1, x2"          0x0220_A1B3 0x8000_0000 0xFFFF_FFFF 3 0x8000_0000 0x0001_0004
+    "mulhu x3, x1, x2"           0x0220_B1B3 0x8000_0000 0xFFFF_FFFF 3 0x7FFF_FFFF 0x0001_0004
+    "div x3, x1, x2"             0x0220_C1B3 0x8000_0000 0xFFFF_FFFF 3 0x8000_0000 0x0001_0004
+    "div x3, x1, x2"             0x0220_C1B3 7           0           3 0xFFFF_FFFF 0x0001_0004
+    "divu x3, x1, x2"            0x0220_D1B3 0xFFFF_FFFF 2           3 0x7FFF_FFFF 0x0001_0004
+    "divu x3, x1, x2"            0x0220_D1B3 7           0           3 0xFFFF_FFFF 0x0001_0004
+    "rem x3, x1, x2"             0x0220_E1B3 0xFFFF_FFFF 2           3 0xFFFF_FFFF 0x0001_0004
+    "rem x3, x1, x2"             0x0220_E1B3 0x8000_0000 0xFFFF_FFFF 3 0           0x0001_0004
+    "rem x3, x1, x2"             0x0220_E1B3 7           0           3 7           0x0001_0004
+    "remu x3, x1, x2"            0x0220_F1B3 0x8000_0000 0xFFFF_FFFF 3 0x8000_0000 0x0001_0004
+    "remu x3, x1, x2"            0x0220_F1B3 7           0           3 7           0x0001_0004
     "addi x3, x1, -1"            0xFFF0_8193 0           0           3 0xFFFF_FFFF 0x0001_0004
     "addi x3, x1, 2047"          0x7FF0_8193 1           0           3 0x800       0x0001_0004
     "slti x3, x1, -1"            0xFFF0_A193 0x8000_0000 0           3 1           0x0001_0004
@@ -119,6 +132,7 @@ static RETIRING: [Row; 114] = rows![
     "amominu.w x3, x2, (x1)"     0xC020_A1AF 0x8000_0008 5           3 0x80FF_7F01 0x0001_0004
     "amomaxu.w x3, x2, (x1)"     0xE020_A1AF 0x8000_0008 5           3 0x80FF_7F01 0x0001_0004
     "add x0, x1, x1"             0x0010_8033 5           0           0 0           0x0001_0004
+    "mul x0, x1, x1"             0x0210_8033 5           0           0 0           0x0001_0004
     "addi x0, x1, 1"             0x0010_8013 5           0           0 0           0x0001_0004
     "srai x0, x1, 1"             0x4010_D013 5           0           0 0           0x0001_0004
     "lui x0, 1"                  0x0000_1037 5           0           0 0           0x0001_0004
