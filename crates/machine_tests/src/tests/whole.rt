@@ -22,6 +22,21 @@ const THREE: Program<'static> = Program {
     shared: &[],
 };
 
+/// A division by zero, the square of its quotient, and a stop.
+const DIVIDING: Program<'static> = Program {
+    entry: CODE_START,
+    code: &[
+        0x0205_D533, // divu a0, a1, x0
+        0x0205_E5B3, // rem a1, a1, x0
+        0x02A5_0633, // mul a2, a0, a0
+        0x02A5_36B3, // mulhu a3, a0, a0
+        0x02B5_4733, // div a4, a0, a1
+        0x0010_0073, // ebreak
+    ],
+    local: &[],
+    shared: &[],
+};
+
 /// Each processor has its number and 10 in `a1`, and the address of shared word 7 in `a2`.
 const EIGHT_ADDS: &str = "
     poke 0 11 10, poke 0 12 0x8000001C,
@@ -33,7 +48,7 @@ const EIGHT_ADDS: &str = "
     poke 6 11 16, poke 6 12 0x8000001C,
     poke 7 11 17, poke 7 12 0x8000001C";
 
-static CASES: [Case; 4] = [
+static CASES: [Case; 5] = [
     // Processors that refer to one word one after another find each the sum of those before.
     Case {
         name: "references are whole",
@@ -110,5 +125,23 @@ static CASES: [Case; 4] = [
             whole 1: stalled",
         ],
         order: "turn 0",
+    },
+    // A division by zero is no fault: its quotient is all ones, and its remainder the dividend. All ones squared are
+    // 0xFFFFFFFE00000001, and as -1 divided by -7 they are 0.
+    Case {
+        name: "a division by zero",
+        machine: "machine 0 2 1 8",
+        program: &DIVIDING,
+        pokes: &["poke 0 11 0xFFFFFFF9"],
+        calls: &[
+            "
+            whole 0: wrote 0x10000 0x0205D533 0xFFFFFFFF
+            whole 0: wrote 0x10004 0x0205E5B3 0xFFFFFFF9
+            whole 0: wrote 0x10008 0x02A50633 1
+            whole 0: wrote 0x1000C 0x02A536B3 0xFFFFFFFE
+            whole 0: wrote 0x10010 0x02B54733 0
+            whole 0, status 0: faulted 8",
+        ],
+        order: "turn 0, turn 0, turn 0, turn 0, turn 0, turn 0",
     },
 ];
