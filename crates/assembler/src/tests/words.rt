@@ -15,6 +15,8 @@ fn one_instruction_is_one_word(rt: HostRuntime) -> Result<(), Fail> {
         ("jal ra, 2", 0x0020_00EF),
         ("fence x0, x0, 255", 0x0FF0_000F),
         ("sra x1, x2, x3", 0x4031_50B3),
+        ("mul x1, x2, x3", 0x0231_00B3),
+        ("divu a0, a1, a2", 0x02C5_D533),
         ("jalr x1, 4(x2)", 0x0041_00E7),
         ("bne x6, x0, -8", 0xFE03_1CE3),
         ("lui x5, 0x80000", 0x8000_02B7),
