@@ -1,19 +1,19 @@
 //! The log of a machine's steps.
 
 ghost use Rattle.std.specs.Prelude.{◌≡◌, ◌≤◌, ◌<◌, ◌+◌, ◌*◌, ◌^◌, ◌↔◌, ◌++◌, [], length, nat_lt, true, false, Err, IfOk, OnOk, OnErr};
+ghost use Rattle.std.specs.Borrow.{sem};
 ghost use Rattle.machine_steps.specs.Machines.{IsIdle};
 ghost use Rattle.machine_steps.specs.Draining.{drain_bound, drain_steps, IsDrained};
-ghost use Rattle.machine_steps.specs.Runs.{IsReplay, IsSerialized};
-ghost use Rattle.machine_steps.specs.Whole.{IsOne};
-ghost use Rattle.machine_lock.specs.Logs.{is_named, HasTaken, IsLonger};
+ghost use Rattle.machine_steps.specs.Runs.{answer_after, IsReplay, IsSerialized};
+ghost use Rattle.machine_steps.specs.Whole.{one_steps, IsOne, IsPoked};
+ghost use Rattle.machine_lock.specs.Logs.{is_named, AreLawful, HasPoked, HasTaken, IsKept, IsLonger};
+ghost use Rattle.machine_lock.specs.Lending.{LendsRoom};
 
-use crate::entering;
-use crate::entering::make_room;
+use crate::roomy::Roomy;
 use flat_machine::Poke;
 use machine_steps::Machine;
 use std::alloc::Global;
 use std::marker::Model;
-use std::snapshot::Snapshot;
 use steps::{Outcome, Step};
 use thiserror::Error;
 
@@ -34,19 +34,15 @@ pub enum LockRefusal {
 /// A machine with the log of its steps: its opening, the steps since, and the machine after them.
 #[derive(Drop)]
 pub struct Logged {
-    machine: Machine,
-    steps: Vec<Step>,
-    opening: Snapshot<Machine>,
+    log: Roomy,
 }
 
 impl Model for Logged {
-    ghost use Rattle.machine_lock.specs.Logs.{Log, IsKept};
+    ghost use Rattle.machine_lock.specs.Logs.{Log};
 
     ghost Value = { Log };
 
-    ghost view = { λ l. record { opening = l.opening.value; steps = l.steps.items; machine = l.machine } };
-
-    ghost invariant = { λ l. IsKept (record { opening = l.opening.value; steps = l.steps.items; machine = l.machine }) };
+    ghost view = { λ l. l.log.log };
 }
 
 impl Logged {
@@ -56,13 +52,8 @@ impl Logged {
         requires idle { IsIdle machine }
         ensures { result ≡ record { opening = machine; steps = []; machine = machine } }
     {
-        // The proof needs that the machine is one.
-        let _ = machine.is_idle();
-        let opening = Snapshot::of(&machine);
         Logged {
-            machine,
-            steps: Vec::new(alloc),
-            opening,
+            log: Roomy::new(alloc, machine),
         }
     }
 
@@ -70,10 +61,11 @@ impl Logged {
     /// instructions explains what it did.
     pub fn machine(&self) -> &Machine
         ensures machine { result.now ≡ self.now.machine }
+        ensures kept { IsKept self.now }
         ensures replay { IsReplay self.now.opening self.now.steps self.now.machine }
         ensures explained { IsSerialized self.now.opening self.now.steps self.now.machine }
     {
-        &self.machine
+        self.log.machine()
     }
 
     /// The steps that the machine has taken, in order. None of them stalled.
@@ -81,14 +73,14 @@ impl Logged {
         ensures steps { result.now ≡ self.now.steps }
         ensures room { length result.now ≤ 4194304 }
     {
-        self.steps.as_slice()
+        self.log.steps()
     }
 
     /// Whether the machine has each place that the step names.
     pub fn names(&self, step: &Step) -> bool
         ensures { result ≡ is_named self.now.machine.config step.now }
     {
-        let config = self.machine.config();
+        let config = self.machine().config();
         let places = config.processors();
         match *step {
             Step::Turn(place) | Step::Serve(place) => place < places,
@@ -111,6 +103,8 @@ impl Logged {
     /// where there is no memory for a place in the log. Each leaves all as it was.
     pub fn step(&mut self, step: Step) -> Result<Outcome, LockRefusal>
         ensures taken { IfOk result (λ o. HasTaken self.old step o self.new) }
+        ensures answer { IfOk result (λ o. o ≡ answer_after self.old.opening self.old.steps step) }
+        ensures poked { IfOk result (λ o. IsIdle self.old.machine → (poke : Poke) → step ≡ Step.Poke poke → IsPoked self.old.machine poke o self.new.machine) }
         ensures unnamed { (result ≡ Err LockRefusal.Unnamed) ↔ (is_named self.old.machine.config step ≡ false) }
         ensures full { (result ≡ Err LockRefusal.Full) ↔ ((is_named self.old.machine.config step ≡ true) × (4194304 ≤ length self.old.steps)) }
         ensures refused { OnErr result (self.new ≡ self.old) }
@@ -118,22 +112,25 @@ impl Logged {
         if !self.names(&step) {
             return Err(LockRefusal::Unnamed);
         }
-        make_room(&mut self.steps, 1)?;
-        Ok(entering::enter(&mut self.machine, &mut self.steps, step))
+        self.log.make_room(1)?;
+        Ok(self.log.step(step))
     }
 
-    /// Makes room for more steps, so that entering them takes no memory.
+    /// Lends the log with room for more steps, so that taking and entering them cannot be refused.
     ///
     /// # Errors
     ///
     /// [`LockRefusal::Full`] where the log would pass [`steps::MAX_STEPS`] steps with them, else
-    /// [`LockRefusal::Memory`] where there is no memory.
-    pub fn room(&mut self, extra: u32) -> Result<(), LockRefusal>
+    /// [`LockRefusal::Memory`] where there is no memory. Each leaves all as it was.
+    pub fn room(&mut self, extra: u32) -> Result<&mut Roomy, LockRefusal>
+        ensures* lends { sem 𝓛 (LendsRoom self.entry result) }
+        ensures places { IfOk result (λ roomy. extra ≤ roomy.now.places) }
+        ensures log { IfOk result (λ roomy. roomy.now.log ≡ self.old) }
         ensures full { (result ≡ Err LockRefusal.Full) ↔ (4194304 < length self.old.steps + extra) }
         ensures named { result ≡ Err LockRefusal.Unnamed → ⊥ }
-        ensures kept { self.new ≡ self.old }
     {
-        make_room(&mut self.steps, extra)
+        self.log.make_room(extra)?;
+        Ok(&mut self.log)
     }
 
     /// Takes steps until no reference is open, as [`Machine::drain`] does, enters them, and answers how
@@ -151,8 +148,9 @@ impl Logged {
         ensures named { result ≡ Err LockRefusal.Unnamed → ⊥ }
         ensures refused { OnErr result (self.new ≡ self.old) }
     {
-        make_room(&mut self.steps, self.machine.most_moves())?;
-        Ok(entering::drain(&mut self.machine, &mut self.steps))
+        let most = self.machine().most_moves();
+        self.log.make_room(most)?;
+        Ok(self.log.drain())
     }
 
     /// Takes one whole instruction of a processor, as [`Machine::one`] does, and enters its steps:
@@ -166,19 +164,40 @@ impl Logged {
     pub fn one(&mut self, p: u8) -> Result<Outcome, LockRefusal>
         ensures whole { IfOk result (λ o. IsIdle self.old.machine → IsOne self.old.machine p o self.new.machine) }
         ensures busy { IfOk result (λ o. (IsIdle self.old.machine → ⊥) → (o ≡ Outcome.Stalled) × (self.new ≡ self.old)) }
+        ensures entered { OnOk result (IsIdle self.old.machine → self.new.steps ≡ self.old.steps ++ one_steps self.old.machine p) }
         ensures longer { OnOk result (IsLonger self.old self.new (2 * self.old.machine.config.k + 3)) }
         ensures unnamed { (result ≡ Err LockRefusal.Unnamed) ↔ (nat_lt p (2 ^ self.old.machine.config.k) ≡ false) }
         ensures full { (result ≡ Err LockRefusal.Full) ↔ ((p < 2 ^ self.old.machine.config.k) × (4194304 < length self.old.steps + (2 * self.old.machine.config.k + 3))) }
         ensures refused { OnErr result (self.new ≡ self.old) }
     {
-        let config = self.machine.config();
+        let config = self.machine().config();
         if p >= config.processors() {
             return Err(LockRefusal::Unnamed);
         }
-        make_room(&mut self.steps, 2 * u32::from(config.k) + 3)?;
-        if !self.machine.is_idle() {
-            return Ok(Outcome::Stalled);
-        }
-        Ok(entering::one(&mut self.machine, &mut self.steps, p))
+        self.log.make_room(2 * u32::from(config.k) + 3)?;
+        Ok(self.log.one(p))
+    }
+
+    /// Writes these from outside, one after another, and enters them: for all of them it makes room first.
+    /// No reference is open, and the machine has what each writes ([`Machine::is_lawful`]).
+    ///
+    /// # Errors
+    ///
+    /// [`LockRefusal::Full`] where the log would pass [`steps::MAX_STEPS`] steps with them, else
+    /// [`LockRefusal::Memory`] where there is no memory for them. Each leaves all as it was.
+    pub fn pokes(&mut self, pokes: &[Poke]) -> Result<(), LockRefusal>
+        requires idle { IsIdle self.old.machine }
+        requires lawful { AreLawful self.old.machine.config pokes.now }
+        ensures poked { OnOk result (HasPoked self.old pokes.now self.new) }
+        ensures full { (result ≡ Err LockRefusal.Full) ↔ (4194304 < length self.old.steps + length pokes.now) }
+        ensures named { result ≡ Err LockRefusal.Unnamed → ⊥ }
+        ensures refused { OnErr result (self.new ≡ self.old) }
+    {
+        let Ok(count) = u32::try_from(pokes.len()) else {
+            return Err(LockRefusal::Full);
+        };
+        self.log.make_room(count)?;
+        self.log.pokes(pokes);
+        Ok(())
     }
 }

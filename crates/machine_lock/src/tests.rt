@@ -2,10 +2,11 @@
 //! values are worked out by hand.
 
 mod limits;
+mod pokes;
 mod steps_taken;
 mod whole;
 
-use crate::Logged;
+use crate::{LockRefusal, Logged};
 use elf_image::{Bytes, Image, Layout, read_image, write_image};
 use flat_machine::{CODE_START, Config, Poke, SHARED_START, Status};
 use link::Meter;
@@ -130,5 +131,13 @@ fn look_at(machine: &Machine) -> Seen {
         ],
         word: machine.word(0),
         is_idle: machine.is_idle(),
+    }
+}
+
+/// Whether a log has room for so many steps more.
+fn room_for(log: &mut Logged, extra: u32) -> Result<(), LockRefusal> {
+    match log.room(extra) {
+        Ok(_) => Ok(()),
+        Err(refusal) => Err(refusal),
     }
 }

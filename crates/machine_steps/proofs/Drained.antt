@@ -169,6 +169,39 @@ module _ (old m : MachineLists) (bound : ℕ) (done : List Step) (d : IsUnderWay
       ap (λ u. all_after old.config old.code (theory.step (sizes_of old.config) (program old.config old.code) M u).machine (map step_of ts)) (named_again t)
       ∙ machine_is ts (theory.step (sizes_of old.config) (program old.config old.code) M t).machine
 
+  -- and a drain of more steps takes no other
+  abbrev drained_from : ℕ → theory.Machine Told → List theory.Step
+  drained_from n K = draining.drain_steps (sizes_of old.config) (program old.config old.code) n K
+
+  abbrev after_theory : theory.Machine Told → theory.Step → theory.Machine Told
+  after_theory K st = (theory.step (sizes_of old.config) (program old.config old.code) K st).machine
+
+  abbrev drained_by : ℕ → theory.Machine Told → Option theory.Step → List theory.Step
+  drained_by n K o = elim o [ Some st ↦ st ∷ drained_from n (after_theory K st) | None ↦ [] ]
+
+  abbrev Ended : List theory.Step → theory.Machine Told → Type 0
+  Ended steps K = draining.drain_step (sizes_of old.config) (theory.machine_after (sizes_of old.config) (program old.config old.code) steps K) ≡ None
+
+  all_longer : (n N : ℕ) (M : theory.Machine Told) → n ≤ N → Ended (drained_from n M) M → drained_from N M ≡ drained_from n M
+  unfolding draining.drain_steps theory.machine_after
+  all_longer zero zero M few e = refl
+  all_longer zero (suc N) M few e = ap (drained_by N M) e
+  all_longer (suc n) zero M few e = absurd (omega (arith, few))
+  all_longer (suc n) (suc N) M few e =
+      by (λ st. all_longer n N (after_theory M st) (omega (arith, few))) (draining.drain_step (sizes_of old.config) M) e
+    where
+      by : ((st : theory.Step) → Ended (drained_from n (after_theory M st)) (after_theory M st) → drained_from N (after_theory M st) ≡ drained_from n (after_theory M st)) →
+          (o : Option theory.Step) → Ended (drained_by n M o) M → drained_by N M o ≡ drained_by n M o
+      by later None e = refl
+      by later (Some st) e = ap (λ xs. st ∷ xs) (later st e)
+
+  pub longer_taken : first_steps bound old ≡ done → drain_step m ≡ None → (more : ℕ) → bound ≤ more → first_steps more old ≡ done
+  longer_taken e none more few =
+      let all = draining.drain_steps (sizes_of old.config) (program old.config old.code) bound M0 in
+      let there : here ≡ theory.machine_after (sizes_of old.config) (program old.config old.code) all M0 = ap (all_after old.config old.code M0) (sym e) ∙ machine_is all M0 in
+      let ended : draining.drain_step (sizes_of old.config) here ≡ None = same_next ∙ some_none (draining.drain_step (sizes_of m.config) (machine_of m (λ p. []))) none in
+      ap (map step_of) (all_longer bound more M0 few (ap (draining.drain_step (sizes_of old.config)) (sym there) ∙ ended)) ∙ e
+
   -- no reference is open then, where the distances were no more together than the bound
   pub taken_idle : IsMachine old → first_steps bound old ≡ done → (f : ℕ → ℕ) → AreDistances (sizes_of old.config) M0 f → total f (2 ^ old.config.k) ≤ bound → IsIdle m
   unfolding machine_of_parts

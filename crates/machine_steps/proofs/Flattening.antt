@@ -1,6 +1,6 @@
 -- A machine in which no reference is open is the flat machine of its processors, words and code.
 use Rattle.std.proofs.Common.{◌≡◌, ℕ, zero, suc, ◌^◌, ◌<◌, ◌≤◌, false, List, [], ◌∷◌, length, ◌⊎◌, inl, inr, refl, sym, ap, ap₂, ◌∙◌, subst, arith}
-use Rattle.std.specs.Prelude.{All, map, slice_index, slice_index_or}
+use Rattle.std.specs.Prelude.{All, None, map, slice_get, slice_index, slice_index_or}
 use Rattle.std.proofs.Math.ListN.{get_or-map}
 use Rattle.std.proofs.lemmas.Bool.{cases_lt}
 use Rattle.std.proofs.lemmas.List.{length-map, get_or-map as get_or-map-inside}
@@ -23,6 +23,11 @@ pub past_end : {X : Type 0} (xs : List X) (i : ℕ) (d : X) → length xs ≤ i 
 past_end [] i d l = refl
 past_end (x ∷ xs) zero d l = absurd (omega arith)
 past_end (x ∷ xs) (suc i) d l = past_end xs i d (omega arith)
+
+pub none_past : {X : Type 0} (xs : List X) (i : ℕ) → length xs ≤ i → slice_get xs i ≡ None
+none_past [] i l = refl
+none_past (x ∷ xs) zero l = absurd (omega arith)
+none_past (x ∷ xs) (suc i) l = none_past xs i (omega arith)
 
 -- lists that are as long and have the same elements are the same
 pub same_list : {X : Type 0} (xs ys : List X) (d : X) → length xs ≡ length ys → ((i : ℕ) → slice_index_or xs i d ≡ slice_index_or ys i d) → xs ≡ ys

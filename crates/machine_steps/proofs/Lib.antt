@@ -12,3 +12,7 @@ pub mod Lone
 pub mod Whole
 mod Grouping
 mod Ordering
+mod Cutting
+mod Telling
+mod Poking
+mod Seeing

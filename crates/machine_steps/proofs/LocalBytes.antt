@@ -6,11 +6,11 @@ use Rattle.flat_machine.specs.Memory.{number_at, is_aligned}
 use Rattle.hart.specs.State.{CoreState}
 use Rattle.local_memory.specs.Accesses.{load_of}
 
-number_of_byte : (bytes : List ℕ) (place : ℕ) → number_at bytes place 1 ≡ slice_index bytes place
+pub number_of_byte : (bytes : List ℕ) (place : ℕ) → number_at bytes place 1 ≡ slice_index bytes place
 unfolding number_at
 number_of_byte bytes place = omega arith
 
-byte_is_aligned : (address : ℕ) → is_aligned 1 address ≡ true
+pub byte_is_aligned : (address : ℕ) → is_aligned 1 address ≡ true
 byte_is_aligned address = let e : address % 1 ≡ 0 = omega arith in rw e refl
 
 -- what a load of one byte gives

@@ -7,7 +7,7 @@ use Rattle.steps.specs.declared.step.Step.{Step}
 use Rattle.abstract_machine.specs.Steadiness.{total}
 use Rattle.steps.specs.declared.step.Step.TheVariants as step
 use Rattle.steps.specs.declared.step.Outcome.TheVariants.{Stalled}
-use Rattle.machine_program.specs.Processors.{sizes_of, program}
+use Rattle.machine_program.specs.Processors.{Told, sizes_of, program}
 use Rattle.machine_program.specs.Steps.{outcome_of, after}
 use Rattle.machine_steps.specs.Machines.{MachineLists, machine_of, IsIdle}
 use Rattle.machine_steps.specs.Runs.{IsRun}
@@ -42,8 +42,11 @@ abbrev pub drain_bound : Config → ℕ
 drain_bound c = 2 ^ c.k * (2 * c.k + 2)
 
 -- the steps of a drain, one after another, and at most so many
+abbrev pub steps_home : Config → (code : List ℕ) → (bound : ℕ) → theory.Machine Told → List Step
+steps_home c code bound M = map step_of (draining.drain_steps (sizes_of c) (program c code) bound M)
+
 abbrev pub first_steps : ℕ → MachineLists → List Step
-first_steps bound m = map step_of (draining.drain_steps (sizes_of m.config) (program m.config m.code) bound (machine_of m (λ p. [])))
+first_steps bound m = steps_home m.config m.code bound (machine_of m (λ p. []))
 
 -- all steps of a drain
 abbrev pub drain_steps : MachineLists → List Step

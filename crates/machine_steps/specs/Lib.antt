@@ -4,3 +4,5 @@ pub mod Runs
 pub mod Draining
 pub mod Ordering
 pub mod Whole
+pub mod Laws
+pub mod Seeing

@@ -13,6 +13,7 @@ use Rattle.abstract_machine.specs.Machine as theory
 use Rattle.serialization.specs.Order.{Passed, ran, outcomes}
 use Rattle.serialization.specs.Serialization.{EachServedOnce}
 use Rattle.steps.specs.declared.step.Step.{Step}
+use Rattle.steps.specs.declared.step.Outcome.{Outcome}
 use Rattle.steps.specs.declared.step.Outcome.TheVariants.{Stalled}
 use Rattle.machine_ports.specs.Ports.{PortState}
 use Rattle.machine_opening.specs.Openings.{opening_ports, opening_modules}
@@ -54,6 +55,10 @@ all_after c code M (s ∷ ss) = all_after c code (after c code M s) ss
 abbrev pub NoneStalls : Config → (code : List ℕ) → theory.Machine Told → List Step → Type 0
 NoneStalls c code M [] = Unit {0}
 NoneStalls c code M (s ∷ ss) = (outcome_of c code M s ≡ Stalled → ⊥) × NoneStalls c code (after c code M s) ss
+
+-- what a step answers on the machine that these steps leave
+abbrev pub answer_after : (opening : MachineLists) → (done : List Step) → Step → Outcome
+answer_after m done s = outcome_of m.config m.code (all_after m.config m.code (machine_of m (λ p. [])) done) s
 
 -- what a machine's processors have shown
 abbrev pub events_of : theory.Machine Told → ℕ → List Event

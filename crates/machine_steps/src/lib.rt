@@ -12,10 +12,15 @@
 
 mod drain;
 mod error;
+mod laws;
 mod machine;
 mod order;
 mod service;
 mod turns;
 
 pub use error::NewError;
+pub use laws::{
+    answers_are_of_the_steps, flat_states_are_read, replays_are_cut, replays_go_on,
+    runs_are_joined, runs_are_serialized,
+};
 pub use machine::Machine;

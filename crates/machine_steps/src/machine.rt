@@ -1,23 +1,26 @@
 //! The machine.
 
-ghost use Rattle.std.specs.Prelude.{◌≡◌, ◌↔◌, ◌<◌, ◌≤◌, ◌*◌, ◌+◌, ◌/◌, ◌%◌, ◌^◌, ◌&&◌, ℕ, List, [], true, false, nat_lt, is_some, slice_get, slice_index, Some, None, Err, IfOk, IfSome, IsTrue, if◌then◌else◌, IfErr, OnOk, OnErr};
+ghost use Rattle.std.specs.Prelude.{◌≡◌, ◌↔◌, ◌<◌, ◌≤◌, ◌*◌, ◌+◌, ◌-◌, ◌/◌, ◌%◌, ◌^◌, ◌&&◌, ℕ, List, [], true, false, nat_lt, is_some, slice_get, slice_index, Some, None, Err, IfOk, IfSome, IsTrue, if◌then◌else◌, IfErr, OnOk, OnErr};
 ghost use Rattle.std.specs.Option.{option_copied};
 ghost use Rattle.flat_machine.specs.declared.event.Event.{Event};
 ghost use Rattle.flat_machine.specs.declared.poke.Poke.TheVariants as pokes;
 ghost use Rattle.flat_machine.specs.Laws.{AreBelow};
 ghost use Rattle.flat_machine.specs.Limits.{IsWithinLimits};
-ghost use Rattle.flat_machine.specs.Memory.{in_local};
+ghost use Rattle.flat_machine.specs.Flat.{is_lawful_register};
+ghost use Rattle.flat_machine.specs.Memory.{in_local, in_shared, number_at};
+ghost use Rattle.flat_machine.specs.Words.{part_of};
 ghost use Rattle.wire_sets.specs.Members.{members};
 ghost use Rattle.omega_network.specs.Networks.{net_of};
 ghost use Rattle.abstract_machine.specs.Steadiness.{Few};
-ghost use Rattle.machine_program.specs.Processors.{port_at, word_at, sizes_of};
+ghost use Rattle.machine_program.specs.Processors.{is_lawful_poke, open_at, port_at, word_at, sizes_of};
 ghost use Rattle.machine_program.specs.Steps.{outcome_of};
 ghost use Rattle.machine_program.specs.Turning.{told_of_down, told_of_up};
 ghost use Rattle.flat_machine.specs.State.{is_running};
 ghost use Rattle.machine_steps.specs.Machines.{MachineLists, IsIdle, IsMachine, IsStep, machine_of};
 ghost use Rattle.machine_steps.specs.Draining.{drain_bound, drain_step, GoesOn, IsDrained};
-ghost use Rattle.machine_steps.specs.Whole.{IsOne, IsSent};
-ghost use Rattle.machine_steps.specs.Runs.{IsOpening, IsRun, IsSerialized, passed};
+ghost use Rattle.machine_steps.specs.Whole.{IsOne, IsPoked, IsSent};
+ghost use Rattle.machine_steps.specs.Runs.{flat_state, IsOpening, IsRun, IsSerialized, passed};
+ghost use Rattle.machine_steps.specs.Seeing.{byte_seen};
 ghost use Rattle.machine_steps.specs.Ordering.{is_open_at};
 
 use crate::drain::next_step;
@@ -26,7 +29,9 @@ use crate::order::SerialOrder;
 use crate::service::execute;
 use crate::turns;
 use elf_image::Image;
-use flat_machine::{Config, Entry, Poke, SHARED_START, Status};
+use flat_machine::{
+    CODE_START, Config, Entry, LOCAL_START, PC, Poke, REGION_BYTES, SHARED_START, Size, Status,
+};
 use hart::Core;
 use indexed_network::IndexedNetwork;
 use local_memory::Code;
@@ -151,6 +156,81 @@ impl Machine {
         self.modules[place].word(number >> k)
     }
 
+    /// The code that all processors share.
+    pub fn code(&self) -> &Code
+        ensures { result.now ≡ self.now.code }
+    {
+        &self.code
+    }
+
+    /// Whether a processor has a reference open. None where the machine has no processor of this number.
+    pub fn is_open(&self, processor: u8) -> Option<bool>
+        ensures { result ≡ (if nat_lt processor (2 ^ self.now.config.k) then Some (open_at self.now.ports processor) else None) }
+    {
+        match self.ports.get(usize::from(processor)) {
+            Some(port) => Some(port.is_open()),
+            None => None,
+        }
+    }
+
+    /// The byte that a processor sees at an address: of its own local memory, of a shared word or of
+    /// code. None where the machine has no processor of this number, or there is no byte.
+    pub fn seen(&self, processor: u8, address: u32) -> Option<u8>
+        ensures { result ≡ byte_seen (flat_state self.now) processor address }
+    {
+        // The proof needs that the machine is one.
+        let _ = &self.config;
+        if usize::from(processor) >= self.ports.len() {
+            return None;
+        }
+        if address >= SHARED_START {
+            return self.shared_byte(address);
+        }
+        if address / REGION_BYTES == CODE_START / REGION_BYTES {
+            return Some(self.code_byte(address));
+        }
+        self.byte(processor, address)
+    }
+
+    /// The byte of a shared word.
+    fn shared_byte(&self, address: u32) -> Option<u8>
+        requires start { 2 ^ 31 ≤ address }
+        ensures { result ≡ (if in_shared self.now.config.shared_words address then Some (part_of 1 (address % 4) (word_at self.now.config.k self.now.modules ((address - 2 ^ 31) / 4))) else None) }
+    {
+        let word = self.word((address - SHARED_START) / 4)?;
+        Some(byte_of(word, address % 4))
+    }
+
+    /// The byte of code.
+    fn code_byte(&self, address: u32) -> u8
+        ensures { result ≡ number_at self.now.code (address % 2 ^ 16) 1 }
+    {
+        self.code.number(address % REGION_BYTES, Size::Byte) as u8
+    }
+
+    /// Whether a poke is one of this machine: the processor that it names is there, and so is the byte,
+    /// or it is a register from 1 to 31, or `pc` (as 32) with a value divisible by 4.
+    pub fn is_lawful(&self, poke: Poke) -> bool
+        ensures { result ≡ is_lawful_poke self.now.config poke }
+    {
+        let processors = self.config.processors();
+        match poke {
+            Poke::Register {
+                processor,
+                register,
+                value,
+            } => processor < processors && is_lawful_register(register, value),
+            Poke::Local {
+                processor,
+                address,
+                ..
+            } => processor < processors && address / REGION_BYTES == LOCAL_START / REGION_BYTES,
+            Poke::Shared { address, .. } => {
+                address >= SHARED_START && (address - SHARED_START) / 4 < self.config.shared_words
+            }
+        }
+    }
+
     /// The wires on which a request stands before a stage; for stage `k`, the modules at which one does.
     #[inline(always)]
     pub fn request_wires(&self, stage: u8) -> WireSet
@@ -197,6 +277,7 @@ impl Machine {
         ensures step { IsStep self.old step result self.new }
         ensures outcome { result ≡ outcome_of self.old.config self.old.code (machine_of self.old (λ p. [])) step }
         ensures stalled { result ≡ Outcome.Stalled → (shown : ℕ → List Event) → machine_of self.new shown ≡ machine_of self.old shown }
+        ensures poked { IsIdle self.old → (poke : Poke) → step ≡ Step.Poke poke → IsPoked self.old poke result self.new }
         ensures few { Few (sizes_of self.new.config) (net_of self.new.network) }
         ensures sound { IsMachine self.new }
     {
@@ -501,6 +582,26 @@ impl Machine {
         let byte = Phi::store_byte(address % 4, u32::from(value));
         self.modules[place].serve(word >> k, &byte);
         Outcome::Poked
+    }
+}
+
+/// A byte of a word, by its place from the lowest.
+#[tactic(auto, unfolding(flat_machine::specs::Words::part_of))]
+fn byte_of(word: u32, place: u32) -> u8
+    requires { place < 4 }
+    ensures { result ≡ part_of 1 place word }
+{
+    ((word >> (8 * place)) % 256) as u8
+}
+
+/// Whether a register can be written from outside with a value: 1 to 31, or `pc` as 32.
+fn is_lawful_register(register: u8, value: u32) -> bool
+    ensures { result ≡ is_lawful_register register value }
+{
+    match register {
+        PC => value % 4 == 0,
+        1..PC => true,
+        _ => false,
     }
 }
 

@@ -1,6 +1,6 @@
 //! A log that is almost full, and one that is full.
 
-use super::{look_at, one_add};
+use super::{look_at, one_add, room_for};
 use crate::{LockRefusal, Logged};
 use flat_machine::{Poke, SHARED_START};
 use std::alloc::AllocGlobal;
@@ -27,8 +27,8 @@ fn poked(rt: &(impl Abort + AllocGlobal), count: u32) -> Result<Logged, Fail> {
 #[test]
 fn log_has_a_limit(rt: HostRuntime) -> Result<(), Fail> {
     let mut log = poked(&rt, 4_194_302)?;
-    assert_eq!(rt; log.room(2), Ok(()));
-    assert_eq!(rt; log.room(3), Err(LockRefusal::Full));
+    assert_eq!(rt; room_for(&mut log, 2), Ok(()));
+    assert_eq!(rt; room_for(&mut log, 3), Err(LockRefusal::Full));
     assert_eq!(rt; log.one(0), Err(LockRefusal::Full));
     assert_eq!(rt; log.drain(), Ok(0));
     assert_eq!(rt; log.step(Step::Turn(0)), Ok(Outcome::Issued));
@@ -49,8 +49,8 @@ fn log_has_a_limit(rt: HostRuntime) -> Result<(), Fail> {
     assert_eq!(rt; log.one(1), Err(LockRefusal::Unnamed));
     assert_eq!(rt; log.one(0), Err(LockRefusal::Full));
     assert_eq!(rt; log.drain(), Err(LockRefusal::Full));
-    assert_eq!(rt; log.room(1), Err(LockRefusal::Full));
-    assert_eq!(rt; log.room(0), Ok(()));
+    assert_eq!(rt; room_for(&mut log, 1), Err(LockRefusal::Full));
+    assert_eq!(rt; room_for(&mut log, 0), Ok(()));
     assert_eq!(rt; look_at(log.machine()), before);
     assert_eq!(rt; log.steps().len(), 4_194_304);
     Ok(())

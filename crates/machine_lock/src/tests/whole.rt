@@ -1,6 +1,6 @@
 //! Whole instructions, drains, and room for them.
 
-use super::{Seen, four_adds, look_at};
+use super::{Seen, four_adds, look_at, room_for};
 use crate::{LockRefusal, Logged};
 use flat_machine::{Cause, Fault, Status};
 use std::alloc::AllocGlobal;
@@ -131,7 +131,7 @@ fn room_is_made_to_the_limit(rt: HostRuntime) -> Result<(), Fail> {
         (4_194_304, Err(LockRefusal::Full)),
         (u32::MAX, Err(LockRefusal::Full)),
     ] {
-        assert_eq!(rt; log.room(extra), answer, "{extra}");
+        assert_eq!(rt; room_for(&mut log, extra), answer, "{extra}");
         assert_eq!(rt; log.steps(), [Step::Turn(0)].as_slice(), "{extra}");
         assert_eq!(rt; look_at(log.machine()), before, "{extra}");
     }

@@ -1,19 +1,26 @@
-use Rattle.std.proofs.Common.{◌≡◌, ◌∙◌, ◌<◌, ◌*◌, ◌+◌, true, false, refl, sym, ap, arith}
+use Rattle.std.proofs.Common.{◌≡◌, ◌∙◌, ◌<◌, ◌*◌, ◌+◌, refl, sym, ap, arith}
 use Rattle.flat_machine.specs.declared.config.Config.{Config}
-use Rattle.machine_lock.proofs.Taking.{entered_length, bringing_none, bringing_more, brought_back, brought_in_time, bringing_all}
+use Rattle.machine_lock.proofs.Taking.{entered_length, bringing_none, bringing_more, brought_now, brought_in_time, bringing_all}
 use Rattle.machine_lock.proofs.entering.bring_back.Goals as goal
 
 pub loop-moves-init : goal.loop-moves-init
 loop-moves-init c = record { back = bringing_none c.args.machine.now c.args.steps.now.items c.is_idle.ensures.sound; capacity = refl }
 
-pub returns-in_default-clause-whole : goal.returns-in_default-clause-whole
-returns-in_default-clause-whole c before p sent =
-    brought_back c.args.machine.now c.args.steps.now.items c.loop-moves.moves c.loop-moves.machine c.loop-moves.steps.items c.loop-moves.last c.loop-moves.invariant.back (c.drain_step.ensures.none.0 c.in_default.is) before p sent
-
-pub returns-in_default-clause-entered : goal.returns-in_default-clause-entered
-returns-in_default-clause-entered c =
-    bringing_all c.args.machine.now c.args.steps.now.items c.loop-moves.moves c.loop-moves.machine c.loop-moves.steps.items c.loop-moves.last c.loop-moves.invariant.back
-    (let stages = ap (λ (f : Config). f.k) c.config.ensures.config in omega (arith, c.loop-moves-test.true, c.from.ensures, stages))
+pub returns-in_default : goal.returns-in_default
+returns-in_default c =
+    let i = c.loop-moves.invariant in
+    let stages = ap (λ (f : Config). f.k) c.config.ensures.config in
+    let now =
+    brought_now c.args.machine.now c.args.steps.now.items c.loop-moves.moves c.loop-moves.machine c.loop-moves.steps.items c.loop-moves.last i.back (sym c.drain_step.ensures.next ∙ c.in_default.is)
+    (c.drain_step.ensures.none.0 c.in_default.is) in
+    record {
+      whole = now.1;
+      steps = now.0;
+      entered =
+          bringing_all c.args.machine.now c.args.steps.now.items c.loop-moves.moves c.loop-moves.machine c.loop-moves.steps.items c.loop-moves.last i.back
+          (omega (arith, c.loop-moves-test.true, c.from.ensures, stages));
+      capacity = i.capacity;
+    }
 
 pub enter-last-requires : goal.enter-last-requires
 enter-last-requires c =
@@ -33,18 +40,22 @@ loop-moves-preserved c =
     record {
       back =
           bringing_more c.args.machine.now c.args.steps.now.items c.loop-moves.moves c.loop-moves.machine c.loop-moves.steps.items c.loop-moves.last i.back c.in-Some.step c.enter-last.result c.enter-last.new.machine c.enter-last.new.steps.items
-          within (sym c.drain_step.ensures.next ∙ c.in-Some.is) e.step e.entered;
+          within (sym c.drain_step.ensures.next ∙ c.in-Some.is) c.in-Some.ensures.goes_on e.step e.steps e.entered;
       capacity = e.capacity ∙ i.capacity;
     }
 
-pub returns-clause-whole : goal.returns-clause-whole
-returns-clause-whole c before p sent =
+pub returns : goal.returns
+returns c =
+    let i = c.loop-moves.invariant in
     let stages = ap (λ (f : Config). f.k) c.config.ensures.config in
     let over : c.loop-moves.moves ≡ 2 * c.args.machine.now.config.k + 2 = omega (arith, c.loop-moves-test.false, c.loop-moves.auto.moves-end, c.from.ensures, stages) in
-    brought_in_time c.args.machine.now c.args.steps.now.items c.loop-moves.moves c.loop-moves.machine c.loop-moves.steps.items c.loop-moves.last c.loop-moves.invariant.back c.is_idle.ensures.sound over before p sent
-
-pub returns-clause-entered : goal.returns-clause-entered
-returns-clause-entered c =
-    let stages = ap (λ (f : Config). f.k) c.config.ensures.config in
-    let over : c.loop-moves.moves ≡ 2 * c.args.machine.now.config.k + 2 = omega (arith, c.loop-moves-test.false, c.loop-moves.auto.moves-end, c.from.ensures, stages) in
-    bringing_all c.args.machine.now c.args.steps.now.items c.loop-moves.moves c.loop-moves.machine c.loop-moves.steps.items c.loop-moves.last c.loop-moves.invariant.back (omega (arith, over))
+    let sent = c.requires.sent in
+    let ended =
+    brought_in_time c.args.machine.now c.args.steps.now.items c.loop-moves.moves c.loop-moves.machine c.loop-moves.steps.items c.loop-moves.last i.back c.is_idle.ensures.sound over sent.0 sent.1 sent.2 in
+    record {
+      whole = ended.1;
+      steps = ended.0;
+      entered =
+          bringing_all c.args.machine.now c.args.steps.now.items c.loop-moves.moves c.loop-moves.machine c.loop-moves.steps.items c.loop-moves.last i.back (omega (arith, over));
+      capacity = i.capacity;
+    }

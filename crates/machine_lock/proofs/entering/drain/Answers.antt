@@ -1,5 +1,5 @@
-use Rattle.std.proofs.Common.{◌≡◌, ◌∙◌, ◌<◌, true, false, refl, sym, subst, arith}
-use Rattle.machine_steps.specs.Draining.{drain_bound, IsDrained}
+use Rattle.std.proofs.Common.{◌≡◌, ◌∙◌, ◌<◌, refl, sym, subst, arith}
+use Rattle.machine_steps.specs.Draining.{IsDrained}
 use Rattle.machine_lock.proofs.Taking.{entered_length, drain_entered_none, drain_entered_more, drain_entered_stops, drain_entered_over, drain_entered_all}
 use Rattle.machine_lock.proofs.entering.drain.Goals as goal
 

@@ -1,5 +1,5 @@
-use Rattle.std.proofs.Common.{◌≡◌, ◌∙◌, sym, subst}
-use Rattle.machine_lock.specs.Logs.{entered, IsEntered}
+use Rattle.std.proofs.Common.{◌∙◌, sym, subst}
+use Rattle.machine_lock.specs.Logs.{IsEntered}
 use Rattle.machine_lock.proofs.Taking.{entered_one, entered_moving, moving_is, entered_stalled}
 use Rattle.machine_lock.proofs.entering.enter.Goals as goal
 

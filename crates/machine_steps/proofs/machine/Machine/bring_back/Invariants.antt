@@ -1,11 +1,7 @@
-use Rattle.std.specs.Prelude.{ℕ, ◌*◌, ◌+◌}
-use Rattle.machine_steps.specs.Machines.{MachineLists, IsMachine}
-use Rattle.machine_steps.specs.Whole.{IsSent}
-use Rattle.machine_steps.proofs.Drained.{IsDraining}
-use Rattle.machine_steps.proofs.Whole.{IsComingBack}
+use Rattle.std.specs.Prelude.{List}
+use Rattle.steps.specs.declared.step.Step.{Step}
+use Rattle.machine_steps.proofs.Whole.{IsGoingHome}
 use Rattle.machine_steps.proofs.machine.Machine.bring_back.Given as goal
 
 abbrev pub invariant-loop-moves : goal.invariant-loop-moves
-invariant-loop-moves l =
-    IsDraining l.fn.self (2 * l.fn.self.config.k + 2) l.moves l.self × IsMachine l.self
-    × ((before : MachineLists) (p : ℕ) → IsSent before p l.fn.self → IsComingBack before p l.self l.last)
+invariant-loop-moves l = (tail : List Step) × IsGoingHome l.fn.self tail l.moves l.self l.last
