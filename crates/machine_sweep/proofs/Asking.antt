@@ -1,7 +1,7 @@
 -- What is entered of steps that are asked for.
-use Rattle.std.proofs.Common.{◌≡◌, ℕ, zero, suc, ◌+◌, ◌<◌, ◌≤◌, Bool, true, false, ◌⊎◌, inl, inr, List, [], ◌∷◌, ◌++◌, length, take, Some, refl, sym, ap, ◌∙◌, subst, arith}
+use Rattle.std.proofs.Common.{◌≡◌, ℕ, zero, suc, ◌+◌, ◌<◌, ◌≤◌, Bool, true, false, List, [], ◌∷◌, ◌++◌, length, take, Some, refl, sym, ap, ◌∙◌, subst, arith}
 use Rattle.std.specs.Prelude.{slice_get, slice_index_or, if◌then◌else◌}
-use Rattle.std.proofs.lemmas.List.{length-append, append-nil, take_more}
+use Rattle.std.proofs.lemmas.List.{length-append, take_more}
 use Rattle.std.proofs.lemmas.Option.{get_or_from_slice_get}
 use Rattle.steps.specs.declared.step.Step.{Step}
 use Rattle.steps.specs.declared.step.Step.TheVariants as step
@@ -9,13 +9,12 @@ use Rattle.steps.specs.declared.step.Outcome.{Outcome}
 use Rattle.steps.specs.declared.step.Outcome.TheVariants.{Stalled}
 use Rattle.steps.specs.Answers.{is_stalled}
 use Rattle.machine_steps.specs.Machines.{MachineLists}
-use Rattle.machine_steps.specs.Runs.{IsReplay}
+use Rattle.machine_steps.specs.Runs.{IsReplay, answer_after}
 use Rattle.machine_steps.proofs.Replaying.{outcome_there, stalled_is}
 use Rattle.machine_lock.specs.Logs.{Log, entered, HasTaken}
 use Rattle.machine_lock.proofs.Taking.{entered_moving}
 use Rattle.sweep.specs.Rounds.{round}
-use Rattle.machine_sweep.specs.Standing.{HasRunning}
-use Rattle.machine_sweep.specs.Sweeps.{answer_after, entered_of, rounds, WasAskedRound}
+use Rattle.machine_sweep.specs.Sweeps.{entered_of, rounds}
 
 -- ---- one step
 
@@ -82,55 +81,15 @@ next_asked old l k i s steps' opens within there before is =
     ∙ ap (λ x. entered_of old.opening old.steps (take i all ++ x ∷ [])) (sym here)
     ∙ ap (entered_of old.opening old.steps) (sym (take_more all i (step.Turn 0) within))
 
--- The log has followed the sweep so far, and goes on by a whole round, unless it has come to an end.
-pub record IsFollowing (most : ℕ) (old l : Log) : Type 0 where
-  pub whole : ℕ
-  pub part : ℕ
-  pub steps : l.steps ≡ entered_of old.opening old.steps (rounds old.machine.config.k whole ++ take part (round old.machine.config.k))
-  pub cut : (take part (round old.machine.config.k) ≡ []) ⊎ (most ≤ length l.steps) ⊎ (HasRunning l.machine → ⊥)
-
 pub none_asked : (m : MachineLists) (done : List Step) → done ≡ entered_of m done []
 unfolding entered_of
 none_asked m done = refl
 
-pub following_begins : (most : ℕ) (l : Log) → IsFollowing most l l
-following_begins most l = record { whole = 0; part = 0; steps = none_asked l.opening l.steps; cut = inl refl }
+-- so many rounds, and then a part of one
+module _ (opening : MachineLists) (old middle new : List Step) (k whole part : ℕ) (before : middle ≡ entered_of opening old (rounds k whole)) (more : new ≡ entered_of opening middle (take part (round k))) where
+  pub rounds_more : new ≡ entered_of opening old (rounds k whole ++ take part (round k))
+  rounds_more = more ∙ ap (λ xs. entered_of opening xs (take part (round k))) before ∙ sym (asked_append opening old (rounds k whole) (take part (round k)))
 
-module _ (most : ℕ) (old l new : Log) (f : IsFollowing most old l) (opens : l.opening ≡ old.opening) (size : l.machine.config.k ≡ old.machine.config.k) (room : length l.steps < most) (runs : HasRunning l.machine) (r : WasAskedRound most l new) where
-  abbrev k : ℕ
-  k = old.machine.config.k
-
-  -- so far there were whole rounds
-  so_far : l.steps ≡ entered_of old.opening old.steps (rounds k f.whole)
-  so_far = by f.cut
-    where
-      by : (take f.part (round k) ≡ []) ⊎ (most ≤ length l.steps) ⊎ (HasRunning l.machine → ⊥) → l.steps ≡ entered_of old.opening old.steps (rounds k f.whole)
-      by (inl none) = f.steps ∙ ap (λ xs. entered_of old.opening old.steps (rounds k f.whole ++ xs)) none ∙ ap (entered_of old.opening old.steps) (append-nil (rounds k f.whole))
-      by (inr (inl full)) = absurd (omega (arith, full, room))
-      by (inr (inr none)) = absurd (none runs)
-
-  part_is : take r.part (round l.machine.config.k) ≡ take r.part (round k)
-  part_is = ap (λ n. take r.part (round n)) size
-
-  after : new.steps ≡ entered_of old.opening old.steps (rounds k f.whole ++ take r.part (round k))
-  after =
-      r.steps
-      ∙ ap (λ m. entered_of m l.steps (take r.part (round l.machine.config.k))) opens
-      ∙ ap (λ xs. entered_of old.opening xs (take r.part (round l.machine.config.k))) so_far
-      ∙ ap (entered_of old.opening (entered_of old.opening old.steps (rounds k f.whole))) part_is
-      ∙ sym (asked_append old.opening old.steps (rounds k f.whole) (take r.part (round k)))
-
-  pub following_more : IsFollowing most old new
-  following_more = by r.whole
-    where
-      by : (take r.part (round l.machine.config.k) ≡ round l.machine.config.k) ⊎ (most ≤ length new.steps) ⊎ (HasRunning new.machine → ⊥) → IsFollowing most old new
-      by (inl all) = record {
-        whole = suc f.whole;
-        part = 0;
-        steps =
-            after
-            ∙ ap (λ xs. entered_of old.opening old.steps (rounds k f.whole ++ xs)) (sym part_is ∙ all ∙ ap round size)
-            ∙ ap (entered_of old.opening old.steps) (sym (append-nil (rounds k f.whole ++ round k)));
-        cut = inl refl;
-      }
-      by (inr ends) = record { whole = f.whole; part = r.part; steps = after; cut = inr ends }
+  -- where the part is whole there is a round more
+  pub round_more : take part (round k) ≡ round k → new ≡ entered_of opening old (rounds k (suc whole))
+  round_more all = rounds_more ∙ ap (λ xs. entered_of opening old (rounds k whole ++ xs)) all

@@ -1,9 +1,12 @@
-pub mod Schedule
+pub mod Own
+pub mod Statuses
 pub mod Asking
 pub mod Progress
+pub mod Ending
 pub mod RoundEnds
+pub mod Following
+pub mod Recorded
 pub mod Quiet
 pub mod Rows
 pub mod Skipping
-pub mod Resting
 pub mod OneLog

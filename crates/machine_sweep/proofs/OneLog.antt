@@ -1,80 +1,33 @@
--- The steps that a run enters are a function of the machine's size, the image and the most steps that it enters.
-use Rattle.std.proofs.Common.{◌≡◌, ℕ, zero, suc, ◌+◌, ◌-◌, ◌^◌, ◌<◌, ◌≤◌, Bool, true, false, ◌⊎◌, inl, inr, List, [], ◌∷◌, ◌++◌, length, take, drop, map, refl, sym, ap, ◌∙◌, subst, arith, append_assoc}
-use Rattle.std.specs.Prelude.{if◌then◌else◌}
-use Rattle.std.specs.List.{range_with_len}
+-- The steps that a run enters are a function of the machine's size, the image and the most steps that its sweep enters.
+use Rattle.std.proofs.Common.{◌≡◌, ℕ, zero, suc, ◌+◌, ◌-◌, ◌^◌, ◌<◌, ◌≤◌, ◌⊎◌, inl, inr, List, [], ◌∷◌, ◌++◌, length, take, drop, map, refl, sym, ap, ap₂, ◌∙◌, subst, arith, append_assoc}
 use Rattle.std.proofs.lemmas.Bool.{cases_lt, cases_eq}
-use Rattle.std.proofs.lemmas.List.{append-nil, length-append, take-append-drop}
+use Rattle.std.proofs.lemmas.List.{append-nil, length-append, take-append-drop, take_at}
 use Rattle.flat_machine.specs.declared.config.Config.{Config}
-use Rattle.flat_machine.specs.State.{FlatState, is_running}
+use Rattle.flat_machine.specs.declared.event.Event.{Event}
+use Rattle.flat_machine.specs.State.{FlatState}
 use Rattle.elf_image.specs.Images.{ImageContents}
-use Rattle.abstract_machine.specs.Machine as theory
+use Rattle.elf_image.specs.Openings.{opening as flat_opening}
+use Rattle.abstract_machine.specs.Draining as draining
 use Rattle.steps.specs.declared.step.Step.{Step}
-use Rattle.steps.specs.declared.step.Step.TheVariants as step
-use Rattle.steps.specs.declared.step.Outcome.TheVariants.{Stalled}
-use Rattle.steps.specs.Answers.{is_stalled}
-use Rattle.machine_program.specs.Processors.{Told}
+use Rattle.machine_program.specs.Processors.{sizes_of, program}
 use Rattle.machine_program.specs.Steps.{machine_of_parts, outcome_of}
+use Rattle.machine_steps.specs.Draining.{drain_bound, drain_steps, step_of}
 use Rattle.machine_steps.specs.Machines.{MachineLists, machine_of}
-use Rattle.machine_steps.specs.Runs.{all_after}
+use Rattle.machine_steps.specs.Runs.{IsReplay, all_after, events_of, answer_after}
+use Rattle.machine_steps.proofs.Stalling.{retell}
 use Rattle.machine_lock.specs.Logs.{Log, entered}
-use Rattle.sweep.specs.Rounds.{downs, on_each_wire, round, ups}
-use Rattle.machine_sweep.specs.Standing.{HasRunning, processor_of}
-use Rattle.machine_sweep.specs.Sweeps.{answer_after, entered_of, rounds, IsWholeRun}
-use Rattle.machine_sweep.proofs.Asking.{asked_append, longer}
-use Rattle.machine_sweep.proofs.Resting.{IsOwn, each_stalls, not_running, steady_after}
+use Rattle.sweep.specs.Rounds.{round}
+use Rattle.machine_sweep.specs.Sweeps.{EndsAt, IsFault, IsOver, IsWholeRun, RunsAfter, entered_of, rounds, status_after}
+use Rattle.machine_sweep.specs.declared.sweeping.SweepEnd.{SweepEnd}
+use Rattle.machine_sweep.specs.declared.sweeping.SweepEnd.TheVariants.{Over, Budget}
+use Rattle.machine_sweep.proofs.Asking.{asked_append}
+use Rattle.machine_sweep.proofs.Own.{AreOwn, own_asked, own_behind, own_entered}
 
--- ---- a sweep asks for its own steps
-
-abbrev AreOwn : List Step → Type 0
-AreOwn [] = Unit {0}
-AreOwn (s ∷ ss) = IsOwn s × AreOwn ss
-
-own_both : (xs ys : List Step) → AreOwn xs → AreOwn ys → AreOwn (xs ++ ys)
-own_both [] ys a b = b
-own_both (x ∷ xs) ys a b = (a.0, own_both xs ys a.1 b)
-
-own_behind : (xs ys : List Step) → AreOwn (xs ++ ys) → AreOwn ys
-own_behind [] ys a = a
-own_behind (x ∷ xs) ys a = own_behind xs ys a.1
-
-own_front : (n : ℕ) (xs : List Step) → AreOwn xs → AreOwn (take n xs)
-own_front zero xs a = tt
-own_front (suc n) [] a = tt
-own_front (suc n) (x ∷ xs) a = (a.0, own_front n xs a.1)
-
-own_each : (f : ℕ → Step) → ((w : ℕ) → IsOwn (f w)) → (ws : List ℕ) → AreOwn (map f ws)
-own_each f own [] = tt
-own_each f own (w ∷ ws) = (own w, own_each f own ws)
-
-own_ups : (k stages : ℕ) → AreOwn (ups k stages)
-own_ups k zero = tt
-own_ups k (suc stage) = own_both (on_each_wire k (step.Up stage)) (ups k stage) (own_each (step.Up stage) (λ w. tt) (range_with_len 0 (2 ^ k))) (own_ups k stage)
-
-own_downs : (k stages : ℕ) → AreOwn (downs k stages)
-own_downs k zero = tt
-own_downs k (suc stage) = own_both (downs k stage) (on_each_wire k (step.Down stage)) (own_downs k stage) (own_each (step.Down stage) (λ w. tt) (range_with_len 0 (2 ^ k)))
-
-own_round : (k : ℕ) → AreOwn (round k)
-unfolding round
-own_round k =
-    own_both (on_each_wire k step.Turn ++ ups k k ++ on_each_wire k step.Serve) (downs k k)
-    (own_both (on_each_wire k step.Turn ++ ups k k) (on_each_wire k step.Serve)
-    (own_both (on_each_wire k step.Turn) (ups k k) (own_each step.Turn (λ w. tt) (range_with_len 0 (2 ^ k))) (own_ups k k))
-    (own_each step.Serve (λ w. tt) (range_with_len 0 (2 ^ k))))
-    (own_downs k k)
-
-own_rounds : (k count : ℕ) → AreOwn (rounds k count)
-own_rounds k zero = tt
-own_rounds k (suc n) = own_both (rounds k n) (round k) (own_rounds k n) (own_round k)
+-- ---- of two sweeps one goes on where the other stops
 
 -- what is asked for in so many rounds and a part of one
 abbrev asked : (k whole part : ℕ) → List Step
 asked k whole part = rounds k whole ++ take part (round k)
-
-own_asked : (k whole part : ℕ) → AreOwn (asked k whole part)
-own_asked k whole part = own_both (rounds k whole) (take part (round k)) (own_rounds k whole) (own_front part (round k) (own_round k))
-
--- ---- of two sweeps one goes on where the other stops
 
 abbrev GoesOnFrom : List Step → List Step → Type 0
 GoesOnFrom xs ys = (rest : List Step) × (ys ≡ xs ++ rest)
@@ -120,82 +73,131 @@ either_goes_on k w p w' p' = by (cases_lt w w') (cases_eq w w') (cases_lt p p')
     by (inr more) (inl same) (inl less) = inl (one_goes_on k w p w' p' (inr (same, omega (arith, less))))
     by (inr more) (inl same) (inr less) = inr (one_goes_on k w' p' w p (inr (sym same, less)))
 
--- ---- where a run has ended, nothing more is entered
+-- what is no longer than before is what was before
+no_longer : (m : MachineLists) (done asked : List Step) → AreOwn asked → length (entered_of m done asked) ≤ length done → entered_of m done asked ≡ done
+no_longer m done asked own short = by (own_entered m done asked own)
+  where
+    by : (rest : List Step) × AreOwn rest × (entered_of m done asked ≡ done ++ rest) → entered_of m done asked ≡ done
+    by ([], o, is) = is ∙ append-nil done
+    by (x ∷ rest, o, is) = absurd (let count = ap length is in let more = length-append done (x ∷ rest) in omega (arith, count, more, short))
 
-module _ (m : MachineLists) (done : List Step) where
-  none_enters : (asked : List Step) → AreOwn asked → ((s : Step) → IsOwn s → answer_after m done s ≡ Stalled) → entered_of m done asked ≡ done
-  unfolding entered_of
-  none_enters [] own stalls = refl
-  none_enters (s ∷ ss) own stalls = ap (λ xs. entered_of m xs ss) (ap (entered done s) (stalls s own.0)) ∙ none_enters ss own.1 stalls
+-- ---- machines that are one
 
-  no_longer : (asked : List Step) → length (entered_of m done asked) ≤ length done → entered_of m done asked ≡ done
+module _ (m n : MachineLists) (config : m.config ≡ n.config) (code : m.code ≡ n.code) (machine : machine_of m (λ p. []) ≡ machine_of n (λ p. [])) where
+  same_answer : (done : List Step) (s : Step) → answer_after m done s ≡ answer_after n done s
+  same_answer done s i = outcome_of (config i) (code i) (all_after (config i) (code i) (machine i) done) s
+
+  same_entered : (done asked : List Step) → entered_of m done asked ≡ entered_of n done asked
   unfolding entered_of
-  no_longer [] short = refl
-  no_longer (s ∷ ss) short = by (is_stalled (answer_after m done s)) short (λ less. no_longer ss less)
-    where
-      by : (b : Bool) → length (entered_of m (if b then done else done ++ s ∷ []) ss) ≤ length done → (length (entered_of m done ss) ≤ length done → entered_of m done ss ≡ done) → entered_of m (if b then done else done ++ s ∷ []) ss ≡ done
-      by true less later = later less
-      by false less later =
-          let one : length (done ++ s ∷ []) ≡ length done + 1 = length-append done (s ∷ []) in
-          let more = longer m (done ++ s ∷ []) ss in absurd (omega (arith, one, more, less))
+  same_entered done [] = refl
+  same_entered done (s ∷ ss) = ap (λ o. entered_of m (entered done s o) ss) (same_answer done s) ∙ same_entered (entered done s (answer_after n done s)) ss
+
+  same_status : (done : List Step) (p : ℕ) → status_after m done p ≡ status_after n done p
+  same_status done p i = ((all_after (config i) (code i) (machine i) done).core p).state.status
+
+  runs_there : (done : List Step) → RunsAfter n done → RunsAfter m done
+  runs_there done (p, within, runs) = (p, subst (λ (c : Config). p < 2 ^ c.k) (sym config) within, same_status done p ∙ runs)
+
+  over_there : (start : ℕ) (done : List Step) → IsOver m start done → IsOver n start done
+  over_there start done (inl f) = inl (record { before = f.before; last = f.last; is = f.is; behind = f.behind; fault = subst IsFault (same_answer f.before f.last) f.fault })
+  over_there start done (inr none) = inr (λ runs. none (runs_there done runs))
+
+-- a machine is what its steps left, whatever its processors have shown
+told_nothing : (m : MachineLists) (shown : ℕ → List Event) → retell (λ p. []) (machine_of m shown) ≡ machine_of m (λ p. [])
+unfolding machine_of_parts
+told_nothing m shown = refl
+
+-- a drain takes the same steps on machines that are one
+same_drain : (m n : MachineLists) → m.config ≡ n.config → m.code ≡ n.code → machine_of m (λ p. []) ≡ machine_of n (λ p. []) → drain_steps m ≡ drain_steps n
+same_drain m n config code machine i = map step_of (draining.drain_steps (sizes_of (config i)) (program (config i) (code i)) (drain_bound (config i)) (machine i))
 
 -- ---- two runs
 
--- machines that are one enter the same steps
-same_entered : (m n : MachineLists) → m.config ≡ n.config → m.code ≡ n.code → machine_of m (λ p. []) ≡ machine_of n (λ p. []) → (done asked : List Step) → entered_of m done asked ≡ entered_of n done asked
-unfolding entered_of
-same_entered m n config code machine done [] = refl
-same_entered m n config code machine done (s ∷ ss) =
-    let answer : answer_after m done s ≡ answer_after n done s = (λ i. outcome_of (config i) (code i) (all_after (config i) (code i) (machine i) done) s) in
-    ap (λ o. entered_of m (entered done s o) ss) answer ∙ same_entered m n config code machine (entered done s (answer_after n done s)) ss
+module _ (c : Config) (image : ImageContents) (most : ℕ) (end other : SweepEnd) (a b : Log) (one : IsWholeRun c image most end a) (two : IsWholeRun c image most other b) where
+  abbrev first : Log
+  first = one.swept.middle
 
-module _ (c : Config) (image : ImageContents) (most : ℕ) (a b : Log) (one : IsWholeRun c image most a) (two : IsWholeRun c image most b) where
-  -- where no processor runs, what a processor does in the definition's machine
-  rests_there : (HasRunning a.machine → ⊥) → (p : ℕ) → p < 2 ^ a.opening.config.k → is_running ((all_after a.opening.config a.opening.code (machine_of a.opening (λ p. [])) a.steps).core p).state.status ≡ false
-  unfolding machine_of_parts
-  rests_there none p within =
-      let rests : is_running (processor_of a.machine p).status ≡ false =
-      not_running (processor_of a.machine p).status (λ runs. none (p, subst (λ (d : Config). p < 2 ^ d.k) (sym one.replay.run.config) within, runs)) in
-      sym (ap (λ (M : theory.Machine Told). is_running (M.core p).state.status) (one.replay.run.after (λ p. []))) ∙ rests
+  abbrev second : Log
+  second = two.swept.middle
 
-  stalls_there : (HasRunning a.machine → ⊥) → (s : Step) → IsOwn s → answer_after a.opening a.steps s ≡ Stalled
-  stalls_there none s own =
-      let M : theory.Machine Told = all_after a.opening.config a.opening.code (machine_of a.opening (λ p. [])) a.steps in
-      let ok = steady_after c image a.opening a.steps one.opens in
-      each_stalls a.opening.config a.opening.code M ok.0 ok.1 (rests_there none) s own
+  config_is : b.opening.config ≡ a.opening.config
+  config_is = two.opens.config ∙ sym one.opens.config
 
   code_is : b.opening.code ≡ a.opening.code
   code_is = ap (λ (s : FlatState). s.code) two.opens.flat ∙ sym (ap (λ (s : FlatState). s.code) one.opens.flat)
 
-  -- the asked steps of a run, with the number of stages of the size
-  by_size : (l : Log) (w : IsWholeRun c image most l) → l.steps ≡ entered_of l.opening [] (asked c.k w.followed.whole w.followed.part)
-  by_size l w = w.followed.steps ∙ ap (λ (d : Config). entered_of l.opening [] (asked d.k w.followed.whole w.followed.part)) w.opens.config
+  machine_is : machine_of b.opening (λ p. []) ≡ machine_of a.opening (λ p. [])
+  machine_is = two.opens.machine (λ p. []) ∙ sym (one.opens.machine (λ p. []))
 
-  same_behind : GoesOnFrom (asked c.k one.followed.whole one.followed.part) (asked c.k two.followed.whole two.followed.part) → b.steps ≡ a.steps
-  same_behind (rest, is) = there ∙ ends one.ended
+  -- the asked steps of a run, with the number of stages of the size
+  by_size : (l : Log) (e : SweepEnd) (w : IsWholeRun c image most e l) → w.swept.middle.steps ≡ entered_of l.opening [] (asked c.k w.swept.followed.whole w.swept.followed.part)
+  by_size l e w = w.swept.followed.steps ∙ ap (λ (d : Config). entered_of l.opening [] (asked d.k w.swept.followed.whole w.swept.followed.part)) w.opens.config
+
+  same_behind : GoesOnFrom (asked c.k one.swept.followed.whole one.swept.followed.part) (asked c.k two.swept.followed.whole two.swept.followed.part) → second.steps ≡ first.steps
+  same_behind (rest, is) = there ∙ no_longer a.opening first.steps rest own (subst (λ n. n ≤ length first.steps) (ap length there) (short end one.swept.followed.ends (cases_lt (length first.steps) (length second.steps))))
     where
-      there : b.steps ≡ entered_of a.opening a.steps rest
+      there : second.steps ≡ entered_of a.opening first.steps rest
       there =
-          by_size b two
-          ∙ same_entered b.opening a.opening (two.opens.config ∙ sym one.opens.config) code_is (two.opens.machine (λ p. []) ∙ sym (one.opens.machine (λ p. []))) [] (asked c.k two.followed.whole two.followed.part)
+          by_size b other two
+          ∙ same_entered b.opening a.opening config_is code_is machine_is [] (asked c.k two.swept.followed.whole two.swept.followed.part)
           ∙ ap (entered_of a.opening []) is
-          ∙ asked_append a.opening [] (asked c.k one.followed.whole one.followed.part) rest
-          ∙ ap (λ done. entered_of a.opening done rest) (sym (by_size a one))
+          ∙ asked_append a.opening [] (asked c.k one.swept.followed.whole one.swept.followed.part) rest
+          ∙ ap (λ done. entered_of a.opening done rest) (sym (by_size a end one))
 
       own : AreOwn rest
-      own = own_behind (asked c.k one.followed.whole one.followed.part) rest (subst AreOwn is (own_asked c.k two.followed.whole two.followed.part))
+      own = own_behind (asked c.k one.swept.followed.whole one.swept.followed.part) rest (subst AreOwn is (own_asked c.k two.swept.followed.whole two.swept.followed.part))
 
-      ends : (HasRunning a.machine → ⊥) ⊎ (most ≤ length a.steps) → entered_of a.opening a.steps rest ≡ a.steps
-      ends (inl none) = none_enters a.opening a.steps rest own (stalls_there none)
-      ends (inr full) =
-          let few = two.few in
-          let short : length (entered_of a.opening a.steps rest) ≤ most = subst (λ n. n ≤ most) (ap length there) few in
-          no_longer a.opening a.steps rest (omega (arith, short, full))
+      -- what the first run entered is the beginning of what the second did
+      begins : take (length first.steps) second.steps ≡ first.steps
+      begins =
+          let e = own_entered a.opening first.steps rest own in
+          ap (take (length first.steps)) (there ∙ e.2) ∙ take_at first.steps e.0 (length first.steps) refl
+
+      short : (e : SweepEnd) → EndsAt a.opening 0 (0 + most) first.steps e → (length first.steps < length second.steps) ⊎ (length second.steps ≤ length first.steps) → length second.steps ≤ length first.steps
+      short e ends (inr less) = less
+      short Over ends (inl longer) =
+          absurd
+          (two.swept.followed.first (length first.steps) (omega arith) longer
+          (over_there a.opening b.opening (sym config_is) (sym code_is) (sym machine_is) 0 (take (length first.steps) second.steps) (subst (IsOver a.opening 0) (sym begins) ends)))
+      short Budget ends (inl longer) = (let few = two.swept.followed.few in let used = ends.0 in omega (arith, few, used))
+
+-- where two runs followed the same steps, they were drained of the same
+module _ (c : Config) (image : ImageContents) (most : ℕ) (end other : SweepEnd) (a b : Log) (one : IsWholeRun c image most end a) (two : IsWholeRun c image most other b) (same : one.swept.middle.steps ≡ two.swept.middle.steps) where
+  -- the machine where the sweep of a run ended
+  machine_there : (l : Log) (e : SweepEnd) (w : IsWholeRun c image most e l) →
+      machine_of w.swept.middle.machine (λ p. []) ≡ retell (λ p. []) (all_after l.opening.config l.opening.code (machine_of l.opening (λ p. [])) w.swept.middle.steps)
+  machine_there l e w =
+      let f = w.swept.followed in
+      let r = subst (λ m. IsReplay m w.swept.middle.steps w.swept.middle.machine) f.opening f.replay in
+      sym (told_nothing w.swept.middle.machine (events_of (all_after l.opening.config l.opening.code (machine_of l.opening (λ p. [])) w.swept.middle.steps))) ∙ ap (retell (λ p. [])) (r.run.after (λ p. []))
+
+  config_there : (l : Log) (e : SweepEnd) (w : IsWholeRun c image most e l) → w.swept.middle.machine.config ≡ c
+  config_there l e w = w.swept.followed.replay.run.config ∙ ap (λ (m : MachineLists). m.config) w.swept.followed.opening ∙ w.opens.config
+
+  code_there : (l : Log) (e : SweepEnd) (w : IsWholeRun c image most e l) → w.swept.middle.machine.code ≡ (flat_opening c image.layout).code
+  code_there l e w = w.swept.followed.replay.run.code ∙ ap (λ (m : MachineLists). m.code) w.swept.followed.opening ∙ ap (λ (s : FlatState). s.code) w.opens.flat
+
+  drained_alike : drain_steps one.swept.middle.machine ≡ drain_steps two.swept.middle.machine
+  drained_alike =
+      same_drain one.swept.middle.machine two.swept.middle.machine (config_there a end one ∙ sym (config_there b other two)) (code_there a end one ∙ sym (code_there b other two))
+      (machine_there a end one
+      ∙ ap (retell (λ p. []))
+      (ap (all_after a.opening.config a.opening.code (machine_of a.opening (λ p. []))) same ∙ sym (alike_opened (two.swept.middle.steps)))
+      ∙ sym (machine_there b other two))
+    where
+      alike_opened : (steps : List Step) → all_after b.opening.config b.opening.code (machine_of b.opening (λ p. [])) steps ≡ all_after a.opening.config a.opening.code (machine_of a.opening (λ p. [])) steps
+      alike_opened steps i =
+          all_after (config_is c image most end other a b one two i) (code_is c image most end other a b one two i) (machine_is c image most end other a b one two i) steps
+
+  pub logs_alike : a.steps ≡ b.steps
+  logs_alike = one.swept.steps ∙ ap₂ (λ (xs ys : List Step). xs ++ ys) same drained_alike ∙ sym two.swept.steps
 
 -- two runs of one image enter the same steps
-pub one_log : (c : Config) (image : ImageContents) (most : ℕ) (a b : Log) → IsWholeRun c image most a → IsWholeRun c image most b → a.steps ≡ b.steps
-one_log c image most a b one two = by (either_goes_on c.k one.followed.whole one.followed.part two.followed.whole two.followed.part)
+pub one_log : (c : Config) (image : ImageContents) (most : ℕ) (end other : SweepEnd) (a b : Log) → IsWholeRun c image most end a → IsWholeRun c image most other b → a.steps ≡ b.steps
+one_log c image most end other a b one two =
+    logs_alike c image most end other a b one two (by (either_goes_on c.k one.swept.followed.whole one.swept.followed.part two.swept.followed.whole two.swept.followed.part))
   where
-    by : GoesOnFrom (asked c.k one.followed.whole one.followed.part) (asked c.k two.followed.whole two.followed.part) ⊎ GoesOnFrom (asked c.k two.followed.whole two.followed.part) (asked c.k one.followed.whole one.followed.part) → a.steps ≡ b.steps
-    by (inl more) = sym (same_behind c image most a b one two more)
-    by (inr more) = same_behind c image most b a two one more
+    by : GoesOnFrom (asked c.k one.swept.followed.whole one.swept.followed.part) (asked c.k two.swept.followed.whole two.swept.followed.part) ⊎
+        GoesOnFrom (asked c.k two.swept.followed.whole two.swept.followed.part) (asked c.k one.swept.followed.whole one.swept.followed.part) → one.swept.middle.steps ≡ two.swept.middle.steps
+    by (inl more) = sym (same_behind c image most end other a b one two more)
+    by (inr more) = same_behind c image most other end b a two one more

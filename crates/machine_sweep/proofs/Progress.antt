@@ -9,12 +9,9 @@ use Rattle.flat_machine.specs.State.{is_running}
 use Rattle.flat_machine.specs.Turns.{Turn, Retires, Reaches, Stops}
 use Rattle.messages.specs.declared.moves.UpMove.TheVariants as up
 use Rattle.messages.specs.declared.moves.DownMove.TheVariants as down
-use Rattle.messages.specs.Network.{Sizes, Net, wires}
 use Rattle.messages.specs.Moves.{moved_up, moved_down, up_from, down_from}
 use Rattle.abstract_machine.specs.Machine as theory
 use Rattle.abstract_machine.specs.Machine.{stalled, begin, turned, went_up, went_down, serve_from}
-use Rattle.abstract_machine.specs.Draining.{least, greatest, is_any, some_wire, first_wire, or_else, down_step, up_step}
-use Rattle.abstract_machine.specs.Draining as draining
 use Rattle.steps.specs.declared.step.Step.{Step}
 use Rattle.steps.specs.declared.step.Step.TheVariants as step
 use Rattle.steps.specs.declared.step.Outcome.{Outcome}
@@ -22,10 +19,11 @@ use Rattle.steps.specs.declared.step.Outcome.TheVariants.{Stalled}
 use Rattle.machine_program.specs.Processors.{Told, sizes_of, kind_of, kind_of_turn, next, program}
 use Rattle.machine_program.specs.Steps.{answer_of, told_of_turn, outcome_of, machine_of_parts}
 use Rattle.machine_steps.specs.Machines.{MachineLists, machine_of, IsMachine, IsIdle}
-use Rattle.machine_steps.specs.Draining.{step_of, drain_step}
-use Rattle.machine_steps.proofs.Drained.{goes_on, none_idle, named_step}
+use Rattle.machine_steps.specs.Draining.{drain_step}
+use Rattle.machine_steps.proofs.Drained.{goes_on, none_idle}
 use Rattle.sweep.specs.Rounds.{on_each_wire, ups, downs, round}
 use Rattle.machine_sweep.specs.Standing.{HasRunning}
+use Rattle.machine_sweep.proofs.Own.{IsOwn, drain_is_own}
 
 -- ---- the steps of a round
 
@@ -87,48 +85,6 @@ in_round k (step.Serve m) within =
 in_round k (step.Down s w) within = behind (turns_and_ups k ++ on_each_wire k step.Serve) (downs k k) (step.Down s w) (in_downs k k s w within.0 within.1)
 in_round k (step.Poke q) within = absurd within
 
--- ---- a drain takes no poke
-
-abbrev IsNoPoke : Step → Type 0
-IsNoPoke (step.Poke q) = ⊥
-IsNoPoke (step.Turn p) = Unit {0}
-IsNoPoke (step.Up s w) = Unit {0}
-IsNoPoke (step.Serve m) = Unit {0}
-IsNoPoke (step.Down s w) = Unit {0}
-
-abbrev NamesNoPoke : Option theory.Step → Type 0
-NamesNoPoke None = Unit {0}
-NamesNoPoke (Some st) = IsNoPoke (step_of st)
-
-either : (a b : Option theory.Step) → NamesNoPoke a → NamesNoPoke b → NamesNoPoke (or_else a b)
-either (Some a) b h k = h
-either None b h k = k
-
-of_wire : (o : Option ℕ) (go : ℕ → theory.Step) → ((w : ℕ) → IsNoPoke (step_of (go w))) → NamesNoPoke (elim o [ Some w ↦ Some (go w) | None ↦ None ])
-of_wire None go h = tt
-of_wire (Some w) go h = h w
-
-of_stage : (o : Option ℕ) (f : ℕ → Option theory.Step) → ((s : ℕ) → NamesNoPoke (f s)) → NamesNoPoke (elim o [ Some s ↦ f s | None ↦ None ])
-of_stage None f h = tt
-of_stage (Some s) f h = h s
-
-no_poke : (z : Sizes) (M : theory.Machine Told) → NamesNoPoke (draining.drain_step z M)
-no_poke z M =
-    let net : Net = M.net in
-    either (first_wire (net.replies 0) (wires z) theory.Turn) (or_else (down_step z net) (or_else (first_wire (net.requests z.k) (wires z) theory.Serve) (up_step z net)))
-    (of_wire (least (λ w. is_any (net.replies 0 w)) (wires z)) theory.Turn (λ w. tt))
-    (either (down_step z net) (or_else (first_wire (net.requests z.k) (wires z) theory.Serve) (up_step z net))
-    (of_stage (least (λ s. some_wire (net.replies (suc s)) (wires z)) z.k) (λ s. first_wire (net.replies (suc s)) (wires z) (theory.Down s)) (λ s. of_wire (least (λ w. is_any (net.replies (suc s) w)) (wires z)) (theory.Down s) (λ w. tt)))
-    (either (first_wire (net.requests z.k) (wires z) theory.Serve) (up_step z net)
-    (of_wire (least (λ w. is_any (net.requests z.k w)) (wires z)) theory.Serve (λ w. tt))
-    (of_stage (greatest (λ s. some_wire (net.requests s) (wires z)) z.k) (λ s. first_wire (net.requests s) (wires z) (theory.Up s)) (λ s. of_wire (least (λ w. is_any (net.requests s w)) (wires z)) (theory.Up s) (λ w. tt)))))
-
-drain_no_poke : (m : MachineLists) (s : Step) → drain_step m ≡ Some s → IsNoPoke s
-drain_no_poke m s e =
-    let M : theory.Machine Told = machine_of m (λ p. []) in
-    let n = named_step (draining.drain_step (sizes_of m.config) M) s e in
-    subst IsNoPoke n.2 (subst NamesNoPoke n.1 (no_poke (sizes_of m.config) M))
-
 -- ---- what does not stall is of the round
 
 module _ (c : Config) (code : List ℕ) (M : theory.Machine Told) where
@@ -154,7 +110,7 @@ module _ (c : Config) (code : List ℕ) (M : theory.Machine Told) where
   stage_down s w true false e moves = absurd (moves refl)
   stage_down s w false false e moves = absurd (moves refl)
 
-  of_round : (s : Step) → IsNoPoke s → (outcome_of c code M s ≡ Stalled → ⊥) → IsOfRound c.k s
+  pub of_round : (s : Step) → IsOwn s → (outcome_of c code M s ≡ Stalled → ⊥) → IsOfRound c.k s
   unfolding outcome_of moved_up moved_down
   of_round (step.Turn p) plain moves = inside p (2 ^ c.k) (turned (program c code) M p (M.is_open p)) (nat_lt p (2 ^ c.k)) refl moves
   of_round (step.Up s w) plain moves = (
@@ -198,7 +154,7 @@ module _ (m : MachineLists) (is : IsMachine m) (running : HasRunning m) where
   by_drain : (o : Option Step) → drain_step m ≡ o → (s : Step) × Goes s
   by_drain (Some s) e =
       let moves = (goes_on m is s e).moves in
-      (s, (of_round m.config m.code (machine_of m (λ p. [])) s (drain_no_poke m s e) moves, moves))
+      (s, (of_round m.config m.code (machine_of m (λ p. [])) s (drain_is_own m s e) moves, moves))
   by_drain None e = (step.Turn running.0, (running.1, idle_moves (none_idle m is e)))
 
   pub some_step_moves : (s : Step) × Goes s

@@ -1,19 +1,20 @@
--- What a machine's log enters by the sweep, and where a run ends.
-use Rattle.std.specs.Prelude.{◌≡◌, ◌⊎◌, ℕ, zero, suc, ◌+◌, ◌≤◌, ◌<◌, Bool, true, min, List, [], ◌∷◌, ◌++◌, length, take}
+-- What a machine's log enters by the sweep, and where a sweep ends.
+use Rattle.std.specs.Prelude.{◌≡◌, ◌⊎◌, ℕ, zero, suc, ◌+◌, ◌^◌, ◌≤◌, ◌<◌, Bool, true, false, min, List, [], ◌∷◌, ◌++◌, length, take}
 use Rattle.flat_machine.specs.declared.config.Config.{Config}
+use Rattle.flat_machine.specs.declared.event.Cause.TheVariants as cause
+use Rattle.flat_machine.specs.declared.event.Status.{Status}
+use Rattle.flat_machine.specs.declared.event.Status.TheVariants.{Running}
 use Rattle.elf_image.specs.Images.{ImageContents}
 use Rattle.steps.specs.declared.step.Step.{Step}
 use Rattle.steps.specs.declared.step.Outcome.{Outcome}
-use Rattle.machine_program.specs.Steps.{outcome_of}
-use Rattle.machine_steps.specs.Machines.{MachineLists, machine_of}
-use Rattle.machine_steps.specs.Runs.{all_after, IsOpening, IsReplay}
+use Rattle.steps.specs.declared.step.Outcome.TheVariants as outcome
+use Rattle.machine_steps.specs.Draining.{drain_steps}
+use Rattle.machine_steps.specs.Machines.{MachineLists, machine_of, IsIdle}
+use Rattle.machine_steps.specs.Runs.{all_after, answer_after, IsOpening, IsReplay}
 use Rattle.machine_lock.specs.Logs.{Log, entered}
 use Rattle.sweep.specs.Rounds.{round}
-use Rattle.machine_sweep.specs.Standing.{HasFaulted, HasRunning}
-
--- what a step answers on the machine that these steps leave
-abbrev pub answer_after : (opening : MachineLists) → (done : List Step) → Step → Outcome
-answer_after m done s = outcome_of m.config m.code (all_after m.config m.code (machine_of m (λ p. [])) done) s
+use Rattle.machine_sweep.specs.declared.sweeping.SweepEnd.{SweepEnd}
+use Rattle.machine_sweep.specs.declared.sweeping.SweepEnd.TheVariants.{Over, Budget}
 
 -- what is entered behind these steps of the ones that are asked for, one after another: each that does not stall where it is
 -- asked for
@@ -26,49 +27,97 @@ abbrev pub rounds : (k count : ℕ) → List Step
 rounds k zero = []
 rounds k (suc n) = rounds k n ++ round k
 
--- The log has followed the sweep, from the beginning of a round: it was asked for whole rounds, and for a part of one.
-pub record HasFollowed (old new : Log) : Type 0 where
-  pub whole : ℕ
-  pub part : ℕ
-  pub steps : new.steps ≡ entered_of old.opening old.steps (rounds old.machine.config.k whole ++ take part (round old.machine.config.k))
-
--- the most steps that a run enters
+-- the most steps that a sweep enters
 abbrev pub most_of : (budget : ℕ) → ℕ
 most_of budget = min budget 4000000
 
--- A run has an end: no processor runs; or a fault has stopped one, and as many steps are entered as may be.
-abbrev pub HasEnded : (most : ℕ) → Log → Type 0
-HasEnded most log = (HasRunning log.machine → ⊥) ⊎ (HasFaulted log.machine × (most ≤ length log.steps))
+-- ---- where a sweep ends
 
--- A run has none: as many steps are entered as may be, a processor runs, and no fault has stopped one.
-pub record IsEndless (most : ℕ) (log : Log) : Type 0 where
-  pub used : most ≤ length log.steps
-  pub running : HasRunning log.machine
-  pub sound : HasFaulted log.machine → ⊥
+-- what processor p is doing on the machine that these steps leave
+abbrev pub status_after : (opening : MachineLists) → (done : List Step) → (p : ℕ) → Status
+status_after m done p = ((all_after m.config m.code (machine_of m (λ q. [])) done).core p).state.status
 
--- ---- a round
+-- after these steps a processor runs
+abbrev pub RunsAfter : (opening : MachineLists) → (done : List Step) → Type 0
+RunsAfter m done = (p : ℕ) × (p < 2 ^ m.config.k) × (status_after m done p ≡ Running)
 
--- A step was asked for. Where it has stopped a processor, it was entered.
-pub record WasAsked (old : Log) (s : Step) (has_stopped : Bool) (new : Log) : Type 0 where
-  pub steps : new.steps ≡ entered_of old.opening old.steps (s ∷ [])
-  pub stopped : has_stopped ≡ true → length old.steps < length new.steps
-  pub few : length new.steps ≤ length old.steps + 1
+-- in the step a processor stopped
+abbrev pub IsStop : Outcome → Type 0
+IsStop (outcome.Stopped cause) = Unit {0}
+IsStop _ = ⊥
 
--- A round was asked for, or a part of one, behind which there is no room, or no processor runs. Some step was entered.
-pub record WasAskedRound (most : ℕ) (old new : Log) : Type 0 where
+-- in the step a fault stopped a processor
+abbrev pub IsFault : Outcome → Type 0
+IsFault (outcome.Stopped (cause.Fault fault)) = Unit {0}
+IsFault _ = ⊥
+
+-- The last step, which stands behind so many others at least, is one in which a fault stopped a processor.
+pub record EndsInFault (opening : MachineLists) (start : ℕ) (steps : List Step) : Type 0 where
+  pub before : List Step
+  pub last : Step
+  pub is : steps ≡ before ++ last ∷ []
+  pub behind : start ≤ length before
+  pub fault : IsFault (answer_after opening before last)
+
+-- A sweep that began behind so many steps is over: in its last step a fault stopped a processor, or no processor runs.
+abbrev pub IsOver : (opening : MachineLists) → (start : ℕ) → (steps : List Step) → Type 0
+IsOver m start steps = EndsInFault m start steps ⊎ (RunsAfter m steps → ⊥)
+
+-- where a sweep has ended that leaves so many steps at most
+abbrev pub EndsAt : (opening : MachineLists) → (start limit : ℕ) → (steps : List Step) → SweepEnd → Type 0
+EndsAt m start limit steps Over = IsOver m start steps
+EndsAt m start limit steps Budget = (length steps ≡ limit) × (IsOver m start steps → ⊥)
+
+-- A log has followed the sweep from the beginning of a round, until a fault stopped a processor, none ran, or it had so many
+-- steps.
+pub record HasFollowed (limit : ℕ) (old : Log) (end : SweepEnd) (new : Log) : Type 0 where
+  pub opening : new.opening ≡ old.opening
+  pub replay : IsReplay new.opening new.steps new.machine
+  -- it was asked for whole rounds, and for a part of one
+  pub whole : ℕ
   pub part : ℕ
-  pub steps : new.steps ≡ entered_of old.opening old.steps (take part (round old.machine.config.k))
-  pub whole : (take part (round old.machine.config.k) ≡ round old.machine.config.k) ⊎ (most ≤ length new.steps) ⊎ (HasRunning new.machine → ⊥)
-  pub some : length old.steps < length new.steps
-  pub few : length new.steps ≤ most
+  pub steps : new.steps ≡ entered_of old.opening old.steps (rounds old.machine.config.k whole ++ take part (round old.machine.config.k))
+  pub few : length new.steps ≤ limit
+  -- it was not over before
+  pub first : (place : ℕ) → length old.steps ≤ place → place < length new.steps → IsOver old.opening (length old.steps) (take place new.steps) → ⊥
+  pub ends : EndsAt old.opening (length old.steps) limit new.steps end
+
+-- A log has followed the sweep for so many steps at most, and was then drained.
+pub record IsSwept (most : ℕ) (old : Log) (end : SweepEnd) (new : Log) : Type 0 where
+  pub middle : Log
+  pub followed : HasFollowed (length old.steps + most) old end middle
+  pub opening : new.opening ≡ old.opening
+  pub steps : new.steps ≡ middle.steps ++ drain_steps middle.machine
+  pub idle : IsIdle new.machine
 
 -- ---- a whole run
 
--- The log has followed the sweep from its machine's opening on an image, until no processor ran or as many steps were entered as
--- may be.
-pub record IsWholeRun (c : Config) (image : ImageContents) (most : ℕ) (log : Log) : Type 0 where
+-- the log of a machine that has opened, and taken no step
+abbrev pub opened : MachineLists → Log
+opened m = record { opening = m; steps = []; machine = m }
+
+-- The log has followed the sweep from its machine's opening on an image, for so many steps at most, and was drained.
+pub record IsWholeRun (c : Config) (image : ImageContents) (most : ℕ) (end : SweepEnd) (log : Log) : Type 0 where
   pub opens : IsOpening c image log.opening
   pub replay : IsReplay log.opening log.steps log.machine
-  pub followed : HasFollowed (record { opening = log.opening; steps = []; machine = log.opening }) log
-  pub few : length log.steps ≤ most
-  pub ended : (HasRunning log.machine → ⊥) ⊎ (most ≤ length log.steps)
+  pub swept : IsSwept most (opened log.opening) end log
+
+-- ---- a round
+
+-- A round was asked for, or a part of one, behind which there is no room; some step was entered, and the sweep is not over.
+pub record GoesOn (limit : ℕ) (old : Log) (part : ℕ) (new : Log) : Type 0 where
+  pub running : RunsAfter old.opening new.steps
+  pub sound : EndsInFault old.opening (length old.steps) new.steps → ⊥
+  pub whole : (take part (round old.machine.config.k) ≡ round old.machine.config.k) ⊎ (limit ≤ length new.steps)
+  pub some : length old.steps < length new.steps
+
+-- A round was asked for, or a part of one, behind which the sweep is over, or there is no room.
+pub record WasAskedRound (limit : ℕ) (old : Log) (is_over : Bool) (new : Log) : Type 0 where
+  pub opening : new.opening ≡ old.opening
+  pub replay : IsReplay new.opening new.steps new.machine
+  pub part : ℕ
+  pub steps : new.steps ≡ entered_of old.opening old.steps (take part (round old.machine.config.k))
+  pub few : length new.steps ≤ limit
+  pub first : (place : ℕ) → length old.steps ≤ place → place < length new.steps → IsOver old.opening (length old.steps) (take place new.steps) → ⊥
+  pub over : is_over ≡ true → IsOver old.opening (length old.steps) new.steps
+  pub goes_on : is_over ≡ false → GoesOn limit old part new

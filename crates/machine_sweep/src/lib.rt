@@ -1,8 +1,9 @@
-//! A machine that runs by the sweep: the steps that its log enters, and where the run ends.
+//! A machine that runs by the sweep: the steps that its log enters, and where the sweep ends.
 //!
-//! [`follow_sweep`] follows the sweep, round after round, and enters the steps that do something. It does not
-//! ask for steps that find no message ([`Round`]), since they would stall.
-//! [`any_runs`] and [`any_is_faulted`] say what the processors do, on which the end of a run rests.
+//! [`follow_sweep`] follows the sweep, round after round, and enters the steps that do something, until a fault
+//! stops a processor, none runs, or the budget is used up; then it drains the machine. It does not ask for
+//! steps that find no message ([`Round`]), since they would stall.
+//! [`any_runs`] and [`any_is_faulted`] say what the processors do.
 #![tactic(auto)]
 
 mod laws;
@@ -15,4 +16,4 @@ mod tests;
 pub use laws::runs_have_one_log;
 pub use round::Round;
 pub use states::{any_is_faulted, any_runs};
-pub use sweeping::{MOST_STEPS, RunEnd, follow_sweep};
+pub use sweeping::{MOST_STEPS, SweepEnd, follow_sweep};

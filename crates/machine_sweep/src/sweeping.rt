@@ -1,128 +1,130 @@
 //! Running a machine by the sweep.
 
-ghost use Rattle.std.specs.Prelude.{◌≡◌, ◌≢◌, ◌≤◌, ◌<◌, Err, IfOk, IfErr, OnOk, length, true};
-ghost use Rattle.trace_file.specs.Records.{HasRecord};
+ghost use Rattle.std.specs.Prelude.{◌≡◌, ◌≤◌, ◌<◌, ◌+◌, ◌↔◌, ◌⊎◌, Err, IfOk, OnErr, OnOk, length, true, false};
 ghost use Rattle.trace_file.specs.Traces.{HaveRecords};
+ghost use Rattle.machine_steps.specs.Draining.{drain_bound};
 ghost use Rattle.machine_sweep.specs.Standing.{HasRunning};
-ghost use Rattle.machine_sweep.specs.Sweeps.{HasEnded, HasFollowed, IsEndless, WasAsked, WasAskedRound, most_of};
+ghost use Rattle.machine_sweep.specs.Sweeps.{HasFollowed, IsFault, IsStop, IsSwept, WasAskedRound, most_of};
 
 use crate::round::Round;
-use crate::states::{any_is_faulted, any_runs};
-use machine_lock::{LockRefusal, Logged};
-use steps::{Outcome, Step};
-use thiserror::Error;
+use crate::states::any_runs;
+use flat_machine::Cause;
+use machine_lock::{LockRefusal, Logged, Roomy};
+use machine_steps::Machine;
+use steps::Outcome;
 
-/// The most steps that a run enters, whatever its budget. The log of a new machine has room for them.
+/// The most steps that a sweep enters, whatever its budget. The log of a new machine has room for them, and
+/// for those of a drain.
 pub const MOST_STEPS: u32 = 4_000_000;
 
-/// Why a run has no end of its own.
-#[derive(Clone, Copy, Debug, PartialEq, Eq, Drop, Error)]
-pub enum RunEnd {
-    /// As many steps as the budget has are entered, a processor runs, and none is faulted.
-    #[error("budget")]
+/// Where a sweep ended.
+#[derive(Clone, Copy, Debug, PartialEq, Eq, Drop)]
+pub enum SweepEnd {
+    /// A fault stopped a processor, or no processor runs.
+    Over,
+    /// As many steps were entered as the budget has. A processor runs, and no fault has stopped one.
     Budget,
-    /// There was no memory for the log.
-    #[error("memory")]
-    Memory,
 }
 
-/// Runs a machine by the sweep, from the beginning of a round, until none of its processors runs or as
-/// many steps are entered as the budget has, [`MOST_STEPS`] at most. Where a fault stops a processor, the
-/// others go on.
+/// Follows the sweep, from the beginning of a round, until a fault stops a processor, no processor runs, or
+/// as many steps are entered as the budget has, [`MOST_STEPS`] at most. Then takes steps until no reference
+/// is open, as [`Logged::drain`] does. For all these steps it makes room first.
 ///
 /// # Errors
 ///
-/// [`RunEnd::Budget`] where a processor runs then, and none is faulted; [`RunEnd::Memory`] where there is
-/// no memory for the log. The log has the steps before then, fewer than the budget has.
-pub fn follow_sweep(log: &mut Logged, budget: u32) -> Result<(), RunEnd>
-    requires { HaveRecords log.old.machine.config.k log.old.steps }
-    ensures opening { log.new.opening ≡ log.old.opening }
-    ensures config { log.new.machine.config ≡ log.old.machine.config }
-    ensures records { HaveRecords log.new.machine.config.k log.new.steps }
-    ensures followed { result ≢ Err RunEnd.Memory → HasFollowed log.old log.new }
-    ensures few { length log.old.steps ≤ most_of budget → length log.new.steps ≤ most_of budget }
-    ensures ended { OnOk result (HasEnded (most_of budget) log.new) }
-    ensures budget { result ≡ Err RunEnd.Budget → IsEndless (most_of budget) log.new }
-    ensures memory { result ≡ Err RunEnd.Memory → length log.new.steps < most_of budget }
+/// [`LockRefusal::Full`] where the log would pass [`steps::MAX_STEPS`] steps with as many, else
+/// [`LockRefusal::Memory`] where there is no memory for them. Each leaves all as it was.
+pub fn follow_sweep(log: &mut Logged, budget: u32) -> Result<SweepEnd, LockRefusal>
+    ensures swept { IfOk result (λ end. IsSwept (most_of budget) log.old end log.new) }
+    ensures records { OnOk result (HaveRecords log.old.machine.config.k log.old.steps → HaveRecords log.new.machine.config.k log.new.steps) }
+    ensures full { (result ≡ Err LockRefusal.Full) ↔ (4194304 < length log.old.steps + (most_of budget + drain_bound log.old.machine.config)) }
+    ensures named { result ≡ Err LockRefusal.Unnamed → ⊥ }
+    ensures refused { OnErr result (log.new ≡ log.old) }
 {
-    let most = budget.min(MOST_STEPS) as usize;
-    // While a processor runs, a round enters a step.
-    while log.steps().len() < most && any_runs(log.machine()) {
-        take_round(log, most)?;
-    }
-    end_of(log, most)
+    let most = budget.min(MOST_STEPS);
+    let room = most_steps(log.machine(), most);
+    Ok(sweep(log.room(room)?, most))
 }
 
-/// The end of a run that takes no further step.
-fn end_of(log: &Logged, most: usize) -> Result<(), RunEnd>
-    requires { HasRunning log.now.machine → most ≤ length log.now.steps }
-    ensures ended { OnOk result (HasEnded most log.now) }
-    ensures budget { IfErr result (λ end. (end ≡ RunEnd.Budget) × IsEndless most log.now) }
+/// How many steps a sweep that enters so many, and its drain, enter at most.
+fn most_steps(machine: &Machine, most: u32) -> u32
+    requires { most ≤ 4000000 }
+    ensures { result ≡ most + drain_bound machine.now.config }
 {
-    let machine = log.machine();
-    if !any_runs(machine) {
-        return Ok(());
-    }
-    if any_is_faulted(machine) {
-        return Ok(());
-    }
-    Err(RunEnd::Budget)
+    // The proof needs the limits of the machine's size.
+    let _ = machine.config();
+    most + machine.most_moves()
 }
 
-/// Takes a round of the sweep, up to the last step that there is room for, or that stops the last processor
-/// that runs.
-fn take_round(log: &mut Logged, most: usize) -> Result<(), RunEnd>
+/// Follows the sweep for so many steps at most, and then drains the machine. There is room for the steps.
+fn sweep(log: &mut Roomy, most: u32) -> SweepEnd
     requires few { most ≤ 4000000 }
-    requires room { length log.old.steps < most }
-    requires running { HasRunning log.old.machine }
-    requires records { HaveRecords log.old.machine.config.k log.old.steps }
-    ensures opening { log.new.opening ≡ log.old.opening }
-    ensures config { log.new.machine.config ≡ log.old.machine.config }
-    ensures records { HaveRecords log.new.machine.config.k log.new.steps }
-    ensures few { length log.new.steps ≤ most }
-    ensures round { OnOk result (WasAskedRound most log.old log.new) }
-    ensures refused { IfErr result (λ end. (end ≡ RunEnd.Memory) × (length log.new.steps < most)) }
+    requires room { most + drain_bound log.old.log.machine.config ≤ log.old.places }
+    ensures swept { IsSwept most log.old.log result log.new.log }
+    ensures records { HaveRecords log.old.log.machine.config.k log.old.log.steps → HaveRecords log.new.log.machine.config.k log.new.log.steps }
+{
+    // The proof needs that the machine is the replay of the steps, before and after.
+    let _ = log.machine();
+    let limit = log.steps().len() + most as usize;
+    let end = follow(log, limit);
+    log.drain();
+    let _ = log.machine();
+    end
+}
+
+/// Follows the sweep until it is over, or the log has so many steps.
+fn follow(log: &mut Roomy, limit: usize) -> SweepEnd
+    requires few { length log.old.log.steps ≤ limit }
+    requires room { limit ≤ length log.old.log.steps + log.old.places }
+    ensures followed { HasFollowed limit log.old.log result log.new.log }
+    ensures config { log.new.log.machine.config ≡ log.old.log.machine.config }
+    ensures room { length log.new.log.steps + log.new.places ≡ length log.old.log.steps + log.old.places }
+{
+    if !any_runs(log.machine()) {
+        return SweepEnd::Over;
+    }
+    // While the sweep is not over, a round enters a step.
+    while log.steps().len() < limit {
+        if take_round(log, limit) {
+            return SweepEnd::Over;
+        }
+    }
+    SweepEnd::Budget
+}
+
+/// Takes a round of the sweep, up to the step by which the sweep is over, or behind which the log has so many
+/// steps. Answers whether it is over.
+fn take_round(log: &mut Roomy, limit: usize) -> bool
+    requires few { length log.old.log.steps < limit }
+    requires room { limit ≤ length log.old.log.steps + log.old.places }
+    requires running { HasRunning log.old.log.machine }
+    ensures round { WasAskedRound limit log.old.log result log.new.log }
+    ensures config { log.new.log.machine.config ≡ log.old.log.machine.config }
+    ensures room { length log.new.log.steps + log.new.places ≡ length log.old.log.steps + log.old.places }
 {
     // The proof needs that the machine is one.
     let _ = log.machine().is_idle();
     let mut round = Round::new(log.machine().config().k);
-    while log.steps().len() < most {
+    while log.steps().len() < limit {
         let Some(step) = round.next(log.machine()) else {
-            return Ok(());
+            return false;
         };
-        let has_stopped = entered(log, step)?;
-        if has_stopped && !any_runs(log.machine()) {
-            return Ok(());
+        let outcome = log.step(step);
+        if is_over(&outcome, log.machine()) {
+            return true;
         }
     }
-    Ok(())
+    false
 }
 
-/// Takes a step of the sweep, enters it unless it stalled, and answers whether a processor has stopped by
-/// it. There is room for it in the log.
-fn entered(log: &mut Logged, step: Step) -> Result<bool, RunEnd>
-    requires named { HasRecord log.old.machine.config.k step }
-    requires room { length log.old.steps < 4000000 }
-    requires records { HaveRecords log.old.machine.config.k log.old.steps }
-    ensures opening { log.new.opening ≡ log.old.opening }
-    ensures config { log.new.machine.config ≡ log.old.machine.config }
-    ensures records { HaveRecords log.new.machine.config.k log.new.steps }
-    ensures asked { IfOk result (λ has_stopped. WasAsked log.old step has_stopped log.new) }
-    ensures refused { IfErr result (λ end. (end ≡ RunEnd.Memory) × (log.new ≡ log.old)) }
+/// Whether a sweep is over behind a step that answered this, on the machine that it left.
+fn is_over(outcome: &Outcome, machine: &Machine) -> bool
+    ensures over { result ≡ true → IsFault outcome.now ⊎ (HasRunning machine.now → ⊥) }
+    ensures not { result ≡ false → (IsFault outcome.now → ⊥) × ((IsStop outcome.now → ⊥) ⊎ HasRunning machine.now) }
 {
-    // The proof needs that the machine is the replay of the steps.
-    let _ = log.machine();
-    match log.step(step) {
-        Ok(outcome) => Ok(has_stopped(&outcome)),
-        Err(LockRefusal::Memory) => Err(RunEnd::Memory),
-        // The machine has the places of its sweep, and the log has room.
-        Err(LockRefusal::Full | LockRefusal::Unnamed) => unreachable!(),
+    match outcome {
+        Outcome::Stopped(Cause::Fault(_)) => true,
+        Outcome::Stopped(Cause::Halt(_)) => !any_runs(machine),
+        _ => false,
     }
-}
-
-/// Whether the step has stopped its processor.
-fn has_stopped(outcome: &Outcome) -> bool
-    ensures { result ≡ true → outcome.now ≢ Outcome.Stalled }
-{
-    matches!(outcome, Outcome::Stopped(_))
 }

@@ -1,14 +1,13 @@
 //! Runs and rounds by hand, and the sweep beside one that asks for each of its steps.
 
-ghost use Rattle.std.specs.Prelude.{◌≤◌, IfOk};
-ghost use Rattle.trace_file.specs.Traces.{HaveRecords};
+ghost use Rattle.std.specs.Prelude.{◌≤◌};
 
-use crate::{Round, RunEnd, any_is_faulted, any_runs, follow_sweep};
+use crate::{Round, SweepEnd, any_is_faulted, any_runs, follow_sweep};
 use assembler::assemble;
 use elf_image::read_image;
 use flat_machine::Config;
 use link::Meter;
-use machine_lock::Logged;
+use machine_lock::{LockRefusal, Logged};
 use machine_steps::Machine;
 use std::alloc::Global;
 use std::process::Abort;
@@ -31,30 +30,91 @@ fn machine(alloc: Global, file: &[u8], k: u8) -> Result<Machine, Fail> {
 }
 
 /// The log of a machine that opens on the image of a text.
-fn log_of(rt: &impl Abort, alloc: Global, text: &str, k: u8) -> Result<Logged, Fail>
-    ensures { IfOk result (λ log. HaveRecords log.machine.config.k log.steps) }
-{
+fn log_of(rt: &impl Abort, alloc: Global, text: &str, k: u8) -> Result<Logged, Fail> {
     let file = assemble(alloc, text)?.to_elf(alloc)?;
     let machine = machine(alloc, file.as_slice(), k)?;
     assert!(rt; machine.is_idle());
     Ok(Logged::new(alloc, machine))
 }
 
-/// Each of four processors stops in its first turn.
+/// Each of four processors stops by a fault in its first turn, and each such turn ends a sweep.
 #[test]
-fn follows_the_sweep(rt: HostRuntime) -> Result<(), Fail> {
+fn ends_at_each_fault(rt: HostRuntime) -> Result<(), Fail> {
     let alloc = rt.alloc();
     let machine = machine(alloc, &EBREAK, 2)?;
     assert!(rt; machine.is_idle());
     let mut log = Logged::new(alloc, machine);
-    assert_eq!(rt; follow_sweep(&mut log, 0), Err(RunEnd::Budget));
+    assert_eq!(rt; follow_sweep(&mut log, 0), Ok(SweepEnd::Budget));
     assert_eq!(rt; log.steps().len(), 0);
-    assert!(rt; any_runs(log.machine()));
     assert!(rt; !any_is_faulted(log.machine()));
-    assert_eq!(rt; follow_sweep(&mut log, 4), Ok(()));
-    assert_eq!(rt; log.steps().len(), 4);
+    for count in 1..5 {
+        assert!(rt; any_runs(log.machine()));
+        assert_eq!(rt; follow_sweep(&mut log, 100), Ok(SweepEnd::Over));
+        assert_eq!(rt; log.steps().len(), count);
+        assert!(rt; any_is_faulted(log.machine()));
+    }
     assert!(rt; !any_runs(log.machine()));
-    assert!(rt; any_is_faulted(log.machine()));
+    assert_eq!(rt; follow_sweep(&mut log, 0), Ok(SweepEnd::Over));
+    assert_eq!(rt; log.steps().len(), 4);
+    Ok(())
+}
+
+/// Processor 1 stops by a fault in the round in which processor 0 issues its reference, which a drain then
+/// brings to its end: the request up and into module 0, the service, the reply down, and the turn.
+#[test]
+fn drains_behind_a_fault(rt: HostRuntime) -> Result<(), Fail> {
+    let text = "
+ addi x17, x0, 2
+ ecall
+ bne x10, x0, odd
+ lui x5, 0x80000
+ lw x6, 0(x5)
+ ecall
+odd: addi x7, x0, 1
+ ebreak
+";
+    let mut log = log_of(&rt, rt.alloc(), text, 1)?;
+    assert_eq!(rt; follow_sweep(&mut log, 100), Ok(SweepEnd::Over));
+    let turns = [0, 1, 0, 1, 0, 1, 0, 1, 0, 1];
+    let drain = [
+        Step::Up { stage: 0, wire: 0 },
+        Step::Serve(0),
+        Step::Down { stage: 0, wire: 0 },
+        Step::Turn(0),
+    ];
+    assert_eq!(rt; log.steps().len(), turns.len() + drain.len());
+    for (step, processor) in log.steps().iter().zip(turns) {
+        assert_eq!(rt; *step, Step::Turn(processor));
+    }
+    assert_eq!(rt; &log.steps()[turns.len()..], drain.as_slice());
+    assert!(rt; log.machine().is_idle());
+    Ok(())
+}
+
+/// A reference that is open when the budget is used up is brought to its end too.
+#[test]
+fn drains_behind_the_budget(rt: HostRuntime) -> Result<(), Fail> {
+    let mut log = log_of(&rt, rt.alloc(), "lui x5, 0x80000\nlw x6, 0(x5)\necall", 0)?;
+    assert_eq!(rt; follow_sweep(&mut log, 2), Ok(SweepEnd::Budget));
+    assert_eq!(rt;
+        log.steps(),
+        [Step::Turn(0), Step::Turn(0), Step::Serve(0), Step::Turn(0)].as_slice()
+    );
+    assert_eq!(rt; follow_sweep(&mut log, 1), Ok(SweepEnd::Over));
+    assert_eq!(rt; log.steps().len(), 5);
+    Ok(())
+}
+
+/// Room is asked for the steps of the sweep and of its drain, before the first of them is taken.
+#[test]
+fn asks_for_room_first(rt: HostRuntime) -> Result<(), Fail> {
+    let mut log = log_of(&rt, rt.alloc(), "jal x0, 0", 0)?;
+    assert_eq!(rt; follow_sweep(&mut log, 200_000), Ok(SweepEnd::Budget));
+    // With 200,000 steps there is room for 3,994,304 more: those of a sweep, and two for its drain.
+    assert_eq!(rt; follow_sweep(&mut log, 3_994_303), Err(LockRefusal::Full));
+    assert_eq!(rt; log.steps().len(), 200_000);
+    assert_eq!(rt; follow_sweep(&mut log, 3), Ok(SweepEnd::Budget));
+    assert_eq!(rt; log.steps().len(), 200_003);
     Ok(())
 }
 
@@ -137,7 +197,7 @@ fn ask_for_all(rt: &impl Abort, log: &mut Logged, k: u8)
 fn leaves_out_only_what_stalls(rt: HostRuntime) -> Result<(), Fail> {
     for k in 0..7 {
         let mut log = log_of(&rt, rt.alloc(), ADDS, k)?;
-        assert_eq!(rt; follow_sweep(&mut log, 1_000_000), Ok(()));
+        assert_eq!(rt; follow_sweep(&mut log, 100_000), Ok(SweepEnd::Over));
         let mut plain = log_of(&rt, rt.alloc(), ADDS, k)?;
         ask_for_all(&rt, &mut plain, k);
         assert!(rt; !log.steps().is_empty());

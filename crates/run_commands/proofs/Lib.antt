@@ -1,5 +1,6 @@
 pub mod Tallying
 pub mod StepByStep
 pub mod Logging
+pub mod FlatReports
 pub mod OneReport
 pub mod OneRun

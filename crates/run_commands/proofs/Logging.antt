@@ -1,40 +1,37 @@
 -- What the log of a run tells of its machine's size and image.
-use Rattle.std.proofs.Common.{◌≡◌, ℕ, ◌≤◌, List, [], length, Option, ◌∙◌, ap, refl, sym, subst, arith}
-use Rattle.std.specs.Prelude.{Result, Err}
+use Rattle.std.proofs.Common.{◌≡◌, ℕ, List, Option, ◌∙◌, ap, refl, sym, subst, arith}
 use Rattle.flat_machine.specs.declared.config.Config.{Config}
 use Rattle.flat_machine.specs.Limits.{IsWithinLimits}
 use Rattle.elf_image.specs.Images.{ImageContents}
 use Rattle.steps.specs.declared.step.Step.{Step}
-use Rattle.trace_file.specs.Traces.{HaveRecords}
+use Rattle.trace_file.specs.Traces.{HaveRecords, IsTrace, trace_of}
 use Rattle.machine_steps.specs.Machines.{MachineLists}
 use Rattle.machine_steps.specs.Runs.{IsOpening, IsReplay}
 use Rattle.trace_replay.specs.Replays.{StallsAt}
 use Rattle.trace_replay.proofs.OneOpening.{none_stalls}
 use Rattle.machine_lock.specs.Logs.{Log, IsKept}
 use Rattle.run_commands.specs.declared.fault.Fault.TheVariants as fault
-use Rattle.machine_sweep.specs.declared.sweeping.RunEnd.{RunEnd}
-use Rattle.machine_sweep.specs.declared.sweeping.RunEnd.TheVariants as end
 use Rattle.run_commands.specs.declared.taking.RetakeError.{RetakeError}
 use Rattle.run_commands.specs.declared.taking.RetakeError.TheVariants as retake
-use Rattle.run_commands.specs.Causes.{IsNotRun}
-use Rattle.run_commands.specs.Commands.{HasRun, IsImageOf, IsLogOf, IsRunOf}
-use Rattle.run_commands.specs.Faults.{fault_of_retaking, fault_of_run}
+use Rattle.run_commands.specs.Commands.{IsImageOf, IsRunOf}
+use Rattle.run_commands.specs.Faults.{fault_of_retaking}
 use Rattle.run_commands.specs.Retaking.{IsNotRetaken}
-use Rattle.machine_sweep.specs.Sweeps.{HasEnded, HasFollowed, IsEndless, most_of}
+use Rattle.machine_sweep.specs.Sweeps.{IsSwept, most_of, opened}
+use Rattle.machine_sweep.specs.declared.sweeping.SweepEnd.{SweepEnd}
 
-module _ (c : Config) (known : Option (List ℕ)) (log : Log) (is : IsLogOf c known log) where
+module _ (c : Config) (budget : ℕ) (known : Option (List ℕ)) (end : SweepEnd) (log : Log) (is : IsRunOf c budget known end log) where
   pub log_config : log.machine.config ≡ c
-  log_config = is.replay.run.config ∙ is.opens.config
+  log_config = is.run.replay.run.config ∙ is.run.opens.config
 
   pub log_image : log.machine.image ≡ is.image
-  log_image = is.replay.run.image ∙ is.opens.image_is
+  log_image = is.run.replay.run.image ∙ is.run.opens.image_is
 
   pub log_words : log.machine.image.shared_words ≡ log.machine.config.shared_words
   log_words = ap (λ (i : ImageContents). i.shared_words) log_image ∙ is.meant.words ∙ sym (ap (λ (d : Config). d.shared_words) log_config)
 
   -- the opening, by what the machine after the steps tells
   pub log_opens : IsOpening log.machine.config log.machine.image log.opening
-  log_opens = subst (λ (x : Config × ImageContents). IsOpening x.0 x.1 log.opening) (λ i. (sym log_config i, sym log_image i)) is.opens
+  log_opens = subst (λ (x : Config × ImageContents). IsOpening x.0 x.1 log.opening) (λ i. (sym log_config i, sym log_image i)) is.run.opens
 
 -- the steps of a log do not stall on another machine that opens on the image
 pub not_stalled : (log : Log) (c : Config) (image : ImageContents) (steps : List Step) (second new : MachineLists) → IsOpening log.machine.config log.machine.image log.opening → IsReplay log.opening log.steps log.machine →
@@ -46,33 +43,28 @@ not_stalled log c image steps second new one replay size same all two retake.Mem
 
 -- ---- a run, from its machine's opening on
 
-module _ (c : Config) (budget : ℕ) (known : Option (List ℕ)) (image : ImageContents) (meant : IsImageOf c.shared_words known image) (m : MachineLists) (opens : IsOpening c image m) (old log : Log) (starts : old ≡ record { opening = m; steps = []; machine = m }) (opening : log.opening ≡ old.opening) (config : log.machine.config ≡ old.machine.config) (kept : IsKept log) (few : length old.steps ≤ most_of budget → length log.steps ≤ most_of budget) where
+module _ (c : Config) (budget : ℕ) (known : Option (List ℕ)) (image : ImageContents) (meant : IsImageOf c.shared_words known image) (m : MachineLists) (opens : IsOpening c image m) (old log : Log) (starts : old ≡ opened m) (kept : IsKept log) (end : SweepEnd) (swept : IsSwept (most_of budget) old end log) where
   opening_is : log.opening ≡ m
-  opening_is = opening ∙ ap (λ (l : Log). l.opening) starts
+  opening_is = swept.opening ∙ ap (λ (l : Log). l.opening) starts
 
   config_is : log.machine.config ≡ c
-  config_is = config ∙ ap (λ (l : Log). l.machine.config) starts ∙ opens.config
+  config_is = kept.replay.run.config ∙ ap (λ (n : MachineLists). n.config) opening_is ∙ opens.config
 
-  run_of : HasFollowed old log → IsRunOf c budget known log
-  run_of followed = record {
-    log_of = record { image = image; meant = meant; opens = subst (IsOpening c image) (sym opening_is) opens; replay = kept.replay };
-    followed = subst (λ (l : Log). HasFollowed l log) (starts ∙ ap (λ (n : MachineLists). record { opening = n; steps = []; machine = n }) (sym opening_is)) followed;
-    few = few (subst (λ (l : Log). length l.steps ≤ most_of budget) (sym starts) (omega arith));
+  pub run_of : IsRunOf c budget known end log
+  run_of = record {
+    image = image;
+    meant = meant;
+    run = record {
+      opens = subst (IsOpening c image) (sym opening_is) opens;
+      replay = kept.replay;
+      swept = subst (λ (l : Log). IsSwept (most_of budget) l end log) (starts ∙ ap opened (sym opening_is)) swept;
+    };
   }
 
-  pub has_run : HasFollowed old log → HaveRecords log.machine.config.k log.steps → HasEnded (most_of budget) log → HasRun c budget known log
-  has_run followed records ended =
+  pub trace_is : (HaveRecords old.machine.config.k old.steps → HaveRecords log.machine.config.k log.steps) → IsTrace (trace_of c log.steps)
+  trace_is records =
       let limits : IsWithinLimits c = subst IsWithinLimits config_is kept.sound.limits in
       record {
-        run = run_of followed;
-        trace = record {
-          header = record { stages = limits.stages; some_capacity = limits.some_capacity; capacity = limits.capacity; records = limits.records; count = kept.room };
-          records = subst (λ (d : Config). HaveRecords d.k log.steps) config_is records;
-        };
-        ended = ended;
+        header = record { stages = limits.stages; some_capacity = limits.some_capacity; capacity = limits.capacity; records = limits.records; count = kept.room };
+        records = subst (λ (d : Config). HaveRecords d.k log.steps) config_is (records (subst (λ (l : Log). HaveRecords l.machine.config.k l.steps) (sym starts) (λ p d inside. absurd (omega (arith, inside)))));
       }
-
-  pub not_ended : (r : Result (Unit {0}) RunEnd) (e : RunEnd) → r ≡ Err e → ((r ≡ Err end.Memory → ⊥) → HasFollowed old log) → (r ≡ Err end.Budget → IsEndless (most_of budget) log) → IsNotRun c budget known (fault_of_run e)
-  not_ended r end.Memory was followed endless = tt
-  not_ended r end.Budget was followed endless =
-      (log, record { run = run_of (followed (λ wrong. (let same : Err end.Budget ≡ Err end.Memory = sym was ∙ wrong in absurd (cc)))); endless = endless was })

@@ -1,20 +1,21 @@
 -- A run is given by the machine's size, the budget and the bytes of the image's file.
-use Rattle.std.proofs.Common.{◌≡◌, ℕ, ◌≤◌, ◌⊎◌, inl, inr, List, length, Some, sym, ◌∙◌, subst}
+use Rattle.std.proofs.Common.{◌≡◌, ℕ, List, Some, sym, ◌∙◌, subst}
 use Rattle.flat_machine.specs.declared.config.Config.{Config}
 use Rattle.elf_image.specs.declared.layout.Layout.{Layout}
 use Rattle.elf_image.specs.Images.{ImageContents, IsMeant}
 use Rattle.steps.specs.declared.step.Step.{Step}
 use Rattle.machine_lock.specs.Logs.{Log}
-use Rattle.machine_sweep.specs.Standing.{HasRunning}
-use Rattle.machine_sweep.specs.Sweeps.{IsWholeRun, HasEnded, most_of}
-use Rattle.run_commands.specs.Commands.{HasRun, IsImageOf, IsReportOf, IsReportedRun}
+use Rattle.machine_sweep.specs.Sweeps.{IsWholeRun, most_of}
+use Rattle.machine_sweep.specs.declared.sweeping.SweepEnd.{SweepEnd}
+use Rattle.machine_sweep.specs.declared.sweeping.SweepEnd.TheVariants.{Over}
+use Rattle.run_commands.specs.Commands.{IsImageOf, IsReportOf, IsReportedRun}
 use Rattle.run_commands.proofs.OneReport.{one_status, one_text}
 
 abbrev OneLayout : Type 0
 OneLayout = (shared_words : ℕ) (file : List ℕ) (one other : Layout) → IsMeant shared_words file one → IsMeant shared_words file other → one ≡ other
 
 abbrev OneLog : Type 0
-OneLog = (c : Config) (image : ImageContents) (most : ℕ) (first second : Log) → IsWholeRun c image most first → IsWholeRun c image most second → first.steps ≡ second.steps
+OneLog = (c : Config) (image : ImageContents) (most : ℕ) (end other : SweepEnd) (first second : Log) → IsWholeRun c image most end first → IsWholeRun c image most other second → first.steps ≡ second.steps
 
 one_image : OneLayout → (shared_words : ℕ) (file : List ℕ) (one other : ImageContents) → IsImageOf shared_words (Some file) one → IsImageOf shared_words (Some file) other → other ≡ one
 one_image one_layout shared_words file one other a b =
@@ -22,31 +23,18 @@ one_image one_layout shared_words file one other a b =
     let words = b.words ∙ sym a.words in
     (λ i. record { layout = layout i; shared_words = words i })
 
-whole_run : (c : Config) (budget : ℕ) (file : List ℕ) (log : Log) (ran : HasRun c budget (Some file) log) → IsWholeRun c ran.run.log_of.image (most_of budget) log
-whole_run c budget file log ran = record {
-  opens = ran.run.log_of.opens;
-  replay = ran.run.log_of.replay;
-  followed = ran.run.followed;
-  few = ran.run.few;
-  ended = by ran.ended;
-}
-  where
-    by : HasEnded (most_of budget) log → (HasRunning log.machine → ⊥) ⊎ (most_of budget ≤ length log.steps)
-    by (inl none) = inl none
-    by (inr faulted) = inr faulted.1
-
 module _ (one_layout : OneLayout) (one_log : OneLog) (c : Config) (budget : ℕ) (file : List ℕ) (steps others : List Step) (text other : List ℕ) (status another : ℕ)
     (a : IsReportedRun c budget (Some file) steps text status) (b : IsReportedRun c budget (Some file) others other another) where
   abbrev image : ImageContents
-  image = a.ran.run.log_of.image
+  image = a.ran.over.image
 
-  image_is : b.ran.run.log_of.image ≡ image
-  image_is = one_image one_layout c.shared_words file image b.ran.run.log_of.image a.ran.run.log_of.meant b.ran.run.log_of.meant
+  image_is : b.ran.over.image ≡ image
+  image_is = one_image one_layout c.shared_words file image b.ran.over.image a.ran.over.meant b.ran.over.meant
 
   steps_are : steps ≡ others
   steps_are =
       sym a.entered
-      ∙ one_log c image (most_of budget) a.log b.log (whole_run c budget file a.log a.ran) (subst (λ i. IsWholeRun c i (most_of budget) b.log) image_is (whole_run c budget file b.log b.ran))
+      ∙ one_log c image (most_of budget) Over Over a.log b.log a.ran.over.run (subst (λ i. IsWholeRun c i (most_of budget) Over b.log) image_is b.ran.over.run)
       ∙ b.entered
 
   report_is : IsReportOf c image steps other another

@@ -16,10 +16,11 @@ use Rattle.machine_steps.specs.Machines.{MachineLists}
 use Rattle.machine_steps.specs.Runs.{IsOpening}
 use Rattle.trace_replay.specs.Replays.{StallsAt}
 use Rattle.machine_lock.specs.Logs.{Log}
+use Rattle.machine_sweep.specs.declared.sweeping.SweepEnd.TheVariants.{Budget}
 use Rattle.command_io.specs.Files.{IsWhole}
 use Rattle.run_commands.specs.declared.fault.Fault.{Fault}
 use Rattle.run_commands.specs.declared.fault.Fault.TheVariants as fault
-use Rattle.run_commands.specs.Commands.{IsImageOf, IsTraceOf, IsReportOf, IsDrainedReport, IsSaved, IsPartSaved, HasRun, IsUnfinished}
+use Rattle.run_commands.specs.Commands.{IsImageOf, IsTraceOf, IsReportOf, IsDrainedReport, IsSaved, IsPartSaved, HasRun, IsRunOf}
 
 -- ---- the files
 
@@ -46,7 +47,7 @@ pub record IsPartPrintedRun {T : Type 0} (contents : T → Option (List ℕ)) (c
   pub saved : IsSaved contents old new (trace_bytes (trace_of c log.steps))
   pub text : List ℕ
   pub status : ℕ
-  pub report : IsReportOf c ran.run.log_of.image log.steps text status
+  pub report : IsReportOf c ran.over.image log.steps text status
   pub part : AppendsPart out out' text
 
 -- The run is there, which has ended, and a part of its trace is written, and not all of it.
@@ -55,12 +56,12 @@ pub record IsPartSavedRun {T : Type 0} (contents : T → Option (List ℕ)) (c :
   pub ran : HasRun c budget known log
   pub part : IsPartSaved contents old new (trace_bytes (trace_of c log.steps))
 
--- Why a run is not there: the image is refused; the machine's size is out of its limits; the run has no end. Its own steps never
--- stall. Of want of memory nothing is said.
+-- Why a run is not there: the image is refused; the machine's size is out of its limits; the budget is used up, a processor runs,
+-- and no fault has stopped one. Its own steps never stall. Of want of memory nothing is said.
 abbrev pub IsNotRun : (c : Config) → (budget : ℕ) → (known : Option (List ℕ)) → Fault → Type 0
 IsNotRun c budget known (fault.Image e) = IsImageRefusal c.shared_words known e
 IsNotRun c budget known fault.Size = ((image : ImageContents) × IsImageOf c.shared_words known image) × (IsWithinLimits c → ⊥)
-IsNotRun c budget known fault.Budget = (log : Log) × IsUnfinished c budget known log
+IsNotRun c budget known fault.Budget = (log : Log) × IsRunOf c budget known Budget log
 IsNotRun c budget known fault.Memory = Unit {0}
 IsNotRun c budget known (fault.Stalled place) = ⊥
 IsNotRun c budget known (fault.Trace e) = ⊥

@@ -8,8 +8,6 @@ use Rattle.machine_steps.specs.declared.error.NewError.{NewError}
 use Rattle.machine_steps.specs.declared.error.NewError.TheVariants as new
 use Rattle.run_commands.specs.declared.taking.RetakeError.{RetakeError}
 use Rattle.run_commands.specs.declared.taking.RetakeError.TheVariants as retake
-use Rattle.machine_sweep.specs.declared.sweeping.RunEnd.{RunEnd}
-use Rattle.machine_sweep.specs.declared.sweeping.RunEnd.TheVariants as end
 use Rattle.run_commands.specs.declared.fault.Fault.{Fault}
 use Rattle.run_commands.specs.declared.fault.Fault.TheVariants as fault
 
@@ -44,8 +42,3 @@ fault_of_new new.Memory = fault.Memory
 abbrev pub fault_of_retaking : RetakeError → Fault
 fault_of_retaking (retake.Stalled place) = fault.Stalled place
 fault_of_retaking retake.Memory = fault.Memory
-
--- the fault of a run without an end of its own
-abbrev pub fault_of_run : RunEnd → Fault
-fault_of_run end.Budget = fault.Budget
-fault_of_run end.Memory = fault.Memory

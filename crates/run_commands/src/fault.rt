@@ -2,13 +2,12 @@
 
 ghost use Rattle.std.specs.Prelude.{◌≡◌};
 ghost use Rattle.run_commands.specs.declared.fault.Fault.TheVariants.{Memory as NoMemory};
-ghost use Rattle.run_commands.specs.Faults.{fault_of_image, fault_of_new, fault_of_retaking, fault_of_run, fault_of_trace, status_of_fault};
+ghost use Rattle.run_commands.specs.Faults.{fault_of_image, fault_of_new, fault_of_retaking, fault_of_trace, status_of_fault};
 
 use crate::taking::RetakeError;
 use command_io::{LINK_FAILED, REFUSED, SPENT};
 use elf_image::ImageError;
 use machine_steps::NewError;
-use machine_sweep::RunEnd;
 use std::alloc::AllocError;
 use std::io::Write;
 use thiserror::Error;
@@ -29,7 +28,7 @@ pub enum Fault {
     /// The trace's step at this place, from 0, stalls.
     #[error("X7 step {0}")]
     Stalled(usize),
-    /// The budget is used up, a processor runs, and none is faulted.
+    /// The budget is used up, a processor runs, and no fault has stopped one.
     #[error("budget")]
     Budget,
     /// The image's file cannot be opened, or the report cannot be written.
@@ -95,17 +94,6 @@ impl From<RetakeError> for Fault {
         match error {
             RetakeError::Stalled(place) => Fault::Stalled(place),
             RetakeError::Memory => Fault::Memory,
-        }
-    }
-}
-
-impl From<RunEnd> for Fault {
-    ghost from_gives = { λ e f. f ≡ fault_of_run e };
-
-    fn from(end: RunEnd) -> Self {
-        match end {
-            RunEnd::Budget => Fault::Budget,
-            RunEnd::Memory => Fault::Memory,
         }
     }
 }

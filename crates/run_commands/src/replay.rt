@@ -14,6 +14,7 @@ use crate::taking::{drained, retaken};
 use elf_image::Image;
 use flat_machine::Config;
 use link::LinkWrite;
+use machine_steps::runs_are_serialized;
 use std::alloc::Global;
 use std::io;
 use std::io::{Read, Write};
@@ -88,8 +89,11 @@ fn reported(
     ensures refused { IfErr result (IsNotTaken config image steps.now) }
 {
     let mut machine = machine_of(alloc, image, config)?;
+    // The proof needs that the machine is one.
+    let _ = machine.is_idle();
     let mut tally = retaken(alloc, &mut machine, steps)?;
     drained(&mut machine, &mut tally)?;
+    runs_are_serialized();
     let text = report(alloc, &machine, &tally)?;
     Ok((text, exit_status(&machine)))
 }

@@ -1,6 +1,7 @@
 //! `ultra run`: from the bytes of an image to the report of its run.
 
 ghost use Rattle.std.specs.Prelude.{◌≡◌, ◌≢◌, ◌≤◌, ◌↔◌, true, false, IfOk, IfErr, IsErrOf, string_bytes};
+ghost use Rattle.machine_steps.specs.Machines.{IsIdle};
 ghost use Rattle.machine_steps.specs.Runs.{IsOpening};
 ghost use Rattle.run_commands.specs.Causes.{IsNoRun, IsNotRun};
 ghost use Rattle.run_commands.specs.Commands.{HasRun, IsReportOf, IsRun, IsWorking};
@@ -15,13 +16,15 @@ use crate::taking::retaken;
 use flat_machine::Config;
 use link::LinkWrite;
 use machine_lock::Logged;
-use machine_sweep::follow_sweep;
+use machine_steps::runs_are_serialized;
+use machine_sweep::{SweepEnd, follow_sweep};
 use std::alloc::Global;
 use std::io::{Read, Write};
 
-/// Runs the image that a file is on a machine of this size, by the sweep, and prints the report. The run
-/// ends where no processor runs, or where as many steps are entered as the budget has. Where a trace is
-/// asked for, that of the run is written before the report.
+/// Runs the image that a file is on a machine of this size, by the sweep, and prints the report. The sweep
+/// ends where a fault stops a processor, where no processor runs, or where as many steps are entered as the
+/// budget has; then steps are taken until no reference is open. Where a trace is asked for, that of the run
+/// is written before the report.
 ///
 /// Answers the exit status: 0 where the report is printed, 1 where it is and a processor is faulted, else
 /// that of the fault that is told on standard error. A fault is told in this order: of the image, of the
@@ -72,15 +75,23 @@ fn carried_out<R: Read + Drop, T: LinkWrite, W: LinkWrite>(
     Ok(status)
 }
 
-/// The log of a run that has ended.
+/// The log of a run.
 fn ran<R: Read + Drop>(alloc: Global, file: R, config: Config, budget: u32) -> Result<Logged, Fault>
     ensures ran { IfOk result (HasRun config budget (R.remaining file)) }
     ensures refused { IfErr result (IsNotRun config budget (R.remaining file)) }
 {
     let image = image_of(alloc, file, &config)?;
     let mut log = Logged::new(alloc, machine_of(alloc, image, config)?);
-    follow_sweep(&mut log, budget)?;
-    Ok(log)
+    let Ok(end) = follow_sweep(&mut log, budget) else {
+        // A new log has room for the longest run, so memory is all that it can want.
+        return Err(Fault::Memory);
+    };
+    // The proof needs what always holds of a log.
+    let _ = log.machine();
+    match end {
+        SweepEnd::Over => Ok(log),
+        SweepEnd::Budget => Err(Fault::Budget),
+    }
 }
 
 /// The report of a log, and its exit status. The steps are taken again, on a machine that opens on a copy
@@ -88,6 +99,7 @@ fn ran<R: Read + Drop>(alloc: Global, file: R, config: Config, budget: u32) -> R
 fn reported(alloc: Global, log: &Logged) -> Result<(String, u8), Fault>
     requires opens { IsOpening log.now.machine.config log.now.machine.image log.now.opening }
     requires words { log.now.machine.image.shared_words ≡ log.now.machine.config.shared_words }
+    requires idle { IsIdle log.now.machine }
     ensures report { IfOk result (λ done. IsReportOf log.now.machine.config log.now.machine.image log.now.steps (string_bytes done.0) done.1) }
     ensures low { IfOk result (λ done. done.1 ≤ 1) }
     ensures refused { IfErr result (λ fault. fault ≡ Fault.Memory) }
@@ -95,7 +107,10 @@ fn reported(alloc: Global, log: &Logged) -> Result<(String, u8), Fault>
     let config = log.machine().config();
     let image = log.machine().image().copy(alloc)?;
     let mut machine = machine_of(alloc, image, config)?;
+    // The proof needs that the machine is one.
+    let _ = machine.is_idle();
     let tally = retaken(alloc, &mut machine, log.steps())?;
+    runs_are_serialized();
     let text = report(alloc, &machine, &tally)?;
     Ok((text, exit_status(&machine)))
 }

@@ -26,7 +26,7 @@ const fn size(k: u8) -> Config {
 }
 
 /// A budget that no program here uses up, unless it has no end.
-const AMPLE: u32 = 1_000_000;
+const AMPLE: u32 = 200_000;
 
 /// The trace of one turn of the one processor, on a machine with `c` and `b` of 4.
 const ONE_TURN: [u8; 24] = [

@@ -21,9 +21,10 @@ Exit status: 0 done, 2 a refused image (`ultra: I1` to `I8`) or command line, 3 
 pub(crate) const RUN_ENDS: &str = "\
 The schedule is the sweep, whether or not --sweep is given. In each round every processor takes a
 turn, then the requests move on towards the memory modules, each module serves one, and the replies
-move back, so the same run comes out each time. --start has no effect on it, and --budget counts the
-steps that did something, 4000000 at most. With --b 0 the sweep is no fair schedule: a processor can
-starve while the network is full.
+move back, so the same run comes out each time. It ends where a fault stops a processor, no processor
+runs, or as many steps did something as --budget says, 4000000 at most (as for its default of
+10000000); then what is still on its way through the network is brought to its end. --start has no
+effect. With --b 0 the sweep is no fair schedule: a processor can starve while the network is full.
 
 The report has a line for each processor, `processor P pc VVVVVVVV STATUS retired N console HEX`:
 its number, its pc in hex, `run`, `halt HH` (HH is what it halted with, in hex) or `fault N`, how

@@ -55,7 +55,7 @@ pub(crate) const BUDGET: NumberOption = NumberOption {
     default: 10_000_000,
     low: 1,
     high: u32::MAX,
-    help: "Steps that the run may take, 1 to 4294967295; more than 4000000 count as 4000000 [default: 10000000]",
+    help: "Steps that the run may take, 1 to 4294967295 [default: 10000000]",
 };
 
 /// Where the choices of the schedule begin.

@@ -44,10 +44,10 @@ fn run_without_end(rt: HostRuntime) -> Result<(), Fail> {
     Ok(())
 }
 
-/// Processor 0 stops by EBREAK after three instructions. Processor 1 takes two, a branch and jumps to
-/// itself: sixteen of the twenty steps, since four are processor 0's.
+/// Processor 0 stops by EBREAK in its fourth turn, and the run ends there: processor 1 has taken two
+/// instructions and a branch by then.
 #[test]
-fn others_go_on_behind_a_fault(rt: HostRuntime) -> Result<(), Fail> {
+fn ends_at_the_first_fault(rt: HostRuntime) -> Result<(), Fail> {
     let text = "
  addi x17, x0, 2
  ecall
@@ -57,17 +57,63 @@ on: jal x0, on
 ";
     let ran = run_text(rt.alloc(), text, size(1), 20)?;
     let report = "processor 0 pc 0001000c fault 8 retired 3 console -
-processor 1 pc 00010010 run retired 16 console -
+processor 1 pc 00010010 run retired 3 console -
 ";
     assert_eq!(rt; ran.out.as_slice(), report.as_bytes());
     assert_eq!(rt; ran.err.len(), 0);
     assert_eq!(rt; ran.status, 1);
-    // A header, and the records of 20 steps.
-    assert_eq!(rt; ran.trace.len(), 12 + 12 * 20);
+    // A header, and the records of seven turns.
+    assert_eq!(rt; ran.trace.len(), 12 + 12 * 7);
 
     // No fault has come when the budget of six steps is used up.
     let ran = run_text(rt.alloc(), text, size(1), 6)?;
     assert_told(&rt, &ran, "ultra: budget\n", 4);
+    Ok(())
+}
+
+/// Processor 1 stops by EBREAK in the round in which processor 0 issues a reference, which is still brought
+/// to its end: the trace ends with the steps of a drain, and a replay of it prints the same report.
+#[test]
+fn drains_behind_a_fault(rt: HostRuntime) -> Result<(), Fail> {
+    let alloc = rt.alloc();
+    let text = "
+ addi x17, x0, 2
+ ecall
+ bne x10, x0, odd
+ lui x5, 0x80000
+ lw x6, 0(x5)
+ ecall
+odd: addi x7, x0, 1
+ ebreak
+.shared
+.word 7
+";
+    let image = image_of(alloc, text)?;
+    let ran = run(alloc, image.as_slice(), size(1), 20);
+    let report = "processor 0 pc 00010014 run retired 5 console -
+processor 1 pc 0001001c fault 8 retired 4 console -
+word 0 00000007
+";
+    assert_eq!(rt; ran.out.as_slice(), report.as_bytes());
+    assert_eq!(rt; ran.status, 1);
+    // Five turns of each, the request up the one stage, the service, the reply down, and the turn of
+    // processor 0 that takes it.
+    let records = [
+        [2, 0, 0, 0, 0, 0, 0, 0, 0, 0, 0, 0],
+        [3, 0, 0, 0, 0, 0, 0, 0, 0, 0, 0, 0],
+        [4, 0, 0, 0, 0, 0, 0, 0, 0, 0, 0, 0],
+        [1, 0, 0, 0, 0, 0, 0, 0, 0, 0, 0, 0],
+    ];
+    assert_eq!(rt; ran.trace.len(), 12 + 12 * 14);
+    for (record, place) in records.iter().zip(10..14) {
+        assert_eq!(rt;
+            &ran.trace.as_slice()[12 + 12 * place..24 + 12 * place],
+            record.as_slice()
+        );
+    }
+    let replayed = replay(alloc, ran.trace.as_slice(), Ok(image.as_slice()), 1024);
+    assert_eq!(rt; replayed.out.as_slice(), report.as_bytes());
+    assert_eq!(rt; replayed.status, 1);
     Ok(())
 }
 

@@ -58,13 +58,14 @@ fn hundred_adds(rt: HostRuntime) -> Result<(), Fail> {
     Ok(())
 }
 
+/// Processor 0 has the first turn, and the run ends with it.
 #[test]
 fn stopped_by_a_fault(rt: HostRuntime) -> Result<(), Fail> {
     let ran = run_text(rt.alloc(), "ebreak", size(2), AMPLE)?;
     let report = "processor 0 pc 00010000 fault 8 retired 0 console -
-processor 1 pc 00010000 fault 8 retired 0 console -
-processor 2 pc 00010000 fault 8 retired 0 console -
-processor 3 pc 00010000 fault 8 retired 0 console -
+processor 1 pc 00010000 run retired 0 console -
+processor 2 pc 00010000 run retired 0 console -
+processor 3 pc 00010000 run retired 0 console -
 ";
     assert_eq!(rt; ran.out.as_slice(), report.as_bytes());
     assert_eq!(rt; ran.err.len(), 0);

@@ -222,7 +222,7 @@ DisplayHelp
 --words <NUMBER>   Shared words of four bytes that the machine has, 1 to 262144 [default: 1024]
 $ ultra run --help
 DisplayHelp
-, 1 to 4294967295; more than 4000000 count as 4000000 [default: 10000000]
+Steps that the run may take, 1 to 4294967295 [default: 10000000]
 $ ultra run --help
 DisplayHelp
 , 0 to 4294967295; the sweep makes none [default: 1]

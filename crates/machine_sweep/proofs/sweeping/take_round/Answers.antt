@@ -1,73 +1,93 @@
-use Rattle.std.proofs.Common.{◌≡◌, ◌≤◌, ◌∙◌, length, take, refl, sym, ap, subst, arith}
+use Rattle.std.proofs.Common.{◌≡◌, ◌+◌, ◌≤◌, ◌⊎◌, true, false, ◌∙◌, length, take, refl, sym, ap, subst, arith}
 use Rattle.flat_machine.specs.declared.config.Config.{Config}
 use Rattle.machine_steps.specs.Machines.{IsMachine, MachineLists}
 use Rattle.sweep.specs.Rounds.{Sweeping, round}
 use Rattle.machine_sweep.specs.Skips.{AreQuiet, IsNext}
 use Rattle.machine_sweep.specs.Standing.{HasRunning}
-use Rattle.machine_sweep.specs.Sweeps.{entered_of}
-use Rattle.machine_sweep.proofs.Asking.{none_asked}
-use Rattle.machine_sweep.proofs.RoundEnds.{grown, stopped_round, whole_round}
-use Rattle.machine_sweep.proofs.Schedule.{step_has_record}
+use Rattle.machine_sweep.specs.Sweeps.{IsFault, IsStop, entered_of}
+use Rattle.machine_sweep.proofs.Asking.{at_most_one, longer, none_asked, one_asked}
+use Rattle.machine_sweep.proofs.Ending.{first_begins, none_faulted, runs_after}
+use Rattle.machine_sweep.proofs.Own.{step_of_round}
+use Rattle.machine_sweep.proofs.RoundEnds.{full_round, round_over, step_first, step_over, step_under, whole_round}
 use Rattle.machine_sweep.proofs.Skipping.{next_is_asked, rest_is_asked}
 use Rattle.machine_sweep.proofs.sweeping.take_round.Goals as goal
 
-pub entered-requires-clause-named : goal.entered-requires-clause-named
-entered-requires-clause-named c =
-    let n = subst (λ m. IsNext m c.loop-round.round.place c.in-Some.step c.next.new.self.place) c.machine-in-loop-round.ensures.machine c.in-Some.ensures.next in
-    step_has_record c.loop-round.log.machine.config.k n.place c.in-Some.step c.loop-round.invariant.stages n.there
-
 pub loop-round-init : goal.loop-round-init
 loop-round-init c =
-    let old = c.args.log.now in
+    let old = c.args.log.now.log in
     record {
       opening = refl;
+      replay = c.machine.ensures.replay;
       config = refl;
       stages = (subst IsMachine c.machine.ensures.machine c.is_idle.ensures.sound).limits.stages;
       size = ap (λ (s : Sweeping). s.k) c.new-round.ensures ∙ ap (λ (d : Config). d.k) (c.config.ensures.config ∙ ap (λ (m : MachineLists). m.config) c.machine-2.ensures.machine);
-      records = c.requires.records;
+      room = refl;
       entered = subst (λ n. old.steps ≡ entered_of old.opening old.steps (take n (round old.machine.config.k))) (sym (ap (λ (s : Sweeping). s.place) c.new-round.ensures)) (none_asked old.opening old.steps);
-      few = (let room = c.requires.room in omega (arith, room));
+      few = (let room = c.requires.few in omega (arith, room));
+      first = first_begins old.opening (length old.steps) old.steps (omega arith);
+      under = record {
+        running = runs_after old.opening old.machine old.steps c.machine.ensures.replay c.requires.running;
+        sound = none_faulted old.opening (length old.steps) old.steps (omega arith);
+      };
     }
 
 pub loop-round-preserved : goal.loop-round-preserved
 loop-round-preserved c =
     let i = c.loop-round.invariant in
-    let a = c.in_ok-has_stopped.ensures in
+    let old = c.args.log.now.log in
+    let l = c.loop-round.log.log in
+    let new = c.step-outcome.new.self.log in
+    let taken = c.step-outcome.ensures.taken in
+    let config = taken.step.config in
     let n = subst (λ m. IsNext m c.loop-round.round.place c.in-Some.step c.next.new.self.place) c.machine-in-loop-round.ensures.machine c.in-Some.ensures.next in
+    let replay = c.machine-in-loop-round.ensures.replay in
+    let own = step_of_round l.machine.config.k n.place c.in-Some.step n.there in
     record {
-      opening = a.opening ∙ i.opening;
-      config = a.config ∙ i.config;
-      stages = subst (λ (d : Config). d.k ≤ 6) (sym a.config) i.stages;
-      size = c.next.ensures.size ∙ i.size ∙ ap (λ (d : Config). d.k) (sym a.config);
-      records = a.records;
+      opening = taken.opening ∙ i.opening;
+      replay = c.machine-in-loop-round-2.ensures.replay;
+      config = config ∙ i.config;
+      stages = subst (λ (d : Config). d.k ≤ 6) (sym config) i.stages;
+      size = c.next.ensures.size ∙ i.size ∙ ap (λ (d : Config). d.k) (sym config);
+      room = c.step-outcome.ensures.places ∙ i.room;
       entered =
-          next_is_asked c.args.log.now c.loop-round.log i.opening (ap (λ (d : Config). d.k) i.config) c.machine-in-loop-round.ensures.replay c.loop-round.round.place c.next.new.self.place c.in-Some.step c.entered.new.log.steps n i.entered a.asked.steps;
-      few = (let one = a.asked.few in let there = ap length c.steps.ensures.steps in omega (arith, one, there, c.loop-round-test.true));
+          next_is_asked old l i.opening (ap (λ (d : Config). d.k) i.config) replay c.loop-round.round.place c.next.new.self.place c.in-Some.step new.steps n i.entered
+          (one_asked l new c.in-Some.step c.step-outcome.result replay taken);
+      few = (let one = at_most_one l.steps new.steps c.in-Some.step c.step-outcome.result taken.steps in let there = ap length c.steps.ensures.steps in omega (arith, one, there, c.loop-round-test.true));
+      first = step_first old l new c.in-Some.step c.step-outcome.result i.opening replay own taken i.under i.first;
+      under =
+          step_under old l new c.in-Some.step c.step-outcome.result i.opening replay own taken i.under c.machine-in-loop-round-2.ensures.replay
+          (subst (λ m. (IsFault c.step-outcome.result → ⊥) × ((IsStop c.step-outcome.result → ⊥) ⊎ HasRunning m)) c.machine-in-loop-round-2.ensures.machine (c.if-is_over.ensures.not refl));
     }
 
-pub loop-round-smaller : goal.loop-round-smaller
-loop-round-smaller c =
-    let size : c.loop-round.round.k ≡ c.args.log.now.machine.config.k = c.loop-round.invariant.size ∙ ap (λ (d : Config). d.k) c.loop-round.invariant.config in
-    let on = c.in-Some.ensures.on in
-    let end = subst (λ k. c.next.new.self.place ≤ length (round k)) size on.1 in
-    omega (arith, on.0, end)
-
-pub returns-then-not-any_runs-clause-round : goal.returns-then-not-any_runs-clause-round
-returns-then-not-any_runs-clause-round c =
+pub returns-then-is_over-clause-round : goal.returns-then-is_over-clause-round
+returns-then-is_over-clause-round c =
     let i = c.loop-round.invariant in
-    let a = c.in_ok-has_stopped.ensures in
+    let old = c.args.log.now.log in
+    let l = c.loop-round.log.log in
+    let new = c.step-outcome.new.self.log in
+    let taken = c.step-outcome.ensures.taken in
     let n = subst (λ m. IsNext m c.loop-round.round.place c.in-Some.step c.next.new.self.place) c.machine-in-loop-round.ensures.machine c.in-Some.ensures.next in
-    let asked = next_is_asked c.args.log.now c.loop-round.log i.opening (ap (λ (d : Config). d.k) i.config) c.machine-in-loop-round.ensures.replay c.loop-round.round.place c.next.new.self.place c.in-Some.step c.entered.new.log.steps n i.entered a.asked.steps in
-    let at_most = (let one = a.asked.few in let there = ap length c.steps.ensures.steps in let most : length c.entered.new.log.steps ≤ c.args.most = omega (arith, one, there, c.loop-round-test.true) in most) in
-    stopped_round c.args.most c.args.log.now c.entered.new.log c.next.new.self.place c.requires.room asked at_most
-    (λ runs. (let yes = c.any_runs.ensures.1 (subst HasRunning (sym c.machine-then-has_stopped.ensures.machine) runs) in let not = c.if-not-any_runs.true in let is = c.if-not-any_runs.ensures in cc))
-    (grown c.args.log.now c.loop-round.log c.entered.new.log c.loop-round.round.place i.entered (a.asked.stopped c.if-has_stopped.true))
+    let replay = c.machine-in-loop-round.ensures.replay in
+    let own = step_of_round l.machine.config.k n.place c.in-Some.step n.there in
+    let asked = next_is_asked old l i.opening (ap (λ (d : Config). d.k) i.config) replay c.loop-round.round.place c.next.new.self.place c.in-Some.step new.steps n i.entered (one_asked l new c.in-Some.step c.step-outcome.result replay taken) in
+    let few = (let one = at_most_one l.steps new.steps c.in-Some.step c.step-outcome.result taken.steps in let there = ap length c.steps.ensures.steps in let most : length new.steps ≤ c.args.limit = omega (arith, one, there, c.loop-round-test.true) in most) in
+    round_over c.args.limit old new c.next.new.self.place (taken.opening ∙ i.opening) c.machine-in-loop-round-2.ensures.replay asked few (step_first old l new c.in-Some.step c.step-outcome.result i.opening replay own taken i.under i.first) true refl
+    (step_over old l new c.in-Some.step c.step-outcome.result i.opening replay own taken i.under c.machine-in-loop-round-2.ensures.replay (subst (λ xs. length old.steps ≤ length xs) (sym i.entered) (longer old.opening old.steps (take c.loop-round.round.place (round old.machine.config.k))))
+    (subst (λ m. IsFault c.step-outcome.result ⊎ (HasRunning m → ⊥)) c.machine-in-loop-round-2.ensures.machine (c.if-is_over.ensures.over refl)))
 
 pub returns-in_default-clause-round : goal.returns-in_default-clause-round
 returns-in_default-clause-round c =
     let i = c.loop-round.invariant in
+    let old = c.args.log.now.log in
+    let l = c.loop-round.log.log in
     let quiet =
-    subst (λ k. AreQuiet c.loop-round.log.machine c.loop-round.round.place (length (round k))) i.size
+    subst (λ k. AreQuiet l.machine c.loop-round.round.place (length (round k))) i.size
     (subst (λ (m : MachineLists). AreQuiet m c.loop-round.round.place (length (round c.loop-round.round.k))) c.machine-in-loop-round.ensures.machine (c.next.ensures.over c.in_default.is)) in
-    let rest = rest_is_asked c.args.log.now c.loop-round.log i.opening (ap (λ (d : Config). d.k) i.config) c.machine-in-loop-round.ensures.replay c.loop-round.round.place quiet i.entered in
-    whole_round c.args.most c.args.log.now c.loop-round.log rest.0 c.requires.room rest.1 i.few (subst IsMachine c.machine.ensures.machine c.is_idle.ensures.sound) c.requires.running c.machine.ensures.replay rest.2
+    let rest = rest_is_asked old l i.opening (ap (λ (d : Config). d.k) i.config) c.machine-in-loop-round.ensures.replay c.loop-round.round.place quiet i.entered in
+    whole_round c.args.limit old l rest.0 i.opening i.replay rest.1 i.few i.first i.under false refl (subst IsMachine c.machine.ensures.machine c.is_idle.ensures.sound) c.requires.running c.machine.ensures.replay rest.2
+
+pub returns-clause-round : goal.returns-clause-round
+returns-clause-round c =
+    let i = c.loop-round.invariant in
+    let full = (let there = ap length c.steps.ensures.steps in let most : c.args.limit ≤ length c.loop-round.log.log.steps = omega (arith, there, c.loop-round-test.false) in most) in
+    full_round c.args.limit c.args.log.now.log c.loop-round.log.log c.loop-round.round.place i.opening i.replay i.entered i.few i.first i.under false refl c.requires.few full

@@ -1,3 +1,8 @@
+use Rattle.std.proofs.Common.{◌++◌, subst}
+use Rattle.std.specs.Prelude.{string_bytes}
+use Rattle.machine_steps.specs.Draining.{drain_steps}
+use Rattle.machine_steps.specs.Machines.{IsMachine}
+use Rattle.run_commands.proofs.FlatReports.{report_is_of}
 use Rattle.run_commands.proofs.replay.reported.Goals as goal
 
 pub returns-clause-report : goal.returns-clause-report
@@ -5,17 +10,13 @@ returns-clause-report c =
     let opening = c.in_ok-machine.machine in
     let opens = c.in_ok-machine.ensures.opening in
     let taken = c.in_ok-tally.ensures.taken in
+    let before = c.retaken.new.machine in
+    let steps = c.args.steps.now ++ drain_steps before in
+    let new = c.drained.new.machine in
+    let all = c.in_ok-drained.ensures.taken opening c.args.steps.now taken in
+    let serialized = c.runs_are_serialized.ensures.each opening steps new c.is_idle.ensures.sound opens.idle (subst IsMachine c.machine-2.view_is c.machine-2.invariant) all.replay.run in
     record {
-      before = c.retaken.new.machine;
+      before = before;
       stands = record { opening = opening; opens = opens; replay = taken.replay };
-      report = record {
-        opening = opening;
-        opens = opens;
-        machine = c.drained.new.machine;
-        tally = c.drained.new.tally;
-        retaken = c.in_ok-drained.ensures.taken opening c.args.steps.now taken;
-        is = c.in_ok-text.ensures;
-        exit = c.exit_status.ensures;
-      };
-      idle = c.in_ok-drained.ensures.idle;
+      report = report_is_of c.args.config c.args.image steps opening new c.drained.new.tally opens all c.in_ok-drained.ensures.idle serialized (string_bytes c.in_ok-text.text) c.exit_status.result c.in_ok-text.ensures c.exit_status.ensures;
     }

@@ -5,14 +5,18 @@ use Rattle.std.proofs.lemmas.Result.{err_from_is_err_and}
 use Rattle.link.specs.Transfer.{AppendsPart}
 use Rattle.trace_file.specs.Traces.{trace_bytes, trace_of}
 use Rattle.run_commands.specs.Commands.{IsPartSaved, IsReportOf, IsSaved}
+use Rattle.machine_sweep.specs.declared.sweeping.SweepEnd.TheVariants.{Over}
 use Rattle.run_commands.proofs.Logging.{log_config, log_image, log_words, log_opens}
 use Rattle.run_commands.proofs.run.carried_out.Goals as goal
 
 pub reported-requires-clause-opens : goal.reported-requires-clause-opens
-reported-requires-clause-opens g c = log_opens c.args.config (g.R.Read.remaining c.args.file) c.in_ok-log.log c.in_ok-log.ensures.ran.run.log_of
+reported-requires-clause-opens g c = log_opens c.args.config c.args.budget (g.R.Read.remaining c.args.file) Over c.in_ok-log.log c.in_ok-log.ensures.ran.over
 
 pub reported-requires-clause-words : goal.reported-requires-clause-words
-reported-requires-clause-words g c = log_words c.args.config (g.R.Read.remaining c.args.file) c.in_ok-log.log c.in_ok-log.ensures.ran.run.log_of
+reported-requires-clause-words g c = log_words c.args.config c.args.budget (g.R.Read.remaining c.args.file) Over c.in_ok-log.log c.in_ok-log.ensures.ran.over
+
+pub reported-requires-clause-idle : goal.reported-requires-clause-idle
+reported-requires-clause-idle g c = c.in_ok-log.ensures.ran.over.run.swept.idle
 
 pub returns-clause-reported : goal.returns-clause-reported
 returns-clause-reported g c =
@@ -25,8 +29,8 @@ returns-clause-reported g c =
       ran = ran;
       text = text;
       report =
-          subst (λ size. IsReportOf size ran.run.log_of.image log.steps text c.in_ok-text.status) (log_config c.args.config known log ran.run.log_of)
-          (subst (λ image. IsReportOf log.machine.config image log.steps text c.in_ok-text.status) (log_image c.args.config known log ran.run.log_of) c.in_ok-text.ensures.report);
+          subst (λ size. IsReportOf size ran.over.image log.steps text c.in_ok-text.status) (log_config c.args.config c.args.budget known Over log ran.over)
+          (subst (λ image. IsReportOf log.machine.config image log.steps text c.in_ok-text.status) (log_image c.args.config c.args.budget known Over log ran.over) c.in_ok-text.ensures.report);
       saved = subst (λ steps. IsSaved {T = g.row.T.Denot} g.T.Write.contents c.args.trace.now c.save.new.trace (trace_bytes (trace_of c.args.config steps))) c.steps.ensures.steps c.in_ok-save.ensures.saved;
       printed = subst (λ bytes. Appends (g.W.Write.contents c.args.out.now) (g.W.Write.contents c.print.new.out) bytes) c.as_str.ensures.value c.in_ok-print.ensures.printed;
     }
@@ -60,8 +64,8 @@ returns-in_err-print-clause-told g c =
       text = text;
       status = c.in_ok-text.status;
       report =
-          subst (λ size. IsReportOf size ran.run.log_of.image log.steps text c.in_ok-text.status) (log_config c.args.config known log ran.run.log_of)
-          (subst (λ image. IsReportOf log.machine.config image log.steps text c.in_ok-text.status) (log_image c.args.config known log ran.run.log_of) c.in_ok-text.ensures.report);
+          subst (λ size. IsReportOf size ran.over.image log.steps text c.in_ok-text.status) (log_config c.args.config c.args.budget known Over log ran.over)
+          (subst (λ image. IsReportOf log.machine.config image log.steps text c.in_ok-text.status) (log_image c.args.config c.args.budget known Over log ran.over) c.in_ok-text.ensures.report);
       part = subst (λ bytes. AppendsPart (g.W.Write.contents c.args.out.now) (g.W.Write.contents c.print.new.out) bytes) c.as_str.ensures.value f.1;
     })
 

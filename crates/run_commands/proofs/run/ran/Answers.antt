@@ -1,20 +1,26 @@
 use Rattle.std.proofs.Common.{subst}
-use Rattle.std.proofs.lemmas.Result.{err_from_is_err_and}
-use Rattle.machine_lock.specs.Logs.{IsKept}
-use Rattle.run_commands.proofs.Logging.{has_run, not_ended}
+use Rattle.machine_sweep.specs.Sweeps.{IsSwept, most_of}
+use Rattle.machine_sweep.specs.declared.sweeping.SweepEnd.TheVariants.{Budget, Over}
+use Rattle.run_commands.proofs.Logging.{run_of, trace_is}
 use Rattle.run_commands.proofs.run.ran.Goals as goal
 
-pub returns-in_err-follow_sweep-clause-refused : goal.returns-in_err-follow_sweep-clause-refused
-returns-in_err-follow_sweep-clause-refused g c =
-    let p = err_from_is_err_and c.from_residual-in_err-follow_sweep.result c.from_residual-in_err-follow_sweep.ensures.1 in
-    let a = c.follow_sweep.ensures in
-    rw (p.1, p.2)
-    (not_ended c.args.config c.args.budget (g.R.Read.remaining c.args.file) c.in_ok-image.image c.in_ok-image.ensures.image c.in_ok-machine_of.field-0 c.in_ok-machine_of.ensures.opening c.new-log.result c.follow_sweep.new.log c.new-log.ensures a.opening a.config
-    (subst IsKept c.log.view_is c.log.invariant) a.few c.follow_sweep.result c.in_err-follow_sweep.field-0.0 c.in_err-follow_sweep.was a.followed a.budget)
+pub returns-in-Over-clause-ran : goal.returns-in-Over-clause-ran
+returns-in-Over-clause-ran g c =
+    let known = g.R.Read.remaining c.args.file in
+    let old = c.new-log.result in
+    let log = c.follow_sweep.new.log in
+    let meant = c.in_ok-image.ensures.image in
+    let opens = c.in_ok-machine_of.ensures.opening in
+    let swept = subst (λ end. IsSwept (most_of c.args.budget) old end log) c.in-Over.is c.in-Ok.ensures.swept in
+    record {
+      over = run_of c.args.config c.args.budget known c.in_ok-image.image meant c.in_ok-machine_of.field-0 opens old log c.new-log.ensures c.machine.ensures.kept Over swept;
+      trace = trace_is c.args.config c.args.budget known c.in_ok-image.image meant c.in_ok-machine_of.field-0 opens old log c.new-log.ensures c.machine.ensures.kept Over swept c.in-Ok.ensures.records;
+    }
 
-pub returns-clause-ran : goal.returns-clause-ran
-returns-clause-ran g c =
-    let a = c.in_ok-follow_sweep.ensures in
-    let b = c.follow_sweep.ensures in
-    has_run c.args.config c.args.budget (g.R.Read.remaining c.args.file) c.in_ok-image.image c.in_ok-image.ensures.image c.in_ok-machine_of.field-0 c.in_ok-machine_of.ensures.opening c.new-log.result c.follow_sweep.new.log c.new-log.ensures a.opening a.config
-    (subst IsKept c.log.view_is c.log.invariant) a.few (b.followed (λ wrong. (let was = c.in_ok-follow_sweep.was in cc))) a.records a.ended
+pub returns-in-Budget-clause-refused : goal.returns-in-Budget-clause-refused
+returns-in-Budget-clause-refused g c =
+    let known = g.R.Read.remaining c.args.file in
+    let old = c.new-log.result in
+    let log = c.follow_sweep.new.log in
+    let swept = subst (λ end. IsSwept (most_of c.args.budget) old end log) c.in-Budget.is c.in-Ok.ensures.swept in
+    (log, run_of c.args.config c.args.budget known c.in_ok-image.image c.in_ok-image.ensures.image c.in_ok-machine_of.field-0 c.in_ok-machine_of.ensures.opening old log c.new-log.ensures c.machine.ensures.kept Budget swept)

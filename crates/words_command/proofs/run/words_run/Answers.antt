@@ -26,7 +26,7 @@ loop-retired-preserved c =
     record {
       opening = t.opening ∙ i.opening;
       idle = taken.idle;
-      one = ap (λ (f : Config). f.k) taken.config ∙ i.one;
+      one = ap (λ (f : Config). f.k) taken.replay.run.config ∙ i.one;
       ran = run_retired (flat_state c.args.log.now.machine) c.loop-retired.log.machine c.take_instruction.new.log.machine c.in-Ok.outcome c.loop-retired.retired i.ran taken (sym c.has_retired.ensures ∙ c.if-not-has_retired.false);
       budget = (let within : c.loop-retired.retired ≤ 1000000 = i.budget in let other : c.loop-retired.retired ≢ 1000000 = c.if-retired-eq-BUDGET.false in omega arith);
       steps = (let few : length c.loop-retired.log.steps ≤ 3 * c.loop-retired.retired = i.steps in let more = t.longer in omega (arith, few, more));

@@ -1,0 +1,67 @@
+-- A trace has a record of each step of a sweep and of its drain.
+use Rattle.std.proofs.Common.{◌≡◌, ℕ, ◌^◌, ◌<◌, true, List, [], ◌∷◌, ◌++◌, take, refl, sym, ap, ap₂, ◌∙◌, subst, append_assoc}
+use Rattle.std.specs.Prelude.{◌&&◌, nat_lt}
+use Rattle.std.proofs.lemmas.Bool.{lt-ltb}
+use Rattle.std.proofs.lemmas.List.Elements.{All-append, All-cons, All-nil}
+use Rattle.flat_machine.specs.declared.config.Config.{Config}
+use Rattle.abstract_machine.specs.Machine as theory
+use Rattle.steps.specs.declared.step.Step.{Step}
+use Rattle.steps.specs.declared.step.Step.TheVariants as step
+use Rattle.trace_file.specs.Records.{HasRecord}
+use Rattle.trace_file.specs.Traces.{HaveRecords}
+use Rattle.machine_program.specs.Processors.{Told}
+use Rattle.machine_program.specs.Steps.{after}
+use Rattle.machine_steps.specs.Draining.{drain_steps}
+use Rattle.machine_steps.specs.Machines.{machine_of}
+use Rattle.machine_steps.specs.Runs.{IsReplay, NoneStalls, all_after}
+use Rattle.machine_lock.specs.Logs.{Log}
+use Rattle.sweep.specs.Rounds.{round}
+use Rattle.machine_sweep.specs.Sweeps.{IsSwept, rounds}
+use Rattle.machine_sweep.specs.declared.sweeping.SweepEnd.{SweepEnd}
+use Rattle.machine_sweep.proofs.Own.{AreOwn, IsOwn, drain_steps_are_own, own_asked, own_both, own_entered}
+use Rattle.machine_sweep.proofs.Progress.{IsOfRound, of_round}
+
+both : (a b : ℕ) (n m : ℕ) → a < n → b < m → (nat_lt a n && nat_lt b m) ≡ true
+both a b n m first second = ap₂ (λ x y. x && y) (lt-ltb a n first) (lt-ltb b m second)
+
+of_round_has_record : (k : ℕ) (s : Step) → IsOfRound k s → HasRecord k s
+of_round_has_record k (step.Turn p) within = lt-ltb p (2 ^ k) within
+of_round_has_record k (step.Up s w) within = both s w k (2 ^ k) within.0 within.1
+of_round_has_record k (step.Serve m) within = lt-ltb m (2 ^ k) within
+of_round_has_record k (step.Down s w) within = both s w k (2 ^ k) within.0 within.1
+of_round_has_record k (step.Poke q) within = absurd within
+
+-- steps that all do something, and write nothing from outside
+moves_have_records : (c : Config) (code : List ℕ) (M : theory.Machine Told) (steps : List Step) → AreOwn steps → NoneStalls c code M steps → HaveRecords c.k steps
+moves_have_records c code M [] own moves = All-nil (HasRecord c.k)
+moves_have_records c code M (s ∷ ss) own moves =
+    All-cons (HasRecord c.k) s ss (of_round_has_record c.k s (of_round c code M s own.0 moves.0)) (moves_have_records c code (after c code M s) ss own.1 moves.1)
+
+later_moves : (c : Config) (code : List ℕ) (M : theory.Machine Told) (xs ys : List Step) → NoneStalls c code M (xs ++ ys) → NoneStalls c code (all_after c code M xs) ys
+unfolding all_after
+later_moves c code M [] ys moves = moves
+later_moves c code M (x ∷ xs) ys moves = later_moves c code (after c code M x) xs ys moves.1
+
+module _ (most : ℕ) (old : Log) (end : SweepEnd) (new : Log) (swept : IsSwept most old end new) (replay : IsReplay new.opening new.steps new.machine) (size : old.machine.config ≡ old.opening.config) where
+  abbrev asked : List Step
+  asked = rounds old.machine.config.k swept.followed.whole ++ take swept.followed.part (round old.machine.config.k)
+
+  -- what the log has more
+  more : (rest : List Step) × AreOwn rest × (new.steps ≡ old.steps ++ rest)
+  more =
+      let e = own_entered old.opening old.steps asked (own_asked old.machine.config.k swept.followed.whole swept.followed.part) in (
+        e.0 ++ drain_steps swept.middle.machine,
+        own_both e.0 (drain_steps swept.middle.machine) e.1 (drain_steps_are_own swept.middle.machine),
+        swept.steps ∙ ap (λ xs. xs ++ drain_steps swept.middle.machine) (swept.followed.steps ∙ e.2) ∙ append_assoc old.steps e.0 (drain_steps swept.middle.machine),
+      )
+
+  config_is : new.machine.config ≡ old.machine.config
+  config_is = replay.run.config ∙ ap (λ m. m.config) swept.opening ∙ sym size
+
+  pub swept_has_records : HaveRecords old.machine.config.k old.steps → HaveRecords new.machine.config.k new.steps
+  swept_has_records before =
+      let moves = subst (NoneStalls new.opening.config new.opening.code (machine_of new.opening (λ p. []))) more.2 replay.moved in
+      let later = moves_have_records new.opening.config new.opening.code (all_after new.opening.config new.opening.code (machine_of new.opening (λ p. [])) old.steps) more.0 more.1
+      (later_moves new.opening.config new.opening.code (machine_of new.opening (λ p. [])) old.steps more.0 moves) in
+      let here = subst (λ (c : Config). HaveRecords c.k more.0) (ap (λ m. m.config) swept.opening ∙ sym size) later in
+      subst (λ (c : Config). HaveRecords c.k new.steps) (sym config_is) (subst (HaveRecords old.machine.config.k) (sym more.2) (All-append (HasRecord old.machine.config.k) old.steps more.0 before here))
