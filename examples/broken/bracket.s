@@ -1,0 +1,1 @@
+start: lw a0, 4(sp

@@ -1,0 +1,1 @@
+start: addi a0, a0, 2048

@@ -1,0 +1,2 @@
+start: jal ra, nowhere
+ ebreak

@@ -1,0 +1,2 @@
+start: ebreak
+start: ebreak

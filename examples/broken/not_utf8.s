@@ -1,0 +1,1 @@
+start: ebreak # ÿ

@@ -1,0 +1,3 @@
+start: ebreak
+ .zero 2
+ ebreak

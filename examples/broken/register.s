@@ -1,0 +1,1 @@
+start: add a0, a1, x32

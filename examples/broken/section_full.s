@@ -1,0 +1,2 @@
+start: ebreak
+ .zero 65533
