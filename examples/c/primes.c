@@ -1,17 +1,12 @@
 // Processors share the numbers below 1,000 among themselves. Each finds the primes of its own by `%` and `*`, writes how many
 // there are to its console, in decimal digits by `/` and `%`, and adds their number and their sum to two words that all share.
 
+#include "ultra.h"
+
 #define LIMIT 1000
 
 // How many primes, and their sum: one pair for all processors.
-static volatile unsigned totals[2] __attribute__((section(".shared")));
-
-// Gives a byte to the console.
-static void put(unsigned byte) {
-    register unsigned argument __asm__("a0") = byte;
-    register unsigned call __asm__("a7") = 1;
-    __asm__ volatile("ecall" : "+r"(argument) : "r"(call));
-}
+static SHARED int totals[2];
 
 static void put_number(unsigned number) {
     unsigned power = 1;
@@ -33,7 +28,7 @@ static int is_prime(unsigned number) {
 }
 
 int main(int number, int processors) {
-    unsigned primes = 0, sum = 0;
+    int primes = 0, sum = 0;
     for (unsigned candidate = number; candidate < LIMIT; candidate += processors) {
         if (is_prime(candidate)) {
             primes++;
@@ -41,7 +36,7 @@ int main(int number, int processors) {
         }
     }
     put_number(primes);
-    __atomic_fetch_add(&totals[0], primes, __ATOMIC_RELAXED);
-    __atomic_fetch_add(&totals[1], sum, __ATOMIC_RELAXED);
+    fetch_and_add(&totals[0], primes);
+    fetch_and_add(&totals[1], sum);
     return 0;
 }
