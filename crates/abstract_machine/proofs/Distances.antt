@@ -69,4 +69,5 @@ total_bound f (suc n) b h = let a = total_bound f n b (λ i l. h i (omega arith)
 pub far_distance : (k : ℕ) (path : ℕ → ℕ → ℕ) (role : ℕ → Role) (net : Net) → Placed k path role net → (p n : ℕ) → Distance k net p n → Far k role p n
 far_distance k path role net ok p n (asks _ _ d w x m e f) = asking p n d (ap role (sym e) ∙ (ok.requests d w x m).asks) f
 far_distance k path role net ok p n (tells _ _ d w x m e f) = told p n d (ap role (sym e) ∙ (ok.replies d w x m).told) f
-far_distance k path role net ok p n (waits _ _ s w x m e h) = waiting p n s x.leader (ap role (sym e) ∙ (ok.records s w x m).waits) (far_distance k path role net ok x.leader n h)
+far_distance k path role net ok p n (waits _ _ s w x m e h) =
+    waiting p n s x.leader (ap role (sym e) ∙ (ok.records s w x m).waits) (far_distance k path role net ok x.leader n h)

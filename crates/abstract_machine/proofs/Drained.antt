@@ -32,41 +32,52 @@ none_at : {X : Type 0} (xs : List X) → ((x : X) → In x xs → ⊥) → is_an
 none_at [] h = refl
 none_at (x ∷ xs) h = absurd (h x (inl refl))
 
-no_first : {X : Type 0} (at : ℕ → List X) (n : ℕ) (go : ℕ → Step) → ((w : ℕ) → is_any (at w) ≡ false) → first_wire at n go ≡ None
+no_first : {X Pokes : Type 0} (at : ℕ → List X) (n : ℕ) (go : ℕ → Step Pokes) → ((w : ℕ) → is_any (at w) ≡ false) → first_wire at n go ≡ None
 no_first at n go h = ap (λ o. elim o [ Some w ↦ Some (go w) | None ↦ None ]) (no_least (λ w. is_any (at w)) n h)
 
 no_some : {X : Type 0} (at : ℕ → List X) (n : ℕ) → ((w : ℕ) → is_any (at w) ≡ false) → some_wire at n ≡ false
 no_some at n h = ap is_some (no_least (λ w. is_any (at w)) n h)
 
-pub idle_names_none : {Core : Type 0} → (z : Sizes) (P : Program Core) (M : Machine Core) (role : ℕ → Role) → Steady z P M role → IsIdle z M → drain_step z M ≡ None
+pub idle_names_none : {Core Pokes Entry : Type 0} → (z : Sizes) (P : Program Core Pokes Entry) (M : Machine Core) (role : ℕ → Role) → Steady z P M role
+    → IsIdle z M → drain_step {Pokes = Pokes} z M ≡ None
 idle_names_none z P M role ok no_open =
     let all : (p : ℕ) → role p ≡ Idle = (λ p. elim (ok.small p) [ inl i ↦ i | inr l ↦ (ok.shut p).0 (no_open p l) ]) in
-    let requests : (d w : ℕ) → is_any (M.net.requests d w) ≡ false = (λ d w. none_at (M.net.requests d w) (λ x m. let h = (ok.placed.requests d w x m).asks in let c : Asking d ≡ Idle = sym h ∙ all x.leader in cc)) in
-    let replies : (d w : ℕ) → is_any (M.net.replies d w) ≡ false = (λ d w. none_at (M.net.replies d w) (λ x m. let h = (ok.placed.replies d w x m).told in let c : Told d ≡ Idle = sym h ∙ all x.leader in cc)) in
+    let requests : (d w : ℕ)
+    → is_any (M.net.requests d w) ≡ false =
+    (λ d w. none_at (M.net.requests d w) (λ x m. let h = (ok.placed.requests d w x m).asks in let c : Asking d ≡ Idle = sym h ∙ all x.leader in cc)) in
+    let replies : (d w : ℕ) → is_any (M.net.replies d w) ≡ false =
+    (λ d w. none_at (M.net.replies d w) (λ x m. let h = (ok.placed.replies d w x m).told in let c : Told d ≡ Idle = sym h ∙ all x.leader in cc)) in
     let turn : first_wire (M.net.replies 0) (wires z) Turn ≡ None = no_first (M.net.replies 0) (wires z) Turn (replies 0) in
-    let going_down : down_step z M.net ≡ None = ap (λ o. elim o [ Some s ↦ first_wire (M.net.replies (suc s)) (wires z) (Down s) | None ↦ None ]) (no_least (λ s. some_wire (M.net.replies (suc s)) (wires z)) z.k (λ s. no_some (M.net.replies (suc s)) (wires z) (replies (suc s)))) in
+    let going_down : down_step z M.net ≡ None =
+    ap (λ o. elim o [ Some s ↦ first_wire (M.net.replies (suc s)) (wires z) (Down s) | None ↦ None ])
+    (no_least (λ s. some_wire (M.net.replies (suc s)) (wires z)) z.k (λ s. no_some (M.net.replies (suc s)) (wires z) (replies (suc s)))) in
     let serve : first_wire (M.net.requests z.k) (wires z) Serve ≡ None = no_first (M.net.requests z.k) (wires z) Serve (requests z.k) in
-    let going_up : up_step z M.net ≡ None = ap (λ o. elim o [ Some s ↦ first_wire (M.net.requests s) (wires z) (Up s) | None ↦ None ]) (no_greatest (λ s. some_wire (M.net.requests s) (wires z)) z.k (λ s. no_some (M.net.requests s) (wires z) (requests s))) in
+    let going_up : up_step z M.net ≡ None =
+    ap (λ o. elim o [ Some s ↦ first_wire (M.net.requests s) (wires z) (Up s) | None ↦ None ])
+    (no_greatest (λ s. some_wire (M.net.requests s) (wires z)) z.k (λ s. no_some (M.net.requests s) (wires z) (requests s))) in
     ap₂ or_else turn (ap₂ or_else going_down (ap₂ or_else serve going_up))
 
 -- ---- the end
 
 -- a drain of as many steps as the distances make together ends idle
-pub drained : {Core : Type 0} → (z : Sizes) (P : Program Core) (n : ℕ) (M : Machine Core) (role : ℕ → Role) (f : ℕ → ℕ) → Steady z P M role → z.r < z.c → AreDistances z M f → total f (wires z) ≤ n → (p : ℕ) → (machine_after z P (drain_steps z P n M) M).is_open p ≡ false
+pub drained : {Core Pokes Entry : Type 0} → (z : Sizes) (P : Program Core Pokes Entry) (n : ℕ) (M : Machine Core) (role : ℕ → Role) (f : ℕ → ℕ)
+    → Steady z P M role → z.r < z.c → AreDistances z M f → total f (wires z) ≤ n → (p : ℕ) → (machine_after z P (drain_steps z P n M) M).is_open p ≡ false
 unfolding drain_steps machine_after
-drained z P zero M role f ok room df l p = go (drain_step z M) (drain_is z P M role ok room)
+drained {Core} {Pokes} z P zero M role f ok room df l p = go (drain_step z M) (drain_is z P M role ok room)
   where
-    go : (o : Option Step) → DrainIs z P M o → M.is_open p ≡ false
+    go : (o : Option (Step Pokes)) → DrainIs z P M o → M.is_open p ≡ false
     go None d = d p
     go (Some st) d =
         let s = goes_step z P M role st ok in
         let g = distances_are z P (step z P M st).machine s.0 s.1 in
         let less = d.1 f g.0 df g.1 in
         absurd (omega arith)
-drained {Core} z P (suc n) M role f ok room df l p = go (λ st g. drained z P n (step z P M st).machine g) (drain_step z M) (drain_is z P M role ok room)
+drained {Core} {Pokes} z P (suc n) M role f ok room df l p = go (λ st g. drained z P n (step z P M st).machine g) (drain_step z M) (drain_is z P M role ok room)
   where
-    go : ((st : Step) (g : ℕ → Role) (h : ℕ → ℕ) → Steady z P (step z P M st).machine g → z.r < z.c → AreDistances z (step z P M st).machine h → total h (wires z) ≤ n → (q : ℕ) → (machine_after z P (drain_steps z P n (step z P M st).machine) (step z P M st).machine).is_open q ≡ false)
-        → (o : Option Step) → DrainIs z P M o → (machine_after z P (elim o [ Some st ↦ st ∷ drain_steps z P n (step z P M st).machine | None ↦ [] ]) M).is_open p ≡ false
+    go : ((st : Step Pokes) (g : ℕ → Role) (h : ℕ → ℕ) → Steady z P (step z P M st).machine g → z.r < z.c → AreDistances z (step z P M st).machine h
+        → total h (wires z) ≤ n → (q : ℕ) → (machine_after z P (drain_steps z P n (step z P M st).machine) (step z P M st).machine).is_open q ≡ false)
+        → (o : Option (Step Pokes)) → DrainIs z P M o
+        → (machine_after z P (elim o [ Some st ↦ st ∷ drain_steps z P n (step z P M st).machine | None ↦ [] ]) M).is_open p ≡ false
     go later None d = d p
     go later (Some st) d =
         let s = goes_step z P M role st ok in
@@ -74,21 +85,24 @@ drained {Core} z P (suc n) M role f ok room df l p = go (λ st g. drained z P n 
         let less = d.1 f g.0 df g.1 in
         later st s.0 g.0 s.1 room g.1 (omega arith) p
 
-pub drain_ends : {Core : Type 0} → (z : Sizes) (P : Program Core) (M : Machine Core) (role : ℕ → Role) → Steady z P M role → z.r < z.c → (p : ℕ) → (machine_after z P (drain_steps z P (drain_bound z) M) M).is_open p ≡ false
+pub drain_ends : {Core Pokes Entry : Type 0} → (z : Sizes) (P : Program Core Pokes Entry) (M : Machine Core) (role : ℕ → Role) → Steady z P M role → z.r < z.c
+    → (p : ℕ) → (machine_after z P (drain_steps z P (drain_bound z) M) M).is_open p ≡ false
 drain_ends z P M role ok room =
     let f = distances_are z P M role ok in
     drained z P (drain_bound z) M role f.0 ok room f.1 (bound z P M role ok f.0 f.1)
 
-pub drain_is_short : {Core : Type 0} → (z : Sizes) (P : Program Core) (n : ℕ) (M : Machine Core) → length (drain_steps z P n M) ≤ n
+pub drain_is_short : {Core Pokes Entry : Type 0} → (z : Sizes) (P : Program Core Pokes Entry) (n : ℕ) (M : Machine Core) → length (drain_steps z P n M) ≤ n
 unfolding drain_steps
 drain_is_short z P zero M = omega arith
-drain_is_short z P (suc n) M = go (λ st. drain_is_short z P n (step z P M st).machine) (drain_step z M)
+drain_is_short {Core} {Pokes} z P (suc n) M = go (λ st. drain_is_short z P n (step z P M st).machine) (drain_step z M)
   where
-    go : ((st : Step) → length (drain_steps z P n (step z P M st).machine) ≤ n) → (o : Option Step) → length {A = Step} (elim o [ Some st ↦ st ∷ drain_steps z P n (step z P M st).machine | None ↦ [] ]) ≤ suc n
+    go : ((st : Step Pokes) → length (drain_steps z P n (step z P M st).machine) ≤ n) → (o : Option (Step Pokes))
+        → length {A = Step Pokes} (elim o [ Some st ↦ st ∷ drain_steps z P n (step z P M st).machine | None ↦ [] ]) ≤ suc n
     go later None = omega arith
     go later (Some st) = let h = later st in omega arith
 
-pub steady_after : {Core : Type 0} → (z : Sizes) (P : Program Core) (steps : List Step) (M : Machine Core) (role : ℕ → Role) → Steady z P M role → (role' : ℕ → Role) × Steady z P (machine_after z P steps M) role'
+pub steady_after : {Core Pokes Entry : Type 0} → (z : Sizes) (P : Program Core Pokes Entry) (steps : List (Step Pokes)) (M : Machine Core) (role : ℕ → Role)
+    → Steady z P M role → (role' : ℕ → Role) × Steady z P (machine_after z P steps M) role'
 unfolding machine_after
 steady_after z P [] M role ok = (role, ok)
 steady_after z P (st ∷ sts) M role ok = let g = goes_step z P M role st ok in steady_after z P sts (step z P M st).machine g.0 g.1

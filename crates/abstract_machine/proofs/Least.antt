@@ -44,4 +44,9 @@ greatest_is f (suc n) = go (f n) refl (greatest f n) (greatest_is f n)
     go : (b : Bool) → f n ≡ b → (o : Option ℕ) → GreatestIs f n o → GreatestIs f (suc n) (if b then Some n else o)
     go true e o h = record { within = omega arith; passes = e; behind = λ j l m. absurd (omega arith) }
     go false e None h = λ j l. at_last f n j l h e
-    go false e (Some i) h = record { within = (let w = h.within in omega arith); passes = h.passes; behind = λ j l m. elim (cases_eq j n) [ inl s ↦ ap f s ∙ e | inr k ↦ h.behind j l (omega arith) ] }
+    go false e (Some i) h = record {
+      within = (let w = h.within in omega arith);
+      passes = h.passes;
+      behind =
+          λ j l m. elim (cases_eq j n) [ inl s ↦ ap f s ∙ e | inr k ↦ h.behind j l (omega arith) ];
+    }

@@ -14,19 +14,19 @@ use Rattle.messages.specs.declared.moves.DownMove.TheVariants as down
 use Rattle.messages.specs.Moves.{combined, accepted, up_from, moved_up, push_all, has_room, answered, down_from, moved_down, injected, module_taken, module_replied, port_taken}
 use Rattle.omega_wires.specs.Wires.{path as way, wire_after, wire_before}
 use Rattle.omega_wires.proofs.Paths.{path_zero, path_suc, before_path}
-use Rattle.flat_machine.specs.declared.poke.Poke as pokes
 use Rattle.placement.specs.Roles.{Role, Idle, Asking, Waiting, Told, depth, Placed, RecordPlaced, Unnamed, told_all}
 use Rattle.abstract_machine.specs.Program.{Program, Kind, Rests, Alone, Refers, word_of, path_of}
 use Rattle.abstract_machine.specs.Machine.{Machine, Step, Turn, Up, Serve, Down, Poke, stalled, with_net, retire_from, request_of, issue, advance, begin, turned, went_up, went_down, serve_from, all_shut, poked, step, new_machine}
 use Rattle.abstract_machine.specs.Steadiness.{Few, Stands, Steady, Far, idle, asking, told, waiting, Lower, MovedOn, GoesOn}
-use Rattle.placement.proofs.Places.{put2_same, put2_other, In-append, In-append_left, In-append_right, In-put2, put_same, put_other, In-filter, filter_none}
+use Rattle.messages.proofs.Places.{put2_same, put2_other, In-append, In-append_left, In-append_right, In-put2, put_same, put_other, In-filter, filter_none}
 use Rattle.placement.proofs.Records.{records_none, records_path, records_other_stage, records_push_other, records_push_same, records_drop_other}
 use Rattle.placement.proofs.Roles.{pop_request, pop_request_unnamed, push_request, push_reply, pop_reply, pop_reply_unnamed, others_request, combine, placed_change, placed_nowhere, unnamed_idle, below_role, small_put, told_other, not_led, from_answers}
 use Rattle.placement.proofs.Joining.{Joins, combination_joins}
 use Rattle.abstract_machine.proofs.Standing.{stands_pop_request, stands_pop_reply, stands_push_request, stands_push_reply, stands_push_record, stands_entry, stands_drop, stands_push_all, stands_pushed}
 use Rattle.abstract_machine.proofs.Distances.{far_asking, far_told, far_waiting, far_lower}
 
-shut_put : (role : ℕ → Role) (p : ℕ) (r : Role) (b : ℕ → Bool) → ((q : ℕ) → (b q ≡ false) ↔ (role q ≡ Idle)) → (role p ≡ Idle → ⊥) → (r ≡ Idle → ⊥) → (q : ℕ) → (b q ≡ false) ↔ (put role p r q ≡ Idle)
+shut_put : (role : ℕ → Role) (p : ℕ) (r : Role) (b : ℕ → Bool) → ((q : ℕ) → (b q ≡ false) ↔ (role q ≡ Idle)) → (role p ≡ Idle → ⊥) → (r ≡ Idle → ⊥) → (q : ℕ)
+    → (b q ≡ false) ↔ (put role p r q ≡ Idle)
 shut_put role p r b h n m q = (
   (λ e. let i = (h q).0 e in put_other role p r q (λ f. n (ap role (sym f) ∙ i)) ∙ i),
   (λ e. elim (cases_eq q p) [
@@ -36,7 +36,8 @@ shut_put role p r b h n m q = (
 )
 
 -- one role changes, and gets nearer
-lower_put : (k n : ℕ) (role : ℕ → Role) (p : ℕ) (r : Role) → p < n → ((i : ℕ) → Far k role p i → (j : ℕ) × Far k (put role p r) p j × (j < i)) → Lower k n role (put role p r)
+lower_put : (k n : ℕ) (role : ℕ → Role) (p : ℕ) (r : Role) → p < n → ((i : ℕ) → Far k role p i → (j : ℕ) × Far k (put role p r) p j × (j < i))
+    → Lower k n role (put role p r)
 lower_put k n role p r l h = record {
   none_grows = far_lower k role (put role p r) (λ q. elim (cases_eq q p) [
     | inl e ↦ inr (λ i f. let g = h i (subst (λ v. Far k role v i) e f) in (g.0, subst (λ v. Far k (put role p r) v g.0) (sym e) g.1, omega (arith, g.2)))
@@ -50,13 +51,16 @@ lower_put k n role p r l h = record {
 asks_n : (role : ℕ → Role) (n p : ℕ) (r : Role) → ((q : ℕ) → (role q ≡ Idle) ⊎ (q < n)) → role p ≡ r → (r ≡ Idle → ⊥) → p < n
 asks_n role n p r small is m = elim (small p) [ inl i ↦ absurd (m (sym is ∙ i)) | inr l ↦ l ]
 
-stands_put : (net : Net) (role : ℕ → Role) (p : ℕ) (r : Role) → ((q : ℕ) → (q ≡ p → ⊥) → Stands net q (role q)) → Stands net p r → (q : ℕ) → Stands net q (put role p r q)
+stands_put : (net : Net) (role : ℕ → Role) (p : ℕ) (r : Role) → ((q : ℕ) → (q ≡ p → ⊥) → Stands net q (role q)) → Stands net p r → (q : ℕ)
+    → Stands net q (put role p r q)
 stands_put net role p r others mine q = elim (cases_eq q p) [
   | inl e ↦ subst (λ v. Stands net v (put role p r v)) (sym e) (subst (Stands net p) (sym (put_same role p r)) mine)
   | inr m ↦ subst (Stands net q) (sym (put_other role p r q m)) (others q m)
 ]
 
-pub steady_moved : {Core : Type 0} → (z : Sizes) (P : Program Core) (M : Machine Core) (role : ℕ → Role) (s w v : ℕ) (x : Request) (rest : List Request) → Steady z P M role → s < z.k → M.net.requests s w ≡ x ∷ rest
+pub steady_moved : {Core Pokes Entry : Type 0}
+    → (z : Sizes) (P : Program Core Pokes Entry) (M : Machine Core) (role : ℕ → Role) (s w v : ℕ) (x : Request) (rest : List Request) → Steady z P M role
+    → s < z.k → M.net.requests s w ≡ x ∷ rest
     → path_of z P M.core x.leader (suc s) ≡ v
     → MovedOn z P role (with_net M (put_requests (put_requests M.net s w rest) (suc s) v ((put_requests M.net s w rest).requests (suc s) v ++ unmarked x ∷ [])))
 steady_moved z P M role s w v x rest ok l e on =
@@ -68,9 +72,11 @@ steady_moved z P M role s w v x rest ok l e on =
     let net1 : Net = put_requests M.net s w rest in
     let placed1 = pop_request z.k path role M.net s w x rest ok.placed e in
     let free : Unnamed net1 p = pop_request_unnamed z.k path role M.net s w x rest ok.placed e in
-    let below : (t u : ℕ) (r : Record) → In r (M.net.records t u) → r.leader ≡ p → t < s = (λ t u r i g. below_role z.k path role M.net p (Asking s) ok.placed at.asks t u r i g) in
+    let below : (t u : ℕ) (r : Record) → In r (M.net.records t u) → r.leader ≡ p
+    → t < s = (λ t u r i g. below_role z.k path role M.net p (Asking s) ok.placed at.asks t u r i g) in
     let none : records_on path M.net.records p s ≡ [] = records_none path M.net.records p s (λ u r i g. let b = below s u r i g in omega arith) in
-    let old : (d u : ℕ) (b : Request) → In b (net1.requests d u) → In b (M.net.requests d u) = (λ d u b m. elim (In-put2 M.net.requests s w rest d u b m) [ inl h ↦ rw (h.0, h.1, e) (inr h.2) | inr h ↦ h.1 ]) in
+    let old : (d u : ℕ) (b : Request) → In b (net1.requests d u)
+    → In b (M.net.requests d u) = (λ d u b m. elim (In-put2 M.net.requests s w rest d u b m) [ inl h ↦ rw (h.0, h.1, e) (inr h.2) | inr h ↦ h.1 ]) in
     let role' : ℕ → Role = put role p (Asking (suc s)) in
     record {
       role' = role';
@@ -94,14 +100,20 @@ steady_moved z P M role s w v x rest ok l e on =
         ];
         few = ok.few;
         stands = stands_put (put_requests net1 (suc s) v (net1.requests (suc s) v ++ y ∷ [])) role p (Asking (suc s))
-            (λ q n. stands_push_request net1 (suc s) v y q (role q) (stands_pop_request M.net s w x rest q (role q) e n (ok.stands q)))
-            (v, y, subst (In y) (sym (put2_same net1.requests (suc s) v (net1.requests (suc s) v ++ y ∷ []))) (In-append_right y (net1.requests (suc s) v) (y ∷ []) (inl refl)), refl);
+            (λ q n. stands_push_request net1 (suc s) v y q (role q) (stands_pop_request M.net s w x rest q (role q) e n (ok.stands q))) (
+              v,
+              y,
+              subst (In y) (sym (put2_same net1.requests (suc s) v (net1.requests (suc s) v ++ y ∷ [])))
+                  (In-append_right y (net1.requests (suc s) v) (y ∷ []) (inl refl)),
+              refl,
+            );
         refers = ok.refers;
         shut = shut_put role p (Asking (suc s)) M.is_open ok.shut (λ i. let c = sym at.asks ∙ i in cc) (λ c. cc);
         small = small_put role (wires z) p (Asking (suc s)) ok.small (asks_n role (wires z) p (Asking s) ok.small at.asks (λ c. cc));
       };
       lower = lower_put z.k (wires z) role p (Asking (suc s)) (asks_n role (wires z) p (Asking s) ok.small at.asks (λ c. cc))
-          (λ i f. let g = far_asking z.k role p i s f at.asks in (2 * z.k + 2 - suc s, asking p (2 * z.k + 2 - suc s) (suc s) (put_same role p (Asking (suc s))) (omega arith), omega arith));
+          (λ i f. let g = far_asking z.k role p i s f at.asks in
+          (2 * z.k + 2 - suc s, asking p (2 * z.k + 2 - suc s) (suc s) (put_same role p (Asking (suc s))) (omega arith), omega arith));
     }
 
 -- In a buffer off its path a leader has no record: what holds of the buffer on each leader's path holds of all buffers.
@@ -116,7 +128,9 @@ few_everywhere z path role net placed on_path p s w = elim (cases_eq (path p (su
     none_there n = filter_none (λ (x : Record). x.leader == p) (net.records s w)
         (λ x m is. n (ap (λ q. path q (suc s)) (sym (eqb-true x.leader p is)) ∙ (placed.records s w x m).wire))
 
-pub steady_combined : {Core : Type 0} → (z : Sizes) (P : Program Core) (M : Machine Core) (role : ℕ → Role) (s w v : ℕ) (x : Request) (rest : List Request) (j : Combination) → Steady z P M role → s < z.k → M.net.requests s w ≡ x ∷ rest
+pub steady_combined : {Core Pokes Entry : Type 0}
+    → (z : Sizes) (P : Program Core Pokes Entry) (M : Machine Core) (role : ℕ → Role) (s w v : ℕ) (x : Request) (rest : List Request) (j : Combination)
+    → Steady z P M role → s < z.k → M.net.requests s w ≡ x ∷ rest
     → path_of z P M.core x.leader (suc s) ≡ v → Joins z.r x ((put_requests M.net s w rest).requests (suc s) v) j
     → MovedOn z P role (with_net M (combined (put_requests M.net s w rest) s v j).1)
 steady_combined z P M role s w v x rest j ok l e on J =
@@ -128,19 +142,25 @@ steady_combined z P M role s w v x rest j ok l e on J =
     let here : In x (M.net.requests s w) = rw e (inl refl) in
     let at = ok.placed.requests s w x here in
     let net1 : Net = put_requests M.net s w rest in
-    let old : (d u : ℕ) (b : Request) → In b (net1.requests d u) → In b (M.net.requests d u) = (λ d u b m. elim (In-put2 M.net.requests s w rest d u b m) [ inl h ↦ rw (h.0, h.1, e) (inr h.2) | inr h ↦ h.1 ]) in
+    let old : (d u : ℕ) (b : Request) → In b (net1.requests d u)
+    → In b (M.net.requests d u) = (λ d u b m. elim (In-put2 M.net.requests s w rest d u b m) [ inl h ↦ rw (h.0, h.1, e) (inr h.2) | inr h ↦ h.1 ]) in
     let placed1 = pop_request z.k path role M.net s w x rest ok.placed e in
     let free : Unnamed net1 q = pop_request_unnamed z.k path role M.net s w x rest ok.placed e in
     let there : In J.entry (net1.requests (suc s) v) = rw J.was (In-append_right J.entry J.front (J.entry ∷ J.behind) (inl refl)) in
     let n : p ≡ q → ⊥ = free.requests (suc s) v J.entry there in
-    let lone : Unnamed (put_requests net1 (suc s) v (J.front ++ J.behind)) p = others_request z.k path role net1 (suc s) v J.front J.behind J.entry placed1 J.was in
+    let lone : Unnamed (put_requests net1 (suc s) v (J.front ++ J.behind)) p =
+    others_request z.k path role net1 (suc s) v J.front J.behind J.entry placed1 J.was in
     let place = placed1.requests (suc s) v J.entry there in
     let S : ℕ → ℕ → List Record = put2 M.net.records s v (M.net.records s v ++ made ∷ []) in
     let more : records_on path S p s ≡ records_on path M.net.records p s ++ made ∷ [] = records_push_same path M.net.records s v made place.wire in
-    let longer : length (records_on path S p s) ≡ suc (length (records_on path M.net.records p s)) = ap length more ∙ omega (arith, length-append (records_on path M.net.records p s) (made ∷ [])) in
+    let longer : length (records_on path S p s) ≡ suc (length (records_on path M.net.records p s)) = ap length more
+    ∙ omega (arith, length-append (records_on path M.net.records p s) (made ∷ [])) in
     let mark : J.entry.marks ≡ length (records_on path M.net.records p s) = ok.marked s v J.entry (old (suc s) v J.entry there) in
-    let same : (i t : ℕ) → (i ≡ p → ⊥) → records_on path S i t ≡ records_on path M.net.records i t = (λ i t m. records_push_other path M.net.records s v made i t m) in
-    let other_stage : (i t : ℕ) → (t ≡ s → ⊥) → records_on path S i t ≡ records_on path M.net.records i t = (λ i t m. records_other_stage path M.net.records s v (M.net.records s v ++ made ∷ []) i t m) in
+    let same : (i t : ℕ) → (i ≡ p → ⊥)
+    → records_on path S i t ≡ records_on path M.net.records i t = (λ i t m. records_push_other path M.net.records s v made i t m) in
+    let other_stage : (i t : ℕ) → (t ≡ s → ⊥)
+    → records_on path S i t ≡ records_on path M.net.records i t =
+    (λ i t m. records_other_stage path M.net.records s v (M.net.records s v ++ made ∷ []) i t m) in
     let role' : ℕ → Role = put role q (Waiting s p) in
     let asks_p : role' p ≡ Asking (suc s) = put_other role q (Waiting s p) p n ∙ place.asks in
     let queue : List Request = J.front ++ y ∷ J.behind in
@@ -153,7 +173,8 @@ steady_combined z P M role s w v x rest j ok l e on J =
         worded = λ d u b m. elim (In-put2 net1.requests (suc s) v queue d u b m) [
           | inl h ↦ elim (In-append b J.front (y ∷ J.behind) h.2) [
             | inl o ↦ ok.worded (suc s) v b (old (suc s) v b (rw J.was (In-append_left b J.front (J.entry ∷ J.behind) o)))
-            | inr (inl f) ↦ (λ i. (f i).word) ∙ ok.worded (suc s) v J.entry (old (suc s) v J.entry there) ∙ ap (λ (c : Request). word_of P M.core c.leader) (sym f)
+            | inr (inl f) ↦ (λ i. (f i).word) ∙ ok.worded (suc s) v J.entry (old (suc s) v J.entry there)
+                ∙ ap (λ (c : Request). word_of P M.core c.leader) (sym f)
             | inr (inr o) ↦ ok.worded (suc s) v b (old (suc s) v b (rw J.was (In-append_right b J.front (J.entry ∷ J.behind) (inr o))))
           ]
           | inr h ↦ ok.worded d u b (old d u b h.1)
@@ -161,13 +182,15 @@ steady_combined z P M role s w v x rest j ok l e on J =
         marked = λ t u b m. elim (In-put2 net1.requests (suc s) v queue (suc t) u b m) [
           | inl h ↦ (let ts : t ≡ s = omega arith in
               let keep : In b (net1.requests (suc s) v) → In b (J.front ++ J.behind) → b.marks ≡ length (records_on path S b.leader t) = (λ o i.
-              ok.marked t u b (rw (h.0, h.1) (old (suc s) v b o)) ∙ ap length (sym (same b.leader t (lone.requests (suc s) v b (rw (put2_same net1.requests (suc s) v (J.front ++ J.behind)) i))))) in
+              ok.marked t u b (rw (h.0, h.1) (old (suc s) v b o))
+              ∙ ap length (sym (same b.leader t (lone.requests (suc s) v b (rw (put2_same net1.requests (suc s) v (J.front ++ J.behind)) i))))) in
               elim (In-append b J.front (y ∷ J.behind) h.2) [
                 | inl o ↦ keep (rw J.was (In-append_left b J.front (J.entry ∷ J.behind) o)) (In-append_left b J.front J.behind o)
                 | inr (inl f) ↦ (λ i. (f i).marks) ∙ ap suc mark ∙ sym longer ∙ (λ i. length (records_on path S (sym f i).leader (sym ts i)))
                 | inr (inr o) ↦ keep (rw J.was (In-append_right b J.front (J.entry ∷ J.behind) (inr o))) (In-append_right b J.front J.behind o)
               ])
-          | inr h ↦ ok.marked t u b (old (suc t) u b h.1) ∙ ap length (sym (same b.leader t (lone.requests (suc t) u b (rw (put2_other net1.requests (suc s) v (J.front ++ J.behind) (suc t) u h.0) h.1))))
+          | inr h ↦ ok.marked t u b (old (suc t) u b h.1)
+              ∙ ap length (sym (same b.leader t (lone.requests (suc t) u b (rw (put2_other net1.requests (suc s) v (J.front ++ J.behind) (suc t) u h.0) h.1))))
         ];
         few = few_everywhere z path role' (combined net1 s v (record { queue = queue; made = made })).1 placed'
             (λ i t. elim (cases_eq i p) [
@@ -178,20 +201,34 @@ steady_combined z P M role s w v x rest j ok l e on J =
               | inr m ↦ rw (same i t m) (ok.few i t (path i (suc t)))
             ]);
         stands = stands_put (put_records (put_requests net1 (suc s) v queue) s v (M.net.records s v ++ made ∷ [])) role q (Waiting s p)
-            (λ i m. stands_push_record (put_requests net1 (suc s) v queue) s v made i (role i) (stands_entry net1 (suc s) v J.front J.behind J.entry y i (role i) J.was refl (stands_pop_request M.net s w x rest i (role i) e m (ok.stands i))))
-            (v, made, subst (In made) (sym (put2_same M.net.records s v (M.net.records s v ++ made ∷ []))) (In-append_right made (M.net.records s v) (made ∷ []) (inl refl)), refl, refl);
+            (λ i m. stands_push_record (put_requests net1 (suc s) v queue) s v made i (role i)
+            (stands_entry net1 (suc s) v J.front J.behind J.entry y i (role i) J.was refl
+            (stands_pop_request M.net s w x rest i (role i) e m (ok.stands i)))) (
+              v,
+              made,
+              subst (In made) (sym (put2_same M.net.records s v (M.net.records s v ++ made ∷ [])))
+                  (In-append_right made (M.net.records s v) (made ∷ []) (inl refl)),
+              refl,
+              refl,
+            );
         refers = ok.refers;
         shut = shut_put role q (Waiting s p) M.is_open ok.shut (λ i. let c = sym at.asks ∙ i in cc) (λ c. cc);
         small = small_put role (wires z) q (Waiting s p) ok.small (asks_n role (wires z) q (Asking s) ok.small at.asks (λ c. cc));
       };
       lower = lower_put z.k (wires z) role q (Waiting s p) (asks_n role (wires z) q (Asking s) ok.small at.asks (λ c. cc))
-          (λ i f. let g = far_asking z.k role q i s f at.asks in
-          (2 * z.k + 2 - suc s, waiting q (2 * z.k + 2 - suc s) s p (put_same role q (Waiting s p)) (asking p (2 * z.k + 2 - suc s) (suc s) asks_p (omega arith)), omega arith));
+          (λ i f. let g = far_asking z.k role q i s f at.asks in (
+            2 * z.k + 2 - suc s,
+            waiting q (2 * z.k + 2 - suc s) s p (put_same role q (Waiting s p))
+                (asking p (2 * z.k + 2 - suc s) (suc s) asks_p (omega arith)),
+            omega arith,
+          ));
     } in
     subst (λ i. MovedOn z P role (with_net M (combined net1 s v i).1)) (sym J.is) done
 
-pub steady_serve : {Core : Type 0} → (z : Sizes) (P : Program Core) (M : Machine Core) (role : ℕ → Role) (m : ℕ) (x : Request) (rest : List Request) → Steady z P M role → M.net.requests z.k m ≡ x ∷ rest
-    → MovedOn z P role (serve_from z M m (x ∷ rest) []).machine
+pub steady_serve : {Core Pokes Entry : Type 0}
+    → (z : Sizes) (P : Program Core Pokes Entry) (M : Machine Core) (role : ℕ → Role) (m : ℕ) (x : Request) (rest : List Request) → Steady z P M role
+    → M.net.requests z.k m ≡ x ∷ rest
+    → MovedOn z P role (serve_from {Pokes = Pokes} z M m (x ∷ rest) []).machine
 unfolding module_taken module_replied
 steady_serve z P M role m x others ok from =
     let path = path_of z P M.core in
@@ -202,25 +239,33 @@ steady_serve z P M role m x others ok from =
     let at = ok.placed.requests z.k m x here in
     let y : Reply = record { leader = p; value = M.mem x.word } in
     let net1 : Net = put_requests M.net z.k m rest in
-    let old : (d u : ℕ) (b : Request) → In b (net1.requests d u) → In b (M.net.requests d u) = (λ d u b i. elim (In-put2 M.net.requests z.k m rest d u b i) [ inl h ↦ rw (h.0, h.1, e) (inr h.2) | inr h ↦ h.1 ]) in
+    let old : (d u : ℕ) (b : Request) → In b (net1.requests d u)
+    → In b (M.net.requests d u) = (λ d u b i. elim (In-put2 M.net.requests z.k m rest d u b i) [ inl h ↦ rw (h.0, h.1, e) (inr h.2) | inr h ↦ h.1 ]) in
     let placed1 = pop_request z.k path role M.net z.k m x rest ok.placed e in
     let free : Unnamed net1 p = pop_request_unnamed z.k path role M.net z.k m x rest ok.placed e in
     let l : p < wires z = asks_n role (wires z) p (Asking z.k) ok.small at.asks (λ c. cc) in
     record {
       role' = put role p (Told z.k);
       steady = record {
-        placed = push_reply z.k path role net1 z.k m y placed1 free (λ s w r i g. below_role z.k path role M.net p (Asking z.k) ok.placed at.asks s w r i g) at.wire (omega arith);
+        placed = push_reply z.k path role net1 z.k m y placed1 free
+            (λ s w r i g. below_role z.k path role M.net p (Asking z.k) ok.placed at.asks s w r i g) at.wire (omega arith);
         worded = λ d u b i. ok.worded d u b (old d u b i);
         marked = λ t u b i. ok.marked t u b (old (suc t) u b i);
         few = ok.few;
         stands = stands_put (put_replies net1 z.k m (M.net.replies z.k m ++ y ∷ [])) role p (Told z.k)
-            (λ q n. stands_push_reply net1 z.k m y q (role q) (stands_pop_request M.net z.k m x rest q (role q) e n (ok.stands q)))
-            (m, y, subst (In y) (sym (put2_same M.net.replies z.k m (M.net.replies z.k m ++ y ∷ []))) (In-append_right y (M.net.replies z.k m) (y ∷ []) (inl refl)), refl);
+            (λ q n. stands_push_reply net1 z.k m y q (role q) (stands_pop_request M.net z.k m x rest q (role q) e n (ok.stands q))) (
+              m,
+              y,
+              subst (In y) (sym (put2_same M.net.replies z.k m (M.net.replies z.k m ++ y ∷ [])))
+                  (In-append_right y (M.net.replies z.k m) (y ∷ []) (inl refl)),
+              refl,
+            );
         refers = ok.refers;
         shut = shut_put role p (Told z.k) M.is_open ok.shut (λ i. let c = sym at.asks ∙ i in cc) (λ c. cc);
         small = small_put role (wires z) p (Told z.k) ok.small l;
       };
-      lower = lower_put z.k (wires z) role p (Told z.k) l (λ i f. let g = far_asking z.k role p i z.k f at.asks in (suc z.k, told p (suc z.k) z.k (put_same role p (Told z.k)) refl, omega arith));
+      lower = lower_put z.k (wires z) role p (Told z.k) l
+          (λ i f. let g = far_asking z.k role p i z.k f at.asks in (suc z.k, told p (suc z.k) z.k (put_same role p (Told z.k)) refl, omega arith));
     }
 
 kept_requests : (wire : ℕ → ℕ) (s : ℕ) (ys : List Reply) (net : Net) → (push_all wire s ys net).requests ≡ net.requests
@@ -253,8 +298,12 @@ told_in s (x ∷ ys) role y (inl e) = elim (led_by ys y.leader) [
   | inr n ↦ told_other s ys (put role x.leader (Told s)) y.leader n ∙ (λ i. put role x.leader (Told s) ((e i).leader)) ∙ put_same role x.leader (Told s)
 ]
 
-pub steady_answer : {Core : Type 0} → (z : Sizes) (P : Program Core) (M : Machine Core) (role : ℕ → Role) (s w : ℕ) (x : Reply) (rest : List Reply) → Steady z P M role → s < z.k → M.net.replies (suc s) w ≡ x ∷ rest
-    → MovedOn z P role (with_net M (push_all (wire_before z.k s w) s (answers (records_of x.leader (M.net.records s w)) x) (put_records (put_replies M.net (suc s) w rest) s w (records_but x.leader (M.net.records s w)))))
+pub steady_answer : {Core Pokes Entry : Type 0}
+    → (z : Sizes) (P : Program Core Pokes Entry) (M : Machine Core) (role : ℕ → Role) (s w : ℕ) (x : Reply) (rest : List Reply) → Steady z P M role → s < z.k
+    → M.net.replies (suc s) w ≡ x ∷ rest
+    → MovedOn z P role (with_net M
+    (push_all (wire_before z.k s w) s (answers (records_of x.leader (M.net.records s w)) x)
+    (put_records (put_replies M.net (suc s) w rest) s w (records_but x.leader (M.net.records s w)))))
 steady_answer z P M role s w x rest ok l e =
     let path = path_of z P M.core in
     let word = word_of P M.core in
@@ -275,7 +324,8 @@ steady_answer z P M role s w x rest ok l e =
     let back : (q : ℕ) → (role q ≡ Idle → ⊥) → path q (suc s) ≡ w → path q s ≡ wire_before z.k s w q
     = (λ q n on. sym (before_path z.k q (word q % wires z) s l (asks_n role (wires z) q (role q) ok.small refl n)) ∙ ap (λ v. wire_before z.k s v q) on) in
     let not_idle_led : (y : Reply) → In y ys → role y.leader ≡ Idle → ⊥ = (λ y m i. answers_led z.k path role net1 s w x placed1 at.told y m i) in
-    let gone : records_on path (put2 M.net.records s w left) p s ≡ [] = filter_none (λ (r : Record). r.leader == p) (put2 M.net.records s w left s (path p (suc s)))
+    let gone : records_on path (put2 M.net.records s w left) p s ≡ [] =
+    filter_none (λ (r : Record). r.leader == p) (put2 M.net.records s w left s (path p (suc s)))
     (λ r m g. elim (In-put2 M.net.records s w left s (path p (suc s)) r m) [
       | inl h ↦ not_led r.leader p (eqb-true r.leader p g) ((In-filter (λ (e : Record). not (e.leader == p)) r (M.net.records s w) h.2).1)
       | inr h ↦ h.0 refl at.wire
@@ -287,18 +337,21 @@ steady_answer z P M role s w x rest ok l e =
         placed = placed';
         worded = λ d u b i. ok.worded d u b (subst (λ (f : ℕ → ℕ → List Request). In b (f d u)) (kept_requests (wire_before z.k s w) s ys net2) i);
         marked = λ t u b i. let o = subst (λ (f : ℕ → ℕ → List Request). In b (f (suc t) u)) (kept_requests (wire_before z.k s w) s ys net2) i in
-            ok.marked t u b o ∙ ap length (sym (records_drop_other path M.net.records s w p b.leader t (free.requests (suc t) u b o))) ∙ (λ i. length (records_on path (sym (kept_records (wire_before z.k s w) s ys net2) i) b.leader t));
+            ok.marked t u b o ∙ ap length (sym (records_drop_other path M.net.records s w p b.leader t (free.requests (suc t) u b o)))
+            ∙ (λ i. length (records_on path (sym (kept_records (wire_before z.k s w) s ys net2) i) b.leader t));
         few = few_everywhere z path role' net3 placed'
             (λ i t. subst (λ (f : ℕ → ℕ → List Record). length (records_on path f i t) ≤ z.r) (sym (kept_records (wire_before z.k s w) s ys net2))
             (elim (cases_eq i p) [
               | inl f ↦ elim (cases_eq t s) [
-                | inl g ↦ subst (λ n. n ≤ z.r) (ap length (sym gone) ∙ (λ j. length (records_on path (put2 M.net.records s w left) (sym f j) (sym g j)))) (omega arith)
+                | inl g ↦ subst (λ n. n ≤ z.r) (ap length (sym gone) ∙ (λ j. length (records_on path (put2 M.net.records s w left) (sym f j) (sym g j))))
+                    (omega arith)
                 | inr n ↦ subst (λ r. length r ≤ z.r) (sym (records_other_stage path M.net.records s w left i t n)) (ok.few i t (path i (suc t)))
               ]
               | inr n ↦ subst (λ r. length r ≤ z.r) (sym (records_drop_other path M.net.records s w p i t n)) (ok.few i t (path i (suc t)))
             ]));
         stands = λ q. elim (led_by ys q) [
-          | inl h ↦ subst (λ v. Stands net3 v (role' v)) h.2 (subst (Stands net3 h.0.leader) (sym (told_in s ys role h.0 h.1)) (stands_pushed (wire_before z.k s w) s ys net2 h.0 h.1))
+          | inl h ↦ subst (λ v. Stands net3 v (role' v)) h.2
+              (subst (Stands net3 h.0.leader) (sym (told_in s ys role h.0 h.1)) (stands_pushed (wire_before z.k s w) s ys net2 h.0 h.1))
           | inr n ↦ subst (Stands net3 q) (sym (told_other s ys role q n))
               (stands_push_all (wire_before z.k s w) s ys net2 q (role q)
               (stands_drop net1 s w p q (role q) (λ a m g. n (record { leader = a.second; value = applied a.phi x.value }) (inr (to_answers x rs a m)) g)
@@ -322,7 +375,8 @@ steady_answer z P M role s w x rest ok l e =
             elim (from_answers x h.0 rs h.1) [
               | inl a ↦ (let g = far_told z.k role q i (suc s) f (ap role (sym h.2 ∙ a) ∙ at.told) in omega arith)
               | inr a ↦ (let k = known a.0 a.1 in
-                  let g = far_told z.k role a.0.leader i (suc s) (far_waiting z.k role q i s a.0.leader f (ap role (sym h.2 ∙ a.2) ∙ k.0.waits)) (ap role k.1 ∙ at.told) in omega arith)
+                  let g = far_told z.k role a.0.leader i (suc s) (far_waiting z.k role q i s a.0.leader f (ap role (sym h.2 ∙ a.2) ∙ k.0.waits))
+                  (ap role k.1 ∙ at.told) in omega arith)
             ],
           ))
           | inr n ↦ inl (told_other s ys role q n)
@@ -333,12 +387,17 @@ steady_answer z P M role s w x rest ok l e =
       };
     }
   where
-    to_answers : (x : Reply) (rs : List Record) (a : Record) → In a rs → In {X = Reply} (record { leader = a.second; value = applied a.phi x.value }) (map (λ (r : Record). record { leader = r.second; value = applied r.phi x.value }) rs)
+    to_answers : (x : Reply) (rs : List Record) (a : Record) → In a rs → In {X = Reply} (record {
+      leader = a.second;
+      value = applied a.phi x.value;
+    }) (map (λ (r : Record). record { leader = r.second; value = applied r.phi x.value }) rs)
     to_answers x [] a m = elim m [ ]
     to_answers x (r ∷ rs) a (inl f) = inl (λ i. record { leader = (f i).second; value = applied (f i).phi x.value })
     to_answers x (r ∷ rs) a (inr m) = inr (to_answers x rs a m)
 
-pub steady_retire : {Core : Type 0} → (z : Sizes) (P : Program Core) (M : Machine Core) (role : ℕ → Role) (p : ℕ) (y : Reply) (rest : List Reply) → Steady z P M role → M.net.replies 0 p ≡ y ∷ rest
+pub steady_retire : {Core Pokes Entry : Type 0}
+    → (z : Sizes) (P : Program Core Pokes Entry) (M : Machine Core) (role : ℕ → Role) (p : ℕ) (y : Reply) (rest : List Reply) → Steady z P M role
+    → M.net.replies 0 p ≡ y ∷ rest
     → MovedOn z P role (retire_from P M p (y ∷ rest)).machine
 unfolding port_taken
 steady_retire z P M role p y others ok from =
@@ -356,13 +415,15 @@ steady_retire z P M role p y others ok from =
     let free : Unnamed net1 p = subst (Unnamed net1) is (pop_reply_unnamed z.k path role M.net 0 p y rest ok.placed e) in
     let same : (q : ℕ) → (q ≡ p → ⊥) → core' q ≡ M.core q = (λ q n. put_other M.core p (P.retire p (M.core p) y.value) q n) in
     let same_way : (q d : ℕ) → (q ≡ p → ⊥) → path' q d ≡ path q d = (λ q d n. ap (λ g. way z.k q (P.word_of q g % wires z) d) (same q n)) in
-    let leads_none : (s w : ℕ) (a : Record) → In a (M.net.records s w) → a.leader ≡ p → ⊥ = (λ s w a m f. let h = below_role z.k path role M.net p (Told 0) ok.placed told_p s w a m f in absurd (omega arith)) in
+    let leads_none : (s w : ℕ) (a : Record) → In a (M.net.records s w) → a.leader ≡ p
+    → ⊥ = (λ s w a m f. let h = below_role z.k path role M.net p (Told 0) ok.placed told_p s w a m f in absurd (omega arith)) in
     record {
       role' = put role p Idle;
       steady = record {
         placed = placed_change z.k path path' role Idle net1 p placed1 free leads_none same_way;
         worded = λ d w x m. ok.worded d w x m ∙ sym (ap (P.word_of x.leader) (same x.leader (free.requests d w x m)));
-        marked = λ t u b m. ok.marked t u b m ∙ ap length (sym (records_path path path' M.net.records b.leader t (same_way b.leader (suc t) (free.requests (suc t) u b m))));
+        marked = λ t u b m. ok.marked t u b m
+            ∙ ap length (sym (records_path path path' M.net.records b.leader t (same_way b.leader (suc t) (free.requests (suc t) u b m))));
         few = ok.few;
         stands = stands_put net1 role p Idle (λ q n. stands_pop_reply M.net 0 p y rest q (role q) e (λ f. n (f ∙ is)) (ok.stands q)) tt;
         refers = λ q f. elim (cases_eq q p) [
@@ -370,15 +431,25 @@ steady_retire z P M role p y others ok from =
           | inr n ↦ ap (P.kind q) (same q n) ∙ ok.refers q (sym (put_other M.is_open p false q n) ∙ f)
         ];
         shut = λ q. (
-          (λ f. elim (cases_eq q p) [ inl g ↦ ap (put role p Idle) g ∙ put_same role p Idle | inr n ↦ put_other role p Idle q n ∙ (ok.shut q).0 (sym (put_other M.is_open p false q n) ∙ f) ]),
-          (λ f. elim (cases_eq q p) [ inl g ↦ ap (put M.is_open p false) g ∙ put_same M.is_open p false | inr n ↦ put_other M.is_open p false q n ∙ (ok.shut q).1 (sym (put_other role p Idle q n) ∙ f) ]),
+          (λ f. elim (cases_eq q p) [
+            | inl g ↦ ap (put role p Idle) g ∙ put_same role p Idle
+            | inr n ↦ put_other role p Idle q n
+                ∙ (ok.shut q).0 (sym (put_other M.is_open p false q n) ∙ f)
+          ]),
+          (λ f. elim (cases_eq q p) [
+            | inl g ↦ ap (put M.is_open p false) g ∙ put_same M.is_open p false
+            | inr n ↦ put_other M.is_open p false q n
+                ∙ (ok.shut q).1 (sym (put_other role p Idle q n) ∙ f)
+          ]),
         );
         small = small_put role (wires z) p Idle ok.small (asks_n role (wires z) p (Told 0) ok.small told_p (λ c. cc));
       };
-      lower = lower_put z.k (wires z) role p Idle (asks_n role (wires z) p (Told 0) ok.small told_p (λ c. cc)) (λ i f. let g = far_told z.k role p i 0 f told_p in (0, idle p 0 (put_same role p Idle) refl, omega arith));
+      lower = lower_put z.k (wires z) role p Idle (asks_n role (wires z) p (Told 0) ok.small told_p (λ c. cc))
+          (λ i f. let g = far_told z.k role p i 0 f told_p in (0, idle p 0 (put_same role p Idle) refl, omega arith));
     }
 
-pub steady_issue : {Core : Type 0} → (z : Sizes) (P : Program Core) (M : Machine Core) (role : ℕ → Role) (p : ℕ) → Steady z P M role → p < wires z → M.is_open p ≡ false → P.kind p (M.core p) ≡ Refers → Steady z P (issue P M p).machine (put role p (Asking 0))
+pub steady_issue : {Core Pokes Entry : Type 0} → (z : Sizes) (P : Program Core Pokes Entry) (M : Machine Core) (role : ℕ → Role) (p : ℕ) → Steady z P M role
+    → p < wires z → M.is_open p ≡ false → P.kind p (M.core p) ≡ Refers → Steady z P (issue P M p).machine (put role p (Asking 0))
 unfolding injected
 steady_issue z P M role p ok l shut is =
     let path = path_of z P M.core in
@@ -386,7 +457,8 @@ steady_issue z P M role p ok l shut is =
     let free = unnamed_idle z.k path role M.net p ok.placed idle_p in
     let x : Request = request_of P M.core p in
     record {
-      placed = push_request z.k path role M.net 0 p x ok.placed free (λ s w a m e. below_role z.k path role M.net p Idle ok.placed idle_p s w a m e) (path_zero z.k p (P.word_of p (M.core p) % wires z)) (omega arith);
+      placed = push_request z.k path role M.net 0 p x ok.placed free (λ s w a m e. below_role z.k path role M.net p Idle ok.placed idle_p s w a m e)
+          (path_zero z.k p (P.word_of p (M.core p) % wires z)) (omega arith);
       worded = λ d u b m. elim (In-put2 M.net.requests 0 p (M.net.requests 0 p ++ x ∷ []) d u b m) [
         | inl h ↦ elim (In-append b (M.net.requests 0 p) (x ∷ []) h.2) [
           | inl o ↦ ok.worded 0 p b o
@@ -401,8 +473,13 @@ steady_issue z P M role p ok l shut is =
       ];
       few = ok.few;
       stands = stands_put (put_requests M.net 0 p (M.net.requests 0 p ++ x ∷ [])) role p (Asking 0)
-          (λ q n. stands_push_request M.net 0 p x q (role q) (ok.stands q))
-          (p, x, subst (In x) (sym (put2_same M.net.requests 0 p (M.net.requests 0 p ++ x ∷ []))) (In-append_right x (M.net.requests 0 p) (x ∷ []) (inl refl)), refl);
+          (λ q n. stands_push_request M.net 0 p x q (role q) (ok.stands q)) (
+            p,
+            x,
+            subst (In x) (sym (put2_same M.net.requests 0 p (M.net.requests 0 p ++ x ∷ [])))
+                (In-append_right x (M.net.requests 0 p) (x ∷ []) (inl refl)),
+            refl,
+          );
       refers = λ q f. elim (cases_eq q p) [
         | inl g ↦ ap (λ i. P.kind i (M.core i)) g ∙ is
         | inr n ↦ ok.refers q (sym (put_other M.is_open p true q n) ∙ f)
@@ -420,7 +497,8 @@ steady_issue z P M role p ok l shut is =
       small = small_put role (wires z) p (Asking 0) ok.small l;
     }
 
-pub steady_advance : {Core : Type 0} → (z : Sizes) (P : Program Core) (M : Machine Core) (role : ℕ → Role) (p : ℕ) → Steady z P M role → p < wires z → M.is_open p ≡ false → Steady z P (advance P M p).machine (put role p Idle)
+pub steady_advance : {Core Pokes Entry : Type 0} → (z : Sizes) (P : Program Core Pokes Entry) (M : Machine Core) (role : ℕ → Role) (p : ℕ) → Steady z P M role
+    → p < wires z → M.is_open p ≡ false → Steady z P (advance P M p).machine (put role p Idle)
 steady_advance z P M role p ok l shut =
     let path = path_of z P M.core in
     let core' = put M.core p (P.alone p (M.core p)) in
@@ -429,11 +507,13 @@ steady_advance z P M role p ok l shut =
     let free = unnamed_idle z.k path role M.net p ok.placed idle_p in
     let same : (q : ℕ) → (q ≡ p → ⊥) → core' q ≡ M.core q = (λ q n. put_other M.core p (P.alone p (M.core p)) q n) in
     let same_way : (q d : ℕ) → (q ≡ p → ⊥) → path' q d ≡ path q d = (λ q d n. ap (λ g. way z.k q (P.word_of q g % wires z) d) (same q n)) in
-    let leads_none : (s w : ℕ) (a : Record) → In a (M.net.records s w) → a.leader ≡ p → ⊥ = (λ s w a m f. let h = below_role z.k path role M.net p Idle ok.placed idle_p s w a m f in absurd (omega arith)) in
+    let leads_none : (s w : ℕ) (a : Record) → In a (M.net.records s w) → a.leader ≡ p
+    → ⊥ = (λ s w a m f. let h = below_role z.k path role M.net p Idle ok.placed idle_p s w a m f in absurd (omega arith)) in
     record {
       placed = placed_change z.k path path' role Idle M.net p ok.placed free leads_none same_way;
       worded = λ d w x m. ok.worded d w x m ∙ sym (ap (P.word_of x.leader) (same x.leader (free.requests d w x m)));
-      marked = λ t u b m. ok.marked t u b m ∙ ap length (sym (records_path path path' M.net.records b.leader t (same_way b.leader (suc t) (free.requests (suc t) u b m))));
+      marked = λ t u b m. ok.marked t u b m
+          ∙ ap length (sym (records_path path path' M.net.records b.leader t (same_way b.leader (suc t) (free.requests (suc t) u b m))));
       few = ok.few;
       stands = stands_put M.net role p Idle (λ q n. ok.stands q) tt;
       refers = λ q f. elim (cases_eq q p) [
@@ -447,9 +527,18 @@ steady_advance z P M role p ok l shut =
       small = small_put role (wires z) p Idle ok.small l;
     }
 
-pub steady_start : {Core : Type 0} → (z : Sizes) (P : Program Core) (mem : ℕ → ℕ) (core : ℕ → Core) → Steady z P (new_machine mem core) (λ p. Idle)
+pub steady_start : {Core Pokes Entry : Type 0} → (z : Sizes) (P : Program Core Pokes Entry) (mem : ℕ → ℕ) (core : ℕ → Core)
+    → Steady z P (new_machine mem core) (λ p. Idle)
 steady_start z P mem core = record {
-  placed = record { requests = λ d w x m. absurd m; records = λ s w x m. absurd m; replies = λ d w x m. absurd m; requests_apart = λ d w. tt; records_apart = λ s w. tt; replies_apart = λ d w. tt };
+  placed = record {
+    requests = λ d w x m. absurd m;
+    records = λ s w x m. absurd m;
+    replies = λ d w x m. absurd m;
+    requests_apart = λ d w. tt;
+    records_apart =
+        λ s w. tt;
+    replies_apart = λ d w. tt;
+  };
   worded = λ d w x m. absurd m;
   marked = λ s w x m. absurd m;
   few = λ p s w. omega arith;
@@ -476,11 +565,14 @@ all_shut_is (suc n) open_now e p l = elim (cases_eq p n) [
     is_shut false f = refl
 
 -- a poke of an idle machine
-pub steady_poked : {Core : Type 0} → (z : Sizes) (P : Program Core) (M : Machine Core) (role : ℕ → Role) (q : pokes.Poke) → Steady z P M role → ((p : ℕ) → p < wires z → M.is_open p ≡ false) → Steady z P (poked P M q).machine role
+pub steady_poked : {Core Pokes Entry : Type 0} → (z : Sizes) (P : Program Core Pokes Entry) (M : Machine Core) (role : ℕ → Role) (q : Pokes)
+    → Steady z P M role → ((p : ℕ) → p < wires z → M.is_open p ≡ false) → Steady z P (poked P M q).machine role
 steady_poked z P M role q ok shut =
     let idle : (p : ℕ) → role p ≡ Idle = (λ p. elim (ok.small p) [ inl i ↦ i | inr l ↦ (ok.shut p).0 (shut p l) ]) in
-    let no_request : (d w : ℕ) (x : Request) → In x (M.net.requests d w) → ⊥ = (λ d w x m. let h = (ok.placed.requests d w x m).asks in let c : Asking d ≡ Idle = sym h ∙ idle x.leader in cc) in
-    let no_record : (s w : ℕ) (x : Record) → In x (M.net.records s w) → ⊥ = (λ s w x m. let h = (ok.placed.records s w x m).waits in let c : Waiting s x.leader ≡ Idle = sym h ∙ idle x.second in cc) in
+    let no_request : (d w : ℕ) (x : Request) → In x (M.net.requests d w)
+    → ⊥ = (λ d w x m. let h = (ok.placed.requests d w x m).asks in let c : Asking d ≡ Idle = sym h ∙ idle x.leader in cc) in
+    let no_record : (s w : ℕ) (x : Record) → In x (M.net.records s w)
+    → ⊥ = (λ s w x m. let h = (ok.placed.records s w x m).waits in let c : Waiting s x.leader ≡ Idle = sym h ∙ idle x.second in cc) in
     record {
       placed = placed_nowhere z.k (path_of z P M.core) (path_of z P (P.poked_core q M.core)) role M.net ok.placed idle;
       worded = λ d w x m. absurd (no_request d w x m);
@@ -492,44 +584,60 @@ steady_poked z P M role q ok shut =
       refers = λ p e. absurd (true≢false (sym e ∙ (ok.shut p).1 (idle p)));
     }
 
-goes_stalled : {Core : Type 0} → (z : Sizes) (P : Program Core) (M : Machine Core) (role : ℕ → Role) → Steady z P M role → GoesOn z P role (stalled M)
+goes_stalled : {Core Pokes Entry : Type 0} → (z : Sizes) (P : Program Core Pokes Entry) (M : Machine Core) (role : ℕ → Role) → Steady z P M role
+    → GoesOn z P role (stalled M)
 goes_stalled z P M role ok = (role, ok, tt)
 
-goes_up : {Core : Type 0} → (z : Sizes) (P : Program Core) (M : Machine Core) (role : ℕ → Role) (s w : ℕ) (xs : List Request) → Steady z P M role → s < z.k → M.net.requests s w ≡ xs → GoesOn z P role (went_up M (up_from z M.net s w xs))
+goes_up : {Core Pokes Entry : Type 0} → (z : Sizes) (P : Program Core Pokes Entry) (M : Machine Core) (role : ℕ → Role) (s w : ℕ) (xs : List Request)
+    → Steady z P M role → s < z.k → M.net.requests s w ≡ xs → GoesOn z P role (went_up M (up_from z M.net s w xs))
 goes_up z P M role s w [] ok l e = goes_stalled z P M role ok
 goes_up z P M role s w (x ∷ rest) ok l e =
     let here : In x (M.net.requests s w) = rw e (inl refl) in
     let at = ok.placed.requests s w x here in
     let v : ℕ = wire_after z.k s w (x.word % wires z) in
-    let on : path_of z P M.core x.leader (suc s) ≡ v = path_suc z.k x.leader (word_of P M.core x.leader % wires z) s ∙ ap₂ (λ a b. wire_after z.k s a (b % wires z)) at.wire (sym (ok.worded s w x here)) in
-    go v on (combination z.b z.r x ((put_requests M.net s w rest).requests (suc s) v) (M.net.records s v)) (λ j f. combination_joins z.b z.r x ((put_requests M.net s w rest).requests (suc s) v) (M.net.records s v) j f)
+    let on : path_of z P M.core x.leader (suc s) ≡ v = path_suc z.k x.leader (word_of P M.core x.leader % wires z) s
+    ∙ ap₂ (λ a b. wire_after z.k s a (b % wires z)) at.wire (sym (ok.worded s w x here)) in
+    go v on (combination z.b z.r x ((put_requests M.net s w rest).requests (suc s) v) (M.net.records s v))
+    (λ j f. combination_joins z.b z.r x ((put_requests M.net s w rest).requests (suc s) v) (M.net.records s v) j f)
   where
-    queue_go : (v : ℕ) → MovedOn z P role (with_net M (put_requests (put_requests M.net s w rest) (suc s) v ((put_requests M.net s w rest).requests (suc s) v ++ unmarked x ∷ []))) → (b : Bool)
-        → GoesOn z P role (went_up M (if b then (up.Moved, put_requests (put_requests M.net s w rest) (suc s) v ((put_requests M.net s w rest).requests (suc s) v ++ unmarked x ∷ [])) else (up.Stalled, M.net)))
+    queue_go : (v : ℕ) → MovedOn z P role
+        (with_net M (put_requests (put_requests M.net s w rest) (suc s) v ((put_requests M.net s w rest).requests (suc s) v ++ unmarked x ∷ []))) → (b : Bool)
+        → GoesOn z P role (went_up M
+        (if b then (
+          up.Moved,
+          put_requests (put_requests M.net s w rest) (suc s) v
+              ((put_requests M.net s w rest).requests (suc s) v ++ unmarked x ∷ []),
+        ) else (up.Stalled, M.net)))
     queue_go v h true = (h.role', h.steady, h.lower)
     queue_go v h false = goes_stalled z P M role ok
 
-    go : (v : ℕ) → path_of z P M.core x.leader (suc s) ≡ v → (o : Option Combination) → ((j : Combination) → o ≡ Some j → Joins z.r x ((put_requests M.net s w rest).requests (suc s) v) j) → GoesOn z P role (went_up M (accepted z M.net (put_requests M.net s w rest) s v x o))
+    go : (v : ℕ) → path_of z P M.core x.leader (suc s) ≡ v → (o : Option Combination)
+        → ((j : Combination) → o ≡ Some j → Joins z.r x ((put_requests M.net s w rest).requests (suc s) v) j)
+        → GoesOn z P role (went_up M (accepted z M.net (put_requests M.net s w rest) s v x o))
     go v on None h = queue_go v (steady_moved z P M role s w v x rest ok l e on) (nat_lt (length ((put_requests M.net s w rest).requests (suc s) v)) z.c)
     go v on (Some j) h = let g = steady_combined z P M role s w v x rest j ok l e on (h j refl) in (g.role', g.steady, g.lower)
 
-goes_down : {Core : Type 0} → (z : Sizes) (P : Program Core) (M : Machine Core) (role : ℕ → Role) (s w : ℕ) (xs : List Reply) → Steady z P M role → s < z.k → M.net.replies (suc s) w ≡ xs → GoesOn z P role (went_down M (down_from z M.net s w xs))
+goes_down : {Core Pokes Entry : Type 0} → (z : Sizes) (P : Program Core Pokes Entry) (M : Machine Core) (role : ℕ → Role) (s w : ℕ) (xs : List Reply)
+    → Steady z P M role → s < z.k → M.net.replies (suc s) w ≡ xs → GoesOn z P role (went_down M (down_from z M.net s w xs))
 goes_down z P M role s w [] ok l e = goes_stalled z P M role ok
 goes_down z P M role s w (x ∷ rest) ok l e =
     let rs : List Record = records_of x.leader (M.net.records s w) in
-    let net3 : Net = push_all (wire_before z.k s w) s (answers rs x) (put_records (put_replies M.net (suc s) w rest) s w (records_but x.leader (M.net.records s w))) in
+    let net3 : Net = push_all (wire_before z.k s w) s (answers rs x)
+    (put_records (put_replies M.net (suc s) w rest) s w (records_but x.leader (M.net.records s w))) in
     go (has_room z.c (wire_before z.k s w) s net3 (answers rs x)) rs net3 (steady_answer z P M role s w x rest ok l e)
   where
     named : (rs : List Record) (net : Net) → MovedOn z P role (with_net M net) → GoesOn z P role (went_down M (answered rs, net))
     named [] net h = (h.role', h.steady, h.lower)
     named (r ∷ rs) net h = (h.role', h.steady, h.lower)
 
-    go : (b : Bool) (rs : List Record) (net : Net) → MovedOn z P role (with_net M net) → GoesOn z P role (went_down M (if b then (answered rs, net) else (down.Stalled, M.net)))
+    go : (b : Bool) (rs : List Record) (net : Net) → MovedOn z P role (with_net M net)
+        → GoesOn z P role (went_down M (if b then (answered rs, net) else (down.Stalled, M.net)))
     go true rs net h = named rs net h
     go false rs net h = goes_stalled z P M role ok
 
 -- each step keeps what holds, and each that brings a message on brings its carrier nearer
-pub goes_step : {Core : Type 0} → (z : Sizes) (P : Program Core) (M : Machine Core) (role : ℕ → Role) (st : Step) → Steady z P M role → GoesOn z P role (step z P M st)
+pub goes_step : {Core Pokes Entry : Type 0} → (z : Sizes) (P : Program Core Pokes Entry) (M : Machine Core) (role : ℕ → Role) (st : Step Pokes)
+    → Steady z P M role → GoesOn z P role (step z P M st)
 unfolding moved_up moved_down
 goes_step z P M role (Turn p) ok = go (nat_lt p (wires z)) refl (M.is_open p) refl
   where
@@ -548,7 +656,8 @@ goes_step z P M role (Turn p) ok = go (nat_lt p (wires z)) refl (M.is_open p) re
     go true e false f = start_go (P.kind p (M.core p)) refl (ltb-true p (wires z) e) f
 goes_step z P M role (Up s w) ok = go (nat_lt w (wires z)) (nat_lt s z.k) refl
   where
-    go : (n b : Bool) → nat_lt s z.k ≡ b → GoesOn z P role (if n then went_up M (if b then up_from z M.net s w (M.net.requests s w) else (up.Stalled, M.net)) else stalled M)
+    go : (n b : Bool) → nat_lt s z.k ≡ b
+        → GoesOn z P role (if n then went_up M (if b then up_from z M.net s w (M.net.requests s w) else (up.Stalled, M.net)) else stalled M)
     go false b e = goes_stalled z P M role ok
     go true true e = goes_up z P M role s w (M.net.requests s w) ok (ltb-true s z.k e) refl
     go true false e = goes_stalled z P M role ok
@@ -561,12 +670,14 @@ goes_step z P M role (Serve m) ok = go (nat_lt m (wires z)) (M.net.requests z.k 
     go true (x ∷ rest) e (y ∷ ys) = goes_stalled z P M role ok
 goes_step z P M role (Down s w) ok = go (nat_lt w (wires z)) (nat_lt s z.k) refl
   where
-    go : (n b : Bool) → nat_lt s z.k ≡ b → GoesOn z P role (if n then went_down M (if b then down_from z M.net s w (M.net.replies (suc s) w) else (down.Stalled, M.net)) else stalled M)
+    go : (n b : Bool) → nat_lt s z.k ≡ b
+        → GoesOn z P role (if n then went_down M (if b then down_from z M.net s w (M.net.replies (suc s) w) else (down.Stalled, M.net)) else stalled M)
     go false b e = goes_stalled z P M role ok
     go true true e = goes_down z P M role s w (M.net.replies (suc s) w) ok (ltb-true s z.k e) refl
     go true false e = goes_stalled z P M role ok
-goes_step z P M role (Poke q) ok = go (all_shut (wires z) M.is_open && P.is_lawful q) refl
+goes_step z P M role (Poke q) ok = go (all_shut (wires z) M.is_open && P.is_lawful M.core q) refl
   where
-    go : (b : Bool) → (all_shut (wires z) M.is_open && P.is_lawful q) ≡ b → GoesOn z P role (if b then poked P M q else stalled M)
+    go : (b : Bool) → (all_shut (wires z) M.is_open && P.is_lawful M.core q) ≡ b → GoesOn z P role (if b then poked P M q else stalled M)
     go false e = goes_stalled z P M role ok
-    go true e = let a = and_parts (all_shut (wires z) M.is_open) (P.is_lawful q) e in (role, steady_poked z P M role q ok (all_shut_is (wires z) M.is_open a.0), tt)
+    go true e = let a = and_parts (all_shut (wires z) M.is_open) (P.is_lawful M.core q) e in
+        (role, steady_poked z P M role q ok (all_shut_is (wires z) M.is_open a.0), tt)

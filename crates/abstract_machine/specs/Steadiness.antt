@@ -21,7 +21,7 @@ Stands net p (Told d) = (w : ℕ) × (x : Reply) × In x (net.replies d w) × (x
 abbrev pub Few : Sizes → Net → Type 0
 Few z net = (p s w : ℕ) → length (records_of p (net.records s w)) ≤ z.r
 
-pub record Steady {Core : Type 0} (z : Sizes) (P : Program Core) (M : Machine Core) (role : ℕ → Role) : Type 0 where
+pub record Steady {Core Pokes Entry : Type 0} (z : Sizes) (P : Program Core Pokes Entry) (M : Machine Core) (role : ℕ → Role) : Type 0 where
   pub placed : Placed z.k (path_of z P M.core) role M.net
   pub worded : (d w : ℕ) (x : Request) → In x (M.net.requests d w) → x.word ≡ word_of P M.core x.leader
   -- an entry of a queue was combined there as often as there are records of it
@@ -57,31 +57,32 @@ pub record Lower (k n : ℕ) (role role' : ℕ → Role) : Type 0 where
   pub falls : (i : ℕ) → Far k role mover i → (j : ℕ) × Far k role' mover j × (j < i)
 
 -- a move: what it leaves, nearer to the end
-pub record MovedOn {Core : Type 0} (z : Sizes) (P : Program Core) (role : ℕ → Role) (M : Machine Core) : Type 0 where
+pub record MovedOn {Core Pokes Entry : Type 0} (z : Sizes) (P : Program Core Pokes Entry) (role : ℕ → Role) (M : Machine Core) : Type 0 where
   pub role' : ℕ → Role
   pub steady : Steady z P M role'
   pub lower : Lower z.k (wires z) role role'
 
 -- what is said of a step that brings a message on
-abbrev pub Advances : Outcome → Type 0 → Type 0
+abbrev pub Advances : {Pokes : Type 0} → Outcome Pokes → Type 0 → Type 0
 Advances Stalled X = Unit {0}
 Advances (Issued p) X = Unit {0}
 Advances (Advanced p) X = Unit {0}
 Advances (Poked q) X = Unit {0}
 Advances _ X = X
 
-abbrev pub GoesOn : {Core : Type 0} → Sizes → Program Core → (ℕ → Role) → Result Core → Type 0
+abbrev pub GoesOn : {Core Pokes Entry : Type 0} → Sizes → Program Core Pokes Entry → (ℕ → Role) → Result Core Pokes → Type 0
 GoesOn z P role r = (role' : ℕ → Role) × Steady z P r.machine role' × Advances r.outcome (Lower z.k (wires z) role role')
 
 -- ---- for every program
 
-module _ (Core : Type 0) where
+module _ (Core Pokes Entry : Type 0) where
   -- a new machine can have come about, and so can what each step leaves
   abbrev pub NewMachinesAreSteady : Type 0
-  NewMachinesAreSteady = (z : Sizes) (P : Program Core) (mem : ℕ → ℕ) (core : ℕ → Core) → Steady z P (new_machine mem core) (λ p. Idle)
+  NewMachinesAreSteady = (z : Sizes) (P : Program Core Pokes Entry) (mem : ℕ → ℕ) (core : ℕ → Core) → Steady z P (new_machine mem core) (λ p. Idle)
 
   abbrev pub StepsKeepSteady : Type 0
-  StepsKeepSteady = (z : Sizes) (P : Program Core) (M : Machine Core) (role : ℕ → Role) (st : Step) → Steady z P M role → (role' : ℕ → Role) × Steady z P (step z P M st).machine role'
+  StepsKeepSteady = (z : Sizes) (P : Program Core Pokes Entry) (M : Machine Core) (role : ℕ → Role) (st : Step Pokes) → Steady z P M role
+      → (role' : ℕ → Role) × Steady z P (step z P M st).machine role'
 
   abbrev pub RecordsAreFew : Type 0
-  RecordsAreFew = (z : Sizes) (P : Program Core) (M : Machine Core) (role : ℕ → Role) → Steady z P M role → Few z M.net
+  RecordsAreFew = (z : Sizes) (P : Program Core Pokes Entry) (M : Machine Core) (role : ℕ → Role) → Steady z P M role → Few z M.net

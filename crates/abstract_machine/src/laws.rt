@@ -6,18 +6,18 @@ ghost use Rattle.abstract_machine.specs.Steadiness.{NewMachinesAreSteady, Record
 
 /// What always holds of the state: it holds of a new machine, and each step keeps it. So no wait buffer
 /// has more records for a leader than an entry may be combined.
-pub fn steadiness<Core>()
-    ensures begins { NewMachinesAreSteady Core }
-    ensures goes_on { StepsKeepSteady Core }
-    ensures records { RecordsAreFew Core }
+pub fn steadiness<Core, Pokes, Entry>()
+    ensures begins { NewMachinesAreSteady Core Pokes Entry }
+    ensures goes_on { StepsKeepSteady Core Pokes Entry }
+    ensures records { RecordsAreFew Core Pokes Entry }
 {}
 
 /// The step that a drain takes next doesn't stall and lowers the sum of the distances, which is bounded;
 /// there is none exactly where no reference is open. So a drain ends, with no reference open.
-pub fn drain<Core>()
-    ensures distances { DistancesAreThere Core }
-    ensures bounded { DistancesAreBounded Core }
-    ensures next { DrainGoesOn Core }
-    ensures none { IdleMachinesHaveNoDrainStep Core }
-    ensures end { DrainEndsIdle Core }
+pub fn drain<Core, Pokes, Entry>()
+    ensures distances { DistancesAreThere Core Pokes Entry }
+    ensures bounded { DistancesAreBounded Core Pokes Entry }
+    ensures next { DrainGoesOn Core Pokes Entry }
+    ensures none { IdleMachinesHaveNoDrainStep Core Pokes Entry }
+    ensures end { DrainEndsIdle Core Pokes Entry }
 {}

@@ -11,7 +11,7 @@ use Rattle.asm_lines.specs.Alike.{AreBracketedAlike, AreReadAlike, Pairwise, non
 use Rattle.asm_lines.proofs.PlainWords.{weaker, joined_all, cut_at_none, cut_at_mid, split_mid, split_none}
 use Rattle.asm_lines.proofs.Comments.{Cut, uncut, cut, cut_of, is_mark}
 use Rattle.asm_lines.proofs.Trims.{lacks, lacks_both, no_such, is_comma, blanks_uncut, trimmed_behind, trimmed_before, operands_behind, operands_before}
-use Rattle.asm_lines.proofs.WithBracket.{IsBracket, opening, closing}
+use Rattle.asm_lines.proofs.WithBracket.{bracket}
 use Rattle.asm_lines.proofs.Gaps.{gap_alike}
 use Rattle.asm_lines.proofs.StatementLines.{name_without, labelled, lines_alike}
 
@@ -113,9 +113,8 @@ bracket_gap m which front gap gap' back h h' =
     let quiet : lacks 44 (gap ++ m ∷ gap') ≡ true
     = lacks_both 44 gap (m ∷ gap') (blanks_uncut gap h) (and_from (not (is_comma m)) _ (not_from_false _ free) (blanks_uncut gap' h')) in
     let one : lacks 44 (m ∷ []) ≡ true = and_from (not (is_comma m)) true (not_from_false _ free) refl in
-    let bracket : IsBracket m = elim which [ inl e ↦ subst IsBracket (sym e) opening | inr e ↦ subst IsBracket (sym e) closing ] in
     let alike : (A B : List ℕ) → AreReadAlike (trimmed (A ++ ((gap ++ m ∷ gap') ++ B))) (trimmed (A ++ ((m ∷ []) ++ B)))
-    = (λ A B. rw (append_assoc gap (m ∷ gap') B) (gap_alike m bracket A gap gap' B h h')) in
+    = (λ A B. rw (append_assoc gap (m ∷ gap') B) (gap_alike m (bracket m which) A gap gap' B h h')) in
     subst (λ l. Pairwise AreReadAlike (split_trimmed (front ++ l)) (split_trimmed (front ++ m ∷ back))) (append_assoc gap (m ∷ gap') back)
     (in_place (gap ++ m ∷ gap') (m ∷ []) quiet one alike [] front back refl)
 

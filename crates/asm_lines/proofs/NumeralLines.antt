@@ -1,5 +1,5 @@
 -- Lines whose operands say the same are read alike.
-use Rattle.std.proofs.Common.{◌≡◌, ℕ, ◌<◌, true, false, not, eqb, List, [], ◌∷◌, ◌++◌, length, Some, None, refl, sym, ap, ◌∙◌, append_assoc, arith}
+use Rattle.std.proofs.Common.{◌≡◌, ℕ, ◌<◌, true, false, not, eqb, List, [], ◌∷◌, ◌++◌, length, Some, None, refl, sym, ap, ◌∙◌, append_assoc, inl, arith}
 use Rattle.std.specs.Prelude.{◌&&◌, slice_index, if◌then◌else◌}
 use Rattle.std.specs.Char.{digit_value}
 use Rattle.std.specs.Str.{bytes_eq}
@@ -12,7 +12,7 @@ use Rattle.asm_lines.proofs.PlainWords.{cut_last_mid}
 use Rattle.asm_lines.proofs.Numerals.{digit_passes}
 use Rattle.asm_lines.proofs.Alike.{looks, numerals_alike}
 use Rattle.asm_lines.proofs.Trims.{lacks, trimmed_word}
-use Rattle.asm_lines.proofs.WithBracket.{opening}
+use Rattle.asm_lines.proofs.WithBracket.{bracket}
 use Rattle.asm_lines.proofs.Cuts.{parts_trimmed, bracketed_snoc, SameCut, from_cuts}
 use Rattle.asm_lines.proofs.Blanks.{alike_itself}
 use Rattle.asm_lines.proofs.StatementLines.{not_empty, lines_alike}
@@ -40,7 +40,7 @@ module _ (n : ℕ) (bytes : List ℕ) (is : IsNumeralOf n bytes) where
 
 offsets_alike : (n : ℕ) (one other base : List ℕ) → IsNumeralOf n one → IsNumeralOf n other → lacks 40 base ≡ true
     → AreReadAlike (in_brackets one base) (in_brackets other base)
-offsets_alike n one other base is is' h = from_cuts 40 opening one (base ++ 41 ∷ []) other (base ++ 41 ∷ []) cuts
+offsets_alike n one other base is is' h = from_cuts 40 (bracket 40 (inl refl)) one (base ++ 41 ∷ []) other (base ++ 41 ∷ []) cuts
   where
     cuts : SameCut (bracketed (in_brackets one base)) (bracketed (in_brackets other base))
     cuts = rw (cut_base one base h, cut_base other base h, numeral_trimmed n one is, numeral_trimmed n other is') (record {

@@ -5,11 +5,12 @@ use Rattle.asm_lines.specs.declared.fault.LineFault.{LineFault}
 use Rattle.asm_lines.specs.declared.fault.LineFault.TheVariants.{Form}
 use Rattle.asm_lines.specs.declared.directive.Directive.{Directive}
 use Rattle.asm_lines.specs.declared.directive.Directive.TheVariants as directives
+use Rattle.asm_lines.specs.declared.instruction.Addressed.TheVariants as kinds
 use Rattle.asm_lines.specs.declared.mnemonic.Mnemonic.{Mnemonic}
 use Rattle.asm_lines.specs.declared.mnemonic.Mnemonic.TheVariants.{Op, OpImm, Shift, Load, Store, Branch, Upper, Jal, Jalr, Fence, Ecall, Ebreak, Amo}
 use Rattle.asm_lines.specs.declared.mnemonic.Order.{Order}
 use Rattle.asm_lines.specs.Steps.{◌>>=◌}
-use Rattle.asm_lines.specs.Statements.{Val, register_in, lower_in, bracketed, base_in, nothing_in, op_in, op_imm_in, shift_in, load_in, store_in, branch_in, upper_insn_in, jal_in, jalr_in, fence_in, amo_in, instruction_in, each, word_in, byte_in, count_in, directive_in, chosen}
+use Rattle.asm_lines.specs.Statements.{Val, register_in, lower_in, bracketed, base_in, nothing_in, op_in, op_imm_in, shift_in, addressed_in, branch_in, upper_insn_in, jal_in, fence_in, amo_in, instruction_in, each, word_in, byte_in, count_in, directive_in, chosen}
 use Rattle.asm_lines.specs.Alike.{AreBracketedAlike, AreReadAlike, Pairwise, none, more}
 
 bind_same : {A B : Type 0} (r : Result A LineFault) (f g : A → Result B LineFault) → ((x : A) → f x ≡ g x) → (r >>= f) ≡ (r >>= g)
@@ -75,22 +76,22 @@ nothing_alike (more {one = a} {other = a'} h (more {one = b} {other = b'} {ones 
     two (x ∷ xs) b ds = refl
 
 instruction_alike : (m : Mnemonic) (order : Order) {xs ys : List (List ℕ)} → Pairwise AreReadAlike xs ys → instruction_in m order xs ≡ instruction_in m order ys
-unfolding op_in op_imm_in shift_in load_in store_in branch_in upper_insn_in jal_in jalr_in fence_in amo_in
+unfolding op_in op_imm_in shift_in addressed_in branch_in upper_insn_in jal_in fence_in amo_in
 instruction_alike (Op op) order all = by_three (op_in op) (λ a. refl) (λ a b. refl) (λ a b c d ds. refl)
     (λ a b c a' b' c' h i j. rw (h.register, i.register, j.register) refl) all
 instruction_alike (OpImm op) order all = by_three (op_imm_in op) (λ a. refl) (λ a b. refl) (λ a b c d ds. refl)
     (λ a b c a' b' c' h i j. rw (h.register, i.register, j.lower) refl) all
 instruction_alike (Shift op) order all = by_three (shift_in op) (λ a. refl) (λ a b. refl) (λ a b c d ds. refl)
     (λ a b c a' b' c' h i j. rw (h.register, i.register, j.natural 31) refl) all
-instruction_alike (Load op) order all = by_two (load_in op) (λ a. refl) (λ a b c ds. refl)
+instruction_alike (Load op) order all = by_two (addressed_in (kinds.Load op)) (λ a. refl) (λ a b c ds. refl)
     (λ a b a' b' h i. rw h.register (bind_same _ _ _ (λ rd. address_alike _ _ _ i.brackets))) all
-instruction_alike (Store op) order all = by_two (store_in op) (λ a. refl) (λ a b c ds. refl)
+instruction_alike (Store op) order all = by_two (addressed_in (kinds.Store op)) (λ a. refl) (λ a b c ds. refl)
     (λ a b a' b' h i. rw h.register (bind_same _ _ _ (λ rs2. address_alike _ _ _ i.brackets))) all
 instruction_alike (Branch op) order all = by_three (branch_in op) (λ a. refl) (λ a b. refl) (λ a b c d ds. refl)
     (λ a b c a' b' c' h i j. rw (h.register, i.register, j.value _ _) refl) all
 instruction_alike (Upper op) order all = by_two (upper_insn_in op) (λ a. refl) (λ a b c ds. refl) (λ a b a' b' h i. rw (h.register, i.upper) refl) all
 instruction_alike Jal order all = by_two jal_in (λ a. refl) (λ a b c ds. refl) (λ a b a' b' h i. rw (h.register, i.value _ _) refl) all
-instruction_alike Jalr order all = by_two jalr_in (λ a. refl) (λ a b c ds. refl)
+instruction_alike Jalr order all = by_two (addressed_in kinds.Jalr) (λ a. refl) (λ a b c ds. refl)
     (λ a b a' b' h i. rw h.register (bind_same _ _ _ (λ rd. address_alike _ _ _ i.brackets))) all
 instruction_alike Fence order all = by_three fence_in (λ a. refl) (λ a b. refl) (λ a b c d ds. refl)
     (λ a b c a' b' c' h i j. rw (h.register, i.register, j.natural 4095) refl) all

@@ -22,7 +22,7 @@ use Rattle.asm_lines.specs.declared.mnemonic.Mnemonic.TheVariants.{Op, OpImm, Sh
 use Rattle.asm_lines.specs.declared.mnemonic.Order.{Order}
 use Rattle.asm_lines.specs.Text.{is_blank, cut_at, cut_last_at, parts_at, operands_of}
 use Rattle.asm_lines.specs.Names.{written, unordered, plain_mnemonic, mnemonic_of, directive_of, x_name, register_of}
-use Rattle.asm_lines.specs.Statements.{Instr, number, instruction, whole, op_imm, load, store, branch, upper, jal, jalr, is_letter, is_name, register_in, value_in, bracketed, part_in, upper_in, lower_in, base_in, nothing_in, op_in, op_imm_in, shift_in, load_in, store_in, branch_in, upper_insn_in, jal_in, jalr_in, fence_in, amo_in, instruction_in, statement_in, rest_of_line, label_in, said_in, line_of}
+use Rattle.asm_lines.specs.Statements.{Instr, number, instruction, whole, op_imm, load, store, branch, upper, jal, jalr, is_letter, is_name, register_in, value_in, bracketed, part_in, upper_in, lower_in, base_in, nothing_in, op_in, op_imm_in, shift_in, addressed_in, branch_in, upper_insn_in, jal_in, fence_in, amo_in, instruction_in, statement_in, rest_of_line, label_in, said_in, line_of}
 use Rattle.asm_lines.specs.Written.{signed, offset, in_brackets, after_commas, with_operands, text_of, as_said}
 use Rattle.asm_lines.proofs.PlainWords.{joined_all, is_plain, Word, Words, none, more, no_blank, no_comment, no_colon, no_line_feed, one_part, word_trimmed, trimmed_nothing, cut_at_none, cut_at_mid, operands_again, no_operands_again, text_quiet, text_trimmed, bracketed_none, bracketed_again}
 use Rattle.asm_lines.proofs.Numerals.{signed_pass, within_again, natural_again, signed_word, decimal_word}
@@ -269,7 +269,7 @@ bare m order i again read = record {
 }
 
 pub written_read : (i : Insn) → InRange i → IsLineOf (text_of i) (as_said i)
-unfolding text_of op_in op_imm_in shift_in load_in store_in branch_in upper_insn_in jal_in jalr_in fence_in amo_in nothing_in
+unfolding text_of op_in op_imm_in shift_in addressed_in branch_in upper_insn_in jal_in fence_in amo_in nothing_in
 written_read (insns.Op op rd rs1 rs2) r =
     let a = register_again rd r.0 in
     let b = register_again rs1 r.1 in

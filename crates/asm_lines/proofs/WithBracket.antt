@@ -1,5 +1,5 @@
 -- A text with a bracket is no number, no name and no register.
-use Rattle.std.proofs.Common.{◌≡◌, ℕ, ◌+◌, ◌*◌, Bool, true, false, not, eqb, eq-eqb, List, [], ◌∷◌, ◌++◌, Option, Some, None, Err, refl, sym, ◌∙◌, inl, inr, ◌⊎◌}
+use Rattle.std.proofs.Common.{◌≡◌, ℕ, ◌+◌, ◌*◌, Bool, true, false, not, eqb, eq-eqb, List, [], ◌∷◌, ◌++◌, Option, Some, None, Err, refl, sym, subst, ◌∙◌, inl, inr, ◌⊎◌}
 use Rattle.std.specs.Prelude.{◌&&◌, ◌||◌, ℤ, if◌then◌else◌}
 use Rattle.std.specs.Option.{option_and_then}
 use Rattle.std.specs.List.{list_all}
@@ -29,39 +29,26 @@ pub record IsBracket (m : ℕ) : Type 0 where
   pub high : lacks m (37 ∷ 104 ∷ 105 ∷ []) ≡ true
   pub low : lacks m (37 ∷ 108 ∷ 111 ∷ []) ≡ true
 
-pub opening : IsBracket 40
-opening = record {
-  which = inl refl;
-  solid = refl;
-  letter = refl;
-  name_byte = refl;
-  decimal = refl;
-  hex = refl;
-  no_minus = refl;
-  no_zero = refl;
-  no_x =
-      refl;
-  registers = refl;
-  high = refl;
-  low = refl;
-}
+-- what is so of both brackets is so of each
+module _ (m : ℕ) (which : (m ≡ 40) ⊎ (m ≡ 41)) where
+  of_both : (P : ℕ → Type 0) → P 40 → P 41 → P m
+  of_both P a b = elim which [ inl e ↦ subst P (sym e) a | inr e ↦ subst P (sym e) b ]
 
-pub closing : IsBracket 41
-closing = record {
-  which = inr refl;
-  solid = refl;
-  letter = refl;
-  name_byte = refl;
-  decimal = refl;
-  hex = refl;
-  no_minus = refl;
-  no_zero = refl;
-  no_x =
-      refl;
-  registers = refl;
-  high = refl;
-  low = refl;
-}
+  pub bracket : IsBracket m
+  bracket = record {
+    which = which;
+    solid = of_both (λ b. is_blank b ≡ false) refl refl;
+    letter = of_both (λ b. is_letter b ≡ false) refl refl;
+    name_byte = of_both (λ b. is_name_byte b ≡ false) refl refl;
+    decimal = of_both (λ b. digit_in 10 b ≡ None) refl refl;
+    hex = of_both (λ b. digit_in 16 b ≡ None) refl refl;
+    no_minus = of_both (λ b. eqb b 45 ≡ false) refl refl;
+    no_zero = of_both (λ b. eqb b 48 ≡ false) refl refl;
+    no_x = of_both (λ b. eqb b 120 ≡ false) refl refl;
+    registers = of_both (λ b. list_all (λ r. lacks b (x_name r) && lacks b (use_name r)) numbers ≡ true) refl refl;
+    high = of_both (λ b. lacks b (37 ∷ 104 ∷ 105 ∷ []) ≡ true) refl refl;
+    low = of_both (λ b. lacks b (37 ∷ 108 ∷ 111 ∷ []) ≡ true) refl refl;
+  }
 
 module _ (m : ℕ) (is : IsBracket m) where
   eqb_other : (y : ℕ) → not (eqb y m) ≡ true → eqb m y ≡ false

@@ -13,6 +13,8 @@ use Rattle.rv_table.specs.declared.operation.StoreOp.{StoreOp}
 use Rattle.rv_table.specs.declared.operation.BranchOp.{BranchOp}
 use Rattle.rv_table.specs.declared.operation.UpperOp.{UpperOp}
 use Rattle.rv_table.specs.declared.operation.AmoOp.{AmoOp}
+use Rattle.asm_lines.specs.declared.instruction.Addressed.{Addressed}
+use Rattle.asm_lines.specs.declared.instruction.Addressed.TheVariants as kinds
 use Rattle.asm_lines.specs.declared.fault.LineFault.{LineFault}
 use Rattle.asm_lines.specs.declared.fault.LineFault.TheVariants.{Unknown, Form}
 use Rattle.asm_lines.specs.declared.mnemonic.Mnemonic.{Mnemonic}
@@ -152,25 +154,21 @@ shift_in op (a ∷ b ∷ c ∷ []) = do
   Ok (whole (insns.Shift op rd rs1 i))
 shift_in op _ = Err Form
 
--- op rd, i(rs1)
-unfoldable pub load_in : LoadOp → List (List ℕ) → Result Instr LineFault
-load_in op (a ∷ b ∷ []) = do
-  rd ← register_in a
-  address ← ok_or (bracketed b) Form
-  i ← lower_in address.0
-  rs1 ← register_in address.1
-  Ok (load op rd rs1 i)
-load_in op _ = Err Form
+-- the instruction of a register, of the register and of the immediate of an address
+abbrev pub addressed : Addressed → (register rs1 : ℕ) → Val → Instr
+addressed (kinds.Load op) register rs1 i = load op register rs1 i
+addressed (kinds.Store op) register rs1 i = store op rs1 register i
+addressed kinds.Jalr register rs1 i = jalr register rs1 i
 
--- op rs2, i(rs1)
-unfoldable pub store_in : StoreOp → List (List ℕ) → Result Instr LineFault
-store_in op (a ∷ b ∷ []) = do
-  rs2 ← register_in a
+-- op rd, i(rs1); op rs2, i(rs1); jalr rd, i(rs1)
+unfoldable pub addressed_in : Addressed → List (List ℕ) → Result Instr LineFault
+addressed_in kind (a ∷ b ∷ []) = do
+  register ← register_in a
   address ← ok_or (bracketed b) Form
   i ← lower_in address.0
   rs1 ← register_in address.1
-  Ok (store op rs1 rs2 i)
-store_in op _ = Err Form
+  Ok (addressed kind register rs1 i)
+addressed_in kind _ = Err Form
 
 -- op rs1, rs2, target
 unfoldable pub branch_in : BranchOp → List (List ℕ) → Result Instr LineFault
@@ -196,16 +194,6 @@ jal_in (a ∷ b ∷ []) = do
   target ← value_in (negsuc 1048575) (pos 1048574) b
   Ok (jal rd target)
 jal_in _ = Err Form
-
--- jalr rd, i(rs1)
-unfoldable pub jalr_in : List (List ℕ) → Result Instr LineFault
-jalr_in (a ∷ b ∷ []) = do
-  rd ← register_in a
-  address ← ok_or (bracketed b) Form
-  i ← lower_in address.0
-  rs1 ← register_in address.1
-  Ok (jalr rd rs1 i)
-jalr_in _ = Err Form
 
 -- fence rd, rs1, v
 unfoldable pub fence_in : List (List ℕ) → Result Instr LineFault
@@ -233,12 +221,12 @@ abbrev pub instruction_in : Mnemonic → Order → List (List ℕ) → Result In
 instruction_in (Op op) order operands = op_in op operands
 instruction_in (OpImm op) order operands = op_imm_in op operands
 instruction_in (Shift op) order operands = shift_in op operands
-instruction_in (Load op) order operands = load_in op operands
-instruction_in (Store op) order operands = store_in op operands
+instruction_in (Load op) order operands = addressed_in (kinds.Load op) operands
+instruction_in (Store op) order operands = addressed_in (kinds.Store op) operands
 instruction_in (Branch op) order operands = branch_in op operands
 instruction_in (Upper op) order operands = upper_insn_in op operands
 instruction_in Jal order operands = jal_in operands
-instruction_in Jalr order operands = jalr_in operands
+instruction_in Jalr order operands = addressed_in kinds.Jalr operands
 instruction_in Fence order operands = fence_in operands
 instruction_in Ecall order operands = bare insns.Ecall operands
 instruction_in Ebreak order operands = bare insns.Ebreak operands

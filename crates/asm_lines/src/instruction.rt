@@ -2,15 +2,16 @@
 
 ghost use Rattle.std.specs.Prelude.{◌≡◌, map};
 ghost use Rattle.asm_lines.specs.Steps.{GivesFault};
-ghost use Rattle.asm_lines.specs.Statements.{instr_of, op_in, op_imm_in, shift_in, load_in, store_in, branch_in, upper_insn_in, jal_in, jalr_in, fence_in, bare, amo_in, instruction_in};
+ghost use Rattle.asm_lines.specs.Statements.{instr_of, val_of, op_in, op_imm_in, shift_in, addressed, addressed_in, branch_in, upper_insn_in, jal_in, fence_in, bare, amo_in, instruction_in};
 
 use crate::fault::LineFault;
 use crate::mnemonic::{Mnemonic, Order};
 use crate::number::natural_within;
 use crate::operand::{base_in, bracketed, lower_in, nothing_in, register_in, upper_in, value_in};
-use crate::statement::Instruction;
+use crate::statement::{Instruction, Value};
 use rv_table::{
-    AmoOp, BranchOp, Immediate, ImmediateOp, Insn, LoadOp, RegisterOp, ShiftOp, StoreOp, UpperOp,
+    AmoOp, BranchOp, Immediate, ImmediateOp, Insn, LoadOp, Register, RegisterOp, ShiftOp, StoreOp,
+    UpperOp,
 };
 
 /// The instruction of this mnemonic and ordering that has these operands.
@@ -30,12 +31,12 @@ pub fn instruction_in<'a>(
         Mnemonic::Op(op) => op_in(op, operands),
         Mnemonic::OpImm(op) => op_imm_in(op, operands),
         Mnemonic::Shift(op) => shift_in(op, operands),
-        Mnemonic::Load(op) => load_in(op, operands),
-        Mnemonic::Store(op) => store_in(op, operands),
+        Mnemonic::Load(op) => addressed_in(Addressed::Load(op), operands),
+        Mnemonic::Store(op) => addressed_in(Addressed::Store(op), operands),
         Mnemonic::Branch(op) => branch_in(op, operands),
         Mnemonic::Upper(op) => upper_insn_in(op, operands),
         Mnemonic::Jal => jal_in(operands),
-        Mnemonic::Jalr => jalr_in(operands),
+        Mnemonic::Jalr => addressed_in(Addressed::Jalr, operands),
         Mnemonic::Fence => fence_in(operands),
         Mnemonic::Ecall => bare(Insn::Ecall, operands),
         Mnemonic::Ebreak => bare(Insn::Ebreak, operands),
@@ -90,34 +91,54 @@ fn shift_in<'a>(op: ShiftOp, operands: &[&'a [u8]]) -> Result<Instruction<'a>, L
     }))
 }
 
-/// `op rd, i(rs1)`
-#[tactic(auto, unfolding(crate::specs::Statements::load_in))]
-fn load_in<'a>(op: LoadOp, operands: &[&'a [u8]]) -> Result<Instruction<'a>, LineFault>
-    ensures { GivesFault instr_of result (load_in op (map (λ operand. operand.now) operands.now)) }
-{
-    let [a, b] = operands else {
-        return Err(LineFault::Form);
-    };
-    let rd = register_in(a)?;
-    let (front, inside) = bracketed(b).ok_or(LineFault::Form)?;
-    let imm = lower_in(front)?;
-    let rs1 = register_in(inside)?;
-    Ok(Instruction::Load { op, rd, rs1, imm })
+/// The instructions with an address, `i(rs1)`, behind a register.
+#[derive(Clone, Copy, Debug, PartialEq, Eq, Drop)]
+enum Addressed {
+    Load(LoadOp),
+    Store(StoreOp),
+    Jalr,
 }
 
-/// `op rs2, i(rs1)`
-#[tactic(auto, unfolding(crate::specs::Statements::store_in))]
-fn store_in<'a>(op: StoreOp, operands: &[&'a [u8]]) -> Result<Instruction<'a>, LineFault>
-    ensures { GivesFault instr_of result (store_in op (map (λ operand. operand.now) operands.now)) }
+impl Addressed {
+    /// The instruction of a register, and of the register and the immediate of an address.
+    fn instruction<'a>(self, register: Register, rs1: Register, imm: Value<'a>) -> Instruction<'a>
+        ensures { instr_of result ≡ addressed self register rs1 (val_of imm.entry) }
+    {
+        match self {
+            Addressed::Load(op) => Instruction::Load {
+                op,
+                rd: register,
+                rs1,
+                imm,
+            },
+            Addressed::Store(op) => Instruction::Store {
+                op,
+                rs1,
+                rs2: register,
+                imm,
+            },
+            Addressed::Jalr => Instruction::Jalr {
+                rd: register,
+                rs1,
+                imm,
+            },
+        }
+    }
+}
+
+/// `op rd, i(rs1)`, `op rs2, i(rs1)`, and `jalr rd, i(rs1)`
+#[tactic(auto, unfolding(crate::specs::Statements::addressed_in))]
+fn addressed_in<'a>(kind: Addressed, operands: &[&'a [u8]]) -> Result<Instruction<'a>, LineFault>
+    ensures { GivesFault instr_of result (addressed_in kind (map (λ operand. operand.now) operands.now)) }
 {
     let [a, b] = operands else {
         return Err(LineFault::Form);
     };
-    let rs2 = register_in(a)?;
+    let register = register_in(a)?;
     let (front, inside) = bracketed(b).ok_or(LineFault::Form)?;
     let imm = lower_in(front)?;
     let rs1 = register_in(inside)?;
-    Ok(Instruction::Store { op, rs1, rs2, imm })
+    Ok(kind.instruction(register, rs1, imm))
 }
 
 /// `op rs1, rs2, target`
@@ -163,21 +184,6 @@ fn jal_in<'a>(operands: &[&'a [u8]]) -> Result<Instruction<'a>, LineFault>
     let rd = register_in(a)?;
     let target = value_in(-1_048_576, 1_048_574, b)?;
     Ok(Instruction::Jal { rd, target })
-}
-
-/// `jalr rd, i(rs1)`
-#[tactic(auto, unfolding(crate::specs::Statements::jalr_in))]
-fn jalr_in<'a>(operands: &[&'a [u8]]) -> Result<Instruction<'a>, LineFault>
-    ensures { GivesFault instr_of result (jalr_in (map (λ operand. operand.now) operands.now)) }
-{
-    let [a, b] = operands else {
-        return Err(LineFault::Form);
-    };
-    let rd = register_in(a)?;
-    let (front, inside) = bracketed(b).ok_or(LineFault::Form)?;
-    let imm = lower_in(front)?;
-    let rs1 = register_in(inside)?;
-    Ok(Instruction::Jalr { rd, rs1, imm })
 }
 
 /// `fence rd, rs1, v`

@@ -2,7 +2,6 @@ pub mod Labels
 pub mod LineByLine
 pub mod Words
 pub mod Parts
-pub mod Again
 pub mod Fits
 pub mod SmallLabels
 pub mod LineBytes

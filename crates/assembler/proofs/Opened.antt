@@ -3,15 +3,13 @@ use Rattle.std.proofs.Common.{◌≡◌, ℕ, ◌+◌, ◌-◌, ◌*◌, ◌/◌
 use Rattle.std.specs.Prelude.{◌==◌, ◌&&◌, nat_lt, slice_index, if◌then◌else◌}
 use Rattle.std.proofs.lemmas.Bool.{cases_lt}
 use Rattle.std.proofs.lemmas.Bool.Decides.{nat_tests}
-use Rattle.std.proofs.lemmas.List.{length-replicate, get_or_past}
-use Rattle.std.proofs.lemmas.List.FromFn.{length-map-range_with_len}
+use Rattle.std.proofs.lemmas.List.{get_or_past}
 use Rattle.flat_machine.specs.declared.config.Config.{Config}
-use Rattle.flat_machine.specs.Words.{part_of}
-use Rattle.flat_machine.specs.Memory.{number_at, in_code, in_local, in_shared}
+use Rattle.flat_machine.specs.Memory.{in_shared}
 use Rattle.flat_machine.specs.State.{Processor}
 use Rattle.elf_image.specs.declared.layout.Layout.{Layout}
-use Rattle.elf_image.specs.Openings.{words_of, opening_processor, opening}
-use Rattle.elf_image.proofs.Opened.{zero_of_replicate, padded_same, length-region_of_bytes, every_one, part_of_number, word_here}
+use Rattle.elf_image.specs.Openings.{opening}
+use Rattle.image_laws.specs.Laws.{IsPlacedAt, IsOpeningProcessor, IsLayoutOpening, IsOpenable}
 use Rattle.asm_lines.specs.declared.statement.Section.{Section}
 use Rattle.asm_lines.specs.declared.statement.Section.TheVariants.{Code, Local, Shared}
 use Rattle.assembler.specs.declared.symbol.Symbol.{Symbol}
@@ -38,51 +36,35 @@ entry_aligned (Some symbol) = by_test (same_section symbol.section Code) (symbol
     by_test true false e = refl
     by_test false d e = refl
 
-module _ (config : Config) (text : List ℕ) (layout : Layout) (m : IsMeaning text layout) (fits : FitsRegions layout) where
-  placed : (s : Section) (bytes : List ℕ) (place address : ℕ) → bytes ≡ section_bytes s (pieces_of (lines_of text)) → place ≡ address - base_of s → slice_index bytes place ≡ placed_byte text s address
-  placed s bytes place address same at =
-      ap (slice_index bytes) at
+module _ (known : (config : Config) (layout : Layout) → IsOpenable layout → IsLayoutOpening layout config (opening config layout))
+    (config : Config) (text : List ℕ) (layout : Layout) (m : IsMeaning text layout) (fits : FitsRegions layout) where
+  placed : (s : Section) (bytes : List ℕ) (b address : ℕ) → bytes ≡ section_bytes s (pieces_of (lines_of text)) → b ≡ slice_index bytes (address - base_of s) → b ≡ placed_byte text s address
+  placed s bytes b address same at =
+      at
       ∙ behind_zero bytes (address - base_of s)
       ∙ ap (λ (xs : List ℕ). if nat_lt (address - base_of s) (length xs) then slice_index xs (address - base_of s) else 0) same
-
-  local : (a : ℕ) → in_local a ≡ true → slice_index (opening_processor layout).local (a % 2 ^ 16) ≡ placed_byte text Local a
-  local a e =
-      let q : a / 65536 ≡ 2 = grind (arith, nat_tests, e) in
-      padded_same (2 ^ 16) layout.local (a % 65536) ∙ placed Local layout.local (a % 65536) a m.local (omega (arith, q))
-
-  code : (a : ℕ) → in_code a ≡ true → slice_index (opening config layout).code (a % 2 ^ 16) ≡ placed_byte text Code a
-  code a e =
-      let q : a / 65536 ≡ 1 = grind (arith, nat_tests, e) in
-      padded_same (2 ^ 16) layout.code (a % 65536) ∙ placed Code layout.code (a % 65536) a m.code (omega (arith, q))
 
   small : (i : ℕ) → slice_index layout.shared i < 256
   small i = subst (λ bs. slice_index bs i < 256) (sym m.shared) (byte_below (section_bytes Shared (pieces_of (lines_of text))) (placed_bytes Shared (lines_of text)) i)
 
-  shared : (a : ℕ) → in_shared config.shared_words a ≡ true → part_of 1 (a % 4) (slice_index (words_of layout.shared config.shared_words) ((a - 2 ^ 31) / 4)) ≡ placed_byte text Shared a
-  shared a e =
-      let low : 0x80000000 ≤ a = grind (arith, nat_tests, e) in
-      let high : a < 0x80000000 + 4 * config.shared_words = grind (arith, nat_tests, e) in
-      let i = (a - 0x80000000) / 4 in
-      let word : slice_index (words_of layout.shared config.shared_words) i ≡ number_at layout.shared (4 * i) 4 = word_here layout.shared config.shared_words i (omega arith) in
-      let part = part_of_number layout.shared (4 * i) (a % 4) small (omega arith) in
-      ap (part_of 1 (a % 4)) word ∙ part ∙ placed Shared layout.shared (4 * i + a % 4) a m.shared (omega arith)
-
-  processor : (p : Processor) → opening_processor layout ≡ p → IsTextProcessor text p
-  processor p is = subst (IsTextProcessor text) is (record {
-    pc = m.entry;
-    registers = refl;
-    zero = zero_of_replicate 32;
-    running = refl;
-    local_size = length-region_of_bytes layout.local fits.local;
-    local = local;
-  })
+  processor : (p : Processor) → IsOpeningProcessor layout.entry (IsPlacedAt layout) p → IsTextProcessor text p
+  processor p q = record {
+    pc = q.pc ∙ m.entry;
+    registers = q.registers;
+    zero = q.zero;
+    running = q.running;
+    local_size = q.local_size;
+    local = λ a e. placed Local layout.local _ a m.local ((q.local a e).local e);
+  }
 
   pub opens_on_the_text : IsTextOpening text config (opening config layout)
-  opens_on_the_text = record {
-    count = length-replicate (2 ^ config.k) (opening_processor layout);
-    processors = λ k p at. processor p (every_one (2 ^ config.k) k (opening_processor layout) p at);
-    words = length-map-range_with_len (λ k. number_at layout.shared (4 * k) 4) 0 config.shared_words;
-    shared = shared;
-    code_size = length-region_of_bytes layout.code fits.code;
-    code = code;
-  }
+  opens_on_the_text =
+      let o = known config layout (record { code = fits.code; local = fits.local; bytes = small }) in
+      record {
+        count = o.count;
+        processors = λ k p at. processor p (o.processors k p at);
+        words = o.words;
+        shared = λ a e. let low : 0x80000000 ≤ a = grind (arith, nat_tests, e) in placed Shared layout.shared _ a m.shared ((o.shared a e).shared low);
+        code_size = o.code_size;
+        code = λ a e. placed Code layout.code _ a m.code ((o.code a e).code e);
+      }

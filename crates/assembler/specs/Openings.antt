@@ -39,7 +39,9 @@ pub record IsTextOpening (text : List ℕ) (config : Config) (m : FlatState) : T
   pub count : length m.processors ≡ 2 ^ config.k
   pub processors : (k : ℕ) (p : Processor) → slice_get m.processors k ≡ Some p → IsTextProcessor text p
   pub words : length m.shared ≡ config.shared_words
-  pub shared : (address : ℕ) → in_shared config.shared_words address ≡ true → part_of 1 (address % 4) (slice_index m.shared ((address - 2 ^ 31) / 4)) ≡ placed_byte text Shared address
+  pub shared :
+      (address : ℕ) → in_shared config.shared_words address ≡ true →
+      part_of 1 (address % 4) (slice_index m.shared ((address - 2 ^ 31) / 4)) ≡ placed_byte text Shared address
   pub code_size : length m.code ≡ 2 ^ 16
   pub code : (address : ℕ) → in_code address ≡ true → slice_index m.code (address % 2 ^ 16) ≡ placed_byte text Code address
 
@@ -49,5 +51,7 @@ pub record IsReadAsText (text : List ℕ) (config : Config) (file : List ℕ) : 
   pub accepted : IsAccepted config.shared_words file
   pub meant : (layout : Layout) × IsMeant config.shared_words file layout
   pub opens : (layout : Layout) → IsMeant config.shared_words file layout → IsTextOpening text config (opening config layout)
-  pub given : (rest : Option (List ℕ)) (image : ImageContents) → IsGiven config.shared_words (Some file) rest image → IsTextOpening text config (opening config image.layout)
+  pub given :
+      (rest : Option (List ℕ)) (image : ImageContents) → IsGiven config.shared_words (Some file) rest image →
+      IsTextOpening text config (opening config image.layout)
   pub refused : (rest : Option (List ℕ)) (e : ImageError) → IsRefused config.shared_words (Some file) rest e → (e ≡ error.Link) ⊎ (e ≡ error.Memory)

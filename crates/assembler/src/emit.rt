@@ -66,9 +66,12 @@ fn emit_in_section<'a>(
     layout: &mut Layout,
 ) -> Result<(), AsmFault>
     ensures ok { OnOk result (IsOk (statement_piece (label_values labels.now) place.now (Some (stmt_of statement.now)))) }
-    ensures code { OnOk result (layout.new.code ≡ layout.old.code ++ bytes_in Code (statement_piece (label_values labels.now) place.now (Some (stmt_of statement.now)))) }
-    ensures local { OnOk result (layout.new.local ≡ layout.old.local ++ bytes_in Local (statement_piece (label_values labels.now) place.now (Some (stmt_of statement.now)))) }
-    ensures shared { OnOk result (layout.new.shared ≡ layout.old.shared ++ bytes_in Shared (statement_piece (label_values labels.now) place.now (Some (stmt_of statement.now)))) }
+    ensures code { OnOk result (layout.new.code ≡ layout.old.code
+        ++ bytes_in Code (statement_piece (label_values labels.now) place.now (Some (stmt_of statement.now)))) }
+    ensures local { OnOk result (layout.new.local ≡ layout.old.local
+        ++ bytes_in Local (statement_piece (label_values labels.now) place.now (Some (stmt_of statement.now)))) }
+    ensures shared { OnOk result (layout.new.shared ≡ layout.old.shared
+        ++ bytes_in Shared (statement_piece (label_values labels.now) place.now (Some (stmt_of statement.now)))) }
     ensures entry { OnOk result (layout.new.entry ≡ layout.old.entry) }
     ensures err { IfErr result (λ f. f ≢ Memory → statement_piece (label_values labels.now) place.now (Some (stmt_of statement.now)) ≡ Err f) }
 {

@@ -1,23 +1,20 @@
 //! Laws of what a text means.
 
-ghost use Rattle.std.specs.Prelude.{◌≡◌, ◌≤◌, ◌<◌, ◌*◌, ◌^◌, ℕ, true, List, [], length, Some};
+ghost use Rattle.std.specs.Prelude.{◌≡◌, ◌≤◌, ◌<◌, ◌*◌, ◌^◌, ℕ, true, List, length, Some};
 ghost use Rattle.flat_machine.specs.declared.config.Config.{Config};
 ghost use Rattle.flat_machine.specs.Memory.{in_code};
 ghost use Rattle.elf_image.specs.declared.layout.Layout.{Layout};
 ghost use Rattle.elf_image.specs.Spellings.{spelling};
 ghost use Rattle.assembler.specs.declared.fault.AsmError.{AsmError};
 ghost use Rattle.assembler.specs.declared.symbol.Symbol.{Symbol};
-ghost use Rattle.assembler.specs.Meaning.{Labels, labels_of, lines_of, IsMeaning, IsPresent, FitsRegions, word_bytes};
+ghost use Rattle.assembler.specs.Meaning.{Labels, labels_of, lines_of, IsMeaning, IsPresent, FitsRegions};
 ghost use Rattle.assembler.specs.Openings.{IsReadAsText};
 ghost use Rattle.assembler.specs.Parts.{MakeValue};
-ghost use Rattle.asm_lines.specs.Written.{text_of};
-ghost use Rattle.rv_table.specs.Rows.{Spells};
 
-use asm_lines::{fields_again, written_again};
-use decode::encode;
-use elf_image::{input_means_one_layout, not_refused_is_accepted, spelling_means_its_layout};
-use flat_machine::CODE_START;
-use rv_table::Insn;
+use image_laws::{
+    input_means_one_layout, machine_opens_on_the_layout, not_refused_is_accepted,
+    spelling_is_headers_and_bytes, spelling_means_its_layout,
+};
 
 /// A text with a fault has no meaning.
 pub fn fault_or_meaning()
@@ -44,18 +41,6 @@ pub fn high_and_low_make_the_value()
         → labels_of (lines_of text) name ≡ Some symbol → MakeValue (labels_of (lines_of text)) name symbol.address }
 {}
 
-/// The text of an instruction, as `disassemble` writes it, means the instruction's one word.
-pub fn disassembled_again(insn: &Insn) -> u32
-    ensures word { Spells result insn.now }
-    ensures meaning { IsMeaning (text_of insn.now)
-        (record { entry = CODE_START; code = word_bytes result; local = []; shared = [] }) }
-{
-    // Laws of lines, for the proof alone.
-    fields_again();
-    written_again();
-    encode(insn)
-}
-
 /// From text to image to flat state: where a text has a meaning, the entry lies in code and the shared
 /// section fits the configuration, the spelling of its layout is accepted, and is read for that
 /// configuration (a fault of the link and want of memory aside). The machine that opens on what was
@@ -67,6 +52,8 @@ pub fn image_opens_on_the_text()
 {
     // Laws of images, for the proof alone.
     input_means_one_layout();
+    machine_opens_on_the_layout();
     not_refused_is_accepted();
+    spelling_is_headers_and_bytes();
     spelling_means_its_layout();
 }

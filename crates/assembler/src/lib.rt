@@ -1,4 +1,4 @@
-//! Assembler text to a program, and instructions to their text.
+//! Assembler text to a program.
 //!
 //! What a text means is `specs/Meaning.antt`, line by line at the places that the lines before have
 //! left, with label values from the whole text. The code works in two passes: the first finds the
@@ -47,7 +47,6 @@
 #![tactic(auto)]
 
 mod cursor;
-mod disassembly;
 mod emit;
 mod fault;
 mod laws;
@@ -59,11 +58,10 @@ mod symbol;
 mod tests;
 mod values;
 
-pub use disassembly::disassemble;
 pub use fault::{AsmError, AsmFault};
 pub use laws::{
-    disassembled_again, fault_or_meaning, high_and_low_make_the_value, image_opens_on_the_text,
-    meaning_fits, one_meaning,
+    fault_or_meaning, high_and_low_make_the_value, image_opens_on_the_text, meaning_fits,
+    one_meaning,
 };
 pub use passes::assemble;
 pub use program::Program;

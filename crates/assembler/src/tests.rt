@@ -2,7 +2,6 @@
 
 mod faults;
 mod images;
-mod round_trip;
 mod values;
 mod words;
 

@@ -17,7 +17,9 @@ mod answers;
 mod laws;
 mod output;
 mod switch;
+mod wait_buffer;
 
 pub use answers::{Accepted, Answered};
 pub use laws::accepting_is_combining_queueing_or_refusing;
 pub use switch::{MAX_QUEUE, Switch};
+pub use wait_buffer::{MAX_RECORDS, Replies, WaitBuffer};

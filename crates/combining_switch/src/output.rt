@@ -7,12 +7,12 @@ ghost use Rattle.combining_switch.specs.Outputs.{IsEmptyOutput, accepted, combin
 ghost use Rattle.combining_switch.specs.Partners.{IsPartner, partnership};
 
 use crate::answers::Accepted;
+use crate::wait_buffer::{Replies, WaitBuffer};
 use circular_buffer::HeapCircularBuffer;
 use messages::{Record, Reply, Request};
 use phi_algebra::{Phi, compose};
 use std::alloc::{AllocError, Global};
 use std::marker::Model;
-use wait_buffers::{Replies, WaitBuffer};
 
 /// How often an entry of a queue is combined.
 const MOST_MARKS: u8 = 1;

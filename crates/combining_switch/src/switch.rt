@@ -10,12 +10,12 @@ ghost use Rattle.combining_switch.specs.Switches.{IsEmptySwitch, answered, answe
 
 use crate::answers::{Accepted, Answered};
 use crate::output::Output;
+use crate::wait_buffer::Replies;
 use circular_buffer::HeapCircularBuffer;
 use messages::{Record, Reply, Request};
 use omega_wires::bit;
 use std::alloc::{AllocError, Global};
 use std::marker::Model;
-use wait_buffers::Replies;
 
 /// How many messages the largest queue has.
 pub const MAX_QUEUE: u8 = 16;

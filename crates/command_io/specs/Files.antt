@@ -1,6 +1,12 @@
--- What is read of a file.
-use Rattle.std.specs.Prelude.{◌≡◌, ℕ, List, Option, IfSome}
+-- What is read of a file, and what a fault says of it.
+use Rattle.std.specs.Prelude.{ℕ, List, Option}
+use Rattle.elf_image.specs.Files.{IsImageRefusal}
+use Rattle.command_io.specs.declared.fault.Fault.{Fault}
+use Rattle.command_io.specs.declared.fault.Fault.TheVariants as fault
+pub use Rattle.elf_image.specs.Files.{IsWhole, IsImageOf}
 
--- The bytes are all that the file has, where its bytes are known.
-abbrev pub IsWhole : Option (List ℕ) → List ℕ → Type 0
-IsWhole known bytes = IfSome known (λ all. bytes ≡ all)
+-- what a fault says of an image's file
+abbrev pub IsFaultOfImage : (shared_words : ℕ) → (known : Option (List ℕ)) → Fault → Type 0
+IsFaultOfImage shared_words known (fault.Image e) = IsImageRefusal shared_words known e
+IsFaultOfImage shared_words known fault.Memory = Unit {0}
+IsFaultOfImage shared_words known _ = ⊥

@@ -1,3 +1,5 @@
+pub mod Faults
 pub mod Files
 pub mod OnFirstWrite
 pub mod Digits
+pub mod Printing

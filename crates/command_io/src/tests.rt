@@ -2,12 +2,13 @@
 
 ghost use Rattle.std.specs.Prelude.{◌≡◌, [], ⊤, None};
 
-use crate::{OnFirstWrite, Open, print, push_bytes, push_status, push_word};
-use flat_machine::{Fault, Status};
-use link::{Failed, Link, Meter};
+use crate::{Fault, OnFirstWrite, Open, print, push_bytes, push_status, push_word};
+use flat_machine::{Fault as ProcessorFault, Status};
+use link::{Link, Meter};
 use std::alloc::Global;
 use std::io::{self, ErrorKind, Write};
 use std::test::Fail;
+use test_devices::Sink;
 
 #[test]
 fn digits(rt: HostRuntime) -> Result<(), Fail> {
@@ -26,7 +27,7 @@ fn statuses(rt: HostRuntime) -> Result<(), Fail> {
     for (status, is) in [
         (Status::Running, "run"),
         (Status::Halted(0x0A), "halt 0a"),
-        (Status::Faulted(Fault::Breakpoint), "fault 8"),
+        (Status::Faulted(ProcessorFault::Breakpoint), "fault 8"),
     ] {
         let mut text = String::new(alloc);
         push_status(alloc, &mut text, status)?;
@@ -127,40 +128,18 @@ fn flushes_the_open_device(rt: HostRuntime) {
     assert!(rt; writer.flush().is_err());
 }
 
-/// Takes one byte at a call, and none when it is full.
-#[derive(Drop)]
-struct Narrow {
-    bytes: Vec<u8>,
-    room: usize,
-}
-
-impl Write for Narrow {
-    ghost contents = { λ n. None };
-
-    fn write(&mut self, buf: &[u8]) -> io::Result<usize> {
-        if self.bytes.len() >= self.room || buf.is_empty() {
-            return Ok(0);
-        }
-        self.bytes.push(buf[0])?;
-        Ok(1)
-    }
-
-    fn flush(&mut self) -> io::Result<()> {
-        Ok(())
-    }
-}
-
 /// A text goes out in as many writes as it takes, or a beginning of it does.
 #[test]
 fn prints_the_text_or_a_beginning(rt: HostRuntime) {
     for (room, text) in [(8, "hello"), (5, "hello"), (4, "hell"), (0, "")] {
-        let mut out = Meter::new(Narrow {
-            bytes: Vec::new(rt.alloc()),
-            room,
-        });
+        let mut out = Meter::new(Sink::new(Vec::new(rt.alloc()), room + 1));
         let printed = print(&mut out, "hello");
         let fails = room < 5;
-        assert_eq!(rt; printed, if fails { Err(Failed) } else { Ok(()) }, "{room}");
+        assert_eq!(rt;
+            printed,
+            if fails { Err(Fault::Link) } else { Ok(()) },
+            "{room}"
+        );
         assert_eq!(rt; out.failed(), fails, "{room}");
         assert_eq!(rt; out.device.bytes.as_slice(), text.as_bytes(), "{room}");
     }

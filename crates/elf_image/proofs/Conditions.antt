@@ -1,6 +1,6 @@
 -- What tests and first refusals tell.
 use Rattle.std.proofs.Common.{◌≡◌, ℕ, zero, suc, Bool, true, false, not, cond, ◌&&◌, ◌||◌, List, [], ◌∷◌, map, Option, None, Some, Result, Ok, Err, refl, sym, subst}
-use Rattle.std.specs.Prelude.{slice_get, IfErr, IsErrAnd}
+use Rattle.std.specs.Prelude.{slice_get, IfErr, IsErrAnd, OnErr}
 use Rattle.std.specs.List.{list_any}
 use Rattle.elf_image.specs.declared.error.ImageError.{ImageError}
 use Rattle.elf_image.specs.Refusals.{first_of}
@@ -41,3 +41,7 @@ none_any test (y ∷ ys) (suc k) x h at = none_any test ys k x (or_false (test y
 pub if_err : {T : Type 0} (r : Result T ImageError) (e : ImageError) (P : ImageError → Type 0) → IsErrAnd r (λ x. x ≡ e) → P e → IfErr r P
 if_err (Ok x) e P h p = tt
 if_err (Err x) e P h p = subst P (sym h) p
+
+pub on_err : {T E : Type 0} (r : Result T E) (P : Type 0) → P → OnErr r P
+on_err (Ok x) P p = tt
+on_err (Err e) P p = p

@@ -2,13 +2,6 @@ pub mod Conditions
 pub mod Checked
 pub mod Loaded
 pub mod Loads
-pub mod Written
 pub mod Meant
 pub mod Causes
-pub mod Acceptance
-pub mod Uniqueness
-pub mod Opened
-pub mod Spelled
-pub mod SpelledMeant
-pub mod Refused
 pub mod Numbers

@@ -1,21 +1,23 @@
 -- From what the checks and the loader tell to accepted input and its meaning.
-use Rattle.std.proofs.Common.{◌≡◌, ℕ, ◌+◌, ◌-◌, ◌/◌, ◌%◌, ◌<◌, ◌≤◌, true, false, List, length, None, Some, ap, ◌∙◌, inl, inr, arith, nat_lt, eqb}
+use Rattle.std.proofs.Common.{◌≡◌, ℕ, ◌+◌, ◌-◌, ◌/◌, ◌%◌, ◌<◌, ◌≤◌, Bool, true, false, cond, List, [], length, None, Some, refl, ap, ◌∙◌, inl, inr, arith, nat_lt, eqb}
 use Rattle.std.specs.Prelude.{slice_get, slice_index}
 use Rattle.std.proofs.lemmas.Bool.{cases_lt, cases_eq}
 use Rattle.std.proofs.lemmas.Bool.Decides.{nat_tests}
 use Rattle.std.proofs.lemmas.Option.{slice_get_within}
 use Rattle.flat_machine.specs.Memory.{in_code}
+use Rattle.elf_image.specs.declared.error.ImageError.{ImageError}
+use Rattle.elf_image.specs.declared.error.ImageError.TheVariants.{TooLong, Overlap, Entry}
 use Rattle.elf_image.specs.declared.layout.Layout.{Layout}
 use Rattle.elf_image.specs.declared.region.Region.{Region}
 use Rattle.elf_image.specs.declared.region.Region.TheVariants.{Code, Local, Shared}
 use Rattle.elf_image.specs.declared.segment.ProgramHeader.{ProgramHeader}
 use Rattle.elf_image.specs.Headers.{file_header, segments}
 use Rattle.elf_image.specs.Regions.{region_start, region_length, is_in}
-use Rattle.elf_image.specs.Refusals.{is_entry, header_refusal, segment_refusal, segment_refusals, first_of, have_overlap}
+use Rattle.elf_image.specs.Refusals.{is_entry, header_refusal, segment_refusal, segment_refusals, first_of, have_overlap, refusal_of}
 use Rattle.elf_image.specs.Segments.{Sets, byte_of, IsSet, IsUnset}
-use Rattle.elf_image.specs.Loading.{IsOne, IsLoaded}
+use Rattle.elf_image.specs.Loading.{IsOne, IsLoaded, LoadsLayout}
 use Rattle.elf_image.specs.Images.{in_region, LiesIn, IsAccepted, HasBytes, IsMeant, IsPlaced}
-use Rattle.elf_image.proofs.Conditions.{each_none, and_true}
+use Rattle.elf_image.proofs.Conditions.{each_none, and_true, first_none, passed as no_refusal}
 use Rattle.elf_image.proofs.Checked.{headed, Checked, checked, inside, which, at_home, apart}
 use Rattle.elf_image.proofs.Loaded.{sets_inside}
 
@@ -37,6 +39,28 @@ pub record Passed (shared_words : ℕ) (file : List ℕ) : Type 0 where
   pub filed : first_of (segment_refusals (length file) shared_words (segments file)) ≡ None
   pub disjoint : have_overlap (segments file) ≡ false
   pub enters : is_entry (file_header file).e_entry ≡ true
+
+entry_passed : (b : Bool) (e : ImageError) → cond b None (Some e) ≡ None → b ≡ true
+entry_passed true e h = refl
+entry_passed false e h = absurd (cc)
+
+-- a file that is not refused is refused by no check
+not_refused : (w : ℕ) (file : List ℕ) → refusal_of w file ≡ None → Passed w file
+unfolding refusal_of
+not_refused w file h =
+    let a = first_none (cond (nat_lt 1048576 (length file)) (Some TooLong) None) _ h in
+    let b = first_none (header_refusal file) _ a.1 in
+    let c = first_none (first_of (segment_refusals (length file) w (segments file))) _ b.1 in
+    let d = first_none (cond (have_overlap (segments file)) (Some Overlap) None) _ c.1 in
+    let e = first_none (cond (is_entry (file_header file).e_entry) None (Some Entry)) [] d.1 in
+    let short : nat_lt 1048576 (length file) ≡ false = (no_refusal _ TooLong None a.0).0 in
+    record {
+      short = grind (arith, nat_tests, short);
+      headers = b.0;
+      filed = c.0;
+      disjoint = (no_refusal _ Overlap None d.0).0;
+      enters = entry_passed _ Entry e.0;
+    }
 
 module _ (w : ℕ) (file : List ℕ) (passed : Passed w file) where
   check : (k : ℕ) (p : ProgramHeader) → slice_get (segments file) k ≡ Some p → Checked (length file) w p
@@ -123,3 +147,11 @@ module _ (w : ℕ) (file : List ℕ) (passed : Passed w file) where
         local = m.local.fits;
         shared = m.shared.fits;
       }
+
+-- ---- for the law
+
+pub accepted_file : (w : ℕ) (file : List ℕ) → refusal_of w file ≡ None → IsAccepted w file
+accepted_file w file h = accepted w file (not_refused w file h)
+
+pub meant_layout : (w : ℕ) (file : List ℕ) (layout : Layout) → refusal_of w file ≡ None → LoadsLayout file w layout → IsMeant w file layout
+meant_layout w file layout h l = meant w file (not_refused w file h) layout l.entry l.code l.local l.shared

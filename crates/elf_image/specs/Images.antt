@@ -35,18 +35,23 @@ pub record IsAccepted (shared_words : ℕ) (file : List ℕ) : Type 0 where
   -- the program header table ends within the file
   pub listed : (file_header file).e_phoff + 32 * (file_header file).e_phnum ≤ length file
   -- so do each segment's bytes, and the segment has room for them
-  pub filed : (k : ℕ) (p : ProgramHeader) → slice_get (segments file) k ≡ Some p → (p.p_offset + p.p_filesz ≤ length file) × (p.p_filesz ≤ p.p_memsz)
+  pub filed :
+      (k : ℕ) (p : ProgramHeader) → slice_get (segments file) k ≡ Some p → (p.p_offset + p.p_filesz ≤ length file) × (p.p_filesz ≤ p.p_memsz)
   -- each segment that sets an address lies in one region
   pub placed : (k : ℕ) (p : ProgramHeader) → slice_get (segments file) k ≡ Some p → 0 < p.p_memsz → (region : Region) × LiesIn shared_words region p
   -- no two segments set one address
-  pub apart : (j k : ℕ) (p q : ProgramHeader) (address : ℕ) → slice_get (segments file) j ≡ Some p → slice_get (segments file) k ≡ Some q → Sets p address → Sets q address → j ≡ k
+  pub apart :
+      (j k : ℕ) (p q : ProgramHeader) (address : ℕ) → slice_get (segments file) j ≡ Some p → slice_get (segments file) k ≡ Some q →
+      Sets p address → Sets q address → j ≡ k
   pub entry : is_entry (file_header file).e_entry ≡ true
 
 -- ---- what it means
 
 -- The bytes of a region, to the last that a segment sets: what a segment sets is as it sets it, all else is zero.
 pub record HasBytes (file : List ℕ) (shared_words : ℕ) (region : Region) (bytes : List ℕ) : Type 0 where
-  pub set : (k : ℕ) (p : ProgramHeader) (i : ℕ) → slice_get (segments file) k ≡ Some p → i < length bytes → Sets p (region_start region + i) → slice_index bytes i ≡ byte_of file p (region_start region + i)
+  pub set :
+      (k : ℕ) (p : ProgramHeader) (i : ℕ) → slice_get (segments file) k ≡ Some p → i < length bytes → Sets p (region_start region + i) →
+      slice_index bytes i ≡ byte_of file p (region_start region + i)
   pub unset : (i : ℕ) → i < length bytes → IsUnset (segments file) (region_start region + i) → slice_index bytes i ≡ 0
   pub behind : (i : ℕ) → length bytes ≤ i → i < region_length shared_words region → IsUnset (segments file) (region_start region + i)
   pub last : 0 < length bytes → IsSet (segments file) (region_start region + (length bytes - 1))
@@ -79,7 +84,8 @@ pub record IsPlaced (layout : Layout) (shared_words : ℕ) : Type 0 where
 -- all that the reader had is accepted, and the image is what it means
 abbrev pub IsGiven : (shared_words : ℕ) → (old new : Option (List ℕ)) → ImageContents → Type 0
 IsGiven shared_words old new image =
-    (file : List ℕ) × ConsumesAll old new file × IsAccepted shared_words file × IsMeant shared_words file image.layout × (image.shared_words ≡ shared_words)
+    (file : List ℕ) × ConsumesAll old new file × IsAccepted shared_words file × IsMeant shared_words file image.layout
+    × (image.shared_words ≡ shared_words)
 
 -- A refusal of the input, which is the first that applies; of want of memory this says nothing.
 abbrev pub IsCause : (shared_words : ℕ) → List ℕ → ImageError → Type 0

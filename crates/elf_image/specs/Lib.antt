@@ -7,4 +7,4 @@ pub mod Images
 pub mod Loading
 pub mod Spellings
 pub mod Openings
-pub mod Laws
+pub mod Files

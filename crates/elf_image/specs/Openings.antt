@@ -5,7 +5,8 @@ use Rattle.flat_machine.specs.declared.config.Config.{Config}
 use Rattle.flat_machine.specs.declared.event.Status.TheVariants.{Running}
 use Rattle.flat_machine.specs.Memory.{number_at}
 use Rattle.flat_machine.specs.State.{Processor, FlatState}
-use Rattle.local_memory.specs.Accesses.{region_of_bytes}
+unfoldable pub use Rattle.local_memory.specs.Accesses.{padded}
+pub use Rattle.local_memory.specs.Accesses.{region_of_bytes}
 use Rattle.elf_image.specs.declared.layout.Layout.{Layout}
 
 -- so many little-endian words, which begin with these bytes and are zero after them

@@ -4,10 +4,8 @@
 //! refuses all that is not accepted for a configuration, each by its number; [`write_image`] writes
 //! the one spelling of a [`Layout`]. Which bytes are accepted, which refusal comes first, and what
 //! the bytes mean, is defined in `specs/`, in terms of addresses that segments set; the code
-//! compares and copies ranges. `specs/Openings.antt` says how a machine opens on a layout. The laws
-//! say that the order of refusals refuses just what is not accepted, each for its cause, that a file
-//! means one layout, that a machine opens on what the file has at each address, and that a layout
-//! that is written is read back as it was.
+//! compares and copies ranges. `specs/Openings.antt` says how a machine opens on a layout. The
+//! laws of all this stand in `image_laws`.
 //!
 //! Source: System V Application Binary Interface, "Object Files" (ELF header) and "Program Loading
 //! and Dynamic Linking" (program header); the RISC-V ELF psABI for the number of the machine. The
@@ -24,17 +22,12 @@ mod load;
 mod read;
 mod region;
 mod segment;
-#[cfg(test)]
-mod tests;
 mod write;
 
 pub use bytes::Bytes;
 pub use error::ImageError;
 pub use image::Image;
-pub use laws::{
-    input_means_one_layout, machine_opens_on_the_file, not_refused_is_accepted,
-    refusals_have_their_causes, spelling_means_its_layout,
-};
+pub use laws::loading_gives_the_meaning;
 pub use layout::Layout;
 pub use read::{MAX_IMAGE_BYTES, read_image};
 pub use write::write_image;

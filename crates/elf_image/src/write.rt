@@ -16,7 +16,7 @@ use crate::layout::Layout;
 use crate::region::{READ_EXECUTE, READ_WRITE, Region};
 use crate::segment::PT_LOAD;
 use arrayvec::ArrayVec;
-use link::{LinkWrite, write_whole};
+use link::{LinkWrite, parts_make_a_beginning, write_whole};
 
 /// How many bytes the headers have at most: the ELF header and three program headers.
 const MAX_HEAD_BYTES: usize = 148;
@@ -38,6 +38,8 @@ pub fn write_image<W: LinkWrite>(writer: &mut W, layout: &Layout) -> Result<(), 
     ensures ok { OnOk result (Appends (W.contents writer.old) (W.contents writer.new) (spelling layout.now)) }
     ensures err { OnErr result (AppendsPart (W.contents writer.old) (W.contents writer.new) (spelling layout.now)) }
 {
+    // A law of what is written in parts, for the proof alone.
+    parts_make_a_beginning();
     let head = head_of(layout);
     write_whole(writer, head.as_slice())?;
     write_whole(writer, layout.code.as_slice())?;

@@ -1,47 +1,43 @@
 -- The sets after each call: they are again the network's.
-use Rattle.std.proofs.Common.{◌≡◌, ℕ, zero, suc, ◌+◌, ◌*◌, ◌/◌, ◌%◌, ◌^◌, ◌<◌, ◌≤◌, Bool, true, false, not, ◌⊎◌, inl, inr, List, [], ◌∷◌, Option, Some, None, refl, sym, ap, ◌∙◌, subst, arith}
+use Rattle.std.proofs.Common.{◌≡◌, ℕ, zero, suc, ◌+◌, ◌*◌, ◌/◌, ◌%◌, ◌^◌, ◌<◌, ◌≤◌, Bool, true, false, not, ◌⊎◌, inl, inr, List, [], ◌∷◌, refl, sym, ap, ◌∙◌, subst, arith}
 use Rattle.std.proofs.Common.{pow-suc}
 use Rattle.std.specs.Prelude.{IsTrue, is_some, slice_get, slice_index_or}
 use Rattle.omega_wires.specs.Wires.{rotated_left, rotated_right, wire_before}
 use Rattle.messages.specs.declared.message.Request.{Request}
 use Rattle.messages.specs.declared.message.Reply.{Reply}
-use Rattle.messages.specs.declared.moves.UpMove.TheVariants as up
-use Rattle.messages.specs.declared.moves.DownMove.TheVariants as down
-use Rattle.messages.specs.Network.{Net, Sizes}
+use Rattle.messages.specs.Network.{IsEmptyNet, Net, Sizes}
 use Rattle.messages.specs.Moves.{injected, module_replied, module_taken, moved_down, moved_up, port_taken}
-use Rattle.omega_network.specs.Networks.{IsEmptyNet, NetworkLists, net_of, sizes_of}
-use Rattle.omega_network.proofs.Moves.{down_nothing, up_nothing}
-use Rattle.omega_network.proofs.Puts.{put2_other}
+use Rattle.omega_network.specs.Networks.{NetworkLists, net_of, sizes_of}
+use Rattle.messages.proofs.Places.{put2_other}
 use Rattle.wire_sets.specs.Members.{members}
-use Rattle.wire_sets.proofs.Changes.{empty_has_none}
 use Rattle.indexed_network.specs.Index.{IsIndexed, IsLookedAt, Knows}
 use Rattle.indexed_network.proofs.Elsewhere.{down_elsewhere, down_requests, input_is, up_elsewhere, up_replies}
 use Rattle.indexed_network.proofs.Looking.{no_look, one_look, three_looks}
 
 -- ---- an empty network
 
-none_at : (s : ℕ) → ((w : ℕ) → members s w ≡ false) → (d w : ℕ) → members (slice_index_or (s ∷ s ∷ s ∷ s ∷ s ∷ s ∷ s ∷ []) d 0) w ≡ false
-none_at s none zero w = none w
-none_at s none (suc zero) w = none w
-none_at s none (suc (suc zero)) w = none w
-none_at s none (suc (suc (suc zero))) w = none w
-none_at s none (suc (suc (suc (suc zero)))) w = none w
-none_at s none (suc (suc (suc (suc (suc zero))))) w = none w
-none_at s none (suc (suc (suc (suc (suc (suc zero)))))) w = none w
-none_at s none (suc (suc (suc (suc (suc (suc (suc d))))))) w = empty_has_none w
+none_at : ((w : ℕ) → members 0 w ≡ false) → (s : ℕ) → ((w : ℕ) → members s w ≡ false) → (d w : ℕ) → members (slice_index_or (s ∷ s ∷ s ∷ s ∷ s ∷ s ∷ s ∷ []) d 0) w ≡ false
+none_at past s none zero w = none w
+none_at past s none (suc zero) w = none w
+none_at past s none (suc (suc zero)) w = none w
+none_at past s none (suc (suc (suc zero))) w = none w
+none_at past s none (suc (suc (suc (suc zero)))) w = none w
+none_at past s none (suc (suc (suc (suc (suc zero))))) w = none w
+none_at past s none (suc (suc (suc (suc (suc (suc zero)))))) w = none w
+none_at past s none (suc (suc (suc (suc (suc (suc (suc d))))))) w = past w
 
-knows_none : {X : Type 0} (k : ℕ) (messages : ℕ → ℕ → List X) (s : ℕ) → ((d w : ℕ) → messages d w ≡ []) → ((w : ℕ) → members s w ≡ false) → Knows k messages (s ∷ s ∷ s ∷ s ∷ s ∷ s ∷ s ∷ [])
-knows_none k messages s empty none = record {
-  there = λ d w deep wire. none_at s none d w ∙ sym (ap (λ xs. is_some (slice_get xs 0)) (empty d w));
-  few = λ d w past. none_at s none d w;
+knows_none : {X : Type 0} → ((w : ℕ) → members 0 w ≡ false) → (k : ℕ) (messages : ℕ → ℕ → List X) (s : ℕ) → ((d w : ℕ) → messages d w ≡ []) → ((w : ℕ) → members s w ≡ false) → Knows k messages (s ∷ s ∷ s ∷ s ∷ s ∷ s ∷ s ∷ [])
+knows_none past k messages s empty none = record {
+  there = λ d w deep wire. none_at past s none d w ∙ sym (ap (λ xs. is_some (slice_get xs 0)) (empty d w));
+  few = λ d w beyond. none_at past s none d w;
 }
 
-pub empty_indexed : (n : NetworkLists) (s t : ℕ) → IsEmptyNet (net_of n) → n.k ≤ 6 → ((w : ℕ) → members s w ≡ false) → ((w : ℕ) → members t w ≡ false)
+pub empty_indexed : ((w : ℕ) → members 0 w ≡ false) → (n : NetworkLists) (s t : ℕ) → IsEmptyNet (net_of n) → n.k ≤ 6 → ((w : ℕ) → members s w ≡ false) → ((w : ℕ) → members t w ≡ false)
     → IsIndexed n (s ∷ s ∷ s ∷ s ∷ s ∷ s ∷ s ∷ []) (t ∷ t ∷ t ∷ t ∷ t ∷ t ∷ t ∷ [])
-empty_indexed n s t empty few none none' = record {
+empty_indexed past n s t empty few none none' = record {
   stages = few;
-  of_requests = knows_none n.k (net_of n).requests s (λ d w. (empty d w).0) none;
-  of_replies = knows_none n.k (net_of n).replies t (λ d w. (empty d w).2) none';
+  of_requests = knows_none past n.k (net_of n).requests s (λ d w. (empty d w).0) none;
+  of_replies = knows_none past n.k (net_of n).replies t (λ d w. (empty d w).2) none';
 }
 
 -- ---- after a call
@@ -130,17 +126,9 @@ module _ (old new : NetworkLists) (rq rp : List ℕ) (is : IsIndexed old rq rp) 
 
 -- ---- where nothing stands
 
-nothing_there : {X : Type 0} (o : Option X) (b : Bool) → b ≡ is_some o → b ≡ false → o ≡ None
-nothing_there None b e f = refl
-nothing_there (Some x) b e f = absurd (let g : true ≡ false = sym e ∙ f in cc)
-
-pub up_stalls : (n : NetworkLists) (s w : ℕ) (b : Bool) → s < n.k → b ≡ is_some (slice_get ((net_of n).requests s w) 0) → b ≡ false → moved_up (sizes_of n) (net_of n) s w ≡ (up.Stalled, net_of n)
-up_stalls n s w b stage there not_there = up_nothing (sizes_of n) (net_of n) s w stage (nothing_there (slice_get ((net_of n).requests s w) 0) b there not_there)
-
-pub down_stalls : (n : NetworkLists) (s d w : ℕ) (b : Bool) → s < n.k → d ≡ s + 1 → b ≡ is_some (slice_get ((net_of n).replies d w) 0) → b ≡ false → moved_down (sizes_of n) (net_of n) s w ≡ (down.Stalled, net_of n)
-down_stalls n s d w b stage at there not_there =
-    let next : d ≡ suc s = omega (arith, at) in
-    down_nothing (sizes_of n) (net_of n) s w stage (subst (λ e. slice_get ((net_of n).replies e w) 0 ≡ None) next (nothing_there (slice_get ((net_of n).replies d w) 0) b there not_there))
+pub nothing_there : {X : Type 0} (q : List X) (b : Bool) → b ≡ is_some (slice_get q 0) → b ≡ false → q ≡ []
+nothing_there [] b e f = refl
+nothing_there (x ∷ xs) b e f = absurd (let g : true ≡ false = sym e ∙ f in cc)
 
 pub free_is : {X : Type 0} (q : List X) (b : Bool) → b ≡ is_some (slice_get q 0) → (IsTrue (not b) → q ≡ []) × (q ≡ [] → IsTrue (not b))
 free_is {X} [] b e = ((λ t. refl), (λ g. ap not e))

@@ -2,17 +2,17 @@
 
 ghost use Rattle.std.specs.Prelude.{◌≡◌, ◌<◌, ◌≤◌, ◌==◌, ◌&&◌, ◌↔◌, ◌^◌, suc, ℕ, [], slice_get, slice_index_or, is_some, false, IfOk, IsTrue, if◌then◌else◌};
 ghost use Rattle.wire_sets.specs.Members.{members};
-ghost use Rattle.messages.specs.Network.{Sizes};
+ghost use Rattle.messages.specs.Network.{IsEmptyNet, Sizes};
 ghost use Rattle.messages.specs.Moves.{injected, module_replied, module_taken, moved_down, moved_up, port_taken};
-ghost use Rattle.omega_network.specs.Networks.{IsEmptyNet, net_of, sizes_of};
+ghost use Rattle.omega_network.specs.Networks.{net_of, sizes_of};
 ghost use Rattle.indexed_network.specs.Index.{IsLookedAt};
 
-use messages::{DownMove, Reply, Request, UpMove};
+use messages::{DownMove, Reply, Request, UpMove, moves_of_nothing_stall};
 use omega_network::Network;
 use omega_wires::{rotate_right, rotations_are_inverse, switch_of};
 use std::alloc::{AllocError, Global};
 use std::marker::Model;
-use wire_sets::WireSet;
+use wire_sets::{WireSet, no_bits_no_wires};
 
 /// Depths 0 to 6: before each of six stages, and behind the last.
 const DEPTHS: usize = 7;
@@ -50,6 +50,7 @@ impl IndexedNetwork {
         ensures empty { IfOk result (λ n. IsEmptyNet (net_of n)) }
         ensures sizes { IfOk result (λ n. sizes_of n ≡ record { k = k; c = c; b = b; r = 1 }) }
     {
+        no_bits_no_wires();
         Ok(IndexedNetwork {
             network: Network::new(alloc, k, c, b)?,
             requests: [WireSet::new(); DEPTHS],
@@ -97,6 +98,7 @@ impl IndexedNetwork {
         if self.has_request(stage, wire) {
             self.move_up(stage, wire)
         } else {
+            moves_of_nothing_stall();
             UpMove::Stalled
         }
     }
@@ -133,6 +135,7 @@ impl IndexedNetwork {
         if self.has_reply(stage + 1, wire) {
             self.move_down(stage, wire)
         } else {
+            moves_of_nothing_stall();
             DownMove::Stalled
         }
     }

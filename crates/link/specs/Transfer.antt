@@ -30,3 +30,13 @@ ConsumesLess limit old new = (bytes : List ℕ) × (length bytes < limit) × Con
 -- the known bytes grow by a beginning of the text, and not by all of it
 abbrev pub AppendsPart : Option (List ℕ) → Option (List ℕ) → List ℕ → Type 0
 AppendsPart old new text = (written : List ℕ) × (missing : List ℕ) × (text ≡ written ++ missing) × (0 < length missing) × Appends old new written
+
+-- a beginning of a text's first part is a beginning of the text
+abbrev pub EndsInTheFirst : Type 0
+EndsInTheFirst = (old new : Option (List ℕ)) (first rest : List ℕ) → AppendsPart old new first → AppendsPart old new (first ++ rest)
+
+-- a text's first part, and then a beginning of the rest, is a beginning of the text
+abbrev pub EndsInTheRest : Type 0
+EndsInTheRest =
+    (old between new : Option (List ℕ)) (first rest : List ℕ) → Appends old between first → AppendsPart between new rest →
+    AppendsPart old new (first ++ rest)

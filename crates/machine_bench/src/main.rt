@@ -11,32 +11,13 @@ use assembler::assemble;
 use elf_image::{Image, read_image, write_image};
 use flat_machine::{Config, Status};
 use link::Meter;
-use machine_steps::Machine;
+use machine_runs::Machine;
 use machine_sweep::Round;
 use std::alloc::Global;
 use std::env;
 use std::time::{Duration, Instant};
 use steps::Outcome;
-
-/// What each processor runs. It stops by EBREAK where the word has less than its own adds.
-const TEXT: &str = "
-start: lui x5, 0x80000
- addi x6, x0, 100
- addi x7, x0, 1
-loop: amoadd.w x8, x7, (x5)
- addi x6, x6, -1
- bne x6, x0, loop
- lw x9, 0(x5)
- addi x11, x0, 100
- bltu x9, x11, bad
- addi x17, x0, 1
- addi x10, x0, 65
- ecall
- addi x17, x0, 0
- addi x10, x0, 0
- ecall
-bad: ebreak
-";
+use test_devices::HUNDRED_ADDS;
 
 /// The most rounds of a run. It takes some thousands.
 const MAX_ROUNDS: u32 = 1_000_000;
@@ -86,7 +67,7 @@ fn sweep(machine: &mut Machine, counts: &mut Counts) {
 
 /// The image of the program.
 fn image(alloc: Global, config: &Config) -> anyhow::Result<Image> {
-    let program = assemble(alloc, TEXT)?;
+    let program = assemble(alloc, HUNDRED_ADDS)?;
     let mut writer = Meter::new(Vec::new(alloc));
     write_image(&mut writer, program.layout())?;
     let mut reader = Meter::new(writer.device.as_slice());

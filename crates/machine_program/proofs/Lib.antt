@@ -1,11 +1,9 @@
 pub mod Reading
-pub mod Flat
-pub mod Good
-pub mod Lawful
-pub mod Explaining
+pub mod TurnKinds
 pub mod PortSets
 pub mod TurnSteps
 pub mod MoveSteps
 pub mod ServeSteps
 pub mod PokeSteps
+pub mod FlatPokes
 pub mod Standing

@@ -1,5 +1,5 @@
 -- Moves of messages are steps of the machine.
-use Rattle.std.proofs.Common.{◌≡◌, ℕ, zero, suc, ◌+◌, ◌%◌, ◌^◌, ◌<◌, ◌≤◌, Bool, true, false, List, [], ◌∷◌, ◌++◌, length, nat_lt, Option, Some, None, refl, sym, ap, ap₂, ◌∙◌, subst, lt-ltb, le-ltb}
+use Rattle.std.proofs.Common.{◌≡◌, ℕ, suc, ◌%◌, ◌^◌, ◌<◌, ◌≤◌, Bool, true, false, List, [], ◌∷◌, ◌++◌, length, nat_lt, Option, Some, None, refl, sym, ap, ◌∙◌, subst, lt-ltb, le-ltb}
 use Rattle.std.specs.Prelude.{if◌then◌else◌}
 use Rattle.flat_machine.specs.declared.config.Config.{Config}
 use Rattle.flat_machine.specs.declared.event.Event.{Event}
@@ -14,14 +14,13 @@ use Rattle.messages.specs.declared.moves.DownMove.{DownMove}
 use Rattle.messages.specs.declared.moves.DownMove.TheVariants as down
 use Rattle.messages.specs.Network.{Sizes, Net, wires, put_requests, put_replies, put_records}
 use Rattle.messages.specs.Queues.{Combination, combination, unmarked, answers, records_of, records_but}
-use Rattle.messages.specs.Moves.{queued, accepted, offered, up_from, moved_up, push_all, has_room, answered, answer, down_from, moved_down}
-use Rattle.abstract_machine.specs.Machine.{Machine, Result, stalled, went_up, went_down}
-use Rattle.steps.specs.declared.step.Step.{Step}
+use Rattle.messages.specs.Moves.{queued, accepted, up_from, moved_up, push_all, has_room, answered, answer, down_from, moved_down}
+use Rattle.abstract_machine.specs.Machine.{Machine}
 use Rattle.steps.specs.declared.step.Step.TheVariants as step
-use Rattle.steps.specs.declared.step.Outcome.{Outcome}
 use Rattle.steps.specs.declared.step.Outcome.TheVariants.{Moved, Combined, Answered, Stalled}
-use Rattle.machine_program.specs.Processors.{Told, sizes_of, program}
-use Rattle.machine_program.specs.Steps.{taken, machine_of_parts, IsStepOf}
+use Rattle.machine_program.specs.Theory.{Result, stalled, went_up, went_down}
+use Rattle.machine_program.specs.Processors.{Told, sizes_of}
+use Rattle.machine_program.specs.Steps.{machine_of_parts, IsStepOf}
 use Rattle.machine_program.specs.Turning.{told_of_up, told_of_down}
 use Rattle.machine_program.proofs.TurnSteps.{step_of}
 

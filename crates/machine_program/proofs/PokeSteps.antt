@@ -1,7 +1,6 @@
 -- Writes from outside are steps of the machine.
-use Rattle.std.proofs.Common.{◌≡◌, ℕ, zero, suc, ◌+◌, ◌-◌, ◌*◌, ◌/◌, ◌%◌, ◌^◌, ◌<◌, ◌≤◌, Bool, true, false, List, [], ◌∷◌, length, nat_lt, ◌⊎◌, inl, inr, refl, sym, ap, ap₂, ◌∙◌, subst, lt-ltb, arith}
+use Rattle.std.proofs.Common.{◌≡◌, ℕ, zero, suc, ◌-◌, ◌/◌, ◌%◌, ◌^◌, ◌<◌, Bool, true, false, List, [], length, refl, sym, ap, ap₂, ◌∙◌, lt-ltb, arith}
 use Rattle.std.specs.Prelude.{◌&&◌, not, slice_index, slice_index_or, slice_set, if◌then◌else◌}
-use Rattle.std.proofs.lemmas.Bool.{cases_Bool}
 use Rattle.flat_machine.specs.declared.config.Config.{Config}
 use Rattle.flat_machine.specs.declared.event.Event.{Event}
 use Rattle.flat_machine.specs.declared.poke.Poke.{Poke}
@@ -12,14 +11,13 @@ use Rattle.flat_machine.specs.Memory.{in_local, in_shared}
 use Rattle.flat_machine.specs.Flat.{is_lawful_register, with_poked_register, with_poked_byte}
 use Rattle.machine_ports.specs.Ports.{PortState, with_state}
 use Rattle.messages.specs.Places.{put}
-use Rattle.messages.specs.Network.{Net, wires}
-use Rattle.abstract_machine.specs.Machine.{Machine, Result, stalled, poked, all_shut}
+use Rattle.messages.specs.Network.{Net}
+use Rattle.abstract_machine.specs.Machine.{Machine, poked, all_shut}
 use Rattle.abstract_machine.proofs.Steadying.{all_shut_is}
-use Rattle.steps.specs.declared.step.Step.{Step}
 use Rattle.steps.specs.declared.step.Step.TheVariants as step
-use Rattle.steps.specs.declared.step.Outcome.{Outcome}
 use Rattle.steps.specs.declared.step.Outcome.TheVariants.{Poked, Stalled}
-use Rattle.machine_program.specs.Processors.{Told, sizes_of, program, port_at, word_at, told_at, open_at, changed, is_lawful_poke, poked_words, poked_processors}
+use Rattle.machine_program.specs.Theory.{Result, stalled}
+use Rattle.machine_program.specs.Processors.{Told, program, port_at, word_at, told_at, open_at, changed, is_lawful_poke, poked_words, poked_processors}
 use Rattle.machine_program.specs.Steps.{taken, machine_of_parts, IsStepOf}
 use Rattle.machine_program.proofs.TurnSteps.{step_of}
 use Rattle.machine_program.proofs.PortSets.{core_changed, open_kept}

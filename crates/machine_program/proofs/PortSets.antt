@@ -1,13 +1,12 @@
 -- Ports, read as functions of processors' numbers, after one of them has changed.
-use Rattle.std.proofs.Common.{◌≡◌, ℕ, ◌<◌, Bool, List, length, get_or-set_same, get_or-set_other, ◌⊎◌, inl, inr, refl, sym, ap, ap₂, ◌∙◌}
-use Rattle.std.specs.Prelude.{slice_set, slice_index_or}
+use Rattle.std.proofs.Common.{◌≡◌, ℕ, ◌<◌, Bool, List, length, get_or-set_same, get_or-set_other, ◌⊎◌, inl, inr, sym, ap, ap₂, ◌∙◌}
+use Rattle.std.specs.Prelude.{slice_set}
 use Rattle.std.proofs.lemmas.Bool.{cases_eq}
 use mathlib.Core.Path.{fun_ext}
 use Rattle.flat_machine.specs.declared.event.Event.{Event}
-use Rattle.flat_machine.specs.State.{Processor}
 use Rattle.machine_ports.specs.Ports.{PortState}
 use Rattle.messages.specs.Places.{put}
-use Rattle.placement.proofs.Places.{put_same, put_other}
+use Rattle.messages.proofs.Places.{put_same, put_other}
 use Rattle.machine_program.specs.Processors.{Told, port_at, told_at, open_at, no_port}
 
 -- what is written where it stood already

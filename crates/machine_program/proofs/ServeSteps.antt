@@ -1,29 +1,33 @@
 -- Services are steps of the machine.
-use Rattle.std.proofs.Common.{◌≡◌, ℕ, zero, suc, ◌+◌, ◌*◌, ◌/◌, ◌%◌, ◌^◌, ◌<◌, ◌≤◌, Bool, true, false, List, [], ◌∷◌, length, nat_lt, get_or-set_same, get_or-set_other, ◌⊎◌, inl, inr, refl, sym, ap, ap₂, ◌∙◌, subst, lt-ltb, le-ltb}
+use Rattle.std.proofs.Common.{◌≡◌, ℕ, ◌+◌, ◌*◌, ◌/◌, ◌%◌, ◌^◌, ◌<◌, ◌≤◌, List, [], ◌∷◌, length, get_or-set_same, get_or-set_other, ◌⊎◌, inl, inr, refl, sym, ap, ap₂, ◌∙◌, lt-ltb, le-ltb, mod-eq_of_lt}
 use Rattle.std.specs.Prelude.{slice_index, slice_index_or, slice_set, if◌then◌else◌}
 use Rattle.std.proofs.lemmas.Bool.{cases_eq}
 use Rattle.std.proofs.lemmas.Nat.{div-add-mod'}
 use mathlib.Core.Path.{fun_ext}
 use Rattle.flat_machine.specs.declared.config.Config.{Config}
 use Rattle.flat_machine.specs.declared.event.Event.{Event}
+use Rattle.phi_algebra.specs.declared.phi.Phi.{Phi}
 use Rattle.phi_algebra.specs.Functions.{apply}
 use Rattle.machine_ports.specs.Ports.{PortState}
 use Rattle.messages.specs.declared.message.Request.{Request}
 use Rattle.messages.specs.declared.message.Reply.{Reply}
 use Rattle.messages.specs.Places.{put}
-use Rattle.placement.proofs.Places.{put_same, put_other}
+use Rattle.messages.proofs.Places.{put_same, put_other}
 use Rattle.messages.specs.Queues.{applied}
-use Rattle.messages.specs.Network.{Net, wires}
+use Rattle.messages.specs.Network.{Net}
 use Rattle.messages.specs.Moves.{module_taken, module_replied}
-use Rattle.abstract_machine.specs.Machine.{Machine, Result, stalled, serve_from}
-use Rattle.steps.specs.declared.step.Step.{Step}
+use Rattle.abstract_machine.specs.Machine.{Machine}
 use Rattle.steps.specs.declared.step.Step.TheVariants as step
-use Rattle.steps.specs.declared.step.Outcome.{Outcome}
 use Rattle.steps.specs.declared.step.Outcome.TheVariants.{Served, Stalled}
-use Rattle.machine_program.specs.Processors.{Told, sizes_of, program, word_at, told_at, open_at}
+use Rattle.machine_program.specs.Theory.{Result, stalled, serve_from}
+use Rattle.machine_program.specs.Processors.{Told, sizes_of, word_at, told_at, open_at}
 use Rattle.machine_program.specs.Steps.{taken, machine_of_parts, IsStepOf}
-use Rattle.machine_program.proofs.Flat.{applied_word}
 use Rattle.machine_program.proofs.TurnSteps.{step_of}
+
+-- on a word, the value is the function's
+pub applied_word : (phi : Phi) (x : ℕ) → x < 2 ^ 32 → applied phi x ≡ apply phi x
+unfolding applied
+applied_word phi x small = ap (apply phi) (mod-eq_of_lt small)
 
 -- a module with a word written, among all
 pub words_set : (k : ℕ) (modules : List (List ℕ)) (number word v : ℕ) → word % 2 ^ k ≡ number → number < length modules → word / 2 ^ k < length (slice_index_or modules number []) →

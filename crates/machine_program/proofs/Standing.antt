@@ -1,11 +1,10 @@
 -- What a steady machine has where: that its handlers find things as they need them, and that it stays steady.
-use Rattle.std.proofs.Common.{◌≡◌, ℕ, zero, suc, ◌+◌, ◌%◌, ◌^◌, ◌<◌, ◌≤◌, Bool, true, false, List, [], ◌∷◌, length, ◌⊎◌, inl, inr, refl, sym, ap, ap₂, ◌∙◌, subst, arith}
-use Rattle.std.specs.Prelude.{◌↔◌}
+use Rattle.std.proofs.Common.{◌≡◌, ℕ, ◌%◌, ◌^◌, ◌<◌, Bool, true, false, List, [], ◌∷◌, ◌⊎◌, inl, inr, refl, sym, ap, ◌∙◌, subst}
 use Rattle.std.proofs.lemmas.Nat.{mod_below, pow_pos}
 use Rattle.flat_machine.specs.declared.config.Config.{Config}
 use Rattle.flat_machine.specs.declared.event.Event.{Event}
-use Rattle.flat_machine.specs.State.{Processor, is_running}
-use Rattle.flat_machine.specs.Turns.{Turn, Retires, Reaches, Stops, turn_of}
+use Rattle.flat_machine.specs.State.{is_running}
+use Rattle.flat_machine.specs.Turns.{Turn, turn_of}
 use Rattle.flat_machine.specs.Laws.{HasWords}
 use Rattle.hart.specs.Deciding.{IsReference}
 use Rattle.omega_wires.proofs.Paths.{path_zero, path_end}
@@ -13,17 +12,18 @@ use Rattle.machine_ports.specs.Ports.{PortState, turn}
 use Rattle.machine_ports.proofs.References.{reference_means}
 use Rattle.messages.specs.declared.message.Request.{Request}
 use Rattle.messages.specs.Places.{In}
-use Rattle.messages.specs.Network.{Net, wires}
+use Rattle.messages.specs.Network.{Net}
 use Rattle.placement.specs.Roles.{Role, Idle, Asking}
-use Rattle.abstract_machine.specs.Program.{Program, Kind, Rests, Alone, Refers}
-use Rattle.abstract_machine.specs.Machine.{Machine, Result, step}
+use Rattle.abstract_machine.specs.Program.{Refers}
+use Rattle.abstract_machine.specs.Machine.{Machine}
 use Rattle.abstract_machine.specs.Steadiness.{Steady}
 use Rattle.abstract_machine.proofs.Steadying.{goes_step}
 use Rattle.steps.specs.declared.step.Step.{Step}
 use Rattle.steps.specs.declared.step.Outcome.{Outcome}
-use Rattle.machine_program.specs.Processors.{Told, sizes_of, setting_of, kind_of, kind_of_turn, word_by, next, program, port_at, told_at, open_at}
+use Rattle.machine_program.specs.Theory.{Result}
+use Rattle.machine_program.specs.Processors.{Told, sizes_of, setting_of, word_by, next, program, port_at, open_at}
 use Rattle.machine_program.specs.Steps.{named, with_shown, after, machine_of_parts, IsStepOf}
-use Rattle.machine_program.proofs.Good.{Reached, reaches_of, runs_by}
+use Rattle.machine_program.proofs.TurnKinds.{Reached, reaches_of, runs_by}
 
 module _ (c : Config) (code : List ℕ) (net : Net) (ports : List PortState) (modules : List (List ℕ)) where
   abbrev SteadyAs : (ℕ → List Event) → (ℕ → Role) → Type 0

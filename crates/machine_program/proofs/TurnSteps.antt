@@ -1,27 +1,25 @@
 -- Turns are steps of the machine.
-use Rattle.std.proofs.Common.{◌≡◌, ℕ, zero, suc, ◌+◌, ◌^◌, ◌<◌, ◌≤◌, Bool, true, false, List, [], ◌∷◌, ◌++◌, length, nat_lt, Option, Some, None, refl, sym, ap, ap₂, ◌∙◌, subst, lt-ltb, le-ltb}
+use Rattle.std.proofs.Common.{◌≡◌, ℕ, ◌^◌, ◌<◌, ◌≤◌, Bool, true, false, List, [], ◌∷◌, ◌++◌, length, Option, Some, refl, sym, ap, ap₂, ◌∙◌, subst, lt-ltb, le-ltb}
 use Rattle.std.specs.Prelude.{slice_get, slice_set, if◌then◌else◌}
 use Rattle.flat_machine.specs.declared.config.Config.{Config}
 use Rattle.flat_machine.specs.declared.event.Event.{Event}
 use Rattle.flat_machine.specs.declared.event.Event.TheVariants as event
-use Rattle.flat_machine.specs.declared.event.Retired as retirement
 use Rattle.flat_machine.specs.State.{Processor, is_running, status_of}
 use Rattle.flat_machine.specs.Turns.{Turn, Retires, Reaches, Stops, turn_of}
 use Rattle.hart.specs.Deciding.{after_reply}
 use Rattle.machine_ports.specs.Ports.{PortState, begun, turn, with_state, reference_phi}
-use Rattle.messages.specs.declared.message.Request.{Request}
 use Rattle.messages.specs.declared.message.Reply.{Reply}
 use Rattle.messages.specs.Places.{put}
-use Rattle.messages.specs.Network.{Net, wires}
+use Rattle.messages.specs.Network.{Net}
 use Rattle.messages.specs.Moves.{injected, port_taken}
-use Rattle.abstract_machine.specs.Program.{Program, Kind, Rests, Alone, Refers}
-use Rattle.abstract_machine.specs.Machine as theory
-use Rattle.abstract_machine.specs.Machine.{Machine, Result, stalled, retire_from, begin, turned}
+use Rattle.abstract_machine.specs.Program.{Alone, Refers}
+use Rattle.abstract_machine.specs.Machine.{Machine, retire_from, begin, turned}
 use Rattle.steps.specs.declared.step.Step.{Step}
 use Rattle.steps.specs.declared.step.Step.TheVariants as step
 use Rattle.steps.specs.declared.step.Outcome.{Outcome}
-use Rattle.steps.specs.declared.step.Outcome.TheVariants.{Retired, Issued, Stopped, Moved, Combined, Served, Answered, Poked, Stalled}
-use Rattle.machine_program.specs.Processors.{Told, shows, sizes_of, setting_of, kind_of, kind_of_turn, alone_by, word_by, retired_by, next, program, port_at, told_at, open_at, word_at}
+use Rattle.steps.specs.declared.step.Outcome.TheVariants.{Retired, Issued, Stalled}
+use Rattle.machine_program.specs.Theory.{Result, stalled}
+use Rattle.machine_program.specs.Processors.{Told, shows, setting_of, kind_of, kind_of_turn, alone_by, word_by, retired_by, next, program, port_at, told_at, open_at, word_at}
 use Rattle.machine_program.specs.Steps.{taken, told_of_turn, told_of_reply, answer_of, outcome_of, after, with_shown, machine_of_parts, IsStepOf}
 use Rattle.machine_program.specs.Turning.{IsBegun, IsFinished, IsFinishedBy}
 use Rattle.machine_program.proofs.PortSets.{core_set, core_kept, open_set, open_kept}

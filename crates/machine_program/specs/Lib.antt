@@ -1,5 +1,5 @@
+pub mod Theory
 pub mod Processors
-pub mod Flatness
-pub mod Explained
+pub mod FlatSizes
 pub mod Steps
 pub mod Turning

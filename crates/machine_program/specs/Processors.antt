@@ -1,7 +1,6 @@
 -- The processors of the machine, as the theory of serialization asks for them. What a turn of each does is the flat
 -- machine's definition; nothing is said of it a second time.
-use Rattle.std.specs.Prelude.{ℕ, ◌+◌, ◌-◌, ◌*◌, ◌/◌, ◌%◌, ◌^◌, Bool, true, false, ◌&&◌, List, [], ◌∷◌, ◌++◌, Option, Some, None, nat_lt, slice_index, slice_index_or, if◌then◌else◌}
-use Rattle.phi_algebra.specs.declared.phi.Phi.{Phi}
+use Rattle.std.specs.Prelude.{ℕ, ◌-◌, ◌/◌, ◌%◌, ◌^◌, Bool, false, ◌&&◌, List, [], ◌∷◌, ◌++◌, Option, Some, None, nat_lt, slice_index, slice_index_or, if◌then◌else◌}
 use Rattle.flat_machine.specs.declared.config.Config.{Config}
 use Rattle.flat_machine.specs.declared.setting.Setting.{Setting}
 use Rattle.flat_machine.specs.declared.event.Status.TheVariants.{Halted}
@@ -19,7 +18,8 @@ use Rattle.hart.specs.Deciding.{after_reply}
 use Rattle.machine_ports.specs.Ports.{PortState, reference_phi}
 use Rattle.messages.specs.Places.{put}
 use Rattle.messages.specs.Network.{Sizes}
-use Rattle.abstract_machine.specs.Program.{Program, Kind, Rests, Alone, Refers}
+use Rattle.abstract_machine.specs.Program.{Kind, Rests, Alone, Refers}
+use Rattle.machine_program.specs.Theory.{Program, entries}
 
 -- the network of a machine of this size: an entry of a queue is combined once at most
 abbrev pub sizes_of : Config → Sizes
@@ -122,7 +122,8 @@ module _ (c : Config) (code : List ℕ) where
     word_of = λ p g. word_by (next p g.state);
     phi_of = λ p g. reference_phi (setting_of c p) code g.state;
     retire = λ p g found. retired_by g (after_reply (next p g.state) found);
-    is_lawful = is_lawful_poke c;
+    is_lawful = λ cores. is_lawful_poke c;
     poked_core = poked_processors;
     poked_mem = poked_words;
+    entry = entries;
   }

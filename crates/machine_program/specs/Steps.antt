@@ -1,5 +1,5 @@
 -- The machine step: what each step answers, and the machine after it.
-use Rattle.std.specs.Prelude.{◌≡◌, ℕ, Bool, true, false, List, [], ◌∷◌, ◌++◌, Option, Some, None}
+use Rattle.std.specs.Prelude.{◌≡◌, ℕ, List, [], ◌∷◌, ◌++◌, Option, Some, None}
 use Rattle.flat_machine.specs.declared.config.Config.{Config}
 use Rattle.flat_machine.specs.declared.event.Event.{Event}
 use Rattle.flat_machine.specs.declared.event.Event.TheVariants as event
@@ -8,14 +8,14 @@ use Rattle.flat_machine.specs.State.{Processor}
 use Rattle.flat_machine.specs.Turns.{Turn, Retires, Reaches, Stops}
 use Rattle.hart.specs.Deciding.{after_reply}
 use Rattle.messages.specs.Places.{put}
-use Rattle.abstract_machine.specs.Machine as theory
+use Rattle.machine_program.specs.Theory as theory
 use Rattle.steps.specs.declared.step.Step.{Step}
 use Rattle.steps.specs.declared.step.Step.TheVariants as step
 use Rattle.steps.specs.declared.step.Outcome.{Outcome}
 use Rattle.steps.specs.declared.step.Outcome.TheVariants.{Retired, Issued, Stopped, Moved, Combined, Served, Answered, Poked, Stalled}
 use Rattle.machine_ports.specs.Ports.{PortState}
 use Rattle.messages.specs.Network.{Net}
-use Rattle.machine_program.specs.Processors.{Told, sizes_of, next, program, port_at, told_at, open_at, word_at}
+use Rattle.machine_program.specs.Processors.{Told, sizes_of, next, program, told_at, open_at, word_at}
 
 -- a step, as the theory names it
 abbrev pub named : Step → theory.Step

@@ -8,12 +8,12 @@ use Rattle.steps.specs.declared.step.Step.TheVariants as step
 use Rattle.steps.specs.declared.step.Outcome.{Outcome}
 use Rattle.steps.specs.declared.step.Outcome.TheVariants.{Stalled}
 use Rattle.steps.specs.Answers.{is_stalled}
-use Rattle.machine_steps.specs.Machines.{MachineLists}
-use Rattle.machine_steps.specs.Runs.{IsReplay, answer_after}
-use Rattle.machine_steps.proofs.Replaying.{outcome_there, stalled_is}
-use Rattle.machine_lock.specs.Logs.{Log, entered, HasTaken}
-use Rattle.machine_lock.proofs.Taking.{entered_moving}
-use Rattle.sweep.specs.Rounds.{round}
+use Rattle.machine_runs.specs.Machines.{MachineLists}
+use Rattle.machine_runs.specs.Runs.{IsReplay, answer_after}
+use Rattle.machine_runs.proofs.Replaying.{outcome_there, stalled_is}
+use Rattle.machine_log.specs.Logs.{Log, entered, HasTaken}
+use Rattle.machine_log.proofs.Taking.{entered_moving}
+use Rattle.machine_sweep.specs.Rounds.{round}
 use Rattle.machine_sweep.specs.Sweeps.{entered_of, rounds}
 
 -- ---- one step

@@ -6,18 +6,18 @@ use Rattle.std.proofs.lemmas.List.{length-append, take_all}
 use Rattle.flat_machine.specs.declared.config.Config.{Config}
 use Rattle.flat_machine.specs.declared.event.Status.{Status}
 use Rattle.flat_machine.specs.declared.event.Status.TheVariants.{Running}
-use Rattle.abstract_machine.specs.Machine as theory
+use Rattle.machine_program.specs.Theory as theory
 use Rattle.steps.specs.Answers.{is_stalled}
 use Rattle.steps.specs.declared.step.Outcome.{Outcome}
 use Rattle.steps.specs.declared.step.Outcome.TheVariants.{Stalled}
 use Rattle.steps.specs.declared.step.Step.{Step}
 use Rattle.machine_program.specs.Processors.{Told}
 use Rattle.machine_program.specs.Steps.{after, machine_of_parts}
-use Rattle.machine_steps.specs.Machines.{MachineLists, machine_of}
-use Rattle.machine_steps.specs.Runs.{IsReplay, all_after, events_of, answer_after}
-use Rattle.machine_steps.proofs.Running.{all_after_more}
-use Rattle.machine_lock.specs.Logs.{entered}
-use Rattle.machine_lock.proofs.Taking.{entered_moving}
+use Rattle.machine_runs.specs.Machines.{MachineLists, machine_of}
+use Rattle.machine_runs.specs.Runs.{IsReplay, all_after, events_of, answer_after}
+use Rattle.machine_runs.proofs.Running.{all_after_more}
+use Rattle.machine_log.specs.Logs.{entered}
+use Rattle.machine_log.proofs.Taking.{entered_moving}
 use Rattle.machine_sweep.specs.Standing.{HasRunning, processor_of}
 use Rattle.machine_sweep.specs.Sweeps.{EndsInFault, IsFault, IsOver, IsStop, RunsAfter, status_after}
 use Rattle.machine_sweep.proofs.Own.{IsOwn}

@@ -2,9 +2,9 @@
 use Rattle.std.proofs.Common.{◌≡◌, ℕ, zero, suc, ◌<◌, ◌≤◌, Bool, true, false, ◌⊎◌, inl, inr, List, [], ◌∷◌, ◌++◌, length, take, refl, sym, ap, ◌∙◌, subst, arith}
 use Rattle.std.proofs.lemmas.List.{append-nil, length-append}
 use Rattle.steps.specs.declared.step.Step.{Step}
-use Rattle.machine_steps.specs.Runs.{IsReplay, answer_after}
-use Rattle.machine_lock.specs.Logs.{Log}
-use Rattle.sweep.specs.Rounds.{round}
+use Rattle.machine_runs.specs.Runs.{IsReplay, answer_after}
+use Rattle.machine_log.specs.Logs.{Log}
+use Rattle.machine_sweep.specs.Rounds.{round}
 use Rattle.machine_sweep.specs.Standing.{HasRunning}
 use Rattle.machine_sweep.specs.Sweeps.{EndsInFault, GoesOn, HasFollowed, IsFault, IsOver, RunsAfter, WasAskedRound, entered_of, rounds}
 use Rattle.machine_sweep.specs.declared.sweeping.SweepEnd.TheVariants.{Over, Budget}

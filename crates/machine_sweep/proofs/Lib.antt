@@ -1,3 +1,4 @@
+pub mod Places
 pub mod Own
 pub mod Statuses
 pub mod Asking

@@ -11,12 +11,12 @@ use Rattle.abstract_machine.specs.Draining as draining
 use Rattle.steps.specs.declared.step.Step.{Step}
 use Rattle.machine_program.specs.Processors.{sizes_of, program}
 use Rattle.machine_program.specs.Steps.{machine_of_parts, outcome_of}
-use Rattle.machine_steps.specs.Draining.{drain_bound, drain_steps, step_of}
-use Rattle.machine_steps.specs.Machines.{MachineLists, machine_of}
-use Rattle.machine_steps.specs.Runs.{IsReplay, all_after, events_of, answer_after}
-use Rattle.machine_steps.proofs.Stalling.{retell}
-use Rattle.machine_lock.specs.Logs.{Log, entered}
-use Rattle.sweep.specs.Rounds.{round}
+use Rattle.machine_runs.specs.Draining.{drain_bound, drain_steps, step_of}
+use Rattle.machine_runs.specs.Machines.{MachineLists, machine_of}
+use Rattle.machine_runs.specs.Runs.{IsReplay, all_after, events_of, answer_after}
+use Rattle.machine.proofs.Stalling.{retell}
+use Rattle.machine_log.specs.Logs.{Log, entered}
+use Rattle.machine_sweep.specs.Rounds.{round}
 use Rattle.machine_sweep.specs.Sweeps.{EndsAt, IsFault, IsOver, IsWholeRun, RunsAfter, entered_of, rounds, status_after}
 use Rattle.machine_sweep.specs.declared.sweeping.SweepEnd.{SweepEnd}
 use Rattle.machine_sweep.specs.declared.sweeping.SweepEnd.TheVariants.{Over, Budget}

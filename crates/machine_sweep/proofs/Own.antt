@@ -5,20 +5,20 @@ use Rattle.std.specs.Prelude.{slice_get, if◌then◌else◌}
 use Rattle.std.specs.List.{range_with_len}
 use Rattle.std.proofs.lemmas.List.{append-nil}
 use Rattle.messages.specs.Network.{Sizes, Net, wires}
-use Rattle.abstract_machine.specs.Machine as theory
+use Rattle.machine_program.specs.Theory as theory
 use Rattle.abstract_machine.specs.Draining.{least, greatest, is_any, some_wire, first_wire, or_else, down_step, up_step}
 use Rattle.abstract_machine.specs.Draining as draining
-use Rattle.abstract_machine.specs.Program.{Program}
+use Rattle.machine_program.specs.Theory.{Program}
 use Rattle.steps.specs.Answers.{is_stalled}
 use Rattle.steps.specs.declared.step.Step.{Step}
 use Rattle.steps.specs.declared.step.Step.TheVariants as step
 use Rattle.machine_program.specs.Processors.{Told, sizes_of, program}
-use Rattle.machine_steps.specs.Draining.{drain_bound, drain_step, drain_steps, step_of}
-use Rattle.machine_steps.specs.Machines.{MachineLists, machine_of}
-use Rattle.machine_steps.proofs.Drained.{named_step}
-use Rattle.machine_lock.specs.Logs.{entered}
-use Rattle.sweep.specs.Rounds.{downs, on_each_wire, round, ups}
-use Rattle.machine_steps.specs.Runs.{answer_after}
+use Rattle.machine_runs.specs.Draining.{drain_bound, drain_step, drain_steps, step_of}
+use Rattle.machine_runs.specs.Machines.{MachineLists, machine_of}
+use Rattle.machine_runs.proofs.Drained.{named_step}
+use Rattle.machine_log.specs.Logs.{entered}
+use Rattle.machine_sweep.specs.Rounds.{downs, on_each_wire, round, ups}
+use Rattle.machine_runs.specs.Runs.{answer_after}
 use Rattle.machine_sweep.specs.Sweeps.{entered_of, rounds}
 
 -- the step writes nothing from outside

@@ -7,17 +7,17 @@ use Rattle.messages.specs.declared.moves.UpMove.TheVariants as up
 use Rattle.messages.specs.declared.moves.DownMove.TheVariants as down
 use Rattle.messages.specs.Moves.{moved_up, moved_down, up_from, down_from}
 use Rattle.omega_network.specs.Networks.{net_of}
-use Rattle.abstract_machine.specs.Machine as theory
-use Rattle.abstract_machine.specs.Machine.{stalled, went_up, went_down, serve_from}
+use Rattle.machine_program.specs.Theory.{stalled, went_up, went_down, serve_from}
+use Rattle.machine_program.specs.Theory as theory
 use Rattle.steps.specs.declared.step.Step.{Step}
 use Rattle.steps.specs.declared.step.Step.TheVariants as step
 use Rattle.steps.specs.declared.step.Outcome.{Outcome}
 use Rattle.steps.specs.declared.step.Outcome.TheVariants.{Stalled}
 use Rattle.machine_program.specs.Processors.{Told, sizes_of, next}
 use Rattle.machine_program.specs.Steps.{answer_of, outcome_of, machine_of_parts}
-use Rattle.machine_steps.specs.Machines.{MachineLists, machine_of}
-use Rattle.sweep.specs.Rounds.{round}
-use Rattle.sweep.proofs.Places.{up_at, serve_at, down_at}
+use Rattle.machine_runs.specs.Machines.{MachineLists, machine_of}
+use Rattle.machine_sweep.specs.Rounds.{round}
+use Rattle.machine_sweep.proofs.Places.{up_at, serve_at, down_at}
 use Rattle.machine_sweep.specs.Skips.{IsQuiet}
 
 module _ (c : Config) (code : List ℕ) (M : theory.Machine Told) where

@@ -4,18 +4,18 @@ use Rattle.std.specs.Prelude.{◌&&◌, nat_lt}
 use Rattle.std.proofs.lemmas.Bool.{lt-ltb}
 use Rattle.std.proofs.lemmas.List.Elements.{All-append, All-cons, All-nil}
 use Rattle.flat_machine.specs.declared.config.Config.{Config}
-use Rattle.abstract_machine.specs.Machine as theory
+use Rattle.machine_program.specs.Theory as theory
 use Rattle.steps.specs.declared.step.Step.{Step}
 use Rattle.steps.specs.declared.step.Step.TheVariants as step
 use Rattle.trace_file.specs.Records.{HasRecord}
 use Rattle.trace_file.specs.Traces.{HaveRecords}
 use Rattle.machine_program.specs.Processors.{Told}
 use Rattle.machine_program.specs.Steps.{after}
-use Rattle.machine_steps.specs.Draining.{drain_steps}
-use Rattle.machine_steps.specs.Machines.{machine_of}
-use Rattle.machine_steps.specs.Runs.{IsReplay, NoneStalls, all_after}
-use Rattle.machine_lock.specs.Logs.{Log}
-use Rattle.sweep.specs.Rounds.{round}
+use Rattle.machine_runs.specs.Draining.{drain_steps}
+use Rattle.machine_runs.specs.Machines.{machine_of}
+use Rattle.machine_runs.specs.Runs.{IsReplay, NoneStalls, all_after}
+use Rattle.machine_log.specs.Logs.{Log}
+use Rattle.machine_sweep.specs.Rounds.{round}
 use Rattle.machine_sweep.specs.Sweeps.{IsSwept, rounds}
 use Rattle.machine_sweep.specs.declared.sweeping.SweepEnd.{SweepEnd}
 use Rattle.machine_sweep.proofs.Own.{AreOwn, IsOwn, drain_steps_are_own, own_asked, own_both, own_entered}

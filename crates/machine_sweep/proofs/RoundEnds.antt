@@ -5,11 +5,11 @@ use Rattle.std.proofs.lemmas.List.{take_all}
 use Rattle.steps.specs.declared.step.Outcome.{Outcome}
 use Rattle.steps.specs.declared.step.Outcome.TheVariants.{Stalled}
 use Rattle.steps.specs.declared.step.Step.{Step}
-use Rattle.machine_steps.specs.Machines.{IsMachine}
-use Rattle.machine_steps.specs.Runs.{IsReplay, answer_after}
-use Rattle.machine_steps.proofs.Replaying.{outcome_there}
-use Rattle.machine_lock.specs.Logs.{Log, HasTaken, entered}
-use Rattle.sweep.specs.Rounds.{round}
+use Rattle.machine_runs.specs.Machines.{IsMachine}
+use Rattle.machine_runs.specs.Runs.{IsReplay, answer_after}
+use Rattle.machine_runs.proofs.Replaying.{outcome_there}
+use Rattle.machine_log.specs.Logs.{Log, HasTaken, entered}
+use Rattle.machine_sweep.specs.Rounds.{round}
 use Rattle.machine_sweep.specs.Standing.{HasRunning}
 use Rattle.machine_sweep.specs.Sweeps.{EndsInFault, IsFault, IsOver, IsStop, RunsAfter, WasAskedRound, entered_of}
 use Rattle.machine_sweep.proofs.Asking.{each_stalls, longer}

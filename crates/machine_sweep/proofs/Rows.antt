@@ -3,7 +3,7 @@ use Rattle.std.proofs.Common.{◌≡◌, ℕ, ◌+◌, ◌-◌, ◌*◌, ◌<◌
 use Rattle.std.specs.Prelude.{IfSome}
 use Rattle.std.proofs.Math.Nat.{mul-le-mul_right}
 use Rattle.std.proofs.lemmas.Bool.{cases_lt, true≢false}
-use Rattle.machine_steps.specs.Machines.{MachineLists}
+use Rattle.machine_runs.specs.Machines.{MachineLists}
 use Rattle.wire_sets.specs.Members.{HasNoneIn, IsFirst}
 use Rattle.machine_sweep.specs.Skips.{AreQuiet, IsQuiet}
 

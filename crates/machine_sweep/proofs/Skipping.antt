@@ -7,11 +7,11 @@ use Rattle.steps.specs.declared.step.Step.{Step}
 use Rattle.steps.specs.declared.step.Step.TheVariants as step
 use Rattle.steps.specs.declared.step.Outcome.TheVariants.{Stalled}
 use Rattle.machine_program.specs.Steps.{outcome_of}
-use Rattle.machine_steps.specs.Machines.{machine_of}
-use Rattle.machine_steps.specs.Runs.{IsReplay}
-use Rattle.machine_steps.proofs.Replaying.{outcome_there}
-use Rattle.machine_lock.specs.Logs.{Log, entered}
-use Rattle.sweep.specs.Rounds.{round}
+use Rattle.machine_runs.specs.Machines.{machine_of}
+use Rattle.machine_runs.specs.Runs.{IsReplay}
+use Rattle.machine_runs.proofs.Replaying.{outcome_there}
+use Rattle.machine_log.specs.Logs.{Log, entered}
+use Rattle.machine_sweep.specs.Rounds.{round}
 use Rattle.machine_sweep.specs.Skips.{AreQuiet, IsNext, IsQuiet}
 use Rattle.machine_sweep.specs.Sweeps.{entered_of}
 use Rattle.machine_sweep.proofs.Asking.{next_asked}

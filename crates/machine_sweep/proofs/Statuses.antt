@@ -25,8 +25,9 @@ use Rattle.messages.specs.declared.moves.UpMove.{UpMove}
 use Rattle.messages.specs.declared.moves.UpMove.TheVariants as up
 use Rattle.messages.specs.Moves.{moved_up, moved_down}
 use Rattle.messages.specs.Network.{Net}
-use Rattle.abstract_machine.specs.Machine as theory
-use Rattle.abstract_machine.specs.Machine.{begin, retire_from, serve_from, stalled, turned, went_down, went_up}
+use Rattle.machine_program.specs.Theory.{serve_from, stalled, went_down, went_up}
+use Rattle.machine_program.specs.Theory as theory
+use Rattle.abstract_machine.specs.Machine.{begin, retire_from, turned}
 use Rattle.abstract_machine.specs.Program.{Kind, Rests, Alone, Refers}
 use Rattle.steps.specs.declared.step.Outcome.{Outcome}
 use Rattle.steps.specs.declared.step.Step.{Step}

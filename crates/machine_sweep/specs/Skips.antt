@@ -3,8 +3,8 @@ use Rattle.std.specs.Prelude.{◌≡◌, ℕ, ◌+◌, ◌≤◌, ◌<◌, [], S
 use Rattle.steps.specs.declared.step.Step.{Step}
 use Rattle.steps.specs.declared.step.Outcome.TheVariants.{Stalled}
 use Rattle.machine_program.specs.Steps.{outcome_of}
-use Rattle.machine_steps.specs.Machines.{MachineLists, machine_of}
-use Rattle.sweep.specs.Rounds.{round}
+use Rattle.machine_runs.specs.Machines.{MachineLists, machine_of}
+use Rattle.machine_sweep.specs.Rounds.{round}
 
 -- the step at a place of the round stalls
 abbrev pub IsQuiet : MachineLists → (place : ℕ) → Type 0

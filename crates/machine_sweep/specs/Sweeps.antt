@@ -8,11 +8,11 @@ use Rattle.elf_image.specs.Images.{ImageContents}
 use Rattle.steps.specs.declared.step.Step.{Step}
 use Rattle.steps.specs.declared.step.Outcome.{Outcome}
 use Rattle.steps.specs.declared.step.Outcome.TheVariants as outcome
-use Rattle.machine_steps.specs.Draining.{drain_steps}
-use Rattle.machine_steps.specs.Machines.{MachineLists, machine_of, IsIdle}
-use Rattle.machine_steps.specs.Runs.{all_after, answer_after, IsOpening, IsReplay}
-use Rattle.machine_lock.specs.Logs.{Log, entered}
-use Rattle.sweep.specs.Rounds.{round}
+use Rattle.machine_runs.specs.Draining.{drain_steps}
+use Rattle.machine_runs.specs.Machines.{MachineLists, machine_of, IsIdle}
+use Rattle.machine_runs.specs.Runs.{all_after, answer_after, IsOpening, IsReplay}
+use Rattle.machine_log.specs.Logs.{Log, entered}
+use Rattle.machine_sweep.specs.Rounds.{round}
 use Rattle.machine_sweep.specs.declared.sweeping.SweepEnd.{SweepEnd}
 use Rattle.machine_sweep.specs.declared.sweeping.SweepEnd.TheVariants.{Over, Budget}
 

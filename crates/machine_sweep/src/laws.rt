@@ -3,7 +3,7 @@
 ghost use Rattle.std.specs.Prelude.{◌≡◌, ℕ};
 ghost use Rattle.flat_machine.specs.declared.config.Config.{Config};
 ghost use Rattle.elf_image.specs.Images.{ImageContents};
-ghost use Rattle.machine_lock.specs.Logs.{Log};
+ghost use Rattle.machine_log.specs.Logs.{Log};
 ghost use Rattle.machine_sweep.specs.Sweeps.{IsWholeRun};
 ghost use Rattle.machine_sweep.specs.declared.sweeping.SweepEnd.{SweepEnd};
 

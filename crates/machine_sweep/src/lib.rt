@@ -8,6 +8,7 @@
 
 mod laws;
 mod round;
+mod schedule;
 mod states;
 mod sweeping;
 #[cfg(test)]
@@ -15,5 +16,6 @@ mod tests;
 
 pub use laws::runs_have_one_log;
 pub use round::Round;
+pub use schedule::step_at;
 pub use states::{any_is_faulted, any_runs};
 pub use sweeping::{MOST_STEPS, SweepEnd, follow_sweep};

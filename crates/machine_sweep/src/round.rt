@@ -1,14 +1,14 @@
 //! A round of the sweep, from step to step that may do something.
 
 ghost use Rattle.std.specs.Prelude.{◌≡◌, ◌≤◌, ◌<◌, ◌+◌, ◌*◌, ◌^◌, ℕ, false, None, IfSome, length};
-ghost use Rattle.sweep.specs.Rounds.{round};
+ghost use Rattle.machine_sweep.specs.Rounds.{round};
 ghost use Rattle.wire_sets.specs.Members.{members};
 ghost use Rattle.machine_sweep.specs.Skips.{AreQuiet, IsNext, IsQuiet};
 
-use machine_steps::Machine;
+use crate::schedule::step_at;
+use machine_runs::Machine;
 use std::marker::Model;
 use steps::Step;
-use sweep::step_at;
 use wire_sets::WireSet;
 
 /// How far a machine has come in a round of the sweep.
@@ -22,7 +22,7 @@ pub struct Round {
 
 impl Model for Round {
     ghost use Rattle.std.specs.Prelude.{◌≤◌, ◌*◌, ◌+◌, ◌^◌};
-    ghost use Rattle.sweep.specs.Rounds.{Sweeping};
+    ghost use Rattle.machine_sweep.specs.Rounds.{Sweeping};
 
     ghost Value = { Sweeping };
 

@@ -4,7 +4,7 @@ ghost use Rattle.std.specs.Prelude.{◌≡◌, ◌↔◌, ◌^◌, IsTrue};
 ghost use Rattle.machine_sweep.specs.Standing.{HasFaulted, HasRunning};
 
 use flat_machine::Status;
-use machine_steps::Machine;
+use machine_runs::Machine;
 
 /// Whether a fault has stopped a processor of the machine.
 pub fn any_is_faulted(machine: &Machine) -> bool

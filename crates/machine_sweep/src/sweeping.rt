@@ -2,15 +2,15 @@
 
 ghost use Rattle.std.specs.Prelude.{◌≡◌, ◌≤◌, ◌<◌, ◌+◌, ◌↔◌, ◌⊎◌, Err, IfOk, OnErr, OnOk, length, true, false};
 ghost use Rattle.trace_file.specs.Traces.{HaveRecords};
-ghost use Rattle.machine_steps.specs.Draining.{drain_bound};
+ghost use Rattle.machine_runs.specs.Draining.{drain_bound};
 ghost use Rattle.machine_sweep.specs.Standing.{HasRunning};
 ghost use Rattle.machine_sweep.specs.Sweeps.{HasFollowed, IsFault, IsStop, IsSwept, WasAskedRound, most_of};
 
 use crate::round::Round;
 use crate::states::any_runs;
 use flat_machine::Cause;
-use machine_lock::{LockRefusal, Logged, Roomy};
-use machine_steps::Machine;
+use machine_log::{LogRefusal, Logged, Roomy};
+use machine_runs::{Machine, most_moves};
 use steps::Outcome;
 
 /// The most steps that a sweep enters, whatever its budget. The log of a new machine has room for them, and
@@ -32,13 +32,13 @@ pub enum SweepEnd {
 ///
 /// # Errors
 ///
-/// [`LockRefusal::Full`] where the log would pass [`steps::MAX_STEPS`] steps with as many, else
-/// [`LockRefusal::Memory`] where there is no memory for them. Each leaves all as it was.
-pub fn follow_sweep(log: &mut Logged, budget: u32) -> Result<SweepEnd, LockRefusal>
+/// [`LogRefusal::Full`] where the log would pass [`steps::MAX_STEPS`] steps with as many, else
+/// [`LogRefusal::Memory`] where there is no memory for them. Each leaves all as it was.
+pub fn follow_sweep(log: &mut Logged, budget: u32) -> Result<SweepEnd, LogRefusal>
     ensures swept { IfOk result (λ end. IsSwept (most_of budget) log.old end log.new) }
     ensures records { OnOk result (HaveRecords log.old.machine.config.k log.old.steps → HaveRecords log.new.machine.config.k log.new.steps) }
-    ensures full { (result ≡ Err LockRefusal.Full) ↔ (4194304 < length log.old.steps + (most_of budget + drain_bound log.old.machine.config)) }
-    ensures named { result ≡ Err LockRefusal.Unnamed → ⊥ }
+    ensures full { (result ≡ Err LogRefusal.Full) ↔ (4194304 < length log.old.steps + (most_of budget + drain_bound log.old.machine.config)) }
+    ensures named { result ≡ Err LogRefusal.Unnamed → ⊥ }
     ensures refused { OnErr result (log.new ≡ log.old) }
 {
     let most = budget.min(MOST_STEPS);
@@ -53,7 +53,7 @@ fn most_steps(machine: &Machine, most: u32) -> u32
 {
     // The proof needs the limits of the machine's size.
     let _ = machine.config();
-    most + machine.most_moves()
+    most + most_moves(machine)
 }
 
 /// Follows the sweep for so many steps at most, and then drains the machine. There is room for the steps.

@@ -2,18 +2,20 @@
 
 ghost use Rattle.std.specs.Prelude.{◌≤◌};
 
+mod rounds;
+
+use self::rounds::round_of;
 use crate::{Round, SweepEnd, any_is_faulted, any_runs, follow_sweep};
 use assembler::assemble;
 use elf_image::read_image;
 use flat_machine::Config;
 use link::Meter;
-use machine_lock::{LockRefusal, Logged};
-use machine_steps::Machine;
+use machine_log::{LogRefusal, Logged};
+use machine_runs::Machine;
 use std::alloc::Global;
 use std::process::Abort;
 use std::test::Fail;
 use steps::Step;
-use sweep::Sweep;
 use test_devices::EBREAK;
 
 /// A machine of `k` stages that opens on the image that a file is, with queues of two and a record for each
@@ -111,7 +113,7 @@ fn asks_for_room_first(rt: HostRuntime) -> Result<(), Fail> {
     let mut log = log_of(&rt, rt.alloc(), "jal x0, 0", 0)?;
     assert_eq!(rt; follow_sweep(&mut log, 200_000), Ok(SweepEnd::Budget));
     // With 200,000 steps there is room for 3,994,304 more: those of a sweep, and two for its drain.
-    assert_eq!(rt; follow_sweep(&mut log, 3_994_303), Err(LockRefusal::Full));
+    assert_eq!(rt; follow_sweep(&mut log, 3_994_303), Err(LogRefusal::Full));
     assert_eq!(rt; log.steps().len(), 200_000);
     assert_eq!(rt; follow_sweep(&mut log, 3), Ok(SweepEnd::Budget));
     assert_eq!(rt; log.steps().len(), 200_003);
@@ -180,16 +182,19 @@ fn is_answered(log: &mut Logged, step: Step) -> bool {
 }
 
 /// Asks for each step of the sweep, until no processor runs.
-fn ask_for_all(rt: &impl Abort, log: &mut Logged, k: u8)
+fn ask_for_all(rt: &impl Abort, alloc: Global, log: &mut Logged, k: u8) -> Result<(), Fail>
     requires { k ≤ 6 }
 {
-    let mut sweep = Sweep::new(k);
-    for _ in 0..10_000_000 {
-        if !any_runs(log.machine()) {
-            return;
+    let round = round_of(alloc, k)?;
+    for _ in 0..100_000 {
+        for step in &round {
+            if !any_runs(log.machine()) {
+                return Ok(());
+            }
+            assert!(rt; is_answered(log, *step));
         }
-        assert!(rt; is_answered(log, sweep.step()));
     }
+    Ok(())
 }
 
 /// The log has the steps that it has where each step of the sweep is asked for.
@@ -199,7 +204,7 @@ fn leaves_out_only_what_stalls(rt: HostRuntime) -> Result<(), Fail> {
         let mut log = log_of(&rt, rt.alloc(), ADDS, k)?;
         assert_eq!(rt; follow_sweep(&mut log, 100_000), Ok(SweepEnd::Over));
         let mut plain = log_of(&rt, rt.alloc(), ADDS, k)?;
-        ask_for_all(&rt, &mut plain, k);
+        ask_for_all(&rt, rt.alloc(), &mut plain, k)?;
         assert!(rt; !log.steps().is_empty());
         assert_eq!(rt; log.steps(), plain.steps(), "of {k} stages");
     }

@@ -20,7 +20,7 @@ mod words;
 use elf_image::{Bytes, Image, Layout, read_image, write_image};
 use flat_machine::{CODE_START, Config, Poke, SHARED_START};
 use link::Meter;
-use machine_steps::Machine;
+use machine_runs::Machine;
 use std::alloc::{AllocError, AllocGlobal, Global};
 use std::process::Abort;
 use std::test::Fail;

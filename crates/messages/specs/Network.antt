@@ -1,5 +1,5 @@
 -- The network as data: what stands at each place.
-use Rattle.std.specs.Prelude.{ℕ, suc, ◌^◌, List, []}
+use Rattle.std.specs.Prelude.{◌≡◌, ℕ, suc, ◌^◌, List, []}
 use Rattle.messages.specs.declared.message.Request.{Request}
 use Rattle.messages.specs.declared.message.Reply.{Reply}
 use Rattle.messages.specs.declared.message.Record.{Record}
@@ -27,6 +27,10 @@ pub record Net : Type 0 where
 
 abbrev pub empty_net : Net
 empty_net = record { requests = λ d w. []; records = λ s w. []; replies = λ d w. [] }
+
+-- nothing stands anywhere
+abbrev pub IsEmptyNet : Net → Type 0
+IsEmptyNet net = (d w : ℕ) → (net.requests d w ≡ []) × (net.records d w ≡ []) × (net.replies d w ≡ [])
 
 abbrev pub put_requests : Net → ℕ → ℕ → List Request → Net
 put_requests net d w xs = record { requests = put2 net.requests d w xs; records = net.records; replies = net.replies }

@@ -13,8 +13,10 @@
 //! Transactions on Computers C-32(2), 1983. Wiring, records and moves are this project's own.
 #![tactic(auto)]
 
+mod laws;
 mod message;
 mod moves;
 
+pub use laws::moves_of_nothing_stall;
 pub use message::{Record, Reply, Request};
 pub use moves::{DownMove, UpMove};

@@ -107,7 +107,7 @@ impl Bench {
             let request = Request {
                 leader,
                 word,
-                phi: Phi::amo_add(1),
+                phi: Phi::Add(1),
                 marks: 0,
             };
             network.inject(leader, request);

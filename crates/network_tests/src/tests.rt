@@ -11,7 +11,7 @@ mod switches;
 mod wires;
 
 use messages::{DownMove, Request, UpMove};
-use phi_algebra::Phi;
+use phi_algebra::{Phi, SignedRange};
 
 /// What an AMO makes of a word, as the tables name it.
 #[derive(Clone, Copy, Debug, Drop)]
@@ -24,9 +24,9 @@ enum Function {
 impl Function {
     fn phi(self) -> Phi {
         match self {
-            Function::Add(amount) => Phi::amo_add(amount),
-            Function::Swap(word) => Phi::amo_swap(word),
-            Function::Minimum(with) => Phi::amo_min(with),
+            Function::Add(amount) => Phi::Add(amount),
+            Function::Swap(word) => Phi::constant(word),
+            Function::Minimum(with) => Phi::Clamp(SignedRange::new(i32::MIN, with.cast_signed())),
         }
     }
 }

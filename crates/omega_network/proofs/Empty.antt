@@ -8,7 +8,8 @@ use Rattle.omega_wires.specs.Laws.{RotationsAreInverse, RotationsStayOnWires}
 use Rattle.messages.specs.declared.message.Request.{Request}
 use Rattle.messages.specs.declared.message.Reply.{Reply}
 use Rattle.combining_switch.specs.Switches.{IsEmptySwitch, SwitchLists, empty_switch, records_at, replies_at, requests_at}
-use Rattle.omega_network.specs.Networks.{IsEmptyNet, IsNetwork, NetworkLists, half, net_of, records_behind, replies_before, requests_before, slot_of, switch_at}
+use Rattle.messages.specs.Network.{IsEmptyNet}
+use Rattle.omega_network.specs.Networks.{IsNetwork, NetworkLists, half, net_of, records_behind, replies_before, requests_before, slot_of, switch_at}
 use Rattle.omega_network.proofs.Kept.{get_or_any}
 use Rattle.omega_network.proofs.Switches.{two_halves}
 use Rattle.omega_network.proofs.Changes.{at_input, at_module}

@@ -1,7 +1,8 @@
 -- What stays of a network and of a switch through every change.
-use Rattle.std.proofs.Common.{◌≡◌, ℕ, zero, suc, ◌+◌, ◌*◌, ◌<◌, Bool, true, false, List, [], ◌∷◌, length, set, get_or, nat_lt, Option, Some, None, ◌⊎◌, inl, inr, refl, sym, ap, ◌∙◌, subst, arith, get_or-set_same, get_or-set_other, length-set}
+use Rattle.std.proofs.Common.{◌≡◌, ℕ, zero, suc, ◌+◌, ◌*◌, ◌/◌, ◌^◌, ◌<◌, Bool, true, false, List, [], ◌∷◌, length, set, get_or, nat_lt, Option, Some, None, ◌⊎◌, inl, inr, refl, sym, ap, ◌∙◌, subst, arith, get_or-set_same, get_or-set_other, length-set}
 use Rattle.std.proofs.lemmas.Bool.{cases_eq}
-use Rattle.omega_wires.specs.Wires.{bit, bit_of_stage}
+use Rattle.omega_wires.specs.Laws.{RotationsStayOnWires}
+use Rattle.omega_wires.specs.Wires.{bit, bit_of_stage, rotated_left, switch_of}
 use Rattle.messages.specs.declared.message.Request.{Request}
 use Rattle.messages.specs.declared.message.Reply.{Reply}
 use Rattle.messages.specs.declared.message.Record.{Record}
@@ -10,7 +11,7 @@ use Rattle.combining_switch.specs.Outputs.{OutputLists, accepted, accepted_as, e
 use Rattle.combining_switch.specs.Switches.{SwitchLists, answered, answered_from, empty_switch, has_room, output_of, put_replies, put_reply, records_at, with_inputs, with_output, with_records, with_requests}
 use Rattle.omega_network.specs.Networks.{IsNetwork, IsSwitchOf, NetworkLists, half, switch_at}
 use Rattle.omega_network.specs.Changes.{with_module_slot, with_slot, with_switch}
-use Rattle.omega_network.proofs.Switches.{place_within, switch_kept, switch_put}
+use Rattle.omega_network.proofs.Switches.{half_of_wire, place_within, switch_kept, switch_put}
 
 module _ (c b i : ℕ) where
   pub output_kept : (s : SwitchLists) (out : ℕ) (o : OutputLists) → IsSwitchOf c b i s → out < 2 → o.c ≡ c → o.b ≡ b → IsSwitchOf c b i (with_output s out o)
@@ -138,6 +139,17 @@ pub record Found (n m : NetworkLists) (s i place : ℕ) (u : SwitchLists) : Type
   pub number : i < half m.k
   pub exact : place ≡ s * half m.k + i
   pub at : u ≡ get_or n.switches place u
+
+-- the switch that a wire comes from after a stage, and the one that it goes to before a stage
+pub found_behind : {n m : NetworkLists} {s w place : ℕ} {u : SwitchLists} → n ≡ m → IsNetwork n → s < m.k → w < 2 ^ m.k →
+    place ≡ s * half m.k + w / 2 → u ≡ get_or n.switches place u → Found n m s (w / 2) place u
+found_behind {n} {m} {s} {w} view is stage wire exact at =
+    record { view = view; is = is; stage = stage; number = half_of_wire m.k s w stage wire; exact = exact; at = at }
+
+pub found_before : {n m : NetworkLists} {s w place : ℕ} {u : SwitchLists} → RotationsStayOnWires → n ≡ m → IsNetwork n → s < m.k → w < 2 ^ m.k →
+    place ≡ s * half m.k + switch_of m.k w → u ≡ get_or n.switches place u → Found n m s (switch_of m.k w) place u
+found_before {n} {m} {s} {w} on_wires view is stage wire exact at =
+    record { view = view; is = is; stage = stage; number = half_of_wire m.k s (rotated_left m.k w) stage ((on_wires m.k w wire).0); exact = exact; at = at }
 
 module _ (n m : NetworkLists) (s i place : ℕ) (u : SwitchLists) (found : Found n m s i place u) where
   k_is : n.k ≡ m.k

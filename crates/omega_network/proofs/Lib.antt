@@ -3,8 +3,6 @@ pub mod Empty
 pub mod Kept
 pub mod Moves
 pub mod New
-pub mod Paths
-pub mod Puts
 pub mod Replies
 pub mod Requests
 pub mod Slots

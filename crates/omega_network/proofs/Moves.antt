@@ -1,5 +1,5 @@
 -- A move as what a switch did with the message, which is then taken from its place.
-use Rattle.std.proofs.Common.{◌≡◌, ℕ, suc, ◌%◌, ◌<◌, Bool, true, false, ◌&&◌, List, [], ◌∷◌, ◌++◌, length, drop, nat_lt, Option, Some, None, refl, sym, ap, ◌∙◌, arith, lt-ltb}
+use Rattle.std.proofs.Common.{◌≡◌, ℕ, suc, ◌%◌, ◌^◌, ◌<◌, Bool, true, false, ◌&&◌, List, [], ◌∷◌, ◌++◌, length, drop, nat_lt, Option, Some, None, refl, sym, ap, ◌∙◌, arith, lt-ltb}
 use Rattle.std.specs.Prelude.{IsTrue, if◌then◌else◌, is_some, nat_le, not, slice_get}
 use Rattle.phi_algebra.specs.declared.phi.Phi.{Phi}
 use Rattle.omega_wires.specs.Wires.{wire_after, wire_before}
@@ -19,8 +19,9 @@ use Rattle.combining_switch.specs.declared.answers.Accepted.TheVariants.{Queued,
 use Rattle.combining_switch.specs.declared.answers.Answered.{Answered}
 use Rattle.combining_switch.specs.declared.answers.Answered.TheVariants.{One, Two, NoRoom}
 use Rattle.combining_switch.specs.Switches.{answered_for}
+use Rattle.omega_network.specs.Networks.{NetworkLists, net_of, sizes_of}
 use Rattle.omega_network.specs.Offers.{accepted_on, accepted_where, answered_on, answered_where, first_reply_taken, first_request_taken}
-use Rattle.omega_network.proofs.Puts.{put2_comm, put2_other}
+use Rattle.messages.proofs.Places.{put2_comm, put2_other}
 
 -- the first of a list
 first_is : {X : Type 0} (q : List X) (x : X) → slice_get q 0 ≡ Some x → q ≡ x ∷ drop 1 q
@@ -135,12 +136,6 @@ up_law z net s w out x stage found way =
     ∙ ap (λ o. moves.offered z net (put_requests net s w (drop 1 (net.requests s w))) s o x) (sym way)
     ∙ offered_is z net s w out x (drop 1 (net.requests s w)) first
 
-pub up_nothing : (z : Sizes) (net : Net) (s w : ℕ) → s < z.k → slice_get (net.requests s w) 0 ≡ None → moves.moved_up z net s w ≡ (up.Stalled, net)
-unfolding moves.moved_up
-up_nothing z net s w stage none =
-    ap (λ (b : Bool). if b then moves.up_from z net s w (net.requests s w) else (up.Stalled, net)) (lt-ltb s z.k stage)
-    ∙ ap (moves.up_from z net s w) (none_is (net.requests s w) none)
-
 -- ---- down
 
 abbrev pub down_of : Answered → DownMove
@@ -233,24 +228,28 @@ down_law z net s w x stage found =
     ∙ ap (moves.down_from z net s w) first
     ∙ answer_is z net s w x (drop 1 (net.replies (suc s) w)) first
 
-pub down_nothing : (z : Sizes) (net : Net) (s w : ℕ) → s < z.k → slice_get (net.replies (suc s) w) 0 ≡ None → moves.moved_down z net s w ≡ (down.Stalled, net)
-unfolding moves.moved_down
-down_nothing z net s w stage none =
-    ap (λ (b : Bool). if b then moves.down_from z net s w (net.replies (suc s) w) else (down.Stalled, net)) (lt-ltb s z.k stage)
-    ∙ ap (moves.down_from z net s w) (none_is (net.replies (suc s) w) none)
+-- ---- as the calls tell it, where the switch answers b. What the code sees as l, a caller sees as m
 
--- ---- as the calls tell it
+pub up_ends : (m : NetworkLists) (w : ℕ) {l : NetworkLists} {net : Net} {s out target : ℕ} {x : Request} {a b : Accepted} → l ≡ m → s < m.k →
+    slice_get ((net_of m).requests s w) 0 ≡ Some x → out ≡ wire_after l.k s w target → target ≡ x.word % 2 ^ l.k →
+    a ≡ (accepted_on (sizes_of m) (net_of m) s out x).0 → net ≡ (accepted_on (sizes_of m) (net_of m) s out x).1 → a ≡ b →
+    (up_of b x.leader ≡ (moves.moved_up (sizes_of m) (net_of m) s w).0) × (net_after_up b net s w ≡ (moves.moved_up (sizes_of m) (net_of m) s w).1)
+up_ends m w {l} {net} {s} {out} {target} {x} {a} {b} view stage found way aim answer after is =
+    let same : out ≡ wire_after m.k s w (x.word % 2 ^ m.k) =
+    way ∙ ap (wire_after l.k s w) aim ∙ ap (λ (n : NetworkLists). wire_after n.k s w (x.word % 2 ^ n.k)) view in
+    let law = up_law (sizes_of m) (net_of m) s w out x stage found same in
+    let told : b ≡ (accepted_on (sizes_of m) (net_of m) s out x).0 = sym is ∙ answer in (
+      ap (λ e. up_of e x.leader) told ∙ sym (ap (λ (r : UpMove × Net). r.0) law),
+      (λ j. net_after_up (told j) (after j) s w) ∙ sym (ap (λ (r : UpMove × Net). r.1) law),
+    )
 
-pub up_done : (z : Sizes) (net net' : Net) (s w out : ℕ) (x : Request) (a : Accepted) → s < z.k → slice_get (net.requests s w) 0 ≡ Some x → out ≡ wire_after z.k s w (x.word % wires z)
-    → a ≡ (accepted_on z net s out x).0 → net' ≡ (accepted_on z net s out x).1
-    → ((moves.moved_up z net s w).0 ≡ up_of a x.leader) × ((moves.moved_up z net s w).1 ≡ net_after_up a net' s w)
-up_done z net net' s w out x a stage found way answer after =
-    let law = up_law z net s w out x stage found way in
-    (ap (λ (r : UpMove × Net). r.0) law ∙ ap (λ b. up_of b x.leader) (sym answer), ap (λ (r : UpMove × Net). r.1) law ∙ (λ j. net_after_up (sym answer j) (sym after j) s w))
-
-pub down_done : (z : Sizes) (net net' : Net) (s w : ℕ) (x : Reply) (a : Answered) → s < z.k → slice_get (net.replies (suc s) w) 0 ≡ Some x
-    → a ≡ (answered_on z net s w x).0 → net' ≡ (answered_on z net s w x).1
-    → ((moves.moved_down z net s w).0 ≡ down_of a) × ((moves.moved_down z net s w).1 ≡ net_after_down a net' (suc s) w)
-down_done z net net' s w x a stage found answer after =
-    let law = down_law z net s w x stage found in
-    (ap (λ (r : DownMove × Net). r.0) law ∙ ap down_of (sym answer), ap (λ (r : DownMove × Net). r.1) law ∙ (λ j. net_after_down (sym answer j) (sym after j) (suc s) w))
+pub down_ends : (m : NetworkLists) (w : ℕ) {net : Net} {s : ℕ} {x : Reply} {a b : Answered} → s < m.k →
+    slice_get ((net_of m).replies (suc s) w) 0 ≡ Some x →
+    a ≡ (answered_on (sizes_of m) (net_of m) s w x).0 → net ≡ (answered_on (sizes_of m) (net_of m) s w x).1 → a ≡ b →
+    (down_of b ≡ (moves.moved_down (sizes_of m) (net_of m) s w).0) × (net_after_down b net (suc s) w ≡ (moves.moved_down (sizes_of m) (net_of m) s w).1)
+down_ends m w {net} {s} {x} {a} {b} stage found answer after is =
+    let law = down_law (sizes_of m) (net_of m) s w x stage found in
+    let told : b ≡ (answered_on (sizes_of m) (net_of m) s w x).0 = sym is ∙ answer in (
+      ap down_of told ∙ sym (ap (λ (r : DownMove × Net). r.0) law),
+      (λ j. net_after_down (told j) (after j) (suc s) w) ∙ sym (ap (λ (r : DownMove × Net). r.1) law),
+    )

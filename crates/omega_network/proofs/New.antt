@@ -6,7 +6,8 @@ use Rattle.std.proofs.lemmas.Nat.{div-mul-add}
 use Rattle.std.proofs.lemmas.Option.{get_or_from_slice_get}
 use Rattle.omega_wires.specs.Wires.{bit_of_stage}
 use Rattle.combining_switch.specs.Switches.{IsEmptySwitch, SwitchLists, empty_switch}
-use Rattle.omega_network.specs.Networks.{IsEmptyNet, IsNetwork, IsSwitchOf, NetworkLists, half, net_of, switch_at}
+use Rattle.messages.specs.Network.{IsEmptyNet}
+use Rattle.omega_network.specs.Networks.{IsNetwork, IsSwitchOf, NetworkLists, half, net_of, switch_at}
 use Rattle.omega_network.specs.Changes.{AreNew}
 use Rattle.omega_network.proofs.Kept.{empty_is}
 use Rattle.omega_network.proofs.Switches.{place_within}

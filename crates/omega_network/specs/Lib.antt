@@ -1,4 +1,3 @@
 pub mod Changes
 pub mod Networks
 pub mod Offers
-pub mod Paths

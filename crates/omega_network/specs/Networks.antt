@@ -55,10 +55,6 @@ replies_before n d w =
 abbrev pub net_of : NetworkLists → Net
 net_of n = record { requests = requests_before n; records = records_behind n; replies = replies_before n }
 
--- nothing stands anywhere
-abbrev pub IsEmptyNet : Net → Type 0
-IsEmptyNet net = (d w : ℕ) → (net.requests d w ≡ []) × (net.records d w ≡ []) × (net.replies d w ≡ [])
-
 -- ---- what every network keeps
 
 -- a switch of these sizes

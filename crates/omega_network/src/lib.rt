@@ -14,10 +14,8 @@
 //! Computers C-32(2), 1983.
 #![tactic(auto)]
 
-mod laws;
 mod network;
 
 pub use combining_switch::MAX_QUEUE;
-pub use laws::messages_keep_to_paths;
 pub use network::Network;
 pub use omega_wires::MAX_STAGES;

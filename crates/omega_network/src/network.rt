@@ -3,15 +3,15 @@
 ghost use Rattle.std.specs.Prelude.{◌≡◌, ◌↔◌, ◌<◌, ◌≤◌, ◌^◌, ◌/◌, ◌%◌, ◌*◌, ◌+◌, suc, [], drop, length, slice_get, is_some, Some, All, IfOk, IsNone, IsTrue};
 ghost use Rattle.std.specs.Option.{option_to_list};
 ghost use Rattle.omega_wires.specs.Wires.{switch_of};
-ghost use Rattle.messages.specs.Network.{Sizes, put_replies, put_requests};
+ghost use Rattle.messages.specs.Network.{IsEmptyNet, Sizes, put_replies, put_requests};
 ghost use Rattle.messages.specs.Moves.{injected, module_replied, module_taken, moved_down, moved_up, port_taken};
 ghost use Rattle.combining_switch.specs.Switches.{IsEmptySwitch};
-ghost use Rattle.omega_network.specs.Networks.{IsEmptyNet, half, net_of, sizes_of};
+ghost use Rattle.omega_network.specs.Networks.{half, net_of, sizes_of};
 ghost use Rattle.omega_network.specs.Changes.{AreNew};
 ghost use Rattle.omega_network.specs.Offers.{accepted_on, answered_on, first_reply_taken, first_request_taken};
 
 use combining_switch::{Accepted, Answered, Switch};
-use messages::{DownMove, Reply, Request, UpMove};
+use messages::{DownMove, Reply, Request, UpMove, moves_of_nothing_stall};
 use omega_wires::{input_port, module_of, rotate_left, rotations_are_inverse, wire_after};
 use phi_algebra::Phi;
 use std::alloc::{AllocError, Global};
@@ -119,6 +119,7 @@ impl Network {
         ensures sizes { sizes_of self.new ≡ sizes_of self.old }
     {
         let Some(request) = self.request_before(stage, wire) else {
+            moves_of_nothing_stall();
             return UpMove::Stalled;
         };
         self.move_up(stage, wire, request)
@@ -162,6 +163,7 @@ impl Network {
         // There are few stages.
         let _ = &self.k;
         let Some(reply) = self.reply_before(stage + 1, wire) else {
+            moves_of_nothing_stall();
             return DownMove::Stalled;
         };
         self.move_down(stage, wire, reply)

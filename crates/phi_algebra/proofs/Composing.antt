@@ -11,7 +11,7 @@ use Rattle.phi_algebra.specs.Ranges.{SignedEnds, UnsignedEnds, IsSignedRange, Is
 use Rattle.phi_algebra.specs.Composition.{AreApart, IsComposition, kind_of, composed, composed_across, brought_signed, brought_unsigned}
 use Rattle.phi_algebra.specs.declared.phi.Phi.{Phi}
 use Rattle.phi_algebra.specs.declared.phi.Phi.TheVariants.{Add, Bits, Clamp, ClampU}
-use Rattle.phi_algebra.proofs.Meanings.{constant_meaning}
+use Rattle.phi_algebra.proofs.Masks.{constant_meaning}
 use Rattle.phi_algebra.proofs.Special.{identity_there, identity_by, constant_there, constant_back, constant_by}
 
 -- ---- one kind

@@ -1,6 +1,4 @@
-pub mod Parts
-pub mod Meanings
+pub mod Masks
 pub mod Special
 pub mod Composing
 pub mod Composed
-pub mod Bytes

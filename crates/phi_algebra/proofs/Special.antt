@@ -11,8 +11,7 @@ use Rattle.phi_algebra.specs.Functions.{apply, IsInRange, IsIdentity, IsConstant
 use Rattle.phi_algebra.specs.Ranges.{SignedEnds, UnsignedEnds, IsSignedRange, IsUnsignedRange, clamped_signed, clamped_unsigned}
 use Rattle.phi_algebra.specs.declared.phi.Phi.{Phi}
 use Rattle.phi_algebra.specs.declared.phi.Phi.TheVariants.{Add, Bits, Clamp, ClampU}
-use Rattle.phi_algebra.proofs.Meanings.{kept, load_meaning}
-use Rattle.phi_algebra.proofs.Parts.{xor_zero}
+use Rattle.phi_algebra.proofs.Masks.{kept, ones_keep, xor_zero}
 
 both : (a b : Bool) → (a && b) ≡ true → (a ≡ true) × (b ≡ true)
 both true true h = (refl, refl)
@@ -51,7 +50,7 @@ identity_there (Add e) h x small = grind (arith, nat_tests)
 identity_there (Bits and xor) h x small =
     let a : and ≡ 2 ^ 32 - 1 = (Decides-eqb and (2 ^ 32 - 1)).0 (both _ _ h).0 in
     let b : xor ≡ 0 = (Decides-eqb xor 0).0 (both _ _ h).1 in
-    rw (a, b) (load_meaning x small)
+    rw (a, b) (ones_keep x small)
 identity_there (Clamp r) h x small =
     let ends : (int_eq r.lo (negsuc (2 ^ 31 - 1)) ≡ true) × (int_eq r.hi (pos (2 ^ 31 - 1)) ≡ true) = both _ _ h in
     let same : clamped_signed r (cast_signed w32 x) ≡ cast_signed w32 x =

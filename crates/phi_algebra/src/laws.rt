@@ -2,7 +2,7 @@
 
 ghost use Rattle.std.specs.Prelude.{ℕ, ◌^◌, ◌<◌};
 ghost use Rattle.phi_algebra.specs.Functions.{IsInRange, apply};
-ghost use Rattle.phi_algebra.specs.Laws.{CompositionIsAssociative, IdentityIsNeutral, NewPartsAreNewBytes, OneKindComposes, PartsAreBytes};
+ghost use Rattle.phi_algebra.specs.Laws.{CompositionIsAssociative, IdentityIsNeutral, OneKindComposes};
 
 use crate::phi::Phi;
 
@@ -38,10 +38,4 @@ pub fn identity_is_neutral()
 /// Two functions of one kind compose, to that kind.
 pub fn one_kind_composes()
     ensures { OneKindComposes }
-{}
-
-/// The parts of a word, by division, are its bytes as they stand in memory, the lowest first.
-pub fn parts_are_bytes()
-    ensures read { PartsAreBytes }
-    ensures written { NewPartsAreNewBytes }
 {}

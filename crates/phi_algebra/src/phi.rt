@@ -31,7 +31,7 @@ impl Phi {
     }
 
     /// The function that gives `value` whatever the word.
-    #[tactic(auto, using(crate::proofs::Meanings::constant_meaning))]
+    #[tactic(auto, using(crate::proofs::Masks::constant_meaning))]
     pub fn constant(value: u32) -> Phi
         ensures kind { result ≡ Bits 0 value }
         ensures meaning { HasValue result value }

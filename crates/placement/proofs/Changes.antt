@@ -10,7 +10,7 @@ use Rattle.messages.specs.Moves.{combined}
 use Rattle.placement.specs.Roles.{Role, Idle, Waiting, Told, Placed, RecordPlaced, Unnamed}
 use Rattle.placement.specs.Meaning.{Means, joined}
 use Rattle.placement.specs.Changes.{CombiningKeepsPlaces, CombiningJoinsGroups, AnsweringKeepsPlaces, AnsweringGivesEachItsOwn}
-use Rattle.placement.proofs.Places.{In-put2, In-filter, In-map_from, ApartBy-filter}
+use Rattle.messages.proofs.Places.{In-put2, In-filter, In-map_from, ApartBy-filter}
 use Rattle.placement.proofs.Roles.{combine, drop_records, drop_records_unnamed, placed_push_all, below_role, unnamed_fewer, not_led, seconds, from_answers}
 use Rattle.placement.proofs.Meaning.{means_combine, means_drop, means_push_all, answers_mean}
 use Rattle.placement.proofs.Joining.{combination_joins}
@@ -25,7 +25,8 @@ pub combining_meaning : CombiningJoinsGroups
 combining_meaning own word path group owed k role net b r s w x j e placed ok free ask =
     let J = combination_joins b r x (net.requests (suc s) w) (net.records s w) j e in
     subst (λ (i : Combination). Means own word path (joined group i.made.leader i.made.second) owed (combined net s w i).1) (sym J.is)
-    (means_combine own word path group owed k role net s w J.front J.behind J.entry (merged J.entry J.function) x (record_of x J.entry) placed ok J.was free ask J.law refl refl refl refl refl)
+    (means_combine own word path group owed k role net s w J.front J.behind J.entry (merged J.entry J.function) x
+    (record_of x J.entry) placed ok J.was free ask J.law refl refl refl refl refl)
 
 pub answering_places : AnsweringKeepsPlaces
 answering_places k path wire role net s w x ok l free told on way =
@@ -48,9 +49,14 @@ answering_places k path wire role net s w x ok l free told on way =
             | inr n ↦ omega arith
           ])
     ]) in
-    let each : (y : Reply) → In y ys → Unnamed net' y.leader × (path y.leader s ≡ wire y.leader) × ((t v : ℕ) (r : Record) → In r (net'.records t v) → r.leader ≡ y.leader → t < s)
+    let each : (y : Reply) → In y ys
+    → Unnamed net' y.leader × (path y.leader s ≡ wire y.leader) × ((t v : ℕ) (r : Record) → In r (net'.records t v) → r.leader ≡ y.leader → t < s)
     = (λ y m. elim (from_answers x y rs m) [
-      | inl a ↦ (subst (Unnamed net') (sym a) (unnamed_fewer net s w left p free sub), back y.leader (Told (suc s)) (ap role a ∙ told) (λ c. cc) (ap (λ j. path j (suc s)) a ∙ on), (λ t v r i g. below_p t v r i (g ∙ a)))
+      | inl a ↦ (
+        subst (Unnamed net') (sym a) (unnamed_fewer net s w left p free sub),
+        back y.leader (Told (suc s)) (ap role a ∙ told) (λ c. cc) (ap (λ j. path j (suc s)) a ∙ on),
+        (λ t v r i g. below_p t v r i (g ∙ a)),
+      )
       | inr a ↦ (let g = known a.0 a.1 in (
         subst (Unnamed net') (sym a.2) (drop_records_unnamed k path role net s w p a.0 ok g.2 g.1),
         back y.leader (Waiting s a.0.leader) (ap role a.2 ∙ g.0.waits) (λ c. cc) (ap (λ j. path j (suc s)) a.2 ∙ g.0.wire_second),
@@ -66,7 +72,8 @@ answering_places k path wire role net s w x ok l free told on way =
     placed_push_all k path wire s ys role net' placed (omega arith) apart each
 
 -- who answers was no idle processor
-pub answers_led : (k : ℕ) (path : ℕ → ℕ → ℕ) (role : ℕ → Role) (net : Net) (s w : ℕ) (x : Reply) → Placed k path role net → role x.leader ≡ Told (suc s) → (y : Reply) → In y (answers (records_of x.leader (net.records s w)) x) → role y.leader ≡ Idle → ⊥
+pub answers_led : (k : ℕ) (path : ℕ → ℕ → ℕ) (role : ℕ → Role) (net : Net) (s w : ℕ) (x : Reply) → Placed k path role net → role x.leader ≡ Told (suc s)
+    → (y : Reply) → In y (answers (records_of x.leader (net.records s w)) x) → role y.leader ≡ Idle → ⊥
 answers_led k path role net s w x ok told y m i = elim (from_answers x y (records_of x.leader (net.records s w)) m) [
   | inl a ↦ (let c : Told (suc s) ≡ Idle = sym told ∙ ap role (sym a) ∙ i in cc)
   | inr a ↦ (let g = In-filter (λ (e : Record). e.leader == x.leader) a.0 (net.records s w) a.1 in
@@ -76,5 +83,6 @@ answers_led k path role net s w x ok told y m i = elim (from_answers x y (record
 pub answering_meaning : AnsweringGivesEachItsOwn
 answering_meaning own word path group owed wire net s w x ok free means on =
     let left : List Record = records_but x.leader (net.records s w) in
-    means_push_all own word path group owed wire s (answers (records_of x.leader (net.records s w)) x) (put_records net s w left) (means_drop own word path group owed net s w x.leader ok free)
+    means_push_all own word path group owed wire s (answers (records_of x.leader (net.records s w)) x) (put_records net s w left)
+    (means_drop own word path group owed net s w x.leader ok free)
     (λ y m. answers_mean path owed net.records s w x left means on y m)

@@ -6,7 +6,7 @@ use Rattle.messages.specs.Places.{put, In, Distinct}
 use Rattle.messages.specs.Queues.{applied}
 use Rattle.placement.specs.Giving.{finds, leaves}
 use Rattle.placement.specs.Meaning.{Executed, execute, execute_all}
-use Rattle.placement.proofs.Places.{put_same, put_other}
+use Rattle.messages.proofs.Places.{put_same, put_other}
 
 put_put : {X : Type 0} (f : ℕ → X) (a : ℕ) (x y : X) (i : ℕ) → put (put f a x) a y i ≡ put f a y i
 put_put {X} f a x y i = go (cases_eq i a)
@@ -45,7 +45,8 @@ executed_mem own word f (j ∷ js) a h i =
 pub executed_other : (own : ℕ → Phi) (word : ℕ → ℕ) (f : Executed) (js : List ℕ) (i : ℕ) → (In i js → ⊥) → (execute_all own word f js).owed i ≡ f.owed i
 unfolding execute_all
 executed_other own word f [] i n = refl
-executed_other own word f (j ∷ js) i n = executed_other own word (execute own word f j) js i (λ m. n (inr m)) ∙ put_other f.owed j (Some (f.mem (word j))) i (λ e. n (inl e))
+executed_other own word f (j ∷ js) i n = executed_other own word (execute own word f j) js i (λ m. n (inr m))
+    ∙ put_other f.owed j (Some (f.mem (word j))) i (λ e. n (inl e))
 
 -- each is owed what it found
 pub executed_owed : (own : ℕ → Phi) (word : ℕ → ℕ) (f : Executed) (js : List ℕ) (a : ℕ) → ((j : ℕ) → In j js → word j ≡ a) → Distinct js
@@ -61,5 +62,6 @@ executed_owed own word f (j ∷ js) a h d m (inl e) =
     ∙ ap (λ (x : ℕ × ℕ). Some x.1) (sym e)
 executed_owed own word f (j ∷ js) a h d m (inr i) =
     let w : word j ≡ a = h j (inl refl) in
-    let found : (execute own word f j).mem a ≡ applied (own j) (f.mem a) = ap (λ v. put f.mem v (applied (own j) (f.mem v)) a) w ∙ put_same f.mem a (applied (own j) (f.mem a)) in
+    let found : (execute own word f j).mem a ≡ applied (own j) (f.mem a) = ap (λ v. put f.mem v (applied (own j) (f.mem v)) a) w
+    ∙ put_same f.mem a (applied (own j) (f.mem a)) in
     executed_owed own word (execute own word f j) js a (λ l n. h l (inr n)) d.1 m (subst (λ v. In m (finds own js v)) (sym found) i)

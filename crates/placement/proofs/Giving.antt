@@ -6,7 +6,7 @@ use Rattle.messages.specs.declared.message.Record.{Record}
 use Rattle.messages.specs.Places.{In}
 use Rattle.messages.specs.Queues.{applied}
 use Rattle.placement.specs.Giving.{gives, finds, leaves}
-use Rattle.placement.proofs.Places.{In-append, In-append_left, In-append_right}
+use Rattle.messages.proofs.Places.{In-append, In-append_left, In-append_right}
 
 pub finds-append : (own : ℕ → Phi) (js ks : List ℕ) (y : ℕ) → finds own (js ++ ks) y ≡ finds own js y ++ finds own ks (leaves own js y)
 unfolding finds leaves
@@ -58,7 +58,8 @@ gives_more R S p s y z same e =
     ap₂ (λ a b. a ++ b)
     (gives_below R S s same p y)
     (ap (flat_map (λ x. gives S x.second s (applied x.phi y))) e
-    ∙ flat_map_agree (λ x. gives S x.second s (applied x.phi y)) (λ x. gives R x.second s (applied x.phi y)) (R p s ++ z ∷ []) (λ x m. gives_below R S s same x.second (applied x.phi y))
+    ∙ flat_map_agree (λ x. gives S x.second s (applied x.phi y)) (λ x. gives R x.second s (applied x.phi y)) (R p s ++ z ∷ [])
+    (λ x m. gives_below R S s same x.second (applied x.phi y))
     ∙ flat_map-append (λ x. gives R x.second s (applied x.phi y)) (R p s) (z ∷ [])
     ∙ ap (λ a. flat_map (λ x. gives R x.second s (applied x.phi y)) (R p s) ++ a) (append-nil (gives R z.second s (applied z.phi y))))
     ∙ sym (append_assoc (gives R p s y) (flat_map (λ x. gives R x.second s (applied x.phi y)) (R p s)) (gives R z.second s (applied z.phi y)))
@@ -82,7 +83,8 @@ unfolding gives
 gives_leader R p s y m i = In-append_left m (gives R p s y) _ i
 
 -- what a second gets
-pub gives_second : (R : ℕ → ℕ → List Record) (p s y : ℕ) (z : Record) (m : ℕ × ℕ) → In z (R p s) → In m (gives R z.second s (applied z.phi y)) → In m (gives R p (suc s) y)
+pub gives_second : (R : ℕ → ℕ → List Record) (p s y : ℕ) (z : Record) (m : ℕ × ℕ) → In z (R p s) → In m (gives R z.second s (applied z.phi y))
+    → In m (gives R p (suc s) y)
 unfolding gives
 gives_second R p s y z m i h = In-append_right m (gives R p s y) _ (In-flat_map (λ x. gives R x.second s (applied x.phi y)) m z (R p s) i h)
 
@@ -91,7 +93,8 @@ unfolding gives
 gives_now R p y = inl refl
 
 -- one that nothing names gets nothing
-pub gives_unnamed : (R : ℕ → ℕ → List Record) (p : ℕ) → ((q s : ℕ) (x : Record) → In x (R q s) → x.second ≡ p → ⊥) → (d q y : ℕ) (m : ℕ × ℕ) → (q ≡ p → ⊥) → In m (gives R q d y) → m.0 ≡ p → ⊥
+pub gives_unnamed : (R : ℕ → ℕ → List Record) (p : ℕ) → ((q s : ℕ) (x : Record) → In x (R q s) → x.second ≡ p → ⊥) → (d q y : ℕ) (m : ℕ × ℕ) → (q ≡ p → ⊥)
+    → In m (gives R q d y) → m.0 ≡ p → ⊥
 unfolding gives
 gives_unnamed R p others zero q y m n (inl e) same = n (sym (ap (λ (a : ℕ × ℕ). a.0) e) ∙ same)
 gives_unnamed R p others zero q y m n (inr i) same = i
@@ -104,7 +107,8 @@ gives_unnamed R p others (suc s) q y m n i same = elim (In-append m (gives R q s
 pub finds_agree : (own now : ℕ → Phi) (js : List ℕ) → ((j : ℕ) → In j js → now j ≡ own j) → (y : ℕ) → finds now js y ≡ finds own js y
 unfolding finds
 finds_agree own now [] h y = refl
-finds_agree own now (j ∷ js) h y = ap (λ z. (j, y) ∷ finds now js (applied z y)) (h j (inl refl)) ∙ ap (λ z. (j, y) ∷ z) (finds_agree own now js (λ i m. h i (inr m)) (applied (own j) y))
+finds_agree own now (j ∷ js) h y = ap (λ z. (j, y) ∷ finds now js (applied z y)) (h j (inl refl))
+    ∙ ap (λ z. (j, y) ∷ z) (finds_agree own now js (λ i m. h i (inr m)) (applied (own j) y))
 
 pub leaves_agree : (own now : ℕ → Phi) (js : List ℕ) → ((j : ℕ) → In j js → now j ≡ own j) → (y : ℕ) → leaves now js y ≡ leaves own js y
 unfolding leaves

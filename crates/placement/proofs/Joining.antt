@@ -24,7 +24,8 @@ joint_is : (r : ℕ) (x e : Request) (h : Phi) → joint r x e ≡ Some h → (c
 unfolding joint
 joint_is r x e h s = go (nat_lt e.marks r && (e.word == x.word)) refl s
   where
-    go : (b : Bool) → (nat_lt e.marks r && (e.word == x.word)) ≡ b → (if b then composed e.phi x.phi else None) ≡ Some h → (composed e.phi x.phi ≡ Some h) × (e.word ≡ x.word) × (e.marks < r)
+    go : (b : Bool) → (nat_lt e.marks r && (e.word == x.word)) ≡ b → (if b then composed e.phi x.phi else None) ≡ Some h
+        → (composed e.phi x.phi ≡ Some h) × (e.word ≡ x.word) × (e.marks < r)
     go true t f = let a = and_parts (nat_lt e.marks r) (e.word == x.word) t in (f, eqb-true e.word x.word a.1, ltb-true e.marks r a.0)
     go false t f = cc
 
@@ -51,7 +52,17 @@ combine_joins r x (e ∷ es) j s = go (combine_joins r x es) (joint r x e) refl 
         }
 
     go : ((i : Combination) → combined_in r x es ≡ Some i → Joins r x es i) → (o : Option Phi) → joint r x e ≡ o
-        → elim o [ Some h ↦ Some (record { queue = merged e h ∷ es; made = record { leader = e.leader; phi = e.phi; second = x.leader } }) | None ↦ queues.behind e (combined_in r x es) ] ≡ Some j → Joins r x (e ∷ es) j
+        → elim o [
+          | Some h ↦ Some (record {
+            queue = merged e h ∷ es;
+            made = record {
+              leader = e.leader;
+              phi = e.phi;
+              second = x.leader;
+            };
+          })
+          | None ↦ queues.behind e (combined_in r x es)
+        ] ≡ Some j → Joins r x (e ∷ es) j
     go rec None t f = deeper (combined_in r x es) rec f
     go rec (Some h) t f =
         let a = joint_is r x e h t in
@@ -67,10 +78,14 @@ taken_is : (r : ℕ) (x y : Request) (q : List Request) → combined_in r x (y �
 unfolding combined_in
 taken_is r x y q = refl
 
-taken_now : (r : ℕ) (x y e : Request) (q : List Request) (h : Phi) → y ≡ e → taken r x y q (Some h) ≡ Some (record { queue = merged e h ∷ q; made = record { leader = e.leader; phi = e.phi; second = x.leader } })
+taken_now : (r : ℕ) (x y e : Request) (q : List Request) (h : Phi) → y ≡ e → taken r x y q (Some h) ≡ Some (record {
+  queue = merged e h ∷ q;
+  made = record { leader = e.leader; phi = e.phi; second = x.leader };
+})
 taken_now r x y e q h s = λ i. Some (record { queue = merged (s i) h ∷ q; made = record { leader = (s i).leader; phi = (s i).phi; second = x.leader } })
 
-pub combine_at : (r : ℕ) (x : Request) (q : List Request) (i : ℕ) (e : Request) (h : Phi) → i < length q → e ≡ get_or q i e → ((j : ℕ) (d : Request) → j < i → joint r x (get_or q j d) ≡ None) → joint r x e ≡ Some h
+pub combine_at : (r : ℕ) (x : Request) (q : List Request) (i : ℕ) (e : Request) (h : Phi) → i < length q → e ≡ get_or q i e
+    → ((j : ℕ) (d : Request) → j < i → joint r x (get_or q j d) ≡ None) → joint r x e ≡ Some h
     → combined_in r x q ≡ Some (record { queue = set q i (merged e h); made = record { leader = e.leader; phi = e.phi; second = x.leader } })
 combine_at r x [] i e h l at before f = absurd (omega arith)
 combine_at r x (y ∷ q) zero e h l at before f = taken_is r x y q ∙ ap (taken r x y q) (ap (joint r x) (sym at) ∙ f) ∙ taken_now r x y e q h (sym at)
@@ -78,7 +93,8 @@ combine_at r x (y ∷ q) (suc i) e h l at before f =
     taken_is r x y q ∙ ap (taken r x y q) (before 0 y (omega arith))
     ∙ ap (queues.behind y) (combine_at r x q i e h (omega arith) at (λ j d m. before (suc j) d (omega arith)) f)
 
-pub combine_none : (r : ℕ) (x : Request) (q : List Request) → ((j : ℕ) (d : Request) → j < length q → joint r x (get_or q j d) ≡ None) → combined_in r x q ≡ None
+pub combine_none : (r : ℕ) (x : Request) (q : List Request) → ((j : ℕ) (d : Request) → j < length q → joint r x (get_or q j d) ≡ None)
+    → combined_in r x q ≡ None
 unfolding combined_in
 combine_none r x [] h = refl
 combine_none r x (y ∷ q) h =
@@ -86,7 +102,8 @@ combine_none r x (y ∷ q) h =
     ∙ ap (queues.behind y) (combine_none r x q (λ j d l. h (suc j) d (omega arith)))
 
 -- the combination at an output, where a record is free
-pub combination_joins : (b r : ℕ) (x : Request) (q : List Request) (records : List Record) (j : Combination) → combination b r x q records ≡ Some j → Joins r x q j
+pub combination_joins : (b r : ℕ) (x : Request) (q : List Request) (records : List Record) (j : Combination) → combination b r x q records ≡ Some j
+    → Joins r x q j
 combination_joins b r x q records j f = go (nat_lt (length records) b) f
   where
     go : (free : Bool) → (if free then combined_in r x q else None) ≡ Some j → Joins r x q j

@@ -1,5 +1,4 @@
 pub mod Algebra
-pub mod Places
 pub mod Giving
 pub mod Records
 pub mod Joining

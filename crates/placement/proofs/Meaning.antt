@@ -16,14 +16,15 @@ use Rattle.placement.specs.Roles.{Role, Idle, Asking, Told, Placed, Unnamed}
 use Rattle.placement.specs.Changes.{ServingExecutesTheGroup, ServingEndsTheGroup}
 use Rattle.placement.specs.Meaning.{RequestMeans, ReplyMeans, Means, Groups, execute_all, joined}
 use Rattle.placement.proofs.Algebra.{composed_law, composed_in_range}
-use Rattle.placement.proofs.Places.{put2_same, put2_other, In-put2, put_same, put_other, In-append, In-append_left, In-append_right, Distinct-append}
+use Rattle.messages.proofs.Places.{put2_same, put2_other, In-put2, put_same, put_other, In-append, In-append_left, In-append_right, Distinct-append}
 use Rattle.placement.proofs.Giving.{finds-append, leaves-append, gives_frame, gives_below, gives_further, gives_more, gives_leader, gives_second, gives_unnamed, finds_agree, leaves_agree, leaves_one, finds_one, gives_first, gives_leads, In-finds}
 use Rattle.placement.proofs.Records.{In-records_on, records_other_stage, records_push_other, records_push_same, records_drop_other, records_path}
 use Rattle.placement.proofs.Roles.{others_request}
 use Rattle.placement.proofs.Executing.{executed_other, executed_owed}
 
 -- a leader is in its group
-pub request_led : (own : ℕ → Phi) (word : ℕ → ℕ) (group : ℕ → List ℕ) (R : ℕ → ℕ → List Record) (d : ℕ) (x : Request) → RequestMeans own word group R d x → In x.leader (group x.leader)
+pub request_led : (own : ℕ → Phi) (word : ℕ → ℕ) (group : ℕ → List ℕ) (R : ℕ → ℕ → List Record) (d : ℕ) (x : Request) → RequestMeans own word group R d x
+    → In x.leader (group x.leader)
 request_led own word group R d x h = In-finds own (group x.leader) 0 (x.leader, 0) (subst (In (x.leader, 0)) (h.answers 0) (gives_leads R x.leader d 0))
 
 -- the joined groups
@@ -50,7 +51,8 @@ from_joined group p q i j n m = go (cases_eq i p) (cases_eq i q)
     go (inr a) (inl e) = absurd (subst (In j) (ap (joined group p q) e ∙ joined_second group p q) m)
     go (inr a) (inr b) = inr (a, b, subst (In j) (joined_other group p q i a b) m)
 
-pub groups_joined : (word : ℕ → ℕ) (open_now : ℕ → Bool) (group : ℕ → List ℕ) (owed : ℕ → Option ℕ) (p q : ℕ) → Groups word open_now group owed → (p ≡ q → ⊥) → word q ≡ word p → In p (group p) → In q (group q) → Groups word open_now (joined group p q) owed
+pub groups_joined : (word : ℕ → ℕ) (open_now : ℕ → Bool) (group : ℕ → List ℕ) (owed : ℕ → Option ℕ) (p q : ℕ) → Groups word open_now group owed → (p ≡ q → ⊥)
+    → word q ≡ word p → In p (group p) → In q (group q) → Groups word open_now (joined group p q) owed
 groups_joined word open_now group owed p q ok n same mp mq = record {
   opened = λ i j m. elim (from_joined group p q i j n m) [
     | inl h ↦ elim h.1 [ inl a ↦ ok.opened p j a | inr b ↦ ok.opened q j b ]
@@ -68,7 +70,8 @@ groups_joined word open_now group owed p q ok n same mp mq = record {
     From : ℕ → ℕ → Type 0
     From i j = ((i ≡ p) × (In j (group p) ⊎ In j (group q))) ⊎ ((i ≡ p → ⊥) × (i ≡ q → ⊥) × In j (group i))
 
-    go : (i l j : ℕ) → ((i ≡ p) × (In j (group p) ⊎ In j (group q))) ⊎ ((i ≡ p → ⊥) × (i ≡ q → ⊥) × In j (group i)) → ((l ≡ p) × (In j (group p) ⊎ In j (group q))) ⊎ ((l ≡ p → ⊥) × (l ≡ q → ⊥) × In j (group l)) → i ≡ l
+    go : (i l j : ℕ) → ((i ≡ p) × (In j (group p) ⊎ In j (group q))) ⊎ ((i ≡ p → ⊥) × (i ≡ q → ⊥) × In j (group i))
+        → ((l ≡ p) × (In j (group p) ⊎ In j (group q))) ⊎ ((l ≡ p → ⊥) × (l ≡ q → ⊥) × In j (group l)) → i ≡ l
     go i l j (inl a) (inl b) = a.0 ∙ sym b.0
     go i l j (inl a) (inr b) = absurd (elim a.1 [ inl x ↦ b.0 (ok.home l p j b.2 x) | inr y ↦ b.1 (ok.home l q j b.2 y) ])
     go i l j (inr a) (inl b) = absurd (elim b.1 [ inl x ↦ a.0 (ok.home i p j a.2 x) | inr y ↦ a.1 (ok.home i q j a.2 y) ])
@@ -78,14 +81,16 @@ groups_joined word open_now group owed p q ok n same mp mq = record {
     to_p j (inl a) = ok.one_word p j p a mp
     to_p j (inr b) = ok.one_word q j q b mq ∙ same
 
-    word_go : (i l j : ℕ) → ((i ≡ p) × (In l (group p) ⊎ In l (group q))) ⊎ ((i ≡ p → ⊥) × (i ≡ q → ⊥) × In l (group i)) → ((i ≡ p) × (In j (group p) ⊎ In j (group q))) ⊎ ((i ≡ p → ⊥) × (i ≡ q → ⊥) × In j (group i)) → word l ≡ word j
+    word_go : (i l j : ℕ) → ((i ≡ p) × (In l (group p) ⊎ In l (group q))) ⊎ ((i ≡ p → ⊥) × (i ≡ q → ⊥) × In l (group i))
+        → ((i ≡ p) × (In j (group p) ⊎ In j (group q))) ⊎ ((i ≡ p → ⊥) × (i ≡ q → ⊥) × In j (group i)) → word l ≡ word j
     word_go i l j (inl a) (inl b) = to_p l a.1 ∙ sym (to_p j b.1)
     word_go i l j (inl a) (inr b) = absurd (b.0 a.0)
     word_go i l j (inr a) (inl b) = absurd (a.0 b.0)
     word_go i l j (inr a) (inr b) = ok.one_word i l j a.2 b.2
 
     apart : (i : ℕ) → (i ≡ p) ⊎ (i ≡ p → ⊥) → (i ≡ q) ⊎ (i ≡ q → ⊥) → Distinct (joined group p q i)
-    apart i (inl e) b = subst Distinct (sym (ap (joined group p q) e ∙ joined_first group p q n)) (Distinct-append (group p) (group q) (ok.distinct p) (ok.distinct q) (λ j x y. n (ok.home p q j x y)))
+    apart i (inl e) b = subst Distinct (sym (ap (joined group p q) e ∙ joined_first group p q n))
+        (Distinct-append (group p) (group q) (ok.distinct p) (ok.distinct q) (λ j x y. n (ok.home p q j x y)))
     apart i (inr a) (inl e) = subst Distinct (sym (ap (joined group p q) e ∙ joined_second group p q)) tt
     apart i (inr a) (inr b) = subst Distinct (sym (joined_other group p q i a b)) (ok.distinct i)
 
@@ -99,7 +104,8 @@ request_further own word group R d x y h none el ew ep = record {
   answers = λ v. ap (λ l. gives R l (suc d) v) el ∙ gives_further R x.leader d v none ∙ h.answers v ∙ ap (λ l. finds own (group l) v) (sym el);
 }
 
-pub means_pop_request : (own : ℕ → Phi) (word : ℕ → ℕ) (path : ℕ → ℕ → ℕ) (group : ℕ → List ℕ) (owed : ℕ → Option ℕ) (net : Net) (d w : ℕ) (x : Request) (rest : List Request)
+pub means_pop_request : (own : ℕ → Phi) (word : ℕ → ℕ) (path : ℕ → ℕ → ℕ) (group : ℕ → List ℕ) (owed : ℕ → Option ℕ) (net : Net) (d w : ℕ) (x : Request)
+    (rest : List Request)
     → Means own word path group owed net → net.requests d w ≡ x ∷ rest → Means own word path group owed (put_requests net d w rest)
 means_pop_request own word path group owed net d w x rest ok e = record {
   requests = λ d' w' y m. elim (In-put2 net.requests d w rest d' w' y m) [
@@ -110,7 +116,8 @@ means_pop_request own word path group owed net d w x rest ok e = record {
 }
 
 pub means_push_request : (own : ℕ → Phi) (word : ℕ → ℕ) (path : ℕ → ℕ → ℕ) (group : ℕ → List ℕ) (owed : ℕ → Option ℕ) (net : Net) (d w : ℕ) (x : Request)
-    → Means own word path group owed net → RequestMeans own word group (records_on path net.records) d x → Means own word path group owed (put_requests net d w (net.requests d w ++ x ∷ []))
+    → Means own word path group owed net → RequestMeans own word group (records_on path net.records) d x
+    → Means own word path group owed (put_requests net d w (net.requests d w ++ x ∷ []))
 means_push_request own word path group owed net d w x ok h = record {
   requests = λ d' w' y m. elim (In-put2 net.requests d w (net.requests d w ++ x ∷ []) d' w' y m) [
     | inl g ↦ rw g.0 (elim (In-append y (net.requests d w) (x ∷ []) g.2) [
@@ -125,7 +132,8 @@ means_push_request own word path group owed net d w x ok h = record {
 
 -- another leader's request keeps its meaning
 request_frame : (own : ℕ → Phi) (word : ℕ → ℕ) (group group' : ℕ → List ℕ) (R S : ℕ → ℕ → List Record) (p d : ℕ) (x : Request)
-    → ((q s : ℕ) → (q ≡ p → ⊥) → S q s ≡ R q s) → ((q s : ℕ) (z : Record) → In z (R q s) → z.second ≡ p → ⊥) → (x.leader ≡ p → ⊥) → group' x.leader ≡ group x.leader
+    → ((q s : ℕ) → (q ≡ p → ⊥) → S q s ≡ R q s) → ((q s : ℕ) (z : Record) → In z (R q s) → z.second ≡ p → ⊥) → (x.leader ≡ p → ⊥)
+    → group' x.leader ≡ group x.leader
     → RequestMeans own word group R d x → RequestMeans own word group' S d x
 request_frame own word group group' R S p d x same others n e h = record {
   word_is = h.word_is;
@@ -135,7 +143,8 @@ request_frame own word group group' R S p d x same others n e h = record {
 }
 
 -- a request, that nothing names, is combined with an entry
-pub means_combine : (own : ℕ → Phi) (word : ℕ → ℕ) (path : ℕ → ℕ → ℕ) (group : ℕ → List ℕ) (owed : ℕ → Option ℕ) (k : ℕ) (role : ℕ → Role) (net : Net) (s w : ℕ) (front behind : List Request) (x y a : Request) (z : Record)
+pub means_combine : (own : ℕ → Phi) (word : ℕ → ℕ) (path : ℕ → ℕ → ℕ) (group : ℕ → List ℕ) (owed : ℕ → Option ℕ) (k : ℕ) (role : ℕ → Role) (net : Net)
+    (s w : ℕ) (front behind : List Request) (x y a : Request) (z : Record)
     → Placed k path role net → Means own word path group owed net → net.requests (suc s) w ≡ front ++ x ∷ behind
     → Unnamed net a.leader → RequestMeans own word group (records_on path net.records) s a
     → composed x.phi a.phi ≡ Some y.phi → y.leader ≡ x.leader → y.word ≡ x.word
@@ -151,34 +160,44 @@ means_combine own word path group owed k role net s w front behind x y a z place
     let lone : Unnamed (put_requests net (suc s) w (front ++ behind)) p = others_request k path role net (suc s) w front behind x placed e in
     let mine : RequestMeans own word group R (suc s) x = ok.requests (suc s) w x here in
     let same : (i t : ℕ) → (i ≡ p → ⊥) → S i t ≡ R i t = (λ i t m. records_push_other path net.records s w z i t (λ f. m (f ∙ zl))) in
-    let others : (i t : ℕ) (b : Record) → In b (R i t) → b.second ≡ p → ⊥ = (λ i t b m. lone.records t (path i (suc t)) b ((In-records_on path net.records i t b m).0)) in
-    let more : S p s ≡ R p s ++ z ∷ [] = ap (λ l. S l s) (sym zl) ∙ records_push_same path net.records s w z (ap (λ l. path l (suc s)) zl ∙ (placed.requests (suc s) w x here).wire) ∙ ap (λ l. R l s ++ z ∷ []) zl in
+    let others : (i t : ℕ) (b : Record) → In b (R i t) → b.second ≡ p
+    → ⊥ = (λ i t b m. lone.records t (path i (suc t)) b ((In-records_on path net.records i t b m).0)) in
+    let more : S p s ≡ R p s ++ z ∷ [] = ap (λ l. S l s) (sym zl)
+    ∙ records_push_same path net.records s w z (ap (λ l. path l (suc s)) zl ∙ (placed.requests (suc s) w x here).wire) ∙ ap (λ l. R l s ++ z ∷ []) zl in
     let below : (i t : ℕ) → t < s → S i t ≡ R i t = (λ i t l. records_other_stage path net.records s w _ i t (λ f. omega arith)) in
-    let keep : (d : ℕ) (b : Request) → (b.leader ≡ p → ⊥) → (b.leader ≡ q → ⊥) → RequestMeans own word group R d b → RequestMeans own word (joined group p q) S d b
+    let keep : (d : ℕ) (b : Request) → (b.leader ≡ p → ⊥) → (b.leader ≡ q → ⊥) → RequestMeans own word group R d b
+    → RequestMeans own word (joined group p q) S d b
     = (λ d b m o h. request_frame own word group (joined group p q) R S p d b same others m (joined_other group p q b.leader m o) h) in
     let entry : RequestMeans own word (joined group p q) S (suc s) y = record {
       word_is = yw ∙ mine.word_is ∙ ap word (sym yl);
       in_range = composed_in_range x.phi a.phi y.phi mine.in_range ask.in_range law;
-      function = λ v. composed_law x.phi a.phi y.phi mine.in_range ask.in_range law v ∙ ask.function (applied x.phi v) ∙ ap (leaves own (group q)) (mine.function v) ∙ sym (leaves-append own (group p) (group q) v) ∙ ap (λ l. leaves own l v) (sym (ap (joined group p q) yl ∙ joined_first group p q n));
+      function = λ v. composed_law x.phi a.phi y.phi mine.in_range ask.in_range law v ∙ ask.function (applied x.phi v)
+          ∙ ap (leaves own (group q)) (mine.function v) ∙ sym (leaves-append own (group p) (group q) v)
+          ∙ ap (λ l. leaves own l v) (sym (ap (joined group p q) yl ∙ joined_first group p q n));
       answers = λ v. ap (λ l. gives S l (suc s) v) yl ∙ gives_more R S p s v z below more
-          ∙ ap₂ (λ b c. b ++ c) (mine.answers v) ((λ i. gives R (zs i) s (applied (zp i) v)) ∙ ask.answers (applied x.phi v) ∙ ap (finds own (group q)) (mine.function v))
+          ∙ ap₂ (λ b c. b ++ c) (mine.answers v)
+          ((λ i. gives R (zs i) s (applied (zp i) v)) ∙ ask.answers (applied x.phi v) ∙ ap (finds own (group q)) (mine.function v))
           ∙ sym (finds-append own (group p) (group q) v) ∙ ap (λ l. finds own l v) (sym (ap (joined group p q) yl ∙ joined_first group p q n));
     } in
     record {
       requests = λ d' w' b m. elim (In-put2 net.requests (suc s) w (front ++ y ∷ behind) d' w' b m) [
         | inl h ↦ rw h.0 (elim (In-append b front (y ∷ behind) h.2) [
           | inl o ↦ (let old : In b (net.requests (suc s) w) = rw e (In-append_left b front (x ∷ behind) o) in
-              keep (suc s) b (lone.requests (suc s) w b (rw (put2_same net.requests (suc s) w (front ++ behind)) (In-append_left b front behind o))) (free.requests (suc s) w b old) (ok.requests (suc s) w b old))
+              keep (suc s) b (lone.requests (suc s) w b (rw (put2_same net.requests (suc s) w (front ++ behind)) (In-append_left b front behind o)))
+              (free.requests (suc s) w b old) (ok.requests (suc s) w b old))
           | inr (inl f) ↦ subst (RequestMeans own word (joined group p q) S (suc s)) (sym f) entry
           | inr (inr o) ↦ (let old : In b (net.requests (suc s) w) = rw e (In-append_right b front (x ∷ behind) (inr o)) in
-              keep (suc s) b (lone.requests (suc s) w b (rw (put2_same net.requests (suc s) w (front ++ behind)) (In-append_right b front behind o))) (free.requests (suc s) w b old) (ok.requests (suc s) w b old))
+              keep (suc s) b (lone.requests (suc s) w b (rw (put2_same net.requests (suc s) w (front ++ behind)) (In-append_right b front behind o)))
+              (free.requests (suc s) w b old) (ok.requests (suc s) w b old))
         ])
-        | inr h ↦ keep d' b (lone.requests d' w' b (rw (put2_other net.requests (suc s) w (front ++ behind) d' w' h.0) h.1)) (free.requests d' w' b h.1) (ok.requests d' w' b h.1)
+        | inr h ↦ keep d' b (lone.requests d' w' b (rw (put2_other net.requests (suc s) w (front ++ behind) d' w' h.0) h.1)) (free.requests d' w' b h.1)
+            (ok.requests d' w' b h.1)
       ];
       replies = λ d' w' b m g i. ok.replies d' w' b m g (subst (In g) (gives_frame R S p same others d' b.leader b.value (lone.replies d' w' b m)) i);
     }
 
-pub means_pop_reply : (own : ℕ → Phi) (word : ℕ → ℕ) (path : ℕ → ℕ → ℕ) (group : ℕ → List ℕ) (owed : ℕ → Option ℕ) (net : Net) (d w : ℕ) (x : Reply) (rest : List Reply)
+pub means_pop_reply : (own : ℕ → Phi) (word : ℕ → ℕ) (path : ℕ → ℕ → ℕ) (group : ℕ → List ℕ) (owed : ℕ → Option ℕ) (net : Net) (d w : ℕ) (x : Reply)
+    (rest : List Reply)
     → Means own word path group owed net → net.replies d w ≡ x ∷ rest → Means own word path group owed (put_replies net d w rest)
 means_pop_reply own word path group owed net d w x rest ok e = record {
   requests = ok.requests;
@@ -189,7 +208,8 @@ means_pop_reply own word path group owed net d w x rest ok e = record {
 }
 
 pub means_push_reply : (own : ℕ → Phi) (word : ℕ → ℕ) (path : ℕ → ℕ → ℕ) (group : ℕ → List ℕ) (owed : ℕ → Option ℕ) (net : Net) (d w : ℕ) (x : Reply)
-    → Means own word path group owed net → ReplyMeans owed (records_on path net.records) d x → Means own word path group owed (put_replies net d w (net.replies d w ++ x ∷ []))
+    → Means own word path group owed net → ReplyMeans owed (records_on path net.records) d x
+    → Means own word path group owed (put_replies net d w (net.replies d w ++ x ∷ []))
 means_push_reply own word path group owed net d w x ok h = record {
   requests = ok.requests;
   replies = λ d' w' y m. elim (In-put2 net.replies d w (net.replies d w ++ x ∷ []) d' w' y m) [
@@ -202,8 +222,10 @@ means_push_reply own word path group owed net d w x ok h = record {
   ];
 }
 
-pub means_push_all : (own : ℕ → Phi) (word : ℕ → ℕ) (path : ℕ → ℕ → ℕ) (group : ℕ → List ℕ) (owed : ℕ → Option ℕ) (wire : ℕ → ℕ) (s : ℕ) (ys : List Reply) (net : Net)
-    → Means own word path group owed net → ((y : Reply) → In y ys → ReplyMeans owed (records_on path net.records) s y) → Means own word path group owed (push_all wire s ys net)
+pub means_push_all : (own : ℕ → Phi) (word : ℕ → ℕ) (path : ℕ → ℕ → ℕ) (group : ℕ → List ℕ) (owed : ℕ → Option ℕ) (wire : ℕ → ℕ) (s : ℕ) (ys : List Reply)
+    (net : Net)
+    → Means own word path group owed net → ((y : Reply) → In y ys → ReplyMeans owed (records_on path net.records) s y)
+    → Means own word path group owed (push_all wire s ys net)
 unfolding push_all
 means_push_all own word path group owed wire s [] net ok each = ok
 means_push_all own word path group owed wire s (y ∷ ys) net ok each =
@@ -217,7 +239,8 @@ means_drop own word path group owed net s w p ok free =
     let R : ℕ → ℕ → List Record = records_on path net.records in
     let S : ℕ → ℕ → List Record = records_on path (put2 net.records s w (records_but p (net.records s w))) in
     let same : (i t : ℕ) → (i ≡ p → ⊥) → S i t ≡ R i t = (λ i t m. records_drop_other path net.records s w p i t m) in
-    let others : (i t : ℕ) (b : Record) → In b (R i t) → b.second ≡ p → ⊥ = (λ i t b m. free.records t (path i (suc t)) b ((In-records_on path net.records i t b m).0)) in
+    let others : (i t : ℕ) (b : Record) → In b (R i t) → b.second ≡ p
+    → ⊥ = (λ i t b m. free.records t (path i (suc t)) b ((In-records_on path net.records i t b m).0)) in
     record {
       requests = λ d v b m. request_frame own word group group R S p d b same others (free.requests d v b m) refl (ok.requests d v b m);
       replies = λ d v b m g i. ok.replies d v b m g (subst (In g) (gives_frame R S p same others d b.leader b.value (free.replies d v b m)) i);
@@ -228,15 +251,23 @@ pub answers_mean : (path : ℕ → ℕ → ℕ) (owed : ℕ → Option ℕ) (rec
     → ReplyMeans owed (records_on path records) (suc s) x → path x.leader (suc s) ≡ w
     → (y : Reply) → In y (answers (records_of x.leader (records s w)) x) → ReplyMeans owed (records_on path (put2 records s w xs)) s y
 answers_mean path owed records s w x xs h on y (inl e) m i =
-    let below : (j t : ℕ) → t < s → records_on path (put2 records s w xs) j t ≡ records_on path records j t = (λ j t l. records_other_stage path records s w xs j t (λ f. omega arith)) in
-    h m (gives_leader (records_on path records) x.leader s x.value m (subst (In m) ((λ j. gives (records_on path (put2 records s w xs)) (e j).leader s (e j).value) ∙ gives_below (records_on path records) (records_on path (put2 records s w xs)) s below x.leader x.value) i))
+    let below : (j t : ℕ) → t < s
+    → records_on path (put2 records s w xs) j t ≡ records_on path records j t = (λ j t l. records_other_stage path records s w xs j t (λ f. omega arith)) in
+    h m (gives_leader (records_on path records) x.leader s x.value m
+    (subst (In m) ((λ j. gives (records_on path (put2 records s w xs)) (e j).leader s (e j).value)
+    ∙ gives_below (records_on path records) (records_on path (put2 records s w xs)) s below x.leader x.value) i))
 answers_mean path owed records s w x xs h on y (inr o) m i =
-    let below : (j t : ℕ) → t < s → records_on path (put2 records s w xs) j t ≡ records_on path records j t = (λ j t l. records_other_stage path records s w xs j t (λ f. omega arith)) in
+    let below : (j t : ℕ) → t < s
+    → records_on path (put2 records s w xs) j t ≡ records_on path records j t = (λ j t l. records_other_stage path records s w xs j t (λ f. omega arith)) in
     let z = from_map y (records_of x.leader (records s w)) o in
     h m (gives_second (records_on path records) x.leader s x.value z.0 m (subst (λ v. In z.0 (records_of x.leader (records s v))) (sym on) z.1)
-    (subst (In m) ((λ j. gives (records_on path (put2 records s w xs)) (z.2 j).leader s (z.2 j).value) ∙ gives_below (records_on path records) (records_on path (put2 records s w xs)) s below z.0.second (applied z.0.phi x.value)) i))
+    (subst (In m) ((λ j. gives (records_on path (put2 records s w xs)) (z.2 j).leader s (z.2 j).value)
+    ∙ gives_below (records_on path records) (records_on path (put2 records s w xs)) s below z.0.second (applied z.0.phi x.value)) i))
   where
-    from_map : (y : Reply) (rs : List Record) → In y (map (λ (z : Record). record { leader = z.second; value = applied z.phi x.value }) rs) → (z : Record) × In z rs × (y ≡ record { leader = z.second; value = applied z.phi x.value })
+    from_map : (y : Reply) (rs : List Record) → In y (map (λ (z : Record). record {
+      leader = z.second;
+      value = applied z.phi x.value;
+    }) rs) → (z : Record) × In z rs × (y ≡ record { leader = z.second; value = applied z.phi x.value })
     from_map y [] m = elim m [ ]
     from_map y (r ∷ rs) (inl e) = (r, inl refl, e)
     from_map y (r ∷ rs) (inr m) = let g = from_map y rs m in (g.0, inr g.1, g.2)
@@ -249,7 +280,9 @@ means_serve own word open_now path group f net d w x y ok grp h free yl yv =
     let a : ℕ = word p in
     let owed' : ℕ → Option ℕ = (execute_all own word f (group p)).owed in
     let others : Means own word path (put group p []) owed' net = record {
-      requests = λ d' w' b m. request_frame own word group (put group p []) R R p d' b (λ i t n. refl) (λ i t z j. free.records t (path i (suc t)) z ((In-records_on path net.records i t z j).0)) (free.requests d' w' b m) (put_other group p [] b.leader (free.requests d' w' b m)) (ok.requests d' w' b m);
+      requests = λ d' w' b m. request_frame own word group (put group p []) R R p d' b (λ i t n. refl)
+          (λ i t z j. free.records t (path i (suc t)) z ((In-records_on path net.records i t z j).0)) (free.requests d' w' b m)
+          (put_other group p [] b.leader (free.requests d' w' b m)) (ok.requests d' w' b m);
       replies = λ d' w' b m g i. let o = ok.replies d' w' b m g i in executed_other own word f (group p) g.0 (λ j. let n = grp.unserved p g.0 j in cc) ∙ o;
     } in
     means_push_reply own word path (put group p []) owed' net d w y others
@@ -275,15 +308,18 @@ groups_serve own word open_now group f p ok = record {
     ]
 
 -- p's reference ends: nothing names p any more, and p may refer to another word by another function
-pub means_change : (own own' : ℕ → Phi) (word word' : ℕ → ℕ) (open_now : ℕ → Bool) (path path' : ℕ → ℕ → ℕ) (group : ℕ → List ℕ) (owed owed' : ℕ → Option ℕ) (net : Net) (p : ℕ)
+pub means_change : (own own' : ℕ → Phi) (word word' : ℕ → ℕ) (open_now : ℕ → Bool) (path path' : ℕ → ℕ → ℕ) (group : ℕ → List ℕ) (owed owed' : ℕ → Option ℕ)
+    (net : Net) (p : ℕ)
     → Means own word path group owed net → Unnamed net p → ((i : ℕ) → In p (group i) → ⊥)
-    → ((q : ℕ) → (q ≡ p → ⊥) → own' q ≡ own q) → ((q : ℕ) → (q ≡ p → ⊥) → word' q ≡ word q) → ((q d : ℕ) → (q ≡ p → ⊥) → path' q d ≡ path q d) → ((q : ℕ) → (q ≡ p → ⊥) → owed' q ≡ owed q)
+    → ((q : ℕ) → (q ≡ p → ⊥) → own' q ≡ own q) → ((q : ℕ) → (q ≡ p → ⊥) → word' q ≡ word q) → ((q d : ℕ) → (q ≡ p → ⊥) → path' q d ≡ path q d)
+    → ((q : ℕ) → (q ≡ p → ⊥) → owed' q ≡ owed q)
     → Means own' word' path' group owed' net
 means_change own own' word word' open_now path path' group owed owed' net p ok free wire_after same_own same_word same_path same_owed =
     let R : ℕ → ℕ → List Record = records_on path net.records in
     let S : ℕ → ℕ → List Record = records_on path' net.records in
     let same : (i t : ℕ) → (i ≡ p → ⊥) → S i t ≡ R i t = (λ i t n. records_path path path' net.records i t (same_path i (suc t) n)) in
-    let others : (i t : ℕ) (b : Record) → In b (R i t) → b.second ≡ p → ⊥ = (λ i t b m. free.records t (path i (suc t)) b ((In-records_on path net.records i t b m).0)) in
+    let others : (i t : ℕ) (b : Record) → In b (R i t) → b.second ≡ p
+    → ⊥ = (λ i t b m. free.records t (path i (suc t)) b ((In-records_on path net.records i t b m).0)) in
     let agree : (i j : ℕ) → In j (group i) → own' j ≡ own j = (λ i j m. same_own j (λ e. wire_after i (subst (λ l. In l (group i)) e m))) in
     record {
       requests = λ d w x m. let h = ok.requests d w x m in let n = free.requests d w x m in record {
@@ -297,7 +333,8 @@ means_change own own' word word' open_now path path' group owed owed' net p ok f
           same_owed g.0 (gives_unnamed R p others d x.leader x.value g n j) ∙ ok.replies d w x m g j;
     }
 
-pub groups_change : (word word' : ℕ → ℕ) (open_now open' : ℕ → Bool) (group : ℕ → List ℕ) (owed owed' : ℕ → Option ℕ) (p : ℕ) → Groups word open_now group owed → ((i : ℕ) → In p (group i) → ⊥)
+pub groups_change : (word word' : ℕ → ℕ) (open_now open' : ℕ → Bool) (group : ℕ → List ℕ) (owed owed' : ℕ → Option ℕ) (p : ℕ)
+    → Groups word open_now group owed → ((i : ℕ) → In p (group i) → ⊥)
     → ((q : ℕ) → (q ≡ p → ⊥) → word' q ≡ word q) → ((q : ℕ) → (q ≡ p → ⊥) → owed' q ≡ owed q) → ((q : ℕ) → (q ≡ p → ⊥) → open' q ≡ open_now q)
     → Groups word' open' group owed'
 groups_change word word' open_now open' group owed owed' p ok wire_after same_word same_owed same_open = record {
@@ -312,9 +349,14 @@ groups_change word word' open_now open' group owed owed' p ok wire_after same_wo
     away i j m e = wire_after i (subst (λ l. In l (group i)) e m)
 
 -- p issues a reference
-pub groups_issue : (word : ℕ → ℕ) (open_now : ℕ → Bool) (group : ℕ → List ℕ) (owed : ℕ → Option ℕ) (p : ℕ) → Groups word open_now group owed → open_now p ≡ false → owed p ≡ None → Groups word (put open_now p true) (put group p (p ∷ [])) owed
+pub groups_issue : (word : ℕ → ℕ) (open_now : ℕ → Bool) (group : ℕ → List ℕ) (owed : ℕ → Option ℕ) (p : ℕ) → Groups word open_now group owed
+    → open_now p ≡ false → owed p ≡ None → Groups word (put open_now p true) (put group p (p ∷ [])) owed
 groups_issue word open_now group owed p ok shut none = record {
-  opened = λ i j m. elim (from i j m) [ inl h ↦ ap (put open_now p true) h.1 ∙ put_same open_now p true | inr h ↦ put_other open_now p true j (away i j h.1) ∙ ok.opened i j h.1 ];
+  opened = λ i j m. elim (from i j m) [
+    | inl h ↦ ap (put open_now p true) h.1 ∙ put_same open_now p true
+    | inr h ↦ put_other open_now p true j (away i j h.1)
+        ∙ ok.opened i j h.1
+  ];
   unserved = λ i j m. elim (from i j m) [ inl h ↦ ap owed h.1 ∙ none | inr h ↦ ok.unserved i j h.1 ];
   one_word = λ i l j m o. elim (from i l m) [
     | inl h ↦ elim (from i j o) [ inl g ↦ ap word (h.1 ∙ sym g.1) | inr g ↦ absurd (g.0 h.0) ]
@@ -348,7 +390,9 @@ means_issue own word path group owed net p w x ok free xl xw xp xr =
     let gl : group' x.leader ≡ p ∷ [] = ap group' xl ∙ put_same group p (p ∷ []) in
     means_push_request own word path group' owed net 0 w x
     (record {
-      requests = λ d v b m. request_frame own word group group' R R p d b (λ i t n. refl) (λ i t z j. free.records t (path i (suc t)) z ((In-records_on path net.records i t z j).0)) (free.requests d v b m) (put_other group p (p ∷ []) b.leader (free.requests d v b m)) (ok.requests d v b m);
+      requests = λ d v b m. request_frame own word group group' R R p d b (λ i t n. refl)
+          (λ i t z j. free.records t (path i (suc t)) z ((In-records_on path net.records i t z j).0)) (free.requests d v b m)
+          (put_other group p (p ∷ []) b.leader (free.requests d v b m)) (ok.requests d v b m);
       replies = ok.replies;
     })
     (record {
@@ -359,7 +403,8 @@ means_issue own word path group owed net p w x ok free xl xw xp xr =
     })
 
 -- where every processor is idle, there is nothing to mean
-pub means_nothing : (k : ℕ) (path : ℕ → ℕ → ℕ) (role : ℕ → Role) (net : Net) (own : ℕ → Phi) (word : ℕ → ℕ) (path' : ℕ → ℕ → ℕ) (group : ℕ → List ℕ) (owed : ℕ → Option ℕ) → Placed k path role net → ((p : ℕ) → role p ≡ Idle) → Means own word path' group owed net
+pub means_nothing : (k : ℕ) (path : ℕ → ℕ → ℕ) (role : ℕ → Role) (net : Net) (own : ℕ → Phi) (word : ℕ → ℕ) (path' : ℕ → ℕ → ℕ) (group : ℕ → List ℕ)
+    (owed : ℕ → Option ℕ) → Placed k path role net → ((p : ℕ) → role p ≡ Idle) → Means own word path' group owed net
 means_nothing k path role net own word path' group owed ok idle = record {
   requests = λ d w x m. absurd (let h = (ok.requests d w x m).asks in let c : Asking d ≡ Idle = sym h ∙ idle x.leader in cc);
   replies = λ d w x m. absurd (let h = (ok.replies d w x m).told in let c : Told d ≡ Idle = sym h ∙ idle x.leader in cc);

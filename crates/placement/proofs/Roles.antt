@@ -10,7 +10,7 @@ use Rattle.messages.specs.Queues.{applied, answers, records_but}
 use Rattle.messages.specs.Network.{Net, put_requests, put_records, put_replies}
 use Rattle.messages.specs.Moves.{push_all}
 use Rattle.placement.specs.Roles.{Role, Idle, Asking, Waiting, Told, depth, Placed, RequestPlaced, RecordPlaced, ReplyPlaced, Unnamed, told_all}
-use Rattle.placement.proofs.Places.{In-put2, each_put2, put_same, put_other, In-append, In-append_left, In-append_right, In-filter, In-map, ApartBy-push, ApartBy-filter, ApartBy-same, ApartBy-middle}
+use Rattle.messages.proofs.Places.{In-put2, each_put2, put_same, put_other, In-append, In-append_left, In-append_right, In-filter, In-map, ApartBy-push, ApartBy-filter, ApartBy-same, ApartBy-middle}
 
 -- the first request of a place goes
 pub pop_request : (k : ℕ) (path : ℕ → ℕ → ℕ) (role : ℕ → Role) (net : Net) (d w : ℕ) (x : Request) (rest : List Request)
@@ -22,7 +22,8 @@ pop_request k path role net d w x rest ok e = record {
   ];
   records = ok.records;
   replies = ok.replies;
-  requests_apart = each_put2 (ApartBy (λ (z : Request). z.leader)) net.requests d w rest ((subst (ApartBy (λ (z : Request). z.leader)) e (ok.requests_apart d w)).1) ok.requests_apart;
+  requests_apart = each_put2 (ApartBy (λ (z : Request). z.leader)) net.requests d w rest
+      ((subst (ApartBy (λ (z : Request). z.leader)) e (ok.requests_apart d w)).1) ok.requests_apart;
   records_apart = ok.records_apart;
   replies_apart = ok.replies_apart;
 }
@@ -45,13 +46,16 @@ pop_request_unnamed k path role net d w x rest ok e =
       replies = λ d' w' y m same. let q = ok.replies d' w' y m in let f = sym q.told ∙ ap role same ∙ p.asks in cc;
     }
 
-keep_request : (k : ℕ) (path : ℕ → ℕ → ℕ) (role : ℕ → Role) (p : ℕ) (r : Role) (d w : ℕ) (y : Request) → RequestPlaced k path role d w y → (y.leader ≡ p → ⊥) → RequestPlaced k path (put role p r) d w y
+keep_request : (k : ℕ) (path : ℕ → ℕ → ℕ) (role : ℕ → Role) (p : ℕ) (r : Role) (d w : ℕ) (y : Request) → RequestPlaced k path role d w y → (y.leader ≡ p → ⊥)
+    → RequestPlaced k path (put role p r) d w y
 keep_request k path role p r d w y h n = record { asks = put_other role p r y.leader n ∙ h.asks; wire = h.wire; deep = h.deep }
 
-keep_reply : (k : ℕ) (path : ℕ → ℕ → ℕ) (role : ℕ → Role) (p : ℕ) (r : Role) (d w : ℕ) (y : Reply) → ReplyPlaced k path role d w y → (y.leader ≡ p → ⊥) → ReplyPlaced k path (put role p r) d w y
+keep_reply : (k : ℕ) (path : ℕ → ℕ → ℕ) (role : ℕ → Role) (p : ℕ) (r : Role) (d w : ℕ) (y : Reply) → ReplyPlaced k path role d w y → (y.leader ≡ p → ⊥)
+    → ReplyPlaced k path (put role p r) d w y
 keep_reply k path role p r d w y h n = record { told = put_other role p r y.leader n ∙ h.told; wire = h.wire; deep = h.deep }
 
-keep_record : (k : ℕ) (path : ℕ → ℕ → ℕ) (role : ℕ → Role) (p : ℕ) (r : Role) (s w : ℕ) (y : Record) → RecordPlaced k path role s w y → (y.second ≡ p → ⊥) → (y.leader ≡ p → s < depth r) → RecordPlaced k path (put role p r) s w y
+keep_record : (k : ℕ) (path : ℕ → ℕ → ℕ) (role : ℕ → Role) (p : ℕ) (r : Role) (s w : ℕ) (y : Record) → RecordPlaced k path role s w y → (y.second ≡ p → ⊥)
+    → (y.leader ≡ p → s < depth r) → RecordPlaced k path (put role p r) s w y
 keep_record k path role p r s w y h n l = record {
   waits = put_other role p r y.second n ∙ h.waits;
   beyond = elim (cases_eq y.leader p) [
@@ -65,7 +69,8 @@ keep_record k path role p r s w y h n l = record {
 
 -- a request comes to the end of a place, of a processor that nothing names
 pub push_request : (k : ℕ) (path : ℕ → ℕ → ℕ) (role : ℕ → Role) (net : Net) (d w : ℕ) (x : Request)
-    → Placed k path role net → Unnamed net x.leader → ((s w : ℕ) (z : Record) → In z (net.records s w) → z.leader ≡ x.leader → s < d) → path x.leader d ≡ w → d ≤ k
+    → Placed k path role net → Unnamed net x.leader → ((s w : ℕ) (z : Record) → In z (net.records s w) → z.leader ≡ x.leader → s < d) → path x.leader d ≡ w
+    → d ≤ k
     → Placed k path (put role x.leader (Asking d)) (put_requests net d w (net.requests d w ++ x ∷ []))
 push_request k path role net d w x ok free below on deep =
     let role' = put role x.leader (Asking d) in
@@ -80,14 +85,16 @@ push_request k path role net d w x ok free below on deep =
       ];
       records = λ s w' y m. keep_record k path role x.leader (Asking d) s w' y (ok.records s w' y m) (free.records s w' y m) (below s w' y m);
       replies = λ d' w' y m. keep_reply k path role x.leader (Asking d) d' w' y (ok.replies d' w' y m) (free.replies d' w' y m);
-      requests_apart = each_put2 (ApartBy (λ (z : Request). z.leader)) net.requests d w _ (ApartBy-push (λ (z : Request). z.leader) (net.requests d w) x (ok.requests_apart d w) (λ y m. free.requests d w y m)) ok.requests_apart;
+      requests_apart = each_put2 (ApartBy (λ (z : Request). z.leader)) net.requests d w _
+          (ApartBy-push (λ (z : Request). z.leader) (net.requests d w) x (ok.requests_apart d w) (λ y m. free.requests d w y m)) ok.requests_apart;
       records_apart = ok.records_apart;
       replies_apart = ok.replies_apart;
     }
 
 -- likewise a reply
 pub push_reply : (k : ℕ) (path : ℕ → ℕ → ℕ) (role : ℕ → Role) (net : Net) (d w : ℕ) (x : Reply)
-    → Placed k path role net → Unnamed net x.leader → ((s w : ℕ) (z : Record) → In z (net.records s w) → z.leader ≡ x.leader → s < d) → path x.leader d ≡ w → d ≤ k
+    → Placed k path role net → Unnamed net x.leader → ((s w : ℕ) (z : Record) → In z (net.records s w) → z.leader ≡ x.leader → s < d) → path x.leader d ≡ w
+    → d ≤ k
     → Placed k path (put role x.leader (Told d)) (put_replies net d w (net.replies d w ++ x ∷ []))
 push_reply k path role net d w x ok free below on deep =
     let role' = put role x.leader (Told d) in
@@ -102,7 +109,8 @@ push_reply k path role net d w x ok free below on deep =
       ];
       records = λ s w' y m. keep_record k path role x.leader (Told d) s w' y (ok.records s w' y m) (free.records s w' y m) (below s w' y m);
       requests = λ d' w' y m. keep_request k path role x.leader (Told d) d' w' y (ok.requests d' w' y m) (free.requests d' w' y m);
-      replies_apart = each_put2 (ApartBy (λ (z : Reply). z.leader)) net.replies d w _ (ApartBy-push (λ (z : Reply). z.leader) (net.replies d w) x (ok.replies_apart d w) (λ y m. free.replies d w y m)) ok.replies_apart;
+      replies_apart = each_put2 (ApartBy (λ (z : Reply). z.leader)) net.replies d w _
+          (ApartBy-push (λ (z : Reply). z.leader) (net.replies d w) x (ok.replies_apart d w) (λ y m. free.replies d w y m)) ok.replies_apart;
       records_apart = ok.records_apart;
       requests_apart = ok.requests_apart;
     }
@@ -117,7 +125,8 @@ pop_reply k path role net d w x rest ok e = record {
   ];
   records = ok.records;
   requests = ok.requests;
-  replies_apart = each_put2 (ApartBy (λ (z : Reply). z.leader)) net.replies d w rest ((subst (ApartBy (λ (z : Reply). z.leader)) e (ok.replies_apart d w)).1) ok.replies_apart;
+  replies_apart = each_put2 (ApartBy (λ (z : Reply). z.leader)) net.replies d w rest
+      ((subst (ApartBy (λ (z : Reply). z.leader)) e (ok.replies_apart d w)).1) ok.replies_apart;
   records_apart = ok.records_apart;
   requests_apart = ok.requests_apart;
 }
@@ -149,11 +158,19 @@ combine k path role net s w front behind x y z ok e ey ez free near on =
     let here : In x (net.requests (suc s) w) = rw e (In-append_right x front (x ∷ behind) (inl refl)) in
     let p = ok.requests (suc s) w x here in
     let other : x.leader ≡ z.second → ⊥ = free.requests (suc s) w x here in
-    let under : (t v : ℕ) (a : Record) → In a (net.records t v) → a.leader ≡ z.second → t < s = (λ t v a m same. let q = ok.records t v a m in let b : t < depth (role z.second) = subst (λ j. t < depth (role j)) same q.beyond in omega arith) in
-    let keep : (d' w' : ℕ) (a : Request) → In a (net.requests d' w') → RequestPlaced k path role' d' w' a = (λ d' w' a o. keep_request k path role z.second (Waiting s z.leader) d' w' a (ok.requests d' w' a o) (free.requests d' w' a o)) in
+    let under : (t v : ℕ) (a : Record) → In a (net.records t v) → a.leader ≡ z.second
+    → t < s = (λ t v a m same. let q = ok.records t v a m in let b : t < depth (role z.second) = subst (λ j. t < depth (role j)) same q.beyond in
+    omega arith) in
+    let keep : (d' w' : ℕ) (a : Request) → In a (net.requests d' w')
+    → RequestPlaced k path role' d' w' a =
+    (λ d' w' a o. keep_request k path role z.second (Waiting s z.leader) d' w' a (ok.requests d' w' a o) (free.requests d' w' a o)) in
     let from : (a : Request) → In a (front ++ y ∷ behind) → RequestPlaced k path role' (suc s) w a = (λ a m. elim (In-append a front (y ∷ behind) m) [
       | inl o ↦ keep (suc s) w a (rw e (In-append_left a front (x ∷ behind) o))
-      | inr (inl q) ↦ (let l = ap (λ (b : Request). b.leader) q ∙ ey in record { asks = ap role' l ∙ put_other role z.second (Waiting s z.leader) x.leader other ∙ p.asks; wire = ap (λ j. path j (suc s)) l ∙ p.wire; deep = p.deep })
+      | inr (inl q) ↦ (let l = ap (λ (b : Request). b.leader) q ∙ ey in record {
+        asks = ap role' l ∙ put_other role z.second (Waiting s z.leader) x.leader other ∙ p.asks;
+        wire = ap (λ j. path j (suc s)) l ∙ p.wire;
+        deep = p.deep;
+      })
       | inr (inr o) ↦ keep (suc s) w a (rw e (In-append_right a front (x ∷ behind) (inr o)))
     ]) in
     record {
@@ -178,10 +195,14 @@ combine k path role net s w front behind x y z ok e ey ez free near on =
       replies = λ d' w' a m. keep_reply k path role z.second (Waiting s z.leader) d' w' a (ok.replies d' w' a m) (free.replies d' w' a m);
       requests_apart = each_put2 (ApartBy (λ (b : Request). b.leader)) net.requests (suc s) w (front ++ y ∷ behind)
           (let h : ApartBy (λ (b : Request). b.leader) (front ++ x ∷ behind) = subst (ApartBy (λ (b : Request). b.leader)) e (ok.requests_apart (suc s) w) in
-          let same : map (λ (b : Request). b.leader) (front ++ y ∷ behind) ≡ map (λ (b : Request). b.leader) (front ++ x ∷ behind) = map-append (λ (b : Request). b.leader) front (y ∷ behind) ∙ ap (λ j. map (λ (b : Request). b.leader) front ++ j ∷ map (λ (b : Request). b.leader) behind) ey ∙ sym (map-append (λ (b : Request). b.leader) front (x ∷ behind)) in
+          let same : map (λ (b : Request). b.leader) (front ++ y ∷ behind) ≡ map (λ (b : Request). b.leader) (front ++ x ∷ behind) =
+          map-append (λ (b : Request). b.leader) front (y ∷ behind)
+          ∙ ap (λ j. map (λ (b : Request). b.leader) front ++ j ∷ map (λ (b : Request). b.leader) behind) ey
+          ∙ sym (map-append (λ (b : Request). b.leader) front (x ∷ behind)) in
           subst Distinct (sym same) h)
           ok.requests_apart;
-      records_apart = each_put2 (ApartBy (λ (b : Record). b.second)) net.records s w _ (ApartBy-push (λ (b : Record). b.second) (net.records s w) z (ok.records_apart s w) (λ a m. free.records s w a m)) ok.records_apart;
+      records_apart = each_put2 (ApartBy (λ (b : Record). b.second)) net.records s w _
+          (ApartBy-push (λ (b : Record). b.second) (net.records s w) z (ok.records_apart s w) (λ a m. free.records s w a m)) ok.records_apart;
       replies_apart = ok.replies_apart;
     }
 
@@ -197,7 +218,8 @@ drop_records k path role net s w p ok = record {
   ];
   requests_apart = ok.requests_apart;
   replies_apart = ok.replies_apart;
-  records_apart = each_put2 (ApartBy (λ (b : Record). b.second)) net.records s w _ (ApartBy-filter (λ (b : Record). b.second) (λ (x : Record). not (x.leader == p)) (net.records s w) (ok.records_apart s w)) ok.records_apart;
+  records_apart = each_put2 (ApartBy (λ (b : Record). b.second)) net.records s w _
+      (ApartBy-filter (λ (b : Record). b.second) (λ (x : Record). not (x.leader == p)) (net.records s w) (ok.records_apart s w)) ok.records_apart;
 }
 
 -- and then their seconds are named nowhere
@@ -239,7 +261,8 @@ others_request k path role net d w front behind x ok e =
       replies = λ d' w' y m same. let q = ok.replies d' w' y m in let f = sym q.told ∙ ap role same ∙ p.asks in cc;
     }
 
-unnamed_push_reply : (net : Net) (d w : ℕ) (x : Reply) (p : ℕ) → Unnamed net p → (x.leader ≡ p → ⊥) → Unnamed (put_replies net d w (net.replies d w ++ x ∷ [])) p
+unnamed_push_reply : (net : Net) (d w : ℕ) (x : Reply) (p : ℕ) → Unnamed net p → (x.leader ≡ p → ⊥)
+    → Unnamed (put_replies net d w (net.replies d w ++ x ∷ [])) p
 unnamed_push_reply net d w x p free n = record {
   requests = free.requests;
   records = free.records;
@@ -256,7 +279,8 @@ unnamed_push_reply net d w x p free n = record {
 -- all of them are put
 pub placed_push_all : (k : ℕ) (path : ℕ → ℕ → ℕ) (wire : ℕ → ℕ) (s : ℕ) (ys : List Reply) (role : ℕ → Role) (net : Net)
     → Placed k path role net → s ≤ k → ApartBy (λ (y : Reply). y.leader) ys
-    → ((y : Reply) → In y ys → Unnamed net y.leader × (path y.leader s ≡ wire y.leader) × ((t v : ℕ) (z : Record) → In z (net.records t v) → z.leader ≡ y.leader → t < s))
+    → ((y : Reply) → In y ys
+    → Unnamed net y.leader × (path y.leader s ≡ wire y.leader) × ((t v : ℕ) (z : Record) → In z (net.records t v) → z.leader ≡ y.leader → t < s))
     → Placed k path (told_all s ys role) (push_all wire s ys net)
 unfolding push_all told_all
 placed_push_all k path wire s [] role net ok deep apart each = ok
@@ -264,16 +288,37 @@ placed_push_all k path wire s (y ∷ ys) role net ok deep apart each =
     let h = each y (inl refl) in
     placed_push_all k path wire s ys (put role y.leader (Told s)) (put_replies net s (wire y.leader) (net.replies s (wire y.leader) ++ y ∷ []))
     (push_reply k path role net s (wire y.leader) y ok h.0 h.2 h.1 deep) deep apart.1
-    (λ x m. let g = each x (inr m) in (unnamed_push_reply net s (wire y.leader) y x.leader g.0 (λ e. apart.0 (subst (λ j. In j (map (λ (b : Reply). b.leader) ys)) (sym e) (In-map (λ (b : Reply). b.leader) x ys m))), g.1, g.2))
+    (λ x m. let g = each x (inr m) in (
+      unnamed_push_reply net s (wire y.leader) y x.leader g.0
+          (λ e. apart.0 (subst (λ j. In j (map (λ (b : Reply). b.leader) ys)) (sym e) (In-map (λ (b : Reply). b.leader) x ys m))),
+      g.1,
+      g.2,
+    ))
 
 -- other words and paths for a processor that nothing names and that leads no record
 pub placed_change : (k : ℕ) (path path' : ℕ → ℕ → ℕ) (role : ℕ → Role) (r : Role) (net : Net) (p : ℕ)
-    → Placed k path role net → Unnamed net p → ((s w : ℕ) (z : Record) → In z (net.records s w) → z.leader ≡ p → ⊥) → ((q d : ℕ) → (q ≡ p → ⊥) → path' q d ≡ path q d) → Placed k path' (put role p r) net
+    → Placed k path role net → Unnamed net p → ((s w : ℕ) (z : Record) → In z (net.records s w) → z.leader ≡ p → ⊥)
+    → ((q d : ℕ) → (q ≡ p → ⊥) → path' q d ≡ path q d) → Placed k path' (put role p r) net
 placed_change k path path' role r net p ok free none same = record {
-  requests = λ d w x m. let h = ok.requests d w x m in let n = free.requests d w x m in record { asks = put_other role p r x.leader n ∙ h.asks; wire = same x.leader d n ∙ h.wire; deep = h.deep };
+  requests = λ d w x m. let h = ok.requests d w x m in let n = free.requests d w x m in record {
+    asks = put_other role p r x.leader n ∙ h.asks;
+    wire = same x.leader d n ∙ h.wire;
+    deep = h.deep;
+  };
   records = λ s w x m. let h = keep_record k path role p r s w x (ok.records s w x m) (free.records s w x m) (λ e. absurd (none s w x m e)) in
-      record { waits = h.waits; beyond = h.beyond; wire = same x.leader (suc s) (none s w x m) ∙ h.wire; wire_second = same x.second (suc s) (free.records s w x m) ∙ h.wire_second; deep = h.deep };
-  replies = λ d w x m. let h = ok.replies d w x m in let n = free.replies d w x m in record { told = put_other role p r x.leader n ∙ h.told; wire = same x.leader d n ∙ h.wire; deep = h.deep };
+      record {
+        waits = h.waits;
+        beyond = h.beyond;
+        wire = same x.leader (suc s) (none s w x m) ∙ h.wire;
+        wire_second = same x.second (suc s) (free.records s w x m)
+            ∙ h.wire_second;
+        deep = h.deep;
+      };
+  replies = λ d w x m. let h = ok.replies d w x m in let n = free.replies d w x m in record {
+    told = put_other role p r x.leader n ∙ h.told;
+    wire = same x.leader d n ∙ h.wire;
+    deep = h.deep;
+  };
   requests_apart = ok.requests_apart;
   records_apart = ok.records_apart;
   replies_apart = ok.replies_apart;
@@ -290,7 +335,8 @@ unnamed_idle k path role net p ok idle = record {
 }
 
 -- the records of a leader stand below its depth
-pub below_role : (k : ℕ) (path : ℕ → ℕ → ℕ) (role : ℕ → Role) (net : Net) (p : ℕ) (r : Role) → Placed k path role net → role p ≡ r → (s w : ℕ) (z : Record) → In z (net.records s w) → z.leader ≡ p → s < depth r
+pub below_role : (k : ℕ) (path : ℕ → ℕ → ℕ) (role : ℕ → Role) (net : Net) (p : ℕ) (r : Role) → Placed k path role net → role p ≡ r → (s w : ℕ) (z : Record)
+    → In z (net.records s w) → z.leader ≡ p → s < depth r
 below_role k path role net p r ok is s w z m e = subst (λ j. s < depth j) (ap role e ∙ is) ((ok.records s w z m).beyond)
 
 pub not_idle : (role : ℕ → Role) (p q : ℕ) (r : Role) → role p ≡ r → (r ≡ Idle → ⊥) → role q ≡ Idle → q ≡ p → ⊥
@@ -303,7 +349,8 @@ small_put role n p r small l q = elim (cases_eq q p) [
 ]
 
 -- where every processor is idle, nothing stands in the network
-pub placed_nowhere : (k : ℕ) (path path' : ℕ → ℕ → ℕ) (role : ℕ → Role) (net : Net) → Placed k path role net → ((p : ℕ) → role p ≡ Idle) → Placed k path' role net
+pub placed_nowhere : (k : ℕ) (path path' : ℕ → ℕ → ℕ) (role : ℕ → Role) (net : Net) → Placed k path role net → ((p : ℕ) → role p ≡ Idle)
+    → Placed k path' role net
 placed_nowhere k path path' role net ok idle = record {
   requests = λ d w x m. absurd (let h = (ok.requests d w x m).asks in let c : Asking d ≡ Idle = sym h ∙ idle x.leader in cc);
   records = λ s w x m. absurd (let h = (ok.records s w x m).waits in let c : Waiting s x.leader ≡ Idle = sym h ∙ idle x.second in cc);
@@ -313,7 +360,8 @@ placed_nowhere k path path' role net ok idle = record {
   replies_apart = ok.replies_apart;
 }
 
-pub unnamed_fewer : (net : Net) (s w : ℕ) (xs : List Record) (p : ℕ) → Unnamed net p → ((a : Record) → In a xs → In a (net.records s w)) → Unnamed (put_records net s w xs) p
+pub unnamed_fewer : (net : Net) (s w : ℕ) (xs : List Record) (p : ℕ) → Unnamed net p → ((a : Record) → In a xs → In a (net.records s w))
+    → Unnamed (put_records net s w xs) p
 unnamed_fewer net s w xs p free sub = record {
   requests = free.requests;
   replies = free.replies;
@@ -326,12 +374,16 @@ unnamed_fewer net s w xs p free sub = record {
 pub told_other : (s : ℕ) (ys : List Reply) (role : ℕ → Role) (q : ℕ) → ((y : Reply) → In y ys → y.leader ≡ q → ⊥) → told_all s ys role q ≡ role q
 unfolding told_all
 told_other s [] role q n = refl
-told_other s (y ∷ ys) role q n = told_other s ys (put role y.leader (Told s)) q (λ x m. n x (inr m)) ∙ put_other role y.leader (Told s) q (λ e. n y (inl refl) (sym e))
+told_other s (y ∷ ys) role q n = told_other s ys (put role y.leader (Told s)) q (λ x m. n x (inr m))
+    ∙ put_other role y.leader (Told s) q (λ e. n y (inl refl) (sym e))
 
 pub not_led : (a b : ℕ) → a ≡ b → not (a == b) ≡ true → ⊥
 not_led a b e f = true≢false (sym f ∙ ap not (eq-eqb a b e))
 
-pub seconds : (x : Reply) (rs : List Record) → map (λ (y : Reply). y.leader) (map (λ (r : Record). record { leader = r.second; value = applied r.phi x.value }) rs) ≡ map (λ (r : Record). r.second) rs
+pub seconds : (x : Reply) (rs : List Record) → map (λ (y : Reply). y.leader) (map (λ (r : Record). record {
+  leader = r.second;
+  value = applied r.phi x.value;
+}) rs) ≡ map (λ (r : Record). r.second) rs
 seconds x [] = refl
 seconds x (r ∷ rs) = ap (λ l. r.second ∷ l) (seconds x rs)
 
@@ -339,7 +391,10 @@ pub from_answers : (x y : Reply) (rs : List Record) → In y (answers rs x) → 
 from_answers x y rs (inl e) = inl (ap (λ (b : Reply). b.leader) e)
 from_answers x y rs (inr m) = inr (go rs m)
   where
-    go : (rs : List Record) → In y (map (λ (r : Record). record { leader = r.second; value = applied r.phi x.value }) rs) → (r : Record) × In r rs × (y.leader ≡ r.second)
+    go : (rs : List Record) → In y (map (λ (r : Record). record {
+      leader = r.second;
+      value = applied r.phi x.value;
+    }) rs) → (r : Record) × In r rs × (y.leader ≡ r.second)
     go [] m = elim m [ ]
     go (r ∷ rs) (inl e) = (r, inl refl, ap (λ (b : Reply). b.leader) e)
     go (r ∷ rs) (inr m) = let g = go rs m in (g.0, inr g.1, g.2)

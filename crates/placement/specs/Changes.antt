@@ -24,7 +24,8 @@ CombiningKeepsPlaces =
 -- The entry then stands for both groups.
 abbrev pub CombiningJoinsGroups : Type 0
 CombiningJoinsGroups =
-    (own : ℕ → Phi) (word : ℕ → ℕ) (path : ℕ → ℕ → ℕ) (group : ℕ → List ℕ) (owed : ℕ → Option ℕ) (k : ℕ) (role : ℕ → Role) (net : Net) (b r s w : ℕ) (x : Request) (j : Combination) →
+    (own : ℕ → Phi) (word : ℕ → ℕ) (path : ℕ → ℕ → ℕ) (group : ℕ → List ℕ) (owed : ℕ → Option ℕ) (k : ℕ) (role : ℕ → Role) (net : Net) (b r s w : ℕ)
+    (x : Request) (j : Combination) →
     combination b r x (net.requests (suc s) w) (net.records s w) ≡ Some j →
     Placed k path role net → Means own word path group owed net → Unnamed net x.leader → RequestMeans own word group (records_on path net.records) s x →
     Means own word path (joined group j.made.leader j.made.second) owed (combined net s w j).1
@@ -58,8 +59,10 @@ AnsweringGivesEachItsOwn =
 -- another on the flat side.
 abbrev pub ServingExecutesTheGroup : Type 0
 ServingExecutesTheGroup =
-    (own : ℕ → Phi) (word : ℕ → ℕ) (open_now : ℕ → Bool) (path : ℕ → ℕ → ℕ) (group : ℕ → List ℕ) (f : Executed) (net : Net) (d w : ℕ) (x : Request) (y : Reply) →
-    Means own word path group f.owed net → Groups word open_now group f.owed → RequestMeans own word group (records_on path net.records) d x → Unnamed net x.leader →
+    (own : ℕ → Phi) (word : ℕ → ℕ) (open_now : ℕ → Bool) (path : ℕ → ℕ → ℕ) (group : ℕ → List ℕ) (f : Executed) (net : Net) (d w : ℕ) (x : Request)
+    (y : Reply) →
+    Means own word path group f.owed net → Groups word open_now group f.owed → RequestMeans own word group (records_on path net.records) d x
+    → Unnamed net x.leader →
     y.leader ≡ x.leader → y.value ≡ f.mem x.word →
     Means own word path (put group x.leader []) (execute_all own word f (group x.leader)).owed (put_replies net d w (net.replies d w ++ y ∷ []))
 

@@ -5,15 +5,16 @@ use Rattle.flat_machine.specs.Limits.{IsWithinLimits}
 use Rattle.elf_image.specs.Images.{ImageContents}
 use Rattle.steps.specs.declared.step.Step.{Step}
 use Rattle.trace_file.specs.Traces.{HaveRecords, IsTrace, trace_of}
-use Rattle.machine_steps.specs.Machines.{MachineLists}
-use Rattle.machine_steps.specs.Runs.{IsOpening, IsReplay}
+use Rattle.machine_runs.specs.Machines.{MachineLists}
+use Rattle.machine_runs.specs.Runs.{IsOpening, IsReplay}
 use Rattle.trace_replay.specs.Replays.{StallsAt}
 use Rattle.trace_replay.proofs.OneOpening.{none_stalls}
-use Rattle.machine_lock.specs.Logs.{Log, IsKept}
-use Rattle.run_commands.specs.declared.fault.Fault.TheVariants as fault
+use Rattle.machine_log.specs.Logs.{Log, IsKept}
+use Rattle.command_io.specs.declared.fault.Fault.TheVariants as fault
 use Rattle.run_commands.specs.declared.taking.RetakeError.{RetakeError}
 use Rattle.run_commands.specs.declared.taking.RetakeError.TheVariants as retake
-use Rattle.run_commands.specs.Commands.{IsImageOf, IsRunOf}
+use Rattle.elf_image.specs.Files.{IsImageOf}
+use Rattle.run_commands.specs.Commands.{IsRunOf}
 use Rattle.run_commands.specs.Faults.{fault_of_retaking}
 use Rattle.run_commands.specs.Retaking.{IsNotRetaken}
 use Rattle.machine_sweep.specs.Sweeps.{IsSwept, most_of, opened}

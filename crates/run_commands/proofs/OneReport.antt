@@ -5,12 +5,12 @@ use Rattle.std.proofs.lemmas.Bool.{cases_eq}
 use Rattle.flat_machine.specs.declared.config.Config.{Config}
 use Rattle.flat_machine.specs.State.{Processor}
 use Rattle.elf_image.specs.Images.{ImageContents}
-use Rattle.abstract_machine.specs.Machine as theory
+use Rattle.machine_program.specs.Theory as theory
 use Rattle.steps.specs.declared.step.Step.{Step}
 use Rattle.machine_program.specs.Processors.{Told, word_at}
 use Rattle.machine_program.specs.Steps.{machine_of_parts}
-use Rattle.machine_steps.specs.Machines.{MachineLists, machine_of}
-use Rattle.machine_steps.specs.Runs.{all_after, events_of}
+use Rattle.machine_runs.specs.Machines.{MachineLists, machine_of}
+use Rattle.machine_runs.specs.Runs.{all_after, events_of}
 use Rattle.trace_replay.proofs.OneOpening.{alike}
 use Rattle.run_report.specs.Events.{shown_by}
 use Rattle.run_report.specs.Lines.{processor_line, word_lines}

@@ -4,11 +4,12 @@ use Rattle.flat_machine.specs.declared.config.Config.{Config}
 use Rattle.elf_image.specs.declared.layout.Layout.{Layout}
 use Rattle.elf_image.specs.Images.{ImageContents, IsMeant}
 use Rattle.steps.specs.declared.step.Step.{Step}
-use Rattle.machine_lock.specs.Logs.{Log}
+use Rattle.machine_log.specs.Logs.{Log}
 use Rattle.machine_sweep.specs.Sweeps.{IsWholeRun, most_of}
 use Rattle.machine_sweep.specs.declared.sweeping.SweepEnd.{SweepEnd}
 use Rattle.machine_sweep.specs.declared.sweeping.SweepEnd.TheVariants.{Over}
-use Rattle.run_commands.specs.Commands.{IsImageOf, IsReportOf, IsReportedRun}
+use Rattle.elf_image.specs.Files.{IsImageOf}
+use Rattle.run_commands.specs.Commands.{IsReportOf, IsReportedRun}
 use Rattle.run_commands.proofs.OneReport.{one_status, one_text}
 
 abbrev OneLayout : Type 0

@@ -4,18 +4,18 @@ use Rattle.std.specs.Prelude.{replicate}
 use Rattle.std.proofs.lemmas.List.{length-append, append-nil, append_assoc}
 use Rattle.flat_machine.specs.declared.event.Event.{Event}
 use Rattle.omega_network.specs.Networks.{net_of}
-use Rattle.abstract_machine.specs.Machine as theory
+use Rattle.machine_program.specs.Theory as theory
 use Rattle.steps.specs.declared.step.Step.{Step}
 use Rattle.steps.specs.declared.step.Outcome.{Outcome}
 use Rattle.steps.specs.declared.step.Outcome.TheVariants.{Stalled}
 use Rattle.machine_program.specs.Processors.{Told}
 use Rattle.machine_program.specs.Steps.{after, with_shown, machine_of_parts}
-use Rattle.machine_steps.specs.Machines.{MachineLists, machine_of, IsIdle, IsMachine, IsStep}
-use Rattle.machine_steps.specs.Runs.{all_after, events_of, IsRun}
-use Rattle.machine_steps.specs.Draining.{drain_step, GoesOn, drain_bound, drain_steps}
-use Rattle.machine_steps.proofs.Running.{all_after_more, shown_is}
-use Rattle.machine_steps.proofs.Replaying.{replay_begins, replay_more}
-use Rattle.machine_steps.proofs.Drained.{IsUnderWay, drain_begins, drain_goes_on, all_taken, bound_taken, drain_is_over}
+use Rattle.machine_runs.specs.Machines.{MachineLists, machine_of, IsIdle, IsMachine, IsStep}
+use Rattle.machine_runs.specs.Runs.{all_after, events_of, IsRun}
+use Rattle.machine_runs.specs.Draining.{drain_step, GoesOn, drain_bound, drain_steps}
+use Rattle.machine_runs.proofs.Running.{all_after_more, shown_is}
+use Rattle.machine_runs.proofs.Replaying.{replay_begins, replay_more}
+use Rattle.machine_runs.proofs.Drained.{IsUnderWay, drain_begins, drain_goes_on, all_taken, bound_taken, drain_is_over}
 use Rattle.run_report.specs.Tallies.{TallyState, nothing_shown, noted_after}
 use Rattle.run_report.specs.Events.{IsTally}
 use Rattle.run_commands.specs.Retaking.{events_in, IsRetaken}

@@ -1,36 +1,25 @@
 -- Why there is no report: what each fault says of the files.
-use Rattle.std.specs.Prelude.{◌≡◌, ◌<◌, ◌⊎◌, ℕ, List, length, Option, Some, IfSome}
-use Rattle.link.specs.Transfer.{AppendsPart}
+use Rattle.std.specs.Prelude.{◌≡◌, ◌⊎◌, ℕ, List, Option}
 use Rattle.flat_machine.specs.declared.config.Config.{Config}
 use Rattle.flat_machine.specs.Limits.{IsWithinLimits}
-use Rattle.elf_image.specs.declared.error.ImageError.{ImageError}
-use Rattle.elf_image.specs.declared.error.ImageError.TheVariants as of_image
+use Rattle.elf_image.specs.Files.{IsImageOf, IsImageRefusal}
 use Rattle.elf_image.specs.Images.{ImageContents}
-use Rattle.elf_image.specs.Refusals.{refusal_of}
 use Rattle.steps.specs.declared.step.Step.{Step}
 use Rattle.trace_file.specs.declared.error.TraceError.{TraceError}
 use Rattle.trace_file.specs.declared.error.TraceError.TheVariants as of_trace
 use Rattle.trace_file.specs.Faults.{IsRefused}
 use Rattle.trace_file.specs.Traces.{TraceContents, trace_bytes, trace_of, config_of}
-use Rattle.machine_steps.specs.Machines.{MachineLists}
-use Rattle.machine_steps.specs.Runs.{IsOpening}
+use Rattle.machine_runs.specs.Machines.{MachineLists}
+use Rattle.machine_runs.specs.Runs.{IsOpening}
 use Rattle.trace_replay.specs.Replays.{StallsAt}
-use Rattle.machine_lock.specs.Logs.{Log}
+use Rattle.machine_log.specs.Logs.{Log}
 use Rattle.machine_sweep.specs.declared.sweeping.SweepEnd.TheVariants.{Budget}
-use Rattle.command_io.specs.Files.{IsWhole}
-use Rattle.run_commands.specs.declared.fault.Fault.{Fault}
-use Rattle.run_commands.specs.declared.fault.Fault.TheVariants as fault
-use Rattle.run_commands.specs.Commands.{IsImageOf, IsTraceOf, IsReportOf, IsDrainedReport, IsSaved, IsPartSaved, HasRun, IsRunOf}
+use Rattle.command_io.specs.declared.fault.Fault.{Fault}
+use Rattle.command_io.specs.declared.fault.Fault.TheVariants as fault
+use Rattle.command_io.specs.Printing.{IsPartPrinted}
+use Rattle.run_commands.specs.Commands.{IsTraceOf, IsPartSaved, IsFinishedRun, IsRunOf, IsSomeReplayReport, IsSomeRunReport}
 
 -- ---- the files
-
--- Why an image is not there: the file is too long, or is refused, and this is the first refusal that applies. That the link
--- failed says nothing of the file.
-abbrev pub IsImageRefusal : (shared_words : ℕ) → (known : Option (List ℕ)) → ImageError → Type 0
-IsImageRefusal shared_words known of_image.TooLong = IfSome known (λ all. 1048576 < length all)
-IsImageRefusal shared_words known of_image.Link = Unit {0}
-IsImageRefusal shared_words known of_image.Memory = ⊥
-IsImageRefusal shared_words known refusal = (file : List ℕ) × IsWhole known file × (refusal_of shared_words file ≡ Some refusal)
 
 -- why a trace is not there: reading it was refused
 abbrev pub IsTraceRefusal : (known : Option (List ℕ)) → TraceError → Type 0
@@ -39,21 +28,10 @@ IsTraceRefusal known e = (rest : Option (List ℕ)) × IsRefused known rest e
 
 -- ---- a run
 
--- The run is there, which has ended; its trace is written, where one is asked for, and a part of its report is printed, and not
--- all of it.
-pub record IsPartPrintedRun {T : Type 0} (contents : T → Option (List ℕ)) (c : Config) (budget : ℕ) (known : Option (List ℕ)) (old new : Option T) (out out' : Option (List ℕ)) : Type 0 where
-  pub log : Log
-  pub ran : HasRun c budget known log
-  pub saved : IsSaved contents old new (trace_bytes (trace_of c log.steps))
-  pub text : List ℕ
-  pub status : ℕ
-  pub report : IsReportOf c ran.over.image log.steps text status
-  pub part : AppendsPart out out' text
-
 -- The run is there, which has ended, and a part of its trace is written, and not all of it.
 pub record IsPartSavedRun {T : Type 0} (contents : T → Option (List ℕ)) (c : Config) (budget : ℕ) (known : Option (List ℕ)) (old new : Option T) : Type 0 where
   pub log : Log
-  pub ran : HasRun c budget known log
+  pub ran : IsFinishedRun c budget known log
   pub part : IsPartSaved contents old new (trace_bytes (trace_of c log.steps))
 
 -- Why a run is not there: the image is refused; the machine's size is out of its limits; the budget is used up, a processor runs,
@@ -63,15 +41,13 @@ IsNotRun c budget known (fault.Image e) = IsImageRefusal c.shared_words known e
 IsNotRun c budget known fault.Size = ((image : ImageContents) × IsImageOf c.shared_words known image) × (IsWithinLimits c → ⊥)
 IsNotRun c budget known fault.Budget = (log : Log) × IsRunOf c budget known Budget log
 IsNotRun c budget known fault.Memory = Unit {0}
-IsNotRun c budget known (fault.Stalled place) = ⊥
-IsNotRun c budget known (fault.Trace e) = ⊥
-IsNotRun c budget known fault.Link = ⊥
+IsNotRun c budget known other = ⊥
 
 -- Why a run is not reported: its trace cannot be written, or, once that is, its report; else the run is not there, and no byte
 -- of a trace is written.
 abbrev pub IsNoRun : {T : Type 0} → (contents : T → Option (List ℕ)) → (c : Config) → (budget : ℕ) → (known : Option (List ℕ)) → (old new : Option T) → (out out' : Option (List ℕ)) → Fault → Type 0
 IsNoRun contents c budget known old new out out' (fault.Trace e) = (e ≡ of_trace.Link) × IsPartSavedRun contents c budget known old new
-IsNoRun contents c budget known old new out out' fault.Link = IsPartPrintedRun contents c budget known old new out out'
+IsNoRun contents c budget known old new out out' fault.Link = IsPartPrinted (IsSomeRunReport contents c budget known old new) out out'
 IsNoRun contents c budget known old new out out' other = IsNotRun c budget known other × (new ≡ old)
 
 -- ---- a replay
@@ -105,17 +81,6 @@ pub record IsUnopened (trace out out' : Option (List ℕ)) : Type 0 where
   pub read : IsTraceOf trace steps
   pub nothing : out' ≡ out
 
--- The trace and the image are there, and a part of the report is printed, and not all of it.
-pub record IsPartPrintedReplay (shared_words : ℕ) (trace known out out' : Option (List ℕ)) : Type 0 where
-  pub steps : TraceContents
-  pub read : IsTraceOf trace steps
-  pub image : ImageContents
-  pub meant : IsImageOf shared_words known image
-  pub text : List ℕ
-  pub status : ℕ
-  pub report : IsDrainedReport (config_of steps shared_words) image steps.steps text status
-  pub part : AppendsPart out out' text
-
 -- Why a replay is not reported: the trace is refused; the image is; the machine's size is out of its limits; a step stalls; the
 -- image's file cannot be opened, or the report cannot be written. Of want of memory nothing is said.
 abbrev pub IsNoReplay : (shared_words : ℕ) → (trace known : Option (List ℕ)) → (out out' : Option (List ℕ)) → Fault → Type 0
@@ -123,9 +88,9 @@ IsNoReplay shared_words trace known out out' (fault.Trace e) = IsTraceRefusal tr
 IsNoReplay shared_words trace known out out' (fault.Image e) = ((steps : TraceContents) × IsTraceOf trace steps) × IsImageRefusal shared_words known e
 IsNoReplay shared_words trace known out out' fault.Size = IsOutOfLimits shared_words trace known
 IsNoReplay shared_words trace known out out' (fault.Stalled place) = IsStalledReplay shared_words trace known place
-IsNoReplay shared_words trace known out out' fault.Budget = ⊥
-IsNoReplay shared_words trace known out out' fault.Link = IsUnopened trace out out' ⊎ IsPartPrintedReplay shared_words trace known out out'
+IsNoReplay shared_words trace known out out' fault.Link = IsUnopened trace out out' ⊎ IsPartPrinted (IsSomeReplayReport shared_words trace known) out out'
 IsNoReplay shared_words trace known out out' fault.Memory = Unit {0}
+IsNoReplay shared_words trace known out out' other = ⊥
 
 -- ---- the parts
 
@@ -134,12 +99,6 @@ abbrev pub IsFaultOfTrace : (known : Option (List ℕ)) → Fault → Type 0
 IsFaultOfTrace known (fault.Trace e) = IsTraceRefusal known e
 IsFaultOfTrace known fault.Memory = Unit {0}
 IsFaultOfTrace known _ = ⊥
-
--- what a fault says of an image's file
-abbrev pub IsFaultOfImage : (shared_words : ℕ) → (known : Option (List ℕ)) → Fault → Type 0
-IsFaultOfImage shared_words known (fault.Image e) = IsImageRefusal shared_words known e
-IsFaultOfImage shared_words known fault.Memory = Unit {0}
-IsFaultOfImage shared_words known _ = ⊥
 
 -- what a fault says of a machine's size
 abbrev pub IsFaultOfSize : Config → Fault → Type 0
@@ -152,7 +111,4 @@ abbrev pub IsNotTaken : (c : Config) → ImageContents → List Step → Fault �
 IsNotTaken c image steps fault.Size = IsWithinLimits c → ⊥
 IsNotTaken c image steps (fault.Stalled place) = IsStalled c image steps place
 IsNotTaken c image steps fault.Memory = Unit {0}
-IsNotTaken c image steps (fault.Image e) = ⊥
-IsNotTaken c image steps (fault.Trace e) = ⊥
-IsNotTaken c image steps fault.Budget = ⊥
-IsNotTaken c image steps fault.Link = ⊥
+IsNotTaken c image steps other = ⊥

@@ -3,14 +3,15 @@ use Rattle.std.specs.Prelude.{◌≡◌, Bool, false, ℕ, List, ◌++◌, Optio
 use Rattle.std.specs.Io.KnownBytes.{Appends}
 use Rattle.link.specs.Transfer.{AppendsPart}
 use Rattle.flat_machine.specs.declared.config.Config.{Config}
-use Rattle.elf_image.specs.Images.{ImageContents, IsAccepted, IsMeant}
+use Rattle.elf_image.specs.Files.{IsImageOf}
+use Rattle.elf_image.specs.Images.{ImageContents}
 use Rattle.elf_image.specs.Openings.{opening as flat_opening}
 use Rattle.steps.specs.declared.step.Step.{Step}
 use Rattle.trace_file.specs.Traces.{TraceContents, trace_bytes, trace_of, config_of, IsTrace}
-use Rattle.machine_steps.specs.Machines.{MachineLists, IsIdle}
-use Rattle.machine_steps.specs.Runs.{IsOpening, IsReplay, IsSerialized, passed}
-use Rattle.machine_steps.specs.Draining.{drain_steps}
-use Rattle.machine_lock.specs.Logs.{Log}
+use Rattle.machine_runs.specs.Machines.{MachineLists, IsIdle}
+use Rattle.machine_runs.specs.Runs.{IsOpening, IsReplay, IsSerialized, passed}
+use Rattle.machine_runs.specs.Draining.{drain_steps}
+use Rattle.machine_log.specs.Logs.{Log}
 use Rattle.machine_sweep.specs.Sweeps.{IsWholeRun, most_of}
 use Rattle.machine_sweep.specs.declared.sweeping.SweepEnd.{SweepEnd}
 use Rattle.machine_sweep.specs.declared.sweeping.SweepEnd.TheVariants.{Over}
@@ -18,14 +19,6 @@ use Rattle.run_report.specs.Tallies.{TallyState}
 use Rattle.command_io.specs.Files.{IsWhole}
 use Rattle.run_commands.specs.Retaking.{IsRetaken}
 use Rattle.run_commands.specs.Reports.{report_of, IsExitOf, IsFlatReport}
-
--- the file is accepted, and the image is what it means
-pub record IsImageOf (shared_words : ℕ) (known : Option (List ℕ)) (image : ImageContents) : Type 0 where
-  pub file : List ℕ
-  pub whole : IsWhole known file
-  pub accepted : IsAccepted shared_words file
-  pub meant : IsMeant shared_words file image.layout
-  pub words : image.shared_words ≡ shared_words
 
 -- the file spells the trace
 pub record IsTraceOf (known : Option (List ℕ)) (t : TraceContents) : Type 0 where
@@ -59,15 +52,17 @@ pub record IsDrainedReport (c : Config) (image : ImageContents) (steps : List St
   pub stands : StandsAfter c image steps before
   pub report : IsReportOf c image (steps ++ drain_steps before) text status
 
--- The report of a trace that is replayed, and then drained, is printed.
-pub record IsReplayed (shared_words : ℕ) (trace known old new : Option (List ℕ)) (status : ℕ) : Type 0 where
+-- This is the report of a trace that is replayed, and then drained, on the image that a file means, and this its exit status.
+pub record IsReplayReport (shared_words : ℕ) (trace known : Option (List ℕ)) (status : ℕ) (text : List ℕ) : Type 0 where
   pub steps : TraceContents
   pub read : IsTraceOf trace steps
   pub image : ImageContents
   pub meant : IsImageOf shared_words known image
-  pub text : List ℕ
   pub report : IsDrainedReport (config_of steps shared_words) image steps.steps text status
-  pub printed : Appends old new text
+
+-- the report of a replay, with whatever exit status
+abbrev pub IsSomeReplayReport : (shared_words : ℕ) → (trace known : Option (List ℕ)) → (text : List ℕ) → Type 0
+IsSomeReplayReport shared_words trace known text = (status : ℕ) × IsReplayReport shared_words trace known status text
 
 -- what is known of a file's bytes, where it could be opened
 abbrev pub known_of : {R E : Type 0} → (R → Option (List ℕ)) → Result R E → Option (List ℕ)
@@ -102,22 +97,24 @@ pub record IsRunOf (c : Config) (budget : ℕ) (known : Option (List ℕ)) (end 
   pub run : IsWholeRun c image (most_of budget) end log
 
 -- the log of a run that was over, with a trace that has a spelling
-pub record HasRun (c : Config) (budget : ℕ) (known : Option (List ℕ)) (log : Log) : Type 0 where
+pub record IsFinishedRun (c : Config) (budget : ℕ) (known : Option (List ℕ)) (log : Log) : Type 0 where
   pub over : IsRunOf c budget known Over log
   pub trace : IsTrace (trace_of c log.steps)
-
--- The image that a file means has run; the trace of the run is written, where one is asked for, and its report is printed.
-pub record IsRun {T : Type 0} (contents : T → Option (List ℕ)) (c : Config) (budget : ℕ) (trace trace' : Option T) (known old new : Option (List ℕ)) (status : ℕ) : Type 0 where
-  pub log : Log
-  pub ran : HasRun c budget known log
-  pub text : List ℕ
-  pub report : IsReportOf c ran.over.image log.steps text status
-  pub saved : IsSaved contents trace trace' (trace_bytes (trace_of c log.steps))
-  pub printed : Appends old new text
 
 -- A run of the image that a file means enters these steps; this is its report, and this its exit status.
 pub record IsReportedRun (c : Config) (budget : ℕ) (known : Option (List ℕ)) (steps : List Step) (text : List ℕ) (status : ℕ) : Type 0 where
   pub log : Log
-  pub ran : HasRun c budget known log
+  pub ran : IsFinishedRun c budget known log
   pub entered : log.steps ≡ steps
   pub report : IsReportOf c ran.over.image steps text status
+
+-- This is the report of a run of the image that a file means, and this its exit status; the trace of the run is written, where one
+-- is asked for.
+pub record IsRunReport {T : Type 0} (contents : T → Option (List ℕ)) (c : Config) (budget : ℕ) (known : Option (List ℕ)) (trace trace' : Option T) (status : ℕ) (text : List ℕ) : Type 0 where
+  pub steps : List Step
+  pub run : IsReportedRun c budget known steps text status
+  pub saved : IsSaved contents trace trace' (trace_bytes (trace_of c steps))
+
+-- the report of a run, with whatever exit status
+abbrev pub IsSomeRunReport : {T : Type 0} → (contents : T → Option (List ℕ)) → (c : Config) → (budget : ℕ) → (known : Option (List ℕ)) → (trace trace' : Option T) → (text : List ℕ) → Type 0
+IsSomeRunReport contents c budget known trace trace' text = (status : ℕ) × IsRunReport contents c budget known trace trace' status text

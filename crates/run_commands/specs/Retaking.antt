@@ -2,8 +2,8 @@
 use Rattle.std.specs.Prelude.{ℕ, ◌^◌, List, [], length}
 use Rattle.flat_machine.specs.declared.event.Event.{Event}
 use Rattle.steps.specs.declared.step.Step.{Step}
-use Rattle.machine_steps.specs.Machines.{MachineLists, machine_of}
-use Rattle.machine_steps.specs.Runs.{all_after, events_of, IsReplay}
+use Rattle.machine_runs.specs.Machines.{MachineLists, machine_of}
+use Rattle.machine_runs.specs.Runs.{all_after, events_of, IsReplay}
 use Rattle.trace_replay.specs.Replays.{StallsAt}
 use Rattle.run_report.specs.Tallies.{TallyState}
 use Rattle.run_report.specs.Events.{IsTally}

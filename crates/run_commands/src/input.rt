@@ -1,15 +1,15 @@
 //! What is read before a machine takes steps.
 
 ghost use Rattle.std.specs.Prelude.{◌≡◌, IfOk, IfErr};
-ghost use Rattle.machine_steps.specs.Runs.{IsOpening};
-ghost use Rattle.run_commands.specs.Causes.{IsFaultOfImage, IsFaultOfSize, IsFaultOfTrace};
-ghost use Rattle.run_commands.specs.Commands.{IsImageOf, IsTraceOf};
+ghost use Rattle.machine_runs.specs.Runs.{IsOpening};
+ghost use Rattle.run_commands.specs.Causes.{IsFaultOfSize, IsFaultOfTrace};
+ghost use Rattle.run_commands.specs.Commands.{IsTraceOf};
 
-use crate::fault::Fault;
-use elf_image::{Image, read_image};
+use command_io::Fault;
+use elf_image::Image;
 use flat_machine::Config;
 use link::Meter;
-use machine_steps::Machine;
+use machine_runs::{Machine, NewError};
 use std::alloc::Global;
 use std::io::Read;
 use trace_file::{Trace, read_trace};
@@ -22,23 +22,15 @@ pub(crate) fn trace_of<R: Read + Drop>(alloc: Global, file: R) -> Result<Trace, 
     Ok(read_trace(alloc, &mut Meter::new(file))?)
 }
 
-/// The image that a file is, for machines of this size.
-pub(crate) fn image_of<R: Read + Drop>(
-    alloc: Global,
-    file: R,
-    config: &Config,
-) -> Result<Image, Fault>
-    ensures image { IfOk result (IsImageOf config.now.shared_words (R.remaining file)) }
-    ensures refused { IfErr result (IsFaultOfImage config.now.shared_words (R.remaining file)) }
-{
-    Ok(read_image(alloc, &mut Meter::new(file), config)?)
-}
-
 /// The machine that opens on an image, which was read for as many shared words.
 pub(crate) fn machine_of(alloc: Global, image: Image, config: Config) -> Result<Machine, Fault>
     requires { image.shared_words ≡ config.shared_words }
     ensures opening { IfOk result (IsOpening config image) }
     ensures refused { IfErr result (IsFaultOfSize config) }
 {
-    Ok(Machine::new(alloc, image, config)?)
+    match Machine::new(alloc, image, config) {
+        Ok(machine) => Ok(machine),
+        Err(NewError::Config) => Err(Fault::Size),
+        Err(NewError::Memory) => Err(Fault::Memory),
+    }
 }

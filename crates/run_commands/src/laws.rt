@@ -6,7 +6,7 @@ ghost use Rattle.elf_image.specs.Images.{ImageContents};
 ghost use Rattle.steps.specs.declared.step.Step.{Step};
 ghost use Rattle.run_commands.specs.Commands.{IsReportOf, IsReportedRun};
 
-use elf_image::input_means_one_layout;
+use image_laws::input_means_one_layout;
 use machine_sweep::runs_have_one_log;
 
 /// The text of a report and its exit status are a function of the machine's size, the image and the

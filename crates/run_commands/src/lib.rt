@@ -18,7 +18,6 @@ mod taking;
 #[cfg(test)]
 mod tests;
 
-pub use fault::Fault;
 pub use laws::{runs_have_one_report, steps_have_one_report};
 pub use replay::replay_command;
 pub use reporting::report;

@@ -1,14 +1,12 @@
-//! What is written, once all of it is there.
+//! The trace that is written, once all of it is there.
 
-ghost use Rattle.std.specs.Prelude.{◌≡◌, false, is_err, IfErr, OnOk};
-ghost use Rattle.std.specs.Io.KnownBytes.{Appends};
-ghost use Rattle.link.specs.Transfer.{AppendsPart};
+ghost use Rattle.std.specs.Prelude.{◌≡◌, IfErr, OnOk};
 ghost use Rattle.trace_file.specs.Traces.{IsTrace, trace_bytes, trace_of};
 ghost use Rattle.run_commands.specs.Commands.{IsPartSaved, IsSaved, IsWorking};
 
-use crate::fault::Fault;
+use command_io::Fault;
 use flat_machine::Config;
-use link::{Failed, LinkWrite};
+use link::LinkWrite;
 use steps::Step;
 use trace_file::{TraceError, write_trace};
 
@@ -26,18 +24,5 @@ pub(crate) fn save<T: LinkWrite>(
     match trace {
         Some(writer) => Ok(write_trace(writer, config, steps)?),
         None => Ok(()),
-    }
-}
-
-/// Prints a report.
-pub(crate) fn print<W: LinkWrite>(out: &mut W, text: &str) -> Result<(), Fault>
-    requires { W.has_failed out.old ≡ false }
-    ensures link { W.has_failed out.new ≡ is_err result }
-    ensures printed { OnOk result (Appends (W.contents out.old) (W.contents out.new) text.now) }
-    ensures failed { IfErr result (λ fault. (fault ≡ Fault.Link) × AppendsPart (W.contents out.old) (W.contents out.new) text.now) }
-{
-    match command_io::print(out, text) {
-        Ok(()) => Ok(()),
-        Err(Failed) => Err(Fault::Link),
     }
 }

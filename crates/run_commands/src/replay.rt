@@ -1,20 +1,19 @@
 //! `ultra replay`: from the bytes of a trace and of an image to the report of the machine.
 
-ghost use Rattle.std.specs.Prelude.{◌≡◌, ◌≢◌, ◌≤◌, ◌⊎◌, true, false, IfOk, IfErr, IsErr, IsErrOf, length, string_bytes};
+ghost use Rattle.std.specs.Prelude.{◌≡◌, ◌≤◌, ◌⊎◌, true, false, IfOk, IfErr, IsErr, IsErrOf, OnErr, length, string_bytes};
 ghost use Rattle.run_commands.specs.Causes.{IsNoReplay, IsNotTaken};
-ghost use Rattle.run_commands.specs.Commands.{IsDrainedReport, IsReplayed, known_of};
-ghost use Rattle.run_commands.specs.Faults.{status_of_fault};
+ghost use Rattle.run_commands.specs.Commands.{IsDrainedReport, IsReplayReport, known_of};
+ghost use Rattle.command_io.specs.Printing.{IsPrinted, IsTold};
 
-use crate::fault::{Fault, tell};
-use crate::input::{image_of, machine_of, trace_of};
-use crate::output::print;
+use crate::input::{machine_of, trace_of};
 use crate::reporting::report;
 use crate::states::exit_status;
 use crate::taking::{drained, retaken};
+use command_io::{Fault, image_of, print, tell};
 use elf_image::Image;
 use flat_machine::Config;
 use link::LinkWrite;
-use machine_steps::runs_are_serialized;
+use machine_runs::runs_are_serialized;
 use std::alloc::Global;
 use std::io;
 use std::io::{Read, Write};
@@ -37,9 +36,8 @@ pub fn replay_command<T: Read + Drop, R: Read + Drop, W: LinkWrite, E: Write>(
     err: &mut E,
 ) -> u8
     requires { W.has_failed out.old ≡ false }
-    ensures replayed { result ≤ 1 → IsReplayed shared_words (T.remaining trace) (known_of R.remaining file) (W.contents out.old) (W.contents out.new) result }
-    ensures told { 2 ≤ result → (fault : Fault) × (result ≡ status_of_fault fault) × IsNoReplay shared_words (T.remaining trace) (known_of R.remaining file) (W.contents out.old) (W.contents out.new) fault × (fault ≢ Fault.Link → out.new ≡ out.old)
-        × (fault ≡ Fault.Link → IsErr file ⊎ (W.has_failed out.new ≡ true)) }
+    ensures replayed { result ≤ 1 → IsPrinted (IsReplayReport shared_words (T.remaining trace) (known_of R.remaining file) result) (W.contents out.old) (W.contents out.new) }
+    ensures told { 2 ≤ result → IsTold W.has_failed Fault.Link (IsErr file) (IsNoReplay shared_words (T.remaining trace) (known_of R.remaining file) (W.contents out.old) (W.contents out.new)) out.old out.new result }
     ensures failed { W.has_failed out.new ≡ true → result ≡ 3 }
 {
     match carried_out(alloc, trace, file, shared_words, out) {
@@ -59,10 +57,10 @@ fn carried_out<T: Read + Drop, R: Read + Drop, W: LinkWrite>(
     requires { W.has_failed out.old ≡ false }
     ensures failed { W.has_failed out.new ≡ true → IsErrOf result Fault.Link }
     ensures link { IsErrOf result Fault.Link → IsErr file ⊎ (W.has_failed out.new ≡ true) }
-    ensures replayed { IfOk result (IsReplayed shared_words (T.remaining trace) (known_of R.remaining file) (W.contents out.old) (W.contents out.new)) }
+    ensures replayed { IfOk result (λ status. IsPrinted (IsReplayReport shared_words (T.remaining trace) (known_of R.remaining file) status) (W.contents out.old) (W.contents out.new)) }
     ensures low { IfOk result (λ status. status ≤ 1) }
     ensures told { IfErr result (IsNoReplay shared_words (T.remaining trace) (known_of R.remaining file) (W.contents out.old) (W.contents out.new)) }
-    ensures silent { IfErr result (λ fault. fault ≢ Fault.Link → out.new ≡ out.old) }
+    ensures silent { OnErr result (W.has_failed out.new ≡ false → out.new ≡ out.old) }
 {
     let trace = trace_of(alloc, trace)?;
     let config = trace.config(shared_words);

@@ -6,7 +6,7 @@ ghost use Rattle.run_report.specs.Tallies.{nothing_shown};
 ghost use Rattle.machine_sweep.specs.Standing.{processor_of};
 ghost use Rattle.run_commands.specs.Reports.{processor_lines, report_of, shared_lines};
 
-use machine_steps::Machine;
+use machine_runs::Machine;
 use run_report::{Tally, push_processor, push_shared_word};
 use std::alloc::{AllocError, Global};
 

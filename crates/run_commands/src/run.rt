@@ -1,22 +1,22 @@
 //! `ultra run`: from the bytes of an image to the report of its run.
 
-ghost use Rattle.std.specs.Prelude.{◌≡◌, ◌≢◌, ◌≤◌, ◌↔◌, true, false, IfOk, IfErr, IsErrOf, string_bytes};
-ghost use Rattle.machine_steps.specs.Machines.{IsIdle};
-ghost use Rattle.machine_steps.specs.Runs.{IsOpening};
+ghost use Rattle.std.specs.Prelude.{◌≡◌, ◌≤◌, ◌↔◌, true, false, IfOk, IfErr, IsErrOf, OnErr, string_bytes};
+ghost use Rattle.machine_runs.specs.Machines.{IsIdle};
+ghost use Rattle.machine_runs.specs.Runs.{IsOpening};
 ghost use Rattle.run_commands.specs.Causes.{IsNoRun, IsNotRun};
-ghost use Rattle.run_commands.specs.Commands.{HasRun, IsReportOf, IsRun, IsWorking};
-ghost use Rattle.run_commands.specs.Faults.{status_of_fault};
+ghost use Rattle.run_commands.specs.Commands.{IsFinishedRun, IsReportOf, IsRunReport, IsWorking};
+ghost use Rattle.command_io.specs.Printing.{IsPrinted, IsTold};
 
-use crate::fault::{Fault, tell};
-use crate::input::{image_of, machine_of};
-use crate::output::{print, save};
+use crate::input::machine_of;
+use crate::output::save;
 use crate::reporting::report;
 use crate::states::exit_status;
 use crate::taking::retaken;
+use command_io::{Fault, image_of, print, tell};
 use flat_machine::Config;
 use link::LinkWrite;
-use machine_lock::Logged;
-use machine_steps::runs_are_serialized;
+use machine_log::Logged;
+use machine_runs::runs_are_serialized;
 use machine_sweep::{SweepEnd, follow_sweep};
 use std::alloc::Global;
 use std::io::{Read, Write};
@@ -40,9 +40,8 @@ pub fn run_command<R: Read + Drop, T: LinkWrite, W: LinkWrite, E: Write>(
 ) -> u8
     requires works { IsWorking T.has_failed trace.old }
     requires prints { W.has_failed out.old ≡ false }
-    ensures reported { result ≤ 1 → IsRun T.contents config budget trace.old trace.new (R.remaining file) (W.contents out.old) (W.contents out.new) result }
-    ensures told { 2 ≤ result → (fault : Fault) × (result ≡ status_of_fault fault) × IsNoRun T.contents config budget (R.remaining file) trace.old trace.new (W.contents out.old) (W.contents out.new) fault × (fault ≢ Fault.Link → out.new ≡ out.old)
-        × ((fault ≡ Fault.Link) ↔ (W.has_failed out.new ≡ true)) }
+    ensures reported { result ≤ 1 → IsPrinted (IsRunReport T.contents config budget (R.remaining file) trace.old trace.new result) (W.contents out.old) (W.contents out.new) }
+    ensures told { 2 ≤ result → IsTold W.has_failed Fault.Link ⊥ (IsNoRun T.contents config budget (R.remaining file) trace.old trace.new (W.contents out.old) (W.contents out.new)) out.old out.new result }
     ensures failed { W.has_failed out.new ≡ true → result ≡ 3 }
 {
     match carried_out(alloc, file, config, budget, trace, out) {
@@ -63,10 +62,10 @@ fn carried_out<R: Read + Drop, T: LinkWrite, W: LinkWrite>(
     requires works { IsWorking T.has_failed trace.old }
     requires prints { W.has_failed out.old ≡ false }
     ensures failed { IsErrOf result Fault.Link ↔ (W.has_failed out.new ≡ true) }
-    ensures reported { IfOk result (IsRun T.contents config budget trace.old trace.new (R.remaining file) (W.contents out.old) (W.contents out.new)) }
+    ensures reported { IfOk result (λ status. IsPrinted (IsRunReport T.contents config budget (R.remaining file) trace.old trace.new status) (W.contents out.old) (W.contents out.new)) }
     ensures low { IfOk result (λ status. status ≤ 1) }
     ensures told { IfErr result (IsNoRun T.contents config budget (R.remaining file) trace.old trace.new (W.contents out.old) (W.contents out.new)) }
-    ensures silent { IfErr result (λ fault. fault ≢ Fault.Link → out.new ≡ out.old) }
+    ensures silent { OnErr result (W.has_failed out.new ≡ false → out.new ≡ out.old) }
 {
     let log = ran(alloc, file, config, budget)?;
     let (text, status) = reported(alloc, &log)?;
@@ -77,7 +76,7 @@ fn carried_out<R: Read + Drop, T: LinkWrite, W: LinkWrite>(
 
 /// The log of a run.
 fn ran<R: Read + Drop>(alloc: Global, file: R, config: Config, budget: u32) -> Result<Logged, Fault>
-    ensures ran { IfOk result (HasRun config budget (R.remaining file)) }
+    ensures ran { IfOk result (IsFinishedRun config budget (R.remaining file)) }
     ensures refused { IfErr result (IsNotRun config budget (R.remaining file)) }
 {
     let image = image_of(alloc, file, &config)?;

@@ -3,7 +3,7 @@
 ghost use Rattle.run_commands.specs.Reports.{IsExitOf};
 
 use command_io::{DONE, STOPPED_BY_FAULT};
-use machine_steps::Machine;
+use machine_runs::Machine;
 use machine_sweep::any_is_faulted;
 
 /// The exit status of a machine that is reported.

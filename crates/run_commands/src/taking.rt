@@ -2,12 +2,12 @@
 
 ghost use Rattle.std.specs.Prelude.{◌≡◌, ◌≤◌, ◌++◌, List, IfOk, IfErr, OnOk, length};
 ghost use Rattle.steps.specs.declared.step.Step.{Step};
-ghost use Rattle.machine_steps.specs.Machines.{MachineLists, IsIdle};
-ghost use Rattle.machine_steps.specs.Draining.{drain_steps};
+ghost use Rattle.machine_runs.specs.Machines.{MachineLists, IsIdle};
+ghost use Rattle.machine_runs.specs.Draining.{drain_steps};
 ghost use Rattle.run_commands.specs.declared.taking.RetakeError.TheVariants.{Memory as NoMemory};
 ghost use Rattle.run_commands.specs.Retaking.{IsRetaken, IsNotRetaken};
 
-use machine_steps::Machine;
+use machine_runs::{Machine, drain_step, most_moves};
 use run_report::Tally;
 use std::alloc::{AllocError, Global};
 use steps::Step;
@@ -54,7 +54,7 @@ pub fn retaken(alloc: Global, machine: &mut Machine, steps: &[Step]) -> Result<T
     Ok(tally)
 }
 
-/// Takes steps until no reference is open, as [`Machine::drain`] does, and notes what each answers.
+/// Takes steps until no reference is open, as [`machine_runs::drain`] does, and notes what each answers.
 ///
 /// # Errors
 ///
@@ -66,8 +66,8 @@ pub fn drained(machine: &mut Machine, tally: &mut Tally) -> Result<(), AllocErro
 {
     // The proof needs that the machine is one.
     let _ = machine.is_idle();
-    for _ in 0..machine.most_moves() {
-        let Some(step) = machine.drain_step() else {
+    for _ in 0..most_moves(machine) {
+        let Some(step) = drain_step(machine) else {
             return Ok(());
         };
         let outcome = machine.apply(step);

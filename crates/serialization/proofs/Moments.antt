@@ -19,7 +19,7 @@ use Rattle.serialization.proofs.Serial.{PlaceOf, Follows}
 use Rattle.serialization.proofs.Simulating.{owed_reply}
 
 -- which steps issue, and which retire
-module _ {Core : Type 0} (z : Sizes) (P : Program Core) (M : Machine Core) where
+module _ {Core Pokes Entry : Type 0} (z : Sizes) (P : Program Core Pokes Entry) (M : Machine Core) where
   -- a reply was there
   pub record Replied (p value : ℕ) : Type 0 where
     pub opened : M.is_open p ≡ true
@@ -28,17 +28,17 @@ module _ {Core : Type 0} (z : Sizes) (P : Program Core) (M : Machine Core) where
     pub is : M.net.replies 0 p ≡ first ∷ rest
     pub value_is : first.value ≡ value
 
-  up_retires : (r : UpMove × Net) (p value : ℕ) → (went_up M r).outcome ≡ Retired p value → ⊥
+  up_retires : (r : UpMove × Net) (p value : ℕ) → (went_up {Pokes = Pokes} M r).outcome ≡ Retired p value → ⊥
   up_retires (up.Stalled, net) p value e = cc
   up_retires (up.Moved, net) p value e = cc
   up_retires (up.Combined a b, net) p value e = cc
 
-  down_retires : (r : DownMove × Net) (p value : ℕ) → (went_down M r).outcome ≡ Retired p value → ⊥
+  down_retires : (r : DownMove × Net) (p value : ℕ) → (went_down {Pokes = Pokes} M r).outcome ≡ Retired p value → ⊥
   down_retires (down.Stalled, net) p value e = cc
   down_retires (down.Moved, net) p value e = cc
   down_retires (down.Answered a, net) p value e = cc
 
-  serve_retires : (m : ℕ) (xs : List Request) (ys : List Reply) (p value : ℕ) → (serve_from z M m xs ys).outcome ≡ Retired p value → ⊥
+  serve_retires : (m : ℕ) (xs : List Request) (ys : List Reply) (p value : ℕ) → (serve_from {Pokes = Pokes} z M m xs ys).outcome ≡ Retired p value → ⊥
   serve_retires m [] ys p value e = cc
   serve_retires m (x ∷ xs) [] p value e = cc
   serve_retires m (x ∷ xs) (y ∷ ys) p value e = cc
@@ -58,7 +58,7 @@ module _ {Core : Type 0} (z : Sizes) (P : Program Core) (M : Machine Core) where
       go Alone g = cc
       go Refers g = cc
 
-  pub retires_by : (st : Step) (p value : ℕ) → (step z P M st).outcome ≡ Retired p value → Replied p value
+  pub retires_by : (st : Step Pokes) (p value : ℕ) → (step z P M st).outcome ≡ Retired p value → Replied p value
   retires_by (Turn q) p value e = go (nat_lt q (wires z)) e
     where
       go : (b : Bool) → (if b then turned P M q (M.is_open q) else stalled M).outcome ≡ Retired p value → Replied p value
@@ -66,36 +66,36 @@ module _ {Core : Type 0} (z : Sizes) (P : Program Core) (M : Machine Core) where
       go false g = absurd (cc)
   retires_by (Up s w) p value e = absurd (go (nat_lt w (wires z)) e)
     where
-      go : (b : Bool) → (if b then went_up M (moved_up z M.net s w) else stalled M).outcome ≡ Retired p value → ⊥
+      go : (b : Bool) → (if b then went_up {Pokes = Pokes} M (moved_up z M.net s w) else stalled M).outcome ≡ Retired p value → ⊥
       go true g = up_retires (moved_up z M.net s w) p value g
       go false g = cc
   retires_by (Serve m) p value e = absurd (go (nat_lt m (wires z)) e)
     where
-      go : (b : Bool) → (if b then serve_from z M m (M.net.requests z.k m) (M.net.replies z.k m) else stalled M).outcome ≡ Retired p value → ⊥
+      go : (b : Bool) → (if b then serve_from {Pokes = Pokes} z M m (M.net.requests z.k m) (M.net.replies z.k m) else stalled M).outcome ≡ Retired p value → ⊥
       go true g = serve_retires m (M.net.requests z.k m) (M.net.replies z.k m) p value g
       go false g = cc
   retires_by (Down s w) p value e = absurd (go (nat_lt w (wires z)) e)
     where
-      go : (b : Bool) → (if b then went_down M (moved_down z M.net s w) else stalled M).outcome ≡ Retired p value → ⊥
+      go : (b : Bool) → (if b then went_down {Pokes = Pokes} M (moved_down z M.net s w) else stalled M).outcome ≡ Retired p value → ⊥
       go true g = down_retires (moved_down z M.net s w) p value g
       go false g = cc
-  retires_by (Poke q) p value e = absurd (go (all_shut (wires z) M.is_open && P.is_lawful q) e)
+  retires_by (Poke q) p value e = absurd (go (all_shut (wires z) M.is_open && P.is_lawful M.core q) e)
     where
       go : (b : Bool) → (if b then poked P M q else stalled M).outcome ≡ Retired p value → ⊥
       go true g = cc
       go false g = cc
 
-  up_issues : (r : UpMove × Net) (p : ℕ) → (went_up M r).outcome ≡ Issued p → ⊥
+  up_issues : (r : UpMove × Net) (p : ℕ) → (went_up {Pokes = Pokes} M r).outcome ≡ Issued p → ⊥
   up_issues (up.Stalled, net) p e = cc
   up_issues (up.Moved, net) p e = cc
   up_issues (up.Combined a b, net) p e = cc
 
-  down_issues : (r : DownMove × Net) (p : ℕ) → (went_down M r).outcome ≡ Issued p → ⊥
+  down_issues : (r : DownMove × Net) (p : ℕ) → (went_down {Pokes = Pokes} M r).outcome ≡ Issued p → ⊥
   down_issues (down.Stalled, net) p e = cc
   down_issues (down.Moved, net) p e = cc
   down_issues (down.Answered a, net) p e = cc
 
-  serve_issues : (m : ℕ) (xs : List Request) (ys : List Reply) (p : ℕ) → (serve_from z M m xs ys).outcome ≡ Issued p → ⊥
+  serve_issues : (m : ℕ) (xs : List Request) (ys : List Reply) (p : ℕ) → (serve_from {Pokes = Pokes} z M m xs ys).outcome ≡ Issued p → ⊥
   serve_issues m [] ys p e = cc
   serve_issues m (x ∷ xs) [] p e = cc
   serve_issues m (x ∷ xs) (y ∷ ys) p e = cc
@@ -113,7 +113,7 @@ module _ {Core : Type 0} (z : Sizes) (P : Program Core) (M : Machine Core) where
       go [] g = cc
       go (y ∷ ys) g = cc
 
-  pub issues_by : (st : Step) (p : ℕ) → (step z P M st).outcome ≡ Issued p → M.is_open p ≡ false
+  pub issues_by : (st : Step Pokes) (p : ℕ) → (step z P M st).outcome ≡ Issued p → M.is_open p ≡ false
   issues_by (Turn q) p e = go (nat_lt q (wires z)) e
     where
       go : (b : Bool) → (if b then turned P M q (M.is_open q) else stalled M).outcome ≡ Issued p → M.is_open p ≡ false
@@ -121,20 +121,20 @@ module _ {Core : Type 0} (z : Sizes) (P : Program Core) (M : Machine Core) where
       go false g = absurd (cc)
   issues_by (Up s w) p e = absurd (go (nat_lt w (wires z)) e)
     where
-      go : (b : Bool) → (if b then went_up M (moved_up z M.net s w) else stalled M).outcome ≡ Issued p → ⊥
+      go : (b : Bool) → (if b then went_up {Pokes = Pokes} M (moved_up z M.net s w) else stalled M).outcome ≡ Issued p → ⊥
       go true g = up_issues (moved_up z M.net s w) p g
       go false g = cc
   issues_by (Serve m) p e = absurd (go (nat_lt m (wires z)) e)
     where
-      go : (b : Bool) → (if b then serve_from z M m (M.net.requests z.k m) (M.net.replies z.k m) else stalled M).outcome ≡ Issued p → ⊥
+      go : (b : Bool) → (if b then serve_from {Pokes = Pokes} z M m (M.net.requests z.k m) (M.net.replies z.k m) else stalled M).outcome ≡ Issued p → ⊥
       go true g = serve_issues m (M.net.requests z.k m) (M.net.replies z.k m) p g
       go false g = cc
   issues_by (Down s w) p e = absurd (go (nat_lt w (wires z)) e)
     where
-      go : (b : Bool) → (if b then went_down M (moved_down z M.net s w) else stalled M).outcome ≡ Issued p → ⊥
+      go : (b : Bool) → (if b then went_down {Pokes = Pokes} M (moved_down z M.net s w) else stalled M).outcome ≡ Issued p → ⊥
       go true g = down_issues (moved_down z M.net s w) p g
       go false g = cc
-  issues_by (Poke q) p e = absurd (go (all_shut (wires z) M.is_open && P.is_lawful q) e)
+  issues_by (Poke q) p e = absurd (go (all_shut (wires z) M.is_open && P.is_lawful M.core q) e)
     where
       go : (b : Bool) → (if b then poked P M q else stalled M).outcome ≡ Issued p → ⊥
       go true g = cc
@@ -142,14 +142,17 @@ module _ {Core : Type 0} (z : Sizes) (P : Program Core) (M : Machine Core) where
 
 -- ---- at the moment
 
-module _ {Core : Type 0} (z : Sizes) (P : Program Core) (good : ℕ → Core → Type 0) (first : FlatMachine Core) (h : Passed Core) (f : Follows z P good first h) where
+module _ {Core Pokes Entry : Type 0} (z : Sizes) (P : Program Core Pokes Entry) (good : ℕ → Core → Type 0) (first : FlatMachine Core) (h : Passed Core Entry)
+    (f : Follows z P good first h) where
   by_place : (p : ℕ) (place : Option ℕ) → PlaceOf P first h.order h.machine.core p place (f.owed p) → f.owed p ≡ None → place ≡ None
   by_place p None a none = refl
   by_place p (Some i) a none = let c : None ≡ Some a.0 = sym none ∙ a.1 in absurd (cc)
 
-  by_word : (p word : ℕ) (place : Option ℕ) → PlaceOf P first h.order h.machine.core p place (f.owed p) → f.owed p ≡ Some word → (i : ℕ) × (place ≡ Some i) × FindsAt P first h.order h.machine.core p i word
+  by_word : (p word : ℕ) (place : Option ℕ) → PlaceOf P first h.order h.machine.core p place (f.owed p) → f.owed p ≡ Some word
+      → (i : ℕ) × (place ≡ Some i) × FindsAt P first h.order h.machine.core p i word
   by_word p word None a found = let c : None ≡ Some word = sym a ∙ found in absurd (cc)
-  by_word p word (Some i) a found = let c : Some a.0 ≡ Some word = sym a.1 ∙ found in let same : a.0 ≡ word = cc in (i, refl, subst (λ v. FindsAt P first h.order h.machine.core p i v) same a.2)
+  by_word p word (Some i) a found = let c : Some a.0 ≡ Some word = sym a.1 ∙ found in let same : a.0 ≡ word = cc in
+      (i, refl, subst (λ v. FindsAt P first h.order h.machine.core p i v) same a.2)
 
   pub shut_unserved : (p : ℕ) → h.machine.is_open p ≡ false → h.served p ≡ None
   shut_unserved p e = by_place p (h.served p) (f.places p) ((f.simulates.shut p e).1)
@@ -158,10 +161,12 @@ module _ {Core : Type 0} (z : Sizes) (P : Program Core) (good : ℕ → Core →
   pub unserved_of : (p : ℕ) → f.owed p ≡ None → h.served p ≡ None
   unserved_of p e = by_place p (h.served p) (f.places p) e
 
-  pub retires_served : (st : Step) (p value : ℕ) → (step z P h.machine st).outcome ≡ Retired p value → (place : ℕ) × (h.served p ≡ Some place) × FindsAt P first h.order h.machine.core p place value
+  pub retires_served : (st : Step Pokes) (p value : ℕ) → (step z P h.machine st).outcome ≡ Retired p value
+      → (place : ℕ) × (h.served p ≡ Some place) × FindsAt P first h.order h.machine.core p place value
   retires_served st p value e =
       let r = retires_by z P h.machine st p value e in
-      let found : f.owed p ≡ Some value = owed_reply z P good h.machine h.group f.owed (flat_run P first h.order) p r.first r.rest f.simulates r.is ∙ ap Some r.value_is in
+      let found : f.owed p ≡ Some value = owed_reply z P good h.machine h.group f.owed (flat_run P first h.order) p r.first r.rest f.simulates r.is
+      ∙ ap Some r.value_is in
       by_word p value (h.served p) (f.places p) found
 
   pub at_the_moment : AtTheMoment z P first h
@@ -179,8 +184,11 @@ module _ {Core : Type 0} (z : Sizes) (P : Program Core) (good : ℕ → Core →
       none p e = subst (λ o. PlaceOf P first h.order h.machine.core p o (f.owed p)) e (f.places p)
 
 -- from idle to idle
-pub idle_is_flat : {Core : Type 0} → (z : Sizes) (P : Program Core) (good : ℕ → Core → Type 0) (first : FlatMachine Core) (h : Passed Core) → Follows z P good first h → IsIdle z h.machine → IsFlat h.machine (flat_run P first h.order)
+pub idle_is_flat : {Core Pokes Entry : Type 0}
+    → (z : Sizes) (P : Program Core Pokes Entry) (good : ℕ → Core → Type 0) (first : FlatMachine Core) (h : Passed Core Entry) → Follows z P good first h
+    → IsIdle z h.machine → IsFlat h.machine (flat_run P first h.order)
 idle_is_flat z P good first h f no_open =
     let m = at_the_moment z P good first h f in
-    let shut : (p : ℕ) → h.machine.is_open p ≡ false = (λ p. elim (cases_Bool (h.machine.is_open p)) [ inl o ↦ absurd (true≢false (sym o ∙ no_open p (f.simulates.within p o))) | inr c ↦ c ]) in
+    let shut : (p : ℕ) → h.machine.is_open p ≡ false =
+    (λ p. elim (cases_Bool (h.machine.is_open p)) [ inl o ↦ absurd (true≢false (sym o ∙ no_open p (f.simulates.within p o))) | inr c ↦ c ]) in
     (m.words, (λ p. sym (m.unserved p (m.shut p (shut p)))))

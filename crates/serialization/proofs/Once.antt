@@ -4,46 +4,52 @@ use Rattle.std.specs.Prelude.{if◌then◌else◌}
 use Rattle.std.proofs.lemmas.Bool.{cases_eq, cases_Bool, true≢false}
 use Rattle.messages.specs.Places.{put, In}
 use Rattle.messages.specs.Network.{Sizes}
-use Rattle.flat_machine.specs.declared.poke.Entry.{Entry}
 use Rattle.std.specs.Prelude.{◌||◌}
 use Rattle.abstract_machine.specs.Program.{Program, Keeps}
 use Rattle.abstract_machine.specs.Machine.{Machine, Step, Outcome, Issued, Advanced, Retired, Moved, Combined, Served, Answered, Poked, Stalled, step}
 use Rattle.serialization.specs.Order.{group_after, segment, served_from, served_after, Passed, pass, passes, from_machine, FlatMachine, flat_of, ran, outcomes, groups_after, serial_order}
-use Rattle.placement.proofs.Places.{put_same, put_other}
+use Rattle.messages.proofs.Places.{put_same, put_other}
 use Rattle.serialization.specs.Serialization.{Begins, serves, times_served, IsRetirement, HasNotRetired, EachServedOnce, is_among}
 use Rattle.serialization.proofs.Serial.{Follows, follows, follows_step, follows_passes}
 use Rattle.serialization.proofs.Moments.{issues_by, retires_served, shut_unserved, unserved_of}
 
 -- ---- runs and their outcomes
 
-pub groups_by_outcomes : {Core : Type 0} → (z : Sizes) (P : Program Core) (steps : List Step) (h : Passed Core) → (passes z P steps h).group ≡ groups_after h.group (outcomes z P steps h.machine)
+pub groups_by_outcomes : {Core Pokes Entry : Type 0} → (z : Sizes) (P : Program Core Pokes Entry) (steps : List (Step Pokes)) (h : Passed Core Entry)
+    → (passes z P steps h).group ≡ groups_after h.group (outcomes z P steps h.machine)
 unfolding passes outcomes groups_after
 groups_by_outcomes z P [] h = refl
 groups_by_outcomes z P (st ∷ sts) h = groups_by_outcomes z P sts (pass z P h st)
 
-order_so_far : {Core : Type 0} → (z : Sizes) (P : Program Core) (steps : List Step) (h : Passed Core) → (passes z P steps h).order ≡ h.order ++ serial_order h.group (outcomes z P steps h.machine)
+order_so_far : {Core Pokes Entry : Type 0} → (z : Sizes) (P : Program Core Pokes Entry) (steps : List (Step Pokes)) (h : Passed Core Entry)
+    → (passes z P steps h).order ≡ h.order ++ serial_order P.entry h.group (outcomes z P steps h.machine)
 unfolding passes outcomes serial_order
 order_so_far z P [] h = sym (append-nil h.order)
 order_so_far z P (st ∷ sts) h =
     let r = step z P h.machine st in
-    order_so_far z P sts (pass z P h st) ∙ append_assoc h.order (segment h.group r.outcome) (serial_order (group_after h.group r.outcome) (outcomes z P sts r.machine))
+    order_so_far z P sts (pass z P h st)
+    ∙ append_assoc h.order (segment P.entry h.group r.outcome) (serial_order P.entry (group_after h.group r.outcome) (outcomes z P sts r.machine))
 
-pub order_by_outcomes : {Core : Type 0} → (z : Sizes) (P : Program Core) (M : Machine Core) (steps : List Step) → (ran z P M steps).order ≡ serial_order (λ p. []) (outcomes z P steps M)
+pub order_by_outcomes : {Core Pokes Entry : Type 0} → (z : Sizes) (P : Program Core Pokes Entry) (M : Machine Core) (steps : List (Step Pokes))
+    → (ran z P M steps).order ≡ serial_order P.entry (λ p. []) (outcomes z P steps M)
 order_by_outcomes z P M steps = order_so_far z P steps (from_machine M)
 
-groups_after-append : (group : ℕ → List ℕ) (os ps : List Outcome) → groups_after group (os ++ ps) ≡ groups_after (groups_after group os) ps
+groups_after-append : {Pokes : Type 0} → (group : ℕ → List ℕ) (os ps : List (Outcome Pokes))
+    → groups_after group (os ++ ps) ≡ groups_after (groups_after group os) ps
 unfolding groups_after
 groups_after-append group [] ps = refl
 groups_after-append group (o ∷ os) ps = groups_after-append (group_after group o) os ps
 
 -- where the outcomes are cut, the steps are
-pub record CutAt {Core : Type 0} (z : Sizes) (P : Program Core) (h : Passed Core) (os ps : List Outcome) : Type 0 where
-  pub front : List Step
-  pub back : List Step
+pub record CutAt {Core Pokes Entry : Type 0} (z : Sizes) (P : Program Core Pokes Entry) (h : Passed Core Entry) (os ps : List (Outcome Pokes)) : Type 0 where
+  pub front : List (Step Pokes)
+  pub back : List (Step Pokes)
   pub front_is : outcomes z P front h.machine ≡ os
   pub back_is : outcomes z P back (passes z P front h).machine ≡ ps
 
-cut : {Core : Type 0} → (z : Sizes) (P : Program Core) (h : Passed Core) (steps : List Step) (os ps : List Outcome) → outcomes z P steps h.machine ≡ os ++ ps → CutAt z P h os ps
+cut : {Core Pokes Entry : Type 0}
+    → (z : Sizes) (P : Program Core Pokes Entry) (h : Passed Core Entry) (steps : List (Step Pokes)) (os ps : List (Outcome Pokes))
+    → outcomes z P steps h.machine ≡ os ++ ps → CutAt z P h os ps
 unfolding outcomes passes
 cut z P h steps [] ps e = record { front = []; back = steps; front_is = refl; back_is = e }
 cut z P h [] (o ∷ os) ps e = absurd (cc)
@@ -54,13 +60,16 @@ cut z P h (st ∷ sts) (o ∷ os) ps e =
     record { front = st ∷ c.front; back = c.back; front_is = ap₂ (λ a b. a ∷ b) first c.front_is; back_is = c.back_is }
 
 -- the first step of outcomes that are there
-pub record Begun {Core : Type 0} (z : Sizes) (P : Program Core) (h : Passed Core) (o : Outcome) (os : List Outcome) : Type 0 where
-  pub first : Step
-  pub rest : List Step
+pub record Begun {Core Pokes Entry : Type 0} (z : Sizes) (P : Program Core Pokes Entry) (h : Passed Core Entry) (o : Outcome Pokes)
+    (os : List (Outcome Pokes)) : Type 0 where
+  pub first : Step Pokes
+  pub rest : List (Step Pokes)
   pub first_is : (step z P h.machine first).outcome ≡ o
   pub rest_is : outcomes z P rest (pass z P h first).machine ≡ os
 
-begun : {Core : Type 0} → (z : Sizes) (P : Program Core) (h : Passed Core) (steps : List Step) (o : Outcome) (os : List Outcome) → outcomes z P steps h.machine ≡ o ∷ os → Begun z P h o os
+begun : {Core Pokes Entry : Type 0}
+    → (z : Sizes) (P : Program Core Pokes Entry) (h : Passed Core Entry) (steps : List (Step Pokes)) (o : Outcome Pokes) (os : List (Outcome Pokes))
+    → outcomes z P steps h.machine ≡ o ∷ os → Begun z P h o os
 unfolding outcomes
 begun z P h [] o os e = absurd (cc)
 begun z P h (st ∷ sts) o os e = record { first = st; rest = sts; first_is = cc; rest_is = cc }
@@ -101,11 +110,13 @@ unfolding served_from is_among
 served_not_among p [] i served e = refl
 served_not_among p (j ∷ js) i served e = elim (cases_Bool (j == p)) [
   | inl s ↦ absurd (true≢false (sym (ap (λ b. b || is_among p js) s) ∙ e))
-  | inr n ↦ served_not_among p js (suc i) (put served j (Some i)) (sym (ap (λ b. b || is_among p js) n) ∙ e) ∙ put_other served j (Some i) p (λ q. true≢false (sym (eq-eqb j p (sym q)) ∙ n))
+  | inr n ↦ served_not_among p js (suc i) (put served j (Some i)) (sym (ap (λ b. b || is_among p js) n) ∙ e)
+      ∙ put_other served j (Some i) p (λ q. true≢false (sym (eq-eqb j p (sym q)) ∙ n))
 ]
 
 -- a step that does not retire p serves p, or leaves it as it was
-counts : (group : ℕ → List ℕ) (order : List Entry) (served : ℕ → Option ℕ) (p : ℕ) (o : Outcome) → (IsRetirement p o → ⊥) → ((l : ℕ) → In p (group l) → served p ≡ None)
+counts : {Pokes Entry : Type 0} → (group : ℕ → List ℕ) (order : List Entry) (served : ℕ → Option ℕ) (p : ℕ) (o : Outcome Pokes) → (IsRetirement p o → ⊥)
+    → ((l : ℕ) → In p (group l) → served p ≡ None)
     → mark (served_after group order served o p) ≡ mark (served p) + serves group p o
 counts group order served p (Retired q v) n h = ap mark (put_other served q None p (λ e. n (sym e))) ∙ omega arith
 counts group order served p (Served l) n h = go (is_among p (group l)) refl
@@ -121,7 +132,9 @@ counts group order served p (Answered a) n h = omega arith
 counts group order served p (Poked q) n h = omega arith
 counts group order served p Stalled n h = omega arith
 
-counts_all : {Core : Type 0} → (z : Sizes) (P : Program Core) (good : ℕ → Core → Type 0) (keeps : Keeps P good) (first : FlatMachine Core) (p : ℕ) (steps : List Step) (h : Passed Core) → Follows z P good first h → HasNotRetired p (outcomes z P steps h.machine)
+counts_all : {Core Pokes Entry : Type 0}
+    → (z : Sizes) (P : Program Core Pokes Entry) (good : ℕ → Core → Type 0) (keeps : Keeps P good) (first : FlatMachine Core) (p : ℕ)
+    (steps : List (Step Pokes)) (h : Passed Core Entry) → Follows z P good first h → HasNotRetired p (outcomes z P steps h.machine)
     → mark ((passes z P steps h).served p) ≡ mark (h.served p) + times_served h.group p (outcomes z P steps h.machine)
 unfolding passes outcomes times_served HasNotRetired
 counts_all z P good keeps first p [] h f n = omega arith
@@ -136,21 +149,26 @@ at_most_one None = omega arith
 at_most_one (Some i) = omega arith
 
 -- the groups after an issue
-group_at : {Core : Type 0} → (z : Sizes) (P : Program Core) (h : Passed Core) (before : List Outcome) (st : Step) (p : ℕ) → h.group ≡ groups_after (λ q. []) before → (step z P h.machine st).outcome ≡ Issued p → (pass z P h st).group ≡ groups_after (λ q. []) (before ++ Issued p ∷ [])
+group_at : {Core Pokes Entry : Type 0}
+    → (z : Sizes) (P : Program Core Pokes Entry) (h : Passed Core Entry) (before : List (Outcome Pokes)) (st : Step Pokes) (p : ℕ)
+    → h.group ≡ groups_after (λ q. []) before → (step z P h.machine st).outcome ≡ Issued p
+    → (pass z P h st).group ≡ groups_after (λ q. []) (before ++ Issued p ∷ [])
 unfolding groups_after
 group_at z P h before st p group is = (λ i. group_after (group i) (is i)) ∙ sym (groups_after-append (λ q. []) before (Issued p ∷ []))
 
 -- from after the issue on
-once_from : {Core : Type 0} → (z : Sizes) (P : Program Core) (good : ℕ → Core → Type 0) → Keeps P good → (first : FlatMachine Core) (h : Passed Core) → Follows z P good first h → (steps : List Step) (between rest : List Outcome) (p : ℕ)
+once_from : {Core Pokes Entry : Type 0} → (z : Sizes) (P : Program Core Pokes Entry) (good : ℕ → Core → Type 0) → Keeps P good
+    → (first : FlatMachine Core) (h : Passed Core Entry) → Follows z P good first h → (steps : List (Step Pokes)) (between rest : List (Outcome Pokes)) (p : ℕ)
     → outcomes z P steps h.machine ≡ between ++ rest → HasNotRetired p between → h.served p ≡ None
-    → (times_served h.group p between ≤ 1) × ((value : ℕ) (later : List Outcome) → rest ≡ Retired p value ∷ later → times_served h.group p between ≡ 1)
-once_from {Core} z P good keeps first h f steps between rest p e not_retired none =
+    → (times_served h.group p between ≤ 1) × ((value : ℕ) (later : List (Outcome Pokes)) → rest ≡ Retired p value ∷ later → times_served h.group p between ≡ 1)
+once_from {Core} {Entry = Entry} z P good keeps first h f steps between rest p e not_retired none =
     let d = cut z P h steps between rest e in
-    let h' : Passed Core = passes z P d.front h in
+    let h' : Passed Core Entry = passes z P d.front h in
     let f' : Follows z P good first h' = follows_passes z P good keeps first d.front h f in
     let count : mark (h'.served p) ≡ times_served h.group p between =
     counted (mark (h'.served p)) (times_served h.group p (outcomes z P d.front h.machine)) (times_served h.group p between) (h.served p)
-    (counts_all z P good keeps first p d.front h f (subst (HasNotRetired p) (sym d.front_is) not_retired)) none (λ i. times_served h.group p (d.front_is i)) in (
+    (counts_all z P good keeps first p d.front h f (subst (HasNotRetired p) (sym d.front_is) not_retired)) none
+    (λ i. times_served h.group p (d.front_is i)) in (
       subst (λ n. n ≤ 1) count (at_most_one (h'.served p)),
       (λ value later g.
           let last : outcomes z P d.back h'.machine ≡ Retired p value ∷ later = d.back_is ∙ g in
@@ -170,15 +188,19 @@ once_from {Core} z P good keeps first h f steps between rest p e not_retired non
         none_more n = omega arith
     counted m n t (Some i) e none same = absurd (cc)
 
-pub served_once : {Core : Type 0} → (z : Sizes) (P : Program Core) (good : ℕ → Core → Type 0) → Keeps P good → (M : Machine Core) → Begins z P good M → (steps : List Step) → EachServedOnce (outcomes z P steps M)
-served_once {Core} z P good keeps M b steps before between rest p e not_retired =
+pub served_once : {Core Pokes Entry : Type 0} → (z : Sizes) (P : Program Core Pokes Entry) (good : ℕ → Core → Type 0) → Keeps P good → (M : Machine Core)
+    → Begins z P good M → (steps : List (Step Pokes)) → EachServedOnce (outcomes z P steps M)
+served_once {Core} {Entry = Entry} z P good keeps M b steps before between rest p e not_retired =
     let c = cut z P (from_machine M) steps before (Issued p ∷ (between ++ rest)) e in
-    let h : Passed Core = ran z P M c.front in
+    let h : Passed Core Entry = ran z P M c.front in
     let f : Follows z P good (flat_of M) h = follows z P good keeps M b c.front in
     let i = begun z P h c.back (Issued p) (between ++ rest) c.back_is in
-    let group : (pass z P h i.first).group ≡ groups_after (λ q. []) (before ++ Issued p ∷ []) = group_at z P h before i.first p (groups_by_outcomes z P c.front (from_machine M) ∙ (λ j. groups_after (λ q. []) (c.front_is j))) i.first_is in
-    let unserved : (pass z P h i.first).served p ≡ None = (λ j. served_after h.group h.order h.served (i.first_is j) p) ∙ shut_unserved z P good (flat_of M) h f p (issues_by z P h.machine i.first p i.first_is) in
-    let once = once_from z P good keeps (flat_of M) (pass z P h i.first) (follows_step z P good keeps (flat_of M) h f i.first) i.rest between rest p i.rest_is not_retired unserved in
+    let group : (pass z P h i.first).group ≡ groups_after (λ q. []) (before ++ Issued p ∷ []) =
+    group_at z P h before i.first p (groups_by_outcomes z P c.front (from_machine M) ∙ (λ j. groups_after (λ q. []) (c.front_is j))) i.first_is in
+    let unserved : (pass z P h i.first).served p ≡ None = (λ j. served_after h.group h.order h.served (i.first_is j) p)
+    ∙ shut_unserved z P good (flat_of M) h f p (issues_by z P h.machine i.first p i.first_is) in
+    let once = once_from z P good keeps (flat_of M) (pass z P h i.first)
+    (follows_step z P good keeps (flat_of M) h f i.first) i.rest between rest p i.rest_is not_retired unserved in
     record {
       at_most = subst (λ (g : ℕ → List ℕ). times_served g p between ≤ 1) group once.0;
       exactly = λ value later g. subst (λ (g : ℕ → List ℕ). times_served g p between ≡ 1) group (once.1 value later g);

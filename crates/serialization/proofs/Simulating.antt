@@ -11,45 +11,50 @@ use Rattle.messages.specs.Network.{Sizes, wires, Net, put_requests, put_replies,
 use Rattle.messages.specs.Moves.{injected, module_taken, module_replied, port_taken}
 use Rattle.omega_wires.specs.Wires.{path as way}
 use Rattle.omega_wires.proofs.Paths.{path_zero}
-use Rattle.flat_machine.specs.declared.poke.Poke as pokes
-use Rattle.flat_machine.specs.declared.poke.Entry.TheVariants as entry
 use Rattle.placement.specs.Giving.{leaves}
 use Rattle.placement.specs.Roles.{Role, Idle, Asking, Told, Placed, Unnamed}
 use Rattle.placement.specs.Meaning.{Means, Executed, execute, execute_all}
 use Rattle.abstract_machine.specs.Program.{Program, Alone, Refers, Keeps, own_of, word_of, path_of}
 use Rattle.abstract_machine.specs.Machine.{Machine, stalled, with_net, retire_from, request_of, issue, advance, serve_from, poked}
-use Rattle.serialization.specs.Order.{FlatMachine, flat_turn, flat_step, flat_run}
+use Rattle.serialization.specs.Order.{FlatMachine, flat_turn, flat_taken, flat_step, flat_run}
 use Rattle.serialization.specs.Simulation.{shows, Simulates, Kept}
-use Rattle.placement.proofs.Places.{put_same, put_other}
+use Rattle.messages.proofs.Places.{put_same, put_other}
 use Rattle.placement.proofs.Giving.{gives_leads}
 use Rattle.placement.proofs.Executing.{executed_mem, executed_other, put_agree}
 use Rattle.placement.proofs.Roles.{pop_request, pop_request_unnamed, push_request, push_reply, pop_reply, pop_reply_unnamed, placed_change, unnamed_idle, below_role, placed_nowhere, small_put, not_idle}
 use Rattle.placement.proofs.Meaning.{request_led, means_pop_request, means_pop_reply, means_serve, groups_serve, means_change, groups_change, groups_issue, means_issue, means_nothing}
 use Rattle.placement.proofs.Algebra.{applied_small}
 
-pub kept_stalled : {Core : Type 0} → (z : Sizes) (P : Program Core) (good : ℕ → Core → Type 0) (M : Machine Core) (group : ℕ → List ℕ) (owed : ℕ → Option ℕ) (F : FlatMachine Core) → Simulates z P good M group owed F → Kept z P good M.core group owed F (stalled M)
+pub kept_stalled : {Core Pokes Entry : Type 0}
+    → (z : Sizes) (P : Program Core Pokes Entry) (good : ℕ → Core → Type 0) (M : Machine Core) (group : ℕ → List ℕ) (owed : ℕ → Option ℕ)
+    (F : FlatMachine Core) → Simulates z P good M group owed F → Kept z P good M.core group owed F (stalled M)
 unfolding flat_run
 kept_stalled z P good M group owed F ok = ok
 
 -- a reference in the flat machine, of a core that is known
-flat_refers : {Core : Type 0} → (P : Program Core) (F : FlatMachine Core) (j : ℕ) (c : Core) → F.core j ≡ c → P.kind j c ≡ Refers
-    → flat_step P F (entry.Processor j) ≡ record { mem = put F.mem (P.word_of j c) (applied (P.phi_of j c) (F.mem (P.word_of j c))); core = put F.core j (P.retire j c (F.mem (P.word_of j c))) }
-flat_refers P F j c e refers = (λ i. flat_turn P F j (e i) (P.kind j (e i))) ∙ ap (flat_turn P F j c) refers
+flat_refers : {Core Pokes Entry : Type 0} → (P : Program Core Pokes Entry) (F : FlatMachine Core) (j : ℕ) (c : Core) → F.core j ≡ c → P.kind j c ≡ Refers
+    → flat_step P F (P.entry.turn j) ≡ record {
+      mem = put F.mem (P.word_of j c) (applied (P.phi_of j c) (F.mem (P.word_of j c)));
+      core = put F.core j (P.retire j c (F.mem (P.word_of j c)));
+    }
+flat_refers P F j c e refers = ap (flat_taken P F) (P.entry.of_turn j) ∙ (λ i. flat_turn P F j (e i) (P.kind j (e i))) ∙ ap (flat_turn P F j c) refers
 
 -- a turn alone
-flat_advances : {Core : Type 0} → (P : Program Core) (F : FlatMachine Core) (j : ℕ) (c : Core) → F.core j ≡ c → P.kind j c ≡ Alone
-    → flat_step P F (entry.Processor j) ≡ record { mem = F.mem; core = put F.core j (P.alone j c) }
-flat_advances P F j c e alone = (λ i. flat_turn P F j (e i) (P.kind j (e i))) ∙ ap (flat_turn P F j c) alone
+flat_advances : {Core Pokes Entry : Type 0} → (P : Program Core Pokes Entry) (F : FlatMachine Core) (j : ℕ) (c : Core) → F.core j ≡ c → P.kind j c ≡ Alone
+    → flat_step P F (P.entry.turn j) ≡ record { mem = F.mem; core = put F.core j (P.alone j c) }
+flat_advances P F j c e alone = ap (flat_taken P F) (P.entry.of_turn j) ∙ (λ i. flat_turn P F j (e i) (P.kind j (e i))) ∙ ap (flat_turn P F j c) alone
 
 -- one of a group in the flat machine, and in its view
-pub flat_shows_one : {Core : Type 0} → (P : Program Core) (core : ℕ → Core) (j : ℕ) (f : Executed) (F : FlatMachine Core) → f.owed j ≡ None → P.kind j (core j) ≡ Refers
+pub flat_shows_one : {Core Pokes Entry : Type 0} → (P : Program Core Pokes Entry) (core : ℕ → Core) (j : ℕ) (f : Executed) (F : FlatMachine Core)
+    → f.owed j ≡ None → P.kind j (core j) ≡ Refers
     → ((a : ℕ) → f.mem a ≡ F.mem a) → ((p : ℕ) → F.core p ≡ shows P p (f.owed p) (core p))
-    → ((a : ℕ) → (execute (own_of P core) (word_of P core) f j).mem a ≡ (flat_step P F (entry.Processor j)).mem a) × ((p : ℕ) → (flat_step P F (entry.Processor j)).core p ≡ shows P p ((execute (own_of P core) (word_of P core) f j).owed p) (core p))
+    → ((a : ℕ) → (execute (own_of P core) (word_of P core) f j).mem a ≡ (flat_step P F (P.entry.turn j)).mem a)
+    × ((p : ℕ) → (flat_step P F (P.entry.turn j)).core p ≡ shows P p ((execute (own_of P core) (word_of P core) f j).owed p) (core p))
 flat_shows_one {Core} P core j f F none refer mems shown =
     let g : F.core j ≡ core j = shown j ∙ ap (λ o. shows P j o (core j)) none in
     let a : ℕ = P.word_of j (core j) in
     let G : FlatMachine Core = record { mem = put F.mem a (applied (P.phi_of j (core j)) (F.mem a)); core = put F.core j (P.retire j (core j) (F.mem a)) } in
-    let st : flat_step P F (entry.Processor j) ≡ G = flat_refers P F j (core j) g refer in
+    let st : flat_step P F (P.entry.turn j) ≡ G = flat_refers P F j (core j) g refer in
     let f' : Executed = execute (own_of P core) (word_of P core) f j in
     let same_mem : (i : ℕ) → f'.mem i ≡ G.mem i
     = (λ i. put_agree f.mem F.mem a (applied (P.phi_of j (core j)) (f.mem a)) i mems ∙ ap (λ v. put F.mem a (applied (P.phi_of j (core j)) v) i) (mems a)) in
@@ -57,26 +62,31 @@ flat_shows_one {Core} P core j f F none refer mems shown =
     = (λ p. elim (cases_eq p j) [
       | inl e ↦ ap G.core e ∙ put_same F.core j (P.retire j (core j) (F.mem a)) ∙ ap (λ v. P.retire j (core j) v) (sym (mems a))
           ∙ ap (λ o. shows P j o (core j)) (sym (put_same f.owed j (Some (f.mem a)))) ∙ ap (λ i. shows P i (f'.owed i) (core i)) (sym e)
-      | inr n ↦ put_other F.core j (P.retire j (core j) (F.mem a)) p n ∙ shown p ∙ ap (λ o. shows P p o (core p)) (sym (put_other f.owed j (Some (f.mem a)) p n))
+      | inr n ↦ put_other F.core j (P.retire j (core j) (F.mem a)) p n ∙ shown p
+          ∙ ap (λ o. shows P p o (core p)) (sym (put_other f.owed j (Some (f.mem a)) p n))
     ]) in
     subst (λ (H : FlatMachine Core). ((i : ℕ) → f'.mem i ≡ H.mem i) × ((p : ℕ) → H.core p ≡ shows P p (f'.owed p) (core p))) (sym st) (same_mem, same_core)
 
 -- the others of a group that begins with j are still to go
-pub still_none : (f : Executed) (own : ℕ → Phi) (word : ℕ → ℕ) (j : ℕ) (js : List ℕ) → Distinct (j ∷ js) → ((i : ℕ) → In i (j ∷ js) → f.owed i ≡ None) → (i : ℕ) → In i js → (execute own word f j).owed i ≡ None
+pub still_none : (f : Executed) (own : ℕ → Phi) (word : ℕ → ℕ) (j : ℕ) (js : List ℕ) → Distinct (j ∷ js) → ((i : ℕ) → In i (j ∷ js) → f.owed i ≡ None)
+    → (i : ℕ) → In i js → (execute own word f j).owed i ≡ None
 still_none f own word j js d none i m = put_other f.owed j (Some (f.mem (word j))) i (λ e. d.0 (subst (λ l. In l js) e m)) ∙ none i (inr m)
 
 -- a group in the flat machine, and in its view
-pub flat_shows : {Core : Type 0} → (P : Program Core) (core : ℕ → Core) (js : List ℕ) (f : Executed) (F : FlatMachine Core) → Distinct js → ((j : ℕ) → In j js → f.owed j ≡ None) → ((j : ℕ) → In j js → P.kind j (core j) ≡ Refers)
+pub flat_shows : {Core Pokes Entry : Type 0} → (P : Program Core Pokes Entry) (core : ℕ → Core) (js : List ℕ) (f : Executed) (F : FlatMachine Core)
+    → Distinct js → ((j : ℕ) → In j js → f.owed j ≡ None) → ((j : ℕ) → In j js → P.kind j (core j) ≡ Refers)
     → ((a : ℕ) → f.mem a ≡ F.mem a) → ((p : ℕ) → F.core p ≡ shows P p (f.owed p) (core p))
-    → ((a : ℕ) → (execute_all (own_of P core) (word_of P core) f js).mem a ≡ (flat_run P F (map entry.Processor js)).mem a) × ((p : ℕ) → (flat_run P F (map entry.Processor js)).core p ≡ shows P p ((execute_all (own_of P core) (word_of P core) f js).owed p) (core p))
+    → ((a : ℕ) → (execute_all (own_of P core) (word_of P core) f js).mem a ≡ (flat_run P F (map P.entry.turn js)).mem a)
+    × ((p : ℕ) → (flat_run P F (map P.entry.turn js)).core p ≡ shows P p ((execute_all (own_of P core) (word_of P core) f js).owed p) (core p))
 unfolding flat_run execute_all
 flat_shows P core [] f F d none refer mems shown = (mems, shown)
 flat_shows P core (j ∷ js) f F d none refer mems shown =
     let one = flat_shows_one P core j f F (none j (inl refl)) (refer j (inl refl)) mems shown in
-    flat_shows P core js (execute (own_of P core) (word_of P core) f j) (flat_step P F (entry.Processor j)) d.1
+    flat_shows P core js (execute (own_of P core) (word_of P core) f j) (flat_step P F (P.entry.turn j)) d.1
     (still_none f (own_of P core) (word_of P core) j js d none) (λ i m. refer i (inr m)) one.0 one.1
 
-good_put : {Core : Type 0} → (good : ℕ → Core → Type 0) (core : ℕ → Core) (p : ℕ) (g : Core) → ((q : ℕ) → good q (core q)) → good p g → (q : ℕ) → good q (put core p g q)
+good_put : {Core : Type 0} → (good : ℕ → Core → Type 0) (core : ℕ → Core) (p : ℕ) (g : Core) → ((q : ℕ) → good q (core q)) → good p g → (q : ℕ)
+    → good q (put core p g q)
 good_put good core p g all one q = elim (cases_eq q p) [
   | inl e ↦ subst (λ i. good i (put core p g i)) (sym e) (subst (good p) (sym (put_same core p g)) one)
   | inr n ↦ subst (good q) (sym (put_other core p g q n)) (all q)
@@ -89,7 +99,8 @@ small_put_word mem a v all one i = elim (cases_eq i a) [
 ]
 
 -- a group leaves words, and is owed words
-executed_small : (own : ℕ → Phi) (word : ℕ → ℕ) (f : Executed) (js : List ℕ) → ((j : ℕ) → In j js → IsInRange (own j)) → ((a : ℕ) → f.mem a < 2 ^ 32) → ((p v : ℕ) → f.owed p ≡ Some v → v < 2 ^ 32)
+executed_small : (own : ℕ → Phi) (word : ℕ → ℕ) (f : Executed) (js : List ℕ) → ((j : ℕ) → In j js → IsInRange (own j)) → ((a : ℕ) → f.mem a < 2 ^ 32)
+    → ((p v : ℕ) → f.owed p ≡ Some v → v < 2 ^ 32)
     → ((a : ℕ) → (execute_all own word f js).mem a < 2 ^ 32) × ((p v : ℕ) → (execute_all own word f js).owed p ≡ Some v → v < 2 ^ 32)
 unfolding execute_all
 executed_small own word f [] range mems owes = (mems, owes)
@@ -102,7 +113,10 @@ executed_small own word f (j ∷ js) range mems owes =
       | inr n ↦ owes p v (sym (put_other f.owed j (Some (f.mem (word j))) p n) ∙ e)
     ])
 
-pub kept_issue : {Core : Type 0} → (z : Sizes) (P : Program Core) (good : ℕ → Core → Type 0) (M : Machine Core) (group : ℕ → List ℕ) (owed : ℕ → Option ℕ) (F : FlatMachine Core) (p : ℕ) → Simulates z P good M group owed F → p < wires z → M.is_open p ≡ false → P.kind p (M.core p) ≡ Refers → IsInRange (P.phi_of p (M.core p)) → Kept z P good M.core group owed F (issue P M p)
+pub kept_issue : {Core Pokes Entry : Type 0}
+    → (z : Sizes) (P : Program Core Pokes Entry) (good : ℕ → Core → Type 0) (M : Machine Core) (group : ℕ → List ℕ) (owed : ℕ → Option ℕ)
+    (F : FlatMachine Core) (p : ℕ) → Simulates z P good M group owed F → p < wires z → M.is_open p ≡ false → P.kind p (M.core p) ≡ Refers
+    → IsInRange (P.phi_of p (M.core p)) → Kept z P good M.core group owed F (issue P M p)
 unfolding flat_run injected
 kept_issue z P good M group owed F p ok l shut refers in_range =
     let path = path_of z P M.core in
@@ -135,14 +149,19 @@ kept_issue z P good M group owed F p ok l shut refers in_range =
     }
 
 -- a reply on its processor's wire is what the processor is owed
-pub owed_reply : {Core : Type 0} → (z : Sizes) (P : Program Core) (good : ℕ → Core → Type 0) (M : Machine Core) (group : ℕ → List ℕ) (owed : ℕ → Option ℕ) (F : FlatMachine Core) (p : ℕ) (y : Reply) (rest : List Reply) → Simulates z P good M group owed F → M.net.replies 0 p ≡ y ∷ rest → owed p ≡ Some y.value
+pub owed_reply : {Core Pokes Entry : Type 0}
+    → (z : Sizes) (P : Program Core Pokes Entry) (good : ℕ → Core → Type 0) (M : Machine Core) (group : ℕ → List ℕ) (owed : ℕ → Option ℕ)
+    (F : FlatMachine Core) (p : ℕ) (y : Reply) (rest : List Reply) → Simulates z P good M group owed F → M.net.replies 0 p ≡ y ∷ rest → owed p ≡ Some y.value
 owed_reply z P good M group owed F p y rest ok e =
     let path = path_of z P M.core in
     let here : In y (M.net.replies 0 p) = rw e (inl refl) in
     let is : y.leader ≡ p = sym (path_zero z.k y.leader (P.word_of y.leader (M.core y.leader) % wires z)) ∙ (ok.placed.replies 0 p y here).wire in
     ap owed (sym is) ∙ ok.means.replies 0 p y here (y.leader, y.value) (gives_leads (records_on path M.net.records) y.leader 0 y.value)
 
-pub kept_retire : {Core : Type 0} → (z : Sizes) (P : Program Core) (good : ℕ → Core → Type 0) (keeps : Keeps P good) (M : Machine Core) (group : ℕ → List ℕ) (owed : ℕ → Option ℕ) (F : FlatMachine Core) (p : ℕ) (y : Reply) (rest : List Reply) → Simulates z P good M group owed F → p < wires z → M.is_open p ≡ true → M.net.replies 0 p ≡ y ∷ rest
+pub kept_retire : {Core Pokes Entry : Type 0}
+    → (z : Sizes) (P : Program Core Pokes Entry) (good : ℕ → Core → Type 0) (keeps : Keeps P good) (M : Machine Core) (group : ℕ → List ℕ)
+    (owed : ℕ → Option ℕ) (F : FlatMachine Core) (p : ℕ) (y : Reply) (rest : List Reply) → Simulates z P good M group owed F → p < wires z
+    → M.is_open p ≡ true → M.net.replies 0 p ≡ y ∷ rest
     → Kept z P good M.core group owed F (retire_from P M p (y ∷ rest))
 unfolding flat_run port_taken
 kept_retire z P good keeps M group owed F p y rest ok l opened e =
@@ -165,14 +184,17 @@ kept_retire z P good keeps M group owed F p y rest ok l opened e =
       placed = placed_change z.k path (path_of z P core') ok.role Idle net1 p placed1 free
           (λ s w x m f. absurd (no_less s (below_role z.k path ok.role M.net p (Told 0) ok.placed told s w x m f)))
           (λ q d n. ap (λ g. way z.k q (P.word_of q g % wires z) d) (same q n));
-      means = means_change (own_of P M.core) (own_of P core') (word_of P M.core) (word_of P core') M.is_open path (path_of z P core') group owed (put owed p None) net1 p
+      means = means_change (own_of P M.core) (own_of P core') (word_of P M.core) (word_of P core') M.is_open path (path_of z P core') group owed
+          (put owed p None) net1 p
           (means_pop_reply (own_of P M.core) (word_of P M.core) path group owed M.net 0 p y (drop 1 (M.net.replies 0 p)) ok.means popped) free out_of
-          (λ q n. ap (P.phi_of q) (same q n)) (λ q n. ap (P.word_of q) (same q n)) (λ q d n. ap (λ g. way z.k q (P.word_of q g % wires z) d) (same q n)) (λ q n. put_other owed p None q n);
+          (λ q n. ap (P.phi_of q) (same q n)) (λ q n. ap (P.word_of q) (same q n)) (λ q d n. ap (λ g. way z.k q (P.word_of q g % wires z) d) (same q n))
+          (λ q n. put_other owed p None q n);
       groups = groups_change (word_of P M.core) (word_of P core') M.is_open (put M.is_open p false) group owed (put owed p None) p ok.groups out_of
           (λ q n. ap (P.word_of q) (same q n)) (λ q n. put_other owed p None q n) (λ q n. put_other M.is_open p false q n);
       mem_same = ok.mem_same;
       shown = λ q. elim (cases_eq q p) [
-        | inl f ↦ ap F.core f ∙ ok.shown p ∙ ap (λ o. shows P p o (M.core p)) found ∙ sym (put_same M.core p (P.retire p (M.core p) y.value)) ∙ ap (λ o. shows P p o (core' p)) (sym (put_same owed p None)) ∙ ap (λ i. shows P i (put owed p None i) (core' i)) (sym f)
+        | inl f ↦ ap F.core f ∙ ok.shown p ∙ ap (λ o. shows P p o (M.core p)) found ∙ sym (put_same M.core p (P.retire p (M.core p) y.value))
+            ∙ ap (λ o. shows P p o (core' p)) (sym (put_same owed p None)) ∙ ap (λ i. shows P i (put owed p None i) (core' i)) (sym f)
         | inr n ↦ ok.shown q ∙ ap₂ (shows P q) (sym (put_other owed p None q n)) (sym (same q n))
       ];
       shut = λ q f. elim (cases_eq q p) [
@@ -188,7 +210,8 @@ kept_retire z P good keeps M group owed F p y rest ok l opened e =
         | inl g ↦ subst (λ i. i < wires z) (sym g) l
         | inr n ↦ ok.within q (sym (put_other M.is_open p false q n) ∙ f)
       ];
-      good_cores = good_put good M.core p (P.retire p (M.core p) y.value) ok.good_cores (keeps.retire p (M.core p) y.value (ok.good_cores p) (ok.refers p opened) (ok.owed_words p y.value found));
+      good_cores = good_put good M.core p (P.retire p (M.core p) y.value) ok.good_cores
+          (keeps.retire p (M.core p) y.value (ok.good_cores p) (ok.refers p opened) (ok.owed_words p y.value found));
       words = ok.words;
       owed_words = λ q v f. elim (cases_eq q p) [
         | inl g ↦ (let c : None ≡ Some v = sym (ap (put owed p None) g ∙ put_same owed p None) ∙ f in cc)
@@ -199,7 +222,10 @@ kept_retire z P good keeps M group owed F p y rest ok l opened e =
     no_less : (s : ℕ) → s < 0 → ⊥
     no_less s h = omega arith
 
-pub kept_serve : {Core : Type 0} → (z : Sizes) (P : Program Core) (good : ℕ → Core → Type 0) (keeps : Keeps P good) (M : Machine Core) (group : ℕ → List ℕ) (owed : ℕ → Option ℕ) (F : FlatMachine Core) (m : ℕ) (x : Request) (rest : List Request) → Simulates z P good M group owed F → M.net.requests z.k m ≡ x ∷ rest
+pub kept_serve : {Core Pokes Entry : Type 0}
+    → (z : Sizes) (P : Program Core Pokes Entry) (good : ℕ → Core → Type 0) (keeps : Keeps P good) (M : Machine Core) (group : ℕ → List ℕ)
+    (owed : ℕ → Option ℕ) (F : FlatMachine Core) (m : ℕ) (x : Request) (rest : List Request) → Simulates z P good M group owed F
+    → M.net.requests z.k m ≡ x ∷ rest
     → Kept z P good M.core group owed F (serve_from z M m (x ∷ rest) [])
 unfolding module_taken module_replied
 kept_serve z P good keeps M group owed F m x rest ok e =
@@ -220,7 +246,8 @@ kept_serve z P good keeps M group owed F m x rest ok e =
     let refer : (j : ℕ) → In j (group p) → P.kind j (M.core j) ≡ Refers = (λ j i. ok.refers j (ok.groups.opened p j i)) in
     let flat = flat_shows P M.core (group p) f F (ok.groups.distinct p) (λ j i. ok.groups.unserved p j i) refer (λ a. refl) ok.shown in
     let led : In p (group p) = request_led own word group (records_on path M.net.records) z.k x mean in
-    let small_words = executed_small own word f (group p) (λ j i. keeps.phi j (M.core j) (ok.good_cores j) (refer j i)) (λ a. subst (λ v. v < 2 ^ 32) (ok.mem_same a) (ok.words a)) ok.owed_words in
+    let small_words = executed_small own word f (group p) (λ j i. keeps.phi j (M.core j) (ok.good_cores j) (refer j i))
+    (λ a. subst (λ v. v < 2 ^ 32) (ok.mem_same a) (ok.words a)) ok.owed_words in
     record {
       role = put ok.role p (Told z.k);
       placed = push_reply z.k path ok.role net1 z.k m y placed1 free
@@ -250,8 +277,11 @@ kept_serve z P good keeps M group owed F m x rest ok e =
     }
 
 -- a step with no segment and no new group, that changes the network alone
-pub kept_plain : {Core : Type 0} → (z : Sizes) (P : Program Core) (good : ℕ → Core → Type 0) (M : Machine Core) (group : ℕ → List ℕ) (owed : ℕ → Option ℕ) (F : FlatMachine Core) (net : Net) (role : ℕ → Role) (ok : Simulates z P good M group owed F)
-    → Placed z.k (path_of z P M.core) role net → Means (own_of P M.core) (word_of P M.core) (path_of z P M.core) group owed net → ((q : ℕ) → ok.role q ≡ Idle → role q ≡ Idle)
+pub kept_plain : {Core Pokes Entry : Type 0}
+    → (z : Sizes) (P : Program Core Pokes Entry) (good : ℕ → Core → Type 0) (M : Machine Core) (group : ℕ → List ℕ) (owed : ℕ → Option ℕ)
+    (F : FlatMachine Core) (net : Net) (role : ℕ → Role) (ok : Simulates z P good M group owed F)
+    → Placed z.k (path_of z P M.core) role net → Means (own_of P M.core) (word_of P M.core) (path_of z P M.core) group owed net
+    → ((q : ℕ) → ok.role q ≡ Idle → role q ≡ Idle)
     → Simulates z P good (with_net M net) group owed F
 kept_plain z P good M group owed F net role ok placed means idle = record {
   role = role;
@@ -270,7 +300,10 @@ kept_plain z P good M group owed F net role ok placed means idle = record {
 }
 
 -- a turn alone: a local instruction, or a stop
-pub kept_advance : {Core : Type 0} → (z : Sizes) (P : Program Core) (good : ℕ → Core → Type 0) (keeps : Keeps P good) (M : Machine Core) (group : ℕ → List ℕ) (owed : ℕ → Option ℕ) (F : FlatMachine Core) (p : ℕ) → Simulates z P good M group owed F → p < wires z → M.is_open p ≡ false → P.kind p (M.core p) ≡ Alone → Kept z P good M.core group owed F (advance P M p)
+pub kept_advance : {Core Pokes Entry : Type 0}
+    → (z : Sizes) (P : Program Core Pokes Entry) (good : ℕ → Core → Type 0) (keeps : Keeps P good) (M : Machine Core) (group : ℕ → List ℕ)
+    (owed : ℕ → Option ℕ) (F : FlatMachine Core) (p : ℕ) → Simulates z P good M group owed F → p < wires z → M.is_open p ≡ false → P.kind p (M.core p) ≡ Alone
+    → Kept z P good M.core group owed F (advance P M p)
 unfolding flat_run
 kept_advance {Core} z P good keeps M group owed F p ok l shut is =
     let path = path_of z P M.core in
@@ -286,12 +319,16 @@ kept_advance {Core} z P good keeps M group owed F p ok l shut is =
       placed = placed_change z.k path (path_of z P core') ok.role Idle M.net p ok.placed free
           (λ s w x m f. absurd (no_less s (below_role z.k path ok.role M.net p Idle ok.placed idle s w x m f)))
           (λ q d n. ap (λ g. way z.k q (P.word_of q g % wires z) d) (same q n));
-      means = means_change (own_of P M.core) (own_of P core') (word_of P M.core) (word_of P core') M.is_open path (path_of z P core') group owed owed M.net p ok.means free out_of
-          (λ q n. ap (P.phi_of q) (same q n)) (λ q n. ap (P.word_of q) (same q n)) (λ q d n. ap (λ g. way z.k q (P.word_of q g % wires z) d) (same q n)) (λ q n. refl);
-      groups = groups_change (word_of P M.core) (word_of P core') M.is_open M.is_open group owed owed p ok.groups out_of (λ q n. ap (P.word_of q) (same q n)) (λ q n. refl) (λ q n. refl);
+      means = means_change (own_of P M.core) (own_of P core') (word_of P M.core) (word_of P core') M.is_open path
+          (path_of z P core') group owed owed M.net p ok.means free out_of
+          (λ q n. ap (P.phi_of q) (same q n)) (λ q n. ap (P.word_of q) (same q n)) (λ q d n. ap (λ g. way z.k q (P.word_of q g % wires z) d) (same q n))
+          (λ q n. refl);
+      groups = groups_change (word_of P M.core) (word_of P core') M.is_open M.is_open group owed owed p ok.groups out_of (λ q n. ap (P.word_of q) (same q n))
+          (λ q n. refl) (λ q n. refl);
       mem_same = ok.mem_same;
       shown = λ q. elim (cases_eq q p) [
-        | inl f ↦ ap G.core f ∙ put_same F.core p (P.alone p (M.core p)) ∙ sym (put_same M.core p (P.alone p (M.core p))) ∙ ap (λ o. shows P p o (core' p)) (sym ((ok.shut p shut).1)) ∙ ap (λ i. shows P i (owed i) (core' i)) (sym f)
+        | inl f ↦ ap G.core f ∙ put_same F.core p (P.alone p (M.core p)) ∙ sym (put_same M.core p (P.alone p (M.core p)))
+            ∙ ap (λ o. shows P p o (core' p)) (sym ((ok.shut p shut).1)) ∙ ap (λ i. shows P i (owed i) (core' i)) (sym f)
         | inr n ↦ put_other F.core p (P.alone p (M.core p)) q n ∙ ok.shown q ∙ ap (shows P q (owed q)) (sym (same q n))
       ];
       shut = λ q f. elim (cases_eq q p) [
@@ -313,21 +350,32 @@ kept_advance {Core} z P good keeps M group owed F p ok l shut is =
     no_less s h = omega arith
 
 -- a poke of an idle machine
-pub kept_poked : {Core : Type 0} → (z : Sizes) (P : Program Core) (good : ℕ → Core → Type 0) (keeps : Keeps P good) (M : Machine Core) (group : ℕ → List ℕ) (owed : ℕ → Option ℕ) (F : FlatMachine Core) (q : pokes.Poke) → Simulates z P good M group owed F → ((p : ℕ) → p < wires z → M.is_open p ≡ false) → P.is_lawful q ≡ true → Kept z P good M.core group owed F (poked P M q)
+pub kept_poked : {Core Pokes Entry : Type 0}
+    → (z : Sizes) (P : Program Core Pokes Entry) (good : ℕ → Core → Type 0) (keeps : Keeps P good) (M : Machine Core) (group : ℕ → List ℕ)
+    (owed : ℕ → Option ℕ) (F : FlatMachine Core) (q : Pokes) → Simulates z P good M group owed F → ((p : ℕ) → p < wires z → M.is_open p ≡ false)
+    → P.is_lawful M.core q ≡ true → Kept z P good M.core group owed F (poked P M q)
 unfolding flat_run
 kept_poked z P good keeps M group owed F q ok shut lawful =
-    let all : (p : ℕ) → M.is_open p ≡ false = (λ p. elim (cases_Bool (M.is_open p)) [ inl o ↦ absurd (true≢false (sym o ∙ shut p (ok.within p o))) | inr c ↦ c ]) in
+    let all : (p : ℕ) → M.is_open p ≡ false =
+    (λ p. elim (cases_Bool (M.is_open p)) [ inl o ↦ absurd (true≢false (sym o ∙ shut p (ok.within p o))) | inr c ↦ c ]) in
     let idle : (p : ℕ) → ok.role p ≡ Idle = (λ p. (ok.shut p (all p)).0) in
     let none : (p : ℕ) → owed p ≡ None = (λ p. (ok.shut p (all p)).1) in
     let no_group : (p j : ℕ) → In j (group p) → ⊥ = (λ p j m. true≢false (sym (ok.groups.opened p j m) ∙ all j)) in
     let core' = P.poked_core q M.core in
     let mems : M.mem ≡ F.mem = (λ i a. ok.mem_same a i) in
     let cores : M.core ≡ F.core = (λ i p. sym (ok.shown p ∙ ap (λ o. shows P p o (M.core p)) (none p)) i) in
-    record {
+    subst (λ H. Simulates z P good (poked P M q).machine group owed H) (sym (ap (flat_taken P F) (P.entry.of_poke q))) (record {
       role = ok.role;
       placed = placed_nowhere z.k (path_of z P M.core) (path_of z P core') ok.role M.net ok.placed idle;
       means = means_nothing z.k (path_of z P M.core) ok.role M.net (own_of P core') (word_of P core') (path_of z P core') group owed ok.placed idle;
-      groups = record { opened = ok.groups.opened; unserved = ok.groups.unserved; one_word = λ p i j m o. absurd (no_group p i m); home = ok.groups.home; distinct = ok.groups.distinct };
+      groups = record {
+        opened = ok.groups.opened;
+        unserved = ok.groups.unserved;
+        one_word = λ p i j m o. absurd (no_group p i m);
+        home = ok.groups.home;
+        distinct =
+            ok.groups.distinct;
+      };
       mem_same = λ a. ap (λ f. P.poked_mem q f a) mems;
       shown = λ p. ap (λ f. P.poked_core q f p) (sym cores) ∙ ap (λ o. shows P p o (core' p)) (sym (none p));
       shut = ok.shut;
@@ -335,6 +383,6 @@ kept_poked z P good keeps M group owed F q ok shut lawful =
       small = ok.small;
       within = ok.within;
       good_cores = keeps.poked_core q M.core lawful ok.good_cores;
-      words = keeps.poked_mem q M.mem lawful ok.words;
+      words = keeps.poked_mem q M.core M.mem lawful ok.words;
       owed_words = ok.owed_words;
-    }
+    })

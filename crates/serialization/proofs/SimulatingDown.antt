@@ -20,8 +20,12 @@ use Rattle.placement.proofs.Roles.{pop_reply, pop_reply_unnamed, told_other}
 use Rattle.placement.proofs.Meaning.{means_pop_reply}
 use Rattle.serialization.proofs.Simulating.{kept_stalled, kept_plain}
 
-kept_answer : {Core : Type 0} → (z : Sizes) (P : Program Core) (good : ℕ → Core → Type 0) (M : Machine Core) (group : ℕ → List ℕ) (owed : ℕ → Option ℕ) (F : FlatMachine Core) (s w : ℕ) (x : Reply) (rest : List Reply) → Simulates z P good M group owed F → s < z.k → M.net.replies (suc s) w ≡ x ∷ rest
-    → Simulates z P good (with_net M (push_all (wire_before z.k s w) s (answers (records_of x.leader (M.net.records s w)) x) (put_records (put_replies M.net (suc s) w rest) s w (records_but x.leader (M.net.records s w))))) group owed F
+kept_answer : {Core Pokes Entry : Type 0}
+    → (z : Sizes) (P : Program Core Pokes Entry) (good : ℕ → Core → Type 0) (M : Machine Core) (group : ℕ → List ℕ) (owed : ℕ → Option ℕ)
+    (F : FlatMachine Core) (s w : ℕ) (x : Reply) (rest : List Reply) → Simulates z P good M group owed F → s < z.k → M.net.replies (suc s) w ≡ x ∷ rest
+    → Simulates z P good (with_net M
+    (push_all (wire_before z.k s w) s (answers (records_of x.leader (M.net.records s w)) x)
+    (put_records (put_replies M.net (suc s) w rest) s w (records_but x.leader (M.net.records s w))))) group owed F
 kept_answer z P good M group owed F s w x rest ok l e =
     let path = path_of z P M.core in
     let own = own_of P M.core in
@@ -39,23 +43,30 @@ kept_answer z P good M group owed F s w x rest ok l e =
       | inl i ↦ absurd (n i)
       | inr lq ↦ sym (before_path z.k q (word q % wires z) s l lq) ∙ ap (λ v. wire_before z.k s v q) on
     ]) in
-    kept_plain z P good M group owed F (push_all (wire_before z.k s w) s ys (put_records net1 s w (records_but p (M.net.records s w)))) (told_all s ys ok.role) ok
+    kept_plain z P good M group owed F (push_all (wire_before z.k s w) s ys (put_records net1 s w (records_but p (M.net.records s w))))
+    (told_all s ys ok.role) ok
     (answering_places z.k path (wire_before z.k s w) ok.role net1 s w x placed1 l free at.told at.wire back)
     (answering_meaning own word path group owed (wire_before z.k s w) net1 s w x means1 free (ok.means.replies (suc s) w x here) at.wire)
     (λ q i. told_other s ys ok.role q (λ y m g. answers_led z.k path ok.role net1 s w x placed1 at.told y m (ap ok.role g ∙ i)) ∙ i)
 
-pub kept_down : {Core : Type 0} → (z : Sizes) (P : Program Core) (good : ℕ → Core → Type 0) (M : Machine Core) (group : ℕ → List ℕ) (owed : ℕ → Option ℕ) (F : FlatMachine Core) (s w : ℕ) (xs : List Reply) → Simulates z P good M group owed F → s < z.k → M.net.replies (suc s) w ≡ xs → Kept z P good M.core group owed F (went_down M (down_from z M.net s w xs))
+pub kept_down : {Core Pokes Entry : Type 0}
+    → (z : Sizes) (P : Program Core Pokes Entry) (good : ℕ → Core → Type 0) (M : Machine Core) (group : ℕ → List ℕ) (owed : ℕ → Option ℕ)
+    (F : FlatMachine Core) (s w : ℕ) (xs : List Reply) → Simulates z P good M group owed F → s < z.k → M.net.replies (suc s) w ≡ xs
+    → Kept z P good M.core group owed F (went_down M (down_from z M.net s w xs))
 unfolding flat_run
 kept_down z P good M group owed F s w [] ok l e = kept_stalled z P good M group owed F ok
 kept_down z P good M group owed F s w (x ∷ rest) ok l e =
     let rs : List Record = records_of x.leader (M.net.records s w) in
-    let net3 : Net = push_all (wire_before z.k s w) s (answers rs x) (put_records (put_replies M.net (suc s) w rest) s w (records_but x.leader (M.net.records s w))) in
+    let net3 : Net = push_all (wire_before z.k s w) s (answers rs x)
+    (put_records (put_replies M.net (suc s) w rest) s w (records_but x.leader (M.net.records s w))) in
     go (has_room z.c (wire_before z.k s w) s net3 (answers rs x)) rs net3 (kept_answer z P good M group owed F s w x rest ok l e)
   where
-    named : (rs : List Record) (net : Net) → Simulates z P good (with_net M net) group owed F → Kept z P good M.core group owed F (went_down M (answered rs, net))
+    named : (rs : List Record) (net : Net) → Simulates z P good (with_net M net) group owed F
+        → Kept z P good M.core group owed F (went_down M (answered rs, net))
     named [] net h = h
     named (r ∷ rs) net h = h
 
-    go : (b : Bool) (rs : List Record) (net : Net) → Simulates z P good (with_net M net) group owed F → Kept z P good M.core group owed F (went_down M (if b then (answered rs, net) else (down.Stalled, M.net)))
+    go : (b : Bool) (rs : List Record) (net : Net) → Simulates z P good (with_net M net) group owed F
+        → Kept z P good M.core group owed F (went_down M (if b then (answered rs, net) else (down.Stalled, M.net)))
     go true rs net h = named rs net h
     go false rs net h = kept_stalled z P good M group owed F ok

@@ -1,7 +1,5 @@
 -- Serialization: the machine is the flat one that takes the serial order.
 use Rattle.std.specs.Prelude.{◌≡◌, ℕ, ◌+◌, ◌^◌, ◌<◌, ◌≤◌, Bool, true, false, ◌==◌, ◌||◌, List, [], ◌∷◌, ◌++◌, length, Some, None, if◌then◌else◌}
-use Rattle.flat_machine.specs.declared.poke.Entry.{Entry}
-use Rattle.flat_machine.specs.declared.poke.Entry.TheVariants as entry
 use Rattle.messages.specs.Network.{Sizes}
 use Rattle.placement.specs.Roles.{Role}
 use Rattle.abstract_machine.specs.Program.{Program, Keeps}
@@ -10,7 +8,7 @@ use Rattle.serialization.specs.Order.{group_after, groups_after, Passed, FlatMac
 use Rattle.abstract_machine.specs.Steadiness.{Steady}
 
 -- Where a run may begin: an idle machine that can have come about, with good cores and words of 32 bits.
-pub record Begins {Core : Type 0} (z : Sizes) (P : Program Core) (good : ℕ → Core → Type 0) (M : Machine Core) : Type 0 where
+pub record Begins {Core Pokes Entry : Type 0} (z : Sizes) (P : Program Core Pokes Entry) (good : ℕ → Core → Type 0) (M : Machine Core) : Type 0 where
   pub role : ℕ → Role
   pub steady : Steady z P M role
   pub idle : IsIdle z M
@@ -18,22 +16,25 @@ pub record Begins {Core : Type 0} (z : Sizes) (P : Program Core) (good : ℕ →
   pub words : (a : ℕ) → M.mem a < 2 ^ 32
 
 -- The entry of p at this place of the order, and the word that it finds: the flat machine's, after the entries before it.
-pub record FindsAt {Core : Type 0} (P : Program Core) (first : FlatMachine Core) (order : List Entry) (core : ℕ → Core) (p place word : ℕ) : Type 0 where
+pub record FindsAt {Core Pokes Entry : Type 0} (P : Program Core Pokes Entry) (first : FlatMachine Core) (order : List Entry) (core : ℕ → Core)
+    (p place word : ℕ) : Type 0 where
   pub before : List Entry
   pub later : List Entry
-  pub is : order ≡ before ++ entry.Processor p ∷ later
+  pub is : order ≡ before ++ P.entry.turn p ∷ later
   pub at_place : length before ≡ place
   pub found : word ≡ (flat_run P first before).mem (P.word_of p (core p))
 
 -- At every moment, after whatever steps: the shared words are the flat machine's after the order so far. A processor whose
 -- open reference is not served, or that has none open, stands as there. One that was served stands one reference behind:
 -- with the word that its entry of the order found it becomes what it is there, and that word is the value of its reply.
-pub record AtTheMoment {Core : Type 0} (z : Sizes) (P : Program Core) (first : FlatMachine Core) (h : Passed Core) : Type 0 where
+pub record AtTheMoment {Core Pokes Entry : Type 0} (z : Sizes) (P : Program Core Pokes Entry) (first : FlatMachine Core) (h : Passed Core Entry) : Type 0 where
   pub words : (a : ℕ) → h.machine.mem a ≡ (flat_run P first h.order).mem a
   pub shut : (p : ℕ) → h.machine.is_open p ≡ false → h.served p ≡ None
   pub unserved : (p : ℕ) → h.served p ≡ None → (flat_run P first h.order).core p ≡ h.machine.core p
-  pub served : (p place : ℕ) → h.served p ≡ Some place → (word : ℕ) × FindsAt P first h.order h.machine.core p place word × ((flat_run P first h.order).core p ≡ P.retire p (h.machine.core p) word)
-  pub retires : (p value : ℕ) → (step z P h.machine (Turn p)).outcome ≡ Retired p value → (place : ℕ) × (h.served p ≡ Some place) × FindsAt P first h.order h.machine.core p place value
+  pub served : (p place : ℕ) → h.served p ≡ Some place
+      → (word : ℕ) × FindsAt P first h.order h.machine.core p place word × ((flat_run P first h.order).core p ≡ P.retire p (h.machine.core p) word)
+  pub retires : (p value : ℕ) → (step z P h.machine (Turn p)).outcome ≡ Retired p value
+      → (place : ℕ) × (h.served p ≡ Some place) × FindsAt P first h.order h.machine.core p place value
 
 -- So where no reference is open, the machine is the flat one.
 abbrev pub IsFlat : {Core : Type 0} → Machine Core → FlatMachine Core → Type 0
@@ -46,53 +47,58 @@ is_among p [] = false
 is_among p (j ∷ js) = (j == p) || is_among p js
 
 -- whether this outcome serves p: 1 if it does
-abbrev pub serves : (ℕ → List ℕ) → ℕ → Outcome → ℕ
+abbrev pub serves : {Pokes : Type 0} → (ℕ → List ℕ) → ℕ → Outcome Pokes → ℕ
 serves group p (Served leader) = if is_among p (group leader) then 1 else 0
 serves group p _ = 0
 
 -- how often p is served
-unfoldable pub times_served : (ℕ → List ℕ) → ℕ → List Outcome → ℕ
+unfoldable pub times_served : {Pokes : Type 0} → (ℕ → List ℕ) → ℕ → List (Outcome Pokes) → ℕ
 times_served group p [] = 0
 times_served group p (o ∷ os) = serves group p o + times_served (group_after group o) p os
 
-abbrev pub IsRetirement : ℕ → Outcome → Type 0
+abbrev pub IsRetirement : {Pokes : Type 0} → ℕ → Outcome Pokes → Type 0
 IsRetirement p (Retired q value) = q ≡ p
 IsRetirement p _ = ⊥
 
-unfoldable pub HasNotRetired : ℕ → List Outcome → Type 0
+unfoldable pub HasNotRetired : {Pokes : Type 0} → ℕ → List (Outcome Pokes) → Type 0
 HasNotRetired p [] = Unit {0}
 HasNotRetired p (o ∷ os) = (IsRetirement p o → ⊥) × HasNotRetired p os
 
 -- From the issue of a reference on, as long as it has not retired, it is served at most once. Where it then retires, it was
 -- served exactly once.
-pub record ServedOnce (before between rest : List Outcome) (p : ℕ) : Type 0 where
+pub record ServedOnce {Pokes : Type 0} (before between rest : List (Outcome Pokes)) (p : ℕ) : Type 0 where
   pub at_most : times_served (groups_after (λ q. []) (before ++ Issued p ∷ [])) p between ≤ 1
-  pub exactly : (value : ℕ) (later : List Outcome) → rest ≡ Retired p value ∷ later → times_served (groups_after (λ q. []) (before ++ Issued p ∷ [])) p between ≡ 1
+  pub exactly : (value : ℕ) (later : List (Outcome Pokes)) → rest ≡ Retired p value ∷ later
+      → times_served (groups_after (λ q. []) (before ++ Issued p ∷ [])) p between ≡ 1
 
 -- so each issue in the outcomes
-abbrev pub EachServedOnce : List Outcome → Type 0
-EachServedOnce all = (before between rest : List Outcome) (p : ℕ) → all ≡ before ++ (Issued p ∷ (between ++ rest)) → HasNotRetired p between → ServedOnce before between rest p
+abbrev pub EachServedOnce : {Pokes : Type 0} → List (Outcome Pokes) → Type 0
+EachServedOnce {Pokes} all = (before between rest : List (Outcome Pokes)) (p : ℕ) → all ≡ before ++ (Issued p ∷ (between ++ rest)) → HasNotRetired p between
+    → ServedOnce before between rest p
 
 -- ---- the theorem, for every program and all lists of steps
 
-module _ (Core : Type 0) where
+module _ (Core Pokes Entry : Type 0) where
   -- cores are tested by a function
   abbrev pub Holds : (ℕ → Core → Bool) → ℕ → Core → Type 0
   Holds good p g = good p g ≡ true
 
   -- what is said of every run of a program that keeps its cores good, from where a run may begin
-  abbrev pub OfEachRun : (Sizes → Program Core → Machine Core → List Step → Type 0) → Type 0
-  OfEachRun Says = (z : Sizes) (P : Program Core) (good : ℕ → Core → Bool) (M : Machine Core) (steps : List Step) → Keeps P (Holds good) → Begins z P (Holds good) M → Says z P M steps
+  abbrev pub OfEachRun : (Sizes → Program Core Pokes Entry → Machine Core → List (Step Pokes) → Type 0) → Type 0
+  OfEachRun Says = (z : Sizes) (P : Program Core Pokes Entry) (good : ℕ → Core → Bool) (M : Machine Core) (steps : List (Step Pokes)) → Keeps P (Holds good)
+      → Begins z P (Holds good) M → Says z P M steps
 
   abbrev pub IsSerializedAtEveryMoment : Type 0
   IsSerializedAtEveryMoment = OfEachRun (λ z P M steps. AtTheMoment z P (flat_of M) (ran z P M steps))
 
   abbrev pub IsSerializedFromIdleToIdle : Type 0
-  IsSerializedFromIdleToIdle = OfEachRun (λ z P M steps. IsIdle z (ran z P M steps).machine → IsFlat (ran z P M steps).machine (flat_run P (flat_of M) (ran z P M steps).order))
+  IsSerializedFromIdleToIdle =
+      OfEachRun (λ z P M steps. IsIdle z (ran z P M steps).machine → IsFlat (ran z P M steps).machine (flat_run P (flat_of M) (ran z P M steps).order))
 
   -- the order is the serial order of the outcomes
   abbrev pub OrderIsOfOutcomes : Type 0
-  OrderIsOfOutcomes = (z : Sizes) (P : Program Core) (M : Machine Core) (steps : List Step) → (ran z P M steps).order ≡ serial_order (λ p. []) (outcomes z P steps M)
+  OrderIsOfOutcomes = (z : Sizes) (P : Program Core Pokes Entry) (M : Machine Core) (steps : List (Step Pokes))
+      → (ran z P M steps).order ≡ serial_order P.entry (λ p. []) (outcomes z P steps M)
 
   abbrev pub ReferencesAreServedOnce : Type 0
   ReferencesAreServedOnce = OfEachRun (λ z P M steps. EachServedOnce (outcomes z P steps M))

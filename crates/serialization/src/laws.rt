@@ -4,9 +4,9 @@ ghost use Rattle.serialization.specs.Serialization.{IsSerializedAtEveryMoment, I
 
 /// After whatever steps the machine is the flat one that takes the serial order, up to references that
 /// are served and have not retired; each reference is served once, between its issue and its retirement.
-pub fn serialization<Core>()
-    ensures moments { IsSerializedAtEveryMoment Core }
-    ensures idle { IsSerializedFromIdleToIdle Core }
-    ensures order { OrderIsOfOutcomes Core }
-    ensures once { ReferencesAreServedOnce Core }
+pub fn serialization<Core, Pokes, Entry>()
+    ensures moments { IsSerializedAtEveryMoment Core Pokes Entry }
+    ensures idle { IsSerializedFromIdleToIdle Core Pokes Entry }
+    ensures order { OrderIsOfOutcomes Core Pokes Entry }
+    ensures once { ReferencesAreServedOnce Core Pokes Entry }
 {}

@@ -2,7 +2,7 @@
 //!
 //! A step is one event of the machine: a processor's turn, one move of one message through one
 //! switch, one service by one memory module, or a write from outside. Each is applied whole. What
-//! each step does is said where the machine is (`machine_steps`).
+//! each step does is said where the machine is (`machine`).
 #![tactic(auto)]
 
 mod step;

@@ -65,3 +65,13 @@ impl Read for Endless {
         Ok(buf.len())
     }
 }
+
+/// A file whose every read fails.
+#[derive(Drop)]
+pub struct Broken;
+
+impl Read for Broken {
+    fn read(&mut self, _buf: &mut [u8]) -> io::Result<usize> {
+        Err(ErrorKind::BrokenPipe.into())
+    }
+}

@@ -1,6 +1,6 @@
 //! What the devices do at their calls.
 
-use crate::{Deaf, Endless, Sink, Source};
+use crate::{Broken, Deaf, Endless, Full, Sink, Source};
 use std::io::{Read, Write};
 
 #[test]
@@ -14,6 +14,7 @@ fn gives_a_byte_at_a_call(rt: HostRuntime) {
     assert_eq!(rt; buf[0], b'b');
     assert_eq!(rt; source.read(&mut buf).ok(), Some(0));
     assert_eq!(rt; Endless.read(&mut buf).ok(), Some(4));
+    assert!(rt; Broken.read(&mut buf).is_err());
 }
 
 #[test]
@@ -27,4 +28,6 @@ fn takes_a_byte_at_a_call(rt: HostRuntime) {
     assert_eq!(rt; sink.bytes.as_slice(), b"ab".as_slice());
     assert_eq!(rt; Deaf.write(b"ab").ok(), Some(0));
     assert!(rt; Deaf.flush().is_ok());
+    assert!(rt; Full.write(b"ab").is_err());
+    assert!(rt; Full.flush().is_ok());
 }

@@ -48,7 +48,8 @@ pub record Adds (k : ℕ) (old new : List Step) (piece rest : List ℕ) : Type 0
 -- why not all whole records of a piece were added: memory was short, or behind the records of these steps stands none
 abbrev pub IsNotAdded : (k : ℕ) → (piece : List ℕ) → TraceError → Type 0
 IsNotAdded k piece error.Memory = Unit {0}
-IsNotAdded k piece error.Record = (steps : List Step) × (rest : List ℕ) × HaveRecords k steps × (piece ≡ records_bytes steps ++ rest) × RecordFault k rest error.Record
+IsNotAdded k piece error.Record =
+    (steps : List Step) × (rest : List ℕ) × HaveRecords k steps × (piece ≡ records_bytes steps ++ rest) × RecordFault k rest error.Record
 IsNotAdded k piece error.Truncated = ⊥
 IsNotAdded k piece error.Header = ⊥
 IsNotAdded k piece error.Trailing = ⊥

@@ -19,10 +19,12 @@ pub fn spelled_or_faulty()
 
 /// Bytes have one fault at most, at one place.
 pub fn one_fault_at_most()
-    ensures { (bytes : List ℕ) (place other_place : ℕ) (fault other : TraceError) → FaultAt place bytes fault → FaultAt other_place bytes other → (place ≡ other_place) × (fault ≡ other) }
+    ensures { (bytes : List ℕ) (place other_place : ℕ) (fault other : TraceError)
+        → FaultAt place bytes fault → FaultAt other_place bytes other → (place ≡ other_place) × (fault ≡ other) }
 {}
 
 /// A fault stays what it is, whatever follows, unless it is that the bytes end there.
 pub fn faults_stay()
-    ensures { (bytes more : List ℕ) (place : ℕ) (fault : TraceError) → fault ≢ TraceError.Truncated → FaultAt place bytes fault → FaultAt place (bytes ++ more) fault }
+    ensures { (bytes more : List ℕ) (place : ℕ) (fault : TraceError)
+        → fault ≢ TraceError.Truncated → FaultAt place bytes fault → FaultAt place (bytes ++ more) fault }
 {}

@@ -15,8 +15,6 @@ mod fields;
 mod header;
 mod laws;
 mod read;
-#[cfg(test)]
-mod tests;
 mod trace;
 mod write;
 

@@ -11,7 +11,7 @@ use crate::fields::{Fields, RECORD_BYTES, has_record};
 use crate::header::Header;
 use arrayvec::ArrayVec;
 use flat_machine::Config;
-use link::{Failed, LinkWrite, write_whole};
+use link::{Failed, LinkWrite, parts_make_a_beginning, write_whole};
 use steps::{MAX_STEPS, Step};
 
 /// How many records go to the writer at once.
@@ -44,6 +44,8 @@ pub fn write_trace<W: LinkWrite>(
     ensures ok { OnOk result (Appends (W.contents writer.old) (W.contents writer.new) (trace_bytes (trace_of config.now steps.now))) }
     ensures err { OnErr result (AppendsPart (W.contents writer.old) (W.contents writer.new) (trace_bytes (trace_of config.now steps.now))) }
 {
+    // A law of what is written in parts, for the proof alone.
+    parts_make_a_beginning();
     write_whole(writer, &Header::new(config, steps).bytes())?;
     write_records(writer, steps)?;
     Ok(())
@@ -75,6 +77,8 @@ fn write_records<W: LinkWrite>(writer: &mut W, steps: &[Step]) -> Result<(), Fai
     ensures ok { OnOk result (Appends (W.contents writer.old) (W.contents writer.new) (records_bytes steps.now)) }
     ensures err { OnErr result (AppendsPart (W.contents writer.old) (W.contents writer.new) (records_bytes steps.now)) }
 {
+    // The same law.
+    parts_make_a_beginning();
     let mut rest = steps;
     while !rest.is_empty() {
         let (piece, behind) = rest.split_at(rest.len().min(RECORDS_IN_PIECE));

@@ -5,15 +5,15 @@ use Rattle.flat_machine.specs.declared.config.Config.{Config}
 use Rattle.flat_machine.specs.declared.event.Event.{Event}
 use Rattle.flat_machine.specs.State.{FlatState}
 use Rattle.elf_image.specs.Images.{ImageContents}
-use Rattle.abstract_machine.specs.Machine as theory
+use Rattle.machine_program.specs.Theory as theory
 use Rattle.steps.specs.declared.step.Step.{Step}
 use Rattle.steps.specs.declared.step.Step.TheVariants as step
 use Rattle.steps.specs.declared.step.Outcome.TheVariants.{Stalled}
 use Rattle.machine_program.specs.Processors.{Told}
 use Rattle.machine_program.specs.Steps.{outcome_of, after}
-use Rattle.machine_steps.specs.Machines.{MachineLists, machine_of}
-use Rattle.machine_steps.specs.Runs.{IsOpening, IsReplay, NoneStalls, all_after}
-use Rattle.machine_steps.proofs.Replaying.{outcome_there}
+use Rattle.machine_runs.specs.Machines.{MachineLists, machine_of}
+use Rattle.machine_runs.specs.Runs.{IsOpening, IsReplay, NoneStalls, all_after}
+use Rattle.machine_runs.proofs.Replaying.{outcome_there}
 use Rattle.trace_replay.specs.Replays.{StallsAt}
 
 -- a step of a replay does something where it is taken

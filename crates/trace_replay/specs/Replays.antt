@@ -4,8 +4,8 @@ use Rattle.steps.specs.declared.step.Step.{Step}
 use Rattle.steps.specs.declared.step.Step.TheVariants as step
 use Rattle.steps.specs.declared.step.Outcome.TheVariants.{Stalled}
 use Rattle.machine_program.specs.Steps.{outcome_of}
-use Rattle.machine_steps.specs.Machines.{MachineLists, machine_of}
-use Rattle.machine_steps.specs.Runs.{IsReplay}
+use Rattle.machine_runs.specs.Machines.{MachineLists, machine_of}
+use Rattle.machine_runs.specs.Runs.{IsReplay}
 
 -- The step at this place is the first that stalls: the machine stands after those before it, each of which did something.
 pub record StallsAt (old : MachineLists) (steps : List Step) (place : ℕ) (new : MachineLists) : Type 0 where

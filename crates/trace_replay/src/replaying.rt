@@ -1,11 +1,11 @@
 //! Replaying the steps of a trace.
 
 ghost use Rattle.std.specs.Prelude.{IfErr, OnOk};
-ghost use Rattle.machine_steps.specs.Machines.{IsIdle};
-ghost use Rattle.machine_steps.specs.Runs.{IsReplay, IsSerialized};
+ghost use Rattle.machine_runs.specs.Machines.{IsIdle};
+ghost use Rattle.machine_runs.specs.Runs.{IsReplay, IsSerialized};
 ghost use Rattle.trace_replay.specs.Replays.{StallsAt};
 
-use machine_steps::Machine;
+use machine_runs::Machine;
 use steps::Step;
 use thiserror::Error;
 

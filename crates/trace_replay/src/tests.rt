@@ -5,7 +5,7 @@ use crate::{StalledStep, replay};
 use elf_image::{Bytes, Image, Layout, read_image, write_image};
 use flat_machine::{CODE_START, Config, Poke, SHARED_START};
 use link::Meter;
-use machine_steps::Machine;
+use machine_runs::{Machine, run};
 use std::alloc::{AllocError, AllocGlobal, Global};
 use std::process::Abort;
 use std::test::Fail;
@@ -104,7 +104,7 @@ fn stops_at_a_step_that_stalls(rt: HostRuntime) -> Result<(), Fail> {
         let answer = replay(&mut machine, steps.as_slice());
         assert_eq!(rt; answer, Err(StalledStep { place }));
         let mut wanted = two_adds(&rt)?;
-        wanted.run(&COMBINED[..place]);
+        run(&mut wanted, &COMBINED[..place]);
         assert_eq!(rt; look_at(&machine), look_at(&wanted), "at {place}");
         assert_eq!(rt; machine.is_idle(), wanted.is_idle(), "at {place}");
     }

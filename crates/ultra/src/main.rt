@@ -1,15 +1,12 @@
 //! `ultra`: simulates the NYU Ultracomputer.
 #![tactic(auto)]
 
-mod asm;
-mod dis;
-
 ghost use Rattle.std.specs.Prelude.{◌≡◌, false};
 
-use asm::asm_command;
+use asm_command::asm_command;
 use clap::Error;
-use command_io::{CreateAt, OnFirstWrite, REFUSED};
-use dis::dis_command;
+use command_io::{CreateAt, Fault, OnFirstWrite, REFUSED, tell};
+use dis_command::dis_command;
 use flat_machine::Config;
 use link::{LinkWrite, Meter};
 use run_commands::{replay_command, run_command};
@@ -19,7 +16,7 @@ use std::io::{self, ErrorKind, Write};
 use std::process::ExitCode;
 use std::rt::{Env, Files};
 use std::{env, fs};
-use words_command::{WordsFault, tell, words_command};
+use words_command::words_command;
 
 fn main(rt: HostRuntime) -> ExitCode {
     let (stdout, stderr) = (rt.stdout(), rt.stderr());
@@ -42,20 +39,20 @@ fn carry_out<R: Env + Files + AllocGlobal, W: LinkWrite, E: Write>(
     };
     let alloc = rt.alloc();
     let Ok(arguments) = arguments.collect::<Vec<String>>(alloc) else {
-        return tell(WordsFault::Memory, err);
+        return tell(Fault::Memory, err);
     };
     let Ok(words) = texts(alloc, arguments.as_slice()) else {
-        return tell(WordsFault::Memory, err);
+        return tell(Fault::Memory, err);
     };
     match settings(alloc, words.as_slice()) {
         Ok(Settings::Words(words)) => match fs::open(rt, words.file) {
             Ok(file) => words_command(alloc, file, out, err),
-            Err(_) => tell(WordsFault::Link, err),
+            Err(_) => tell(Fault::Link, err),
         },
         Ok(Settings::Asm(asm)) => assemble_file(rt, &asm, err),
         Ok(Settings::Dis(dis)) => match fs::open(rt, dis.file) {
             Ok(file) => dis_command(alloc, file, dis.words, out, err),
-            Err(_) => tell(WordsFault::Link, err),
+            Err(_) => tell(Fault::Link, err),
         },
         Ok(Settings::Run(run)) => run_file(rt, &run, out, err),
         Ok(Settings::Replay(replay)) => replay_file(rt, &replay, out, err),
@@ -66,7 +63,7 @@ fn carry_out<R: Env + Files + AllocGlobal, W: LinkWrite, E: Write>(
 /// Does what `asm FILE OUT` asks for. OUT is opened by the first write to it.
 fn assemble_file<R: Files + AllocGlobal, E: Write>(rt: &R, asm: &Asm<'_>, err: &mut E) -> u8 {
     let Ok(file) = fs::open(rt, asm.file) else {
-        return tell(WordsFault::Link, err);
+        return tell(Fault::Link, err);
     };
     let mut out = Meter::new(OnFirstWrite::new(CreateAt {
         files: rt,
@@ -85,7 +82,7 @@ fn run_file<R: Files + AllocGlobal, W: LinkWrite, E: Write>(
     requires works { W.has_failed out.old ≡ false }
 {
     let Ok(file) = fs::open(rt, run.file) else {
-        return tell(WordsFault::Link, err);
+        return tell(Fault::Link, err);
     };
     let config = Config {
         k: run.k,
@@ -116,7 +113,7 @@ fn replay_file<R: Files + AllocGlobal, W: LinkWrite, E: Write>(
     requires works { W.has_failed out.old ≡ false }
 {
     let Ok(trace) = fs::open(rt, replay.trace) else {
-        return tell(WordsFault::Link, err);
+        return tell(Fault::Link, err);
     };
     let file = fs::open(rt, replay.file);
     replay_command(rt.alloc(), trace, file, replay.words, out, err)
@@ -134,7 +131,7 @@ fn texts<'a>(alloc: Global, arguments: &'a [String]) -> Result<Vec<&'a str>, All
 /// Tells that the arguments could not be read: one of them is no text, or there is no memory.
 fn refuse_arguments<E: Write>(kind: ErrorKind, err: &mut E) -> u8 {
     if kind == ErrorKind::OutOfMemory {
-        return tell(WordsFault::Memory, err);
+        return tell(Fault::Memory, err);
     }
     let _ = writeln!(err, "error: an argument is not UTF-8");
     REFUSED
@@ -145,7 +142,7 @@ fn refuse_arguments<E: Write>(kind: ErrorKind, err: &mut E) -> u8 {
 fn refuse<W: Write, E: Write>(error: &Error, out: &mut W, err: &mut E) -> u8 {
     let status = status_of(error);
     if status != REFUSED {
-        return tell(WordsFault::Memory, err);
+        return tell(Fault::Memory, err);
     }
     let _ = if error.use_stderr() {
         write!(err, "{error}")

@@ -16,12 +16,12 @@ use Rattle.steps.specs.declared.step.Outcome.{Outcome}
 use Rattle.steps.specs.declared.step.Outcome.TheVariants as outcome
 use Rattle.machine_program.specs.Processors.{no_processor}
 use Rattle.machine_program.proofs.Reading.{read_found}
-use Rattle.machine_steps.specs.Machines.{MachineLists, IsMachine}
-use Rattle.machine_steps.specs.Runs.{flat_state}
-use Rattle.machine_steps.specs.Whole.{event_of, IsOne}
-use Rattle.machine_steps.proofs.Flattening.{state_at, count_is}
+use Rattle.machine_runs.specs.Machines.{MachineLists, IsMachine}
+use Rattle.machine_runs.specs.Runs.{flat_state}
+use Rattle.machine_runs.specs.Whole.{event_of, IsOne}
+use Rattle.machine.proofs.Flattening.{state_at, count_is}
 use Rattle.words_command.specs.Command.{HasProcessor}
-use Rattle.words_command.specs.Running.{HasRun, is_retirement, is_retired, retirements, turns_of_zero, processor_of}
+use Rattle.words_command.specs.Running.{HasRunAlone, is_retirement, is_retired, retirements, turns_of_zero, processor_of}
 
 -- ---- one turn more
 
@@ -46,7 +46,7 @@ abbrev pub worth : Option Event → ℕ
 worth None = 0
 worth (Some event) = cond (is_retirement event) 1 0
 
-run_more : (a b c : FlatState) (retired : ℕ) (shown : Option Event) → HasRun a b retired → c ≡ flat_step b (entry.Processor 0) → shown ≡ flat_event b (entry.Processor 0) → HasRun a c (retired + worth shown)
+run_more : (a b c : FlatState) (retired : ℕ) (shown : Option Event) → HasRunAlone a b retired → c ≡ flat_step b (entry.Processor 0) → shown ≡ flat_event b (entry.Processor 0) → HasRunAlone a c (retired + worth shown)
 run_more a b c retired shown run is told =
     let n : ℕ = run.turns in
     let there : flat_event (flat_run a (turns_of_zero n)) (entry.Processor 0) ≡ shown = ap (λ f. flat_event f (entry.Processor 0)) (sym run.state) ∙ sym told in
@@ -87,14 +87,14 @@ worth_else (outcome.Answered to) e = refl
 worth_else outcome.Poked e = refl
 worth_else outcome.Stalled e = refl
 
-pub run_retired : (a : FlatState) (old new : MachineLists) (o : Outcome) (retired : ℕ) → HasRun a (flat_state old) retired → IsOne old 0 o new → is_retired o ≡ true → HasRun a (flat_state new) (retired + 1)
+pub run_retired : (a : FlatState) (old new : MachineLists) (o : Outcome) (retired : ℕ) → HasRunAlone a (flat_state old) retired → IsOne old 0 o new → is_retired o ≡ true → HasRunAlone a (flat_state new) (retired + 1)
 run_retired a old new o retired run one e =
-    subst (λ n. HasRun a (flat_state new) (retired + n)) (worth_retired o e) (run_more a (flat_state old) (flat_state new) retired (event_of o) run one.flat one.event)
+    subst (λ n. HasRunAlone a (flat_state new) (retired + n)) (worth_retired o e) (run_more a (flat_state old) (flat_state new) retired (event_of o) run one.flat one.event)
 
-pub run_stopped : (a : FlatState) (old new : MachineLists) (o : Outcome) (retired : ℕ) → HasRun a (flat_state old) retired → IsOne old 0 o new → is_retired o ≡ false → HasRun a (flat_state new) retired
+pub run_stopped : (a : FlatState) (old new : MachineLists) (o : Outcome) (retired : ℕ) → HasRunAlone a (flat_state old) retired → IsOne old 0 o new → is_retired o ≡ false → HasRunAlone a (flat_state new) retired
 run_stopped a old new o retired run one e =
     let same : retired + worth (event_of o) ≡ retired = (let none = worth_else o e in omega (arith, none)) in
-    subst (HasRun a (flat_state new)) same (run_more a (flat_state old) (flat_state new) retired (event_of o) run one.flat one.event)
+    subst (HasRunAlone a (flat_state new)) same (run_more a (flat_state old) (flat_state new) retired (event_of o) run one.flat one.event)
 
 -- ---- the processor after a stop
 

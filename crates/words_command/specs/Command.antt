@@ -1,16 +1,15 @@
 -- What `ultra words` does: from the bytes of a file to the bytes of a report.
 use Rattle.std.specs.Prelude.{◌≡◌, ◌⊎◌, ℕ, ◌≤◌, false, List, [], ◌∷◌, Option, Some, None, Ok, Err}
-use Rattle.std.specs.Io.KnownBytes.{Appends}
-use Rattle.link.specs.Transfer.{AppendsPart}
 use Rattle.flat_machine.specs.declared.event.Status.{Status}
 use Rattle.flat_machine.specs.declared.event.Status.TheVariants.{Running, Halted, Faulted}
 use Rattle.flat_machine.specs.State.{Processor, FlatState, is_running}
-use Rattle.words_command.specs.declared.command.WordsFault.{WordsFault}
-use Rattle.words_command.specs.declared.command.WordsFault.TheVariants as fault
+use Rattle.command_io.specs.declared.fault.Fault.{Fault}
+use Rattle.command_io.specs.declared.fault.Fault.TheVariants as fault
+use Rattle.command_io.specs.Printing.{IsPartPrinted}
 use Rattle.words_command.specs.HexText.{words_of_text}
 use Rattle.words_command.specs.Loading.{flat_of_words}
 use Rattle.words_command.specs.Report.{report_of}
-use Rattle.words_command.specs.Running.{HasRun}
+use Rattle.words_command.specs.Running.{HasRunAlone}
 
 -- The text spells what the file does, where the file's bytes are known. (It is their beginning: not all bytes need be read.)
 abbrev pub IsRead : Option (List ℕ) → List ℕ → Type 0
@@ -26,58 +25,51 @@ exit_status_of Running = 0
 exit_status_of (Halted byte) = 0
 exit_status_of (Faulted fault) = 1
 
--- The program that a text spells has run on the flat machine until its processor stopped, and that processor is reported.
-pub record IsReported (text : List ℕ) (old new : Option (List ℕ)) (status : ℕ) : Type 0 where
+-- The program that a text spells has run on the flat machine until its processor stopped; this is the report of that processor,
+-- and this the exit status.
+pub record IsProcessorReport (text : List ℕ) (status : ℕ) (report : List ℕ) : Type 0 where
   pub words : List ℕ
   pub spelled : words_of_text text ≡ Ok words
   pub last : FlatState
   pub retired : ℕ
   pub few : retired ≤ 1000000
-  pub run : HasRun (flat_of_words words) last retired
+  pub run : HasRunAlone (flat_of_words words) last retired
   pub processor : Processor
   pub alone : HasProcessor last processor
   pub stopped : is_running processor.status ≡ false
   pub exit : status ≡ exit_status_of processor.status
-  pub printed : Appends old new (report_of processor)
+  pub is : report ≡ report_of processor
 
--- That program has run, and a part of the report of its processor is printed, and not all of it.
-pub record IsPartReported (text : List ℕ) (old new : Option (List ℕ)) : Type 0 where
-  pub words : List ℕ
-  pub spelled : words_of_text text ≡ Ok words
-  pub last : FlatState
-  pub retired : ℕ
-  pub few : retired ≤ 1000000
-  pub run : HasRun (flat_of_words words) last retired
-  pub processor : Processor
-  pub alone : HasProcessor last processor
-  pub stopped : is_running processor.status ≡ false
-  pub part : AppendsPart old new (report_of processor)
+-- This is the report of the program that a file spells, and this the exit status.
+pub record IsWordsReport (known : Option (List ℕ)) (status : ℕ) (report : List ℕ) : Type 0 where
+  pub text : List ℕ
+  pub read : IsRead known text
+  pub is : IsProcessorReport text status report
+
+-- the report of a program, with whatever exit status
+abbrev pub IsSomeReport : (text report : List ℕ) → Type 0
+IsSomeReport text report = (status : ℕ) × IsProcessorReport text status report
 
 -- The program that a text spells has retired a million instructions on the flat machine.
 pub record IsOverBudget (text : List ℕ) : Type 0 where
   pub words : List ℕ
   pub spelled : words_of_text text ≡ Ok words
   pub last : FlatState
-  pub run : HasRun (flat_of_words words) last 1000000
+  pub run : HasRunAlone (flat_of_words words) last 1000000
 
--- what each fault says of the text, and of what is printed
-abbrev pub IsFaultOf : WordsFault → List ℕ → (old new : Option (List ℕ)) → Type 0
-IsFaultOf (fault.Line number) text old new = words_of_text text ≡ Err number
-IsFaultOf fault.Budget text old new = IsOverBudget text
-IsFaultOf fault.Link text old new = IsPartReported text old new
-IsFaultOf fault.Memory text old new = Unit {0}
+-- why a text's program is not reported, or not all of it: what each fault says of the text, and of what is printed
+abbrev pub IsNoReportOf : Fault → List ℕ → (old new : Option (List ℕ)) → Type 0
+IsNoReportOf (fault.Line number) text old new = words_of_text text ≡ Err number
+IsNoReportOf fault.Budget text old new = IsOverBudget text
+IsNoReportOf fault.Link text old new = IsPartPrinted (IsSomeReport text) old new
+IsNoReportOf fault.Memory text old new = Unit {0}
+IsNoReportOf other text old new = ⊥
 
--- What each fault says of a file, and of what is printed. A failed read says nothing of the bytes, and nothing is printed then.
+-- Why a file's program is not reported, or not all of it. A failed read says nothing of the bytes, and nothing is printed then.
 -- Want of memory says nothing.
-abbrev pub IsToldOf : Option (List ℕ) → (old new : Option (List ℕ)) → WordsFault → Type 0
-IsToldOf bytes old new (fault.Line number) = (text : List ℕ) × IsRead bytes text × IsFaultOf (fault.Line number) text old new
-IsToldOf bytes old new fault.Budget = (text : List ℕ) × IsRead bytes text × IsFaultOf fault.Budget text old new
-IsToldOf bytes old new fault.Link = (new ≡ old) ⊎ ((text : List ℕ) × IsRead bytes text × IsFaultOf fault.Link text old new)
-IsToldOf bytes old new fault.Memory = Unit {0}
-
--- the exit status that tells a fault
-abbrev pub status_of_fault : WordsFault → ℕ
-status_of_fault (fault.Line number) = 2
-status_of_fault fault.Link = 3
-status_of_fault fault.Memory = 4
-status_of_fault fault.Budget = 4
+abbrev pub IsNoWordsReport : Option (List ℕ) → (old new : Option (List ℕ)) → Fault → Type 0
+IsNoWordsReport bytes old new (fault.Line number) = (text : List ℕ) × IsRead bytes text × IsNoReportOf (fault.Line number) text old new
+IsNoWordsReport bytes old new fault.Budget = (text : List ℕ) × IsRead bytes text × IsNoReportOf fault.Budget text old new
+IsNoWordsReport bytes old new fault.Link = (new ≡ old) ⊎ ((text : List ℕ) × IsRead bytes text × IsNoReportOf fault.Link text old new)
+IsNoWordsReport bytes old new fault.Memory = Unit {0}
+IsNoWordsReport bytes old new other = ⊥

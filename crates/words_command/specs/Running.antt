@@ -8,7 +8,7 @@ use Rattle.flat_machine.specs.State.{Processor, FlatState}
 use Rattle.flat_machine.specs.Flat.{flat_run, flat_events}
 use Rattle.steps.specs.declared.step.Outcome.{Outcome}
 use Rattle.steps.specs.declared.step.Outcome.TheVariants as outcome
-use Rattle.machine_steps.specs.Machines.{MachineLists}
+use Rattle.machine_runs.specs.Machines.{MachineLists}
 use Rattle.machine_program.specs.Processors.{port_at}
 
 -- so many turns of processor 0
@@ -24,7 +24,7 @@ abbrev pub retirements : List (ℕ × Event) → ℕ
 retirements events = count_by (λ e. is_retirement e.1) events
 
 -- The flat machine has gone from one state to another in turns of processor 0 alone, which retired so many instructions.
-pub record HasRun (old new : FlatState) (retired : ℕ) : Type 0 where
+pub record HasRunAlone (old new : FlatState) (retired : ℕ) : Type 0 where
   pub turns : ℕ
   pub state : new ≡ flat_run old (turns_of_zero turns)
   pub count : retirements (flat_events old (turns_of_zero turns)) ≡ retired

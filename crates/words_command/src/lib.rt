@@ -10,7 +10,7 @@ mod run;
 #[cfg(test)]
 mod tests;
 
-pub use command::{WordsFault, tell, words_command};
+pub use command::words_command;
 pub use print::{PrintError, words_print};
 pub use read::{MAX_WORDS, WordsError, words_read};
 pub use run::{BUDGET, WordsEnd, words_run};

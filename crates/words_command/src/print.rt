@@ -7,8 +7,8 @@ ghost use Rattle.words_command.specs.Report.{report_of};
 ghost use Rattle.words_command.specs.Running.{processor_of};
 
 use crate::report::report;
-use link::{Failed, LinkWrite};
-use machine_lock::Logged;
+use link::LinkWrite;
+use machine_log::Logged;
 use std::alloc::Global;
 use thiserror::Error;
 
@@ -51,6 +51,6 @@ pub fn words_print<W: LinkWrite>(alloc: Global, log: &Logged, out: &mut W) -> Re
     };
     match command_io::print(out, text.as_str()) {
         Ok(()) => Ok(()),
-        Err(Failed) => Err(PrintError::Link),
+        Err(_) => Err(PrintError::Link),
     }
 }

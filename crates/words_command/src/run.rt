@@ -2,14 +2,14 @@
 
 ghost use Rattle.std.specs.Prelude.{◌≡◌, ℕ, ◌<◌, ◌≤◌, ◌+◌, ◌*◌, [], length, true, false, Err, IfOk, IfErr, OnOk};
 ghost use Rattle.flat_machine.specs.State.{is_running};
-ghost use Rattle.machine_steps.specs.Machines.{IsIdle, IsMachine};
-ghost use Rattle.machine_steps.specs.Runs.{flat_state};
-ghost use Rattle.machine_steps.specs.Whole.{IsOne};
+ghost use Rattle.machine_runs.specs.Machines.{IsIdle, IsMachine};
+ghost use Rattle.machine_runs.specs.Runs.{flat_state};
+ghost use Rattle.machine_runs.specs.Whole.{IsOne};
 ghost use Rattle.words_command.specs.Command.{HasProcessor};
-ghost use Rattle.words_command.specs.Running.{HasRun, is_retired, processor_of};
+ghost use Rattle.words_command.specs.Running.{HasRunAlone, is_retired, processor_of};
 
 use flat_machine::Status;
-use machine_lock::{LockRefusal, Logged};
+use machine_log::{LogRefusal, Logged};
 use std::alloc::AllocError;
 use steps::Outcome;
 use thiserror::Error;
@@ -41,10 +41,10 @@ pub fn words_run(log: &mut Logged) -> Result<(), WordsEnd>
     requires one { log.old.machine.config.k ≡ 0 }
     ensures opening { log.new.opening ≡ log.old.opening }
     ensures idle { IsIdle log.new.machine }
-    ensures ran { (retired : ℕ) × (retired ≤ BUDGET) × HasRun (flat_state log.old.machine) (flat_state log.new.machine) retired }
+    ensures ran { (retired : ℕ) × (retired ≤ BUDGET) × HasRunAlone (flat_state log.old.machine) (flat_state log.new.machine) retired }
     ensures stopped { OnOk result (is_running (processor_of log.new.machine).status ≡ false) }
-    ensures budget { result ≡ Err WordsEnd.Budget → HasRun (flat_state log.old.machine) (flat_state log.new.machine) BUDGET × (is_running (processor_of log.new.machine).status ≡ true) }
-    ensures memory { result ≡ Err WordsEnd.Memory → (retired : ℕ) × (retired < BUDGET) × HasRun (flat_state log.old.machine) (flat_state log.new.machine) retired × (is_running (processor_of log.new.machine).status ≡ true) }
+    ensures budget { result ≡ Err WordsEnd.Budget → HasRunAlone (flat_state log.old.machine) (flat_state log.new.machine) BUDGET × (is_running (processor_of log.new.machine).status ≡ true) }
+    ensures memory { result ≡ Err WordsEnd.Memory → (retired : ℕ) × (retired < BUDGET) × HasRunAlone (flat_state log.old.machine) (flat_state log.new.machine) retired × (is_running (processor_of log.new.machine).status ≡ true) }
     ensures alone { HasProcessor (flat_state log.new.machine) (processor_of log.new.machine) }
     ensures one { log.new.machine.config.k ≡ 0 }
 {
@@ -99,7 +99,7 @@ fn take_instruction(log: &mut Logged) -> Result<Outcome, AllocError>
     let _ = log.machine().is_idle();
     match outcome {
         Ok(outcome) => Ok(outcome),
-        Err(LockRefusal::Memory) => Err(AllocError),
-        Err(LockRefusal::Full | LockRefusal::Unnamed) => unreachable!(),
+        Err(LogRefusal::Memory) => Err(AllocError),
+        Err(LogRefusal::Full | LogRefusal::Unnamed) => unreachable!(),
     }
 }

@@ -1,11 +1,13 @@
 //! The command, from the bytes of a file to the bytes of a report: what no clause says of it.
 
-use crate::{WordsFault, tell, words_command};
+use crate::words_command;
+use command_io::{Fault, tell};
 use link::{Link, Meter};
 use std::alloc::{AllocError, Global};
 use std::fmt::Write as _;
-use std::io::{self, ErrorKind, Read, Write};
+use std::io::Read;
 use std::test::Fail;
+use test_devices::{Broken, Endless, Full};
 
 /// What a run of a file comes to.
 #[derive(Drop)]
@@ -158,43 +160,6 @@ fn ends_a_program_that_goes_on(rt: HostRuntime) {
     assert_eq!(rt; ran.status, 4);
 }
 
-/// A file whose every read fails.
-#[derive(Drop)]
-struct Broken;
-
-impl Read for Broken {
-    fn read(&mut self, _buf: &mut [u8]) -> io::Result<usize> {
-        Err(io::Error::from(ErrorKind::BrokenPipe))
-    }
-}
-
-/// A file that never ends.
-#[derive(Drop)]
-struct Endless;
-
-impl Read for Endless {
-    fn read(&mut self, buf: &mut [u8]) -> io::Result<usize> {
-        for byte in buf.iter_mut() {
-            *byte = b'0';
-        }
-        Ok(buf.len())
-    }
-}
-
-/// A device on which there is no room.
-#[derive(Drop)]
-struct Full;
-
-impl Write for Full {
-    fn write(&mut self, _buf: &[u8]) -> io::Result<usize> {
-        Err(io::Error::from(ErrorKind::StorageFull))
-    }
-
-    fn flush(&mut self) -> io::Result<()> {
-        Ok(())
-    }
-}
-
 #[test]
 fn tells_what_the_outside_refuses(rt: HostRuntime) {
     let ran = run(rt.alloc(), Broken);
@@ -213,5 +178,5 @@ fn tells_what_the_outside_refuses(rt: HostRuntime) {
     assert!(rt; full.failed());
     assert_eq!(rt; err.as_slice(), b"ultra: link\n".as_slice());
     assert_eq!(rt; status, 3);
-    assert_eq!(rt; tell(WordsFault::Memory, &mut Full), 4);
+    assert_eq!(rt; tell(Fault::Memory, &mut Full), 4);
 }

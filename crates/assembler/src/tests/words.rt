@@ -3,6 +3,7 @@
 use super::code_of;
 use crate::assemble;
 use std::test::Fail;
+use test_devices::HUNDRED_ADDS;
 
 #[test]
 fn one_instruction_is_one_word(rt: HostRuntime) -> Result<(), Fail> {
@@ -86,23 +87,7 @@ fn sections_are_interleaved(rt: HostRuntime) -> Result<(), Fail> {
 /// The program that adds to one shared word from every processor.
 #[test]
 fn a_whole_program(rt: HostRuntime) -> Result<(), Fail> {
-    let text = "start: lui x5, 0x80000
- addi x6, x0, 100
- addi x7, x0, 1
-loop: amoadd.w x8, x7, (x5)
- addi x6, x6, -1
- bne x6, x0, loop
- lw x9, 0(x5)
- addi x11, x0, 100
- bltu x9, x11, bad
- addi x17, x0, 1
- addi x10, x0, 65
- ecall
- addi x17, x0, 0
- addi x10, x0, 0
- ecall
-bad: ebreak
-";
+    let text = HUNDRED_ADDS;
     let program = assemble(rt.alloc(), text)?;
     assert_eq!(rt; program.layout().entry, 0x0001_0000);
     let code = code_of(&rt, text)?;

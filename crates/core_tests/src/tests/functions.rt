@@ -73,7 +73,7 @@ fn each_amo_has_its_value(rt: HostRuntime) {
     ];
     for (op, before, value, after) in rows {
         assert_eq!(rt;
-            Phi::amo(op, value).apply(before),
+            phi_instructions::amo(op, value).apply(before),
             after,
             "{op:?} {value} at {before}"
         );
@@ -85,66 +85,72 @@ fn each_instruction_has_its_function(rt: HostRuntime) {
     let v = 0xFFFF_FFFE;
     let rows = [
         (
-            Phi::load(),
+            phi_instructions::load(),
             Phi::Bits {
                 and: 0xFFFF_FFFF,
                 xor: 0,
             },
         ),
         (
-            Phi::store_byte(1, v),
+            phi_instructions::store_byte(1, v),
             Phi::Bits {
                 and: 0xFFFF_00FF,
                 xor: 0x0000_FE00,
             },
         ),
         (
-            Phi::store_half(2, v),
+            phi_instructions::store_half(2, v),
             Phi::Bits {
                 and: 0x0000_FFFF,
                 xor: 0xFFFE_0000,
             },
         ),
         (
-            Phi::store_word(v),
+            phi_instructions::store_word(v),
             Phi::Bits {
                 and: 0,
                 xor: 0xFFFF_FFFE,
             },
         ),
-        (Phi::amo_add(v), Phi::Add(0xFFFF_FFFE)),
+        (phi_instructions::amo_add(v), Phi::Add(0xFFFF_FFFE)),
         (
-            Phi::amo_swap(v),
+            phi_instructions::amo_swap(v),
             Phi::Bits {
                 and: 0,
                 xor: 0xFFFF_FFFE,
             },
         ),
         (
-            Phi::amo_xor(v),
+            phi_instructions::amo_xor(v),
             Phi::Bits {
                 and: 0xFFFF_FFFF,
                 xor: 0xFFFF_FFFE,
             },
         ),
         (
-            Phi::amo_or(v),
+            phi_instructions::amo_or(v),
             Phi::Bits {
                 and: 1,
                 xor: 0xFFFF_FFFE,
             },
         ),
         (
-            Phi::amo_and(v),
+            phi_instructions::amo_and(v),
             Phi::Bits {
                 and: 0xFFFF_FFFE,
                 xor: 0,
             },
         ),
-        (Phi::amo_min(v), clamp(-2_147_483_648, -2)),
-        (Phi::amo_max(v), clamp(-2, 2_147_483_647)),
-        (Phi::amo_minu(v), clamp_unsigned(0, 0xFFFF_FFFE)),
-        (Phi::amo_maxu(v), clamp_unsigned(0xFFFF_FFFE, 0xFFFF_FFFF)),
+        (phi_instructions::amo_min(v), clamp(-2_147_483_648, -2)),
+        (phi_instructions::amo_max(v), clamp(-2, 2_147_483_647)),
+        (
+            phi_instructions::amo_minu(v),
+            clamp_unsigned(0, 0xFFFF_FFFE),
+        ),
+        (
+            phi_instructions::amo_maxu(v),
+            clamp_unsigned(0xFFFF_FFFE, 0xFFFF_FFFF),
+        ),
     ];
     for (phi, expected) in rows {
         assert_eq!(rt; phi, expected);
@@ -154,17 +160,26 @@ fn each_instruction_has_its_function(rt: HostRuntime) {
 #[test]
 fn stores_keep_the_other_bytes(rt: HostRuntime) {
     let rows = [
-        (Phi::store_byte(0, 0xAA), 0x1122_33AA),
-        (Phi::store_byte(1, 0xAA), 0x1122_AA44),
-        (Phi::store_byte(2, 0xAA), 0x11AA_3344),
-        (Phi::store_byte(3, 0xAA), 0xAA22_3344),
-        (Phi::store(StoreOp::Sb, 3, 0xFFFF_FFAA), 0xAA22_3344),
-        (Phi::store_half(0, 0xBBAA), 0x1122_BBAA),
-        (Phi::store_half(2, 0xBBAA), 0xBBAA_3344),
-        (Phi::store(StoreOp::Sh, 2, 0xFFFF_BBAA), 0xBBAA_3344),
-        (Phi::store_word(0xDDCC_BBAA), 0xDDCC_BBAA),
-        (Phi::store(StoreOp::Sw, 0, 0xDDCC_BBAA), 0xDDCC_BBAA),
-        (Phi::load(), 0x1122_3344),
+        (phi_instructions::store_byte(0, 0xAA), 0x1122_33AA),
+        (phi_instructions::store_byte(1, 0xAA), 0x1122_AA44),
+        (phi_instructions::store_byte(2, 0xAA), 0x11AA_3344),
+        (phi_instructions::store_byte(3, 0xAA), 0xAA22_3344),
+        (
+            phi_instructions::store(StoreOp::Sb, 3, 0xFFFF_FFAA),
+            0xAA22_3344,
+        ),
+        (phi_instructions::store_half(0, 0xBBAA), 0x1122_BBAA),
+        (phi_instructions::store_half(2, 0xBBAA), 0xBBAA_3344),
+        (
+            phi_instructions::store(StoreOp::Sh, 2, 0xFFFF_BBAA),
+            0xBBAA_3344,
+        ),
+        (phi_instructions::store_word(0xDDCC_BBAA), 0xDDCC_BBAA),
+        (
+            phi_instructions::store(StoreOp::Sw, 0, 0xDDCC_BBAA),
+            0xDDCC_BBAA,
+        ),
+        (phi_instructions::load(), 0x1122_3344),
     ];
     for (phi, after) in rows {
         assert_eq!(rt; phi.apply(0x1122_3344), after, "{phi:?}");

@@ -11,14 +11,14 @@ use crate::decision::{Decision, Shape};
 use flat_machine::{Effect, Fault, Region, Size};
 use hart_ops::{load_size, store_size};
 use local_memory::Code;
-use phi_algebra::Phi;
 use rv_table::{AmoOp, LoadOp, StoreOp};
 
 impl Core {
     /// What the next turn of the processor is, where it runs.
     pub fn decide(&self, code: &Code) -> Decision
         ensures turn { Decides result (turn_of self.now.setting code.now self.now.state) }
-        ensures table { (i : Insn) → fetched code.now self.now.state.pc ≡ Ok i → IsOfEffect result (effect_of self.now.setting self.now.state.pc self.now.state.registers i) }
+        ensures table { (i : Insn) → fetched code.now self.now.state.pc ≡ Ok i
+            → IsOfEffect result (effect_of self.now.setting self.now.state.pc self.now.state.registers i) }
         ensures word { NamesWord result self.now.setting }
     {
         match code.fetch(self.pc()) {
@@ -55,14 +55,15 @@ impl Core {
 
     /// What a load asks for.
     fn load_decision(&self, op: LoadOp, address: u32) -> Decision
-        ensures turn { (code : List ℕ) (insn : Insn) (rd : ℕ) → Decides result (performed self.now.setting code self.now.state insn (Effect.Load op rd address)) }
+        ensures turn { (code : List ℕ) (insn : Insn) (rd : ℕ)
+            → Decides result (performed self.now.setting code self.now.state insn (Effect.Load op rd address)) }
         ensures table { (rd : ℕ) → IsOfEffect result (Effect.Load op rd address) }
         ensures word { NamesWord result self.now.setting }
     {
         match self.region(load_size(op), address, false) {
             Ok(Region::Shared { word }) => Decision::Refer {
                 word,
-                phi: Phi::load(),
+                phi: phi_instructions::load(),
                 shape: Shape::Load(op),
             },
             Ok(Region::Local { .. } | Region::Code { .. }) => Decision::Local,
@@ -79,7 +80,7 @@ impl Core {
         match self.region(store_size(op), address, true) {
             Ok(Region::Shared { word }) => Decision::Refer {
                 word,
-                phi: Phi::store(op, address % 4, value),
+                phi: phi_instructions::store(op, address % 4, value),
                 shape: Shape::Store(op),
             },
             Ok(Region::Local { .. } | Region::Code { .. }) => Decision::Local,
@@ -89,14 +90,15 @@ impl Core {
 
     /// What an AMO asks for.
     fn amo_decision(&self, op: AmoOp, address: u32, value: u32) -> Decision
-        ensures turn { (code : List ℕ) (insn : Insn) (rd : ℕ) → Decides result (performed self.now.setting code self.now.state insn (Effect.Amo op rd address value)) }
+        ensures turn { (code : List ℕ) (insn : Insn) (rd : ℕ)
+            → Decides result (performed self.now.setting code self.now.state insn (Effect.Amo op rd address value)) }
         ensures table { (rd : ℕ) → IsOfEffect result (Effect.Amo op rd address value) }
         ensures word { NamesWord result self.now.setting }
     {
         match self.region(Size::Word, address, true) {
             Ok(Region::Shared { word }) => Decision::Refer {
                 word,
-                phi: Phi::amo(op, value),
+                phi: phi_instructions::amo(op, value),
                 shape: Shape::Amo(op),
             },
             Ok(Region::Local { .. } | Region::Code { .. }) => Decision::Local,

@@ -34,7 +34,8 @@ impl Core {
     /// [`Core::take_local`] read it twice.
     pub fn take(&mut self, code: &Code) -> Taken
         ensures turn { IsTaken result self.old.state self.new.state (turn_of self.old.setting code.now self.old.state) }
-        ensures table { (i : Insn) → fetched code.now self.old.state.pc ≡ Ok i → HasPhiOf result (effect_of self.old.setting self.old.state.pc self.old.state.registers i) }
+        ensures table { (i : Insn) → fetched code.now self.old.state.pc ≡ Ok i
+            → HasPhiOf result (effect_of self.old.setting self.old.state.pc self.old.state.registers i) }
         ensures setting { self.new.setting ≡ self.old.setting }
     {
         match code.fetch(self.pc()) {

@@ -1,5 +1,5 @@
 use Rattle.std.proofs.Common.{◌≡◌, ◌-◌, length}
-use Rattle.sweep.specs.Rounds.{round}
+use Rattle.machine_sweep.specs.Rounds.{round}
 use Rattle.machine_bench.proofs.round.Given as goal
 
 abbrev pub invariant-loop-step : goal.invariant-loop-step

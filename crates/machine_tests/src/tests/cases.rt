@@ -6,7 +6,7 @@ use super::words::{
 };
 use super::{A0, A1, Program, machine_of, poke, poke_word};
 use flat_machine::{Config, Entry};
-use machine_steps::Machine;
+use machine_runs::{Machine, drain, drain_step, order};
 use std::alloc::{AllocError, AllocGlobal, Global};
 use std::process::Abort;
 use std::test::Fail;
@@ -168,7 +168,7 @@ fn ask(alloc: Global, watched: &mut Watched, asked: Words) -> Result<Words<'stat
     Ok(match asked.verb {
         "" => said("", [0; 4]),
         "whole" => watched.one(low(asked.numbers[0]))?,
-        "drain" => number_words(Some(watched.machine.drain())),
+        "drain" => number_words(Some(drain(&mut watched.machine))),
         "drain_by_steps" => number_words(Some(watched.drain_by_steps()?)),
         _ => read(&watched.machine, asked),
     })
@@ -211,7 +211,7 @@ fn seen_of(machine: &Machine, p: u32) -> [Words<'static>; 6] {
 fn read(machine: &Machine, asked: Words) -> Words<'static> {
     let [a, b, _, _] = asked.numbers;
     match asked.verb {
-        "next" => next_words(machine.drain_step()),
+        "next" => next_words(drain_step(machine)),
         "idle" => truth_words(machine.is_idle()),
         "blank" => truth_words(is_blank(machine, low(a))),
         "pc" => number_words(machine.pc(low(a))),
@@ -247,7 +247,7 @@ fn list_order(
 ) -> Result<(), Fail> {
     let steps = steps_of(rt.alloc(), case.calls)?;
     assert!(rt; machine.is_idle());
-    let order = machine.order(rt.alloc(), steps.as_slice())?;
+    let order = order(machine, rt.alloc(), steps.as_slice())?;
     expect_order(rt, case, order.as_slice())
 }
 

@@ -4,7 +4,7 @@ use super::cases::{Case, check};
 use super::{REFERENCES, image_of, layout_of};
 use elf_image::Image;
 use flat_machine::Config;
-use machine_steps::{Machine, NewError};
+use machine_runs::{Machine, NewError};
 use std::alloc::{AllocError, AllocGlobal, Global};
 use std::process::Abort;
 use std::test::Fail;

@@ -3,7 +3,7 @@
 use super::cases::{Case, check};
 use super::{Program, machine_of};
 use flat_machine::{CODE_START, Config};
-use machine_steps::Machine;
+use machine_runs::Machine;
 use std::process::Abort;
 use std::test::Fail;
 use steps::{Outcome, Step};

@@ -5,7 +5,7 @@ use super::plain::{Plain, program};
 use super::watched::{Shown, Watched};
 use super::{A0, A1, A2, PC, Program, machine_of, register};
 use flat_machine::{CODE_START, Config, Poke, SHARED_START};
-use machine_steps::Machine;
+use machine_runs::Machine;
 use std::alloc::{AllocError, AllocGlobal, Global};
 use std::process::Abort;
 use std::test::Fail;

@@ -4,7 +4,7 @@ ghost use Rattle.std.specs.Prelude.{◌<◌};
 
 use super::words::{Words, outcome_words};
 use flat_machine::Entry;
-use machine_steps::Machine;
+use machine_runs::{Machine, drain_step, one};
 use std::alloc::{AllocError, Global};
 use steps::{Outcome, Step};
 
@@ -70,7 +70,7 @@ impl Watched {
 
     /// Takes a whole instruction, and learns from its outcome, which it tells.
     pub fn one(&mut self, p: u8) -> Result<Words<'static>, AllocError> {
-        let outcome = self.machine.one(p);
+        let outcome = one(&mut self.machine, p);
         match outcome {
             Outcome::Retired(_) | Outcome::Stopped(_) => self.order.push(Entry::Processor(p))?,
             _ => {}
@@ -143,7 +143,7 @@ impl Watched {
 
     /// Takes the step that the machine names. Tells whether it names one.
     fn drain_one(&mut self) -> Result<bool, AllocError> {
-        match self.machine.drain_step() {
+        match drain_step(&self.machine) {
             Some(step) => {
                 self.apply(step)?;
                 Ok(true)

@@ -1,9 +1,9 @@
 //! Records that are told apart by their leaders.
 
+use combining_switch::WaitBuffer;
 use messages::{Record, Reply};
 use phi_algebra::Phi;
 use std::test::Fail;
-use wait_buffers::WaitBuffer;
 
 fn record(leader: u8, amount: u32, second: u8) -> Record {
     Record {

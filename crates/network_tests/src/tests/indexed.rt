@@ -68,7 +68,7 @@ fn answers(network: &mut IndexedNetwork, step: Step) -> bool {
         Inject(p) => {
             let fits = p < 4 && network.slot_is_free(p);
             if fits {
-                network.inject(p, request(p, 0, Phi::amo_add(1)));
+                network.inject(p, request(p, 0, Phi::Add(1)));
             }
             fits && !network.slot_is_free(p)
         }
@@ -107,7 +107,7 @@ fn serves(network: &mut IndexedNetwork) -> bool {
     };
     shown == Some(request)
         && request.leader == 0
-        && request.phi == Phi::amo_add(4)
+        && request.phi == Phi::Add(4)
         && network.module_front(0).is_none()
 }
 

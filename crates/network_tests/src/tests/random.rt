@@ -4,7 +4,7 @@ use super::plain::Plain;
 use super::request;
 use messages::Reply;
 use omega_network::Network;
-use phi_algebra::Phi;
+use phi_algebra::{Phi, SignedRange};
 use std::test::Fail;
 
 /// Random numbers, by xorshift.
@@ -26,10 +26,13 @@ impl Random {
 /// A function of one of four kinds.
 fn phi_of(kind: u32, value: u32) -> Phi {
     match kind {
-        0 => Phi::load(),
-        1 => Phi::amo_swap(value),
-        2 => Phi::amo_min(value),
-        _ => Phi::amo_add(value),
+        0 => Phi::Bits {
+            and: u32::MAX,
+            xor: 0,
+        },
+        1 => Phi::constant(value),
+        2 => Phi::Clamp(SignedRange::new(i32::MIN, value.cast_signed())),
+        _ => Phi::Add(value),
     }
 }
 

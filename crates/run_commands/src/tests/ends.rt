@@ -1,7 +1,7 @@
 //! How runs end, and what is told where there is no report.
 
 use super::{AMPLE, ONE_TURN, Ran, image_of, replay, run, run_text, size};
-use crate::Fault;
+use command_io::Fault;
 use flat_machine::Config;
 use link::Meter;
 use std::io::{self, ErrorKind};

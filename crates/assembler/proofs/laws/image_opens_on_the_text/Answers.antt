@@ -4,7 +4,6 @@ use Rattle.elf_image.specs.declared.layout.Layout.{Layout}
 use Rattle.elf_image.specs.Images.{IsPlaced, IsMeant}
 use Rattle.elf_image.specs.Openings.{opening}
 use Rattle.elf_image.specs.Spellings.{spelling}
-use Rattle.elf_image.proofs.Spelled.{length-spelling, few}
 use Rattle.assembler.specs.Meaning.{lines_of, labels_of}
 use Rattle.assembler.specs.Openings.{IsTextOpening}
 use Rattle.assembler.proofs.Fits.{meaning_fits}
@@ -22,10 +21,10 @@ returns c = λ config text layout m in_code fits_words.
       local = fits.local;
       shared = fits_words;
     } in
-    let short : length (spelling layout) ≤ 1048576 = omega (arith, length-spelling layout, few layout, fits.code, fits.local, fits.shared) in
+    let short : length (spelling layout) ≤ 1048576 = omega (arith, c.spelling_is_headers_and_bytes.ensures layout, fits.code, fits.local, fits.shared) in
     let spelled = c.spelling_means_its_layout.ensures config.shared_words layout placed short in
     let opens : (other : Layout) → IsMeant config.shared_words (spelling layout) other → IsTextOpening text config (opening config other) =
-    λ other n. subst (λ x. IsTextOpening text config (opening config x)) (c.input_means_one_layout.ensures config.shared_words (spelling layout) layout other spelled.1 n) (opens_on_the_text config text layout m fits) in
+    λ other n. subst (λ x. IsTextOpening text config (opening config x)) (c.input_means_one_layout.ensures config.shared_words (spelling layout) layout other spelled.1 n) (opens_on_the_text c.machine_opens_on_the_layout.ensures config text layout m fits) in
     record {
       accepted = spelled.0;
       meant = (layout, spelled.1);

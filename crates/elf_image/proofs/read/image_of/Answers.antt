@@ -1,15 +1,27 @@
-use Rattle.std.proofs.Common.{◌≡◌, ℕ, List, length, None, sym, ap, subst, ◌∙◌}
+use Rattle.std.proofs.Common.{◌≡◌, ℕ, ◌≤◌, true, false, List, length, None, sym, ap, subst, ◌∙◌}
+use Rattle.elf_image.specs.declared.header.FileHeader.{FileHeader}
 use Rattle.elf_image.specs.declared.layout.Layout.{Layout}
 use Rattle.elf_image.specs.declared.region.Region.TheVariants.{Code, Local, Shared}
 use Rattle.elf_image.specs.declared.segment.ProgramHeader.{ProgramHeader}
-use Rattle.elf_image.specs.Headers.{segments}
-use Rattle.elf_image.specs.Refusals.{is_entry, segment_refusals, first_of, have_overlap}
+use Rattle.elf_image.specs.Headers.{file_header, segments}
+use Rattle.elf_image.specs.Refusals.{is_entry, header_refusal, segment_refusals, first_of, have_overlap}
 use Rattle.elf_image.specs.Loading.{IsLoaded}
 use Rattle.elf_image.specs.Images.{IsCause}
 use Rattle.elf_image.proofs.Conditions.{if_err}
 use Rattle.elf_image.proofs.Meant.{Passed, accepted, meant, placed}
 use Rattle.elf_image.proofs.Causes.{cause_headers, cause_segments, cause_overlap, cause_entry}
 use Rattle.elf_image.proofs.read.image_of.Goals as goal
+
+passed_by : (w : ℕ) (file : List ℕ) (header : FileHeader) (ps qs : List ProgramHeader) → header ≡ file_header file → ps ≡ segments file → qs ≡ segments file →
+    length file ≤ 1048576 → header_refusal file ≡ None → first_of (segment_refusals (length file) w ps) ≡ None → have_overlap qs ≡ false → is_entry header.e_entry ≡ true →
+    Passed w file
+passed_by w file header ps qs same there again short headers filed disjoint enters = record {
+  short = short;
+  headers = headers;
+  filed = ap (λ xs. first_of (segment_refusals (length file) w xs)) (sym there) ∙ filed;
+  disjoint = ap have_overlap (sym again) ∙ disjoint;
+  enters = ap (λ (h : FileHeader). is_entry h.e_entry) (sym same) ∙ enters;
+}
 
 checked_there : (w : ℕ) (file : List ℕ) (ps : List ProgramHeader) → ps ≡ segments file → first_of (segment_refusals (length file) w ps) ≡ None → first_of (segment_refusals (length file) w (segments file)) ≡ None
 checked_there w file ps e h = ap (λ qs. first_of (segment_refusals (length file) w qs)) (sym e) ∙ h
@@ -28,13 +40,9 @@ new-requires c =
     let header = c.in_ok-header.ensures.value in
     let layout = c.in_ok-layout.layout in
     let loads = loaded_there w file _ (c.as_slice-3.ensures.value ∙ ps) layout c.in_ok-layout.ensures.code c.in_ok-layout.ensures.local c.in_ok-layout.ensures.shared in
-    let passed : Passed w file = record {
-      short = c.requires;
-      headers = c.in_ok-header.ensures.ok;
-      filed = checked_there w file _ (c.as_slice.ensures.value ∙ ps) c.in_ok-check_each.ensures.ok;
-      disjoint = ap have_overlap (sym (c.as_slice-2.ensures.value ∙ ps)) ∙ sym c.have_overlap.ensures ∙ c.if-have_overlap.false;
-      enters = ap (λ h. is_entry h.e_entry) (sym header) ∙ sym c.has_entry.ensures ∙ c.if-not-has_entry.false;
-    } in
+    let passed =
+    passed_by w file _ _ _ c.in_ok-header.ensures.value (c.as_slice.ensures.value ∙ ps) (c.as_slice-2.ensures.value ∙ ps) c.requires c.in_ok-header.ensures.ok c.in_ok-check_each.ensures.ok
+    (sym c.have_overlap.ensures ∙ c.if-have_overlap.false) (sym c.has_entry.ensures ∙ c.if-not-has_entry.false) in
     placed w file passed layout (meant w file passed layout (c.in_ok-layout.ensures.entry ∙ ap (λ h. h.e_entry) header) loads.0 loads.1 loads.2)
 
 pub returns-in_err-header-clause-refused : goal.returns-in_err-header-clause-refused
@@ -70,13 +78,10 @@ returns-clause-accepted c =
     let file = c.args.file.now in
     let w = c.args.shared_words in
     let ps = c.segments_of-segments.ensures in
-    accepted w file (record {
-      short = c.requires;
-      headers = c.in_ok-header.ensures.ok;
-      filed = checked_there w file _ (c.as_slice.ensures.value ∙ ps) c.in_ok-check_each.ensures.ok;
-      disjoint = ap have_overlap (sym (c.as_slice-2.ensures.value ∙ ps)) ∙ sym c.have_overlap.ensures ∙ c.if-have_overlap.false;
-      enters = ap (λ h. is_entry h.e_entry) (sym c.in_ok-header.ensures.value) ∙ sym c.has_entry.ensures ∙ c.if-not-has_entry.false;
-    })
+    let passed =
+    passed_by w file _ _ _ c.in_ok-header.ensures.value (c.as_slice.ensures.value ∙ ps) (c.as_slice-2.ensures.value ∙ ps) c.requires c.in_ok-header.ensures.ok c.in_ok-check_each.ensures.ok
+    (sym c.have_overlap.ensures ∙ c.if-have_overlap.false) (sym c.has_entry.ensures ∙ c.if-not-has_entry.false) in
+    accepted w file passed
 
 pub returns-clause-meant : goal.returns-clause-meant
 returns-clause-meant c =
@@ -86,11 +91,7 @@ returns-clause-meant c =
     let header = c.in_ok-header.ensures.value in
     let layout = c.in_ok-layout.layout in
     let loads = loaded_there w file _ (c.as_slice-3.ensures.value ∙ ps) layout c.in_ok-layout.ensures.code c.in_ok-layout.ensures.local c.in_ok-layout.ensures.shared in
-    let passed : Passed w file = record {
-      short = c.requires;
-      headers = c.in_ok-header.ensures.ok;
-      filed = checked_there w file _ (c.as_slice.ensures.value ∙ ps) c.in_ok-check_each.ensures.ok;
-      disjoint = ap have_overlap (sym (c.as_slice-2.ensures.value ∙ ps)) ∙ sym c.have_overlap.ensures ∙ c.if-have_overlap.false;
-      enters = ap (λ h. is_entry h.e_entry) (sym header) ∙ sym c.has_entry.ensures ∙ c.if-not-has_entry.false;
-    } in
+    let passed =
+    passed_by w file _ _ _ c.in_ok-header.ensures.value (c.as_slice.ensures.value ∙ ps) (c.as_slice-2.ensures.value ∙ ps) c.requires c.in_ok-header.ensures.ok c.in_ok-check_each.ensures.ok
+    (sym c.have_overlap.ensures ∙ c.if-have_overlap.false) (sym c.has_entry.ensures ∙ c.if-not-has_entry.false) in
     rw c.new.ensures (meant w file passed layout (c.in_ok-layout.ensures.entry ∙ ap (λ h. h.e_entry) header) loads.0 loads.1 loads.2)

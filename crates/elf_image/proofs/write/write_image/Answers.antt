@@ -3,12 +3,13 @@ use Rattle.std.specs.Io.KnownBytes.{Appends}
 use Rattle.std.proofs.KnownBytes.{Appends-trans}
 use Rattle.link.specs.Transfer.{AppendsPart}
 use Rattle.elf_image.specs.Spellings.{head_bytes, spelling}
-use Rattle.elf_image.proofs.Written.{part_front, part_behind, on_err}
+use Rattle.elf_image.proofs.Conditions.{on_err}
 use Rattle.elf_image.proofs.write.write_image.Goals as goal
 
 pub returns-in_err-write_whole-clause-err : goal.returns-in_err-write_whole-clause-err
 unfolding spelling
 returns-in_err-write_whole-clause-err g c =
+    let part_front = c.parts_make_a_beginning.ensures.first in
     let a = g.W.Write.contents c.args.writer.now in
     let b = g.W.Write.contents c.write_whole.new.writer in
     let l = c.args.layout.now in
@@ -18,6 +19,8 @@ returns-in_err-write_whole-clause-err g c =
 pub returns-in_err-write_whole-2-clause-err : goal.returns-in_err-write_whole-2-clause-err
 unfolding spelling
 returns-in_err-write_whole-2-clause-err g c =
+    let part_front = c.parts_make_a_beginning.ensures.first in
+    let part_behind = c.parts_make_a_beginning.ensures.rest in
     let a = g.W.Write.contents c.args.writer.now in
     let b = g.W.Write.contents c.write_whole.new.writer in
     let d = g.W.Write.contents c.write_whole-2.new.writer in
@@ -29,6 +32,8 @@ returns-in_err-write_whole-2-clause-err g c =
 pub returns-in_err-write_whole-3-clause-err : goal.returns-in_err-write_whole-3-clause-err
 unfolding spelling
 returns-in_err-write_whole-3-clause-err g c =
+    let part_front = c.parts_make_a_beginning.ensures.first in
+    let part_behind = c.parts_make_a_beginning.ensures.rest in
     let a = g.W.Write.contents c.args.writer.now in
     let b = g.W.Write.contents c.write_whole.new.writer in
     let d = g.W.Write.contents c.write_whole-2.new.writer in
@@ -42,6 +47,7 @@ returns-in_err-write_whole-3-clause-err g c =
 pub returns-in_err-write_whole-4-clause-err : goal.returns-in_err-write_whole-4-clause-err
 unfolding spelling
 returns-in_err-write_whole-4-clause-err g c =
+    let part_behind = c.parts_make_a_beginning.ensures.rest in
     let a = g.W.Write.contents c.args.writer.now in
     let b = g.W.Write.contents c.write_whole.new.writer in
     let d = g.W.Write.contents c.write_whole-2.new.writer in

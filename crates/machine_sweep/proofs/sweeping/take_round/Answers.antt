@@ -1,7 +1,7 @@
 use Rattle.std.proofs.Common.{◌≡◌, ◌+◌, ◌≤◌, ◌⊎◌, true, false, ◌∙◌, length, take, refl, sym, ap, subst, arith}
 use Rattle.flat_machine.specs.declared.config.Config.{Config}
-use Rattle.machine_steps.specs.Machines.{IsMachine, MachineLists}
-use Rattle.sweep.specs.Rounds.{Sweeping, round}
+use Rattle.machine_runs.specs.Machines.{IsMachine, MachineLists}
+use Rattle.machine_sweep.specs.Rounds.{Sweeping, round}
 use Rattle.machine_sweep.specs.Skips.{AreQuiet, IsNext}
 use Rattle.machine_sweep.specs.Standing.{HasRunning}
 use Rattle.machine_sweep.specs.Sweeps.{IsFault, IsStop, entered_of}

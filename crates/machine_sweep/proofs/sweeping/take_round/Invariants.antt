@@ -1,6 +1,6 @@
 use Rattle.std.proofs.Common.{◌≡◌, ◌+◌, ◌-◌, ◌≤◌, length, take}
-use Rattle.machine_steps.specs.Runs.{IsReplay}
-use Rattle.sweep.specs.Rounds.{round}
+use Rattle.machine_runs.specs.Runs.{IsReplay}
+use Rattle.machine_sweep.specs.Rounds.{round}
 use Rattle.machine_sweep.specs.Sweeps.{entered_of}
 use Rattle.machine_sweep.proofs.Ending.{IsFirst, IsUnder}
 use Rattle.machine_sweep.proofs.sweeping.take_round.Given as goal

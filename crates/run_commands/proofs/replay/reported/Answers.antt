@@ -1,7 +1,7 @@
 use Rattle.std.proofs.Common.{◌++◌, subst}
 use Rattle.std.specs.Prelude.{string_bytes}
-use Rattle.machine_steps.specs.Draining.{drain_steps}
-use Rattle.machine_steps.specs.Machines.{IsMachine}
+use Rattle.machine_runs.specs.Draining.{drain_steps}
+use Rattle.machine_runs.specs.Machines.{IsMachine}
 use Rattle.run_commands.proofs.FlatReports.{report_is_of}
 use Rattle.run_commands.proofs.replay.reported.Goals as goal
 

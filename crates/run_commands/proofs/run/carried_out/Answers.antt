@@ -24,14 +24,16 @@ returns-clause-reported g c =
     let ran = c.in_ok-log.ensures.ran in
     let known = g.R.Read.remaining c.args.file in
     let text = string_bytes c.in_ok-text.text in
+    let report =
+    subst (λ size. IsReportOf size ran.over.image log.steps text c.in_ok-text.status) (log_config c.args.config c.args.budget known Over log ran.over)
+    (subst (λ image. IsReportOf log.machine.config image log.steps text c.in_ok-text.status) (log_image c.args.config c.args.budget known Over log ran.over) c.in_ok-text.ensures.report) in
     record {
-      log = log;
-      ran = ran;
       text = text;
-      report =
-          subst (λ size. IsReportOf size ran.over.image log.steps text c.in_ok-text.status) (log_config c.args.config c.args.budget known Over log ran.over)
-          (subst (λ image. IsReportOf log.machine.config image log.steps text c.in_ok-text.status) (log_image c.args.config c.args.budget known Over log ran.over) c.in_ok-text.ensures.report);
-      saved = subst (λ steps. IsSaved {T = g.row.T.Denot} g.T.Write.contents c.args.trace.now c.save.new.trace (trace_bytes (trace_of c.args.config steps))) c.steps.ensures.steps c.in_ok-save.ensures.saved;
+      meant = record {
+        steps = log.steps;
+        run = record { log = log; ran = ran; entered = refl; report = report };
+        saved = subst (λ steps. IsSaved {T = g.row.T.Denot} g.T.Write.contents c.args.trace.now c.save.new.trace (trace_bytes (trace_of c.args.config steps))) c.steps.ensures.steps c.in_ok-save.ensures.saved;
+      };
       printed = subst (λ bytes. Appends (g.W.Write.contents c.args.out.now) (g.W.Write.contents c.print.new.out) bytes) c.as_str.ensures.value c.in_ok-print.ensures.printed;
     }
 
@@ -55,21 +57,20 @@ returns-in_err-print-clause-told g c =
     let known = g.R.Read.remaining c.args.file in
     let text = string_bytes c.in_ok-text.text in
     let p = err_from_is_err_and c.from_residual-in_err-print.result c.from_residual-in_err-print.ensures.1 in
-    let f = c.in_err-print.ensures.failed in
+    let f = c.in_err-print.ensures.begun in
+    let report =
+    subst (λ size. IsReportOf size ran.over.image log.steps text c.in_ok-text.status) (log_config c.args.config c.args.budget known Over log ran.over)
+    (subst (λ image. IsReportOf log.machine.config image log.steps text c.in_ok-text.status) (log_image c.args.config c.args.budget known Over log ran.over) c.in_ok-text.ensures.report) in
     rw (p.1, p.2, f.0)
     (record {
-      log = log;
-      ran = ran;
-      saved = subst (λ steps. IsSaved {T = g.row.T.Denot} g.T.Write.contents c.args.trace.now c.save.new.trace (trace_bytes (trace_of c.args.config steps))) c.steps.ensures.steps c.in_ok-save.ensures.saved;
       text = text;
-      status = c.in_ok-text.status;
-      report =
-          subst (λ size. IsReportOf size ran.over.image log.steps text c.in_ok-text.status) (log_config c.args.config c.args.budget known Over log ran.over)
-          (subst (λ image. IsReportOf log.machine.config image log.steps text c.in_ok-text.status) (log_image c.args.config c.args.budget known Over log ran.over) c.in_ok-text.ensures.report);
+      meant = (
+        c.in_ok-text.status,
+        record {
+          steps = log.steps;
+          run = record { log = log; ran = ran; entered = refl; report = report };
+          saved = subst (λ steps. IsSaved {T = g.row.T.Denot} g.T.Write.contents c.args.trace.now c.save.new.trace (trace_bytes (trace_of c.args.config steps))) c.steps.ensures.steps c.in_ok-save.ensures.saved;
+        },
+      );
       part = subst (λ bytes. AppendsPart (g.W.Write.contents c.args.out.now) (g.W.Write.contents c.print.new.out) bytes) c.as_str.ensures.value f.1;
     })
-
-pub returns-in_err-print-clause-silent : goal.returns-in_err-print-clause-silent
-returns-in_err-print-clause-silent g c =
-    let p = err_from_is_err_and c.from_residual-in_err-print.result c.from_residual-in_err-print.ensures.1 in
-    rw (p.1, p.2) (λ other. absurd (other c.in_err-print.ensures.failed.0))

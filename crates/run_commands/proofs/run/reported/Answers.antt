@@ -4,8 +4,8 @@ use Rattle.std.proofs.lemmas.Result.{err_from_is_err_and}
 use Rattle.flat_machine.specs.declared.config.Config.{Config}
 use Rattle.elf_image.specs.Images.{ImageContents}
 use Rattle.steps.specs.declared.step.Step.{Step}
-use Rattle.machine_steps.specs.Machines.{IsMachine, MachineLists}
-use Rattle.machine_steps.specs.Runs.{IsOpening, IsReplay}
+use Rattle.machine_runs.specs.Machines.{IsMachine, MachineLists}
+use Rattle.machine_runs.specs.Runs.{IsOpening, IsReplay}
 use Rattle.run_commands.specs.Commands.{IsReportOf}
 use Rattle.run_commands.proofs.FlatReports.{idle_alike, report_is_of}
 use Rattle.run_commands.proofs.Logging.{not_stalled}

@@ -4,11 +4,13 @@ use Rattle.std.proofs.KnownBytes.{Appends-trans}
 use Rattle.link.specs.Transfer.{AppendsPart}
 use Rattle.trace_file.specs.Traces.{records_bytes}
 use Rattle.trace_file.proofs.Records.{records_bytes-append}
-use Rattle.trace_file.proofs.Written.{part_front, part_behind, on_err, written_parts, steps_parts}
+use Rattle.trace_file.proofs.Written.{on_err, written_parts, steps_parts}
 use Rattle.trace_file.proofs.write.write_records.Goals as goal
 
 pub returns-in_err-write_whole-clause-err : goal.returns-in_err-write_whole-clause-err
 returns-in_err-write_whole-clause-err g c =
+    let part_front = c.parts_make_a_beginning.ensures.first in
+    let part_behind = c.parts_make_a_beginning.ensures.rest in
     let a = g.W.Write.contents c.args.writer.now in
     let b = g.W.Write.contents c.loop-rest.writer in
     let d = g.W.Write.contents c.write_whole.new.writer in

@@ -3,9 +3,9 @@ use Rattle.std.proofs.lemmas.Bool.{true≢false}
 use Rattle.std.proofs.lemmas.List.{take_more, take_all}
 use Rattle.steps.specs.declared.step.Step.TheVariants as step
 use Rattle.steps.specs.Answers.{is_stalled}
-use Rattle.machine_steps.specs.Runs.{IsReplay}
-use Rattle.machine_steps.proofs.Replaying.{replay_begins, replay_more}
-use Rattle.machine_steps.proofs.Running.{serialized}
+use Rattle.machine_runs.specs.Runs.{IsReplay}
+use Rattle.machine_runs.proofs.Replaying.{replay_begins, replay_more}
+use Rattle.machine_runs.proofs.Running.{serialized}
 use Rattle.trace_replay.proofs.replaying.replay.Goals as goal
 
 pub loop-place-init : goal.loop-place-init

@@ -1,6 +1,6 @@
 use Rattle.std.proofs.Common.{take}
-use Rattle.machine_steps.specs.Machines.{IsMachine}
-use Rattle.machine_steps.specs.Runs.{IsReplay}
+use Rattle.machine_runs.specs.Machines.{IsMachine}
+use Rattle.machine_runs.specs.Runs.{IsReplay}
 use Rattle.trace_replay.proofs.replaying.replay.Given as goal
 
 abbrev pub invariant-loop-place : goal.invariant-loop-place

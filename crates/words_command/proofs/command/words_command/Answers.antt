@@ -1,6 +1,5 @@
 use Rattle.std.proofs.Common.{arith}
-use Rattle.words_command.proofs.Reports.{fault_is_high}
 use Rattle.words_command.proofs.command.words_command.Goals as goal
 
 pub returns-in-Err-clause-reported : goal.returns-in-Err-clause-reported
-returns-in-Err-clause-reported g c = λ low. absurd (omega (arith, c.tell.ensures, fault_is_high c.in-Err.fault))
+returns-in-Err-clause-reported g c = λ low. absurd (omega (arith, low, c.tell.ensures.high))

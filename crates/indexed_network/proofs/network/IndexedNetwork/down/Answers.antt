@@ -1,11 +1,16 @@
-use Rattle.std.proofs.Common.{◌+◌, refl, sym, ap}
-use Rattle.indexed_network.proofs.Indexing.{down_stalls}
+use Rattle.std.proofs.Common.{◌≡◌, ◌∙◌, ◌+◌, suc, arith, sym, ap}
+use Rattle.omega_network.specs.Networks.{net_of, sizes_of}
+use Rattle.indexed_network.proofs.Indexing.{nothing_there}
 use Rattle.indexed_network.proofs.network.IndexedNetwork.down.Goals as goal
 
 pub returns-else-has_reply-clause-outcome : goal.returns-else-has_reply-clause-outcome
 returns-else-has_reply-clause-outcome c =
-    sym (ap (λ r. r.0) (down_stalls c.args.self.now c.args.stage (c.args.stage + 1) c.args.wire c.has_reply.result c.requires.stage refl c.has_reply.ensures c.if-has_reply.false))
+    let next : c.args.stage + 1 ≡ suc c.args.stage = omega arith in
+    sym (ap (λ r. r.0) (c.moves_of_nothing_stall.ensures.down (sizes_of c.args.self.now) (net_of c.args.self.now) c.args.stage c.args.wire
+    (ap (λ e. (net_of c.args.self.now).replies e c.args.wire) (sym next) ∙ nothing_there _ c.has_reply.result c.has_reply.ensures c.if-has_reply.false)))
 
 pub returns-else-has_reply-clause-after : goal.returns-else-has_reply-clause-after
 returns-else-has_reply-clause-after c =
-    sym (ap (λ r. r.1) (down_stalls c.args.self.now c.args.stage (c.args.stage + 1) c.args.wire c.has_reply.result c.requires.stage refl c.has_reply.ensures c.if-has_reply.false))
+    let next : c.args.stage + 1 ≡ suc c.args.stage = omega arith in
+    sym (ap (λ r. r.1) (c.moves_of_nothing_stall.ensures.down (sizes_of c.args.self.now) (net_of c.args.self.now) c.args.stage c.args.wire
+    (ap (λ e. (net_of c.args.self.now).replies e c.args.wire) (sym next) ∙ nothing_there _ c.has_reply.result c.has_reply.ensures c.if-has_reply.false)))

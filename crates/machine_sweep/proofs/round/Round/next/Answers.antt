@@ -1,6 +1,6 @@
 use Rattle.std.proofs.Common.{◌≡◌, ◌+◌, ◌*◌, ◌^◌, ◌≤◌, ◌∙◌, length, sym, ap, subst, arith}
-use Rattle.sweep.specs.Rounds.{Sweeping, round}
-use Rattle.sweep.proofs.Places.{round_length}
+use Rattle.machine_sweep.specs.Rounds.{Sweeping, round}
+use Rattle.machine_sweep.proofs.Places.{round_length}
 use Rattle.machine_sweep.proofs.Rows.{past_rows}
 use Rattle.machine_sweep.proofs.round.Round.next.Goals as goal
 

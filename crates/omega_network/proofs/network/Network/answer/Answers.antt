@@ -1,44 +1,22 @@
 use Rattle.std.proofs.Common.{◌%◌, ◌/◌, arith}
-use Rattle.omega_network.proofs.Kept.{answer_stays}
-use Rattle.omega_network.proofs.Switches.{half_of_wire}
+use Rattle.omega_network.proofs.Kept.{answer_stays, found_behind}
 use Rattle.omega_network.proofs.Replies.{answer_net}
 use Rattle.omega_network.proofs.network.Network.answer.Goals as goal
 
 pub invariant_of-self : goal.invariant_of-self
 invariant_of-self c =
     answer_stays _ c.args.self.now c.args.stage (c.args.wire / 2) c.place_behind-place.result c.index_mut.result.now
-    (record {
-      view = c.self.view_is;
-      is = c.self.invariant;
-      stage = c.requires.stage;
-      number = half_of_wire c.args.self.now.k c.args.stage c.args.wire c.requires.stage c.requires.wire;
-      exact = c.place_behind-place.ensures.exact;
-      at = c.index_mut.ensures.value;
-    })
+    (found_behind c.self.view_is c.self.invariant c.requires.stage c.requires.wire c.place_behind-place.ensures.exact c.index_mut.ensures.value)
     (c.args.wire % 2) c.args.reply c.answer.new.self (omega arith) c.answer.ensures.after
 
 pub returns-clause-answer : goal.returns-clause-answer
 returns-clause-answer c =
     (answer_net c.rotations_are_inverse.ensures.inverse c.rotations_are_inverse.ensures.small _ c.args.self.now c.args.stage c.args.wire c.place_behind-place.result c.index_mut.result.now
-    (record {
-      view = c.self.view_is;
-      is = c.self.invariant;
-      stage = c.requires.stage;
-      number = half_of_wire c.args.self.now.k c.args.stage c.args.wire c.requires.stage c.requires.wire;
-      exact = c.place_behind-place.ensures.exact;
-      at = c.index_mut.ensures.value;
-    })
+    (found_behind c.self.view_is c.self.invariant c.requires.stage c.requires.wire c.place_behind-place.ensures.exact c.index_mut.ensures.value)
     c.requires.wire c.args.reply c.answer.new.self c.answer.result c.answer.ensures.answer c.answer.ensures.after).0
 
 pub returns-clause-after : goal.returns-clause-after
 returns-clause-after c =
     (answer_net c.rotations_are_inverse.ensures.inverse c.rotations_are_inverse.ensures.small _ c.args.self.now c.args.stage c.args.wire c.place_behind-place.result c.index_mut.result.now
-    (record {
-      view = c.self.view_is;
-      is = c.self.invariant;
-      stage = c.requires.stage;
-      number = half_of_wire c.args.self.now.k c.args.stage c.args.wire c.requires.stage c.requires.wire;
-      exact = c.place_behind-place.ensures.exact;
-      at = c.index_mut.ensures.value;
-    })
+    (found_behind c.self.view_is c.self.invariant c.requires.stage c.requires.wire c.place_behind-place.ensures.exact c.index_mut.ensures.value)
     c.requires.wire c.args.reply c.answer.new.self c.answer.result c.answer.ensures.answer c.answer.ensures.after).1

@@ -1,0 +1,94 @@
+//! The command.
+
+ghost use Rattle.std.specs.Prelude.{◌≡◌, ◌≢◌, ◌↔◌, true, false, is_err, IfOk, IfErr, IsErrOf, OnErr, OnOk};
+ghost use Rattle.std.specs.Io.KnownBytes.{Appends};
+ghost use Rattle.link.specs.Transfer.{AppendsPart};
+ghost use Rattle.elf_image.specs.Spellings.{spelling};
+ghost use Rattle.assembler.specs.Meaning.{IsMeaning};
+ghost use Rattle.command_io.specs.Files.{IsWhole};
+ghost use Rattle.command_io.specs.Printing.{IsPrinted, IsTold};
+ghost use Rattle.asm_command.specs.Assembling.{IsAssembly, IsNoAssembly, IsTextRefusal, IsUnread};
+
+use assembler::{Program, assemble};
+use command_io::{DONE, Fault, tell};
+use elf_image::{ImageError, write_image};
+use link::{LinkWrite, Meter, ReadError, read_within};
+use std::alloc::Global;
+use std::io::{Read, Write};
+
+/// How many bytes a text may have. A text that fills every section of an image needs less than half of
+/// them; the limit is so that an input without an end does not take all memory.
+pub const MAX_TEXT_BYTES: usize = 16_777_216;
+
+/// Assembles the text that a file has, and writes the image of what it means. Answers the exit status: 0
+/// where the whole image is written, else that of the fault that is told on standard error. Nothing is
+/// written to the image before the whole text is assembled.
+pub fn asm_command<R: Read + Drop, W: LinkWrite, E: Write>(
+    alloc: Global,
+    file: R,
+    out: &mut W,
+    err: &mut E,
+) -> u8
+    requires works { W.has_failed out.old ≡ false }
+    ensures assembled { result ≡ 0 → IsPrinted (IsAssembly (R.remaining file)) (W.contents out.old) (W.contents out.new) }
+    ensures told { result ≢ 0 → IsTold W.has_failed (Fault.Image ImageError.Link) ⊥ (IsNoAssembly (R.remaining file) (W.contents out.old) (W.contents out.new)) out.old out.new result }
+    ensures failed { W.has_failed out.new ≡ true → result ≡ 3 }
+{
+    match carried_out(alloc, file, out) {
+        Ok(()) => DONE,
+        Err(fault) => tell(fault, err),
+    }
+}
+
+/// Carries the command out.
+fn carried_out<R: Read + Drop, W: LinkWrite>(
+    alloc: Global,
+    file: R,
+    out: &mut W,
+) -> Result<(), Fault>
+    requires works { W.has_failed out.old ≡ false }
+    ensures failed { IsErrOf result (Fault.Image ImageError.Link) ↔ (W.has_failed out.new ≡ true) }
+    ensures assembled { OnOk result (IsPrinted (IsAssembly (R.remaining file)) (W.contents out.old) (W.contents out.new)) }
+    ensures told { IfErr result (IsNoAssembly (R.remaining file) (W.contents out.old) (W.contents out.new)) }
+    ensures silent { OnErr result (W.has_failed out.new ≡ false → out.new ≡ out.old) }
+{
+    let bytes = read_text(alloc, file)?;
+    let program = program_of(alloc, bytes.as_slice())?;
+    write_program(&program, out)
+}
+
+/// The bytes of a file.
+fn read_text<R: Read + Drop>(alloc: Global, file: R) -> Result<Vec<u8>, Fault>
+    ensures read { IfOk result (λ text. IsWhole (R.remaining file) text.items) }
+    ensures unread { IfErr result IsUnread }
+{
+    match read_within(alloc, &mut Meter::new(file), MAX_TEXT_BYTES) {
+        Ok(text) => Ok(text),
+        Err(ReadError::Link) => Err(Fault::Link),
+        Err(ReadError::Memory | ReadError::TooLong) => Err(Fault::Memory),
+    }
+}
+
+/// The program that a text means.
+fn program_of(alloc: Global, bytes: &[u8]) -> Result<Program, Fault>
+    ensures meant { IfOk result (λ program. IsMeaning bytes.now program) }
+    ensures refused { IfErr result (IsTextRefusal bytes.now) }
+{
+    let Ok(text) = str::from_utf8(bytes) else {
+        return Err(Fault::NotUtf8);
+    };
+    Ok(assemble(alloc, text)?)
+}
+
+/// Writes the image of a program.
+fn write_program<W: LinkWrite>(program: &Program, out: &mut W) -> Result<(), Fault>
+    requires works { W.has_failed out.old ≡ false }
+    ensures failed { W.has_failed out.new ≡ is_err result }
+    ensures written { OnOk result (Appends (W.contents out.old) (W.contents out.new) (spelling program.now)) }
+    ensures begun { IfErr result (λ fault. (fault ≡ Fault.Image ImageError.Link) × AppendsPart (W.contents out.old) (W.contents out.new) (spelling program.now)) }
+{
+    match write_image(out, program.layout()) {
+        Ok(()) => Ok(()),
+        Err(_) => Err(Fault::Image(ImageError::Link)),
+    }
+}

@@ -1,0 +1,8 @@
+//! `ultra asm FILE OUT`: from the bytes of a text to the bytes of an image.
+#![tactic(auto)]
+
+mod command;
+#[cfg(test)]
+mod tests;
+
+pub use command::{MAX_TEXT_BYTES, asm_command};

@@ -1,0 +1,23 @@
+//! A law of what the text of an instruction means.
+
+ghost use Rattle.std.specs.Prelude.{[]};
+ghost use Rattle.asm_lines.specs.Written.{text_of};
+ghost use Rattle.assembler.specs.Meaning.{IsMeaning, word_bytes};
+ghost use Rattle.rv_table.specs.Rows.{Spells};
+
+use asm_lines::{fields_again, written_again};
+use decode::encode;
+use flat_machine::CODE_START;
+use rv_table::Insn;
+
+/// The text of an instruction, as `disassemble` writes it, means the instruction's one word.
+pub fn disassembled_again(insn: &Insn) -> u32
+    ensures word { Spells result insn.now }
+    ensures meaning { IsMeaning (text_of insn.now)
+        (record { entry = CODE_START; code = word_bytes result; local = []; shared = [] }) }
+{
+    // Laws of lines, for the proof alone.
+    fields_again();
+    written_again();
+    encode(insn)
+}

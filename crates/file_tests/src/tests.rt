@@ -1,0 +1,5 @@
+//! Links, and the files that are read and written by them.
+
+mod images;
+mod links;
+mod traces;

@@ -1,0 +1,19 @@
+use Rattle.std.proofs.Common.{subst}
+use Rattle.machine_program.specs.Steps.{machine_of_parts}
+use Rattle.machine.specs.Machines.{IsStep}
+use Rattle.machine.proofs.Stalling.{stalled_keeps}
+use Rattle.machine.proofs.Poking.{poke_whole}
+use Rattle.machine.proofs.machine.Machine.apply.Goals as goal
+
+pub returns-clause-stalled : goal.returns-clause-stalled
+returns-clause-stalled c e shown =
+    stalled_keeps c.args.self.now c.take-outcome.new.self c.args.step c.take-outcome.result c.machine_is_sound.ensures c.take-outcome.ensures e shown
+
+pub returns-clause-poked : goal.returns-clause-poked
+returns-clause-poked c idle poke e =
+    poke_whole c.args.self.now poke c.take-outcome.result c.take-outcome.new.self c.machine_is_sound.ensures idle c.machine_is_sound-2.ensures
+    (subst (λ s. IsStep c.args.self.now s c.take-outcome.result c.take-outcome.new.self) e c.take-outcome.ensures)
+
+pub returns-clause-few : goal.returns-clause-few
+unfolding machine_of_parts
+returns-clause-few c = c.machine_is_sound-2.ensures.steady.few

@@ -1,0 +1,8 @@
+use Rattle.std.proofs.Common.{false}
+use Rattle.std.specs.Prelude.{IsTrue}
+use Rattle.machine.proofs.Handling.{poke_busy}
+use Rattle.machine.proofs.machine.Machine.poke.Goals as goal
+
+pub returns-then-not-is_idle : goal.returns-then-not-is_idle
+returns-then-not-is_idle c =
+    poke_busy c.args.self.now c.if-not-is_idle.ensures.sound c.args.poke (λ idle. let told : IsTrue false = c.if-not-is_idle.ensures.idle.1 idle in absurd (cc))

@@ -1,0 +1,238 @@
+-- Steps that are taken and entered, one after another.
+use Rattle.std.proofs.Common.{◌≡◌, ℕ, ◌+◌, ◌*◌, ◌<◌, ◌≤◌, Bool, true, false, List, [], ◌∷◌, ◌++◌, length, Some, None, refl, sym, ap, ◌∙◌, subst, arith}
+use Rattle.std.specs.Prelude.{min, map, if◌then◌else◌}
+use Rattle.std.proofs.lemmas.Bool.{true≢false}
+use Rattle.std.proofs.lemmas.List.{length-append, append-nil, append_assoc, map-append}
+use Rattle.flat_machine.specs.declared.event.Event.{Event}
+use Rattle.flat_machine.specs.declared.poke.Poke.{Poke}
+use Rattle.flat_machine.specs.declared.poke.Entry.{Entry}
+use Rattle.flat_machine.specs.declared.poke.Entry.TheVariants as entry
+use Rattle.flat_machine.specs.State.{FlatState}
+use Rattle.flat_machine.specs.Flat.{flat_step, flat_run}
+use Rattle.steps.specs.declared.step.Step.{Step}
+use Rattle.steps.specs.declared.step.Step.TheVariants as step
+use Rattle.steps.specs.declared.step.Outcome.{Outcome}
+use Rattle.steps.specs.declared.step.Outcome.TheVariants.{Retired, Issued, Stopped, Moved, Combined, Served, Answered, Poked, Stalled}
+use Rattle.steps.specs.Answers.{is_stalled}
+use Rattle.machine_runs.specs.Machines.{MachineLists, machine_of, IsIdle, IsMachine, IsStep}
+use Rattle.machine_program.specs.Processors.{is_lawful_poke}
+use Rattle.machine_runs.specs.Runs.{flat_state, IsReplay}
+use Rattle.machine_runs.specs.Draining.{drain_step, GoesOn, drain_bound, drain_steps, IsDrained}
+use Rattle.machine_runs.specs.Whole.{steps_from, one_steps, IsOne, IsPoked, IsSent}
+use Rattle.machine_runs.proofs.Replaying.{stalled_is, replay_begins, replay_more, replay_kept}
+use Rattle.machine_runs.proofs.Drained.{IsUnderWay, drain_begins, drain_goes_on, all_taken, bound_taken, drain_stops, drain_is_over}
+use Rattle.machine_runs.proofs.Whole.{IsGoingHome, home_begins, home_goes_on, all_now, all_in_time, is_home, steps_back}
+use Rattle.machine_log.specs.Logs.{Log, entered, IsKept, IsEntered, ArePoked, places_of}
+
+-- ---- stalls
+
+pub moving_is : (o : Outcome) → is_stalled o ≡ false → o ≡ Stalled → ⊥
+moving_is o moves e = true≢false (sym (ap is_stalled e) ∙ moves)
+
+-- what does not stall is entered
+pub entered_moving : (steps : List Step) (s : Step) (o : Outcome) → (o ≡ Stalled → ⊥) → entered steps s o ≡ steps ++ s ∷ []
+entered_moving steps s o moves = by (is_stalled o) refl
+  where
+    by : (b : Bool) → is_stalled o ≡ b → (if b then steps else steps ++ s ∷ []) ≡ steps ++ s ∷ []
+    by true e = absurd (moves (stalled_is o e))
+    by false e = refl
+
+-- and what stalls is not
+pub entered_stalled : (steps : List Step) (s : Step) (o : Outcome) → is_stalled o ≡ true → entered steps s o ≡ steps
+entered_stalled steps s o stalls = ap (λ b. if b then steps else steps ++ s ∷ []) stalls
+
+-- ---- one step, and one after another
+
+pub entered_none : (m : MachineLists) (steps : List Step) (most : ℕ) → IsMachine m → IsEntered m steps most m steps
+entered_none m steps most is = record { sound = is; more = []; is = sym (append-nil steps); count = omega arith; replay = λ opening r. r }
+
+pub entered_one : (m new : MachineLists) (steps : List Step) (s : Step) (o : Outcome) → IsMachine new → IsStep m s o new → (o ≡ Stalled → (shown : ℕ → List Event) → machine_of new shown ≡ machine_of m shown) →
+    IsEntered m steps 1 new (entered steps s o)
+entered_one m new steps s o is st kept = by (is_stalled o) refl
+  where
+    by : (b : Bool) → is_stalled o ≡ b → IsEntered m steps 1 new (if b then steps else steps ++ s ∷ [])
+    by true e = record {
+      sound = is;
+      more = [];
+      is = sym (append-nil steps);
+      count = omega arith;
+      replay = λ opening r. replay_kept opening m new steps s o r st (kept (stalled_is o e));
+    }
+    by false e = record { sound = is; more = s ∷ []; is = refl; count = omega arith; replay = λ opening r. replay_more opening m new steps s o r st (moving_is o e) }
+
+pub entered_join : (m0 m1 m2 : MachineLists) (steps0 steps1 steps2 : List Step) (a b most : ℕ) → IsEntered m0 steps0 a m1 steps1 → IsEntered m1 steps1 b m2 steps2 → a + b ≤ most → IsEntered m0 steps0 most m2 steps2
+entered_join m0 m1 m2 steps0 steps1 steps2 a b most first second few = record {
+  sound = second.sound;
+  more = first.more ++ second.more;
+  is = second.is ∙ ap (λ xs. xs ++ second.more) first.is ∙ append_assoc steps0 first.more second.more;
+  count = (let l = length-append first.more second.more in let x = first.count in let y = second.count in omega (arith, l, x, y, few));
+  replay = λ opening r. second.replay opening (first.replay opening r);
+}
+
+pub entered_most : (m new : MachineLists) (steps steps' : List Step) (a b : ℕ) → IsEntered m steps a new steps' → a ≤ b → IsEntered m steps b new steps'
+entered_most m new steps steps' a b e few = record { sound = e.sound; more = e.more; is = e.is; count = (let x = e.count in omega (arith, x, few)); replay = e.replay }
+
+-- how many steps there are then
+pub entered_length : (m new : MachineLists) (steps steps' : List Step) (most : ℕ) → IsEntered m steps most new steps' → length steps' ≤ length steps + most
+entered_length m new steps steps' most e =
+    let all : length steps' ≡ length steps + length e.more = ap length e.is ∙ length-append steps e.more in
+    let few = e.count in omega (arith, all, few)
+
+-- a log is kept where it is new
+pub kept_new : (opening m : MachineLists) (steps : List Step) → IsMachine m → IsIdle m → opening ≡ m → steps ≡ [] → IsKept (record { opening = opening; steps = steps; machine = m })
+kept_new opening m steps is idle same none =
+    subst (λ (o : MachineLists). IsKept (record { opening = o; steps = steps; machine = m })) (sym same)
+    (subst (λ xs. IsKept (record { opening = m; steps = xs; machine = m })) (sym none) (record { opens = is; idle = idle; sound = is; replay = replay_begins m; room = omega arith }))
+
+-- and where its machine's steps are entered, and there is room for them
+pub kept_after : (l : Log) (new : MachineLists) (steps' : List Step) (most : ℕ) → IsKept l → IsEntered l.machine l.steps most new steps' → length steps' ≤ 4194304 → IsKept (record { opening = l.opening; steps = steps'; machine = new })
+kept_after l new steps' most k e room = record { opens = k.opens; idle = k.idle; sound = e.sound; replay = e.replay l.opening k.replay; room = room }
+
+-- ---- a drain
+
+-- So many steps of a drain are taken, and entered behind the steps that stood there.
+pub record IsDrainEntered (old : MachineLists) (steps : List Step) (i : ℕ) (m : MachineLists) (steps' : List Step) : Type 0 where
+  pub done : List Step
+  pub under_way : IsUnderWay old (drain_bound old.config) done m
+  pub count : length done ≡ i
+  pub is : steps' ≡ steps ++ done
+  pub entered : IsEntered old steps i m steps'
+
+pub drain_entered_none : (m : MachineLists) (steps : List Step) → IsMachine m → IsDrainEntered m steps 0 m steps
+drain_entered_none m steps is = record {
+  done = [];
+  under_way = drain_begins (drain_bound m.config) m;
+  count = refl;
+  is = sym (append-nil steps);
+  entered = entered_none m steps 0 is;
+}
+
+module _ (old : MachineLists) (steps : List Step) (i : ℕ) (m : MachineLists) (steps' : List Step) (d : IsDrainEntered old steps i m steps') where
+  pub drain_entered_more : (s : Step) (o : Outcome) (new : MachineLists) (steps2 : List Step) → i < drain_bound old.config → drain_step m ≡ Some s → GoesOn m s → IsStep m s o new →
+      steps2 ≡ entered steps' s o → IsEntered m steps' 1 new steps2 → IsDrainEntered old steps (i + 1) new steps2
+  drain_entered_more s o new steps2 within names goes st is e =
+      let moves : o ≡ Stalled → ⊥ = (λ f. goes.moves (sym st.step.outcome ∙ f)) in
+      record {
+        done = d.done ++ s ∷ [];
+        under_way = drain_goes_on old m (drain_bound old.config) d.done d.under_way s o new (let n = d.count in omega (arith, n, within)) names st;
+        count = length-append d.done (s ∷ []) ∙ (let n = d.count in omega (arith, n));
+        is = is ∙ entered_moving steps' s o moves ∙ ap (λ xs. xs ++ s ∷ []) d.is ∙ append_assoc steps d.done (s ∷ []);
+        entered = entered_join old m new steps steps' steps2 i 1 (i + 1) d.entered e (omega arith);
+      }
+
+  pub drain_entered_stops : drain_step m ≡ None → IsIdle m → IsDrained old i m × (steps' ≡ steps ++ drain_steps old)
+  drain_entered_stops none idle = (
+    subst (λ n. IsDrained old n m) d.count (drain_stops old m d.done d.under_way none idle),
+    d.is ∙ ap (λ xs. steps ++ xs) (sym (all_taken old m (drain_bound old.config) d.done d.under_way none)),
+  )
+
+  pub drain_entered_over : IsMachine old → i ≡ drain_bound old.config → IsDrained old i m × (steps' ≡ steps ++ drain_steps old)
+  drain_entered_over is over = (
+    subst (λ n. IsDrained old n m) d.count (drain_is_over old m d.done d.under_way is (d.count ∙ over)),
+    d.is ∙ ap (λ xs. steps ++ xs) (sym (bound_taken old m (drain_bound old.config) d.done d.under_way (d.count ∙ over))),
+  )
+
+  pub drain_entered_all : i ≤ drain_bound old.config → IsEntered old steps (drain_bound old.config) m steps'
+  drain_entered_all few = entered_most old m steps steps' i (drain_bound old.config) d.entered few
+
+-- ---- a reference that is brought back
+
+-- So many steps of the drain after a turn are taken, and entered.
+pub record IsBringingBack (sent : MachineLists) (steps : List Step) (i : ℕ) (m : MachineLists) (steps' : List Step) (last : Outcome) : Type 0 where
+  pub tail : List Step
+  pub home : IsGoingHome sent tail i m last
+  pub is : steps' ≡ steps ++ tail
+  pub entered : IsEntered sent steps i m steps'
+
+pub bringing_none : (m : MachineLists) (steps : List Step) → IsMachine m → IsBringingBack m steps 0 m steps Issued
+bringing_none m steps is = record { tail = []; home = home_begins m is; is = sym (append-nil steps); entered = entered_none m steps 0 is }
+
+module _ (sent : MachineLists) (steps : List Step) (i : ℕ) (m : MachineLists) (steps' : List Step) (last : Outcome) (b : IsBringingBack sent steps i m steps' last) where
+  pub bringing_more : (s : Step) (o : Outcome) (new : MachineLists) (steps2 : List Step) → i < 2 * sent.config.k + 2 → drain_step m ≡ Some s → GoesOn m s → IsStep m s o new →
+      steps2 ≡ entered steps' s o → IsEntered m steps' 1 new steps2 → IsBringingBack sent steps (i + 1) new steps2 o
+  bringing_more s o new steps2 within names goes st is e =
+      let moves : o ≡ Stalled → ⊥ = (λ f. goes.moves (sym st.step.outcome ∙ f)) in
+      record {
+        tail = b.tail ++ s ∷ [];
+        home = home_goes_on sent b.tail i m last b.home s o new e.sound within names st;
+        is = is ∙ entered_moving steps' s o moves ∙ ap (λ xs. xs ++ s ∷ []) b.is ∙ append_assoc steps b.tail (s ∷ []);
+        entered = entered_join sent m new steps steps' steps2 i 1 (i + 1) b.entered e (omega arith);
+      }
+
+  -- it is back where the drain names no step any more, and after so many
+  pub brought_now : drain_step m ≡ None → IsIdle m → (steps' ≡ steps ++ drain_steps sent) × ((before : MachineLists) (p : ℕ) → IsSent before p sent → IsOne before p last m)
+  brought_now none idle =
+      let all = all_now sent b.tail i m last b.home none idle in
+      (b.is ∙ ap (λ xs. steps ++ xs) (sym all), is_home sent b.tail i m last b.home idle all)
+
+  pub brought_in_time : IsMachine sent → i ≡ 2 * sent.config.k + 2 → (first : MachineLists) (q : ℕ) → IsSent first q sent →
+      (steps' ≡ steps ++ drain_steps sent) × ((before : MachineLists) (p : ℕ) → IsSent before p sent → IsOne before p last m)
+  brought_in_time here over first q sends =
+      let ended = all_in_time sent b.tail i m last b.home here over first q sends in
+      (b.is ∙ ap (λ xs. steps ++ xs) (sym ended.1), is_home sent b.tail i m last b.home ended.0 ended.1)
+
+  pub bringing_all : i ≤ 2 * sent.config.k + 2 → IsEntered sent steps (2 * sent.config.k + 2) m steps'
+  bringing_all few = entered_most sent m steps steps' i (2 * sent.config.k + 2) b.entered few
+
+-- ---- a whole instruction
+
+-- of a turn that sends no request its own step is entered, unless it stalls
+turn_entered : (m : MachineLists) (steps : List Step) (s : Step) (o : Outcome) → (o ≡ Issued → ⊥) → entered steps s o ≡ steps ++ steps_from m.config m.code (machine_of m (λ q. [])) s o
+turn_entered m steps s Issued other = absurd (other refl)
+turn_entered m steps s Stalled other = sym (append-nil steps)
+turn_entered m steps s (Retired retired) other = refl
+turn_entered m steps s (Stopped cause) other = refl
+turn_entered m steps s Moved other = refl
+turn_entered m steps s (Combined first second) other = refl
+turn_entered m steps s (Served leader) other = refl
+turn_entered m steps s (Answered to) other = refl
+turn_entered m steps s Poked other = refl
+
+pub one_entered : (m : MachineLists) (p : ℕ) (steps : List Step) (o : Outcome) (new : MachineLists) → IsStep m (step.Turn p) o new → (o ≡ Issued → ⊥) → entered steps (step.Turn p) o ≡ steps ++ one_steps m p
+one_entered m p steps o new st other =
+    turn_entered m steps (step.Turn p) o other ∙ ap (λ x. steps ++ steps_from m.config m.code (machine_of m (λ q. [])) (step.Turn p) x) st.step.outcome
+
+-- of one that sends a request that step and those of the drain after it
+pub sent_entered : (m : MachineLists) (p : ℕ) (steps steps' steps2 : List Step) (o : Outcome) (sent : MachineLists) → IsSent m p sent → o ≡ Issued →
+    steps' ≡ entered steps (step.Turn p) o → steps2 ≡ steps' ++ drain_steps sent → steps2 ≡ steps ++ one_steps m p
+sent_entered m p steps steps' steps2 o sent s issued first rest =
+    rest ∙ ap (λ xs. xs ++ drain_steps sent) (first ∙ ap (entered steps (step.Turn p)) issued)
+    ∙ append_assoc steps (step.Turn p ∷ []) (drain_steps sent) ∙ ap (λ xs. steps ++ xs) (sym (steps_back m p sent s))
+
+-- ---- pokes
+
+flat_more : (F : FlatState) (xs : List Entry) (e : Entry) → flat_run F (xs ++ e ∷ []) ≡ flat_step (flat_run F xs) e
+flat_more F [] e = refl
+flat_more F (x ∷ xs) e = flat_more (flat_step F x) xs e
+
+pub poked_none : (m : MachineLists) (steps : List Step) → IsMachine m → IsIdle m → ArePoked m steps [] m steps
+poked_none m steps is idle = record { is = sym (append-nil steps); replay = replay_begins m; idle = idle; flat = refl; entered = entered_none m steps 0 is }
+
+module _ (old m new : MachineLists) (steps steps' steps2 : List Step) (done : List Poke) (q : Poke) (o : Outcome) (d : ArePoked old steps done m steps') where
+  pub poked_more : is_lawful_poke old.config q ≡ true → IsStep m (step.Poke q) o new → IsPoked m q o new → steps2 ≡ entered steps' (step.Poke q) o → IsEntered m steps' 1 new steps2 → ArePoked old steps (done ++ q ∷ []) new steps2
+  poked_more lawful st w is e =
+      let lawful_here : is_lawful_poke m.config q ≡ true = ap (λ c. is_lawful_poke c q) d.replay.run.config ∙ lawful in
+      let does : o ≡ Poked = w.answer ∙ ap (λ b. if b then Poked else Stalled) lawful_here in
+      let one : (xs : List Poke) → map step.Poke (xs ++ q ∷ []) ≡ map step.Poke xs ++ step.Poke q ∷ [] = (λ xs. map-append step.Poke xs (q ∷ [])) in
+      record {
+        is = is ∙ ap (entered steps' (step.Poke q)) does ∙ ap (λ xs. xs ++ step.Poke q ∷ []) d.is ∙ append_assoc steps (map step.Poke done) (step.Poke q ∷ []) ∙ ap (λ xs. steps ++ xs) (sym (one done));
+        replay =
+            subst (λ xs. IsReplay old xs new) (sym (one done))
+            (replay_more old m new (map step.Poke done) (step.Poke q) o d.replay st (λ stalls. let no : Poked ≡ Stalled = sym does ∙ stalls in cc));
+        idle = w.idle;
+        flat =
+            w.flat ∙ ap (λ b. if b then flat_step (flat_state m) (entry.Poke q) else flat_state m) lawful_here
+            ∙ ap (λ F. flat_step F (entry.Poke q)) d.flat
+            ∙ sym (flat_more (flat_state old) (map entry.Poke done) (entry.Poke q)) ∙ ap (flat_run (flat_state old)) (sym (map-append entry.Poke done (q ∷ [])));
+        entered =
+            entered_join old m new steps steps' steps2 (length done) 1 (length (done ++ q ∷ [])) d.entered e (let n = length-append done (q ∷ []) in omega (arith, n));
+      }
+
+-- ---- places
+
+-- What is entered takes the places that it needs, and leaves the others.
+pub places_kept : (steps steps' : List Step) (capacity capacity' most : ℕ) → length steps' ≤ length steps + most → most ≤ places_of capacity steps → capacity' ≡ capacity →
+    length steps ≤ min capacity 4194304 → length steps' + places_of capacity' steps' ≡ length steps + places_of capacity steps
+places_kept steps steps' capacity capacity' most few room same within =
+    let fits : length steps' ≤ min capacity 4194304 = omega (arith, few, room, within) in
+    ap (λ n. length steps' + places_of n steps') same ∙ omega (arith, fits, within)

@@ -1,0 +1,19 @@
+use Rattle.std.proofs.Common.{◌≡◌, ◌∙◌, sym, subst}
+use Rattle.flat_machine.specs.declared.poke.Poke.{Poke}
+use Rattle.steps.specs.declared.step.Step.TheVariants as step
+use Rattle.machine_runs.specs.Machines.{IsIdle}
+use Rattle.machine_runs.specs.Runs.{answer_after}
+use Rattle.machine_runs.specs.Whole.{IsPoked}
+use Rattle.machine_runs.proofs.Replaying.{outcome_there}
+use Rattle.machine_log.specs.Logs.{RoomyLog}
+use Rattle.machine_log.proofs.roomy.Roomy.step.Goals as goal
+
+pub returns-clause-answer : goal.returns-clause-answer
+returns-clause-answer c =
+    let l = c.self.inside in
+    subst (λ (l : RoomyLog). c.enter.result ≡ answer_after l.log.opening l.log.steps c.args.step) c.self.view_is
+    (c.enter.ensures.answer ∙ sym (outcome_there l.opening.value l.machine l.steps.items c.self.invariant.replay.run c.args.step))
+
+pub returns-clause-poked : goal.returns-clause-poked
+returns-clause-poked c =
+    subst (λ (l : RoomyLog). IsIdle l.log.machine → (poke : Poke) → c.args.step ≡ step.Poke poke → IsPoked l.log.machine poke c.enter.result c.enter.new.machine) c.self.view_is c.enter.ensures.poked

@@ -1,0 +1,203 @@
+//! The log of a machine's steps.
+
+ghost use Rattle.std.specs.Prelude.{◌≡◌, ◌≤◌, ◌<◌, ◌+◌, ◌*◌, ◌^◌, ◌↔◌, ◌++◌, [], length, nat_lt, true, false, Err, IfOk, OnOk, OnErr};
+ghost use Rattle.std.specs.Borrow.{sem};
+ghost use Rattle.machine_runs.specs.Machines.{IsIdle};
+ghost use Rattle.machine_runs.specs.Draining.{drain_bound, drain_steps, IsDrained};
+ghost use Rattle.machine_runs.specs.Runs.{answer_after, IsReplay, IsSerialized};
+ghost use Rattle.machine_runs.specs.Whole.{one_steps, IsOne, IsPoked};
+ghost use Rattle.machine_log.specs.Logs.{is_named, AreLawful, HasPoked, HasTaken, IsKept, IsLonger};
+ghost use Rattle.machine_log.specs.Lending.{LendsRoom};
+
+use crate::roomy::Roomy;
+use flat_machine::Poke;
+use machine_runs::{Machine, most_moves};
+use std::alloc::Global;
+use std::marker::Model;
+use steps::{Outcome, Step};
+use thiserror::Error;
+
+/// Why a call was refused. Nothing is changed then.
+#[derive(Clone, Copy, Debug, PartialEq, Eq, Drop, Error)]
+pub enum LogRefusal {
+    /// There was no memory for a place in the log.
+    #[error("L1")]
+    Memory,
+    /// The log would pass [`steps::MAX_STEPS`] steps.
+    #[error("L2")]
+    Full,
+    /// The machine has no processor, module, wire or stage of a number that was named.
+    #[error("L3")]
+    Unnamed,
+}
+
+/// A machine with the log of its steps: its opening, the steps since, and the machine after them.
+#[derive(Drop)]
+pub struct Logged {
+    log: Roomy,
+}
+
+impl Model for Logged {
+    ghost use Rattle.machine_log.specs.Logs.{Log};
+
+    ghost Value = { Log };
+
+    ghost view = { λ l. l.log.log };
+}
+
+impl Logged {
+    /// The log of a machine in which no reference is open, and which has taken no step: it becomes the
+    /// opening.
+    pub fn new(alloc: Global, machine: Machine) -> Self
+        requires idle { IsIdle machine }
+        ensures { result ≡ record { opening = machine; steps = []; machine = machine } }
+    {
+        Logged {
+            log: Roomy::new(alloc, machine),
+        }
+    }
+
+    /// The machine. It is the replay of its opening over the steps, and one serial order of whole
+    /// instructions explains what it did.
+    pub fn machine(&self) -> &Machine
+        ensures machine { result.now ≡ self.now.machine }
+        ensures kept { IsKept self.now }
+        ensures replay { IsReplay self.now.opening self.now.steps self.now.machine }
+        ensures explained { IsSerialized self.now.opening self.now.steps self.now.machine }
+    {
+        self.log.machine()
+    }
+
+    /// The steps that the machine has taken, in order. None of them stalled.
+    pub fn steps(&self) -> &[Step]
+        ensures steps { result.now ≡ self.now.steps }
+        ensures room { length result.now ≤ 4194304 }
+    {
+        self.log.steps()
+    }
+
+    /// Whether the machine has each place that the step names.
+    pub fn names(&self, step: &Step) -> bool
+        ensures { result ≡ is_named self.now.machine.config step.now }
+    {
+        let config = self.machine().config();
+        let places = config.processors();
+        match *step {
+            Step::Turn(place) | Step::Serve(place) => place < places,
+            Step::Up { stage, wire } | Step::Down { stage, wire } => {
+                stage < config.k && wire < places
+            }
+            Step::Poke(Poke::Register { processor, .. } | Poke::Local { processor, .. }) => {
+                processor < places
+            }
+            Step::Poke(Poke::Shared { .. }) => true,
+        }
+    }
+
+    /// Takes a step, and enters it unless it stalled.
+    ///
+    /// # Errors
+    ///
+    /// [`LogRefusal::Unnamed`] where the machine has not each place that the step names, else
+    /// [`LogRefusal::Full`] where the log has [`steps::MAX_STEPS`] steps, else [`LogRefusal::Memory`]
+    /// where there is no memory for a place in the log. Each leaves all as it was.
+    pub fn step(&mut self, step: Step) -> Result<Outcome, LogRefusal>
+        ensures taken { IfOk result (λ o. HasTaken self.old step o self.new) }
+        ensures answer { IfOk result (λ o. o ≡ answer_after self.old.opening self.old.steps step) }
+        ensures poked { IfOk result (λ o. IsIdle self.old.machine → (poke : Poke) → step ≡ Step.Poke poke → IsPoked self.old.machine poke o self.new.machine) }
+        ensures unnamed { (result ≡ Err LogRefusal.Unnamed) ↔ (is_named self.old.machine.config step ≡ false) }
+        ensures full { (result ≡ Err LogRefusal.Full) ↔ ((is_named self.old.machine.config step ≡ true) × (4194304 ≤ length self.old.steps)) }
+        ensures refused { OnErr result (self.new ≡ self.old) }
+    {
+        if !self.names(&step) {
+            return Err(LogRefusal::Unnamed);
+        }
+        self.log.make_room(1)?;
+        Ok(self.log.step(step))
+    }
+
+    /// Lends the log with room for more steps, so that taking and entering them cannot be refused.
+    ///
+    /// # Errors
+    ///
+    /// [`LogRefusal::Full`] where the log would pass [`steps::MAX_STEPS`] steps with them, else
+    /// [`LogRefusal::Memory`] where there is no memory. Each leaves all as it was.
+    pub fn room(&mut self, extra: u32) -> Result<&mut Roomy, LogRefusal>
+        ensures* lends { sem 𝓛 (LendsRoom self.entry result) }
+        ensures places { IfOk result (λ roomy. extra ≤ roomy.now.places) }
+        ensures log { IfOk result (λ roomy. roomy.now.log ≡ self.old) }
+        ensures full { (result ≡ Err LogRefusal.Full) ↔ (4194304 < length self.old.steps + extra) }
+        ensures named { result ≡ Err LogRefusal.Unnamed → ⊥ }
+    {
+        self.log.make_room(extra)?;
+        Ok(&mut self.log)
+    }
+
+    /// Takes steps until no reference is open, as [`machine_runs::drain`] does, enters them, and answers how
+    /// many: `2^k * (2k + 2)` at most, for which it makes room first.
+    ///
+    /// # Errors
+    ///
+    /// [`LogRefusal::Full`] where the log would pass [`steps::MAX_STEPS`] steps with as many, else
+    /// [`LogRefusal::Memory`] where there is no memory for them. Each leaves all as it was.
+    pub fn drain(&mut self) -> Result<u32, LogRefusal>
+        ensures drained { IfOk result (λ count. IsDrained self.old.machine count self.new.machine) }
+        ensures entered { OnOk result (self.new.steps ≡ self.old.steps ++ drain_steps self.old.machine) }
+        ensures opening { self.new.opening ≡ self.old.opening }
+        ensures full { (result ≡ Err LogRefusal.Full) ↔ (4194304 < length self.old.steps + drain_bound self.old.machine.config) }
+        ensures named { result ≡ Err LogRefusal.Unnamed → ⊥ }
+        ensures refused { OnErr result (self.new ≡ self.old) }
+    {
+        let most = most_moves(self.machine());
+        self.log.make_room(most)?;
+        Ok(self.log.drain())
+    }
+
+    /// Takes one whole instruction of a processor, as [`machine_runs::one`] does, and enters its steps:
+    /// `2k + 3` at most, for which it makes room first.
+    ///
+    /// # Errors
+    ///
+    /// [`LogRefusal::Unnamed`] where the machine has no processor of this number, else
+    /// [`LogRefusal::Full`] where the log would pass [`steps::MAX_STEPS`] steps with `2k + 3` more, else
+    /// [`LogRefusal::Memory`] where there is no memory for them. Each leaves all as it was.
+    pub fn one(&mut self, p: u8) -> Result<Outcome, LogRefusal>
+        ensures whole { IfOk result (λ o. IsIdle self.old.machine → IsOne self.old.machine p o self.new.machine) }
+        ensures busy { IfOk result (λ o. (IsIdle self.old.machine → ⊥) → (o ≡ Outcome.Stalled) × (self.new ≡ self.old)) }
+        ensures entered { OnOk result (IsIdle self.old.machine → self.new.steps ≡ self.old.steps ++ one_steps self.old.machine p) }
+        ensures longer { OnOk result (IsLonger self.old self.new (2 * self.old.machine.config.k + 3)) }
+        ensures unnamed { (result ≡ Err LogRefusal.Unnamed) ↔ (nat_lt p (2 ^ self.old.machine.config.k) ≡ false) }
+        ensures full { (result ≡ Err LogRefusal.Full) ↔ ((p < 2 ^ self.old.machine.config.k) × (4194304 < length self.old.steps + (2 * self.old.machine.config.k + 3))) }
+        ensures refused { OnErr result (self.new ≡ self.old) }
+    {
+        let config = self.machine().config();
+        if p >= config.processors() {
+            return Err(LogRefusal::Unnamed);
+        }
+        self.log.make_room(2 * u32::from(config.k) + 3)?;
+        Ok(self.log.one(p))
+    }
+
+    /// Writes these from outside, one after another, and enters them: for all of them it makes room first.
+    /// No reference is open, and the machine has what each writes ([`Machine::is_lawful`]).
+    ///
+    /// # Errors
+    ///
+    /// [`LogRefusal::Full`] where the log would pass [`steps::MAX_STEPS`] steps with them, else
+    /// [`LogRefusal::Memory`] where there is no memory for them. Each leaves all as it was.
+    pub fn pokes(&mut self, pokes: &[Poke]) -> Result<(), LogRefusal>
+        requires idle { IsIdle self.old.machine }
+        requires lawful { AreLawful self.old.machine.config pokes.now }
+        ensures poked { OnOk result (HasPoked self.old pokes.now self.new) }
+        ensures full { (result ≡ Err LogRefusal.Full) ↔ (4194304 < length self.old.steps + length pokes.now) }
+        ensures named { result ≡ Err LogRefusal.Unnamed → ⊥ }
+        ensures refused { OnErr result (self.new ≡ self.old) }
+    {
+        let Ok(count) = u32::try_from(pokes.len()) else {
+            return Err(LogRefusal::Full);
+        };
+        self.log.make_room(count)?;
+        self.log.pokes(pokes);
+        Ok(())
+    }
+}

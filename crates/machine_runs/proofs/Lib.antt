@@ -1,0 +1,11 @@
+pub mod Flattening
+pub mod Running
+pub mod Replaying
+pub mod Draining
+pub mod Drained
+pub mod Lone
+pub mod Whole
+mod Grouping
+mod Ordering
+mod Cutting
+mod Telling

@@ -1,0 +1,24 @@
+use Rattle.std.proofs.Common.{◌≤◌, ◌<◌, Some, sym, ap, ◌∙◌, subst}
+use Rattle.std.proofs.lemmas.List.FromFn.{length-map-range_with_len}
+use Rattle.machine_program.specs.Processors.{no_processor, word_at}
+use Rattle.machine_program.proofs.Reading.{found_within}
+use Rattle.machine.specs.Openings.{flat_state}
+use Rattle.machine_runs.specs.Laws.{FlatProcessorsAreRead, FlatWordsAreRead}
+use Rattle.machine.proofs.Flattening.{state_at, count_is, word_is, none_past}
+use Rattle.machine_runs.proofs.laws.flat_states_are_read.Goals as goal
+
+processors : FlatProcessorsAreRead
+processors m is = (
+  count_is m is,
+  λ p within. found_within (flat_state m).processors p no_processor (subst (λ n. p < n) (sym (count_is m is)) within) ∙ ap Some (state_at m is p),
+  λ p past. none_past (flat_state m).processors p (subst (λ n. n ≤ p) (sym (count_is m is)) past),
+)
+
+words : FlatWordsAreRead
+words m is = (length-map-range_with_len (word_at m.config.k m.modules) 0 m.config.shared_words, word_is m is)
+
+pub returns-clause-processors : goal.returns-clause-processors
+returns-clause-processors c = processors
+
+pub returns-clause-words : goal.returns-clause-words
+returns-clause-words c = words

@@ -1,0 +1,44 @@
+//! What holds of all runs. Each law is the contract of a function that does nothing.
+
+ghost use Rattle.machine_runs.specs.Laws.{AnswersAreOfTheSteps, AnswersForgetEvents, EventsAreTold, FlatProcessorsAreRead, FlatWordsAreRead, ReplaysAreCut, ReplaysAreJoined, ReplaysBegin, RunsAreJoined, RunsAreSerialized, StallsAreNotEntered, StepsAreEntered};
+
+/// A replay begins with no step, and a step that is taken next stands at its end, unless it stalls.
+pub fn replays_go_on()
+    ensures begins { ReplaysBegin }
+    ensures entered { StepsAreEntered }
+    ensures stalled { StallsAreNotEntered }
+{}
+
+/// One run after another is a run over the steps of both.
+pub fn runs_are_joined()
+    ensures runs { RunsAreJoined }
+    ensures replays { ReplaysAreJoined }
+{}
+
+/// What a machine has done since it came to stand somewhere in a replay is a replay from there.
+pub fn replays_are_cut()
+    ensures cut { ReplaysAreCut }
+{}
+
+/// What a step answers depends on the steps that were taken, and on nothing that was shown.
+pub fn answers_are_of_the_steps()
+    ensures events { AnswersForgetEvents }
+    ensures steps { AnswersAreOfTheSteps }
+{}
+
+/// From a machine in which no reference is open, one serial order of whole instructions explains
+/// whatever steps it takes; and each machine that they reach in which none is open either is the flat
+/// machine after that order. The outcomes of the steps tell of the events that the flat machine shows
+/// by that order: of a processor that has no reference open they tell all of them, in their order, and
+/// of each other all but the last at most.
+pub fn runs_are_serialized()
+    ensures each { RunsAreSerialized }
+    ensures events { EventsAreTold }
+{}
+
+/// The flat machine that a machine's parts make has the processors at its ports and the words in its
+/// modules.
+pub fn flat_states_are_read()
+    ensures processors { FlatProcessorsAreRead }
+    ensures words { FlatWordsAreRead }
+{}

@@ -1,0 +1,21 @@
+//! Runs of a machine: the laws of many steps, the serial order that they give, drains and whole
+//! instructions.
+//!
+//! The machine and its step are of the crate `machine`. [`run`] carries the theorem: from a machine in
+//! which no reference is open, after whatever steps, one serial order of whole instructions explains
+//! what the machine did (`IsSerialized`). [`order`] lists that order, [`drain`] brings every open
+//! reference to its end, and [`one`] takes one instruction, whole: it is a step of the flat machine
+//! (`IsOne`).
+#![tactic(auto)]
+
+mod laws;
+mod runs;
+mod searching;
+mod serial_order;
+
+pub use laws::{
+    answers_are_of_the_steps, flat_states_are_read, replays_are_cut, replays_go_on,
+    runs_are_joined, runs_are_serialized,
+};
+pub use machine::{Machine, NewError, machine_is_sound};
+pub use runs::{drain, drain_step, most_moves, one, order, run};

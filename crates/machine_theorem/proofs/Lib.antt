@@ -1,0 +1,4 @@
+pub mod Flat
+pub mod Good
+pub mod Lawful
+pub mod Explaining

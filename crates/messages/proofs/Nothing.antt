@@ -1,0 +1,30 @@
+-- A move from a place without a message stalls.
+use Rattle.std.proofs.Common.{◌≡◌, Bool, true, false, List, nat_lt, refl, ap, ◌∙◌}
+use Rattle.std.specs.Prelude.{if◌then◌else◌}
+use Rattle.messages.specs.declared.message.Request.{Request}
+use Rattle.messages.specs.declared.message.Reply.{Reply}
+use Rattle.messages.specs.declared.moves.UpMove.{UpMove}
+use Rattle.messages.specs.declared.moves.UpMove.TheVariants as up
+use Rattle.messages.specs.declared.moves.DownMove.{DownMove}
+use Rattle.messages.specs.declared.moves.DownMove.TheVariants as down
+use Rattle.messages.specs.Laws.{NothingMovesDown, NothingMovesUp}
+use Rattle.messages.specs.Network.{Net}
+use Rattle.messages.specs.Moves.{down_from, moved_down, moved_up, up_from}
+
+pub nothing_moves_up : NothingMovesUp
+unfolding moved_up
+nothing_moves_up z net s w none =
+    ap (λ (q : List Request). if◌then◌else◌ {A = UpMove × Net} (nat_lt s z.k) (up_from z net s w q) (up.Stalled, net)) none ∙ either (nat_lt s z.k)
+  where
+    either : (b : Bool) → if◌then◌else◌ {A = UpMove × Net} b (up.Stalled, net) (up.Stalled, net) ≡ (up.Stalled, net)
+    either true = refl
+    either false = refl
+
+pub nothing_moves_down : NothingMovesDown
+unfolding moved_down
+nothing_moves_down z net s w none =
+    ap (λ (q : List Reply). if◌then◌else◌ {A = DownMove × Net} (nat_lt s z.k) (down_from z net s w q) (down.Stalled, net)) none ∙ either (nat_lt s z.k)
+  where
+    either : (b : Bool) → if◌then◌else◌ {A = DownMove × Net} b (down.Stalled, net) (down.Stalled, net) ≡ (down.Stalled, net)
+    either true = refl
+    either false = refl

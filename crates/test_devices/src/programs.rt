@@ -1,0 +1,21 @@
+//! Programs as texts of the assembler.
+
+/// Each processor adds 1 to one shared word a hundred times, writes `A` to the console and halts. It stops
+/// by EBREAK where the word has less than its own adds.
+pub const HUNDRED_ADDS: &str = "start: lui x5, 0x80000
+ addi x6, x0, 100
+ addi x7, x0, 1
+loop: amoadd.w x8, x7, (x5)
+ addi x6, x6, -1
+ bne x6, x0, loop
+ lw x9, 0(x5)
+ addi x11, x0, 100
+ bltu x9, x11, bad
+ addi x17, x0, 1
+ addi x10, x0, 65
+ ecall
+ addi x17, x0, 0
+ addi x10, x0, 0
+ ecall
+bad: ebreak
+";

@@ -1,3 +1,0 @@
-pub mod Assembling
-pub mod Listing
-pub mod Disassembling
