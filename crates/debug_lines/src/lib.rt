@@ -1,0 +1,20 @@
+//! The lines of a debugger's stream: where lines end in bytes that come in pieces, however these are cut, and which
+//! command a line asks for.
+//!
+//! `specs/Lines.antt` says which events a stream stands for, `specs/Commands.antt` which command a line spells.
+//! No call takes memory.
+#![tactic(auto)]
+
+mod command;
+mod laws;
+mod number;
+mod reader;
+#[cfg(test)]
+mod tests;
+mod word;
+mod written;
+
+pub use command::Command;
+pub use laws::{commands_are_spelled, one_reading};
+pub use reader::{Event, Line, LineReader, MAX_LINE, pack};
+pub use written::Written;
