@@ -1,0 +1,44 @@
+-- The steps that an arbiter picks from, and the numbers that it picks by.
+use Rattle.std.specs.Prelude.{ℕ, zero, suc, ◌+◌, ◌*◌, ◌/◌, ◌%◌, ◌^◌, ◌<◌, ◌==◌, List, [], ◌++◌, map, bit_xor, if◌then◌else◌}
+use Rattle.std.specs.List.{range_with_len}
+use Rattle.steps.specs.declared.step.Step.{Step}
+use Rattle.steps.specs.declared.step.Step.TheVariants.{Turn, Up, Serve, Down, Poke}
+
+-- ---- the list
+
+-- a step for each wire of a network of k stages, from wire 0 up
+abbrev pub by_wire : (k : ℕ) → (ℕ → Step) → List Step
+by_wire k step = map step (range_with_len 0 (2 ^ k))
+
+-- a step for each of the first stages and each wire, by stage, and by wire in each
+abbrev pub by_stage : (k stages : ℕ) → (ℕ → ℕ → Step) → List Step
+by_stage k zero step = []
+by_stage k (suc stage) step = by_stage k stage step ++ by_wire k (step stage)
+
+-- all moves of requests, all services, and all moves of replies
+unfoldable pub choices : (k : ℕ) → List Step
+choices k = by_stage k k Up ++ by_wire k Serve ++ by_stage k k Down
+
+-- A step moves a message of a network of k stages, or is a service by one of its modules.
+abbrev pub IsOfNetwork : (k : ℕ) → Step → Type 0
+IsOfNetwork k (Up stage wire) = (stage < k) × (wire < 2 ^ k)
+IsOfNetwork k (Serve place) = place < 2 ^ k
+IsOfNetwork k (Down stage wire) = (stage < k) × (wire < 2 ^ k)
+IsOfNetwork k (Turn p) = ⊥
+IsOfNetwork k (Poke poke) = ⊥
+
+-- ---- the generator, whose states are numbers below 2 ^ 32
+
+-- the number that a run begins with and the processor's number, where these are not 0 together
+abbrev pub first_state : (start p : ℕ) → ℕ
+first_state start p = let sum = (start + p) % 2 ^ 32 in if sum == 0 then 1 else sum
+
+-- the bits of a number, each changed where the bit so many places below it, or above it, is 1
+abbrev pub mixed_up : (x places : ℕ) → ℕ
+mixed_up x places = bit_xor x ((x * 2 ^ places) % 2 ^ 32)
+
+abbrev pub mixed_down : (x places : ℕ) → ℕ
+mixed_down x places = bit_xor x (x / 2 ^ places)
+
+abbrev pub next_state : (x : ℕ) → ℕ
+next_state x = mixed_up (mixed_down (mixed_up x 13) 17) 5

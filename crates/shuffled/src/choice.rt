@@ -1,0 +1,26 @@
+//! The step at each place of the list of choices.
+
+ghost use Rattle.std.specs.Prelude.{◌≡◌, ◌≤◌, ◌<◌, ◌*◌, ◌+◌, ◌^◌, Some, slice_get};
+ghost use Rattle.shuffled.specs.Choices.{choices};
+
+use steps::Step;
+
+/// The step on a wire of a row of the list. A row has a step for each wire. The first `k` rows have the moves up by stage, row `k` has the
+/// services, and the rows behind it have the moves down by stage.
+pub fn choice_at(k: u8, row: u8, wire: u8) -> Step
+    requires stages { k ≤ 6 }
+    requires row { row < 2 * k + 1 }
+    requires wire { wire < 2 ^ k }
+    ensures { slice_get (choices k) (row * 2 ^ k + wire) ≡ Some result }
+{
+    if row < k {
+        Step::Up { stage: row, wire }
+    } else if row == k {
+        Step::Serve(wire)
+    } else {
+        Step::Down {
+            stage: row - (k + 1),
+            wire,
+        }
+    }
+}
