@@ -20,8 +20,7 @@ use Rattle.machine_runs.specs.Runs.{flat_state, IsReplay}
 use Rattle.machine_runs.specs.Draining.{drain_step, GoesOn, drain_bound, drain_steps, IsDrained}
 use Rattle.machine_runs.specs.Whole.{steps_from, one_steps, IsOne, IsPoked, IsSent}
 use Rattle.machine_runs.proofs.Replaying.{stalled_is, replay_begins, replay_more, replay_kept}
-use Rattle.machine_runs.proofs.Drained.{IsUnderWay, drain_begins, drain_goes_on, all_taken, bound_taken, drain_stops, drain_is_over}
-use Rattle.machine_runs.proofs.Whole.{IsGoingHome, home_begins, home_goes_on, all_now, all_in_time, is_home, steps_back}
+use Rattle.machine_runs.proofs.Whole.{IsGoingHome, home_begins, home_goes_on, home_now, home_in_time, steps_back}
 use Rattle.machine_log.specs.Logs.{Log, entered, IsKept, IsEntered, ArePoked, places_of}
 
 -- ---- stalls
@@ -91,88 +90,36 @@ kept_after l new steps' most k e room = record { opens = k.opens; idle = k.idle;
 -- ---- a drain
 
 -- So many steps of a drain are taken, and entered behind the steps that stood there.
-pub record IsDrainEntered (old : MachineLists) (steps : List Step) (i : ℕ) (m : MachineLists) (steps' : List Step) : Type 0 where
-  pub done : List Step
-  pub under_way : IsUnderWay old (drain_bound old.config) done m
-  pub count : length done ≡ i
-  pub is : steps' ≡ steps ++ done
+pub record IsHomeEntered (old : MachineLists) (steps : List Step) (i : ℕ) (m : MachineLists) (steps' : List Step) (last : Outcome) : Type 0 where
+  pub tail : List Step
+  pub home : IsGoingHome old tail i m last
+  pub is : steps' ≡ steps ++ tail
   pub entered : IsEntered old steps i m steps'
 
-pub drain_entered_none : (m : MachineLists) (steps : List Step) → IsMachine m → IsDrainEntered m steps 0 m steps
-drain_entered_none m steps is = record {
-  done = [];
-  under_way = drain_begins (drain_bound m.config) m;
-  count = refl;
-  is = sym (append-nil steps);
-  entered = entered_none m steps 0 is;
-}
+pub entering_begins : (m : MachineLists) (steps : List Step) → IsMachine m → IsHomeEntered m steps 0 m steps Issued
+entering_begins m steps is = record { tail = []; home = home_begins m is; is = sym (append-nil steps); entered = entered_none m steps 0 is }
 
-module _ (old : MachineLists) (steps : List Step) (i : ℕ) (m : MachineLists) (steps' : List Step) (d : IsDrainEntered old steps i m steps') where
-  pub drain_entered_more : (s : Step) (o : Outcome) (new : MachineLists) (steps2 : List Step) → i < drain_bound old.config → drain_step m ≡ Some s → GoesOn m s → IsStep m s o new →
-      steps2 ≡ entered steps' s o → IsEntered m steps' 1 new steps2 → IsDrainEntered old steps (i + 1) new steps2
-  drain_entered_more s o new steps2 within names goes st is e =
-      let moves : o ≡ Stalled → ⊥ = (λ f. goes.moves (sym st.step.outcome ∙ f)) in
-      record {
-        done = d.done ++ s ∷ [];
-        under_way = drain_goes_on old m (drain_bound old.config) d.done d.under_way s o new (let n = d.count in omega (arith, n, within)) names st;
-        count = length-append d.done (s ∷ []) ∙ (let n = d.count in omega (arith, n));
-        is = is ∙ entered_moving steps' s o moves ∙ ap (λ xs. xs ++ s ∷ []) d.is ∙ append_assoc steps d.done (s ∷ []);
-        entered = entered_join old m new steps steps' steps2 i 1 (i + 1) d.entered e (omega arith);
-      }
-
-  pub drain_entered_stops : drain_step m ≡ None → IsIdle m → IsDrained old i m × (steps' ≡ steps ++ drain_steps old)
-  drain_entered_stops none idle = (
-    subst (λ n. IsDrained old n m) d.count (drain_stops old m d.done d.under_way none idle),
-    d.is ∙ ap (λ xs. steps ++ xs) (sym (all_taken old m (drain_bound old.config) d.done d.under_way none)),
-  )
-
-  pub drain_entered_over : IsMachine old → i ≡ drain_bound old.config → IsDrained old i m × (steps' ≡ steps ++ drain_steps old)
-  drain_entered_over is over = (
-    subst (λ n. IsDrained old n m) d.count (drain_is_over old m d.done d.under_way is (d.count ∙ over)),
-    d.is ∙ ap (λ xs. steps ++ xs) (sym (bound_taken old m (drain_bound old.config) d.done d.under_way (d.count ∙ over))),
-  )
-
-  pub drain_entered_all : i ≤ drain_bound old.config → IsEntered old steps (drain_bound old.config) m steps'
-  drain_entered_all few = entered_most old m steps steps' i (drain_bound old.config) d.entered few
-
--- ---- a reference that is brought back
-
--- So many steps of the drain after a turn are taken, and entered.
-pub record IsBringingBack (sent : MachineLists) (steps : List Step) (i : ℕ) (m : MachineLists) (steps' : List Step) (last : Outcome) : Type 0 where
-  pub tail : List Step
-  pub home : IsGoingHome sent tail i m last
-  pub is : steps' ≡ steps ++ tail
-  pub entered : IsEntered sent steps i m steps'
-
-pub bringing_none : (m : MachineLists) (steps : List Step) → IsMachine m → IsBringingBack m steps 0 m steps Issued
-bringing_none m steps is = record { tail = []; home = home_begins m is; is = sym (append-nil steps); entered = entered_none m steps 0 is }
-
-module _ (sent : MachineLists) (steps : List Step) (i : ℕ) (m : MachineLists) (steps' : List Step) (last : Outcome) (b : IsBringingBack sent steps i m steps' last) where
-  pub bringing_more : (s : Step) (o : Outcome) (new : MachineLists) (steps2 : List Step) → i < 2 * sent.config.k + 2 → drain_step m ≡ Some s → GoesOn m s → IsStep m s o new →
-      steps2 ≡ entered steps' s o → IsEntered m steps' 1 new steps2 → IsBringingBack sent steps (i + 1) new steps2 o
-  bringing_more s o new steps2 within names goes st is e =
+module _ (old : MachineLists) (steps : List Step) (i : ℕ) (m : MachineLists) (steps' : List Step) (last : Outcome) (b : IsHomeEntered old steps i m steps' last) where
+  pub entering_goes_on : (s : Step) (o : Outcome) (new : MachineLists) (steps2 : List Step) → i < drain_bound old.config → drain_step m ≡ Some s → GoesOn m s → IsStep m s o new →
+      steps2 ≡ entered steps' s o → IsEntered m steps' 1 new steps2 → IsHomeEntered old steps (i + 1) new steps2 o
+  entering_goes_on s o new steps2 within names goes st is e =
       let moves : o ≡ Stalled → ⊥ = (λ f. goes.moves (sym st.step.outcome ∙ f)) in
       record {
         tail = b.tail ++ s ∷ [];
-        home = home_goes_on sent b.tail i m last b.home s o new e.sound within names st;
+        home = home_goes_on old b.tail i m last b.home s o new e.sound within names st;
         is = is ∙ entered_moving steps' s o moves ∙ ap (λ xs. xs ++ s ∷ []) b.is ∙ append_assoc steps b.tail (s ∷ []);
-        entered = entered_join sent m new steps steps' steps2 i 1 (i + 1) b.entered e (omega arith);
+        entered = entered_join old m new steps steps' steps2 i 1 (i + 1) b.entered e (omega arith);
       }
 
-  -- it is back where the drain names no step any more, and after so many
-  pub brought_now : drain_step m ≡ None → IsIdle m → (steps' ≡ steps ++ drain_steps sent) × ((before : MachineLists) (p : ℕ) → IsSent before p sent → IsOne before p last m)
-  brought_now none idle =
-      let all = all_now sent b.tail i m last b.home none idle in
-      (b.is ∙ ap (λ xs. steps ++ xs) (sym all), is_home sent b.tail i m last b.home idle all)
+  abbrev Ended : Type 0
+  Ended = (steps' ≡ steps ++ drain_steps old) × IsDrained old i m × ((before : MachineLists) (p : ℕ) → IsSent before p old → IsOne before p last m)
 
-  pub brought_in_time : IsMachine sent → i ≡ 2 * sent.config.k + 2 → (first : MachineLists) (q : ℕ) → IsSent first q sent →
-      (steps' ≡ steps ++ drain_steps sent) × ((before : MachineLists) (p : ℕ) → IsSent before p sent → IsOne before p last m)
-  brought_in_time here over first q sends =
-      let ended = all_in_time sent b.tail i m last b.home here over first q sends in
-      (b.is ∙ ap (λ xs. steps ++ xs) (sym ended.1), is_home sent b.tail i m last b.home ended.0 ended.1)
+  -- It ends where the drain names no step any more, and where as many were taken as there are.
+  pub entering_stops : drain_step m ≡ None → IsIdle m → Ended
+  entering_stops none idle = let e = home_now old b.tail i m last b.home none idle in (b.is ∙ ap (λ xs. steps ++ xs) (sym e.0), e.1, e.2)
 
-  pub bringing_all : i ≤ 2 * sent.config.k + 2 → IsEntered sent steps (2 * sent.config.k + 2) m steps'
-  bringing_all few = entered_most sent m steps steps' i (2 * sent.config.k + 2) b.entered few
+  pub entering_is_over : IsMachine old → length (drain_steps old) ≤ i → Ended
+  entering_is_over is few = let e = home_in_time old b.tail i m last b.home is few in (b.is ∙ ap (λ xs. steps ++ xs) (sym e.0), e.1, e.2)
 
 -- ---- a whole instruction
 

@@ -10,7 +10,7 @@ ghost use Rattle.machine_runs.specs.Whole.{one_steps, IsOne, IsPoked, IsSent};
 ghost use Rattle.machine_log.specs.Logs.{entered, AreLawful, ArePoked, IsEntered};
 
 use flat_machine::Poke;
-use machine_runs::{Machine, drain_step, most_moves};
+use machine_runs::{Machine, drain_step};
 use steps::{Outcome, Step};
 
 /// Takes a step, and enters it unless it stalls. There is room for it.
@@ -31,27 +31,6 @@ pub(crate) fn enter(machine: &mut Machine, steps: &mut Vec<Step>, step: Step) ->
     outcome
 }
 
-/// Takes and enters the steps of a drain, and answers how many. There is room for as many as a drain
-/// takes at most.
-pub(crate) fn drain(machine: &mut Machine, steps: &mut Vec<Step>) -> u32
-    requires room { length steps.old.items + drain_bound machine.old.config ≤ vec_capacity steps.old }
-    ensures drained { IsDrained machine.old result machine.new }
-    ensures steps { steps.new.items ≡ steps.old.items ++ drain_steps machine.old }
-    ensures entered { IsEntered machine.old steps.old.items (drain_bound machine.old.config) machine.new steps.new.items }
-    ensures capacity { vec_capacity steps.new ≡ vec_capacity steps.old }
-{
-    // The proof needs that the machine is one.
-    let _ = machine.is_idle();
-    let bound = most_moves(machine);
-    for moves in 0..bound {
-        let Some(step) = drain_step(machine) else {
-            return moves;
-        };
-        enter(machine, steps, step);
-    }
-    bound
-}
-
 /// Takes and enters the steps of one whole instruction of a processor, on a machine in which no
 /// reference is open. There is room for them.
 pub(crate) fn one(machine: &mut Machine, steps: &mut Vec<Step>, p: u8) -> Outcome
@@ -64,34 +43,37 @@ pub(crate) fn one(machine: &mut Machine, steps: &mut Vec<Step>, p: u8) -> Outcom
 {
     // The proof needs that the machine is one.
     let _ = machine.is_idle();
+    let bound = 2 * u32::from(machine.config().k) + 2;
     let outcome = enter(machine, steps, Step::Turn(p));
     match outcome {
-        Outcome::Issued => bring_back(machine, steps),
+        Outcome::Issued => bring_home(machine, steps, bound).1,
         whole => whole,
     }
 }
 
-/// Drains a machine in which one processor has sent a request, enters the steps, and answers what the
-/// processor retires. There is room for them.
-fn bring_back(machine: &mut Machine, steps: &mut Vec<Step>) -> Outcome
-    requires sent { (before : MachineLists) × (p : ℕ) × IsSent before p machine.old }
-    requires room { length steps.old.items + (2 * machine.old.config.k + 2) ≤ vec_capacity steps.old }
-    ensures whole { (before : MachineLists) (p : ℕ) → IsSent before p machine.old → IsOne before p result machine.new }
+/// Takes and enters the steps of a drain, and answers how many, and what the last of them answered: where
+/// one processor alone has sent a request, what it retires. There are no more than so many, and there is
+/// room for them.
+pub(crate) fn bring_home(machine: &mut Machine, steps: &mut Vec<Step>, bound: u32) -> (u32, Outcome)
+    requires enough { length (drain_steps machine.old) ≤ bound }
+    requires few { bound ≤ drain_bound machine.old.config }
+    requires room { length steps.old.items + bound ≤ vec_capacity steps.old }
+    ensures drained { IsDrained machine.old result.0 machine.new }
+    ensures home { (before : MachineLists) (p : ℕ) → IsSent before p machine.old → IsOne before p result.1 machine.new }
     ensures steps { steps.new.items ≡ steps.old.items ++ drain_steps machine.old }
-    ensures entered { IsEntered machine.old steps.old.items (2 * machine.old.config.k + 2) machine.new steps.new.items }
+    ensures entered { IsEntered machine.old steps.old.items bound machine.new steps.new.items }
     ensures capacity { vec_capacity steps.new ≡ vec_capacity steps.old }
 {
     // The proof needs that the machine is one.
     let _ = machine.is_idle();
-    let bound = 2 * u32::from(machine.config().k) + 2;
     let mut last = Outcome::Issued;
     for moves in 0..bound {
         let Some(step) = drain_step(machine) else {
-            return last;
+            return (moves, last);
         };
         last = enter(machine, steps, step);
     }
-    last
+    (bound, last)
 }
 
 /// Takes and enters these pokes, each of which can be written, on a machine in which no reference is

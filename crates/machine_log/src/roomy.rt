@@ -10,7 +10,7 @@ ghost use Rattle.machine_log.specs.Logs.{AreLawful, HasPoked, HasTaken, IsKept, 
 use crate::entering;
 use crate::log::LogRefusal;
 use flat_machine::Poke;
-use machine_runs::Machine;
+use machine_runs::{Machine, most_moves};
 use std::alloc::Global;
 use std::marker::Model;
 use std::snapshot::Snapshot;
@@ -113,7 +113,8 @@ impl Roomy {
         ensures opening { self.new.log.opening ≡ self.old.log.opening }
         ensures places { KeepsPlaces self.old self.new }
     {
-        entering::drain(&mut self.machine, &mut self.steps)
+        let bound = most_moves(&self.machine);
+        entering::bring_home(&mut self.machine, &mut self.steps, bound).0
     }
 
     /// Takes one whole instruction of a processor, as [`machine_runs::one`] does, and enters its steps: `2k + 3`

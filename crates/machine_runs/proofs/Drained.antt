@@ -1,7 +1,7 @@
 -- The next step of a drain, and where a drain ends.
 use Rattle.std.proofs.Common.{◌≡◌, ℕ, zero, suc, ◌+◌, ◌^◌, ◌<◌, ◌≤◌, List, [], ◌∷◌, ◌++◌, length, Option, Some, None, refl, sym, ap, ap₂, ◌∙◌, subst, arith}
 use Rattle.std.specs.Prelude.{map, IfSome}
-use Rattle.std.proofs.lemmas.List.{length-append, append-nil, append_assoc}
+use Rattle.std.proofs.lemmas.List.{length-append, length-map, append-nil, append_assoc}
 use Rattle.omega_network.specs.Networks.{net_of}
 use Rattle.machine_program.specs.Theory as theory
 use Rattle.abstract_machine.specs.Machine.{Turn, Serve}
@@ -9,7 +9,7 @@ use Rattle.abstract_machine.specs.Steadiness.{total}
 use Rattle.abstract_machine.specs.Draining.{first_wire, or_else, down_step, up_step, AreDistances, DrainIs}
 use Rattle.abstract_machine.specs.Draining as draining
 use Rattle.abstract_machine.proofs.Draining.{drain_is, bound as distances_bound, distances_are}
-use Rattle.abstract_machine.proofs.Drained.{idle_names_none, drained}
+use Rattle.abstract_machine.proofs.Drained.{idle_names_none, drained, drain_is_short, steady_after}
 use Rattle.steps.specs.declared.step.Step.{Step}
 use Rattle.steps.specs.declared.step.Outcome.{Outcome}
 use Rattle.machine_program.specs.Processors.{Told, sizes_of, program}
@@ -80,6 +80,10 @@ module _ (m : MachineLists) (is : IsMachine m) where
   idle_none idle = ap some_step (idle_names_none (sizes_of m.config) (program m.config m.code) (machine_of m (λ p. [])) is.role is.steady idle)
 
 -- ---- a drain under way
+
+no_tail : (xs ys : List Step) → length (xs ++ ys) ≤ length xs → xs ++ ys ≡ xs
+no_tail xs [] few = append-nil xs
+no_tail xs (y ∷ ys) few = let all = length-append xs (y ∷ ys) in absurd (omega (arith, all, few))
 
 -- A drain of at most so many steps has taken these. Those that are still to come are named from where the machine stands.
 pub record IsUnderWay (old : MachineLists) (bound : ℕ) (done : List Step) (m : MachineLists) : Type 0 where
@@ -157,6 +161,12 @@ module _ (old m : MachineLists) (bound : ℕ) (done : List Step) (d : IsUnderWay
       let nothing : d.left ≡ zero = (let split = d.split in omega (arith, split, over)) in
       ended (ap (λ n. draining.drain_steps (sizes_of old.config) (program old.config old.code) n here) nothing ∙ none_left)
 
+  -- and where as many were taken as there are
+  pub none_more : length (first_steps bound old) ≤ length done → first_steps bound old ≡ done
+  none_more few =
+      let rest : List Step = map step_of (draining.drain_steps (sizes_of old.config) (program old.config old.code) d.left here) in
+      d.rest ∙ no_tail done rest (subst (λ xs. length xs ≤ length done) d.rest few)
+
   machine_is : (ts : List theory.Step) (M : theory.Machine Told) → all_after old.config old.code M (map step_of ts) ≡ theory.machine_after (sizes_of old.config) (program old.config old.code) ts M
   unfolding all_after after theory.machine_after
   machine_is [] M = refl
@@ -190,13 +200,6 @@ module _ (old m : MachineLists) (bound : ℕ) (done : List Step) (d : IsUnderWay
       by later None e = refl
       by later (Some st) e = ap (λ xs. st ∷ xs) (later st e)
 
-  pub longer_taken : first_steps bound old ≡ done → drain_step m ≡ None → (more : ℕ) → bound ≤ more → first_steps more old ≡ done
-  longer_taken e none more few =
-      let all = draining.drain_steps (sizes_of old.config) (program old.config old.code) bound M0 in
-      let there : here ≡ theory.machine_after (sizes_of old.config) (program old.config old.code) all M0 = ap (all_after old.config old.code M0) (sym e) ∙ machine_is all M0 in
-      let ended : draining.drain_step (sizes_of old.config) here ≡ None = same_next ∙ some_none (draining.drain_step (sizes_of m.config) (machine_of m (λ p. []))) none in
-      ap (map step_of) (all_longer bound more M0 few (ap (draining.drain_step (sizes_of old.config)) (sym there) ∙ ended)) ∙ e
-
   -- no reference is open then, where the distances were no more together than the bound
   pub taken_idle : IsMachine old → first_steps bound old ≡ done → (f : ℕ → ℕ) → AreDistances (sizes_of old.config) M0 f → total f (2 ^ old.config.k) ≤ bound → IsIdle m
   unfolding machine_of_parts
@@ -221,27 +224,39 @@ module _ (old m : MachineLists) (done : List Step) (d : IsUnderWay old (drain_bo
   pub drain_stops : drain_step m ≡ None → IsIdle m → IsDrained old (length done) m
   drain_stops none idle = is_drained (all_taken old m (drain_bound old.config) done d none) idle
 
-  -- and at the bound
-  pub drain_is_over : IsMachine old → length done ≡ drain_bound old.config → IsDrained old (length done) m
-  drain_is_over is over =
-      let e = bound_taken old m (drain_bound old.config) done d over in
+  -- where all steps were taken
+  pub drain_is_whole : IsMachine old → drain_steps old ≡ done → IsDrained old (length done) m
+  drain_is_whole is e =
       let M = machine_of old (λ p. []) in
       let f = distances_are (sizes_of old.config) (program old.config old.code) M is.role is.steady in
       is_drained e (taken_idle old m (drain_bound old.config) done d is e f.0 f.1 (distances_bound (sizes_of old.config) (program old.config old.code) M is.role is.steady f.0 f.1))
 
--- ---- as a loop counts its turns
+  -- and at the bound
+  pub drain_is_over : IsMachine old → length done ≡ drain_bound old.config → IsDrained old (length done) m
+  drain_is_over is over = drain_is_whole is (bound_taken old m (drain_bound old.config) done d over)
 
-pub record IsDraining (old : MachineLists) (bound i : ℕ) (m : MachineLists) : Type 0 where
-  pub done : List Step
-  pub under_way : IsUnderWay old bound done m
-  pub count : length done ≡ i
+-- ---- how many steps a drain takes
 
-pub draining_begins : (bound : ℕ) (m : MachineLists) → IsDraining m bound 0 m
-draining_begins bound m = record { done = []; under_way = drain_begins bound m; count = refl }
+pub drain_is_bounded : (m : MachineLists) → length (drain_steps m) ≤ drain_bound m.config
+drain_is_bounded m =
+    let all = draining.drain_steps (sizes_of m.config) (program m.config m.code) (drain_bound m.config) (machine_of m (λ p. [])) in
+    let same = length-map all step_of in
+    let few = drain_is_short (sizes_of m.config) (program m.config m.code) (drain_bound m.config) (machine_of m (λ p. [])) in
+    omega (arith, same, few)
 
-pub draining_goes_on : (old m : MachineLists) (bound i : ℕ) → IsDraining old bound i m → (s : Step) (o : Outcome) (new : MachineLists) → i < bound → drain_step m ≡ Some s → IsStep m s o new → IsDraining old bound (i + 1) new
-draining_goes_on old m bound i d s o new within names is = record {
-  done = d.done ++ s ∷ [];
-  under_way = drain_goes_on old m bound d.done d.under_way s o new (let count = d.count in omega (arith, count, within)) names is;
-  count = length-append d.done (s ∷ []) ∙ (let count = d.count in omega (arith, count));
-}
+-- no more than the distances together
+pub steps_short : (m : MachineLists) → IsMachine m → (n : ℕ) (f : ℕ → ℕ) → AreDistances (sizes_of m.config) (machine_of m (λ p. [])) f → total f (2 ^ m.config.k) ≤ n → n ≤ drain_bound m.config →
+    length (drain_steps m) ≤ n
+steps_short m is n f are enough few =
+    let z = sizes_of m.config in
+    let P = program m.config m.code in
+    let M : theory.Machine Told = machine_of m (λ p. []) in
+    let some = draining.drain_steps z P n M in
+    let all = draining.drain_steps z P (drain_bound m.config) M in
+    let s = steady_after z P some M is.role is.steady in
+    let shut = drained z P n M is.role f is.steady (room m is) are enough in
+    let ended = idle_names_none z P (theory.machine_after z P some M) s.0 s.1 (λ p within. shut p) in
+    let same : all ≡ some = all_longer m m n [] (drain_begins n m) n (drain_bound m.config) M few ended in
+    let count : length (drain_steps m) ≡ length some = length-map all step_of ∙ ap length same in
+    let short = drain_is_short z P n M in
+    omega (arith, count, short)

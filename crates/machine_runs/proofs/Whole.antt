@@ -34,13 +34,13 @@ use Rattle.machine_program.proofs.Reading.{read_found}
 use Rattle.machine.specs.Machines.{MachineLists, machine_of, IsIdle, IsMachine, IsStep}
 use Rattle.machine.specs.Openings.{flat_state}
 use Rattle.machine_runs.specs.Runs.{all_after, events_of, IsRun, IsReplay, passed, IsSerialized}
-use Rattle.machine_runs.specs.Draining.{step_of, drain_step, drain_bound, steps_home, first_steps, drain_steps}
+use Rattle.machine_runs.specs.Draining.{step_of, drain_step, drain_bound, steps_home, drain_steps, IsDrained}
 use Rattle.machine_runs.specs.Whole.{event_of, steps_from, one_steps, IsOne, IsSent}
 use Rattle.machine.proofs.Flattening.{all_shut, state_at, count_is}
 use Rattle.machine_runs.proofs.Running.{run_begins, run_more, passes_machine, serialized}
 use Rattle.machine_runs.proofs.Replaying.{replay_begins, replay_more, replay_kept}
 use Rattle.machine.proofs.Stalling.{stalled_keeps}
-use Rattle.machine_runs.proofs.Drained.{named_again, named_step, goes_on as names_a_move, idle_none, IsUnderWay, drain_begins, drain_goes_on, all_taken, bound_taken, longer_taken, taken_idle}
+use Rattle.machine_runs.proofs.Drained.{named_again, named_step, goes_on as names_a_move, IsUnderWay, drain_begins, drain_goes_on, all_taken, none_more, steps_short, drain_stops, drain_is_whole}
 use Rattle.machine_runs.proofs.Lone.{IsLone, IsAsking, IsAnswered, FirstTurn, first_turn, starts, After, goes_on, is_open_yet}
 
 -- ---- events
@@ -400,63 +400,66 @@ begins_back before p m s = sent_comes_back before p s.machine s.idle Issued m s.
 
 -- ---- and is back in time
 
-pub sent_ends : (before : MachineLists) (p : ℕ) (m new : MachineLists) (done : List Step) → IsSent before p m → IsMachine m → IsUnderWay m (2 * m.config.k + 2) done new → first_steps (2 * m.config.k + 2) m ≡ done → IsIdle new
-unfolding machine_of_parts
-sent_ends before p m new done sent is d all =
-    let b = begins_back before p m sent in
-    let M : theory.Machine Told = machine_of m (λ q. []) in
-    let f = distances_are (sizes_of m.config) (program m.config m.code) M is.role is.steady in
-    let others : (q : ℕ) → (q ≡ p → ⊥) → M.is_open q ≡ false = (λ q n. open_same before m (step.Turn p ∷ []) b.replay.run q ∙ b.lone.others q n) in
-    let near = bound_alone (sizes_of m.config) (program m.config m.code) M is.role is.steady p others f.0 f.1 in
-    taken_idle m new (2 * m.config.k + 2) done d is all f.0 f.1 near
-
-few_moves : (k : ℕ) → 2 * k + 2 ≤ 2 ^ k * (2 * k + 2)
+pub few_moves : (k : ℕ) → 2 * k + 2 ≤ 2 ^ k * (2 * k + 2)
 few_moves k = let some = pow_pos k in at (2 ^ k) some
   where
     at : (n : ℕ) → 0 < n → 2 * k + 2 ≤ n * (2 * k + 2)
     at zero l = absurd (omega (arith, l))
     at (suc n) l = omega arith
 
+-- a drain after the turn of one processor takes 2k + 2 steps at most
+pub sent_is_short : (before : MachineLists) (p : ℕ) (m : MachineLists) → IsSent before p m → IsMachine m → length (drain_steps m) ≤ 2 * m.config.k + 2
+unfolding machine_of_parts
+sent_is_short before p m sent is =
+    let z = sizes_of m.config in
+    let P = program m.config m.code in
+    let b = begins_back before p m sent in
+    let M : theory.Machine Told = machine_of m (λ q. []) in
+    let f = distances_are z P M is.role is.steady in
+    let others : (q : ℕ) → (q ≡ p → ⊥) → M.is_open q ≡ false = (λ q n. open_same before m (step.Turn p ∷ []) b.replay.run q ∙ b.lone.others q n) in
+    let near = bound_alone z P M is.role is.steady p others f.0 f.1 in
+    steps_short m is (2 * m.config.k + 2) f.0 f.1 near (few_moves m.config.k)
+
 -- ---- as a loop brings it back
 
--- Since p has sent a request these steps of a drain were taken, so many.
+-- These steps of a drain were taken, so many. Where p alone had sent a request, it is coming back.
 pub record IsGoingHome (sent : MachineLists) (tail : List Step) (i : ℕ) (m : MachineLists) (last : Outcome) : Type 0 where
-  pub under_way : IsUnderWay sent (2 * sent.config.k + 2) tail m
+  pub under_way : IsUnderWay sent (drain_bound sent.config) tail m
   pub count : length tail ≡ i
   pub sound : IsMachine m
   pub coming : (before : MachineLists) (p : ℕ) → IsSent before p sent → IsComingBack before p tail m last
 
 pub home_begins : (m : MachineLists) → IsMachine m → IsGoingHome m [] 0 m Issued
 home_begins m is = record {
-  under_way = drain_begins (2 * m.config.k + 2) m;
+  under_way = drain_begins (drain_bound m.config) m;
   count = refl;
   sound = is;
   coming = λ before p sent. begins_back before p m sent;
 }
 
 module _ (sent : MachineLists) (tail : List Step) (i : ℕ) (m : MachineLists) (last : Outcome) (b : IsGoingHome sent tail i m last) where
-  pub home_goes_on : (s : Step) (o : Outcome) (new : MachineLists) → IsMachine new → i < 2 * sent.config.k + 2 → drain_step m ≡ Some s → IsStep m s o new → IsGoingHome sent (tail ++ s ∷ []) (i + 1) new o
+  pub home_goes_on : (s : Step) (o : Outcome) (new : MachineLists) → IsMachine new → i < drain_bound sent.config → drain_step m ≡ Some s → IsStep m s o new → IsGoingHome sent (tail ++ s ∷ []) (i + 1) new o
   home_goes_on s o new is' within names is = record {
-    under_way = drain_goes_on sent m (2 * sent.config.k + 2) tail b.under_way s o new (let n = b.count in omega (arith, n, within)) names is;
+    under_way = drain_goes_on sent m (drain_bound sent.config) tail b.under_way s o new (let n = b.count in omega (arith, n, within)) names is;
     count = length-append tail (s ∷ []) ∙ (let n = b.count in omega (arith, n));
     sound = is';
     coming = λ before p sends. comes_on before p tail m last (b.coming before p sends) s o new b.sound names is;
   }
 
-  -- these are all steps of a drain where it has no more,
-  longest : first_steps (2 * sent.config.k + 2) sent ≡ tail → IsIdle m → drain_steps sent ≡ tail
-  longest all idle =
-      longer_taken sent m (2 * sent.config.k + 2) tail b.under_way all (idle_none m b.sound idle) (drain_bound sent.config) (few_moves sent.config.k)
+  -- at the end these are all steps of the drain, and the reference is back
+  abbrev AtHome : Type 0
+  AtHome = (drain_steps sent ≡ tail) × IsDrained sent i m × ((before : MachineLists) (p : ℕ) → IsSent before p sent → IsOne before p last m)
 
-  pub all_now : drain_step m ≡ None → IsIdle m → drain_steps sent ≡ tail
-  all_now none idle = longest (all_taken sent m (2 * sent.config.k + 2) tail b.under_way none) idle
+  at_home : drain_steps sent ≡ tail → IsDrained sent (length tail) m → AtHome
+  at_home all drained =
+      (all, subst (λ n. IsDrained sent n m) b.count drained, λ before p sends. is_back before p tail m last (b.coming before p sends) sent sends b.sound drained.idle all)
 
-  -- which is so after 2k + 2 steps at the latest
-  pub all_in_time : IsMachine sent → i ≡ 2 * sent.config.k + 2 → (before : MachineLists) (p : ℕ) → IsSent before p sent → IsIdle m × (drain_steps sent ≡ tail)
-  all_in_time is over before p sends =
-      let all = bound_taken sent m (2 * sent.config.k + 2) tail b.under_way (b.count ∙ over) in
-      let idle = sent_ends before p sent m tail sends is b.under_way all in (idle, longest all idle)
+  -- It ends where the drain names no step any more, and where as many were taken as there are.
+  pub home_now : drain_step m ≡ None → IsIdle m → AtHome
+  home_now none idle = at_home (all_taken sent m (drain_bound sent.config) tail b.under_way none) (drain_stops sent m tail b.under_way none idle)
 
-  -- and then the reference is back
-  pub is_home : IsIdle m → drain_steps sent ≡ tail → (before : MachineLists) (p : ℕ) → IsSent before p sent → IsOne before p last m
-  is_home idle all before p sends = is_back before p tail m last (b.coming before p sends) sent sends b.sound idle all
+  pub home_in_time : IsMachine sent → length (drain_steps sent) ≤ i → AtHome
+  home_in_time is few =
+      let n = b.count in
+      let all = none_more sent m (drain_bound sent.config) tail b.under_way (omega (arith, few, n)) in
+      at_home all (drain_is_whole sent m tail b.under_way is all)

@@ -80,15 +80,7 @@ pub fn drain_step(machine: &Machine) -> Option<Step>
 pub fn drain(machine: &mut Machine) -> u32
     ensures { IsDrained machine.old result machine.new }
 {
-    machine_is_sound(machine);
-    let bound = most_moves(machine);
-    for moves in 0..bound {
-        let Some(step) = drain_step(machine) else {
-            return moves;
-        };
-        machine.apply(step);
-    }
-    bound
+    bring_home(machine).0
 }
 
 /// How many steps a drain takes at most: `2^k * (2k + 2)`.
@@ -114,24 +106,25 @@ pub fn one(machine: &mut Machine, p: u8) -> Outcome
     }
     let outcome = machine.apply(Step::Turn(p));
     match outcome {
-        Outcome::Issued => bring_back(machine),
+        Outcome::Issued => bring_home(machine).1,
         whole => whole,
     }
 }
 
-/// Drains a machine in which one processor has sent a request, and answers what it retires.
-fn bring_back(machine: &mut Machine) -> Outcome
-    ensures { (before : MachineLists) (p : ℕ) → IsSent before p machine.old → IsOne before p result machine.new }
+/// Takes steps until no reference is open, and answers how many, and what the last of them answered: where
+/// one processor alone has sent a request, what it retires.
+fn bring_home(machine: &mut Machine) -> (u32, Outcome)
+    ensures drained { IsDrained machine.old result.0 machine.new }
+    ensures home { (before : MachineLists) (p : ℕ) → IsSent before p machine.old → IsOne before p result.1 machine.new }
 {
     machine_is_sound(machine);
-    let config = machine.config();
-    let bound = 2 * u32::from(config.k) + 2;
+    let bound = most_moves(machine);
     let mut last = Outcome::Issued;
     for moves in 0..bound {
         let Some(step) = drain_step(machine) else {
-            return last;
+            return (moves, last);
         };
         last = machine.apply(step);
     }
-    last
+    (bound, last)
 }
