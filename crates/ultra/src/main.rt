@@ -13,6 +13,7 @@ use run_commands::{replay_command, run_command};
 use settings::{Asm, Replay, Run, Settings, settings, status_of};
 use std::alloc::{AllocError, Global};
 use std::io::{self, ErrorKind, Write};
+use std::os::unix::fs::MetadataExt;
 use std::process::ExitCode;
 use std::rt::{Env, Files};
 use std::{env, fs};
@@ -62,6 +63,9 @@ fn carry_out<R: Env + Files + AllocGlobal, W: LinkWrite, E: Write>(
 
 /// Does what `asm FILE OUT` asks for. OUT is opened by the first write to it.
 fn assemble_file<R: Files + AllocGlobal, E: Write>(rt: &R, asm: &Asm<'_>, err: &mut E) -> u8 {
+    if are_one_file(rt, asm.file, asm.out) {
+        return refuse_out(err);
+    }
     let Ok(file) = fs::open(rt, asm.file) else {
         return tell(Fault::Link, err);
     };
@@ -81,6 +85,9 @@ fn run_file<R: Files + AllocGlobal, W: LinkWrite, E: Write>(
 ) -> u8
     requires works { W.has_failed out.old ≡ false }
 {
+    if run.trace.is_some_and(|out| are_one_file(rt, run.file, out)) {
+        return refuse_out(err);
+    }
     let Ok(file) = fs::open(rt, run.file) else {
         return tell(Fault::Link, err);
     };
@@ -117,6 +124,20 @@ fn replay_file<R: Files + AllocGlobal, W: LinkWrite, E: Write>(
     };
     let file = fs::open(rt, replay.file);
     replay_command(rt.alloc(), trace, file, replay.words, out, err)
+}
+
+/// Whether two paths name one regular file, so that a write to one would lose what is read at the other.
+fn are_one_file<R: Files>(files: &R, one: &str, other: &str) -> bool {
+    let (Ok(one), Ok(other)) = (fs::metadata(files, one), fs::metadata(files, other)) else {
+        return false;
+    };
+    one.is_file() && one.dev() == other.dev() && one.ino() == other.ino()
+}
+
+/// Tells that OUT is the file that is to be read. Neither is opened.
+fn refuse_out<E: Write>(err: &mut E) -> u8 {
+    let _ = writeln!(err, "error: OUT is the same file as FILE");
+    REFUSED
 }
 
 /// The arguments as texts.
