@@ -30,7 +30,7 @@ pub(crate) fn execute(memory: &mut Module, network: &mut IndexedNetwork, m: u8) 
 }
 
 /// A request that is the first at a module is executed, where the module's reply slot is free.
-#[inline(never)]
+#[inline(always)]
 #[tactic(auto, unfolding(messages::specs::Moves::module_taken))]
 fn serve(memory: &mut Module, network: &mut IndexedNetwork, m: u8, request: Request) -> Outcome
     requires few { network.old.k ≤ 6 }

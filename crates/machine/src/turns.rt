@@ -16,7 +16,7 @@ use steps::Outcome;
 
 /// The turn of a port that runs and is not open: the instruction is done, or stops the processor, or
 /// its request is put into the slot.
-#[inline(never)]
+#[inline(always)]
 pub(crate) fn begin(port: &mut Port, network: &mut IndexedNetwork, code: &Code, p: u8) -> Outcome
     requires closed { port.old.is_open ≡ false }
     requires running { is_running port.old.core.state.status ≡ true }
@@ -57,7 +57,7 @@ pub(crate) fn finish(port: &mut Port, network: &mut IndexedNetwork, code: &Code,
 }
 
 /// The turn of an open port whose reply is there: it takes the reply, and the instruction is done.
-#[inline(never)]
+#[inline(always)]
 fn retire(
     port: &mut Port,
     network: &mut IndexedNetwork,

@@ -14,6 +14,7 @@ use machine_runs::{Machine, drain_step};
 use steps::{Outcome, Step};
 
 /// Takes a step, and enters it unless it stalls. There is room for it.
+#[inline(always)]
 pub(crate) fn enter(machine: &mut Machine, steps: &mut Vec<Step>, step: Step) -> Outcome
     requires room { length steps.old.items < vec_capacity steps.old }
     ensures step { IsStep machine.old step result machine.new }

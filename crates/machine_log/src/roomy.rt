@@ -94,6 +94,7 @@ impl Roomy {
 
     /// Takes a step, and enters it unless it stalled. It stalls where the machine has not each place that
     /// it names.
+    #[inline(always)]
     pub fn step(&mut self, step: Step) -> Outcome
         requires room { 0 < self.old.places }
         ensures taken { HasTaken self.old.log step result self.new.log }

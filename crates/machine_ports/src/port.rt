@@ -74,6 +74,8 @@ impl Port {
 
     /// Begins a turn: the instruction is done, or stops the processor, or refers to a shared word,
     /// and then the port is open.
+    // What it answers is large, and is written only where the caller reads it.
+    #[inline(always)]
     #[tactic(auto, unfolding(crate::specs::Ports::reference_phi))]
     pub fn begin(&mut self, code: &Code) -> Begun
         requires closed { self.old.is_open ≡ false }
@@ -102,6 +104,7 @@ impl Port {
     }
 
     /// Finishes the turn of an open port, with the word that its reference found.
+    #[inline(always)]
     pub fn finish(&mut self, code: &Code, found: u32) -> Retired
         requires { IsReference (turn self.old code.now) }
         ensures turn { after_reply (turn self.old code.now) found ≡ Some (self.new.core.state, result) }

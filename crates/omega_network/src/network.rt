@@ -126,7 +126,7 @@ impl Network {
     }
 
     /// Moves a request that is the first on a wire before a stage.
-    #[inline(never)]
+    #[inline(always)]
     fn move_up(&mut self, stage: u8, wire: u8, request: Request) -> UpMove
         requires stage { stage < self.old.k }
         requires wire { wire < 2 ^ self.old.k }
@@ -170,7 +170,7 @@ impl Network {
     }
 
     /// Moves a reply that is the first on a wire after a stage back over the stage.
-    #[inline(never)]
+    #[inline(always)]
     fn move_down(&mut self, stage: u8, wire: u8, reply: Reply) -> DownMove
         requires stage { stage < self.old.k }
         requires wire { wire < 2 ^ self.old.k }

@@ -51,6 +51,8 @@ impl Tally {
     /// # Errors
     ///
     /// [`AllocError`] where there is no memory for a byte of the console.
+    // Of what a step answers little is read.
+    #[inline(always)]
     pub fn note(&mut self, step: Step, outcome: Outcome) -> Result<(), AllocError>
         requires { self.old.noted + 1 < 2 ^ 32 }
         ensures noted { OnOk result (self.new ≡ noted_after self.old step outcome) }

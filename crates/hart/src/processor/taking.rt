@@ -32,6 +32,8 @@ impl Core {
     /// Takes the next turn of a processor that runs, where it needs nothing but what the core has, and
     /// says what it came to. The instruction is read once, where [`Core::decide`] and
     /// [`Core::take_local`] read it twice.
+    // What it answers is large, and is written only where the caller reads it.
+    #[inline(always)]
     pub fn take(&mut self, code: &Code) -> Taken
         ensures turn { IsTaken result self.old.state self.new.state (turn_of self.old.setting code.now self.old.state) }
         ensures table { (i : Insn) → fetched code.now self.old.state.pc ≡ Ok i
@@ -63,6 +65,7 @@ impl Core {
     }
 
     /// Takes a turn that refers to a shared word, once the word's value before it is known.
+    #[inline(always)]
     pub fn retire(&mut self, code: &Code, reply: u32) -> Retired
         requires { IsReference (turn_of self.old.setting code.now self.old.state) }
         ensures turn { after_reply (turn_of self.old.setting code.now self.old.state) reply ≡ Some (self.new.state, result) }
