@@ -32,7 +32,8 @@ pub no_word : (flags : List Bool) (a : ℕ) → is_code_word a ≡ false → is_
 unfolding is_break word_place
 no_word flags a none = rw none refl
 
-by_words : (flags : List Bool) (a b : ℕ) (flag : Bool) (x y : Bool) → a ≢ b → is_code_word a ≡ x → is_code_word b ≡ y → is_break (with_flag flags b flag) a ≡ is_break flags a
+by_words : (flags : List Bool) (a b : ℕ) (flag : Bool) (x y : Bool) → a ≢ b → is_code_word a ≡ x → is_code_word b ≡ y
+    → is_break (with_flag flags b flag) a ≡ is_break flags a
 unfolding is_break with_flag word_place
 by_words flags a b flag false y other e f = rw e refl
 by_words flags a b flag true false other e f = rw f refl
@@ -55,7 +56,8 @@ pub written : (flags : List Bool) (a b : ℕ) (flag : Bool) → length flags ≡
     → is_break (with_flag flags b flag) a ≡ (if a == b && is_code_word a then flag else is_break flags a)
 written flags a b flag all = written_by flags a b flag (a == b) (is_code_word a) all refl refl
 
-cleared_by : (flags : List Bool) (a : ℕ) (x y : Bool) → is_code_word a ≡ y → (if x && y then false else is_break flags a) ≡ (if x then false else is_break flags a)
+cleared_by : (flags : List Bool) (a : ℕ) (x y : Bool) → is_code_word a ≡ y
+    → (if x && y then false else is_break flags a) ≡ (if x then false else is_break flags a)
 cleared_by flags a true true there = refl
 cleared_by flags a true false none = no_word flags a none
 cleared_by flags a false y there = refl

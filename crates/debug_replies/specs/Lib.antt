@@ -1,1 +1,3 @@
 pub mod Breaking
+pub mod Errors
+pub mod Texts

@@ -84,6 +84,13 @@ impl Breaks {
     }
 }
 
+/// Whether an address is that of a code word.
+pub(crate) fn is_code_word(address: u32) -> bool
+    ensures { result ≡ is_code_word address }
+{
+    address / REGION_BYTES == CODE_START / REGION_BYTES && address % 4 == 0
+}
+
 /// The place of a code word, if the address is that of one.
 #[tactic(auto, unfolding(crate::specs::Breaking::word_place))]
 fn word_place(address: u32) -> Option<usize>
@@ -91,7 +98,7 @@ fn word_place(address: u32) -> Option<usize>
     ensures code { is_some result ≡ is_code_word address }
     ensures within { IfSome result (λ place. place < 16384) }
 {
-    if address / REGION_BYTES == CODE_START / REGION_BYTES && address % 4 == 0 {
+    if is_code_word(address) {
         Some((address % REGION_BYTES / 4) as usize)
     } else {
         None

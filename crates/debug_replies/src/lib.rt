@@ -2,7 +2,13 @@
 #![tactic(auto)]
 
 mod breaks;
+mod digits;
+mod error;
+mod reading;
+mod showing;
 #[cfg(test)]
 mod tests;
 
 pub use breaks::Breaks;
+pub use error::{Error, error_of};
+pub use showing::show;

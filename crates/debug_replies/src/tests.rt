@@ -1,53 +1,50 @@
-//! Breaks at the limits of code.
+//! Breaks at the limits of code, and replies and errors of the commands of small machines. Expected texts are worked
+//! out by hand.
 
-use crate::Breaks;
+mod breaking;
+mod errors;
+mod replies;
 
-/// A code word is in code and divisible by 4. A break is set and cleared also where it is there and where it is not.
-#[test]
-fn breaks_at_the_limits(rt: HostRuntime) {
-    for (address, is_code_word) in [
-        (0, false),
-        (0x0000_FFFC, false),
-        (0x0000_FFFF, false),
-        (0x0001_0000, true),
-        (0x0001_0001, false),
-        (0x0001_0002, false),
-        (0x0001_0003, false),
-        (0x0001_0004, true),
-        (0x0001_FFFC, true),
-        (0x0001_FFFF, false),
-        (0x0002_0000, false),
-        (0x8000_0000, false),
-        (0x8001_0000, false),
-        (0xFFFF_FFFC, false),
-    ] {
-        let mut breaks = Breaks::new();
-        assert!(rt; !breaks.contains(address), "{address:x}");
-        assert_eq!(rt; breaks.clear(address), is_code_word, "{address:x}");
-        for _ in 0..2 {
-            assert_eq!(rt; breaks.set(address), is_code_word, "{address:x}");
-            assert_eq!(rt; breaks.contains(address), is_code_word, "{address:x}");
-        }
-        assert!(rt; !breaks.contains(0x0001_0008));
-        assert_eq!(rt; breaks.clear(address), is_code_word, "{address:x}");
-        assert!(rt; !breaks.contains(address), "{address:x}");
-    }
+use elf_image::{Bytes, Image, Layout, read_image, write_image};
+use flat_machine::{CODE_START, Config, Poke, SHARED_START};
+use link::Meter;
+use machine::Machine;
+use std::alloc::{AllocGlobal, Global};
+use std::process::Abort;
+use std::test::Fail;
+use steps::{Outcome, Step};
+
+/// A machine of two processors with two shared words. Code is `ebreak` and one byte, local memory begins with two
+/// bytes, shared memory with `2A 00 00 80`.
+fn two(rt: &(impl Abort + AllocGlobal)) -> Result<Machine, Fail> {
+    let config = Config {
+        k: 1,
+        c: 2,
+        b: 0,
+        shared_words: 2,
+    };
+    let mut layout = Layout {
+        entry: CODE_START,
+        code: Bytes::new(rt.alloc()),
+        local: Bytes::new(rt.alloc()),
+        shared: Bytes::new(rt.alloc()),
+    };
+    layout
+        .code
+        .extend_from_slice(&[0x73, 0x00, 0x10, 0x00, 0xC7])?;
+    layout.local.extend_from_slice(&[0x01, 0xF0])?;
+    layout.shared.extend_from_slice(&[0x2A, 0x00, 0x00, 0x80])?;
+    assert!(rt; layout.code.len() <= 0x0001_0000);
+    assert!(rt; layout.local.len() <= 0x0001_0000);
+    assert!(rt; layout.shared.len() <= 0x0010_0000);
+    let mut writer = Meter::new(Vec::new(rt.alloc()));
+    assert_eq!(rt; write_image(&mut writer, &layout), Ok(()));
+    let mut reader = Meter::new(writer.device.as_slice());
+    let image: Image = read_image(rt.alloc(), &mut reader, &config)?;
+    Ok(Machine::new(rt.alloc(), image, config)?)
 }
 
-/// Each break is one of its own.
-#[test]
-fn breaks_apart(rt: HostRuntime) {
-    let mut breaks = Breaks::new();
-    breaks.set(0x0001_0004);
-    breaks.set(0x0001_0010);
-    breaks.set(0x0001_FFFC);
-    breaks.clear(0x0001_0010);
-    for word in 0..16_384 {
-        let address = 0x0001_0000 + 4 * word;
-        assert_eq!(rt;
-            breaks.contains(address),
-            word == 1 || word == 16_383,
-            "{address:x}"
-        );
-    }
+/// Writes from outside.
+fn poke(rt: &impl Abort, machine: &mut Machine, poke: Poke) {
+    assert_eq!(rt; machine.apply(Step::Poke(poke)), Outcome::Poked);
 }

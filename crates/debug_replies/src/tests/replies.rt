@@ -1,0 +1,139 @@
+//! What commands show.
+
+use super::{poke, two};
+use crate::show;
+use arrayvec::ArrayVec;
+use debug_lines::Command;
+use flat_machine::{LOCAL_START, PC, Poke, SHARED_START};
+use machine::Machine;
+use std::process::Abort;
+use std::test::Fail;
+use steps::{Outcome, Step};
+
+/// Each line, and what it shows of a machine of two processors. Processor 0 has stopped at `ebreak`; processor 1 runs,
+/// and was written to.
+const REPLIES: &str = "\
+state 0: fault 8
+state 1: run
+state 2: 
+state 101: 
+reg 0 20: 00010000
+reg 1 20: 00010ac4
+reg 1 0: 00000000
+reg 1 1f: fedcba98
+reg 1 A: 0000000b
+reg 1 21: 
+reg 2 1: 
+mem 0 10000 5: 73001000c7
+mem 1 1fffe 4: 000001f0
+mem 0 1fffe 4: 000001f0
+mem 0 20002 1: 00
+mem 1 20002 1: ab
+mem 0 80000000 8: 2a00008000000cd0
+mem 1 80000006 2: 0cd0
+mem 0 80000006 2: 0cd0
+mem 0 ffffffff 2: 
+set 0 1 7: ok
+set 0 0 7: ok
+write 0 20000 00: ok
+break 10000: ok
+clear 10000: ok
+quit: ok
+step 0: 
+cont: 
+step: 
+";
+
+/// What a command shows, in place of what the text had.
+fn shown(machine: &Machine, line: &str) -> ArrayVec<u8, 1024> {
+    let mut text = ArrayVec::new();
+    let _ = text.try_extend_from_slice(b"before");
+    show(machine, &Command::read(line.as_bytes()), &mut text);
+    text
+}
+
+/// A machine of which each of two processors shows something else.
+fn written(rt: &(impl Abort + std::alloc::AllocGlobal)) -> Result<Machine, Fail> {
+    let mut machine = two(rt)?;
+    for (register, value) in [(10, 11), (31, 0xFEDC_BA98), (PC, 0x0001_0AC4)] {
+        poke(
+            rt,
+            &mut machine,
+            Poke::Register {
+                processor: 1,
+                register,
+                value,
+            },
+        );
+    }
+    poke(
+        rt,
+        &mut machine,
+        Poke::Local {
+            processor: 1,
+            address: LOCAL_START + 2,
+            value: 0xAB,
+        },
+    );
+    poke(
+        rt,
+        &mut machine,
+        Poke::Shared {
+            address: SHARED_START + 6,
+            value: 0x0C,
+        },
+    );
+    poke(
+        rt,
+        &mut machine,
+        Poke::Shared {
+            address: SHARED_START + 7,
+            value: 0xD0,
+        },
+    );
+    assert!(rt; matches!(machine.apply(Step::Turn(0)), Outcome::Stopped { .. }));
+    Ok(machine)
+}
+
+#[test]
+fn replies(rt: HostRuntime) -> Result<(), Fail> {
+    let machine = written(&rt)?;
+    for row in REPLIES.lines() {
+        let (line, expected) = row.split_once(": ").ok_or("a row")?;
+        assert_eq!(rt;
+            shown(&machine, line).as_slice(),
+            expected.as_bytes(),
+            "{line}"
+        );
+    }
+    Ok(())
+}
+
+/// All registers and then `pc`, 264 digits.
+#[test]
+fn registers_in_a_line(rt: HostRuntime) -> Result<(), Fail> {
+    let machine = written(&rt)?;
+    let text = shown(&machine, "regs 1");
+    assert_eq!(rt; text.len(), 264);
+    for (place, eight) in text.as_slice().chunks(8).enumerate() {
+        let expected = match place {
+            10 => b"0000000b",
+            31 => b"fedcba98",
+            32 => b"00010ac4",
+            _ => b"00000000",
+        };
+        assert_eq!(rt; eight, expected.as_slice(), "{place}");
+    }
+    Ok(())
+}
+
+/// The longest reply has 1,024 digits.
+#[test]
+fn longest_reply(rt: HostRuntime) -> Result<(), Fail> {
+    let machine = written(&rt)?;
+    let text = shown(&machine, "mem 1 1ffff 200");
+    assert_eq!(rt; text.len(), 1024);
+    assert_eq!(rt; &text.as_slice()[..8], b"0001f0ab".as_slice());
+    assert!(rt; text.as_slice()[8..].iter().all(|digit| *digit == b'0'));
+    Ok(())
+}
