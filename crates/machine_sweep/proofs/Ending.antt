@@ -1,20 +1,18 @@
 -- Where a sweep is over: what a step more tells of it, and that what has not ended in one part has not ended in all.
-use Rattle.std.proofs.Common.{◌≡◌, ℕ, zero, suc, ◌+◌, ◌^◌, ◌<◌, ◌≤◌, Bool, true, false, ◌⊎◌, inl, inr, List, [], ◌∷◌, ◌++◌, length, take, refl, sym, ap, ◌∙◌, subst, arith}
+use Rattle.std.proofs.Common.{◌≡◌, ℕ, zero, suc, ◌^◌, ◌<◌, ◌≤◌, Bool, true, false, ◌⊎◌, inl, inr, List, [], ◌∷◌, ◌++◌, length, take, refl, sym, ap, ◌∙◌, subst, arith}
 use Rattle.std.specs.Prelude.{if◌then◌else◌}
 use Rattle.std.proofs.lemmas.Bool.{cases_eq, cases_lt}
 use Rattle.std.proofs.lemmas.List.{length-append, take_all}
 use Rattle.flat_machine.specs.declared.config.Config.{Config}
-use Rattle.flat_machine.specs.declared.event.Status.{Status}
-use Rattle.flat_machine.specs.declared.event.Status.TheVariants.{Running}
 use Rattle.machine_program.specs.Theory as theory
 use Rattle.steps.specs.Answers.{is_stalled}
 use Rattle.steps.specs.declared.step.Outcome.{Outcome}
 use Rattle.steps.specs.declared.step.Outcome.TheVariants.{Stalled}
 use Rattle.steps.specs.declared.step.Step.{Step}
 use Rattle.machine_program.specs.Processors.{Told}
-use Rattle.machine_program.specs.Steps.{after, machine_of_parts}
+use Rattle.machine_program.specs.Steps.{machine_of_parts}
 use Rattle.machine_runs.specs.Machines.{MachineLists, machine_of}
-use Rattle.machine_runs.specs.Runs.{IsReplay, all_after, events_of, answer_after}
+use Rattle.machine_runs.specs.Runs.{IsReplay, all_after, answer_after}
 use Rattle.machine_runs.proofs.Running.{all_after_more}
 use Rattle.machine_log.specs.Logs.{entered}
 use Rattle.machine_log.proofs.Taking.{entered_moving}

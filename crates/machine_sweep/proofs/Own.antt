@@ -1,6 +1,6 @@
 -- Steps that write nothing from outside: those of a round, and those of a drain. Where such a step does something, a trace has a
 -- record of it.
-use Rattle.std.proofs.Common.{◌≡◌, ℕ, zero, suc, ◌+◌, ◌^◌, Bool, true, false, List, [], ◌∷◌, ◌++◌, take, map, Option, Some, None, refl, sym, ap, ◌∙◌, subst, append_assoc}
+use Rattle.std.proofs.Common.{◌≡◌, ℕ, zero, suc, ◌^◌, Bool, true, false, List, [], ◌∷◌, ◌++◌, take, map, Option, Some, None, sym, ◌∙◌, subst, append_assoc}
 use Rattle.std.specs.Prelude.{slice_get, if◌then◌else◌}
 use Rattle.std.specs.List.{range_with_len}
 use Rattle.std.proofs.lemmas.List.{append-nil}
@@ -16,22 +16,10 @@ use Rattle.machine_program.specs.Processors.{Told, sizes_of, program}
 use Rattle.machine_runs.specs.Draining.{drain_bound, drain_step, drain_steps, step_of}
 use Rattle.machine_runs.specs.Machines.{MachineLists, machine_of}
 use Rattle.machine_runs.proofs.Drained.{named_step}
-use Rattle.machine_log.specs.Logs.{entered}
 use Rattle.machine_sweep.specs.Rounds.{downs, on_each_wire, round, ups}
+pub use Rattle.machine_sweep.specs.Own.{AreOwn, IsOwn}
 use Rattle.machine_runs.specs.Runs.{answer_after}
 use Rattle.machine_sweep.specs.Sweeps.{entered_of, rounds}
-
--- the step writes nothing from outside
-abbrev pub IsOwn : Step → Type 0
-IsOwn (step.Poke q) = ⊥
-IsOwn (step.Turn p) = Unit {0}
-IsOwn (step.Up s w) = Unit {0}
-IsOwn (step.Serve m) = Unit {0}
-IsOwn (step.Down s w) = Unit {0}
-
-abbrev pub AreOwn : List Step → Type 0
-AreOwn [] = Unit {0}
-AreOwn (s ∷ ss) = IsOwn s × AreOwn ss
 
 pub own_both : (xs ys : List Step) → AreOwn xs → AreOwn ys → AreOwn (xs ++ ys)
 own_both [] ys a b = b

@@ -1,5 +1,5 @@
 -- A trace has a record of each step of a sweep and of its drain.
-use Rattle.std.proofs.Common.{◌≡◌, ℕ, ◌^◌, ◌<◌, true, List, [], ◌∷◌, ◌++◌, take, refl, sym, ap, ap₂, ◌∙◌, subst, append_assoc}
+use Rattle.std.proofs.Common.{◌≡◌, ℕ, ◌^◌, ◌<◌, true, List, [], ◌∷◌, ◌++◌, take, sym, ap, ap₂, ◌∙◌, subst, append_assoc}
 use Rattle.std.specs.Prelude.{◌&&◌, nat_lt}
 use Rattle.std.proofs.lemmas.Bool.{lt-ltb}
 use Rattle.std.proofs.lemmas.List.Elements.{All-append, All-cons, All-nil}
@@ -18,7 +18,7 @@ use Rattle.machine_log.specs.Logs.{Log}
 use Rattle.machine_sweep.specs.Rounds.{round}
 use Rattle.machine_sweep.specs.Sweeps.{IsSwept, rounds}
 use Rattle.machine_sweep.specs.declared.sweeping.SweepEnd.{SweepEnd}
-use Rattle.machine_sweep.proofs.Own.{AreOwn, IsOwn, drain_steps_are_own, own_asked, own_both, own_entered}
+use Rattle.machine_sweep.proofs.Own.{AreOwn, drain_steps_are_own, own_asked, own_both, own_entered}
 use Rattle.machine_sweep.proofs.Progress.{IsOfRound, of_round}
 
 both : (a b : ℕ) (n m : ℕ) → a < n → b < m → (nat_lt a n && nat_lt b m) ≡ true

@@ -12,7 +12,7 @@ use Rattle.machine_log.specs.Logs.{Log, HasTaken, entered}
 use Rattle.machine_sweep.specs.Rounds.{round}
 use Rattle.machine_sweep.specs.Standing.{HasRunning}
 use Rattle.machine_sweep.specs.Sweeps.{EndsInFault, IsFault, IsOver, IsStop, RunsAfter, WasAskedRound, entered_of}
-use Rattle.machine_sweep.proofs.Asking.{each_stalls, longer}
+use Rattle.machine_sweep.proofs.Asking.{each_stalls}
 use Rattle.machine_sweep.proofs.Ending.{IsFirst, IsUnder, ends_in, first_on, has_running, runs_after, runs_on, sound_on}
 use Rattle.machine_sweep.proofs.Progress.{in_round, some_step_moves}
 use Rattle.machine_sweep.proofs.Own.{IsOwn}

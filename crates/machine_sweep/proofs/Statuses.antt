@@ -7,7 +7,6 @@ use Rattle.flat_machine.specs.declared.effect.Effect.{Effect}
 use Rattle.flat_machine.specs.declared.effect.Effect.TheVariants as does
 use Rattle.flat_machine.specs.declared.effect.Region.{Region}
 use Rattle.flat_machine.specs.declared.effect.Region.TheVariants as region
-use Rattle.flat_machine.specs.declared.event.Status.{Status}
 use Rattle.flat_machine.specs.declared.fault.Fault.{Fault}
 use Rattle.flat_machine.specs.declared.setting.Setting.{Setting}
 use Rattle.flat_machine.specs.Effects.{effect_of}

@@ -1,4 +1,5 @@
 pub mod Rounds
 pub mod Standing
 pub mod Skips
+pub mod Own
 pub mod Sweeps

@@ -14,7 +14,7 @@ mod sweeping;
 #[cfg(test)]
 mod tests;
 
-pub use laws::runs_have_one_log;
+pub use laws::{rounds_go_on, runs_have_one_log, sweeps_write_nothing};
 pub use round::Round;
 pub use schedule::step_at;
 pub use states::{any_is_faulted, any_runs};

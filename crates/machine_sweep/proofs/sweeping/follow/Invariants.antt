@@ -1,4 +1,4 @@
-use Rattle.std.proofs.Common.{◌≡◌, ◌+◌, ◌-◌, ◌≤◌, length}
+use Rattle.std.proofs.Common.{◌≡◌, ◌+◌, ◌-◌, length}
 use Rattle.machine_sweep.proofs.Following.{IsFollowing}
 use Rattle.machine_sweep.proofs.sweeping.follow.Given as goal
 

@@ -1,4 +1,4 @@
-use Rattle.std.proofs.Common.{◌≡◌, ◌+◌, ◌≤◌, ◌⊎◌, true, false, ◌∙◌, length, take, refl, sym, ap, subst, arith}
+use Rattle.std.proofs.Common.{◌≡◌, ◌≤◌, ◌⊎◌, true, false, ◌∙◌, length, take, refl, sym, ap, subst, arith}
 use Rattle.flat_machine.specs.declared.config.Config.{Config}
 use Rattle.machine_runs.specs.Machines.{IsMachine, MachineLists}
 use Rattle.machine_sweep.specs.Rounds.{Sweeping, round}
