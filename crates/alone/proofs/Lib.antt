@@ -1,0 +1,4 @@
+pub mod Settling
+pub mod Covering
+pub mod Reaching
+pub mod Forgetting

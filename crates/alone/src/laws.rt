@@ -1,0 +1,21 @@
+//! Laws of states between references: each is the contract of a function that does nothing.
+
+ghost use Rattle.alone.specs.Laws.{ClosedSetsHaveAllEnds, MovesAreTurns, StoppedAreForgotten};
+
+/// Where a set of states has the one to which a flat machine settles, and with each state those after
+/// a reference of each of its processors, it has each end of that machine: what is kept of each state
+/// in which all processors have stopped, and of what they have printed.
+pub fn closed_sets_have_all_ends()
+    ensures ends { ClosedSetsHaveAllEnds }
+{}
+
+/// And it need have no other: each state to which references lead is what is kept of the flat machine
+/// after some order of turns.
+pub fn moves_are_turns()
+    ensures turns { MovesAreTurns }
+{}
+
+/// The registers and the local memory of a processor that has stopped can be forgotten.
+pub fn stopped_processors_can_be_forgotten()
+    ensures forgotten { StoppedAreForgotten }
+{}
