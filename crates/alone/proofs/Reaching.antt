@@ -76,12 +76,6 @@ module _ (at : ℕ → Setting) (code : List ℕ) (kept : Station → Station) w
       After m consoles (Calm (suc k) s)
   calm_turn n k s m consoles p again h there settled = by_running (is_running p.status) refl
     where
-      mine : Station
-      mine = station_of p (consoles k)
-
-      later : ℕ → List ℕ
-      later = consoles_after consoles (one_events m k)
-
       rests : IsSettled (at k) code p → After m consoles (Calm (suc k) s)
       rests is = after_none m consoles (Calm (suc k) s) (calm_more k s m consoles p h there is)
 

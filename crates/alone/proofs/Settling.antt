@@ -272,9 +272,6 @@ module _ (at : ℕ → Setting) (code : List ℕ) (kept : Station → Station) w
         t : Standing
         t = gone s k (kept (alone n (at k) code (other (slice_index s.shared word)))) word (change (slice_index s.shared word))
 
-        mine : Station
-        mine = behind here (after (slice_index s.shared word))
-
         same : kept (alone n (at k) code (other (slice_index s.shared word))) ≡ kept (alone n (at k) code (behind here (after (slice_index s.shared word))))
         same = alone_alike f n k (other (slice_index s.shared word)) (behind here (after (slice_index s.shared word))) (alike (slice_index s.shared word))
 

@@ -1,0 +1,4 @@
+pub mod Ending
+pub mod Forwards
+pub mod Shifting
+pub mod Backwards
