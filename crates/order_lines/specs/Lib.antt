@@ -1,0 +1,4 @@
+pub mod References
+pub mod Texts
+pub mod Lines
+pub mod Laws
