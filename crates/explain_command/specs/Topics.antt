@@ -1,0 +1,34 @@
+-- What there is to explain, and the texts that are printed of it.
+use Rattle.std.specs.Prelude.{ℕ, Bool, List, [], ◌∷◌, ◌++◌, Option, codes, find}
+use Rattle.std.specs.Option.{option_or}
+use Rattle.std.specs.Str.{str_eq_ignore_ascii_case}
+use Rattle.explain_command.specs.declared.topic.Topic.{Topic}
+use Rattle.explain_command.specs.declared.topic.Topics.{Topics}
+
+-- the word names the topic, in letters of either case
+abbrev pub is_named : (word : List ℕ) → Topic → Bool
+is_named word t = str_eq_ignore_ascii_case t.name.now word
+
+-- the first topic that the word names, of the codes, the faults and the pages
+abbrev pub topic_named : Topics → (word : List ℕ) → Option Topic
+topic_named topics word =
+    option_or (find (is_named word) topics.codes.now) (option_or (find (is_named word) topics.faults.now) (find (is_named word) topics.pages.now))
+
+-- `NAME: MEANING`
+abbrev pub line_of : Topic → List ℕ
+line_of t = t.name.now ++ codes ": " ++ t.meaning.now ++ 10 ∷ []
+
+-- the line, an empty one, and all else that there is to say
+abbrev pub text_of : Topic → List ℕ
+text_of t = line_of t ++ 10 ∷ t.advice.now
+
+abbrev pub lines_of : List Topic → List ℕ
+lines_of [] = []
+lines_of (t ∷ ts) = line_of t ++ lines_of ts
+
+-- a line for each topic, below a line that says what they are
+abbrev pub list_of : Topics → List ℕ
+list_of topics =
+    codes "Codes, which stand behind `ultra:` on standard error\n" ++ lines_of topics.codes.now
+    ++ codes "\nNumbers of faults, as `fault 4` in a report\n" ++ lines_of topics.faults.now
+    ++ codes "\nPages\n" ++ lines_of topics.pages.now

@@ -1,0 +1,19 @@
+//! `ultra explain [CODE]`: what a code that `ultra` prints means, what usually causes it and what to do.
+//!
+//! [`TOPICS`] has what there is to explain: what stands behind `ultra: ` on standard error, the numbers of the faults in
+//! a report, and pages of help.
+#![tactic(auto)]
+
+mod codes;
+mod command;
+mod faults;
+mod pages;
+#[cfg(test)]
+mod tests;
+mod texts;
+mod topic;
+mod topics;
+
+pub use command::explain_command;
+pub use topic::{Topic, Topics};
+pub use topics::TOPICS;
