@@ -10,7 +10,7 @@ use Rattle.clap.specs.Simple.{App, Shape, argument_words, built, built_leaf, ent
 use Rattle.clap.specs.Simple.{subcommand_of}
 use Rattle.clap.specs.Takes.{is_given}
 use Rattle.clap.specs.Walk.{Row, Text, finished, nothing_held, rows_after, settled, walk, walk_from}
-use Rattle.settings.specs.Lines.{HasAsm, HasDis, HasPath, HasReplay, HasRun, IsComplete, IsWhole, asm_command, budget, dis_command}
+use Rattle.settings.specs.Lines.{HasAsm, HasDis, HasPath, HasReplay, HasRun, IsComplete, IsWhole, asm_command, budget, dis_command, explain_command}
 use Rattle.settings.specs.Lines.{queue, records, replay_command, run_command, shared_words, stages, start, ultra_command, words_command}
 use Rattle.settings.proofs.NoHelp.{IsNoHelp, StopsAtNoHelp, walk_stops}
 use Rattle.settings.proofs.Numbers.{number_there}
@@ -19,12 +19,12 @@ use Rattle.settings.proofs.Walks.{neither}
 
 -- clap gives its matches as a function of the words
 pub is_simple_ultra : is_simple ultra_command ≡ true
-unfolding ultra_command words_command asm_command dis_command run_command replay_command
+unfolding ultra_command words_command asm_command dis_command run_command replay_command explain_command
 is_simple_ultra = refl
 
 -- and the kinds of its errors too
 pub is_free_ultra : is_simple_and_free ultra_command ≡ true
-unfolding ultra_command words_command asm_command dis_command run_command replay_command
+unfolding ultra_command words_command asm_command dis_command run_command replay_command explain_command
 is_free_ultra = refl
 
 -- a required argument that is missing is a fault
@@ -52,6 +52,10 @@ built_run = built_leaf run_command.top
 built_replay : Shape
 unfolding replay_command
 built_replay = built_leaf replay_command.top
+
+built_explain : Shape
+unfolding explain_command
+built_explain = built_leaf explain_command.top
 
 file_there : (words : List Text) → level_fault built_words [] nothing_held words false [] ≡ [] → HasPath (codes "FILE") (rows_after built_words.rules [] words)
 unfolding built_words words_command
@@ -99,7 +103,7 @@ replay_there words e = (
 
 -- the program's command, as it is built
 built_ultra : App
-unfolding ultra_command words_command asm_command dis_command run_command replay_command
+unfolding ultra_command words_command asm_command dis_command run_command replay_command explain_command
 built_ultra = built ultra_command
 
 -- the words name a subcommand, or are a fault
@@ -162,7 +166,7 @@ is_run name rows e has = record {
 
 is_replay : (name : Text) (rows : List Row) → name ≡ codes "replay" → HasReplay rows → IsWhole name rows
 is_replay name rows e has = record {
-  known = inr (inr (inr (inr e)));
+  known = inr (inr (inr (inr (inl e))));
   words = apart (codes "replay") (codes "words") name refl e;
   asm = apart (codes "replay") (codes "asm") name refl e;
   dis = apart (codes "replay") (codes "dis") name refl e;
@@ -170,32 +174,43 @@ is_replay name rows e has = record {
   replay = λ _. has;
 }
 
+is_explain : (name : Text) (rows : List Row) → name ≡ codes "explain" → IsWhole name rows
+is_explain name rows e = record {
+  known = inr (inr (inr (inr (inr e))));
+  words = apart (codes "explain") (codes "words") name refl e;
+  asm = apart (codes "explain") (codes "asm") name refl e;
+  dis = apart (codes "explain") (codes "dis") name refl e;
+  run = apart (codes "explain") (codes "run") name refl e;
+  replay = apart (codes "explain") (codes "replay") name refl e;
+}
+
 -- the subcommand that a walk stopped at, which is not `help`
 enters : (stop : Option (Text × List Text)) → StopsAtNoHelp stop → entered_fault built_ultra stop ≡ []
     → is_some (entered built_ultra stop) ≡ true → IsComplete (entered built_ultra stop)
-unfolding built_ultra ultra_command words_command asm_command dis_command run_command replay_command built_words built_asm built_dis built_run built_replay
+unfolding built_ultra ultra_command words_command asm_command dis_command run_command replay_command explain_command built_words built_asm built_dis built_run built_replay built_explain
 enters None unhelped e has = absurd (true≢false (sym has))
 enters (Some p) unhelped e has =
     go (bytes_eq (codes "words") p.0) (bytes_eq (codes "asm") p.0) (bytes_eq (codes "dis") p.0) (bytes_eq (codes "run") p.0) (bytes_eq (codes "replay") p.0)
-    (bytes_eq (codes "help") p.0) (no_help p.0 unhelped) e has
+    (bytes_eq (codes "explain") p.0) (bytes_eq (codes "help") p.0) (no_help p.0 unhelped) e has
   where
     helped : Bool → Option Shape
     helped h = cond (h || false) (Some (built_leaf (inherited built_ultra.top help_shape))) None
 
     -- the shape of the first whose name is that
-    found : Bool → Bool → Bool → Bool → Bool → Bool → Option Shape
-    found w a d r t h = cond (w || false) (Some built_words) (cond (a || false) (Some built_asm) (cond (d || false) (Some built_dis)
-        (cond (r || false) (Some built_run) (cond (t || false) (Some built_replay) (helped h)))))
+    found : Bool → Bool → Bool → Bool → Bool → Bool → Bool → Option Shape
+    found w a d r t x h = cond (w || false) (Some built_words) (cond (a || false) (Some built_asm) (cond (d || false) (Some built_dis)
+        (cond (r || false) (Some built_run) (cond (t || false) (Some built_replay) (cond (x || false) (Some built_explain) (helped h))))))
 
-    go : (w a d r t h : Bool) → h ≡ false → option_map_or (λ s. level_fault s [] nothing_held p.1 false []) (found w a d r t h) [] ≡ []
-        → is_some (option_map (λ s. rows_at s p.1) (found w a d r t h)) ≡ true → IsComplete (option_map (λ s. rows_at s p.1) (found w a d r t h))
-    go true a d r t h other e has = is_words _ _ refl (file_there p.1 e)
-    go false true d r t h other e has = is_asm _ _ refl (asm_there p.1 e)
-    go false false true r t h other e has = is_dis _ _ refl (dis_there p.1 e)
-    go false false false true t h other e has = is_run _ _ refl (run_there p.1 e)
-    go false false false false true h other e has = is_replay _ _ refl (replay_there p.1 e)
-    go false false false false false true other e has = absurd (true≢false other)
-    go false false false false false false other e has = absurd (true≢false (sym has))
+    go : (w a d r t x h : Bool) → h ≡ false → option_map_or (λ s. level_fault s [] nothing_held p.1 false []) (found w a d r t x h) [] ≡ []
+        → is_some (option_map (λ s. rows_at s p.1) (found w a d r t x h)) ≡ true → IsComplete (option_map (λ s. rows_at s p.1) (found w a d r t x h))
+    go true a d r t x h other e has = is_words _ _ refl (file_there p.1 e)
+    go false true d r t x h other e has = is_asm _ _ refl (asm_there p.1 e)
+    go false false true r t x h other e has = is_dis _ _ refl (dis_there p.1 e)
+    go false false false true t x h other e has = is_run _ _ refl (run_there p.1 e)
+    go false false false false true x h other e has = is_replay _ _ refl (replay_there p.1 e)
+    go false false false false false true h other e has = is_explain _ _ refl
+    go false false false false false false true other e has = absurd (true≢false other)
+    go false false false false false false false other e has = absurd (true≢false (sym has))
 
 -- words with no fault name a subcommand of the program's own, with all that has to be given
 pub complete : (words : List Text) → fault_of ultra_command words ≡ [] → IsComplete (subcommand_of ultra_command words)

@@ -16,9 +16,9 @@ use Rattle.clap.specs.declared.error.kind.ErrorKind.TheVariants.{OutOfMemory}
 use Rattle.settings.specs.declared.choice.Settings.{Settings}
 use Rattle.settings.specs.declared.choice.Settings.TheVariants as asked
 use Rattle.clap.proofs.OnLiterals.{clap_on_literals}
-use Rattle.settings.specs.Lines.{AreAsmOf, AreDisOf, AreReplayOf, AreRunOf, AreWordsOf, IsAsked, IsAsm, IsChosen, IsDis, IsPlain, IsReplay, IsRun, IsWords}
-use Rattle.settings.specs.Lines.{Named, NameAsmOf, NameDisOf, NameReplayOf, NameRunOf, NameWordsOf}
-use Rattle.settings.specs.Lines.{asm_command, dis_command, replay_command, run_command, ultra_command, words_command}
+use Rattle.settings.specs.Lines.{AreAsmOf, AreDisOf, AreExplainOf, AreReplayOf, AreRunOf, AreWordsOf, IsAsked, IsAsm, IsChosen, IsDis, IsExplain, IsPlain}
+use Rattle.settings.specs.Lines.{IsReplay, IsRun, IsWords, Named, NameAsmOf, NameDisOf, NameExplainOf, NameReplayOf, NameRunOf, NameWordsOf}
+use Rattle.settings.specs.Lines.{asm_command, dis_command, explain_command, replay_command, run_command, ultra_command, words_command}
 
 no_hyphen : (file : Text) → IsPlain file → strip_byte 45 file ≡ None
 no_hyphen [] h = refl
@@ -49,6 +49,7 @@ name_of (asked.Asm a) = codes "asm"
 name_of (asked.Dis d) = codes "dis"
 name_of (asked.Run r) = codes "run"
 name_of (asked.Replay r) = codes "replay"
+name_of (asked.Explain e) = codes "explain"
 
 -- the settings are those of the rows
 abbrev AreOf : List Row → Settings → Type 0
@@ -57,6 +58,7 @@ AreOf rows (asked.Asm a) = IsAsm rows a
 AreOf rows (asked.Dis d) = IsDis rows d
 AreOf rows (asked.Run r) = IsRun rows r
 AreOf rows (asked.Replay r) = IsReplay rows r
+AreOf rows (asked.Explain e) = IsExplain rows e
 
 same_pair : (x y : Text × List Row) → Some x ≡ Some y → x ≡ y
 same_pair x y e = cc
@@ -75,6 +77,7 @@ chosen_as stop name rows (asked.Asm a) is chosen = named_as stop name (codes "as
 chosen_as stop name rows (asked.Dis d) is chosen = named_as stop name (codes "dis") rows (λ them. IsDis them d) is chosen
 chosen_as stop name rows (asked.Run r) is chosen = named_as stop name (codes "run") rows (λ them. IsRun them r) is chosen
 chosen_as stop name rows (asked.Replay r) is chosen = named_as stop name (codes "replay") rows (λ them. IsReplay them r) is chosen
+chosen_as stop name rows (asked.Explain x) is chosen = named_as stop name (codes "explain") rows (λ them. IsExplain them x) is chosen
 
 -- one of the program's subcommands is not another
 apart : {P : Type 0} (x y : Text) → bytes_eq x y ≡ false → x ≡ y → P
@@ -83,14 +86,14 @@ apart x y not e = absurd (true≢false (sym ((bytes_eq-Decides x y).1 e) ∙ not
 -- ---- `words FILE`
 
 words_fault : (program file : Text) → IsPlain file → fault_of ultra_command (program ∷ codes "words" ∷ file ∷ []) ≡ []
-unfolding clap_on_literals ultra_command words_command asm_command dis_command run_command replay_command
+unfolding clap_on_literals ultra_command words_command asm_command dis_command run_command replay_command explain_command
 words_fault program file h = rw (no_hyphens file h, no_hyphen file h, no_hyphen file h) refl
 
 words_rows : (file : Text) → List Row
 words_rows file = row (codes "FILE") file CommandLine ∷ []
 
 words_found : (program file : Text) → IsPlain file → subcommand_of ultra_command (program ∷ codes "words" ∷ file ∷ []) ≡ Some (codes "words", words_rows file)
-unfolding row words_rows clap_on_literals ultra_command words_command asm_command dis_command run_command replay_command
+unfolding row words_rows clap_on_literals ultra_command words_command asm_command dis_command run_command replay_command explain_command
 words_found program file h = rw (no_hyphens file h, no_hyphen file h, no_hyphen file h) refl
 
 words_are : (file : Text) (s : Settings) → (name_of s ≡ codes "words") × AreOf (words_rows file) s → AreWordsOf file s
@@ -100,6 +103,7 @@ words_are file (asked.Asm a) said = apart (codes "asm") (codes "words") refl sai
 words_are file (asked.Dis d) said = apart (codes "dis") (codes "words") refl said.0
 words_are file (asked.Run r) said = apart (codes "run") (codes "words") refl said.0
 words_are file (asked.Replay r) said = apart (codes "replay") (codes "words") refl said.0
+words_are file (asked.Explain x) said = apart (codes "explain") (codes "words") refl said.0
 
 -- `words FILE` gives the file
 pub words_asked : (words : List Text) (file : Text) (s : Settings) → NameWordsOf file words → IsAsked words s → AreWordsOf file s
@@ -110,14 +114,14 @@ words_asked words file s named chosen =
 -- ---- `asm FILE OUT`
 
 asm_fault : (program file out : Text) → IsPlain file → IsPlain out → fault_of ultra_command (program ∷ codes "asm" ∷ file ∷ out ∷ []) ≡ []
-unfolding clap_on_literals ultra_command words_command asm_command dis_command run_command replay_command
+unfolding clap_on_literals ultra_command words_command asm_command dis_command run_command replay_command explain_command
 asm_fault program file out h k = rw (no_hyphens file h, no_hyphen file h, no_hyphen file h, no_hyphens out k, no_hyphen out k, no_hyphen out k) refl
 
 asm_rows : (file out : Text) → List Row
 asm_rows file out = row (codes "FILE") file CommandLine ∷ row (codes "OUT") out CommandLine ∷ []
 
 asm_found : (program file out : Text) → IsPlain file → IsPlain out → subcommand_of ultra_command (program ∷ codes "asm" ∷ file ∷ out ∷ []) ≡ Some (codes "asm", asm_rows file out)
-unfolding row asm_rows clap_on_literals ultra_command words_command asm_command dis_command run_command replay_command
+unfolding row asm_rows clap_on_literals ultra_command words_command asm_command dis_command run_command replay_command explain_command
 asm_found program file out h k = rw (no_hyphens file h, no_hyphen file h, no_hyphen file h, no_hyphens out k, no_hyphen out k, no_hyphen out k) refl
 
 asm_are : (file out : Text) (s : Settings) → (name_of s ≡ codes "asm") × AreOf (asm_rows file out) s → AreAsmOf file out s
@@ -130,6 +134,7 @@ asm_are file out (asked.Asm a) said =
 asm_are file out (asked.Dis d) said = apart (codes "dis") (codes "asm") refl said.0
 asm_are file out (asked.Run r) said = apart (codes "run") (codes "asm") refl said.0
 asm_are file out (asked.Replay r) said = apart (codes "replay") (codes "asm") refl said.0
+asm_are file out (asked.Explain x) said = apart (codes "explain") (codes "asm") refl said.0
 
 -- `asm FILE OUT` gives both files
 pub asm_asked : (words : List Text) (file out : Text) (s : Settings) → NameAsmOf file out words → IsAsked words s → AreAsmOf file out s
@@ -140,14 +145,14 @@ asm_asked words file out s named chosen =
 -- ---- `dis FILE`
 
 dis_fault : (program file : Text) → IsPlain file → fault_of ultra_command (program ∷ codes "dis" ∷ file ∷ []) ≡ []
-unfolding clap_on_literals ultra_command words_command asm_command dis_command run_command replay_command
+unfolding clap_on_literals ultra_command words_command asm_command dis_command run_command replay_command explain_command
 dis_fault program file h = rw (no_hyphens file h, no_hyphen file h, no_hyphen file h) refl
 
 dis_rows : (file : Text) → List Row
 dis_rows file = row (codes "FILE") file CommandLine ∷ []
 
 dis_found : (program file : Text) → IsPlain file → subcommand_of ultra_command (program ∷ codes "dis" ∷ file ∷ []) ≡ Some (codes "dis", dis_rows file)
-unfolding row dis_rows clap_on_literals ultra_command words_command asm_command dis_command run_command replay_command
+unfolding row dis_rows clap_on_literals ultra_command words_command asm_command dis_command run_command replay_command explain_command
 dis_found program file h = rw (no_hyphens file h, no_hyphen file h, no_hyphen file h) refl
 
 dis_are : (file : Text) (s : Settings) → (name_of s ≡ codes "dis") × AreOf (dis_rows file) s → AreDisOf file s
@@ -159,6 +164,7 @@ dis_are file (asked.Dis d) said =
     (cc, said.1.1.0)
 dis_are file (asked.Run r) said = apart (codes "run") (codes "dis") refl said.0
 dis_are file (asked.Replay r) said = apart (codes "replay") (codes "dis") refl said.0
+dis_are file (asked.Explain x) said = apart (codes "explain") (codes "dis") refl said.0
 
 -- `dis FILE` gives the file, for 1,024 words
 pub dis_asked : (words : List Text) (file : Text) (s : Settings) → NameDisOf file words → IsAsked words s → AreDisOf file s
@@ -169,14 +175,14 @@ dis_asked words file s named chosen =
 -- ---- `run FILE`
 
 run_fault : (program file : Text) → IsPlain file → fault_of ultra_command (program ∷ codes "run" ∷ file ∷ []) ≡ []
-unfolding clap_on_literals ultra_command words_command asm_command dis_command run_command replay_command
+unfolding clap_on_literals ultra_command words_command asm_command dis_command run_command replay_command explain_command
 run_fault program file h = rw (no_hyphens file h, no_hyphen file h, no_hyphen file h) refl
 
 run_rows : (file : Text) → List Row
 run_rows file = row (codes "FILE") file CommandLine ∷ row (codes "sweep") (codes "false") DefaultValue ∷ []
 
 run_found : (program file : Text) → IsPlain file → subcommand_of ultra_command (program ∷ codes "run" ∷ file ∷ []) ≡ Some (codes "run", run_rows file)
-unfolding row run_rows clap_on_literals ultra_command words_command asm_command dis_command run_command replay_command
+unfolding row run_rows clap_on_literals ultra_command words_command asm_command dis_command run_command replay_command explain_command
 run_found program file h = rw (no_hyphens file h, no_hyphen file h, no_hyphen file h) refl
 
 no_text : (o : Option (Bor Text)) → None ≡ option_map (λ t. t.now) o → o ≡ None
@@ -202,6 +208,7 @@ run_are file (asked.Run r) said =
     let start = said.1.8 in
     (cc, no_text r.trace said.1.1, unset r.sweep said.1.2.0, k.0, c.0, b.0, words.0, budget.0, start.0)
 run_are file (asked.Replay r) said = apart (codes "replay") (codes "run") refl said.0
+run_are file (asked.Explain x) said = apart (codes "explain") (codes "run") refl said.0
 
 -- `run FILE` gives the file, no trace, no flag, and each number its default
 pub run_asked : (words : List Text) (file : Text) (s : Settings) → NameRunOf file words → IsAsked words s → AreRunOf file s
@@ -212,14 +219,14 @@ run_asked words file s named chosen =
 -- ---- `replay TRACE FILE`
 
 replay_fault : (program trace file : Text) → IsPlain trace → IsPlain file → fault_of ultra_command (program ∷ codes "replay" ∷ trace ∷ file ∷ []) ≡ []
-unfolding clap_on_literals ultra_command words_command asm_command dis_command run_command replay_command
+unfolding clap_on_literals ultra_command words_command asm_command dis_command run_command replay_command explain_command
 replay_fault program trace file h k = rw (no_hyphens trace h, no_hyphen trace h, no_hyphen trace h, no_hyphens file k, no_hyphen file k, no_hyphen file k) refl
 
 replay_rows : (trace file : Text) → List Row
 replay_rows trace file = row (codes "TRACE") trace CommandLine ∷ row (codes "FILE") file CommandLine ∷ []
 
 replay_found : (program trace file : Text) → IsPlain trace → IsPlain file → subcommand_of ultra_command (program ∷ codes "replay" ∷ trace ∷ file ∷ []) ≡ Some (codes "replay", replay_rows trace file)
-unfolding row replay_rows clap_on_literals ultra_command words_command asm_command dis_command run_command replay_command
+unfolding row replay_rows clap_on_literals ultra_command words_command asm_command dis_command run_command replay_command explain_command
 replay_found program trace file h k = rw (no_hyphens trace h, no_hyphen trace h, no_hyphen trace h, no_hyphens file k, no_hyphen file k, no_hyphen file k) refl
 
 replay_are : (trace file : Text) (s : Settings) → (name_of s ≡ codes "replay") × AreOf (replay_rows trace file) s → AreReplayOf trace file s
@@ -232,12 +239,44 @@ replay_are trace file (asked.Replay r) said =
     let e : Some trace ≡ Some r.trace.now = said.1.0 in
     let f : Some file ≡ Some r.file.now = said.1.1 in
     (cc, cc, said.1.2.0)
+replay_are trace file (asked.Explain x) said = apart (codes "explain") (codes "replay") refl said.0
 
 -- `replay TRACE FILE` gives both files, for 1,024 words
 pub replay_asked : (words : List Text) (trace file : Text) (s : Settings) → NameReplayOf trace file words → IsAsked words s → AreReplayOf trace file s
 replay_asked words trace file s named chosen =
     let found = ap (subcommand_of ultra_command) named.1 ∙ replay_found named.0 trace file named.2 named.3 in
     replay_are trace file s (chosen_as (subcommand_of ultra_command words) (codes "replay") (replay_rows trace file) s found chosen)
+
+-- ---- `explain [CODE]`
+
+explain_rows : Option Text → List Row
+explain_rows None = []
+explain_rows (Some code) = row (codes "CODE") code CommandLine ∷ []
+
+explain_fault : (code : Option Text) (words : List Text) → NameExplainOf code words → fault_of ultra_command words ≡ []
+unfolding clap_on_literals ultra_command words_command asm_command dis_command run_command replay_command explain_command
+explain_fault None words named = rw named.1 refl
+explain_fault (Some code) words named = rw (named.1, no_hyphens code named.2, no_hyphen code named.2, no_hyphen code named.2) refl
+
+explain_found : (code : Option Text) (words : List Text) → NameExplainOf code words → subcommand_of ultra_command words ≡ Some (codes "explain", explain_rows code)
+unfolding row explain_rows clap_on_literals ultra_command words_command asm_command dis_command run_command replay_command explain_command
+explain_found None words named = rw named.1 refl
+explain_found (Some code) words named = rw (named.1, no_hyphens code named.2, no_hyphen code named.2, no_hyphen code named.2) refl
+
+explain_are : (code : Option Text) (s : Settings) → (name_of s ≡ codes "explain") × AreOf (explain_rows code) s → AreExplainOf code s
+unfolding name_of row explain_rows
+explain_are code (asked.Words w) said = apart (codes "words") (codes "explain") refl said.0
+explain_are code (asked.Asm a) said = apart (codes "asm") (codes "explain") refl said.0
+explain_are code (asked.Dis d) said = apart (codes "dis") (codes "explain") refl said.0
+explain_are code (asked.Run r) said = apart (codes "run") (codes "explain") refl said.0
+explain_are code (asked.Replay r) said = apart (codes "replay") (codes "explain") refl said.0
+explain_are None (asked.Explain x) said = sym said.1
+explain_are (Some code) (asked.Explain x) said = sym said.1
+
+-- `explain CODE` gives the code, and `explain` none
+pub explain_asked : (words : List Text) (code : Option Text) (s : Settings) → NameExplainOf code words → IsAsked words s → AreExplainOf code s
+explain_asked words code s named chosen =
+    explain_are code s (chosen_as (subcommand_of ultra_command words) (codes "explain") (explain_rows code) s (explain_found code words named) chosen)
 
 -- ---- want of memory
 
@@ -270,3 +309,7 @@ run_short r e words file named = memory_short (AreRunOf file) r e words (ap (fau
 pub replay_short : (r : Result Settings Error) (e : Error) (words : List Text) (trace file : Text) → NameReplayOf trace file words → IsErrAnd r (λ y. y ≡ e)
     → HasKind (fault_of ultra_command words) e → MatchResult r (AreReplayOf trace file) (λ y. kind_of y ≡ OutOfMemory)
 replay_short r e words trace file named = memory_short (AreReplayOf trace file) r e words (ap (fault_of ultra_command) named.1 ∙ replay_fault named.0 trace file named.2 named.3)
+
+pub explain_short : (r : Result Settings Error) (e : Error) (words : List Text) (code : Option Text) → NameExplainOf code words → IsErrAnd r (λ y. y ≡ e)
+    → HasKind (fault_of ultra_command words) e → MatchResult r (AreExplainOf code) (λ y. kind_of y ≡ OutOfMemory)
+explain_short r e words code named = memory_short (AreExplainOf code) r e words (explain_fault code words named)

@@ -12,6 +12,7 @@ use Rattle.settings.specs.declared.choice.Asm.{Asm}
 use Rattle.settings.specs.declared.choice.Dis.{Dis}
 use Rattle.settings.specs.declared.choice.Run.{Run}
 use Rattle.settings.specs.declared.choice.Replay.{Replay}
+use Rattle.settings.specs.declared.choice.Explain.{Explain}
 
 -- ---- the options with a number
 
@@ -90,6 +91,9 @@ run_command =
 unfoldable pub replay_command : App
 replay_command = with_number shared_words (with_file (with_rule (new_app (codes "replay")) (path (codes "TRACE"))))
 
+unfoldable pub explain_command : App
+explain_command = with_rule (new_app (codes "explain")) (new_rule (codes "CODE"))
+
 -- the program, which has a version and is told what to do
 abbrev pub program : App
 program = on_top (λ s. record s { has_version = true; subcommand_required = true }) (new_app (codes "ultra"))
@@ -97,15 +101,15 @@ program = on_top (λ s. record s { has_version = true; subcommand_required = tru
 -- each subcommand is a leaf of its own
 unfoldable pub ultra_command : App
 ultra_command =
-    with_subcommand (with_subcommand (with_subcommand (with_subcommand (with_subcommand program
-    words_command.top) asm_command.top) dis_command.top) run_command.top) replay_command.top
+    with_subcommand (with_subcommand (with_subcommand (with_subcommand (with_subcommand (with_subcommand program
+    words_command.top) asm_command.top) dis_command.top) run_command.top) replay_command.top) explain_command.top
 
 -- ---- the settings
 
 abbrev pub IsPath : Text → List Row → Text → Type 0
 IsPath id rows file = first_of id rows ≡ Some file
 
--- a file that need not be given
+-- a text that need not be given
 abbrev pub IsOption : Text → List Row → Option Text → Type 0
 IsOption id rows file = first_of id rows ≡ file
 
@@ -134,6 +138,9 @@ IsRun rows r = IsPath (codes "FILE") rows r.file.now × IsOption (codes "trace")
 abbrev pub IsReplay : List Row → Replay → Type 0
 IsReplay rows r = IsPath (codes "TRACE") rows r.trace.now × IsPath (codes "FILE") rows r.file.now × IsNumber shared_words rows r.words
 
+abbrev pub IsExplain : List Row → Explain → Type 0
+IsExplain rows e = IsOption (codes "CODE") rows (option_map (λ c. c.now) e.code)
+
 -- the subcommand is this one, with these rows
 abbrev pub Named : Option (Text × List Row) → Text → (List Row → Type 0) → Type 0
 Named stop name rest = (rows : List Row) × (stop ≡ Some (name, rows)) × rest rows
@@ -145,6 +152,7 @@ IsChosen stop (asked.Asm a) = Named stop (codes "asm") (λ rows. IsAsm rows a)
 IsChosen stop (asked.Dis d) = Named stop (codes "dis") (λ rows. IsDis rows d)
 IsChosen stop (asked.Run r) = Named stop (codes "run") (λ rows. IsRun rows r)
 IsChosen stop (asked.Replay r) = Named stop (codes "replay") (λ rows. IsReplay rows r)
+IsChosen stop (asked.Explain e) = Named stop (codes "explain") (λ rows. IsExplain rows e)
 
 -- the settings are those of the words
 abbrev pub IsAsked : List Text → Settings → Type 0
@@ -202,6 +210,16 @@ abbrev pub AreReplayOf : (trace file : Text) → Settings → Type 0
 AreReplayOf trace file (asked.Replay r) = (r.trace.now ≡ trace) × (r.file.now ≡ file) × (r.words ≡ 1024)
 AreReplayOf trace file other = ⊥
 
+-- the words are the program's name, `explain` and the code, where there is one
+abbrev pub NameExplainOf : Option Text → List Text → Type 0
+NameExplainOf None words = (program : Text) × (words ≡ program ∷ codes "explain" ∷ [])
+NameExplainOf (Some code) words = (program : Text) × (words ≡ program ∷ codes "explain" ∷ code ∷ []) × IsPlain code
+
+-- the settings are those of `explain CODE`, or of `explain`
+abbrev pub AreExplainOf : Option Text → Settings → Type 0
+AreExplainOf code (asked.Explain e) = option_map (λ c. c.now) e.code ≡ code
+AreExplainOf code other = ⊥
+
 -- ---- what has to be given
 
 abbrev pub HasPath : Text → List Row → Type 0
@@ -227,7 +245,7 @@ HasReplay rows = HasPath (codes "TRACE") rows × HasPath (codes "FILE") rows × 
 
 -- the name and the rows are of a subcommand of the program's, with all that has to be given
 pub record IsWhole (name : Text) (rows : List Row) : Type 0 where
-  pub known : (name ≡ codes "words") ⊎ ((name ≡ codes "asm") ⊎ ((name ≡ codes "dis") ⊎ ((name ≡ codes "run") ⊎ (name ≡ codes "replay"))))
+  pub known : (name ≡ codes "words") ⊎ ((name ≡ codes "asm") ⊎ ((name ≡ codes "dis") ⊎ ((name ≡ codes "run") ⊎ ((name ≡ codes "replay") ⊎ (name ≡ codes "explain")))))
   pub words : name ≡ codes "words" → HasPath (codes "FILE") rows
   pub asm : name ≡ codes "asm" → HasAsm rows
   pub dis : name ≡ codes "dis" → HasDis rows

@@ -1,6 +1,6 @@
 //! The arguments of a command.
 ghost use Rattle.std.specs.Prelude.{◌≡◌, false, IfOk};
-ghost use Rattle.clap.specs.Words.{app_of, rule_of, with_rule};
+ghost use Rattle.clap.specs.Words.{app_of, new_rule, rule_of, with_rule};
 ghost use Rattle.clap.specs.declared.builder.command.Command.TheViews.{out-Command};
 ghost use Rattle.settings.specs.Lines.{path, option, number, flag, with_file, with_number};
 ghost use Rattle.settings.specs.Options.{ranged};
@@ -15,6 +15,14 @@ pub(crate) fn path_arg<'a>(alloc: Global, id: &'a str, help: &'a str) -> Arg<'a>
     ensures global { result.global ≡ false }
 {
     Arg::new(alloc, id).required(true).help(help)
+}
+
+/// A word that need not be given.
+pub(crate) fn word_arg<'a>(alloc: Global, id: &'a str, help: &'a str) -> Arg<'a>
+    ensures rule { rule_of result ≡ new_rule id.entry.now }
+    ensures global { result.global ≡ false }
+{
+    Arg::new(alloc, id).help(help)
 }
 
 /// An option whose value is a file.

@@ -1,7 +1,7 @@
 //! The words of the command line, as settings.
-ghost use Rattle.std.specs.Prelude.{◌≡◌, ◌≢◌, ℕ, List, IfOk, MatchResult, map};
+ghost use Rattle.std.specs.Prelude.{◌≡◌, ◌≢◌, ℕ, List, Option, IfOk, MatchResult, map};
 ghost use Rattle.clap.specs.Words.{FailsBy, fault_of, kind_of, subcommand_of, subcommand_rows_of};
-ghost use Rattle.settings.specs.Lines.{AreAsmOf, AreDisOf, AreReplayOf, AreRunOf, AreWordsOf, IsAsked, NameAsmOf, NameDisOf, NameReplayOf, NameRunOf, NameWordsOf, ultra_command};
+ghost use Rattle.settings.specs.Lines.{AreAsmOf, AreDisOf, AreExplainOf, AreReplayOf, AreRunOf, AreWordsOf, IsAsked, NameAsmOf, NameDisOf, NameExplainOf, NameReplayOf, NameRunOf, NameWordsOf, ultra_command};
 
 use crate::choice::Settings;
 use crate::command::ultra_shape;
@@ -28,8 +28,8 @@ pub fn settings<'a>(alloc: Global, words: &'a [&'a str]) -> Result<Settings<'a>,
     // memory. A request for help or the version is a fault too.
     ensures kinds { FailsBy (fault_of ultra_command (map (λ w. w.now) words.entry.now)) result }
 
-    // So `words FILE`, `dis FILE` and `run FILE` give the file, `asm FILE OUT` and `replay TRACE FILE` both files, and
-    // all else is as it is where nothing is said of it.
+    // So `words FILE`, `dis FILE` and `run FILE` give the file, `asm FILE OUT` and `replay TRACE FILE` both files,
+    // `explain CODE` the code and `explain` none, and all else is as it is where nothing is said of it.
     ensures words_file { (file : List ℕ) → NameWordsOf file (map (λ w. w.now) words.entry.now)
         → MatchResult result (AreWordsOf file) (λ e. kind_of e ≡ ErrorKind.OutOfMemory) }
     ensures asm_files { (file out : List ℕ) → NameAsmOf file out (map (λ w. w.now) words.entry.now)
@@ -40,6 +40,8 @@ pub fn settings<'a>(alloc: Global, words: &'a [&'a str]) -> Result<Settings<'a>,
         → MatchResult result (AreRunOf file) (λ e. kind_of e ≡ ErrorKind.OutOfMemory) }
     ensures replay_files { (trace file : List ℕ) → NameReplayOf trace file (map (λ w. w.now) words.entry.now)
         → MatchResult result (AreReplayOf trace file) (λ e. kind_of e ≡ ErrorKind.OutOfMemory) }
+    ensures explain_code { (code : Option (List ℕ)) → NameExplainOf code (map (λ w. w.now) words.entry.now)
+        → MatchResult result (AreExplainOf code) (λ e. kind_of e ≡ ErrorKind.OutOfMemory) }
 {
     let matches = matched(alloc, words)?;
     Ok(chosen(&matches))

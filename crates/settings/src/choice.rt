@@ -8,6 +8,7 @@ pub enum Settings<'a> {
     Dis(Dis<'a>),
     Run(Run<'a>),
     Replay(Replay<'a>),
+    Explain(Explain<'a>),
 }
 
 /// `words FILE`.
@@ -66,4 +67,11 @@ pub struct Replay<'a> {
     pub file: &'a str,
     /// How many shared words the machine has, from 1 to 262,144.
     pub words: u32,
+}
+
+/// `explain [CODE]`.
+#[derive(Debug, PartialEq, Eq, Drop)]
+pub struct Explain<'a> {
+    /// The word to explain, if one is given.
+    pub code: Option<&'a str>,
 }

@@ -2,10 +2,10 @@
 ghost use Rattle.std.specs.Prelude.{◌≡◌, false, IfOk};
 ghost use Rattle.clap.specs.Words.{app_of, new_app, with_subcommand};
 ghost use Rattle.clap.specs.declared.builder.command.Command.TheViews.{out-Command};
-ghost use Rattle.settings.specs.Lines.{program, with_sizes, words_command, asm_command, dis_command, run_command, replay_command, ultra_command};
+ghost use Rattle.settings.specs.Lines.{program, with_sizes, words_command, asm_command, dis_command, run_command, replay_command, explain_command, ultra_command};
 
-use crate::args::{flag_arg, option_arg, path_arg, with, with_file, with_number};
-use crate::help::{ASM_ENDS, DIS_ENDS, REPLAY_ENDS, RUN_ENDS};
+use crate::args::{flag_arg, option_arg, path_arg, with, with_file, with_number, word_arg};
+use crate::help::{ASM_ENDS, DIS_ENDS, EXPLAIN_ENDS, REPLAY_ENDS, RUN_ENDS};
 use crate::ranges::{BUDGET, QUEUE, RECORDS, SHARED_WORDS, STAGES, START};
 use clap::Command;
 use std::alloc::{AllocError, Global};
@@ -156,6 +156,27 @@ fn replay_shape<'a>(alloc: Global) -> Result<Command<'a>, AllocError>
     with_number(alloc, command, SHARED_WORDS)
 }
 
+#[tactic(auto, unfolding(crate::specs::Lines::explain_command))]
+fn explain_shape<'a>(alloc: Global) -> Result<Command<'a>, AllocError>
+    ensures shape { IfOk result (λ c. app_of c ≡ explain_command) }
+    ensures globals { IfOk result (λ c. (out-Command c).has_globals ≡ false) }
+{
+    let command = described(
+        alloc,
+        "explain",
+        "Tell what a code that ultra prints means, what usually causes it and what to do",
+        EXPLAIN_ENDS,
+    );
+    with(
+        command,
+        word_arg(
+            alloc,
+            "CODE",
+            "A code, as `A3`, a fault's number, as `4`, or a page; without it, all of them are listed",
+        ),
+    )
+}
+
 /// The program, as yet with no subcommand.
 fn program_shape<'a>(alloc: Global) -> Command<'a>
     ensures shape { app_of result ≡ program }
@@ -176,5 +197,6 @@ pub(crate) fn ultra_shape<'a>(alloc: Global) -> Result<Command<'a>, AllocError>
     let command = above(command, asm_shape(alloc)?)?;
     let command = above(command, dis_shape(alloc)?)?;
     let command = above(command, run_shape(alloc)?)?;
-    above(command, replay_shape(alloc)?)
+    let command = above(command, replay_shape(alloc)?)?;
+    above(command, explain_shape(alloc)?)
 }

@@ -54,3 +54,12 @@ machine's limits; `link` a file cannot be opened or standard output cannot be wr
 
 Exit status: 0 done, 1 a processor stopped by a fault, 2 a refused trace, image or command line, 3 a
 file or standard output failed, 4 no memory.";
+
+/// What `explain` takes and prints, and its exit statuses.
+pub(crate) const EXPLAIN_ENDS: &str = "\
+CODE is what stands behind `ultra: `, without a line or a step, as `A3` of `ultra: A3 line 2`; the
+number of a fault in a report, as `4` of `fault 4`; or a page: `calls`, the environment calls of a
+program, and `memory-map`, the addresses that it sees. Letters may be of either case.
+
+Exit status: 0 done, 2 nothing has that name, or a refused command line, 3 standard output cannot be
+written (`link`), 4 no memory.";

@@ -1,10 +1,10 @@
 //! What the matches of a subcommand say.
 ghost use Rattle.std.specs.Prelude.{◌≡◌, ◌≤◌, ◌<◌, ◌^◌, codes, option_map};
 ghost use Rattle.clap.specs.Words.{found_of, rows_of, subcommand_rows_of};
-ghost use Rattle.settings.specs.Lines.{IsPath, IsOption, IsFlag, IsNumber, IsWords, IsAsm, IsDis, IsRun, IsReplay, IsChosen, HasPath, HasNumber, HasAsm, HasDis, HasRun, HasReplay, IsComplete};
+ghost use Rattle.settings.specs.Lines.{IsPath, IsOption, IsFlag, IsNumber, IsWords, IsAsm, IsDis, IsRun, IsReplay, IsExplain, IsChosen, HasPath, HasNumber, HasAsm, HasDis, HasRun, HasReplay, IsComplete};
 ghost use Rattle.settings.specs.Options.{ranged, ranged_as};
 
-use crate::choice::{Asm, Dis, Replay, Run, Settings, Words};
+use crate::choice::{Asm, Dis, Explain, Replay, Run, Settings, Words};
 use crate::ranges::{BUDGET, NumberOption, QUEUE, RECORDS, SHARED_WORDS, STAGES, START};
 use clap::ArgMatches;
 
@@ -16,7 +16,7 @@ fn path<'a>(matches: &ArgMatches<'a>, id: &str) -> &'a str
     matches.get_str(id).unwrap()
 }
 
-/// A file that need not be given.
+/// A text that need not be given.
 fn option<'a>(matches: &ArgMatches<'a>, id: &str) -> Option<&'a str>
     ensures { IsOption id.now (rows_of (found_of matches.now)) (option_map (λ file. file.now) result) }
 {
@@ -127,6 +127,14 @@ fn replay<'a>(matches: &ArgMatches<'a>) -> Replay<'a>
     }
 }
 
+fn explain<'a>(matches: &ArgMatches<'a>) -> Explain<'a>
+    ensures { IsExplain (rows_of (found_of matches.now)) result }
+{
+    Explain {
+        code: option(matches, "CODE"),
+    }
+}
+
 /// The settings of the subcommand that was met.
 pub(crate) fn chosen<'a>(matches: &ArgMatches<'a>) -> Settings<'a>
     requires { IsComplete (subcommand_rows_of matches.now) }
@@ -139,6 +147,7 @@ pub(crate) fn chosen<'a>(matches: &ArgMatches<'a>) -> Settings<'a>
         "dis" => Settings::Dis(dis(inner)),
         "run" => Settings::Run(run(inner)),
         "replay" => Settings::Replay(replay(inner)),
+        "explain" => Settings::Explain(explain(inner)),
         _ => unreachable!(),
     }
 }

@@ -4,6 +4,7 @@
 //! The cases are texts, as of a terminal. After `$ ` stand the words, and below them the answer: the settings, or the
 //! kind of the error and a part of its text. A part that ends within a line ends with `\`.
 
+mod explain;
 mod replay;
 mod run;
 
@@ -42,7 +43,7 @@ const REFUSED: &str = "\
 $ ultra
 MissingSubcommand
 error: 'ultra' requires a subcommand but one was not provided
-  [subcommands: words, asm, dis, run, replay, help]
+  [subcommands: words, asm, dis, run, replay, explain, help]
 
 Usage: ultra <COMMAND>
 $ ultra frob
@@ -66,7 +67,7 @@ UnknownArgument
 error: unexpected argument '--fast' found
 $ ultra --help
 DisplayHelp
-  words   Run a program of hex words on one processor and print its registers
+  words    Run a program of hex words on one processor and print its registers
 $ ultra words --help
 DisplayHelp
 Usage: ultra words <FILE>
@@ -112,7 +113,7 @@ DisplayVersion
 ultra 0.1.0
 ";
 
-static CASES: [&str; 8] = [
+static CASES: [&str; 11] = [
     TAKEN,
     REFUSED,
     run::TAKEN,
@@ -121,6 +122,9 @@ static CASES: [&str; 8] = [
     replay::TAKEN,
     replay::REFUSED,
     replay::HELP,
+    explain::TAKEN,
+    explain::REFUSED,
+    explain::HELP,
 ];
 
 /// The error is the one that stands there. An `Err` is a lack of memory.

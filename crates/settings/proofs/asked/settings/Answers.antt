@@ -1,5 +1,5 @@
 use Rattle.settings.proofs.Complete.{complete}
-use Rattle.settings.proofs.Plain.{asm_asked, asm_short, dis_asked, dis_short, replay_asked, replay_short, run_asked, run_short, words_asked, words_short}
+use Rattle.settings.proofs.Plain.{asm_asked, asm_short, dis_asked, dis_short, explain_asked, explain_short, replay_asked, replay_short, run_asked, run_short, words_asked, words_short}
 use Rattle.settings.proofs.asked.settings.Goals as goal
 
 pub chosen-requires : goal.chosen-requires
@@ -20,6 +20,9 @@ returns-clause-run_file c file named = run_asked _ file c.chosen.result named (r
 pub returns-clause-replay_files : goal.returns-clause-replay_files
 returns-clause-replay_files c trace file named = replay_asked _ trace file c.chosen.result named (rw c.in_ok-matches.ensures.rows at c.chosen.ensures)
 
+pub returns-clause-explain_code : goal.returns-clause-explain_code
+returns-clause-explain_code c code named = explain_asked _ code c.chosen.result named (rw c.in_ok-matches.ensures.rows at c.chosen.ensures)
+
 pub returns-in_err-matches-clause-words_file : goal.returns-in_err-matches-clause-words_file
 returns-in_err-matches-clause-words_file c file named =
     words_short c.from_residual.result c.in_err-matches.field-0.0 _ file named c.from_residual.ensures.1 c.in_err-matches.ensures.kinds
@@ -39,3 +42,7 @@ returns-in_err-matches-clause-run_file c file named =
 pub returns-in_err-matches-clause-replay_files : goal.returns-in_err-matches-clause-replay_files
 returns-in_err-matches-clause-replay_files c trace file named =
     replay_short c.from_residual.result c.in_err-matches.field-0.0 _ trace file named c.from_residual.ensures.1 c.in_err-matches.ensures.kinds
+
+pub returns-in_err-matches-clause-explain_code : goal.returns-in_err-matches-clause-explain_code
+returns-in_err-matches-clause-explain_code c code named =
+    explain_short c.from_residual.result c.in_err-matches.field-0.0 _ code named c.from_residual.ensures.1 c.in_err-matches.ensures.kinds

@@ -12,4 +12,5 @@ returns c =
     let asm = c.in_ok-command-2.ensures.shape ∙ ap₂ with_subcommand words (ap top c.in_ok-asm_shape.ensures.shape) in
     let dis = c.in_ok-command-3.ensures.shape ∙ ap₂ with_subcommand asm (ap top c.in_ok-dis_shape.ensures.shape) in
     let run = c.in_ok-command-4.ensures.shape ∙ ap₂ with_subcommand dis (ap top c.in_ok-run_shape.ensures.shape) in
-    IfOk-weaker c.above-5.result _ _ (λ r e. e ∙ ap₂ with_subcommand run (ap top c.in_ok-replay_shape.ensures.shape)) c.above-5.ensures.shape
+    let replay = c.in_ok-command-5.ensures.shape ∙ ap₂ with_subcommand run (ap top c.in_ok-replay_shape.ensures.shape) in
+    IfOk-weaker c.above-6.result _ _ (λ r e. e ∙ ap₂ with_subcommand replay (ap top c.in_ok-explain_shape.ensures.shape)) c.above-6.ensures.shape
