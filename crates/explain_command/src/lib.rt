@@ -1,6 +1,6 @@
 //! `ultra explain [CODE]`: what a code that `ultra` prints means, what usually causes it and what to do.
 //!
-//! [`TOPICS`] has what there is to explain: what stands behind `ultra: ` on standard error, the numbers of the faults in
+//! [`all_topics`] has what there is to explain: what stands behind `ultra: ` on standard error, the numbers of the faults in
 //! a report, and pages of help.
 #![tactic(auto)]
 
@@ -16,4 +16,4 @@ mod topics;
 
 pub use command::explain_command;
 pub use topic::{Topic, Topics};
-pub use topics::TOPICS;
+pub use topics::all_topics;

@@ -7,6 +7,7 @@ use asm_command::asm_command;
 use clap::Error;
 use command_io::{CreateAt, Fault, OnFirstWrite, REFUSED, tell};
 use dis_command::dis_command;
+use explain_command::{all_topics, explain_command};
 use flat_machine::Config;
 use link::{LinkWrite, Meter};
 use run_commands::{replay_command, run_command};
@@ -57,6 +58,13 @@ fn carry_out<R: Env + Files + AllocGlobal, W: LinkWrite, E: Write>(
         },
         Ok(Settings::Run(run)) => run_file(rt, &run, out, err),
         Ok(Settings::Replay(replay)) => replay_file(rt, &replay, out, err),
+        Ok(Settings::Explain(explain)) => explain_command(
+            alloc,
+            &all_topics(),
+            explain.code,
+            out,
+            err,
+        ),
         Err(error) => refuse(&error, out, err),
     }
 }
