@@ -1,0 +1,25 @@
+//! What a runner of a machine is.
+
+ghost use Rattle.std.specs.Prelude.{◌≡◌, Err, OnErr, OnOk};
+ghost use Rattle.machine_runs.specs.Machines.{IsIdle};
+ghost use Rattle.debug_sweep.specs.Runs.{HasRun};
+
+use debug_replies::Breaks;
+use machine_log::{LogRefusal, Logged};
+
+/// What carries out a debugger's command to go on.
+pub trait Runner {
+    /// Takes steps of a machine in which no reference is open, up to a break, or as many as the budget has,
+    /// and then those that leave none open. Which steps these are, and where they end, is the runner's: none
+    /// of them writes from outside, and they are entered behind those that the log has.
+    ///
+    /// # Errors
+    ///
+    /// [`LogRefusal::Full`] where the log has no place for the steps, [`LogRefusal::Memory`] where there is
+    /// no memory for them. Each leaves all as it was.
+    fn run(&mut self, log: &mut Logged, breaks: &Breaks, budget: u32) -> Result<(), LogRefusal>
+        requires idle { IsIdle log.old.machine }
+        ensures ran { OnOk result (HasRun log.old log.new) }
+        ensures named { result ≡ Err LogRefusal.Unnamed → ⊥ }
+        ensures refused { OnErr result (log.new ≡ log.old) };
+}

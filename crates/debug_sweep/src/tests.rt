@@ -1,0 +1,185 @@
+//! Sweeps with breaks, by hand.
+
+use crate::{Runner, Sweep};
+use assembler::assemble;
+use debug_replies::Breaks;
+use elf_image::read_image;
+use flat_machine::{Config, Status};
+use link::Meter;
+use machine_log::{LogRefusal, Logged};
+use machine_runs::Machine;
+use std::alloc::Global;
+use std::process::Abort;
+use std::test::Fail;
+use steps::Step;
+
+/// The log of a machine of `2^k` processors that opens on the image of a text.
+fn log_of(rt: &impl Abort, alloc: Global, text: &str, k: u8) -> Result<Logged, Fail> {
+    let size = Config {
+        k,
+        c: 2,
+        b: 1,
+        shared_words: 1024,
+    };
+    let file = assemble(alloc, text)?.to_elf(alloc)?;
+    let image = read_image(alloc, &mut Meter::new(file.as_slice()), &size)?;
+    let machine = Machine::new(alloc, image, size)?;
+    assert!(rt; machine.is_idle());
+    Ok(Logged::new(alloc, machine))
+}
+
+/// The breaks at these addresses.
+fn breaks_at(rt: &impl Abort, addresses: &[u32]) -> Breaks {
+    let mut breaks = Breaks::new();
+    for address in addresses {
+        assert!(rt; breaks.set(*address));
+    }
+    breaks
+}
+
+/// Goes on, and gives the answer; no reference is open behind it.
+fn go_on(
+    rt: &impl Abort,
+    log: &mut Logged,
+    breaks: &Breaks,
+    budget: u32,
+) -> Result<(), LogRefusal> {
+    assert!(rt; log.machine().is_idle());
+    let answer = Sweep.run(log, breaks, budget);
+    assert!(rt; log.machine().is_idle());
+    answer
+}
+
+/// Three instructions of code, at 0x10000, 0x10004 and 0x10008.
+const THREE: &str = "addi x1, x0, 1\naddi x2, x0, 2\necall";
+
+/// A break is met before its instruction, and a further run gets past it, to the next, and then to the end.
+#[test]
+fn goes_from_break_to_break(rt: HostRuntime) -> Result<(), Fail> {
+    let mut log = log_of(&rt, rt.alloc(), THREE, 0)?;
+    let breaks = breaks_at(&rt, &[0x10004, 0x10008]);
+    assert_eq!(rt; go_on(&rt, &mut log, &breaks, 100), Ok(()));
+    assert_eq!(rt; log.machine().pc(0), Some(0x10004));
+    assert_eq!(rt; log.steps().len(), 1);
+    assert_eq!(rt; go_on(&rt, &mut log, &breaks, 100), Ok(()));
+    assert_eq!(rt; log.machine().pc(0), Some(0x10008));
+    assert_eq!(rt; log.steps().len(), 2);
+    assert_eq!(rt; go_on(&rt, &mut log, &breaks, 100), Ok(()));
+    assert_eq!(rt; log.machine().status(0), Some(Status::Halted(0)));
+    // Where none runs, nothing is done.
+    assert_eq!(rt; log.steps().len(), 3);
+    assert_eq!(rt; go_on(&rt, &mut log, &breaks, 100), Ok(()));
+    assert_eq!(rt; log.steps().len(), 3);
+    Ok(())
+}
+
+/// The break at which a processor stands when the sweep begins does not stop it, as often as it comes there.
+#[test]
+fn gets_past_the_first_break(rt: HostRuntime) -> Result<(), Fail> {
+    let mut log = log_of(&rt, rt.alloc(), "again: jal x0, again", 0)?;
+    let breaks = breaks_at(&rt, &[0x10000]);
+    for count in 1..4 {
+        assert_eq!(rt; go_on(&rt, &mut log, &breaks, 100), Ok(()));
+        assert_eq!(rt; log.machine().pc(0), Some(0x10000));
+        assert_eq!(rt; log.steps().len(), count);
+    }
+    Ok(())
+}
+
+/// Processor 1 comes to its break in the fourth round, when processor 0 has gone on to a loop without one.
+#[test]
+fn stops_all_at_the_break_of_one(rt: HostRuntime) -> Result<(), Fail> {
+    let text = "
+ addi x17, x0, 2
+ ecall
+ bne x10, x0, odd
+here: jal x0, here
+odd: addi x7, x0, 1
+";
+    let mut log = log_of(&rt, rt.alloc(), text, 1)?;
+    let breaks = breaks_at(&rt, &[0x10010]);
+    assert_eq!(rt; go_on(&rt, &mut log, &breaks, 100), Ok(()));
+    assert_eq!(rt; log.machine().pc(1), Some(0x10010));
+    assert_eq!(rt; log.machine().pc(0), Some(0x1000C));
+    let turns = [0, 1, 0, 1, 0, 1, 0];
+    assert_eq!(rt; log.steps().len(), turns.len());
+    for (step, processor) in log.steps().iter().zip(turns) {
+        assert_eq!(rt; *step, Step::Turn(processor));
+    }
+    Ok(())
+}
+
+/// A processor whose reference is open does not stand at a break, whatever it has retired: the load at
+/// 0x10004 is reached, stopped at, and then taken whole.
+#[test]
+fn finishes_an_open_reference(rt: HostRuntime) -> Result<(), Fail> {
+    let mut log = log_of(&rt, rt.alloc(), "lui x5, 0x80000\nlw x6, 0(x5)\necall", 0)?;
+    let breaks = breaks_at(&rt, &[0x10004]);
+    assert_eq!(rt; go_on(&rt, &mut log, &breaks, 100), Ok(()));
+    assert_eq!(rt; log.steps().len(), 1);
+    assert_eq!(rt; go_on(&rt, &mut log, &breaks, 100), Ok(()));
+    let all = [
+        Step::Turn(0),
+        Step::Turn(0),
+        Step::Serve(0),
+        Step::Turn(0),
+        Step::Turn(0),
+    ];
+    assert_eq!(rt; log.steps(), all.as_slice());
+    assert_eq!(rt; log.machine().status(0), Some(Status::Halted(0)));
+    Ok(())
+}
+
+/// A used-up budget ends it too, and a reference that is open then is brought to its end.
+#[test]
+fn ends_with_the_budget(rt: HostRuntime) -> Result<(), Fail> {
+    let mut log = log_of(&rt, rt.alloc(), "lui x5, 0x80000\nlw x6, 0(x5)\necall", 0)?;
+    let breaks = breaks_at(&rt, &[]);
+    assert_eq!(rt; go_on(&rt, &mut log, &breaks, 0), Ok(()));
+    assert_eq!(rt; log.steps().len(), 0);
+    assert_eq!(rt; go_on(&rt, &mut log, &breaks, 2), Ok(()));
+    let all = [Step::Turn(0), Step::Turn(0), Step::Serve(0), Step::Turn(0)];
+    assert_eq!(rt; log.steps(), all.as_slice());
+    Ok(())
+}
+
+/// Each of four processors stops by a fault in its first turn, and each such turn ends a sweep.
+#[test]
+fn ends_at_each_fault(rt: HostRuntime) -> Result<(), Fail> {
+    let mut log = log_of(&rt, rt.alloc(), "ebreak", 2)?;
+    let breaks = breaks_at(&rt, &[0x10000]);
+    for count in 1..5 {
+        assert_eq!(rt; go_on(&rt, &mut log, &breaks, 100), Ok(()));
+        assert_eq!(rt; log.steps().len(), count);
+    }
+    assert_eq!(rt; go_on(&rt, &mut log, &breaks, 100), Ok(()));
+    assert_eq!(rt; log.steps().len(), 4);
+    Ok(())
+}
+
+/// Room is asked for the steps of the sweep and of its drain, before the first of them is taken.
+#[test]
+fn asks_for_room_first(rt: HostRuntime) -> Result<(), Fail> {
+    let mut log = log_of(&rt, rt.alloc(), THREE, 0)?;
+    let breaks = breaks_at(&rt, &[0x10004]);
+    assert_eq!(rt;
+        go_on(&rt, &mut log, &breaks, 4_294_967_295),
+        Err(LogRefusal::Full)
+    );
+    assert_eq!(rt;
+        go_on(&rt, &mut log, &breaks, 4_194_303),
+        Err(LogRefusal::Full)
+    );
+    assert_eq!(rt; log.steps().len(), 0);
+    assert_eq!(rt; go_on(&rt, &mut log, &breaks, 4_194_302), Ok(()));
+    assert_eq!(rt; log.machine().pc(0), Some(0x10004));
+    // With one step there is room for 4,194,303 more, two of them for the drain.
+    assert_eq!(rt;
+        go_on(&rt, &mut log, &breaks, 4_194_302),
+        Err(LogRefusal::Full)
+    );
+    assert_eq!(rt; log.steps().len(), 1);
+    assert_eq!(rt; go_on(&rt, &mut log, &breaks, 4_194_301), Ok(()));
+    assert_eq!(rt; log.steps().len(), 3);
+    Ok(())
+}
