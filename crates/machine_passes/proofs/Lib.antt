@@ -1,0 +1,6 @@
+pub mod Lists
+pub mod Rising
+pub mod Listing
+pub mod Totals
+pub mod Fitting
+pub mod Crosses

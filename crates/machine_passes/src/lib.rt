@@ -1,0 +1,23 @@
+//! A logged machine under one lock, which threads share, and a pass for each processor's thread.
+//!
+//! Who holds the pass of a processor takes its turns, and asks for steps of the network. The pass stores what its calls were
+//! told: the processor's retirements and its stop, each with its place in the log, how many steps the calls have entered, and
+//! the last answer. Once all passes are back ([`Shared::gather`]) these agree with the log, entry for entry: `specs/Rows.antt`
+//! says how.
+#![tactic(auto)]
+
+mod desk;
+mod kinds;
+mod laws;
+mod pass;
+mod row;
+mod run;
+mod shared;
+mod stored;
+
+pub use desk::Desk;
+pub use laws::{events_are_listed, lists_are_joined, places_rise};
+pub use pass::Pass;
+pub use row::{Answer, Notice, Row};
+pub use run::Run;
+pub use shared::Shared;

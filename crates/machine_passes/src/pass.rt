@@ -1,0 +1,59 @@
+//! What one processor's thread holds.
+
+ghost use Rattle.std.specs.Prelude.{◌≡◌};
+
+use crate::row::{Answer, Notice, Row};
+use crate::run::Run;
+use crate::stored::Stored;
+use agreed_rows::Claim;
+use std::marker::Model;
+
+/// The pass of one processor: its retirements and its stop, how many steps the calls with it have entered, and their last
+/// answer. Contracts see it as the processor's number and that row, which is the row that is known under the lock.
+#[derive(Drop)]
+pub struct Pass<N: Run> {
+    pub(crate) processor: u8,
+    pub(crate) stored: Stored,
+    pub(crate) claim: Claim<Row, N>,
+}
+
+impl<N: Run> Model for Pass<N> {
+    ghost use Rattle.std.specs.Prelude.{◌≡◌, [], ◌∷◌};
+    ghost use Rattle.machine_passes.specs.Passes.{Held, held, row_of};
+
+    ghost Value = { Held };
+
+    ghost view = { λ p. held p.processor (row_of p.stored) };
+
+    ghost invariant = { λ p. p.claim ≡ (p.processor, row_of p.stored) ∷ [] };
+}
+
+impl<N: Run> Pass<N> {
+    /// The number of its processor.
+    pub fn processor(&self) -> u8
+        ensures { result ≡ self.now.processor }
+    {
+        self.processor
+    }
+
+    /// The processor's retirements and its stop, in order, each with its place in the log.
+    pub fn notices(&self) -> &[Notice]
+        ensures { result.now ≡ self.now.row.notices }
+    {
+        self.stored.notices.as_slice()
+    }
+
+    /// How many steps the calls with this pass have entered.
+    pub fn steps(&self) -> u32
+        ensures { result ≡ self.now.row.steps }
+    {
+        self.stored.steps
+    }
+
+    /// The last answer to a call with this pass. None before the first; a refusal is no answer.
+    pub fn last(&self) -> Option<Answer>
+        ensures { result ≡ self.now.row.last }
+    {
+        self.stored.last
+    }
+}

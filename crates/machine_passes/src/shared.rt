@@ -1,0 +1,120 @@
+//! The lock, and the calls of threads.
+
+ghost use Rattle.std.specs.Prelude.{◌≡◌, ◌≤◌, ◌^◌, ◌↔◌, length, false, Err, IfOk, IfErr, OnErr};
+ghost use Rattle.machine_passes.specs.Lists.{is_net};
+ghost use Rattle.machine_passes.specs.Rows.{Fits};
+ghost use Rattle.machine_passes.specs.Passes.{IsTold, IsWhole, TotalsAgree, new_passes, rows_of};
+
+use crate::desk::Desk;
+use crate::pass::Pass;
+use crate::row::Row;
+use crate::run::Run;
+use crate::stored::Stored;
+use agreed_rows::{Keeper, Room};
+use machine_log::{LogRefusal, Logged};
+use std::alloc::Global;
+use std::marker::Brand;
+use std::sync::{Mutex, Wait};
+use steps::{Outcome, Step};
+
+/// A logged machine that threads share. A call waits for the lock, and then takes one step.
+#[derive(Drop)]
+pub struct Shared<N: Run> {
+    desk: Mutex<Desk<N>>,
+}
+
+impl<N: Run> Shared<N> {
+    /// Puts a logged machine under a lock, with a pass for each processor, in order. The room is for the table of rows, which
+    /// proofs speak of.
+    ///
+    /// # Errors
+    ///
+    /// [`LogRefusal::Memory`] where there is no memory for the passes; the logged machine is handed back as it was.
+    pub fn new(
+        alloc: Global,
+        room: Room<Row>,
+        logged: Logged,
+    ) -> Result<(Shared<N>, Vec<Pass<N>>), (Logged, LogRefusal)>
+        requires room { room ≡ N.table }
+        requires opening { logged.opening ≡ N.opening }
+        requires first { logged.steps ≡ N.first }
+        requires count { N.count ≡ 2 ^ N.opening.config.k }
+        ensures passes { IfOk result (λ r. r.1.items ≡ new_passes N.count) }
+        ensures whole { IfOk result (λ r. IsWhole N.count r.1.items) }
+        ensures err { IfErr result (λ e. (e.0 ≡ logged) × (e.1 ≡ LogRefusal.Memory)) }
+    {
+        let count = logged.machine().config().processors();
+        let mut keeper: Keeper<Row, N> = Keeper::open(room);
+        let mut passes = Vec::new(alloc);
+        if passes.reserve(count as usize).is_err() {
+            return Err((logged, LogRefusal::Memory));
+        }
+        for p in 0..count {
+            let claim = keeper.hire::<Brand>();
+            passes.push_reserved(Pass {
+                processor: p,
+                stored: Stored {
+                    notices: Vec::new(alloc),
+                    steps: 0,
+                    last: None,
+                },
+                claim,
+            });
+        }
+        let desk = Mutex::new(Desk { logged, keeper });
+        Ok((Shared { desk }, passes))
+    }
+
+    /// Takes one turn of the pass's processor, and enters it in the log unless it stalled. The answer is told to the pass.
+    ///
+    /// # Errors
+    ///
+    /// [`LogRefusal::Full`] where the log has [`steps::MAX_STEPS`] steps, else [`LogRefusal::Memory`] where there is no memory
+    /// for a place in the pass or in the log. Each leaves all as it was.
+    pub fn turn<R: Wait>(&self, rt: &R, pass: &mut Pass<N>) -> Result<Outcome, LogRefusal>
+        ensures told { IfOk result (λ o. IsTold (length N.first) pass.old (Step.Turn pass.old.processor) o pass.new) }
+        ensures named { result ≡ Err LogRefusal.Unnamed → ⊥ }
+        ensures err { OnErr result (pass.new ≡ pass.old) }
+        ensures processor { pass.new.processor ≡ pass.old.processor }
+    {
+        self.desk.lock(rt).turn(pass)
+    }
+
+    /// Takes one move of the network, or one service by a module, and enters it in the log unless it stalled. The answer is
+    /// told to the pass.
+    ///
+    /// # Errors
+    ///
+    /// [`LogRefusal::Unnamed`] where the step is a turn or a poke, or the machine has not each place that it names, else
+    /// [`LogRefusal::Full`] where the log has [`steps::MAX_STEPS`] steps, else [`LogRefusal::Memory`] where there is no memory
+    /// for a place in the log. Each leaves all as it was.
+    pub fn net<R: Wait>(
+        &self,
+        rt: &R,
+        pass: &mut Pass<N>,
+        step: Step,
+    ) -> Result<Outcome, LogRefusal>
+        ensures told { IfOk result (λ o. IsTold (length N.first) pass.old step o pass.new) }
+        ensures unnamed { (result ≡ Err LogRefusal.Unnamed) ↔ (is_net N.opening.config step ≡ false) }
+        ensures err { OnErr result (pass.new ≡ pass.old) }
+        ensures processor { pass.new.processor ≡ pass.old.processor }
+    {
+        self.desk.lock(rt).net(pass, step)
+    }
+
+    /// The logged machine, once all passes are back, in their order.
+    pub fn gather(self, mut passes: Vec<Pass<N>>) -> (Logged, Vec<Pass<N>>)
+        requires { IsWhole N.count passes.items }
+        ensures passes { result.1.items ≡ passes.items }
+        ensures opening { result.0.opening ≡ N.opening }
+        ensures fits { Fits N.opening N.first N.count result.0.steps (rows_of passes.items) }
+        ensures totals { TotalsAgree N.opening N.first result.0.steps passes.items }
+    {
+        let Shared { desk } = self;
+        let mut desk = desk.into_inner();
+        for pass in passes.iter_mut() {
+            desk.meet(pass);
+        }
+        (desk.into_logged(), passes)
+    }
+}
