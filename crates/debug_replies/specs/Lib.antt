@@ -1,3 +1,4 @@
 pub mod Breaking
 pub mod Errors
 pub mod Texts
+pub mod Stops

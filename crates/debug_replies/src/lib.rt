@@ -6,9 +6,11 @@ mod digits;
 mod error;
 mod reading;
 mod showing;
+mod stopping;
 #[cfg(test)]
 mod tests;
 
 pub use breaks::Breaks;
 pub use error::{Error, error_of};
 pub use showing::show;
+pub use stopping::show_stop;

@@ -4,6 +4,7 @@
 mod breaking;
 mod errors;
 mod replies;
+mod stops;
 
 use elf_image::{Bytes, Image, Layout, read_image, write_image};
 use flat_machine::{CODE_START, Config, Poke, SHARED_START};
@@ -14,8 +15,8 @@ use std::process::Abort;
 use std::test::Fail;
 use steps::{Outcome, Step};
 
-/// A machine of two processors with two shared words. Code is `ebreak` and one byte, local memory begins with two
-/// bytes, shared memory with `2A 00 00 80`.
+/// A machine of two processors with two shared words. Code is `ebreak`, one byte and, at its third word, `ecall`;
+/// local memory begins with two bytes, shared memory with `2A 00 00 80`.
 fn two(rt: &(impl Abort + AllocGlobal)) -> Result<Machine, Fail> {
     let config = Config {
         k: 1,
@@ -31,7 +32,7 @@ fn two(rt: &(impl Abort + AllocGlobal)) -> Result<Machine, Fail> {
     };
     layout
         .code
-        .extend_from_slice(&[0x73, 0x00, 0x10, 0x00, 0xC7])?;
+        .extend_from_slice(&[0x73, 0x00, 0x10, 0x00, 0xC7, 0, 0, 0, 0x73])?;
     layout.local.extend_from_slice(&[0x01, 0xF0])?;
     layout.shared.extend_from_slice(&[0x2A, 0x00, 0x00, 0x80])?;
     assert!(rt; layout.code.len() <= 0x0001_0000);

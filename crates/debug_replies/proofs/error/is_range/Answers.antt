@@ -1,4 +1,4 @@
-use Rattle.std.proofs.Common.{◌≡◌, ◌+◌, ◌≤◌, ◌∙◌, arith, sym, refl, nat_le, true}
+use Rattle.std.proofs.Common.{◌≡◌, ◌+◌, ◌∙◌, arith, sym, refl, nat_le, true}
 use Rattle.std.proofs.lemmas.Bool.{le-leb}
 use Rattle.machine.specs.Openings.{flat_state}
 use Rattle.debug_replies.proofs.Ranges.{one_is_not}
@@ -10,7 +10,7 @@ unfolding is_range
 returns-then-not-is_reached c =
     let below : nat_le (c.args.address + c.args.count) 4294967296 ≡ true = le-leb _ _ (omega (arith, c.if-from.false, c.from.ensures, c.from-2.ensures)) in
     let none = one_is_not (flat_state c.args.machine.now) c.args.writes c.args.address c.loop-i.i c.args.count c.loop-i-test.true
-        (sym c.is_reached.ensures ∙ c.if-not-is_reached.true) in
+    (sym c.is_reached.ensures ∙ c.if-not-is_reached.true) in
     rw (below, none) refl
 
 pub returns : goal.returns

@@ -1,0 +1,94 @@
+//! Stop replies.
+
+ghost use Rattle.std.specs.Prelude.{◌≡◌, ◌≤◌, ◌<◌, ◌++◌, false, length};
+ghost use Rattle.std.specs.Fmt.{digit_glyph, digits};
+ghost use Rattle.arrayvec.specs.ArrayVec.{array_vec_len};
+ghost use Rattle.machine.specs.Openings.{flat_state};
+ghost use Rattle.debug_replies.specs.Stops.{are_halted, is_halted, is_halted_at, name_text, stop_text};
+
+use crate::digits::push;
+use crate::reading::{processors, status};
+use arrayvec::ArrayVec;
+use flat_machine::Status;
+use machine::Machine;
+
+/// Puts a stop reply into the text, in place of what it had: `halted` where all processors are halted, else `at` with
+/// the processor that is named, in hex without leading zeros, or with `-`.
+#[tactic(auto, unfolding(crate::specs::Stops::stop_text))]
+pub fn show_stop(machine: &Machine, named: Option<u8>, text: &mut ArrayVec<u8, 1024>)
+    ensures { text.new.items ≡ stop_text (flat_state machine.now) named }
+{
+    text.clear();
+    if are_all_halted(machine) {
+        push(text, b"halted");
+    } else {
+        push(text, b"at ");
+        push_name(text, named);
+    }
+}
+
+/// Appends the number of a processor, or `-` for none.
+#[tactic(auto, unfolding(crate::specs::Stops::name_text))]
+fn push_name(text: &mut ArrayVec<u8, 1024>, named: Option<u8>)
+    requires { array_vec_len text.old ≤ 1000 }
+    ensures { text.new.items ≡ text.old.items ++ name_text named }
+{
+    match named {
+        None => push(text, b"-"),
+        Some(processor) => push_number(text, processor),
+    }
+}
+
+/// Appends a number in hex without leading zeros.
+#[tactic(auto, using(std::proofs::lemmas::Fmt::hex_one_digit, std::proofs::lemmas::Fmt::hex_two_digits))]
+fn push_number(text: &mut ArrayVec<u8, 1024>, number: u8)
+    requires { array_vec_len text.old ≤ 1000 }
+    ensures { text.new.items ≡ text.old.items ++ digits 16 false number }
+{
+    if number < 16 {
+        push(text, &[digit(number)]);
+    } else {
+        push(text, &[digit(number / 16), digit(number % 16)]);
+    }
+}
+
+/// A digit in lower case.
+fn digit(value: u8) -> u8
+    requires { value < 16 }
+    ensures { result ≡ digit_glyph false value }
+{
+    if value < 10 {
+        b'0' + value
+    } else {
+        b'a' + (value - 10)
+    }
+}
+
+/// Whether all processors are halted.
+fn are_all_halted(machine: &Machine) -> bool
+    ensures { result ≡ are_halted (flat_state machine.now) (length (flat_state machine.now).processors) }
+{
+    for processor in 0..processors(machine) {
+        if !is_halted(machine, processor) {
+            return false;
+        }
+    }
+    true
+}
+
+/// Whether a processor is there and halted.
+fn is_halted(machine: &Machine, processor: u32) -> bool
+    ensures { result ≡ is_halted_at (flat_state machine.now) processor }
+{
+    match status(machine, processor) {
+        Some(status) => has_halted(status),
+        None => false,
+    }
+}
+
+/// Whether a status is that of a processor that is halted.
+fn has_halted(status: Status) -> bool
+    ensures { result ≡ is_halted status }
+{
+    matches!(status, Status::Halted(_))
+}

@@ -1,0 +1,73 @@
+//! Stop replies.
+
+use super::{poke, two};
+use crate::show_stop;
+use arrayvec::ArrayVec;
+use flat_machine::{PC, Poke};
+use machine::Machine;
+use std::test::Fail;
+use steps::{Outcome, Step};
+
+/// A stop reply, in place of what the text had.
+fn stop(machine: &Machine, named: Option<u8>) -> ArrayVec<u8, 1024> {
+    let mut text = ArrayVec::new();
+    let _ = text.try_extend_from_slice(b"before");
+    show_stop(machine, named, &mut text);
+    text
+}
+
+/// Numbers are in hex without leading zeros.
+#[test]
+fn names(rt: HostRuntime) -> Result<(), Fail> {
+    let machine = two(&rt)?;
+    for (named, expected) in [
+        (None, "at -"),
+        (Some(0), "at 0"),
+        (Some(9), "at 9"),
+        (Some(10), "at a"),
+        (Some(15), "at f"),
+        (Some(16), "at 10"),
+        (Some(31), "at 1f"),
+        (Some(63), "at 3f"),
+    ] {
+        assert_eq!(rt;
+            stop(&machine, named).as_slice(),
+            expected.as_bytes(),
+            "{named:?}"
+        );
+    }
+    Ok(())
+}
+
+/// `halted` is told once all processors are: the word at 0x00010008 is an `ecall`, which halts where `a7` is 0. A
+/// processor that a fault has stopped is not halted.
+#[test]
+fn halts(rt: HostRuntime) -> Result<(), Fail> {
+    let mut machine = two(&rt)?;
+    for (processor, expected) in [(1, b"at 1".as_slice()), (0, b"halted".as_slice())] {
+        let at = Poke::Register {
+            processor,
+            register: PC,
+            value: 0x0001_0008,
+        };
+        poke(&rt, &mut machine, at);
+        assert!(rt;
+            matches!(
+                machine.apply(Step::Turn(processor)),
+                Outcome::Stopped { .. }
+            )
+        );
+        assert_eq!(rt; stop(&machine, Some(1)).as_slice(), expected, "{processor}");
+    }
+    let mut machine = two(&rt)?;
+    for processor in [0, 1] {
+        assert!(rt;
+            matches!(
+                machine.apply(Step::Turn(processor)),
+                Outcome::Stopped { .. }
+            )
+        );
+        assert_eq!(rt; stop(&machine, None).as_slice(), b"at -".as_slice());
+    }
+    Ok(())
+}
