@@ -13,13 +13,13 @@ use Rattle.messages.specs.declared.moves.UpMove.TheVariants as up
 use Rattle.messages.specs.declared.moves.DownMove.TheVariants as down
 use Rattle.messages.specs.Moves.{queued, accepted, up_from, moved_up, push_all, has_room, answered, down_from, moved_down}
 use Rattle.omega_wires.specs.Wires.{wire_after, wire_before}
-use Rattle.omega_wires.proofs.Paths.{path_zero, path_lt}
+use Rattle.omega_wires.proofs.Lemmas.{path_lt, path_zero}
 use Rattle.placement.specs.Roles.{Role, Idle, Asking, Waiting, Told, depth}
 use Rattle.abstract_machine.specs.Program.{Program, word_of, path_of}
 use Rattle.abstract_machine.specs.Machine.{Machine, Step, Turn, Up, Serve, Down, Outcome, Issued, Advanced, Retired, Moved, Combined, Served, Answered, Poked, Stalled, stalled, retire_from, turned, went_up, went_down, serve_from, step}
 use Rattle.abstract_machine.specs.Steadiness.{Stands, Steady, Distance, asks, tells, waits, Far, idle, asking, told, waiting, total, Lower, Advances}
 use Rattle.abstract_machine.specs.Draining.{least, greatest, is_any, some_wire, first_wire, or_else, down_step, up_step, drain_step, AreDistances, DrainIs}
-use Rattle.messages.proofs.Places.{put2_other, at_put2}
+use Rattle.messages.proofs.Lemmas.{at_put2, put2_other}
 use Rattle.abstract_machine.proofs.Steadying.{goes_step}
 use Rattle.abstract_machine.proofs.Distances.{far_unique, far_distance, total_lt, total_bound}
 use Rattle.abstract_machine.proofs.Least.{LeastIs, GreatestIs, least_is, greatest_is}

@@ -4,3 +4,4 @@ pub mod Distances
 pub mod Steadying
 pub mod Draining
 pub mod Drained
+pub mod Lemmas

@@ -10,7 +10,7 @@ use Rattle.messages.specs.Network.{Net, put_requests, put_records, put_replies}
 use Rattle.messages.specs.Moves.{push_all}
 use Rattle.placement.specs.Roles.{Role, Idle, Asking, Waiting, Told}
 use Rattle.abstract_machine.specs.Steadiness.{Stands}
-use Rattle.messages.proofs.Places.{put2_same, at_put2, In-append, In-append_left, In-append_right}
+use Rattle.messages.proofs.Lemmas.{In-append, In-append_left, In-append_right, at_put2, put2_same}
 
 -- into a place after a put
 pub into_put2 : {X : Type 0} (f : ℕ → ℕ → List X) (d w : ℕ) (xs : List X) (d' w' : ℕ) (y : X) → (In y (f d w) → In y xs) → In y (f d' w')

@@ -6,7 +6,7 @@ use Rattle.std.proofs.lemmas.List.Elements.{All-head, All-set, All-tail}
 use Rattle.std.proofs.lemmas.Option.{slice_get_within}
 use Rattle.rv_table.specs.Rows.{InRange, insn_of}
 use Rattle.rv_table.specs.declared.insn.Insn.{Insn}
-use Rattle.rv_table.proofs.Reading.{read_fits}
+use Rattle.rv_table.proofs.Lemmas.{read_fits}
 use Rattle.flat_machine.specs.declared.effect.Effect.{Effect}
 use Rattle.flat_machine.specs.declared.effect.Effect.TheVariants as does
 use Rattle.flat_machine.specs.declared.effect.Region.{Region}

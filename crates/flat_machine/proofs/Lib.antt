@@ -6,3 +6,4 @@ pub mod Products
 pub mod Quotients
 pub mod Accesses
 pub mod InRange
+pub mod Lemmas

@@ -10,7 +10,7 @@ use Rattle.messages.specs.declared.moves.DownMove.{DownMove}
 use Rattle.messages.specs.Queues.{Combination, answers, combination, records_but, records_of}
 use Rattle.messages.specs.Network.{Net, Sizes, put_records, put_replies, put_requests, wires}
 use Rattle.messages.specs.Moves.{accepted, answer, down_from, has_room, moved_down, moved_up, push_all, up_from}
-use Rattle.messages.proofs.Places.{put2_other}
+use Rattle.messages.proofs.Lemmas.{put2_other}
 
 -- what holds of both holds of either
 either : {X : Type 0} (P : X → Type 0) (b : Bool) (x y : X) → P x → P y → P (if b then x else y)

@@ -8,7 +8,7 @@ use Rattle.messages.specs.declared.message.Reply.{Reply}
 use Rattle.messages.specs.Network.{IsEmptyNet, Net, Sizes}
 use Rattle.messages.specs.Moves.{injected, module_replied, module_taken, moved_down, moved_up, port_taken}
 use Rattle.omega_network.specs.Networks.{NetworkLists, net_of, sizes_of}
-use Rattle.messages.proofs.Places.{put2_other}
+use Rattle.messages.proofs.Lemmas.{put2_other}
 use Rattle.wire_sets.specs.Members.{members}
 use Rattle.indexed_network.specs.Index.{IsIndexed, IsLookedAt, Knows}
 use Rattle.indexed_network.proofs.Elsewhere.{down_elsewhere, down_requests, input_is, up_elsewhere, up_replies}

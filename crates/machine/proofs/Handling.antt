@@ -11,7 +11,7 @@ use Rattle.flat_machine.specs.Laws.{HasWords}
 use Rattle.flat_machine.specs.Flat.{is_lawful_register, with_poked_register, with_poked_byte}
 use Rattle.flat_machine.specs.Memory.{in_local, in_shared}
 use Rattle.flat_machine.specs.Words.{with_part}
-use Rattle.flat_machine.proofs.InRange.{register_words, byte_words}
+use Rattle.flat_machine.proofs.Lemmas.{byte_words, register_words}
 use Rattle.phi_algebra.specs.declared.phi.Phi.{Phi}
 use Rattle.hart.specs.Deciding.{IsReference}
 use Rattle.phi_algebra.specs.Functions.{apply}
@@ -30,13 +30,10 @@ use Rattle.steps.specs.declared.step.Outcome.{Outcome}
 use Rattle.steps.specs.declared.step.Outcome.TheVariants.{Stalled, Served, Poked}
 use Rattle.machine_program.specs.Processors.{sizes_of, no_port, port_at, word_at, is_lawful_poke}
 use Rattle.machine_program.specs.Steps.{IsStepOf}
-use Rattle.machine_program.proofs.Reading.{found_within}
+use Rattle.machine_program.proofs.Lemmas.{at_its_module, begins, byte_poked, finishes, found_within, goes_down, goes_up, no_module, no_place, no_request}
+use Rattle.machine_program.proofs.Lemmas.{no_stage_down, no_stage_up, no_wire_down, no_wire_up, not_idle, refers, register_poked, rests, serves, slot_free}
+use Rattle.machine_program.proofs.Lemmas.{unlawful, unnamed, word_poked, word_there}
 use Rattle.machine_program.specs.Turning.{IsBegun, IsFinishedBy, told_of_up, told_of_down}
-use Rattle.machine_program.proofs.TurnSteps.{unnamed, rests, begins, finishes}
-use Rattle.machine_program.proofs.MoveSteps.{goes_up, no_stage_up, no_wire_up, goes_down, no_stage_down, no_wire_down}
-use Rattle.machine_program.proofs.ServeSteps.{no_module, no_request, no_place, serves}
-use Rattle.machine_program.proofs.PokeSteps.{not_idle, unlawful, register_poked, byte_poked, word_poked}
-use Rattle.machine_program.proofs.Standing.{refers, slot_free, at_its_module, word_there}
 use Rattle.machine.specs.Machines.{MachineLists, ArePorts, AreModules, IsIdle, IsMachine, IsStep}
 use Rattle.machine.specs.Serving.{IsKept, IsExecuted}
 use Rattle.machine.proofs.Keeping.{parts_kept, begun_kept, finished_kept, ports_set, modules_set, module_there, place_there}

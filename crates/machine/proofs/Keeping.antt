@@ -10,22 +10,21 @@ use Rattle.flat_machine.specs.State.{Processor}
 use Rattle.flat_machine.specs.Turns.{Turn, Retires, Reaches, Stops, turn_of}
 use Rattle.flat_machine.specs.Laws.{HasWords, AreBelow, LeavesWords}
 use Rattle.flat_machine.specs.Limits.{IsWithinLimits}
-use Rattle.flat_machine.proofs.InRange.{turn_words}
+use Rattle.flat_machine.proofs.Lemmas.{turn_words}
 use Rattle.elf_image.specs.Images.{ImageContents}
 use Rattle.hart.specs.Deciding.{after_reply}
 use Rattle.machine_ports.specs.Ports.{PortState, begun, turn}
 use Rattle.messages.specs.Places.{put}
-use Rattle.messages.proofs.Places.{put_same, put_other}
+use Rattle.messages.proofs.Lemmas.{put_other, put_same}
 use Rattle.omega_network.specs.Networks.{NetworkLists, net_of}
 use Rattle.omega_network.specs.Networks as network
 use Rattle.steps.specs.declared.step.Step.{Step}
 use Rattle.steps.specs.declared.step.Outcome.{Outcome}
 use Rattle.machine_opening.specs.Openings.{places_of}
-use Rattle.machine_opening.proofs.Opening.{quotient_small}
+use Rattle.machine_opening.proofs.Lemmas.{quotient_small}
 use Rattle.machine_program.specs.Processors.{setting_of, port_at, no_port, word_at}
 use Rattle.machine_program.specs.Steps.{IsStepOf, with_shown}
-use Rattle.machine_program.proofs.ServeSteps.{words_set}
-use Rattle.machine_program.proofs.Standing.{retold, stays_steady}
+use Rattle.machine_program.proofs.Lemmas.{retold, stays_steady, words_set}
 use Rattle.machine.specs.Machines.{MachineLists, ArePorts, AreModules, IsMachine}
 
 -- ---- a port changes

@@ -6,3 +6,4 @@ pub mod Opening
 pub mod Stalling
 mod Poking
 mod Seeing
+pub mod Lemmas

@@ -9,7 +9,7 @@ use Rattle.flat_machine.specs.declared.config.Config.{Config}
 use Rattle.flat_machine.specs.Laws.{HasWords, AreBelow}
 use Rattle.flat_machine.specs.Limits.{IsWithinLimits}
 use Rattle.flat_machine.specs.Memory.{number_at}
-use Rattle.flat_machine.proofs.Accesses.{number_small}
+use Rattle.flat_machine.proofs.Lemmas.{number_small}
 use Rattle.local_memory.specs.Accesses.{padded, region_of_bytes}
 use Rattle.elf_image.specs.declared.layout.Layout.{Layout}
 use Rattle.elf_image.specs.Images.{ImageContents, IsPlaced}
@@ -20,9 +20,9 @@ use Rattle.omega_network.specs.Networks as network
 use Rattle.placement.specs.Roles.{Idle}
 use Rattle.machine_program.specs.Theory as theory
 use Rattle.abstract_machine.specs.Steadiness.{Steady}
-use Rattle.abstract_machine.proofs.Steadying.{steady_start}
+use Rattle.abstract_machine.proofs.Lemmas.{steady_start}
 use Rattle.machine_opening.specs.Openings.{opening_port, opening_ports, opening_word, opening_module, opening_modules, places_of}
-use Rattle.machine_opening.proofs.Opening.{the_opening}
+use Rattle.machine_opening.proofs.Lemmas.{the_opening}
 use Rattle.machine_program.specs.Processors.{Told, sizes_of, program, no_port, port_at, told_at, open_at, word_at}
 use Rattle.machine_program.specs.Steps.{machine_of_parts}
 use Rattle.machine.specs.Machines.{ArePorts, AreModules, IsMachine}

@@ -15,8 +15,7 @@ use Rattle.steps.specs.declared.step.Outcome.TheVariants.{Poked, Stalled}
 use Rattle.machine_program.specs.Processors.{Told, next, program, open_at, is_lawful_poke, poked_words, poked_processors}
 use Rattle.machine_program.specs.FlatSizes.{HasSize}
 use Rattle.machine_program.specs.Steps.{taken, answer_of, outcome_of, after, machine_of_parts}
-use Rattle.machine_program.proofs.PokeSteps.{shut_all}
-use Rattle.machine_program.proofs.FlatPokes.{parts_of, lawful_same, written_agrees, size_written}
+use Rattle.machine_program.proofs.Lemmas.{lawful_same, parts_of, shut_all, size_written, written_agrees}
 use Rattle.machine.specs.Machines.{MachineLists, machine_of, IsIdle, IsMachine, IsStep}
 use Rattle.machine.specs.Openings.{flat_state}
 use Rattle.machine.specs.Poking.{IsPoked}

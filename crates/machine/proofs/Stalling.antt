@@ -25,7 +25,7 @@ use Rattle.steps.specs.declared.step.Outcome.{Outcome}
 use Rattle.steps.specs.declared.step.Outcome.TheVariants.{Stalled}
 use Rattle.machine_program.specs.Processors.{Told, sizes_of, kind_of, next, program, is_lawful_poke}
 use Rattle.machine_program.specs.Steps.{taken, answer_of, told_of_turn, told_of_reply, outcome_of, after, with_shown, machine_of_parts}
-use Rattle.machine_program.proofs.TurnKinds.{reaches_of, runs_by}
+use Rattle.machine_program.proofs.Lemmas.{reaches_of, runs_by}
 use Rattle.machine.specs.Machines.{MachineLists, machine_of, IsMachine, IsStep}
 
 -- what a step answers that stalls

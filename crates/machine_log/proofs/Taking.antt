@@ -19,8 +19,8 @@ use Rattle.machine_program.specs.Processors.{is_lawful_poke}
 use Rattle.machine_runs.specs.Runs.{flat_state, IsReplay}
 use Rattle.machine_runs.specs.Draining.{drain_step, GoesOn, drain_bound, drain_steps, IsDrained}
 use Rattle.machine_runs.specs.Whole.{steps_from, one_steps, IsOne, IsPoked, IsSent}
-use Rattle.machine_runs.proofs.Replaying.{stalled_is, replay_begins, replay_more, replay_kept}
-use Rattle.machine_runs.proofs.Whole.{IsGoingHome, home_begins, home_goes_on, home_now, home_in_time, steps_back}
+use Rattle.machine_runs.proofs.Lemmas.{IsGoingHome, home_begins, home_goes_on, home_in_time, home_now, replay_begins, replay_kept, replay_more, stalled_is}
+use Rattle.machine_runs.proofs.Lemmas.{steps_back}
 use Rattle.machine_log.specs.Logs.{Log, entered, IsKept, IsEntered, ArePoked, places_of}
 
 -- ---- stalls

@@ -7,3 +7,4 @@ pub mod ServeSteps
 pub mod PokeSteps
 pub mod FlatPokes
 pub mod Standing
+pub mod Lemmas

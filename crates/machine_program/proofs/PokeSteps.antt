@@ -13,7 +13,7 @@ use Rattle.machine_ports.specs.Ports.{PortState, with_state}
 use Rattle.messages.specs.Places.{put}
 use Rattle.messages.specs.Network.{Net}
 use Rattle.abstract_machine.specs.Machine.{Machine, poked, all_shut}
-use Rattle.abstract_machine.proofs.Steadying.{all_shut_is}
+use Rattle.abstract_machine.proofs.Lemmas.{all_shut_is}
 use Rattle.steps.specs.declared.step.Step.TheVariants as step
 use Rattle.steps.specs.declared.step.Outcome.TheVariants.{Poked, Stalled}
 use Rattle.machine_program.specs.Theory.{Result, stalled}

@@ -6,7 +6,7 @@ use mathlib.Core.Path.{fun_ext}
 use Rattle.flat_machine.specs.declared.event.Event.{Event}
 use Rattle.machine_ports.specs.Ports.{PortState}
 use Rattle.messages.specs.Places.{put}
-use Rattle.messages.proofs.Places.{put_same, put_other}
+use Rattle.messages.proofs.Lemmas.{put_other, put_same}
 use Rattle.machine_program.specs.Processors.{Told, port_at, told_at, open_at, no_port}
 
 -- what is written where it stood already

@@ -12,7 +12,7 @@ use Rattle.machine_ports.specs.Ports.{PortState}
 use Rattle.messages.specs.declared.message.Request.{Request}
 use Rattle.messages.specs.declared.message.Reply.{Reply}
 use Rattle.messages.specs.Places.{put}
-use Rattle.messages.proofs.Places.{put_same, put_other}
+use Rattle.messages.proofs.Lemmas.{put_other, put_same}
 use Rattle.messages.specs.Queues.{applied}
 use Rattle.messages.specs.Network.{Net}
 use Rattle.messages.specs.Moves.{module_taken, module_replied}

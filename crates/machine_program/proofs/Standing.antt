@@ -7,9 +7,9 @@ use Rattle.flat_machine.specs.State.{is_running}
 use Rattle.flat_machine.specs.Turns.{Turn, turn_of}
 use Rattle.flat_machine.specs.Laws.{HasWords}
 use Rattle.hart.specs.Deciding.{IsReference}
-use Rattle.omega_wires.proofs.Paths.{path_zero, path_end}
+use Rattle.omega_wires.proofs.Lemmas.{path_end, path_zero}
 use Rattle.machine_ports.specs.Ports.{PortState, turn}
-use Rattle.machine_ports.proofs.References.{reference_means}
+use Rattle.machine_ports.proofs.Lemmas.{reference_means}
 use Rattle.messages.specs.declared.message.Request.{Request}
 use Rattle.messages.specs.Places.{In}
 use Rattle.messages.specs.Network.{Net}
@@ -17,7 +17,7 @@ use Rattle.placement.specs.Roles.{Role, Idle, Asking}
 use Rattle.abstract_machine.specs.Program.{Refers}
 use Rattle.abstract_machine.specs.Machine.{Machine}
 use Rattle.abstract_machine.specs.Steadiness.{Steady}
-use Rattle.abstract_machine.proofs.Steadying.{goes_step}
+use Rattle.abstract_machine.proofs.Lemmas.{goes_step}
 use Rattle.steps.specs.declared.step.Step.{Step}
 use Rattle.steps.specs.declared.step.Outcome.{Outcome}
 use Rattle.machine_program.specs.Theory.{Result}

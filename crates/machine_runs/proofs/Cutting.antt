@@ -30,7 +30,7 @@ use Rattle.machine_program.specs.Steps.{taken, outcome_of, after, machine_of_par
 use Rattle.machine.specs.Machines.{MachineLists, machine_of}
 use Rattle.machine_runs.specs.Runs.{all_after, events_of, NoneStalls, IsRun, IsReplay}
 use Rattle.machine_runs.proofs.Replaying.{outcome_same}
-use Rattle.machine.proofs.Stalling.{retell, retold}
+use Rattle.machine.proofs.Lemmas.{retell, retold}
 
 abbrev none : ℕ → List Event
 none p = []

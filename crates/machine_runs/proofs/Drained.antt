@@ -8,8 +8,7 @@ use Rattle.abstract_machine.specs.Machine.{Turn, Serve}
 use Rattle.abstract_machine.specs.Steadiness.{total}
 use Rattle.abstract_machine.specs.Draining.{first_wire, or_else, down_step, up_step, AreDistances, DrainIs}
 use Rattle.abstract_machine.specs.Draining as draining
-use Rattle.abstract_machine.proofs.Draining.{drain_is, bound as distances_bound, distances_are}
-use Rattle.abstract_machine.proofs.Drained.{idle_names_none, drained, drain_is_short, steady_after}
+use Rattle.abstract_machine.proofs.Lemmas.{bound as distances_bound, distances_are, drain_is, drain_is_short, drained, idle_names_none, steady_after}
 use Rattle.steps.specs.declared.step.Step.{Step}
 use Rattle.steps.specs.declared.step.Outcome.{Outcome}
 use Rattle.machine_program.specs.Processors.{Told, sizes_of, program}
@@ -18,7 +17,7 @@ use Rattle.machine.specs.Machines.{MachineLists, machine_of, IsIdle, IsMachine, 
 use Rattle.machine_runs.specs.Runs.{all_after, events_of, IsRun}
 use Rattle.machine_runs.specs.Draining.{step_of, some_step, step_in, network_step, drain_step, GoesOn, drain_bound, first_steps, drain_steps, IsDrained}
 use Rattle.machine_runs.proofs.Running.{all_after_more, run_begins, run_more}
-use Rattle.machine.proofs.Stalling.{keeps}
+use Rattle.machine.proofs.Lemmas.{keeps}
 
 -- ---- the next step
 

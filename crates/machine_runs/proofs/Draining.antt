@@ -6,10 +6,10 @@ use Rattle.wire_sets.specs.Members.{HasNoneIn, IsFirst, members}
 use Rattle.messages.specs.Network.{Sizes, Net, wires}
 use Rattle.abstract_machine.specs.Machine.{Up, Down}
 use Rattle.abstract_machine.specs.Draining.{least, greatest, is_any, some_wire, first_wire, down_step, up_step}
-use Rattle.abstract_machine.proofs.Least.{LeastIs, least_is}
+use Rattle.abstract_machine.proofs.Lemmas.{LeastIs, least_is}
 use Rattle.steps.specs.declared.step.Step.TheVariants as step
 use Rattle.machine_runs.specs.Draining.{some_step}
-use Rattle.machine.proofs.Keeping.{count_small}
+use Rattle.machine.proofs.Lemmas.{count_small}
 
 pub any_is : {X : Type 0} (xs : List X) → is_some (slice_get xs 0) ≡ is_any xs
 any_is [] = refl

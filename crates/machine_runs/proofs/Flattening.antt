@@ -8,7 +8,7 @@ use Rattle.machine_theorem.specs.Flatness.{read_flat}
 use Rattle.machine_theorem.specs.Explained.{Opens}
 use Rattle.machine.specs.Machines.{MachineLists, machine_of, IsIdle, IsMachine}
 use Rattle.machine.specs.Openings.{flat_state}
-use Rattle.machine.proofs.Flattening.{state_at, word_is, sound}
+use Rattle.machine.proofs.Lemmas.{sound, state_at, word_is}
 
 module _ (m : MachineLists) (is : IsMachine m) where
   pub reads : flat_of (machine_of m (λ p. [])) ≡ read_flat (flat_state m) (λ p. [])

@@ -10,8 +10,8 @@ use Rattle.flat_machine.specs.declared.poke.Entry.TheVariants as entry
 use Rattle.flat_machine.specs.declared.poke.Poke.{Poke}
 use Rattle.messages.specs.Places.{put}
 use Rattle.placement.specs.Meaning.{joined}
-use Rattle.messages.proofs.Places.{put_same, put_other}
-use Rattle.placement.proofs.Meaning.{joined_first}
+use Rattle.messages.proofs.Lemmas.{put_other, put_same}
+use Rattle.placement.proofs.Lemmas.{joined_first}
 use Rattle.machine_program.specs.Theory as theory
 use Rattle.machine_runs.specs.Ordering.{no_group, group_in, count_in, IsEntered}
 

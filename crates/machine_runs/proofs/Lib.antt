@@ -9,3 +9,4 @@ mod Grouping
 mod Ordering
 mod Cutting
 mod Telling
+pub mod Lemmas

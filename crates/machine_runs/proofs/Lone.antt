@@ -13,18 +13,15 @@ use Rattle.messages.specs.Queues.{Combination, combination, unmarked, records_of
 use Rattle.messages.specs.Network.{Sizes, wires, Net, put_requests, put_records, put_replies}
 use Rattle.messages.specs.Moves.{accepted, up_from, moved_up, push_all, has_room, answered, down_from, moved_down, injected, module_taken, module_replied, port_taken}
 use Rattle.omega_wires.specs.Wires.{wire_after, wire_before}
-use Rattle.omega_wires.proofs.Paths.{path_zero}
+use Rattle.omega_wires.proofs.Lemmas.{path_zero}
 use Rattle.placement.specs.Roles.{Role, Idle, Asking, Told, Unnamed}
-use Rattle.messages.proofs.Places.{In-append_right, In-put2, put_same, put_other}
-use Rattle.placement.proofs.Roles.{pop_request_unnamed}
-use Rattle.placement.proofs.Joining.{Joins, combination_joins}
+use Rattle.messages.proofs.Lemmas.{In-append_right, In-put2, put_other, put_same}
+use Rattle.placement.proofs.Lemmas.{Joins, combination_joins, pop_request_unnamed}
 use Rattle.abstract_machine.specs.Program.{Kind, Rests, Alone, Refers, word_of, path_of}
 use Rattle.abstract_machine.specs.Machine.{Machine, Turn, Up, Serve, Down, Poke, retire_from, issue, advance, begin, turned, step, IsIdle}
 use Rattle.abstract_machine.specs.Steadiness.{Steady}
 use Rattle.abstract_machine.specs.Draining.{least, greatest, is_any, some_wire, first_wire, or_else, down_step, up_step, drain_step}
-use Rattle.abstract_machine.proofs.Steadying.{goes_step}
-use Rattle.abstract_machine.proofs.Least.{LeastIs, least_is}
-use Rattle.abstract_machine.proofs.Drained.{idle_names_none}
+use Rattle.abstract_machine.proofs.Lemmas.{LeastIs, goes_step, idle_names_none, least_is}
 use Rattle.serialization.specs.Order.{passed_by, pass, from_machine}
 use Rattle.machine_program.specs.Theory.{Program, Step, Result, stalled, went_up, went_down, serve_from}
 use Rattle.machine_theorem.specs.Order.{Passed}

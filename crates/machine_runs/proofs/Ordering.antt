@@ -29,7 +29,7 @@ use Rattle.machine_program.specs.Theory as theory
 use Rattle.abstract_machine.specs.Machine.{Machine, retire_from, begin, turned, poked, all_shut}
 use Rattle.serialization.specs.Order.{pass, passes, from_machine, ran}
 use Rattle.serialization.specs.Serialization.{Begins}
-use Rattle.serialization.proofs.Serial.{follows}
+use Rattle.serialization.proofs.Lemmas.{follows}
 use Rattle.steps.specs.declared.step.Step.{Step}
 use Rattle.steps.specs.declared.step.Step.TheVariants as step
 use Rattle.steps.specs.declared.step.Outcome.{Outcome}
@@ -37,12 +37,11 @@ use Rattle.machine_ports.specs.Ports.{PortState}
 use Rattle.machine_program.specs.Processors.{Told, no_port, sizes_of, kind_of, next, program, is_lawful_poke, port_at}
 use Rattle.machine_theorem.specs.Flatness.{IsGood}
 use Rattle.machine_program.specs.Steps.{named, taken, answer_of, told_of_turn, told_of_reply, outcome_of, after, machine_of_parts}
-use Rattle.machine_theorem.proofs.Good.{keeps}
+use Rattle.machine_theorem.proofs.Lemmas.{keeps}
 use Rattle.machine.specs.Machines.{MachineLists, machine_of, IsIdle, IsMachine, IsStep}
 use Rattle.machine_runs.specs.Runs.{all_after, events_of, IsRun, passed}
 use Rattle.machine_runs.specs.Ordering.{told_by, turn_tells, is_open_at, group_in, IsEntered}
-use Rattle.machine.proofs.Flattening.{past_end}
-use Rattle.machine.proofs.Keeping.{count_small}
+use Rattle.machine.proofs.Lemmas.{count_small, past_end}
 use Rattle.machine_runs.proofs.Running.{run_begins, run_more, passes_machine}
 
 -- ---- what an outcome tells is what the theory's does

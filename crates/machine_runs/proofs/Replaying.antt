@@ -26,7 +26,7 @@ use Rattle.machine_program.specs.Steps.{taken, answer_of, outcome_of, after}
 use Rattle.machine.specs.Machines.{MachineLists, machine_of, IsStep}
 use Rattle.machine_runs.specs.Runs.{all_after, events_of, NoneStalls, IsRun, IsReplay}
 use Rattle.machine_runs.proofs.Running.{run_begins, run_more}
-use Rattle.machine.proofs.Stalling.{retell, retold}
+use Rattle.machine.proofs.Lemmas.{retell, retold}
 
 -- ---- stalls
 

@@ -16,14 +16,11 @@ use Rattle.machine_program.specs.FlatSizes.{HasSize, IsSoundFlat}
 use Rattle.machine_theorem.specs.Flatness.{with_events}
 use Rattle.machine_program.specs.Steps.{named, after, with_shown, machine_of_parts}
 use Rattle.machine_theorem.specs.Explained.{IsExplained, flat_after}
-use Rattle.machine_theorem.proofs.Explaining.{runs_are_explained}
-use Rattle.machine_theorem.proofs.Flat.{run_sound}
-use Rattle.machine_theorem.proofs.Good.{means_change}
-use Rattle.machine_theorem.proofs.Lawful.{order_lawful}
+use Rattle.machine_theorem.proofs.Lemmas.{means_change, order_lawful, run_sound, runs_are_explained}
 use Rattle.machine.specs.Machines.{MachineLists, machine_of, IsIdle, IsMachine, IsStep}
 use Rattle.machine.specs.Openings.{flat_state}
 use Rattle.machine_runs.specs.Runs.{all_after, events_of, IsRun, passed, IsSerialized}
-use Rattle.machine.proofs.Flattening.{sound, all_shut, flat_is}
+use Rattle.machine.proofs.Lemmas.{all_shut, flat_is, sound}
 use Rattle.machine_runs.proofs.Flattening.{opens}
 
 -- ---- one step more

@@ -23,7 +23,7 @@ use Rattle.messages.specs.declared.moves.DownMove.TheVariants as down
 use Rattle.messages.specs.Places.{put}
 use Rattle.messages.specs.Network.{Net}
 use Rattle.messages.specs.Moves.{moved_up, moved_down}
-use Rattle.messages.proofs.Places.{put_same, put_other}
+use Rattle.messages.proofs.Lemmas.{put_other, put_same}
 use Rattle.abstract_machine.specs.Program.{Kind, Rests, Alone, Refers}
 use Rattle.machine_program.specs.Theory.{Result, stalled, went_up, went_down, serve_from}
 use Rattle.machine_theorem.specs.Order.{Passed}
@@ -36,7 +36,7 @@ use Rattle.steps.specs.declared.step.Outcome.{Outcome}
 use Rattle.machine_program.specs.Processors.{Told, sizes_of, kind_of, next, program, is_lawful_poke, retired_by, alone_by, changed}
 use Rattle.machine_program.specs.Steps.{named, taken, answer_of, told_of_turn, told_of_reply, outcome_of, after, with_shown}
 use Rattle.machine_theorem.specs.Explained.{IsExplained, flat_after}
-use Rattle.machine_theorem.proofs.Explaining.{runs_are_explained}
+use Rattle.machine_theorem.proofs.Lemmas.{runs_are_explained}
 use Rattle.machine.specs.Machines.{MachineLists, machine_of, IsIdle, IsMachine}
 use Rattle.machine.specs.Openings.{flat_state}
 use Rattle.machine_runs.specs.Runs.{all_after, events_of, IsRun, passed}

@@ -16,12 +16,12 @@ use Rattle.hart.specs.Deciding.{after_reply}
 use Rattle.messages.specs.declared.message.Reply.{Reply}
 use Rattle.flat_machine.specs.Flat.{flat_step, flat_event, flat_run, flat_events, with_taken, turned, turn_event, with_processor_number}
 use Rattle.flat_machine.specs.Flat.{step_of as flat_step_of}
-use Rattle.messages.proofs.Places.{put_same}
+use Rattle.messages.proofs.Lemmas.{put_same}
 use Rattle.abstract_machine.specs.Program.{Rests}
 use Rattle.machine_theorem.specs.Order.{Passed, passed_by}
 use Rattle.machine_program.specs.Theory as theory
 use Rattle.abstract_machine.specs.Draining as draining
-use Rattle.abstract_machine.proofs.Draining.{bound_alone, distances_are}
+use Rattle.abstract_machine.proofs.Lemmas.{bound_alone, distances_are}
 use Rattle.serialization.specs.Order.{pass, passes, from_machine}
 use Rattle.steps.specs.declared.step.Step.{Step}
 use Rattle.steps.specs.declared.step.Step.TheVariants as step
@@ -30,16 +30,15 @@ use Rattle.steps.specs.declared.step.Outcome.TheVariants.{Retired, Issued, Stopp
 use Rattle.machine_program.specs.Processors.{Told, sizes_of, next, kind_of, program, no_processor, port_at, open_at}
 use Rattle.machine_theorem.specs.Flatness.{with_events}
 use Rattle.machine_program.specs.Steps.{named, answer_of, told_of_turn, told_of_reply, outcome_of, after, with_shown, machine_of_parts}
-use Rattle.machine_program.proofs.Reading.{read_found}
+use Rattle.machine_program.proofs.Lemmas.{read_found}
 use Rattle.machine.specs.Machines.{MachineLists, machine_of, IsIdle, IsMachine, IsStep}
 use Rattle.machine.specs.Openings.{flat_state}
 use Rattle.machine_runs.specs.Runs.{all_after, events_of, IsRun, IsReplay, passed, IsSerialized}
 use Rattle.machine_runs.specs.Draining.{step_of, drain_step, drain_bound, steps_home, drain_steps, IsDrained}
 use Rattle.machine_runs.specs.Whole.{event_of, steps_from, one_steps, IsOne, IsSent}
-use Rattle.machine.proofs.Flattening.{all_shut, state_at, count_is}
+use Rattle.machine.proofs.Lemmas.{all_shut, count_is, stalled_keeps, state_at}
 use Rattle.machine_runs.proofs.Running.{run_begins, run_more, passes_machine, serialized}
 use Rattle.machine_runs.proofs.Replaying.{replay_begins, replay_more, replay_kept}
-use Rattle.machine.proofs.Stalling.{stalled_keeps}
 use Rattle.machine_runs.proofs.Drained.{named_again, named_step, goes_on as names_a_move, IsUnderWay, drain_begins, drain_goes_on, all_taken, none_more, steps_short, drain_stops, drain_is_whole}
 use Rattle.machine_runs.proofs.Lone.{IsLone, IsAsking, IsAnswered, FirstTurn, first_turn, starts, After, goes_on, is_open_yet}
 

@@ -10,9 +10,9 @@ use Rattle.steps.specs.declared.step.Outcome.TheVariants.{Stalled}
 use Rattle.steps.specs.Answers.{is_stalled}
 use Rattle.machine_runs.specs.Machines.{MachineLists}
 use Rattle.machine_runs.specs.Runs.{IsReplay, answer_after}
-use Rattle.machine_runs.proofs.Replaying.{outcome_there, stalled_is}
+use Rattle.machine_runs.proofs.Lemmas.{outcome_there, stalled_is}
 use Rattle.machine_log.specs.Logs.{Log, entered, HasTaken}
-use Rattle.machine_log.proofs.Taking.{entered_moving}
+use Rattle.machine_log.proofs.Lemmas.{entered_moving}
 use Rattle.machine_sweep.specs.Rounds.{round}
 use Rattle.machine_sweep.specs.Sweeps.{entered_of, rounds}
 

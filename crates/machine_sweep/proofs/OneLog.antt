@@ -14,7 +14,7 @@ use Rattle.machine_program.specs.Steps.{machine_of_parts, outcome_of}
 use Rattle.machine_runs.specs.Draining.{drain_bound, drain_steps, step_of}
 use Rattle.machine_runs.specs.Machines.{MachineLists, machine_of}
 use Rattle.machine_runs.specs.Runs.{IsReplay, all_after, events_of, answer_after}
-use Rattle.machine.proofs.Stalling.{retell}
+use Rattle.machine.proofs.Lemmas.{retell}
 use Rattle.machine_log.specs.Logs.{Log, entered}
 use Rattle.machine_sweep.specs.Rounds.{round}
 use Rattle.machine_sweep.specs.Sweeps.{EndsAt, IsFault, IsOver, IsWholeRun, RunsAfter, entered_of, rounds, status_after}

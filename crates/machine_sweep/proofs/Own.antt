@@ -15,7 +15,7 @@ use Rattle.steps.specs.declared.step.Step.TheVariants as step
 use Rattle.machine_program.specs.Processors.{Told, sizes_of, program}
 use Rattle.machine_runs.specs.Draining.{drain_bound, drain_step, drain_steps, step_of}
 use Rattle.machine_runs.specs.Machines.{MachineLists, machine_of}
-use Rattle.machine_runs.proofs.Drained.{named_step}
+use Rattle.machine_runs.proofs.Lemmas.{named_step}
 use Rattle.machine_sweep.specs.Rounds.{downs, on_each_wire, round, ups}
 pub use Rattle.machine_sweep.specs.Own.{AreOwn, IsOwn}
 use Rattle.machine_runs.specs.Runs.{answer_after}

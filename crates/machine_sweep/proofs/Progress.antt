@@ -21,7 +21,7 @@ use Rattle.machine_program.specs.Processors.{Told, sizes_of, kind_of, kind_of_tu
 use Rattle.machine_program.specs.Steps.{answer_of, told_of_turn, outcome_of, machine_of_parts}
 use Rattle.machine_runs.specs.Machines.{MachineLists, machine_of, IsMachine, IsIdle}
 use Rattle.machine_runs.specs.Draining.{drain_step}
-use Rattle.machine_runs.proofs.Drained.{goes_on, none_idle}
+use Rattle.machine_runs.proofs.Lemmas.{goes_on, none_idle}
 use Rattle.machine_sweep.specs.Rounds.{on_each_wire, ups, downs, round}
 use Rattle.machine_sweep.specs.Standing.{HasRunning}
 use Rattle.machine_sweep.proofs.Own.{IsOwn, drain_is_own}

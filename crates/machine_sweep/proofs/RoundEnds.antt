@@ -7,7 +7,7 @@ use Rattle.steps.specs.declared.step.Outcome.TheVariants.{Stalled}
 use Rattle.steps.specs.declared.step.Step.{Step}
 use Rattle.machine_runs.specs.Machines.{IsMachine}
 use Rattle.machine_runs.specs.Runs.{IsReplay, answer_after}
-use Rattle.machine_runs.proofs.Replaying.{outcome_there}
+use Rattle.machine_runs.proofs.Lemmas.{outcome_there}
 use Rattle.machine_log.specs.Logs.{Log, HasTaken, entered}
 use Rattle.machine_sweep.specs.Rounds.{round}
 use Rattle.machine_sweep.specs.Standing.{HasRunning}

@@ -9,7 +9,7 @@ use Rattle.steps.specs.declared.step.Outcome.TheVariants.{Stalled}
 use Rattle.machine_program.specs.Steps.{outcome_of}
 use Rattle.machine_runs.specs.Machines.{machine_of}
 use Rattle.machine_runs.specs.Runs.{IsReplay}
-use Rattle.machine_runs.proofs.Replaying.{outcome_there}
+use Rattle.machine_runs.proofs.Lemmas.{outcome_there}
 use Rattle.machine_log.specs.Logs.{Log, entered}
 use Rattle.machine_sweep.specs.Rounds.{round}
 use Rattle.machine_sweep.specs.Skips.{AreQuiet, IsNext, IsQuiet}

@@ -7,19 +7,17 @@ use Rattle.flat_machine.specs.declared.poke.Entry.{Entry}
 use Rattle.flat_machine.specs.declared.poke.Entry.TheVariants as entry
 use Rattle.flat_machine.specs.State.{FlatState, Processor}
 use Rattle.flat_machine.specs.Laws.{HasWords, AreBelow}
-use Rattle.flat_machine.proofs.Kept.{all_get}
+use Rattle.flat_machine.proofs.Lemmas.{all_get}
 use Rattle.placement.specs.Roles.{Idle}
-use Rattle.abstract_machine.proofs.Steadying.{steady_start}
+use Rattle.abstract_machine.proofs.Lemmas.{steady_start}
 use Rattle.abstract_machine.specs.Machine.{new_machine, Machine}
 use Rattle.serialization.specs.Order.{FlatMachine, flat_of, from_machine, ran, outcomes, flat_run}
 use Rattle.serialization.specs.Serialization.{Begins, FindsAt, EachServedOnce}
-use Rattle.serialization.proofs.Serial.{follows}
-use Rattle.serialization.proofs.Moments.{at_the_moment}
-use Rattle.serialization.proofs.Once.{served_once}
+use Rattle.serialization.proofs.Lemmas.{at_the_moment, follows, served_once}
 use Rattle.machine_program.specs.Theory.{Step}
 use Rattle.machine_theorem.specs.Order.{Passed}
 use Rattle.machine_program.specs.Processors.{Told, no_processor, sizes_of, program}
-use Rattle.machine_program.proofs.Reading.{found_within}
+use Rattle.machine_program.proofs.Lemmas.{found_within}
 use Rattle.machine_program.specs.FlatSizes.{IsSoundFlat}
 use Rattle.machine_theorem.specs.Flatness.{read_flat, AreLawful, IsGood}
 use Rattle.machine_theorem.specs.Explained.{Opens, Finds, IsExplained, RunsAreExplained, flat_after}

@@ -13,8 +13,7 @@ use Rattle.flat_machine.specs.State.{Processor, FlatState, is_running, status_of
 use Rattle.flat_machine.specs.Turns.{Turn, Retires, Reaches, Stops, turn_of}
 use Rattle.flat_machine.specs.Flat.{flat_step, flat_event, flat_run, flat_events, taken, with_taken, step_of, turned, turn_event, written, is_lawful, with_processor_number}
 use Rattle.flat_machine.specs.Laws.{HasWords}
-use Rattle.flat_machine.proofs.InRange.{step_in_range}
-use Rattle.flat_machine.proofs.Kept.{all_get}
+use Rattle.flat_machine.proofs.Lemmas.{all_get, step_in_range}
 use Rattle.phi_algebra.specs.Functions.{apply}
 use Rattle.hart.specs.Deciding.{after_reply}
 use Rattle.machine_ports.specs.Ports.{reference_phi}
@@ -24,9 +23,7 @@ use Rattle.serialization.specs.Order as theory
 use Rattle.serialization.specs.Order.{FlatMachine, flat_turn}
 use Rattle.machine_program.specs.Processors.{Told, no_processor, setting_of, kind_of, kind_of_turn, alone_by, word_by, retired_by, is_lawful_poke, next, program}
 use Rattle.machine_program.specs.FlatSizes.{HasSize, IsSoundFlat}
-use Rattle.machine_program.proofs.Reading.{read_set, read_found, read_none, told_set}
-use Rattle.machine_program.proofs.ServeSteps.{applied_word}
-use Rattle.machine_program.proofs.FlatPokes.{lawful_same, lawful_writes, written_agrees, size_written}
+use Rattle.machine_program.proofs.Lemmas.{applied_word, lawful_same, lawful_writes, read_found, read_none, read_set, size_written, told_set, written_agrees}
 use Rattle.machine_theorem.specs.Flatness.{read_flat, with_events, IsLawful, AreLawful}
 
 -- What a reference's function does to a word is what the turn makes of it, and the word is there.

@@ -10,17 +10,16 @@ use Rattle.flat_machine.specs.Turns.{Turn, Retires, Reaches, Stops}
 use Rattle.flat_machine.specs.Flat.{is_lawful_register, with_poked_register, with_poked_byte}
 use Rattle.flat_machine.specs.Memory.{in_local}
 use Rattle.flat_machine.specs.Laws.{AreBelow, HasWords, LeavesWords}
-use Rattle.flat_machine.proofs.InRange.{turn_words, register_words, byte_words}
-use Rattle.flat_machine.proofs.Accesses.{with_part_small}
+use Rattle.flat_machine.proofs.Lemmas.{byte_words, register_words, turn_words, with_part_small}
 use Rattle.phi_algebra.specs.Functions.{IsInRange}
 use Rattle.hart.specs.Deciding.{after_reply}
 use Rattle.machine_ports.specs.Ports.{reference_phi}
-use Rattle.machine_ports.proofs.References.{reference_means}
+use Rattle.machine_ports.proofs.Lemmas.{reference_means}
 use Rattle.messages.specs.Places.{put}
-use Rattle.messages.proofs.Places.{put_same, put_other}
+use Rattle.messages.proofs.Lemmas.{put_other, put_same}
 use Rattle.abstract_machine.specs.Program.{Keeps, Alone, Refers}
 use Rattle.machine_program.specs.Processors.{Told, setting_of, kind_of, alone_by, retired_by, changed, poked_processors, poked_words, is_lawful_poke, next, program}
-use Rattle.machine_program.proofs.TurnKinds.{reaches_of, runs_by}
+use Rattle.machine_program.proofs.Lemmas.{reaches_of, runs_by}
 use Rattle.machine_theorem.specs.Flatness.{IsGood}
 use Rattle.machine_theorem.proofs.Flat.{MeansChange}
 

@@ -15,9 +15,8 @@ use Rattle.messages.specs.Places.{In}
 use Rattle.messages.specs.Queues.{Combination, answers, combination, merged, records_but, records_of, unmarked}
 use Rattle.messages.specs.Network.{Net, Sizes, wires, put_records, put_replies, put_requests}
 use Rattle.messages.specs.Moves.{accepted, answered, combined, down_from, has_room, injected, module_replied, module_taken, moved_down, moved_up, port_taken, push_all, up_from}
-use Rattle.messages.proofs.Places.{In-append, In-append_left, In-append_right, In-filter, In-put2}
-use Rattle.placement.proofs.Joining.{Joins, combination_joins}
-use Rattle.placement.proofs.Roles.{from_answers}
+use Rattle.messages.proofs.Lemmas.{In-append, In-append_left, In-append_right, In-filter, In-put2}
+use Rattle.placement.proofs.Lemmas.{Joins, combination_joins, from_answers}
 use Rattle.network_paths.specs.Paths.{EmptyNetworksKeepToPaths, InjectingKeepsToPaths, KeepToPaths, MovingDownKeepsToPaths, MovingUpKeepsToPaths, OthersDoNotCount, RecordOnPath, RepliesArrive, ReplyOnPath, RequestOnPath, RequestsArrive, ServingKeepsToPaths, TakingKeepsToPaths}
 
 -- ---- a place changes

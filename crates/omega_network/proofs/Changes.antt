@@ -12,7 +12,7 @@ use Rattle.messages.specs.Places.{put2}
 use Rattle.combining_switch.specs.Switches.{SwitchLists, records_at, replies_at, requests_at}
 use Rattle.omega_network.specs.Networks.{IsNetwork, NetworkLists, at_output, half, records_behind, replies_before, requests_before, slot_of, switch_at}
 use Rattle.omega_network.specs.Changes.{with_module_slot, with_slot, with_switch}
-use Rattle.messages.proofs.Places.{is_put2}
+use Rattle.messages.proofs.Lemmas.{is_put2}
 use Rattle.omega_network.proofs.Switches.{half_of_wire, read_kept, switch_kept, switch_put}
 
 -- what stands at an input of a switch

@@ -21,7 +21,7 @@ use Rattle.combining_switch.specs.declared.answers.Answered.TheVariants.{One, Tw
 use Rattle.combining_switch.specs.Switches.{answered_for}
 use Rattle.omega_network.specs.Networks.{NetworkLists, net_of, sizes_of}
 use Rattle.omega_network.specs.Offers.{accepted_on, accepted_where, answered_on, answered_where, first_reply_taken, first_request_taken}
-use Rattle.messages.proofs.Places.{put2_comm, put2_other}
+use Rattle.messages.proofs.Lemmas.{put2_comm, put2_other}
 
 -- the first of a list
 first_is : {X : Type 0} (q : List X) (x : X) → slice_get q 0 ≡ Some x → q ≡ x ∷ drop 1 q

@@ -13,7 +13,7 @@ use Rattle.combining_switch.specs.Switches.{SwitchLists, output_of, records_at, 
 use Rattle.omega_network.specs.Networks.{NetworkLists, at_output, net_of, records_behind, replies_before, requests_before, sizes_of, switch_at}
 use Rattle.omega_network.specs.Changes.{with_switch}
 use Rattle.omega_network.specs.Offers.{accepted_on, accepted_where, first_request_taken}
-use Rattle.messages.proofs.Places.{put2_id}
+use Rattle.messages.proofs.Lemmas.{put2_id}
 use Rattle.omega_network.proofs.Kept.{Found, had_is, number_is, put_at, put_is, stage_is, switch_is}
 use Rattle.omega_network.proofs.Changes.{records_put, replies_left, requests_put}
 

@@ -1,3 +1,4 @@
 pub mod Parts
 pub mod Meanings
 pub mod Bytes
+pub mod Lemmas

@@ -4,8 +4,7 @@ use Rattle.std.proofs.lemmas.Nat.{mod_below}
 use Rattle.phi_algebra.specs.declared.phi.Phi.{Phi}
 use Rattle.phi_algebra.specs.Functions.{apply, IsInRange}
 use Rattle.phi_algebra.specs.Composition.{composed}
-use Rattle.phi_algebra.proofs.Composing.{value_small}
-use Rattle.phi_algebra.proofs.Composed.{meaning_of, range_of}
+use Rattle.phi_algebra.proofs.Lemmas.{meaning_of, range_of, value_small}
 use Rattle.messages.specs.Queues.{applied}
 
 -- the value is a word

@@ -10,7 +10,7 @@ use Rattle.messages.specs.Moves.{combined}
 use Rattle.placement.specs.Roles.{Role, Idle, Waiting, Told, Placed, RecordPlaced, Unnamed}
 use Rattle.placement.specs.Meaning.{Means, joined}
 use Rattle.placement.specs.Changes.{CombiningKeepsPlaces, CombiningJoinsGroups, AnsweringKeepsPlaces, AnsweringGivesEachItsOwn}
-use Rattle.messages.proofs.Places.{In-put2, In-filter, In-map_from, ApartBy-filter}
+use Rattle.messages.proofs.Lemmas.{ApartBy-filter, In-filter, In-map_from, In-put2}
 use Rattle.placement.proofs.Roles.{combine, drop_records, drop_records_unnamed, placed_push_all, below_role, unnamed_fewer, not_led, seconds, from_answers}
 use Rattle.placement.proofs.Meaning.{means_combine, means_drop, means_push_all, answers_mean}
 use Rattle.placement.proofs.Joining.{combination_joins}

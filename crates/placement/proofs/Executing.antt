@@ -6,7 +6,7 @@ use Rattle.messages.specs.Places.{put, In, Distinct}
 use Rattle.messages.specs.Queues.{applied}
 use Rattle.placement.specs.Giving.{finds, leaves}
 use Rattle.placement.specs.Meaning.{Executed, execute, execute_all}
-use Rattle.messages.proofs.Places.{put_same, put_other}
+use Rattle.messages.proofs.Lemmas.{put_other, put_same}
 
 put_put : {X : Type 0} (f : ℕ → X) (a : ℕ) (x y : X) (i : ℕ) → put (put f a x) a y i ≡ put f a y i
 put_put {X} f a x y i = go (cases_eq i a)

@@ -6,7 +6,7 @@ use Rattle.messages.specs.declared.message.Record.{Record}
 use Rattle.messages.specs.Places.{In}
 use Rattle.messages.specs.Queues.{applied}
 use Rattle.placement.specs.Giving.{gives, finds, leaves}
-use Rattle.messages.proofs.Places.{In-append, In-append_left, In-append_right}
+use Rattle.messages.proofs.Lemmas.{In-append, In-append_left, In-append_right}
 
 pub finds-append : (own : ℕ → Phi) (js ks : List ℕ) (y : ℕ) → finds own (js ++ ks) y ≡ finds own js y ++ finds own ks (leaves own js y)
 unfolding finds leaves

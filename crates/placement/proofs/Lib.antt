@@ -6,3 +6,4 @@ pub mod Roles
 pub mod Executing
 pub mod Meaning
 pub mod Changes
+pub mod Lemmas

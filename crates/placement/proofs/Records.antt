@@ -5,7 +5,7 @@ use Rattle.messages.specs.declared.message.Record.{Record}
 use Rattle.messages.specs.Places.{put2, In}
 use Rattle.messages.specs.Queues.{records_of, records_but}
 use Rattle.messages.specs.Network.{records_on}
-use Rattle.messages.proofs.Places.{put2_same, put2_other, at_put2, In-filter, filter_none}
+use Rattle.messages.proofs.Lemmas.{In-filter, at_put2, filter_none, put2_other, put2_same}
 
 pub In-records_on : (path : ℕ → ℕ → ℕ) (records : ℕ → ℕ → List Record) (q s : ℕ) (x : Record) → In x (records_on path records q s)
     → In x (records s (path q (suc s))) × (x.leader ≡ q)

@@ -10,7 +10,8 @@ use Rattle.messages.specs.Queues.{applied, answers, records_but}
 use Rattle.messages.specs.Network.{Net, put_requests, put_records, put_replies}
 use Rattle.messages.specs.Moves.{push_all}
 use Rattle.placement.specs.Roles.{Role, Idle, Asking, Waiting, Told, depth, Placed, RequestPlaced, RecordPlaced, ReplyPlaced, Unnamed, told_all}
-use Rattle.messages.proofs.Places.{In-put2, each_put2, put_same, put_other, In-append, In-append_left, In-append_right, In-filter, In-map, ApartBy-push, ApartBy-filter, ApartBy-same, ApartBy-middle}
+use Rattle.messages.proofs.Lemmas.{ApartBy-filter, ApartBy-middle, ApartBy-push, ApartBy-same, In-append, In-append_left, In-append_right, In-filter, In-map}
+use Rattle.messages.proofs.Lemmas.{In-put2, each_put2, put_other, put_same}
 
 -- the first request of a place goes
 pub pop_request : (k : ℕ) (path : ℕ → ℕ → ℕ) (role : ℕ → Role) (net : Net) (d w : ℕ) (x : Request) (rest : List Request)

@@ -17,7 +17,7 @@ use Rattle.placement.specs.Roles.{Role}
 use Rattle.abstract_machine.specs.Program.{Rests}
 use Rattle.abstract_machine.specs.Steadiness.{Steady}
 use Rattle.abstract_machine.specs.Draining as draining
-use Rattle.abstract_machine.proofs.Drained.{steady_after, drain_ends}
+use Rattle.abstract_machine.proofs.Lemmas.{drain_ends, steady_after}
 use Rattle.serialization.specs.Order.{pass, passes, from_machine}
 use Rattle.steps.specs.declared.step.Step.{Step}
 use Rattle.steps.specs.declared.step.Step.TheVariants as step
@@ -28,16 +28,13 @@ use Rattle.machine_program.specs.FlatSizes.{IsSoundFlat}
 use Rattle.machine_theorem.specs.Order.{Passed, passed_by}
 use Rattle.machine_theorem.specs.Flatness.{with_events}
 use Rattle.machine_theorem.specs.Explained.{Opens, IsExplained}
-use Rattle.machine_theorem.proofs.Explaining.{runs_are_explained}
-use Rattle.machine_theorem.proofs.Flat.{run_sound}
-use Rattle.machine_theorem.proofs.Good.{means_change}
+use Rattle.machine_theorem.proofs.Lemmas.{means_change, run_sound, runs_are_explained}
 use Rattle.machine.specs.Machines.{MachineLists, machine_of, IsIdle, IsMachine}
 use Rattle.machine.specs.Openings.{flat_state}
-use Rattle.machine.proofs.Flattening.{sound, all_shut}
+use Rattle.machine.proofs.Lemmas.{all_shut, sound}
 use Rattle.machine_runs.specs.Runs.{all_after, events_of}
 use Rattle.machine_runs.specs.Draining.{step_of}
-use Rattle.machine_runs.proofs.Lone.{IsLone, IsAsking, IsAnswered, FirstTurn, first_turn, starts, goes_on, drain_named, Named}
-use Rattle.machine_runs.proofs.Drained.{named_again}
+use Rattle.machine_runs.proofs.Lemmas.{FirstTurn, IsAnswered, IsAsking, IsLone, Named, drain_named, first_turn, lone_goes_on as goes_on, named_again, starts}
 use Rattle.alone.specs.Stations.{turns}
 use Rattle.results.specs.Results.{FinalResult, IsFlatResult, IsOfTheMachine, AreOfTheMachine, stands_after, IsMachineResult}
 use Rattle.results.proofs.Ending.{found_at, Matches, results_same, none_runs}

@@ -19,7 +19,7 @@ use Rattle.messages.specs.Moves.{moved_up, moved_down}
 use Rattle.placement.specs.Roles.{Role, Idle}
 use Rattle.abstract_machine.specs.Program.{Kind, Rests, Alone, Refers}
 use Rattle.abstract_machine.specs.Steadiness.{Steady}
-use Rattle.abstract_machine.proofs.Drained.{steady_after}
+use Rattle.abstract_machine.proofs.Lemmas.{steady_after}
 use Rattle.serialization.specs.Order.{pass, passes, from_machine}
 use Rattle.steps.specs.declared.step.Step.{Step}
 use Rattle.steps.specs.declared.step.Step.TheVariants as step
@@ -30,14 +30,12 @@ use Rattle.machine_program.specs.FlatSizes.{IsSoundFlat}
 use Rattle.machine_theorem.specs.Order.{Passed, segment}
 use Rattle.machine_theorem.specs.Flatness.{AreLawful, with_events}
 use Rattle.machine_theorem.specs.Explained.{IsExplained}
-use Rattle.machine_theorem.proofs.Explaining.{runs_are_explained}
-use Rattle.machine_theorem.proofs.Flat.{run_sound}
-use Rattle.machine_theorem.proofs.Good.{means_change}
+use Rattle.machine_theorem.proofs.Lemmas.{means_change, run_sound, runs_are_explained}
 use Rattle.machine.specs.Machines.{MachineLists, machine_of, IsIdle, IsMachine}
 use Rattle.machine.specs.Openings.{flat_state}
-use Rattle.machine.proofs.Flattening.{sound}
+use Rattle.machine.proofs.Lemmas.{sound}
 use Rattle.machine_runs.specs.Runs.{all_after, passed}
-use Rattle.machine_runs.proofs.Flattening.{opens}
+use Rattle.machine_runs.proofs.Lemmas.{opens}
 use Rattle.alone.specs.Stations.{turns}
 use Rattle.results.specs.Results.{FinalResult, IsFlatResult, NoneRuns, IsOfTheMachine, AreOfTheMachine, stands_after, IsMachineResult}
 use Rattle.results.proofs.Ending.{Matches, results_same, stopped_flat}

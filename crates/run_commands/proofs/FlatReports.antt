@@ -19,8 +19,8 @@ use Rattle.machine_program.specs.Processors.{Told, no_port, no_processor, word_a
 use Rattle.machine_program.specs.Steps.{machine_of_parts}
 use Rattle.machine_runs.specs.Machines.{MachineLists, machine_of, IsIdle}
 use Rattle.machine_runs.specs.Runs.{IsOpening, IsReplay, IsSerialized, events_of, flat_state, passed}
-use Rattle.machine_runs.proofs.Running.{passes_machine}
-use Rattle.trace_replay.proofs.OneOpening.{alike}
+use Rattle.machine_runs.proofs.Lemmas.{passes_machine}
+use Rattle.trace_replay.proofs.Lemmas.{alike}
 use Rattle.run_report.specs.Events.{shown_by}
 use Rattle.run_report.specs.Lines.{processor_line, word_lines}
 use Rattle.run_report.specs.Tallies.{ShownBy, TallyState, nothing_shown}

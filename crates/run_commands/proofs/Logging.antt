@@ -8,7 +8,7 @@ use Rattle.trace_file.specs.Traces.{HaveRecords, IsTrace, trace_of}
 use Rattle.machine_runs.specs.Machines.{MachineLists}
 use Rattle.machine_runs.specs.Runs.{IsOpening, IsReplay}
 use Rattle.trace_replay.specs.Replays.{StallsAt}
-use Rattle.trace_replay.proofs.OneOpening.{none_stalls}
+use Rattle.trace_replay.proofs.Lemmas.{none_stalls}
 use Rattle.machine_log.specs.Logs.{Log, IsKept}
 use Rattle.command_io.specs.declared.fault.Fault.TheVariants as fault
 use Rattle.run_commands.specs.declared.taking.RetakeError.{RetakeError}

@@ -13,9 +13,8 @@ use Rattle.machine_program.specs.Steps.{after, with_shown, machine_of_parts}
 use Rattle.machine_runs.specs.Machines.{MachineLists, machine_of, IsIdle, IsMachine, IsStep}
 use Rattle.machine_runs.specs.Runs.{all_after, events_of, IsRun}
 use Rattle.machine_runs.specs.Draining.{drain_step, GoesOn, drain_bound, drain_steps}
-use Rattle.machine_runs.proofs.Running.{all_after_more, shown_is}
-use Rattle.machine_runs.proofs.Replaying.{replay_begins, replay_more}
-use Rattle.machine_runs.proofs.Drained.{IsUnderWay, drain_begins, drain_goes_on, all_taken, bound_taken, drain_is_over}
+use Rattle.machine_runs.proofs.Lemmas.{IsUnderWay, all_after_more, all_taken, bound_taken, drain_begins, drain_goes_on, drain_is_over, replay_begins}
+use Rattle.machine_runs.proofs.Lemmas.{replay_more, shown_is}
 use Rattle.run_report.specs.Tallies.{TallyState, nothing_shown, noted_after}
 use Rattle.run_report.specs.Events.{IsTally}
 use Rattle.run_commands.specs.Retaking.{events_in, IsRetaken}

@@ -2,3 +2,4 @@ mod Apart
 mod Candidates
 mod Formats
 pub mod Reading
+pub mod Lemmas

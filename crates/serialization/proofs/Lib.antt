@@ -4,3 +4,4 @@ pub mod SimulatingDown
 pub mod Serial
 pub mod Moments
 pub mod Once
+pub mod Lemmas

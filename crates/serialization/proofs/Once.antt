@@ -8,7 +8,7 @@ use Rattle.std.specs.Prelude.{◌||◌}
 use Rattle.abstract_machine.specs.Program.{Program, Keeps}
 use Rattle.abstract_machine.specs.Machine.{Machine, Step, Outcome, Issued, Advanced, Retired, Moved, Combined, Served, Answered, Poked, Stalled, step}
 use Rattle.serialization.specs.Order.{group_after, segment, served_from, served_after, Passed, pass, passes, from_machine, FlatMachine, flat_of, ran, outcomes, groups_after, serial_order}
-use Rattle.messages.proofs.Places.{put_same, put_other}
+use Rattle.messages.proofs.Lemmas.{put_other, put_same}
 use Rattle.serialization.specs.Serialization.{Begins, serves, times_served, IsRetirement, HasNotRetired, EachServedOnce, is_among}
 use Rattle.serialization.proofs.Serial.{Follows, follows, follows_step, follows_passes}
 use Rattle.serialization.proofs.Moments.{issues_by, retires_served, shut_unserved, unserved_of}

@@ -18,11 +18,11 @@ use Rattle.abstract_machine.specs.Machine.{Machine, Step, Turn, Up, Serve, Down,
 use Rattle.serialization.specs.Order.{group_after, segment, served_from, served_after, Passed, pass, passes, from_machine, FlatMachine, flat_step, flat_run, flat_of, ran}
 use Rattle.serialization.specs.Simulation.{shows, owed_after, Simulates, Kept}
 use Rattle.serialization.proofs.Simulating.{kept_stalled, kept_issue, kept_advance, kept_retire, kept_serve, kept_poked, flat_shows_one, still_none}
-use Rattle.abstract_machine.proofs.Steadying.{all_shut_is}
-use Rattle.placement.proofs.Meaning.{means_nothing}
+use Rattle.abstract_machine.proofs.Lemmas.{all_shut_is}
+use Rattle.placement.proofs.Lemmas.{means_nothing}
 use Rattle.serialization.proofs.SimulatingUp.{kept_up}
 use Rattle.serialization.proofs.SimulatingDown.{kept_down}
-use Rattle.messages.proofs.Places.{put_same, put_other}
+use Rattle.messages.proofs.Lemmas.{put_other, put_same}
 use Rattle.serialization.specs.Serialization.{Begins, FindsAt}
 
 pub flat_run-append : {Core Pokes Entry : Type 0} → (P : Program Core Pokes Entry) (f : FlatMachine Core) (js ks : List Entry)

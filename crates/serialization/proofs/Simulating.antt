@@ -10,7 +10,7 @@ use Rattle.messages.specs.Queues.{applied}
 use Rattle.messages.specs.Network.{Sizes, wires, Net, put_requests, put_replies, records_on}
 use Rattle.messages.specs.Moves.{injected, module_taken, module_replied, port_taken}
 use Rattle.omega_wires.specs.Wires.{path as way}
-use Rattle.omega_wires.proofs.Paths.{path_zero}
+use Rattle.omega_wires.proofs.Lemmas.{path_zero}
 use Rattle.placement.specs.Giving.{leaves}
 use Rattle.placement.specs.Roles.{Role, Idle, Asking, Told, Placed, Unnamed}
 use Rattle.placement.specs.Meaning.{Means, Executed, execute, execute_all}
@@ -18,12 +18,11 @@ use Rattle.abstract_machine.specs.Program.{Program, Alone, Refers, Keeps, own_of
 use Rattle.abstract_machine.specs.Machine.{Machine, stalled, with_net, retire_from, request_of, issue, advance, serve_from, poked}
 use Rattle.serialization.specs.Order.{FlatMachine, flat_turn, flat_taken, flat_step, flat_run}
 use Rattle.serialization.specs.Simulation.{shows, Simulates, Kept}
-use Rattle.messages.proofs.Places.{put_same, put_other}
-use Rattle.placement.proofs.Giving.{gives_leads}
-use Rattle.placement.proofs.Executing.{executed_mem, executed_other, put_agree}
-use Rattle.placement.proofs.Roles.{pop_request, pop_request_unnamed, push_request, push_reply, pop_reply, pop_reply_unnamed, placed_change, unnamed_idle, below_role, placed_nowhere, small_put, not_idle}
-use Rattle.placement.proofs.Meaning.{request_led, means_pop_request, means_pop_reply, means_serve, groups_serve, means_change, groups_change, groups_issue, means_issue, means_nothing}
-use Rattle.placement.proofs.Algebra.{applied_small}
+use Rattle.messages.proofs.Lemmas.{put_other, put_same}
+use Rattle.placement.proofs.Lemmas.{applied_small, below_role, executed_mem, executed_other, gives_leads, groups_change, groups_issue, groups_serve}
+use Rattle.placement.proofs.Lemmas.{means_change, means_issue, means_nothing, means_pop_reply, means_pop_request, means_serve, not_idle, placed_change}
+use Rattle.placement.proofs.Lemmas.{placed_nowhere, pop_reply, pop_reply_unnamed, pop_request, pop_request_unnamed, push_reply, push_request, put_agree}
+use Rattle.placement.proofs.Lemmas.{request_led, small_put, unnamed_idle}
 
 pub kept_stalled : {Core Pokes Entry : Type 0}
     → (z : Sizes) (P : Program Core Pokes Entry) (good : ℕ → Core → Type 0) (M : Machine Core) (group : ℕ → List ℕ) (owed : ℕ → Option ℕ)

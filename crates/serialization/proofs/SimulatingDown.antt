@@ -1,5 +1,5 @@
 -- A reply goes down.
-use Rattle.placement.proofs.Changes.{answering_places, answering_meaning, answers_led}
+use Rattle.placement.proofs.Lemmas.{answering_meaning, answering_places, answers_led, means_pop_reply, pop_reply, pop_reply_unnamed, told_other}
 use Rattle.std.proofs.Common.{◌≡◌, ℕ, suc, ◌%◌, ◌<◌, Bool, true, false, List, [], ◌∷◌, inl, inr, Option, refl, sym, ap, ◌∙◌}
 use Rattle.std.specs.Prelude.{if◌then◌else◌}
 use Rattle.messages.specs.declared.message.Reply.{Reply}
@@ -10,14 +10,12 @@ use Rattle.messages.specs.Network.{Sizes, wires, Net, put_records, put_replies}
 use Rattle.messages.specs.declared.moves.DownMove.TheVariants as down
 use Rattle.messages.specs.Moves.{push_all, has_room, answered, down_from}
 use Rattle.omega_wires.specs.Wires.{wire_before}
-use Rattle.omega_wires.proofs.Paths.{before_path}
+use Rattle.omega_wires.proofs.Lemmas.{before_path}
 use Rattle.placement.specs.Roles.{Idle, Unnamed, told_all}
 use Rattle.abstract_machine.specs.Program.{Program, own_of, word_of, path_of}
 use Rattle.abstract_machine.specs.Machine.{Machine, with_net, went_down}
 use Rattle.serialization.specs.Order.{FlatMachine, flat_run}
 use Rattle.serialization.specs.Simulation.{Simulates, Kept}
-use Rattle.placement.proofs.Roles.{pop_reply, pop_reply_unnamed, told_other}
-use Rattle.placement.proofs.Meaning.{means_pop_reply}
 use Rattle.serialization.proofs.Simulating.{kept_stalled, kept_plain}
 
 kept_answer : {Core Pokes Entry : Type 0}

@@ -1,6 +1,7 @@
 -- A request goes up.
 use Rattle.placement.specs.Meaning.{Groups, joined}
-use Rattle.placement.proofs.Changes.{combining_places, combining_meaning}
+use Rattle.placement.proofs.Lemmas.{below_role, combination_joins, combining_meaning, combining_places, groups_joined, means_pop_request, means_push_request}
+use Rattle.placement.proofs.Lemmas.{not_idle, pop_request, pop_request_unnamed, push_request, records_none, request_further, request_led, small_put}
 use Rattle.std.proofs.Common.{◌≡◌, ℕ, suc, ◌%◌, ◌<◌, ◌≤◌, true, false, List, [], ◌∷◌, ◌++◌, length, nat_lt, inl, inr, Option, Some, None, refl, sym, ap₂, ◌∙◌, subst, arith, ap}
 use Rattle.std.specs.Prelude.{if◌then◌else◌}
 use Rattle.messages.specs.declared.message.Request.{Request}
@@ -11,17 +12,13 @@ use Rattle.messages.specs.Network.{Sizes, wires, Net, put_requests, records_on}
 use Rattle.messages.specs.declared.moves.UpMove.TheVariants as up
 use Rattle.messages.specs.Moves.{queued, combined, accepted, up_from}
 use Rattle.omega_wires.specs.Wires.{wire_after}
-use Rattle.omega_wires.proofs.Paths.{path_suc}
+use Rattle.omega_wires.proofs.Lemmas.{path_suc}
 use Rattle.placement.specs.Roles.{Asking, Waiting, depth, Unnamed}
 use Rattle.abstract_machine.specs.Program.{Program, own_of, word_of, path_of}
 use Rattle.abstract_machine.specs.Machine.{Machine, Moved, with_net, went_up}
 use Rattle.serialization.specs.Order.{FlatMachine, flat_run}
 use Rattle.serialization.specs.Simulation.{Simulates, Kept}
-use Rattle.messages.proofs.Places.{In-append_right, put_other}
-use Rattle.placement.proofs.Records.{records_none}
-use Rattle.placement.proofs.Roles.{pop_request, pop_request_unnamed, push_request, below_role, not_idle, small_put}
-use Rattle.placement.proofs.Meaning.{request_led, groups_joined, request_further, means_pop_request, means_push_request}
-use Rattle.placement.proofs.Joining.{combination_joins}
+use Rattle.messages.proofs.Lemmas.{In-append_right, put_other}
 use Rattle.serialization.proofs.Simulating.{kept_stalled, kept_plain}
 
 kept_moved : {Core Pokes Entry : Type 0}

@@ -13,7 +13,7 @@ use Rattle.machine_program.specs.Processors.{Told}
 use Rattle.machine_program.specs.Steps.{outcome_of, after}
 use Rattle.machine_runs.specs.Machines.{MachineLists, machine_of}
 use Rattle.machine_runs.specs.Runs.{IsOpening, IsReplay, NoneStalls, all_after}
-use Rattle.machine_runs.proofs.Replaying.{outcome_there}
+use Rattle.machine_runs.proofs.Lemmas.{outcome_there}
 use Rattle.trace_replay.specs.Replays.{StallsAt}
 
 -- a step of a replay does something where it is taken

@@ -8,7 +8,7 @@ use Rattle.steps.specs.declared.step.Outcome.TheVariants.{Stalled}
 use Rattle.machine_program.specs.Steps.{outcome_of}
 use Rattle.machine_runs.specs.Machines.{MachineLists, machine_of, IsStep}
 use Rattle.machine_runs.specs.Runs.{IsReplay}
-use Rattle.machine_runs.proofs.Replaying.{replay_kept}
+use Rattle.machine_runs.proofs.Lemmas.{replay_kept}
 use Rattle.trace_replay.specs.Replays.{StallsAt}
 
 pub stops : (old m new : MachineLists) (steps : List Step) (place : ℕ) (o : Outcome) → IsReplay old (take place steps) m → IsStep m (slice_index_or steps place (step.Turn 0)) o new → o ≡ Stalled →

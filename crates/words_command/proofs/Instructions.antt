@@ -15,11 +15,11 @@ use Rattle.flat_machine.specs.Flat.{flat_run, flat_step, flat_event, flat_events
 use Rattle.steps.specs.declared.step.Outcome.{Outcome}
 use Rattle.steps.specs.declared.step.Outcome.TheVariants as outcome
 use Rattle.machine_program.specs.Processors.{no_processor}
-use Rattle.machine_program.proofs.Reading.{read_found}
+use Rattle.machine_program.proofs.Lemmas.{read_found}
 use Rattle.machine_runs.specs.Machines.{MachineLists, IsMachine}
 use Rattle.machine_runs.specs.Runs.{flat_state}
 use Rattle.machine_runs.specs.Whole.{event_of, IsOne}
-use Rattle.machine.proofs.Flattening.{state_at, count_is}
+use Rattle.machine.proofs.Lemmas.{count_is, state_at}
 use Rattle.words_command.specs.Command.{HasProcessor}
 use Rattle.words_command.specs.Running.{HasRunAlone, is_retirement, is_retired, retirements, turns_of_zero, processor_of}
 

@@ -3,7 +3,7 @@ use Rattle.flat_machine.specs.declared.config.Config.{Config}
 use Rattle.steps.specs.declared.step.Step.TheVariants as step
 use Rattle.machine_runs.specs.Machines.{IsStep}
 use Rattle.machine_runs.specs.Draining.{drain_bound}
-use Rattle.machine_runs.proofs.Whole.{turn_whole, sent_is_short, few_moves}
+use Rattle.machine_runs.proofs.Lemmas.{few_moves, sent_is_short, turn_whole}
 use Rattle.machine_log.proofs.Taking.{entered_most, entered_join, one_entered, sent_entered}
 use Rattle.machine_log.proofs.entering.one.Goals as goal
 

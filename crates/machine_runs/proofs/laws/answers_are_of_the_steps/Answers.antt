@@ -3,7 +3,7 @@ use Rattle.machine_program.specs.Steps.{outcome_of}
 use Rattle.machine.specs.Machines.{machine_of}
 use Rattle.machine_runs.specs.Laws.{AnswersForgetEvents, AnswersAreOfTheSteps}
 use Rattle.machine_runs.proofs.Replaying.{outcome_same, outcome_there}
-use Rattle.machine.proofs.Stalling.{retold}
+use Rattle.machine.proofs.Lemmas.{retold}
 use Rattle.machine_runs.proofs.laws.answers_are_of_the_steps.Goals as goal
 
 forget : AnswersForgetEvents

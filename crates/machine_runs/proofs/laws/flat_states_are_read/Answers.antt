@@ -1,10 +1,10 @@
 use Rattle.std.proofs.Common.{◌≤◌, ◌<◌, Some, sym, ap, ◌∙◌, subst}
 use Rattle.std.proofs.lemmas.List.FromFn.{length-map-range_with_len}
 use Rattle.machine_program.specs.Processors.{no_processor, word_at}
-use Rattle.machine_program.proofs.Reading.{found_within}
+use Rattle.machine_program.proofs.Lemmas.{found_within}
 use Rattle.machine.specs.Openings.{flat_state}
 use Rattle.machine_runs.specs.Laws.{FlatProcessorsAreRead, FlatWordsAreRead}
-use Rattle.machine.proofs.Flattening.{state_at, count_is, word_is, none_past}
+use Rattle.machine.proofs.Lemmas.{count_is, none_past, state_at, word_is}
 use Rattle.machine_runs.proofs.laws.flat_states_are_read.Goals as goal
 
 processors : FlatProcessorsAreRead

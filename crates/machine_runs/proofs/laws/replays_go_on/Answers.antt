@@ -2,7 +2,7 @@ use Rattle.std.proofs.Common.{refl}
 use Rattle.steps.specs.declared.step.Outcome.TheVariants.{Stalled}
 use Rattle.machine_runs.specs.Laws.{StepsAreEntered, StallsAreNotEntered}
 use Rattle.machine_runs.proofs.Replaying.{replay_begins, replay_more, replay_kept}
-use Rattle.machine.proofs.Stalling.{stalled_keeps}
+use Rattle.machine.proofs.Lemmas.{stalled_keeps}
 use Rattle.machine_runs.proofs.laws.replays_go_on.Goals as goal
 
 entered : StepsAreEntered

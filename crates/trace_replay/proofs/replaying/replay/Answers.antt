@@ -4,8 +4,7 @@ use Rattle.std.proofs.lemmas.List.{take_more, take_all}
 use Rattle.steps.specs.declared.step.Step.TheVariants as step
 use Rattle.steps.specs.Answers.{is_stalled}
 use Rattle.machine_runs.specs.Runs.{IsReplay}
-use Rattle.machine_runs.proofs.Replaying.{replay_begins, replay_more}
-use Rattle.machine_runs.proofs.Running.{serialized}
+use Rattle.machine_runs.proofs.Lemmas.{replay_begins, replay_more, serialized}
 use Rattle.trace_replay.proofs.replaying.replay.Goals as goal
 
 pub loop-place-init : goal.loop-place-init

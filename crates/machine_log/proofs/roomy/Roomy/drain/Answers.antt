@@ -1,6 +1,6 @@
 use Rattle.std.proofs.Common.{◌≤◌, length, sym, subst}
 use Rattle.machine_runs.specs.Draining.{drain_steps}
-use Rattle.machine_runs.proofs.Drained.{drain_is_bounded}
+use Rattle.machine_runs.proofs.Lemmas.{drain_is_bounded}
 use Rattle.machine_log.proofs.roomy.Roomy.drain.Goals as goal
 
 pub bring_home-requires-clause-enough : goal.bring_home-requires-clause-enough

@@ -1,6 +1,6 @@
 use Rattle.std.proofs.Common.{subst}
 use Rattle.machine_runs.specs.Runs.{IsSerialized}
-use Rattle.machine_runs.proofs.Running.{serialized}
+use Rattle.machine_runs.proofs.Lemmas.{serialized}
 use Rattle.machine_log.specs.Logs.{RoomyLog}
 use Rattle.machine_log.proofs.roomy.Roomy.machine.Goals as goal
 

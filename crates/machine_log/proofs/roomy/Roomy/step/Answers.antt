@@ -4,7 +4,7 @@ use Rattle.steps.specs.declared.step.Step.TheVariants as step
 use Rattle.machine_runs.specs.Machines.{IsIdle}
 use Rattle.machine_runs.specs.Runs.{answer_after}
 use Rattle.machine_runs.specs.Whole.{IsPoked}
-use Rattle.machine_runs.proofs.Replaying.{outcome_there}
+use Rattle.machine_runs.proofs.Lemmas.{outcome_there}
 use Rattle.machine_log.specs.Logs.{RoomyLog}
 use Rattle.machine_log.proofs.roomy.Roomy.step.Goals as goal
 
