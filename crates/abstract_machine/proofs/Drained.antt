@@ -1,5 +1,6 @@
 -- A drain ends, within its bound.
-use Rattle.std.proofs.Common.{◌≡◌, ℕ, zero, suc, ◌<◌, ◌≤◌, Bool, false, List, [], ◌∷◌, length, inl, inr, Option, Some, None, is_some, refl, sym, ap, ap₂, ◌∙◌, arith}
+use Rattle.std.proofs.Common.{◌≡◌, ℕ, zero, suc, ◌<◌, ◌≤◌, Bool, false, List, [], ◌∷◌, length, inl, inr, Option, Some, None, is_some, refl, sym, ap, ap₂, ◌∙◌}
+use Rattle.std.proofs.Common.{arith}
 use Rattle.std.proofs.lemmas.Bool.{true≢false}
 use Rattle.messages.specs.Places.{In}
 use Rattle.messages.specs.Network.{Sizes, wires}
@@ -7,7 +8,8 @@ use Rattle.placement.specs.Roles.{Role, Idle, Asking, Told}
 use Rattle.abstract_machine.specs.Program.{Program}
 use Rattle.abstract_machine.specs.Machine.{Machine, Step, Turn, Up, Serve, Down, step, IsIdle, machine_after}
 use Rattle.abstract_machine.specs.Steadiness.{Steady, total}
-use Rattle.abstract_machine.specs.Draining.{least, greatest, is_any, some_wire, first_wire, or_else, down_step, up_step, drain_step, AreDistances, DrainIs, drain_steps, drain_bound}
+use Rattle.abstract_machine.specs.Draining.{least, greatest, is_any, some_wire, first_wire, or_else, down_step, up_step, drain_step, AreDistances, DrainIs}
+use Rattle.abstract_machine.specs.Draining.{drain_steps, drain_bound}
 use Rattle.abstract_machine.proofs.Steadying.{goes_step}
 use Rattle.abstract_machine.proofs.Draining.{drain_is, bound, distances_are}
 use Rattle.abstract_machine.proofs.Least.{LeastIs, GreatestIs, least_is, greatest_is}

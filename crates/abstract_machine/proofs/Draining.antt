@@ -1,5 +1,6 @@
 -- The step that a drain takes next does not stall.
-use Rattle.std.proofs.Common.{◌≡◌, ℕ, zero, suc, ◌+◌, ◌-◌, ◌*◌, ◌%◌, ◌<◌, ◌≤◌, Bool, true, false, List, [], ◌∷◌, ◌++◌, length, nat_lt, ◌⊎◌, inl, inr, Option, Some, None, is_some, refl, sym, ap, ◌∙◌, subst, arith, lt-ltb, le-leb, length-append}
+use Rattle.std.proofs.Common.{◌≡◌, ℕ, zero, suc, ◌+◌, ◌-◌, ◌*◌, ◌%◌, ◌<◌, ◌≤◌, Bool, true, false, List, [], ◌∷◌, ◌++◌, length, nat_lt, ◌⊎◌, inl, inr, Option}
+use Rattle.std.proofs.Common.{Some, None, is_some, refl, sym, ap, ◌∙◌, subst, arith, lt-ltb, le-leb, length-append}
 use Rattle.std.specs.Prelude.{if◌then◌else◌}
 use Rattle.std.proofs.lemmas.Bool.{cases_eq, cases_lt, cases_Bool, true≢false}
 use Rattle.std.proofs.lemmas.List.{length-map}
@@ -16,7 +17,8 @@ use Rattle.omega_wires.specs.Wires.{wire_after, wire_before}
 use Rattle.omega_wires.proofs.Lemmas.{path_lt, path_zero}
 use Rattle.placement.specs.Roles.{Role, Idle, Asking, Waiting, Told, depth}
 use Rattle.abstract_machine.specs.Program.{Program, word_of, path_of}
-use Rattle.abstract_machine.specs.Machine.{Machine, Step, Turn, Up, Serve, Down, Outcome, Issued, Advanced, Retired, Moved, Combined, Served, Answered, Poked, Stalled, stalled, retire_from, turned, went_up, went_down, serve_from, step}
+use Rattle.abstract_machine.specs.Machine.{Machine, Step, Turn, Up, Serve, Down, Outcome, Issued, Advanced, Retired, Moved, Combined, Served, Answered, Poked}
+use Rattle.abstract_machine.specs.Machine.{Stalled, stalled, retire_from, turned, went_up, went_down, serve_from, step}
 use Rattle.abstract_machine.specs.Steadiness.{Stands, Steady, Distance, asks, tells, waits, Far, idle, asking, told, waiting, total, Lower, Advances}
 use Rattle.abstract_machine.specs.Draining.{least, greatest, is_any, some_wire, first_wire, or_else, down_step, up_step, drain_step, AreDistances, DrainIs}
 use Rattle.messages.proofs.Lemmas.{at_put2, put2_other}

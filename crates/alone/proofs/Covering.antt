@@ -10,7 +10,8 @@ use Rattle.flat_machine.specs.Turns.{Turn, Retires, Reaches, Stops, turn_of}
 use Rattle.flat_machine.specs.Flat.{taken, with_taken, flat_step, flat_run, flat_events}
 use Rattle.alone.specs.Stations.{printed_after, consoles_after, turns, Station, behind, stopped_by, alone_by, IsReference, IsSettled}
 use Rattle.alone.specs.Closing.{IsAlike, IsForgetful, Standing, IsIn, IsMove, IsClosed, station_of, Settles, IsKeptOf, HasStopped}
-use Rattle.alone.proofs.Settling.{settled_stays, one_events, stepped, showed, stays, silent, absent, absent_silent, console_here, console_other, consoles_more, own_kept, reach_kept}
+use Rattle.alone.proofs.Settling.{settled_stays, one_events, stepped, showed, stays, silent, absent, absent_silent, console_here, console_other, consoles_more}
+use Rattle.alone.proofs.Settling.{own_kept, reach_kept}
 
 -- ---- one turn of the flat machine, from a state that settles to s
 
@@ -23,7 +24,8 @@ module _ (at : ℕ → Setting) (code : List ℕ) (kept : Station → Station) (
   SettlesTo t = Settles at code kept (flat_step m (entry.Processor k)) (consoles_after consoles (one_events m k)) t
 
   -- where it takes no turn
-  pub idle_turn : flat_step m (entry.Processor k) ≡ m → one_events m k ≡ [] → Settles at code kept (flat_step m (entry.Processor k)) (consoles_after consoles (one_events m k)) s
+  pub idle_turn : flat_step m (entry.Processor k) ≡ m → one_events m k ≡ [] →
+      Settles at code kept (flat_step m (entry.Processor k)) (consoles_after consoles (one_events m k)) s
   idle_turn same none =
       subst (λ (z : FlatState × List (ℕ × Event)). Settles at code kept z.0 (consoles_after consoles z.1) s) (λ i. (sym same i, sym none i)) h
 
@@ -49,7 +51,8 @@ module _ (at : ℕ → Setting) (code : List ℕ) (kept : Station → Station) (
     pub retiring_turn : (q : Processor) (r : Retired) → turn_of (at k) code p ≡ Retires q r → SettlesTo s
     retiring_turn q r e =
         subst (λ n. Settles at code kept n later s) (sym (becomes (Retires q r) e))
-        (own_kept at code kept m consoles s k p later h there (others (Retires q r) e) (behind mine (q, r)) runs (λ w. subst IsReference e w) (ap (alone_by mine) e)
+        (own_kept at code kept m consoles s k p later h there (others (Retires q r) e) (behind mine (q, r)) runs (λ w. subst IsReference e w)
+        (ap (alone_by mine) e)
         (printed (Retires q r) e))
 
     pub stopping_turn : (c : _) → turn_of (at k) code p ≡ Stops c → SettlesTo s
@@ -59,10 +62,12 @@ module _ (at : ℕ → Setting) (code : List ℕ) (kept : Station → Station) (
         (printed (Stops c) e))
 
     -- by a move that another station, of which the same is kept, makes
-    pub reaching_turn : (f : IsForgetful at code kept) (word : ℕ) (change : ℕ → ℕ) (after : ℕ → Processor × Retired) → turn_of (at k) code p ≡ Reaches word change after →
+    pub reaching_turn : (f : IsForgetful at code kept) (word : ℕ) (change : ℕ → ℕ) (after : ℕ → Processor × Retired) →
+        turn_of (at k) code p ≡ Reaches word change after →
         (t : Standing) → IsMove at code kept s k t → SettlesTo t
     reaching_turn f word change after e t move =
-        by_turn (turn_of (at k) code move.station.processor) refl (subst (λ a. IsAlike kept a mine (turn_of (at k) code a.processor) (Reaches word change after)) is
+        by_turn (turn_of (at k) code move.station.processor) refl
+        (subst (λ a. IsAlike kept a mine (turn_of (at k) code a.processor) (Reaches word change after)) is
         (subst (IsAlike kept (kept mine) mine (turn_of (at k) code (kept mine).processor)) e (f.turn k mine runs)))
       where
         settled : IsSettled (at k) code p
@@ -78,7 +83,8 @@ module _ (at : ℕ → Setting) (code : List ℕ) (kept : Station → Station) (
             IsAlike kept move.station mine (Reaches move.word move.change move.after) (Reaches word change after)
         alike_to x same alike = subst (λ y. IsAlike kept move.station mine y (Reaches word change after)) same alike
 
-        by_turn : (x : Turn) → turn_of (at k) code move.station.processor ≡ x → IsAlike kept move.station mine (turn_of (at k) code move.station.processor) (Reaches word change after) → SettlesTo t
+        by_turn : (x : Turn) → turn_of (at k) code move.station.processor ≡ x →
+            IsAlike kept move.station mine (turn_of (at k) code move.station.processor) (Reaches word change after) → SettlesTo t
         by_turn x _ alike0 =
             let alike = alike_to (turn_of (at k) code move.station.processor) move.turn alike0 in
             let e' : turn_of (at k) code p ≡ Reaches move.word move.change after = e ∙ (λ i. Reaches (sym alike.0 i) (sym alike.1 i) after) in
@@ -89,7 +95,8 @@ module _ (at : ℕ → Setting) (code : List ℕ) (kept : Station → Station) (
 
 -- ---- runs
 
-module _ (at : ℕ → Setting) (code : List ℕ) (kept : Station → Station) (f : IsForgetful at code kept) (states : List Standing) (closed : IsClosed at code kept states) where
+module _ (at : ℕ → Setting) (code : List ℕ) (kept : Station →
+    Station) (f : IsForgetful at code kept) (states : List Standing) (closed : IsClosed at code kept states) where
   Covered : FlatState → (ℕ → List ℕ) → Type 0
   Covered m consoles = (t : Standing) × IsIn states t × Settles at code kept m consoles t
 
@@ -121,7 +128,8 @@ module _ (at : ℕ → Setting) (code : List ℕ) (kept : Station → Station) (
       by_running p there true runs = by_turn p there runs (turn_of (at k) code p) refl
       by_running p there false stopped = (s, inside, idle_turn at code kept m consoles s k h (stays m k p there stopped) (silent m k p there stopped))
 
-      by_processor : (o : Option Processor) → slice_get m.processors k ≡ o → Covered (flat_step m (entry.Processor k)) (consoles_after consoles (one_events m k))
+      by_processor : (o : Option Processor) → slice_get m.processors k ≡ o →
+          Covered (flat_step m (entry.Processor k)) (consoles_after consoles (one_events m k))
       by_processor None none = (s, inside, idle_turn at code kept m consoles s k h (absent m k none) (absent_silent m k none))
       by_processor (Some p) there = by_running p there (is_running p.status) refl
 
@@ -148,10 +156,12 @@ module _ (at : ℕ → Setting) (code : List ℕ) (kept : Station → Station) w
     each = λ k p e. let stood = h.each k p e in stood.1 ∙ ap (λ z. Some (kept z)) (settled_stays stood.0 (at k) code (station_of p (consoles k)) (rests k p e));
   }
 
-stopped_settled : (at : ℕ → Setting) (code : List ℕ) (m : FlatState) → HasStopped m → (k : ℕ) (p : Processor) → slice_get m.processors k ≡ Some p → IsSettled (at k) code p
+stopped_settled : (at : ℕ → Setting) (code : List ℕ) (m : FlatState) → HasStopped m → (k : ℕ) (p : Processor) → slice_get m.processors k ≡ Some p →
+    IsSettled (at k) code p
 stopped_settled at code m stopped k p e runs = let f = stopped k p e in absurd (cc)
 
-pub ends_are_in : (at : ℕ → Setting) (code : List ℕ) (kept : Station → Station) (states : List Standing) (m : FlatState) (consoles : ℕ → List ℕ) (s : Standing) (order : List ℕ) →
+pub ends_are_in : (at : ℕ → Setting) (code : List ℕ) (kept : Station → Station) (states : List Standing) (m : FlatState) (consoles : ℕ →
+    List ℕ) (s : Standing) (order : List ℕ) →
     IsForgetful at code kept → IsClosed at code kept states → IsIn states s → Settles at code kept m consoles s → HasStopped (flat_run m (turns order)) →
     (t : Standing) × IsIn states t × IsKeptOf kept (flat_run m (turns order)) (consoles_after consoles (flat_events m (turns order))) t
 unfolding Covered

@@ -40,7 +40,8 @@ forgetful at code = record {
   running = λ a. running_kept (is_running a.processor.status) a;
   turn = λ k a runs.
       let same : if_running a ≡ a = ap (λ r. cond r a (record a { processor = record a.processor { registers = []; local = [] } })) runs in
-      subst (λ b. IsAlike if_running b a (turn_of (at k) code b.processor) (turn_of (at k) code a.processor)) (sym same) (alike_itself if_running a (turn_of (at k) code a.processor));
+      subst (λ b. IsAlike if_running b a (turn_of (at k) code b.processor) (turn_of (at k) code a.processor)) (sym same)
+      (alike_itself if_running a (turn_of (at k) code a.processor));
   stopped = λ a c. stopped_kept (is_running a.processor.status) a c;
   once = λ a. once_kept (is_running a.processor.status) a refl;
 }

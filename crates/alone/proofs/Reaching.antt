@@ -23,11 +23,15 @@ after_none m consoles P x = ([], x)
 after_turn : (m : FlatState) (consoles : ℕ → List ℕ) (P : FlatState → (ℕ → List ℕ) → Type 0) (k : ℕ) →
     After (flat_step m (entry.Processor k)) (consoles_after consoles (one_events m k)) P → After m consoles P
 unfolding After
-after_turn m consoles P k x =
-    (k ∷ x.0, subst (P (flat_run m (turns (k ∷ x.0)))) (sym (consoles_more consoles (one_events m k) (flat_events (flat_step m (entry.Processor k)) (turns x.0)))) x.1)
+after_turn m consoles P k x = (
+  k ∷ x.0,
+  subst (P (flat_run m (turns (k ∷ x.0))))
+      (sym (consoles_more consoles (one_events m k) (flat_events (flat_step m (entry.Processor k)) (turns x.0)))) x.1,
+)
 
 chained : (P Q : FlatState → (ℕ → List ℕ) → Type 0) (order : List ℕ) (m : FlatState) (consoles : ℕ → List ℕ) →
-    P (flat_run m (turns order)) (consoles_after consoles (flat_events m (turns order))) → ((n : FlatState) (c : ℕ → List ℕ) → P n c → After n c Q) → After m consoles Q
+    P (flat_run m (turns order)) (consoles_after consoles (flat_events m (turns order))) → ((n : FlatState) (c : ℕ → List ℕ) → P n c → After n c Q) →
+    After m consoles Q
 chained P Q [] m consoles x go = go m consoles x
 chained P Q (k ∷ ks) m consoles x go =
     after_turn m consoles Q k (chained P Q ks (flat_step m (entry.Processor k)) (consoles_after consoles (one_events m k))
@@ -94,11 +98,13 @@ module _ (at : ℕ → Setting) (code : List ℕ) (kept : Station → Station) w
 
       by_turn : is_running p.status ≡ true → (x : Turn) → turn_of (at k) code p ≡ x → After m consoles (Calm (suc k) s)
       by_turn runs (Retires q r) e =
-          goes (behind (station_of p (consoles k)) (q, r)) (ap (λ (z : FlatState). z.processors) (becomes at code kept m consoles s k h.0 p there runs (Retires q r) e))
+          goes (behind (station_of p (consoles k)) (q, r))
+          (ap (λ (z : FlatState). z.processors) (becomes at code kept m consoles s k h.0 p there runs (Retires q r) e))
           (printed at code kept m consoles s k h.0 p there runs (Retires q r) e) (rw runs (ap (alone_by (station_of p (consoles k))) e))
           (retiring_turn at code kept m consoles s k h.0 p there runs q r e)
       by_turn runs (Stops c) e =
-          goes (stopped_by (station_of p (consoles k)) c) (ap (λ (z : FlatState). z.processors) (becomes at code kept m consoles s k h.0 p there runs (Stops c) e))
+          goes (stopped_by (station_of p (consoles k)) c)
+          (ap (λ (z : FlatState). z.processors) (becomes at code kept m consoles s k h.0 p there runs (Stops c) e))
           (printed at code kept m consoles s k h.0 p there runs (Stops c) e) (rw runs (ap (alone_by (station_of p (consoles k))) e))
           (stopping_turn at code kept m consoles s k h.0 p there runs c e)
       by_turn runs (Reaches word change after) e = rests (λ _. subst IsReference (sym e) tt)
@@ -112,7 +118,8 @@ module _ (at : ℕ → Setting) (code : List ℕ) (kept : Station → Station) w
   one_calm zero k s m consoles p h there settled = after_none m consoles (Calm (suc k) s) (calm_more k s m consoles p h there settled)
   one_calm (suc n) k s m consoles p h there settled = calm_turn n k s m consoles p (one_calm n k s) h there settled
 
-  all_calm : (j : ℕ) (s : Standing) (m : FlatState) (consoles : ℕ → List ℕ) → j ≤ length s.stations → Settles at code kept m consoles s → After m consoles (Calm j s)
+  all_calm : (j : ℕ) (s : Standing) (m : FlatState) (consoles : ℕ → List ℕ) → j ≤ length s.stations → Settles at code kept m consoles s →
+      After m consoles (Calm j s)
   all_calm zero s m consoles few h = after_none m consoles (Calm zero s) (h, λ i p less. absurd (omega (arith, less)))
   all_calm (suc j) s m consoles few h =
       then_after (Calm j s) (Calm (suc j) s) m consoles (all_calm j s m consoles (omega (arith, few)) h) (λ n c calm. one n c calm)
@@ -129,7 +136,8 @@ module _ (at : ℕ → Setting) (code : List ℕ) (kept : Station → Station) w
 
   rests : (s : Standing) (m : FlatState) (consoles : ℕ → List ℕ) → Settles at code kept m consoles s → After m consoles (Rests s)
   rests s m consoles h =
-      then_after (Calm (length s.stations) s) (Rests s) m consoles (all_calm (length s.stations) s m consoles (omega arith) h) (λ n c calm. after_none n c (Rests s)
+      then_after (Calm (length s.stations) s) (Rests s) m consoles (all_calm (length s.stations) s m consoles (omega arith) h)
+      (λ n c calm. after_none n c (Rests s)
       (calm.0, λ k p e. let all = calm.0.all in let less = found_within n.processors k p e in calm.1 k p (omega (arith, all, less)) e))
 
   -- ---- moves
@@ -142,7 +150,8 @@ module _ (at : ℕ → Setting) (code : List ℕ) (kept : Station → Station) w
         within : k < length m.processors
         within = let all = h.0.all in let less = found_within s.stations k move.station move.there in omega (arith, all, less)
 
-        by_processor : (p : Processor) × (slice_get m.processors k ≡ Some p) → Settles at code kept (flat_step m (entry.Processor k)) (consoles_after consoles (one_events m k)) u
+        by_processor : (p : Processor) × (slice_get m.processors k ≡ Some p) →
+            Settles at code kept (flat_step m (entry.Processor k)) (consoles_after consoles (one_events m k)) u
         by_processor found = by_turn (turn_of (at k) code p) refl (h.1 k p there runs)
           where
             p : Processor
@@ -167,16 +176,19 @@ module _ (at : ℕ → Setting) (code : List ℕ) (kept : Station → Station) w
             by_turn (Stops c) e refers = absurd (subst IsReference e refers)
             by_turn (Reaches word change after) e refers = reaching_turn at code kept m consoles s k h.0 found.0 found.1 runs f word change after e u move
 
-    moved_all : (way : List (ℕ × Standing)) (s t : Standing) (m : FlatState) (consoles : ℕ → List ℕ) → Settles at code kept m consoles s → IsWay at code kept s way t →
+    moved_all : (way : List (ℕ × Standing)) (s t : Standing) (m : FlatState) (consoles : ℕ → List ℕ) → Settles at code kept m consoles s →
+        IsWay at code kept s way t →
         After m consoles (Rests t)
     moved_all [] s t m consoles h e = subst (λ u. After m consoles (Rests u)) e (rests s m consoles h)
     moved_all ((k, u) ∷ way) s t m consoles h w =
         then_after (Rests s) (Rests t) m consoles (rests s m consoles h) (λ n c r. after_turn n c (Rests t) k
         (moved_all way u t (flat_step n (entry.Processor k)) (consoles_after c (one_events n k)) (moved_once s u k n c r w.0) w.1))
 
-pub moves_are : (at : ℕ → Setting) (code : List ℕ) (kept : Station → Station) (m : FlatState) (consoles : ℕ → List ℕ) (s : Standing) (way : List (ℕ × Standing)) (t : Standing) →
+pub moves_are : (at : ℕ → Setting) (code : List ℕ) (kept : Station → Station) (m : FlatState) (consoles : ℕ →
+    List ℕ) (s : Standing) (way : List (ℕ × Standing)) (t : Standing) →
     IsForgetful at code kept → Settles at code kept m consoles s → IsWay at code kept s way t →
-    (order : List ℕ) × IsKeptOf kept (flat_run m (turns order)) (consoles_after consoles (flat_events m (turns order))) t × AreSettled at code (flat_run m (turns order))
+    (order : List ℕ) × IsKeptOf kept (flat_run m (turns order)) (consoles_after consoles (flat_events m (turns order))) t
+    × AreSettled at code (flat_run m (turns order))
 unfolding After
 moves_are at code kept m consoles s way t f h w =
     let done : After m consoles (Rests at code kept t) = moved_all at code kept f way s t m consoles h w in

@@ -1,5 +1,6 @@
 -- What a turn of one processor leaves of the state to which the flat machine settles.
-use Rattle.std.proofs.Common.{◌≡◌, ◌≢◌, ◌⊎◌, inl, inr, ℕ, ◌<◌, Bool, true, false, cond, zero, suc, List, [], ◌∷◌, ◌++◌, Some, None, length, refl, sym, ap, subst, ◌∙◌, arith, eqb, eq-eqb, ne_eqb}
+use Rattle.std.proofs.Common.{◌≡◌, ◌≢◌, ◌⊎◌, inl, inr, ℕ, ◌<◌, Bool, true, false, cond, zero, suc, List, [], ◌∷◌, ◌++◌, Some, None, length, refl, sym, ap}
+use Rattle.std.proofs.Common.{subst, ◌∙◌, arith, eqb, eq-eqb, ne_eqb}
 use Rattle.std.specs.Prelude.{slice_get, slice_set, slice_index}
 use Rattle.std.proofs.lemmas.List.{length-set}
 use Rattle.flat_machine.specs.declared.setting.Setting.{Setting}
@@ -36,7 +37,8 @@ pub some_inj : {X : Type 0} (x y : X) → Some x ≡ Some y → x ≡ y
 some_inj x y e = cc
 
 -- what stands at a place behind a write
-pub set_get : {X : Type 0} (xs : List X) (k j : ℕ) (x y : X) → slice_get (slice_set xs k x) j ≡ Some y → ((j ≡ k) × (y ≡ x)) ⊎ ((j ≢ k) × (slice_get xs j ≡ Some y))
+pub set_get : {X : Type 0} (xs : List X) (k j : ℕ) (x y : X) → slice_get (slice_set xs k x) j ≡ Some y →
+    ((j ≡ k) × (y ≡ x)) ⊎ ((j ≢ k) × (slice_get xs j ≡ Some y))
 set_get [] k j x y e = inr (λ same. absurd (cc), e)
 set_get (z ∷ zs) zero zero x y e = inl (refl, sym (some_inj x y e))
 set_get (z ∷ zs) zero (suc j) x y e = inr (λ same. omega arith, e)
@@ -108,11 +110,13 @@ console_here consoles k e = ap (λ b. cond b (printed_after (consoles k) e) (con
 pub console_other : (consoles : ℕ → List ℕ) (k : ℕ) (e : Event) (j : ℕ) → j ≢ k → consoles_after consoles ((k, e) ∷ []) j ≡ consoles j
 console_other consoles k e j ne = ap (λ b. cond b (printed_after (consoles j) e) (consoles j)) (ne_eqb k j (λ same. ne (sym same)))
 
-console_more : (k : ℕ) (console : List ℕ) (first second : List (ℕ × Event)) → console_after k console (first ++ second) ≡ console_after k (console_after k console first) second
+console_more : (k : ℕ) (console : List ℕ) (first second : List (ℕ × Event)) →
+    console_after k console (first ++ second) ≡ console_after k (console_after k console first) second
 console_more k console [] second = refl
 console_more k console ((j, e) ∷ first) second = console_more k (cond (eqb j k) (printed_after console e) console) first second
 
-pub consoles_more : (consoles : ℕ → List ℕ) (first second : List (ℕ × Event)) → consoles_after consoles (first ++ second) ≡ consoles_after (consoles_after consoles first) second
+pub consoles_more : (consoles : ℕ → List ℕ) (first second : List (ℕ × Event)) →
+    consoles_after consoles (first ++ second) ≡ consoles_after (consoles_after consoles first) second
 consoles_more consoles first second = λ i k. console_more k (consoles k) first second i
 
 -- ---- what is forgotten
@@ -237,18 +241,23 @@ module _ (at : ℕ → Setting) (code : List ℕ) (kept : Station → Station) w
           each = λ j y e. by_place j y (set_get m.processors k j b.processor y e);
         }
       where
-        by_place : (j : ℕ) (y : Processor) → ((j ≡ k) × (y ≡ b.processor)) ⊎ ((j ≢ k) × (slice_get m.processors j ≡ Some y)) → Stands s j (station_of y (later j))
+        by_place : (j : ℕ) (y : Processor) → ((j ≡ k) × (y ≡ b.processor)) ⊎ ((j ≢ k) × (slice_get m.processors j ≡ Some y)) →
+            Stands s j (station_of y (later j))
         by_place j y (inl x) =
             stands_same s j k (station_of y (later j)) b (sym x.0) (λ i. station_of (sym x.1 i) ((sym printed ∙ ap later (sym x.0)) i))
             (on_its_way s k here b runs own is (h.each k p there))
-        by_place j y (inr x) = stands_same s j j (station_of y (later j)) (station_of y (consoles j)) refl (ap (station_of y) (sym (others j x.0))) (h.each j y x.1)
+        by_place j y (inr x) =
+            stands_same s j j (station_of y (later j)) (station_of y (consoles j)) refl (ap (station_of y) (sym (others j x.0))) (h.each j y x.1)
 
     pub reach_kept : (f : IsForgetful at code kept) (word : ℕ) (change : ℕ → ℕ) (after : ℕ → Processor × Retired) (other : ℕ → Station) (n : ℕ) →
         ((x : ℕ) → kept (other x) ≡ kept (behind here (after x))) →
         IsSettled (at k) code (alone n (at k) code (other (slice_index s.shared word))).processor →
         later k ≡ (behind here (after (slice_index m.shared word))).console →
         Settles at code kept
-        (record m { processors = slice_set m.processors k (after (slice_index m.shared word)).0; shared = slice_set m.shared word (change (slice_index m.shared word)) }) later
+        (record m {
+          processors = slice_set m.processors k (after (slice_index m.shared word)).0;
+          shared = slice_set m.shared word (change (slice_index m.shared word));
+        }) later
         (gone s k (kept (alone n (at k) code (other (slice_index s.shared word)))) word (change (slice_index s.shared word)))
     unfolding Stands
     reach_kept f word change after other n alike settled printed =
@@ -264,7 +273,10 @@ module _ (at : ℕ → Setting) (code : List ℕ) (kept : Station → Station) w
         }
       where
         new : FlatState
-        new = record m { processors = slice_set m.processors k (after (slice_index m.shared word)).0; shared = slice_set m.shared word (change (slice_index m.shared word)) }
+        new = record m {
+          processors = slice_set m.processors k (after (slice_index m.shared word)).0;
+          shared = slice_set m.shared word (change (slice_index m.shared word));
+        }
 
         q : Station
         q = alone n (at k) code (other (slice_index s.shared word))
@@ -278,12 +290,17 @@ module _ (at : ℕ → Setting) (code : List ℕ) (kept : Station → Station) w
         old_same : behind here (after (slice_index s.shared word)) ≡ behind here (after (slice_index m.shared word))
         old_same = ap (λ ws. behind here (after (slice_index ws word))) h.shared
 
-        by_place : (j : ℕ) (y : Processor) → ((j ≡ k) × (y ≡ (after (slice_index m.shared word)).0)) ⊎ ((j ≢ k) × (slice_get m.processors j ≡ Some y)) → Stands t j (station_of y (later j))
+        by_place : (j : ℕ) (y : Processor) → ((j ≡ k) × (y ≡ (after (slice_index m.shared word)).0)) ⊎ ((j ≢ k) × (slice_get m.processors j ≡ Some y)) →
+            Stands t j (station_of y (later j))
         by_place j y (inl x) =
             let stood = h.each k p there in
-            let is : behind here (after (slice_index m.shared word)) ≡ station_of y (later j) = λ i. station_of (sym x.1 i) ((sym printed ∙ ap later (sym x.0)) i) in
-            stands_same t j k (station_of y (later j)) (behind here (after (slice_index s.shared word))) (sym x.0) (old_same ∙ is)
-            (n, set_there s.stations k (kept q) _ stood.1 ∙ ap Some same, settled_alike f k q (alone n (at k) code (behind here (after (slice_index s.shared word)))) same settled)
+            let is : behind here (after (slice_index m.shared word)) ≡ station_of y (later j) =
+            λ i. station_of (sym x.1 i) ((sym printed ∙ ap later (sym x.0)) i) in
+            stands_same t j k (station_of y (later j)) (behind here (after (slice_index s.shared word))) (sym x.0) (old_same ∙ is) (
+              n,
+              set_there s.stations k (kept q) _ stood.1 ∙ ap Some same,
+              settled_alike f k q (alone n (at k) code (behind here (after (slice_index s.shared word)))) same settled,
+            )
         by_place j y (inr x) =
             let stood = h.each j y x.1 in
             stands_same t j j (station_of y (later j)) (station_of y (consoles j)) refl (ap (station_of y) (sym (others j x.0)))

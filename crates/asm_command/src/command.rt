@@ -31,7 +31,8 @@ pub fn asm_command<R: Read + Drop, W: LinkWrite, E: Write>(
 ) -> u8
     requires works { W.has_failed out.old ≡ false }
     ensures assembled { result ≡ 0 → IsPrinted (IsAssembly (R.remaining file)) (W.contents out.old) (W.contents out.new) }
-    ensures told { result ≢ 0 → IsTold W.has_failed (Fault.Image ImageError.Link) ⊥ (IsNoAssembly (R.remaining file) (W.contents out.old) (W.contents out.new)) out.old out.new result }
+    ensures told { result ≢ 0 → IsTold W.has_failed (Fault.Image ImageError.Link) ⊥
+        (IsNoAssembly (R.remaining file) (W.contents out.old) (W.contents out.new)) out.old out.new result }
     ensures failed { W.has_failed out.new ≡ true → result ≡ 3 }
 {
     match carried_out(alloc, file, out) {
@@ -85,7 +86,8 @@ fn write_program<W: LinkWrite>(program: &Program, out: &mut W) -> Result<(), Fau
     requires works { W.has_failed out.old ≡ false }
     ensures failed { W.has_failed out.new ≡ is_err result }
     ensures written { OnOk result (Appends (W.contents out.old) (W.contents out.new) (spelling program.now)) }
-    ensures begun { IfErr result (λ fault. (fault ≡ Fault.Image ImageError.Link) × AppendsPart (W.contents out.old) (W.contents out.new) (spelling program.now)) }
+    ensures begun { IfErr result (λ fault. (fault ≡ Fault.Image ImageError.Link)
+        × AppendsPart (W.contents out.old) (W.contents out.new) (spelling program.now)) }
 {
     match write_image(out, program.layout()) {
         Ok(()) => Ok(()),

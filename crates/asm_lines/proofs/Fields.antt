@@ -10,7 +10,8 @@ below_zero : (a b : ℕ) → a < b → (pos a -ℤ pos b) ≡ negsuc (b - a - 1)
 below_zero a b lt = omega (arith, ints)
 
 -- a signed number that is one of these, whichever
-pub signed_cases : (P : ℤ → Type 0) (sign field : ℕ) → field < 2 * sign → (field < sign → P (pos field)) → (sign ≤ field → P (negsuc (2 * sign - field - 1))) → P (signed sign field)
+pub signed_cases : (P : ℤ → Type 0) (sign field : ℕ) → field < 2 * sign → (field < sign → P (pos field)) → (sign ≤ field → P (negsuc (2 * sign - field - 1))) →
+    P (signed sign field)
 signed_cases P sign field fits low high =
     elim (cases_lt field sign) [
       | inl lt ↦ rw (lt-ltb field sign lt) (low lt)
@@ -29,7 +30,8 @@ module _ (sign field : ℕ) (fits : field < 2 * sign) (small : sign < 2 ^ 31) wh
 
 -- an offset is even, so it ends one step earlier
 pub offset_high : (sign field most : ℕ) → field < 2 * sign → 2 * sign ≤ most + 2 → int_le (offset sign field) (pos most) ≡ true
-offset_high sign field most fits le = signed_cases (λ z. int_le z (pos most) ≡ true) (2 * sign) (2 * field) (omega arith) (λ lt. le-leb _ _ (omega arith)) (λ high. refl)
+offset_high sign field most fits le =
+    signed_cases (λ z. int_le z (pos most) ≡ true) (2 * sign) (2 * field) (omega arith) (λ lt. le-leb _ _ (omega arith)) (λ high. refl)
 
 -- ---- the low bits of a number are its field again
 

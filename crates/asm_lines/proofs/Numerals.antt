@@ -1,5 +1,6 @@
 -- A number that is written is read again.
-use Rattle.std.proofs.Common.{◌≡◌, ℕ, suc, ◌+◌, ◌-◌, ◌*◌, ◌^◌, ◌<◌, ◌≤◌, Bool, true, false, not, eqb, ltb, List, [], ◌∷◌, length, Some, Ok, refl, ap, ◌∙◌, arith, inl, inr}
+use Rattle.std.proofs.Common.{◌≡◌, ℕ, suc, ◌+◌, ◌-◌, ◌*◌, ◌^◌, ◌<◌, ◌≤◌, Bool, true, false, not, eqb, ltb, List, [], ◌∷◌, length, Some, Ok, refl, ap, ◌∙◌}
+use Rattle.std.proofs.Common.{arith, inl, inr}
 use Rattle.std.specs.Prelude.{◌==◌, ◌&&◌, ◌||◌, nat_lt, ℤ, pos, negsuc, int_le, slice_index, unsigned_abs}
 use Rattle.std.specs.Char.{digit_value}
 use Rattle.std.specs.List.{list_all}
@@ -54,7 +55,8 @@ unfolding number_of digits_in
 plain_digits [] h = let none : 0 < 0 = h.0 in absurd (omega arith)
 plain_digits (b ∷ bs) h =
     let no_minus : eqb b 45 ≡ false = not-true _ (digit_passes (λ b. not (eqb b 45)) refl b h.1.0) in
-    let no_hex : ((slice_index (b ∷ bs) 0 == 48) && (slice_index (b ∷ bs) 1 == 120)) ≡ false = and_right (eqb b 48) (slice_index bs 0 == 120) (second_digit bs h.1.1) in
+    let no_hex : ((slice_index (b ∷ bs) 0 == 48) && (slice_index (b ∷ bs) 1 == 120)) ≡ false =
+    and_right (eqb b 48) (slice_index bs 0 == 120) (second_digit bs h.1.1) in
     rw (no_minus, no_hex, digits_again 0 (b ∷ bs) h.1) refl
 
 minus_digits : (bs : List ℕ) → IsNumeral 10 bs → number_of (45 ∷ bs) ≡ Some (minus (digits_value 10 bs))
@@ -70,9 +72,11 @@ decimal_read n small = let d = decimal_is_IsNumeral n (omega arith) in plain_dig
 
 pub signed_read : (z : ℤ) → unsigned_abs z < 2 ^ 32 → number_of (signed_decimal z) ≡ Some z
 signed_read (pos n) small = decimal_read n small
-signed_read (negsuc n) small = let d = decimal_is_IsNumeral (suc n) (omega arith) in minus_digits (decimal (suc n)) d.0 ∙ ap (λ (v : ℕ). Some (minus v)) d.1 ∙ ap (λ (z : ℤ). Some z) (minus_suc n)
+signed_read (negsuc n) small = let d = decimal_is_IsNumeral (suc n) (omega arith) in
+    minus_digits (decimal (suc n)) d.0 ∙ ap (λ (v : ℕ). Some (minus v)) d.1 ∙ ap (λ (z : ℤ). Some z) (minus_suc n)
 
-pub within_again : (least most z : ℤ) → unsigned_abs z < 2 ^ 32 → int_le least z ≡ true → int_le z most ≡ true → number_within least most (signed_decimal z) ≡ Ok z
+pub within_again : (least most z : ℤ) → unsigned_abs z < 2 ^ 32 → int_le least z ≡ true → int_le z most ≡ true →
+    number_within least most (signed_decimal z) ≡ Ok z
 unfolding number_within
 within_again least most z small low high = rw (signed_read z small, low, high) refl
 
@@ -83,7 +87,8 @@ natural_again most n le small = rw (decimal_read n (omega arith), le-leb 0 n (om
 -- ---- as words
 
 -- what holds of digits and of a minus holds of each byte
-pub signed_pass : (q : ℕ → Bool) → agree_below (λ b. nat_lt b 48 || q b) (λ _. true) 58 ≡ true → q 45 ≡ true → (z : ℤ) → unsigned_abs z < 2 ^ 32 → list_all q (signed_decimal z) ≡ true
+pub signed_pass : (q : ℕ → Bool) → agree_below (λ b. nat_lt b 48 || q b) (λ _. true) 58 ≡ true → q 45 ≡ true → (z : ℤ) → unsigned_abs z < 2 ^ 32 →
+    list_all q (signed_decimal z) ≡ true
 signed_pass q table minus (pos n) small = digits_pass q table (decimal n) (decimal_is_IsNumeral n (omega arith)).0.1
 signed_pass q table minus (negsuc n) small = and_from (q 45) _ minus (digits_pass q table (decimal (suc n)) (decimal_is_IsNumeral (suc n) (omega arith)).0.1)
 

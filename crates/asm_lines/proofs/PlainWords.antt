@@ -1,5 +1,6 @@
 -- Words without special bytes, and the cuts of texts that are made of them.
-use Rattle.std.proofs.Common.{◌≡◌, ℕ, suc, ◌+◌, ◌-◌, ◌<◌, ◌≤◌, Bool, true, false, not, eqb, List, [], ◌∷◌, ◌++◌, length, get_or, drop, map, Some, None, refl, sym, ap, ◌∙◌, append_assoc, append-nil, arith}
+use Rattle.std.proofs.Common.{◌≡◌, ℕ, suc, ◌+◌, ◌-◌, ◌<◌, ◌≤◌, Bool, true, false, not, eqb, List, [], ◌∷◌, ◌++◌, length, get_or, drop, map, Some, None, refl}
+use Rattle.std.proofs.Common.{sym, ap, ◌∙◌, append_assoc, append-nil, arith}
 use Rattle.std.specs.Prelude.{◌==◌, ◌||◌, reverse, nat_lt}
 use Rattle.std.specs.List.{list_all, position_or_len, suffix_len, slice_split}
 use Rattle.std.proofs.lemmas.Bool.{and_parts, and_from, or_parts, not_from_false, lt-ltb, le-ltb, not-true, true_from_ne_false, both_ways}
@@ -42,7 +43,8 @@ pub cut_at_mid : (p : ℕ → Bool) (xs : List ℕ) (c : ℕ) (ys : List ℕ) �
 unfolding cut_at
 cut_at_mid p xs c ys h e =
     let inside : nat_lt (length xs) (length (xs ++ c ∷ ys)) ≡ true = lt-ltb _ _ (simp length-append (omega arith)) in
-    let rest : drop (length xs + 1) (xs ++ c ∷ ys) ≡ ys = ap (drop (length xs + 1)) (sym (append_assoc xs (c ∷ []) ys)) ∙ drop_at (xs ++ c ∷ []) ys (length xs + 1) (simp length-append refl) in
+    let rest : drop (length xs + 1) (xs ++ c ∷ ys) ≡ ys =
+    ap (drop (length xs + 1)) (sym (append_assoc xs (c ∷ []) ys)) ∙ drop_at (xs ++ c ∷ []) ys (length xs + 1) (simp length-append refl) in
     rw (cut_mid p xs c ys h e, inside, take_at xs (c ∷ ys) (length xs) refl, rest) refl
 
 pub cut_last_mid : (front inside : List ℕ) → list_all (λ b. not (b == 40)) inside ≡ true → cut_last_at 40 (front ++ 40 ∷ inside) ≡ Some (front, inside)
@@ -53,7 +55,8 @@ cut_last_mid front inside h =
     let behind : (k : ℕ) → length front + 1 ≤ k → k < length (front ++ 40 ∷ inside) → not (eqb (get_or (front ++ 40 ∷ inside) k 0) 40) ≡ true =
     λ k low high.
     let at : get_or (front ++ 40 ∷ inside) k 0 ≡ get_or inside (k - (length front + 1)) 0 =
-    ap (λ l. get_or l k 0) (sym (append_assoc front (40 ∷ []) inside)) ∙ get_or-append_right (front ++ 40 ∷ []) inside (length front + 1) k 0 (simp length-append refl) low in
+    ap (λ l. get_or l k 0) (sym (append_assoc front (40 ∷ []) inside))
+    ∙ get_or-append_right (front ++ 40 ∷ []) inside (length front + 1) k 0 (simp length-append refl) low in
     rw at (all_at (λ b. not (b == 40)) inside (k - (length front + 1)) 0 (omega (arith, count)) h) in
     let mark : 0 < length front + 1 → not (eqb (get_or (front ++ 40 ∷ inside) (length front + 1 - 1) 0) 40) ≡ false =
     λ _. let same : length front + 1 - 1 ≡ length front = omega arith in rw (same, get_or-append_seam front 40 inside 0) refl in
@@ -62,7 +65,9 @@ cut_last_mid front inside h =
     let stands : nat_lt (length (front ++ 40 ∷ inside) - (length front + 1)) (length (front ++ 40 ∷ inside)) ≡ true = lt-ltb _ _ (omega (arith, count)) in
     let before : length (front ++ 40 ∷ inside) - (length (front ++ 40 ∷ inside) - (length front + 1)) - 1 ≡ length front = omega (arith, count) in
     let after : length (front ++ 40 ∷ inside) - (length (front ++ 40 ∷ inside) - (length front + 1)) ≡ length front + 1 = omega (arith, count) in
-    let rest : drop (length front + 1) (front ++ 40 ∷ inside) ≡ inside = ap (drop (length front + 1)) (sym (append_assoc front (40 ∷ []) inside)) ∙ drop_at (front ++ 40 ∷ []) inside (length front + 1) (simp length-append refl) in
+    let rest : drop (length front + 1) (front ++ 40 ∷ inside)
+    ≡ inside = ap (drop (length front + 1)) (sym (append_assoc front (40 ∷ []) inside))
+    ∙ drop_at (front ++ 40 ∷ []) inside (length front + 1) (simp length-append refl) in
     rw (suffix, stands, before, after, take_at front (40 ∷ inside) (length front) refl, rest) refl
 
 kept_front : (xs : List ℕ) → is_blank (get_or xs 0 32) ≡ false → front_trimmed xs ≡ xs
@@ -125,7 +130,8 @@ module _ (w : List ℕ) (is : Word w) where
 -- the last byte of a text is that of what stands behind some byte
 last_seam : (xs : List ℕ) (c : ℕ) (ys : List ℕ) → 0 < length ys → get_or (reverse (xs ++ c ∷ ys)) 0 32 ≡ get_or (reverse ys) 0 32
 last_seam xs c ys some =
-    let split : reverse (xs ++ c ∷ ys) ≡ reverse ys ++ reverse (xs ++ c ∷ []) = ap reverse (sym (append_assoc xs (c ∷ []) ys)) ∙ reverse-append (xs ++ c ∷ []) ys in
+    let split : reverse (xs ++ c ∷ ys) ≡ reverse ys ++ reverse (xs ++ c ∷ []) =
+    ap reverse (sym (append_assoc xs (c ∷ []) ys)) ∙ reverse-append (xs ++ c ∷ []) ys in
     ap (λ l. get_or l 0 32) split ∙ get_or_append_left (reverse ys) (reverse (xs ++ c ∷ [])) 32 0 (rw length-reverse some)
 
 last_plain : (x : ℕ) (xs : List ℕ) → list_all is_plain (x ∷ xs) ≡ true → is_plain (get_or (reverse (x ∷ xs)) 0 32) ≡ true
@@ -141,31 +147,41 @@ word_trimmed w is = trimmed_same w (first_stays w is) (last_stays w is)
 
 -- ---- a name with its operands
 
-pub everywhere : (q : ℕ → Bool) → q 32 ≡ true → q 44 ≡ true → ((w : List ℕ) → Word w → list_all q w ≡ true) → (ops : List (List ℕ)) → Words ops → list_all q (after_commas ops) ≡ true
+pub everywhere : (q : ℕ → Bool) → q 32 ≡ true → q 44 ≡ true → ((w : List ℕ) → Word w → list_all q w ≡ true) → (ops : List (List ℕ)) → Words ops →
+    list_all q (after_commas ops) ≡ true
 everywhere q q32 q44 each [] none = refl
-everywhere q q32 q44 each (op ∷ ops) (more w ws) = and_from (q 44) _ q44 (and_from (q 32) _ q32 (joined_all q op (after_commas ops) (each op w) (everywhere q q32 q44 each ops ws)))
+everywhere q q32 q44 each (op ∷ ops) (more w ws) =
+    and_from (q 44) _ q44 (and_from (q 32) _ q32 (joined_all q op (after_commas ops) (each op w) (everywhere q q32 q44 each ops ws)))
 
 pub some_append : (xs ys : List ℕ) → 0 < length xs → 0 < length (xs ++ ys)
 some_append xs ys some = simp length-append (omega arith)
 
-last_operand : (front : List ℕ) (c : ℕ) (op : List ℕ) (ops : List (List ℕ)) → Word op → Words ops → is_blank (get_or (reverse (front ++ c ∷ (op ++ after_commas ops))) 0 32) ≡ false
-last_operand front c op [] w none = ap (λ l. is_blank (get_or (reverse (front ++ c ∷ l)) 0 32)) (append-nil op) ∙ ap is_blank (last_seam front c op w.nonempty) ∙ last_stays op w
+last_operand : (front : List ℕ) (c : ℕ) (op : List ℕ) (ops : List (List ℕ)) → Word op → Words ops →
+    is_blank (get_or (reverse (front ++ c ∷ (op ++ after_commas ops))) 0 32) ≡ false
+last_operand front c op [] w none =
+    ap (λ l. is_blank (get_or (reverse (front ++ c ∷ l)) 0 32)) (append-nil op) ∙ ap is_blank (last_seam front c op w.nonempty) ∙ last_stays op w
 last_operand front c op (o ∷ os) w (more v vs) =
-    ap is_blank (last_seam front c (op ++ 44 ∷ 32 ∷ (o ++ after_commas os)) (some_append op _ w.nonempty) ∙ last_seam op 44 (32 ∷ (o ++ after_commas os)) (omega arith)) ∙ last_operand [] 32 o os v vs
+    ap is_blank (last_seam front c (op ++ 44 ∷ 32 ∷ (o ++ after_commas os)) (some_append op _ w.nonempty)
+    ∙ last_seam op 44 (32 ∷ (o ++ after_commas os)) (omega arith)) ∙ last_operand [] 32 o os v vs
 
-pub split_mid : (p : ℕ → Bool) (xs : List ℕ) (c : ℕ) (ys : List ℕ) → list_all (λ b. not (p b)) xs ≡ true → p c ≡ true → slice_split p (xs ++ c ∷ ys) ≡ xs ∷ slice_split p ys
+pub split_mid : (p : ℕ → Bool) (xs : List ℕ) (c : ℕ) (ys : List ℕ) → list_all (λ b. not (p b)) xs ≡ true → p c ≡ true →
+    slice_split p (xs ++ c ∷ ys) ≡ xs ∷ slice_split p ys
 split_mid p [] c ys h e = slice_split-cons_yes p c ys e
-split_mid p (x ∷ xs) c ys h e = let a = and_parts (not (p x)) (list_all (λ b. not (p b)) xs) h in slice_split-cons_no p x (xs ++ c ∷ ys) (not-true _ a.0) ∙ rw (split_mid p xs c ys a.1 e) refl
+split_mid p (x ∷ xs) c ys h e = let a =
+    and_parts (not (p x)) (list_all (λ b. not (p b)) xs) h in slice_split-cons_no p x (xs ++ c ∷ ys) (not-true _ a.0) ∙ rw (split_mid p xs c ys a.1 e) refl
 
 pub split_none : (p : ℕ → Bool) (xs : List ℕ) → list_all (λ b. not (p b)) xs ≡ true → slice_split p xs ≡ xs ∷ []
 split_none p [] h = refl
-split_none p (x ∷ xs) h = let a = and_parts (not (p x)) (list_all (λ b. not (p b)) xs) h in slice_split-cons_no p x xs (not-true _ a.0) ∙ rw (split_none p xs a.1) refl
+split_none p (x ∷ xs) h = let a =
+    and_parts (not (p x)) (list_all (λ b. not (p b)) xs) h in slice_split-cons_no p x xs (not-true _ a.0) ∙ rw (split_none p xs a.1) refl
 
 pub one_part : (mark : ℕ) (xs : List ℕ) → list_all (λ b. not (eqb b mark)) xs ≡ true → parts_at mark xs ≡ xs ∷ []
 one_part mark xs h = split_none (λ b. eqb b mark) xs h
 
-split_operands : (lead op : List ℕ) (ops : List (List ℕ)) → list_all (λ b. not (eqb b 44)) lead ≡ true → trimmed lead ≡ op → Words ops → map trimmed (slice_split (λ b. eqb b 44) (lead ++ after_commas ops)) ≡ op ∷ ops
-split_operands lead op [] h t none = ap (λ l. map trimmed (slice_split (λ b. eqb b 44) l)) (append-nil lead) ∙ ap (map trimmed) (split_none (λ b. eqb b 44) lead h) ∙ ap (λ (x : List ℕ). x ∷ []) t
+split_operands : (lead op : List ℕ) (ops : List (List ℕ)) → list_all (λ b. not (eqb b 44)) lead ≡ true → trimmed lead ≡ op → Words ops →
+    map trimmed (slice_split (λ b. eqb b 44) (lead ++ after_commas ops)) ≡ op ∷ ops
+split_operands lead op [] h t none = ap (λ l. map trimmed (slice_split (λ b. eqb b 44) l)) (append-nil lead)
+    ∙ ap (map trimmed) (split_none (λ b. eqb b 44) lead h) ∙ ap (λ (x : List ℕ). x ∷ []) t
 split_operands lead op (o ∷ os) h t (more w ws) =
     ap (map trimmed) (split_mid (λ b. eqb b 44) lead 44 (32 ∷ (o ++ after_commas os)) h refl)
     ∙ ap (λ (x : List ℕ). x ∷ map trimmed (slice_split (λ b. eqb b 44) ((32 ∷ o) ++ after_commas os))) t
@@ -180,23 +196,36 @@ unfolding operands_of trimmed
 no_operands_again = refl
 
 module _ (name op : List ℕ) (ops : List (List ℕ)) (wn : Word name) (w : Word op) (ws : Words ops) where
-  pub text_quiet : (q : ℕ → Bool) → q 32 ≡ true → q 44 ≡ true → ((v : List ℕ) → Word v → list_all q v ≡ true) → list_all q (name ++ 32 ∷ (op ++ after_commas ops)) ≡ true
-  text_quiet q q32 q44 each = joined_all q name (32 ∷ (op ++ after_commas ops)) (each name wn) (and_from (q 32) _ q32 (joined_all q op (after_commas ops) (each op w) (everywhere q q32 q44 each ops ws)))
+  pub text_quiet : (q : ℕ → Bool) → q 32 ≡ true → q 44 ≡ true → ((v : List ℕ) → Word v → list_all q v ≡ true) →
+      list_all q (name ++ 32 ∷ (op ++ after_commas ops)) ≡ true
+  text_quiet q q32 q44 each = joined_all q name (32 ∷ (op ++ after_commas ops)) (each name wn)
+      (and_from (q 32) _ q32 (joined_all q op (after_commas ops) (each op w) (everywhere q q32 q44 each ops ws)))
 
   pub text_trimmed : trimmed (name ++ 32 ∷ (op ++ after_commas ops)) ≡ name ++ 32 ∷ (op ++ after_commas ops)
   text_trimmed =
-      let first : get_or (name ++ 32 ∷ (op ++ after_commas ops)) 0 32 ≡ get_or name 0 32 = get_or_append_left name (32 ∷ (op ++ after_commas ops)) 32 0 wn.nonempty in
+      let first : get_or (name ++ 32 ∷ (op ++ after_commas ops)) 0 32 ≡ get_or name 0 32 =
+      get_or_append_left name (32 ∷ (op ++ after_commas ops)) 32 0 wn.nonempty in
       trimmed_same (name ++ 32 ∷ (op ++ after_commas ops)) (ap is_blank first ∙ first_stays name wn) (last_operand name 32 op ops w ws)
 
 -- ---- brackets
 
 pub bracketed_none : (w : List ℕ) → 0 < length w → list_all (λ b. not (eqb b 41)) w ≡ true → bracketed w ≡ None
 unfolding bracketed
-bracketed_none w some h = let last : eqb (get_or w (length w - 1) 0) 41 ≡ false = not-true _ (all_at (λ b. not (eqb b 41)) w (length w - 1) 0 (omega arith) h) in rw last refl
+bracketed_none w some h = let last : eqb (get_or w (length w - 1) 0) 41 ≡ false =
+    not-true _ (all_at (λ b. not (eqb b 41)) w (length w - 1) 0 (omega arith) h) in rw last refl
 
-pub bracketed_again : (front inside : List ℕ) → trimmed front ≡ front → trimmed inside ≡ inside → list_all (λ b. not (eqb b 40)) inside ≡ true → bracketed (in_brackets front inside) ≡ Some (front, inside)
+pub bracketed_again : (front inside : List ℕ) → trimmed front ≡ front → trimmed inside ≡ inside → list_all (λ b. not (eqb b 40)) inside ≡ true →
+    bracketed (in_brackets front inside) ≡ Some (front, inside)
 unfolding bracketed
 bracketed_again front inside tf ti h =
     let whole : front ++ 40 ∷ (inside ++ 41 ∷ []) ≡ (front ++ 40 ∷ inside) ++ 41 ∷ [] = sym (append_assoc front (40 ∷ inside) (41 ∷ [])) in
     let count : length ((front ++ 40 ∷ inside) ++ 41 ∷ []) - 1 ≡ length (front ++ 40 ∷ inside) = simp length-append (omega arith) in
-    rw (whole, count, get_or-append_seam (front ++ 40 ∷ inside) 41 [] 0, take_at (front ++ 40 ∷ inside) (41 ∷ []) (length (front ++ 40 ∷ inside)) refl, cut_last_mid front inside h, tf, ti) refl
+    rw (
+      whole,
+      count,
+      get_or-append_seam (front ++ 40 ∷ inside) 41 [] 0,
+      take_at (front ++ 40 ∷ inside) (41 ∷ []) (length (front ++ 40 ∷ inside)) refl,
+      cut_last_mid front inside h,
+      tf,
+      ti,
+    ) refl

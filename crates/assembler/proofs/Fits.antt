@@ -1,5 +1,6 @@
 -- What a text means fits into its regions.
-use Rattle.std.proofs.Common.{◌≡◌, ℕ, ◌+◌, ◌*◌, ◌^◌, ◌≤◌, Bool, true, false, List, [], ◌∷◌, ◌++◌, length, Option, Some, None, Result, Ok, Err, refl, sym, ap, subst, ◌∙◌, arith, length-append}
+use Rattle.std.proofs.Common.{◌≡◌, ℕ, ◌+◌, ◌*◌, ◌^◌, ◌≤◌, Bool, true, false, List, [], ◌∷◌, ◌++◌, length, Option, Some, None, Result, Ok, Err, refl, sym, ap}
+use Rattle.std.proofs.Common.{subst, ◌∙◌, arith, length-append}
 use Rattle.std.specs.Prelude.{pos, All, IsOk, nat_le, replicate, if◌then◌else◌}
 use Rattle.std.proofs.lemmas.Bool.{leb-true, false≢true}
 use Rattle.std.proofs.lemmas.List.{length-replicate}
@@ -14,7 +15,10 @@ use Rattle.elf_image.specs.declared.layout.Layout.{Layout}
 use Rattle.assembler.specs.declared.fault.AsmFault.{AsmFault}
 use Rattle.assembler.specs.declared.fault.AsmFault.TheVariants.{SectionFull, LabelTwice}
 use Rattle.assembler.specs.Faults.{◌>>=◌, lifted}
-use Rattle.assembler.specs.Meaning.{Labels, Place, start, room_of, count_of, address, size_of, grown, after_statement, after_option, labelled, after_said, after_read, after, Placed, misplaced, fit_or_fault, place_statement, is_taken, place_said, part_of, insn_at, word_bytes, words_bytes, statement_bytes, Piece, piece_of, line_piece, pieces_from, pieces_of, labels_of, lines_of, bytes_in, section_bytes, IsMeaning, FitsRegions}
+use Rattle.assembler.specs.Meaning.{Labels, Place, start, room_of, count_of, address, size_of, grown, after_statement, after_option, labelled, after_said}
+use Rattle.assembler.specs.Meaning.{after_read, after, Placed, misplaced, fit_or_fault, place_statement, is_taken, place_said, part_of, insn_at, word_bytes}
+use Rattle.assembler.specs.Meaning.{words_bytes, statement_bytes, Piece, piece_of, line_piece, pieces_from, pieces_of, labels_of, lines_of, bytes_in}
+use Rattle.assembler.specs.Meaning.{section_bytes, IsMeaning, FitsRegions}
 
 -- ---- results
 
@@ -58,9 +62,12 @@ pub record Step (at next : Place) (piece : Piece) : Type 0 where
   pub within : IsWithin next
 
 grown_step : (s : Section) (n : ℕ) (bs : List ℕ) (at : Place) → IsWithin at → count_of s at + n ≤ room_of s → length bs ≡ n → Step at (grown s n at) (s, bs)
-grown_step Code n bs at h fits e = record { code = omega arith; local = omega arith; shared = omega arith; within = record { code = fits; local = h.local; shared = h.shared } }
-grown_step Local n bs at h fits e = record { code = omega arith; local = omega arith; shared = omega arith; within = record { code = h.code; local = fits; shared = h.shared } }
-grown_step Shared n bs at h fits e = record { code = omega arith; local = omega arith; shared = omega arith; within = record { code = h.code; local = h.local; shared = fits } }
+grown_step Code n bs at h fits e =
+    record { code = omega arith; local = omega arith; shared = omega arith; within = record { code = fits; local = h.local; shared = h.shared } }
+grown_step Local n bs at h fits e =
+    record { code = omega arith; local = omega arith; shared = omega arith; within = record { code = h.code; local = fits; shared = h.shared } }
+grown_step Shared n bs at h fits e =
+    record { code = omega arith; local = omega arith; shared = omega arith; within = record { code = h.code; local = h.local; shared = fits } }
 
 no_bytes : (s : Section) (bs : List ℕ) → length bs ≡ 0 → (t : Section) → length (bytes_in t (Ok (s, bs))) ≡ 0
 no_bytes Code bs e Code = e
@@ -73,8 +80,15 @@ no_bytes Shared bs e Code = refl
 no_bytes Shared bs e Local = refl
 no_bytes Shared bs e Shared = e
 
-statement_step : (at : Place) (s : Stmt) (bs : List ℕ) → IsWithin at → count_of at.section at + size_of s ≤ room_of at.section → length bs ≡ size_of s → Step at (after_statement at s) (at.section, bs)
-statement_step at (section t) bs h fits e = record { code = omega (arith, no_bytes at.section bs e Code); local = omega (arith, no_bytes at.section bs e Local); shared = omega (arith, no_bytes at.section bs e Shared); within = record { code = h.code; local = h.local; shared = h.shared } }
+statement_step : (at : Place) (s : Stmt) (bs : List ℕ) → IsWithin at → count_of at.section at + size_of s ≤ room_of at.section → length bs ≡ size_of s →
+    Step at (after_statement at s) (at.section, bs)
+statement_step at (section t) bs h fits e = record {
+  code = omega (arith, no_bytes at.section bs e Code);
+  local = omega (arith, no_bytes at.section bs e Local);
+  shared = omega (arith, no_bytes at.section bs e Shared);
+  within =
+      record { code = h.code; local = h.local; shared = h.shared };
+}
 statement_step at (words vs) bs h fits e = grown_step at.section (4 * length vs) bs at h fits e
 statement_step at (bytes cs) bs h fits e = grown_step at.section (length cs) bs at h fits e
 statement_step at (zeros n) bs h fits e = grown_step at.section n bs at h fits e
@@ -91,9 +105,11 @@ within_at : (name : Option (List ℕ)) (at : Place) → IsWithin at → IsWithin
 within_at None at h = h
 within_at (Some n) at h = record { code = h.code; local = h.local; shared = h.shared }
 
-labelled_step : (name : Option (List ℕ)) (at : Place) (s : Stmt) (bs : List ℕ) → IsWithin at → count_of at.section at + size_of s ≤ room_of at.section → length bs ≡ size_of s → Step at (after_statement (labelled name at) s) (at.section, bs)
+labelled_step : (name : Option (List ℕ)) (at : Place) (s : Stmt) (bs : List ℕ) → IsWithin at → count_of at.section at + size_of s ≤ room_of at.section →
+    length bs ≡ size_of s → Step at (after_statement (labelled name at) s) (at.section, bs)
 labelled_step None at s bs h fits e = statement_step at s bs h fits e
-labelled_step (Some n) at s bs h fits e = step_at (Some n) at _ (at.section, bs) (statement_step (labelled (Some n) at) s bs (within_at (Some n) at h) (same_count at.section at fits) e)
+labelled_step (Some n) at s bs h fits e =
+    step_at (Some n) at _ (at.section, bs) (statement_step (labelled (Some n) at) s bs (within_at (Some n) at h) (same_count at.section at fits) e)
   where
     same_count : (t : Section) (at : Place) → count_of t at + size_of s ≤ room_of t → count_of t (labelled (Some n) at) + size_of s ≤ room_of t
     same_count Code at fits = fits
@@ -109,15 +125,18 @@ idle_step name at h = step_at name at (labelled name at) (at.section, []) (recor
 })
 
 -- a statement that is placed fits, and stands at its place
-pub placed_fits : (fault : Option AsmFault) (at : Place) (s : Stmt) (p : Placed) → fit_or_fault fault at s ≡ Ok p → (nat_le (count_of at.section at + size_of s) (room_of at.section) ≡ true) × (p ≡ record { section = at.section; address = address at; statement = Some s })
+pub placed_fits : (fault : Option AsmFault) (at : Place) (s : Stmt) (p : Placed) → fit_or_fault fault at s ≡ Ok p →
+    (nat_le (count_of at.section at + size_of s) (room_of at.section) ≡ true) × (p ≡ record { section = at.section; address = address at; statement = Some s })
 placed_fits (Some f) at s p h = absurd cc
 placed_fits None at s p h = by_test (nat_le (count_of at.section at + size_of s) (room_of at.section)) h
   where
-    by_test : (t : Bool) → (if t then Ok (record { section = at.section; address = address at; statement = Some s }) else Err SectionFull) ≡ Ok p → (t ≡ true) × (p ≡ record { section = at.section; address = address at; statement = Some s })
+    by_test : (t : Bool) → (if t then Ok (record { section = at.section; address = address at; statement = Some s }) else Err SectionFull) ≡ Ok p →
+        (t ≡ true) × (p ≡ record { section = at.section; address = address at; statement = Some s })
     by_test true e = (refl, cc)
     by_test false e = absurd cc
 
-option_step : (labels : Labels) (name : Option (List ℕ)) (at : Place) (o : Option Stmt) (p : Placed) (piece : Piece) → IsWithin at → place_statement at o ≡ Ok p → piece_of labels p ≡ Ok piece → Step at (after_option (labelled name at) o) piece
+option_step : (labels : Labels) (name : Option (List ℕ)) (at : Place) (o : Option Stmt) (p : Placed) (piece : Piece) → IsWithin at →
+    place_statement at o ≡ Ok p → piece_of labels p ≡ Ok piece → Step at (after_option (labelled name at) o) piece
 unfolding piece_of
 option_step labels name at None p piece h placed e =
     let is_p : ◌≡◌ {A = Placed} (record { section = at.section; address = address at; statement = None }) p = cc placed in
@@ -129,9 +148,11 @@ option_step labels name at (Some s) p piece h placed e =
     let is_piece : (statement_bytes labels (address at) s >>= λ bs. Ok (at.section, bs)) ≡ Ok piece = ap (piece_of labels) (sym fits.1) ∙ e in
     let found = bind_ok (statement_bytes labels (address at) s) (λ bs. Ok (at.section, bs)) piece is_piece in
     let same : ◌≡◌ {A = Piece} (at.section, found.0) piece = cc found.2 in
-    subst (λ x. Step at (after_statement (labelled name at) s) x) same (labelled_step name at s found.0 h (leb-true _ _ fits.0) (statement_length labels (address at) s found.0 found.1))
+    subst (λ x. Step at (after_statement (labelled name at) s) x) same
+    (labelled_step name at s found.0 h (leb-true _ _ fits.0) (statement_length labels (address at) s found.0 found.1))
 
-said_step : (labels : Labels) (at : Place) (said : Said) (piece : Piece) → IsWithin at → (place_said at said >>= piece_of labels) ≡ Ok piece → Step at (after_said at said) piece
+said_step : (labels : Labels) (at : Place) (said : Said) (piece : Piece) → IsWithin at → (place_said at said >>= piece_of labels) ≡ Ok piece →
+    Step at (after_said at said) piece
 unfolding place_said after_said
 said_step labels at said piece h e =
     let placed = bind_ok (if is_taken at said.name then Err LabelTwice else place_statement at said.statement) (piece_of labels) piece e in
@@ -141,11 +162,13 @@ said_step labels at said piece h e =
     not_taken true e = absurd cc
     not_taken false e = e
 
-read_step : (labels : Labels) (at : Place) (r : Result Said LineFault) (piece : Piece) → IsWithin at → ((lifted r >>= place_said at) >>= piece_of labels) ≡ Ok piece → Step at (after_read at r) piece
+read_step : (labels : Labels) (at : Place) (r : Result Said LineFault) (piece : Piece) → IsWithin at →
+    ((lifted r >>= place_said at) >>= piece_of labels) ≡ Ok piece → Step at (after_read at r) piece
 read_step labels at (Ok said) piece h e = said_step labels at said piece h e
 read_step labels at (Err f) piece h e = absurd cc
 
-pub line_step : (labels : Labels) (at : Place) (line : List ℕ) (piece : Piece) → IsWithin at → line_piece labels at line ≡ Ok piece → Step at (after at line) piece
+pub line_step : (labels : Labels) (at : Place) (line : List ℕ) (piece : Piece) → IsWithin at → line_piece labels at line ≡ Ok piece →
+    Step at (after at line) piece
 line_step labels at line piece h e = read_step labels at (line_of line) piece h e
 
 -- ---- the whole text
@@ -159,10 +182,12 @@ pub ok_piece : (r : Result Piece AsmFault) → IsOk r → (piece : Piece) × (r 
 ok_piece (Ok piece) h = (piece, refl)
 ok_piece (Err f) h = absurd (false≢true h)
 
-section_more : (s : Section) (piece : Piece) (pieces : List (Result Piece AsmFault)) → length (section_bytes s (Ok piece ∷ pieces)) ≡ length (bytes_in s (Ok piece)) + length (section_bytes s pieces)
+section_more : (s : Section) (piece : Piece) (pieces : List (Result Piece AsmFault)) →
+    length (section_bytes s (Ok piece ∷ pieces)) ≡ length (bytes_in s (Ok piece)) + length (section_bytes s pieces)
 section_more s piece pieces = length-append (bytes_in s (Ok piece)) (section_bytes s pieces)
 
-all_within : (labels : Labels) (at : Place) (lines : List (List ℕ)) → IsWithin at → All IsOk (pieces_from labels at lines) → AllWithin at (pieces_from labels at lines)
+all_within : (labels : Labels) (at : Place) (lines : List (List ℕ)) → IsWithin at → All IsOk (pieces_from labels at lines) →
+    AllWithin at (pieces_from labels at lines)
 all_within labels at [] h oks = record { code = omega (arith, h.code); local = omega (arith, h.local); shared = omega (arith, h.shared) }
 all_within labels at (line ∷ lines) h oks =
     let rest = pieces_from labels (after at line) lines in
@@ -178,7 +203,8 @@ all_within labels at (line ∷ lines) h oks =
 pub meaning_fits : (text : List ℕ) (layout : Layout) → IsMeaning text layout → FitsRegions layout
 unfolding pieces_of
 meaning_fits text layout m =
-    let all = all_within (labels_of (lines_of text)) start (lines_of text) (record { code = omega arith; local = omega arith; shared = omega arith }) m.faultless in
+    let all =
+    all_within (labels_of (lines_of text)) start (lines_of text) (record { code = omega arith; local = omega arith; shared = omega arith }) m.faultless in
     record {
       code = omega (arith, ap length m.code, all.code);
       local = omega (arith, ap length m.local, all.local);

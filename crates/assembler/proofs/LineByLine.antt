@@ -1,5 +1,6 @@
 -- The two passes, line by line.
-use Rattle.std.proofs.Common.{◌≡◌, ℕ, ◌+◌, ◌-◌, ◌<◌, ◌≤◌, List, [], ◌∷◌, ◌++◌, length, get_or, drop, take, Some, Result, Err, Bor, refl, sym, ap, subst, ◌∙◌, append_assoc, append-nil, arith, add-one, drop-cons}
+use Rattle.std.proofs.Common.{◌≡◌, ℕ, ◌+◌, ◌-◌, ◌<◌, ◌≤◌, List, [], ◌∷◌, ◌++◌, length, get_or, drop, take, Some, Result, Err, Bor, refl, sym, ap, subst, ◌∙◌}
+use Rattle.std.proofs.Common.{append_assoc, append-nil, arith, add-one, drop-cons}
 use Rattle.std.specs.Prelude.{codes, fold, map, slice_get, IsOk, All}
 use Rattle.std.proofs.lemmas.List.{map_push, map_more, take_all, length_push, length-map}
 use Rattle.std.proofs.lemmas.List.Elements.{All-push}
@@ -15,7 +16,8 @@ use Rattle.asm_lines.specs.declared.statement.Section.TheVariants.{Code, Local, 
 use Rattle.assembler.specs.declared.cursor.LineAt.{LineAt}
 use Rattle.assembler.specs.declared.cursor.Cursor.{Cursor}
 use Rattle.assembler.specs.Faults.{◌>>=◌}
-use Rattle.assembler.specs.Meaning.{Labels, Piece, start, after, place_line, line_piece, pieces_from, piece_of, bytes_in, section_bytes, labels_of, lines_of, pieces_of, entry_of, IsMeaning}
+use Rattle.assembler.specs.Meaning.{Labels, Piece, start, after, place_line, line_piece, pieces_from, piece_of, bytes_in, section_bytes, labels_of, lines_of}
+use Rattle.assembler.specs.Meaning.{pieces_of, entry_of, IsMeaning}
 use Rattle.assembler.specs.Passes.{place_of, nows, piece_at, label_values}
 
 -- ---- the first pass
@@ -29,12 +31,19 @@ pub record Scanned (lines : List (Bor (List ℕ))) (i : ℕ) (placed : List Line
 at_item : (lines : List (Bor (List ℕ))) (i : ℕ) (d : Bor (List ℕ)) → i < length lines → nows (drop i lines) ≡ (get_or lines i d).now ∷ nows (drop (i + 1) lines)
 at_item lines i d lt = rw (add-one, drop-cons lines i d lt) refl
 
-pub scanned_more : (lines : List (Bor (List ℕ))) (i : ℕ) (d : Bor (List ℕ)) (placed new : List LineAt) (cursor cursor' : Cursor) (p : LineAt) → i < length lines → Scanned lines i placed cursor
-    → ((ls : Labels) → line_piece ls (place_of cursor) (get_or lines i d).now ≡ piece_at ls p) → place_of cursor' ≡ after (place_of cursor) (get_or lines i d).now → new ≡ placed ++ p ∷ [] → Scanned lines (i + 1) new cursor'
+pub scanned_more : (lines : List (Bor (List ℕ))) (i : ℕ) (d : Bor (List ℕ)) (placed new : List LineAt) (cursor cursor' : Cursor) (p : LineAt) →
+    i < length lines → Scanned lines i placed cursor
+    → ((ls : Labels) → line_piece ls (place_of cursor) (get_or lines i d).now ≡ piece_at ls p) →
+    place_of cursor' ≡ after (place_of cursor) (get_or lines i d).now → new ≡ placed ++ p ∷ [] → Scanned lines (i + 1) new cursor'
 scanned_more lines i d placed new cursor cursor' p lt before placed_ok next is_new = record {
   so_far = λ ls.
-      let one : pieces_from ls (place_of cursor) (nows (drop i lines)) ≡ piece_at ls p ∷ pieces_from ls (place_of cursor') (nows (drop (i + 1) lines)) = ap (pieces_from ls (place_of cursor)) (at_item lines i d lt) ∙ ap (λ r. r ∷ pieces_from ls (after (place_of cursor) (get_or lines i d).now) (nows (drop (i + 1) lines))) (placed_ok ls) ∙ ap (λ at. piece_at ls p ∷ pieces_from ls at (nows (drop (i + 1) lines))) (sym next) in
-      before.so_far ls ∙ ap (λ x. map (piece_at ls) placed ++ x) one ∙ sym (append_assoc (map (piece_at ls) placed) (piece_at ls p ∷ []) _) ∙ ap (λ x. x ++ pieces_from ls (place_of cursor') (nows (drop (i + 1) lines))) (sym (ap (map (piece_at ls)) is_new ∙ map_push (piece_at ls) placed p));
+      let one : pieces_from ls (place_of cursor) (nows (drop i lines))
+      ≡ piece_at ls p ∷ pieces_from ls (place_of cursor') (nows (drop (i + 1) lines)) = ap (pieces_from ls (place_of cursor)) (at_item lines i d lt)
+      ∙ ap (λ r. r ∷ pieces_from ls (after (place_of cursor) (get_or lines i d).now) (nows (drop (i + 1) lines))) (placed_ok ls)
+      ∙ ap (λ at. piece_at ls p ∷ pieces_from ls at (nows (drop (i + 1) lines))) (sym next) in
+      before.so_far ls ∙ ap (λ x. map (piece_at ls) placed ++ x) one ∙ sym (append_assoc (map (piece_at ls) placed) (piece_at ls p ∷ []) _)
+      ∙ ap (λ x. x ++ pieces_from ls (place_of cursor') (nows (drop (i + 1) lines)))
+      (sym (ap (map (piece_at ls)) is_new ∙ map_push (piece_at ls) placed p));
   count = ap length is_new ∙ length_push placed p ∙ ap (λ k. k + 1) before.count;
   labels = ap (λ at. fold after at (nows (drop (i + 1) lines))) next ∙ sym (ap (fold after (place_of cursor)) (at_item lines i d lt)) ∙ before.labels;
 }
@@ -43,15 +52,20 @@ get_seam : {X : Type 0} (xs : List X) (y : X) (ys : List X) → slice_get (xs ++
 get_seam [] y ys = refl
 get_seam (x ∷ xs) y ys = get_seam xs y ys
 
-pub scanned_fault : (lines : List (Bor (List ℕ))) (i : ℕ) (d : Bor (List ℕ)) (placed : List LineAt) (cursor : Cursor) (f : AsmFault) → i < length lines → Scanned lines i placed cursor
+pub scanned_fault : (lines : List (Bor (List ℕ))) (i : ℕ) (d : Bor (List ℕ)) (placed : List LineAt) (cursor : Cursor) (f : AsmFault) → i < length lines →
+    Scanned lines i placed cursor
     → place_line (place_of cursor) (get_or lines i d).now ≡ Err f → (ls : Labels) → slice_get (pieces_from ls start (nows lines)) (i + 1 - 1) ≡ Some (Err f)
 scanned_fault lines i d placed cursor f lt before bad ls =
-    let one : pieces_from ls (place_of cursor) (nows (drop i lines)) ≡ Err f ∷ pieces_from ls (after (place_of cursor) (get_or lines i d).now) (nows (drop (i + 1) lines)) = ap (pieces_from ls (place_of cursor)) (at_item lines i d lt) ∙ first (place_line (place_of cursor) (get_or lines i d).now) bad in
+    let one : pieces_from ls (place_of cursor) (nows (drop i lines))
+    ≡ Err f ∷ pieces_from ls (after (place_of cursor) (get_or lines i d).now) (nows (drop (i + 1) lines)) =
+    ap (pieces_from ls (place_of cursor)) (at_item lines i d lt) ∙ first (place_line (place_of cursor) (get_or lines i d).now) bad in
     let all = before.so_far ls ∙ ap (λ x. map (piece_at ls) placed ++ x) one in
     let at : i + 1 - 1 ≡ length (map (piece_at ls) placed) = simp length-map (omega (arith, before.count)) in
     ap (λ xs. slice_get xs (i + 1 - 1)) all ∙ rw at (get_seam (map (piece_at ls) placed) (Err f) _)
   where
-    first : (r : Result _ AsmFault) → r ≡ Err f → ((r >>= piece_of ls) ∷ pieces_from ls (after (place_of cursor) (get_or lines i d).now) (nows (drop (i + 1) lines))) ≡ (Err f ∷ pieces_from ls (after (place_of cursor) (get_or lines i d).now) (nows (drop (i + 1) lines)))
+    first : (r : Result _ AsmFault) → r ≡ Err f →
+        ((r >>= piece_of ls) ∷ pieces_from ls (after (place_of cursor) (get_or lines i d).now) (nows (drop (i + 1) lines)))
+        ≡ (Err f ∷ pieces_from ls (after (place_of cursor) (get_or lines i d).now) (nows (drop (i + 1) lines)))
     first r e = rw e refl
 
 pub scanned_all : (lines : List (Bor (List ℕ))) (i : ℕ) (placed : List LineAt) (cursor : Cursor) → length lines ≤ i → Scanned lines i placed cursor
@@ -73,12 +87,16 @@ pub record Emitted (labels : Labels) (placed : List LineAt) (i entry : ℕ) (lay
   pub entry_is : layout.entry ≡ entry
 
 module _ (labels : Labels) (placed : List LineAt) (i : ℕ) (d : LineAt) where
-  section_more : (s : Section) (old new : List ℕ) → i < length placed → old ≡ section_bytes s (map (piece_at labels) (take i placed)) → new ≡ old ++ bytes_in s (piece_at labels (get_or placed i d)) → new ≡ section_bytes s (map (piece_at labels) (take (i + 1) placed))
+  section_more : (s : Section) (old new : List ℕ) → i < length placed → old ≡ section_bytes s (map (piece_at labels) (take i placed)) →
+      new ≡ old ++ bytes_in s (piece_at labels (get_or placed i d)) → new ≡ section_bytes s (map (piece_at labels) (take (i + 1) placed))
   section_more s old new lt before more =
-      more ∙ ap (λ x. x ++ bytes_in s (piece_at labels (get_or placed i d))) before ∙ sym (rw (map_more (piece_at labels) placed i d lt, flat_map-append) (rw (append-nil (bytes_in s (piece_at labels (get_or placed i d)))) refl))
+      more ∙ ap (λ x. x ++ bytes_in s (piece_at labels (get_or placed i d))) before
+      ∙ sym (rw (map_more (piece_at labels) placed i d lt, flat_map-append) (rw (append-nil (bytes_in s (piece_at labels (get_or placed i d)))) refl))
 
   pub emitted_next : (entry : ℕ) (old new : Layout) → i < length placed → Emitted labels placed i entry old → IsOk (piece_at labels (get_or placed i d))
-      → new.code ≡ old.code ++ bytes_in Code (piece_at labels (get_or placed i d)) → new.local ≡ old.local ++ bytes_in Local (piece_at labels (get_or placed i d)) → new.shared ≡ old.shared ++ bytes_in Shared (piece_at labels (get_or placed i d))
+      → new.code ≡ old.code ++ bytes_in Code (piece_at labels (get_or placed i d)) →
+      new.local ≡ old.local ++ bytes_in Local (piece_at labels (get_or placed i d)) →
+      new.shared ≡ old.shared ++ bytes_in Shared (piece_at labels (get_or placed i d))
       → new.entry ≡ old.entry → Emitted labels placed (i + 1) entry new
   emitted_next entry old new lt before ok code local shared same = record {
     faultless = rw (map_more (piece_at labels) placed i d lt) (All-push IsOk _ _ before.faultless ok);
@@ -88,13 +106,16 @@ module _ (labels : Labels) (placed : List LineAt) (i : ℕ) (d : LineAt) where
     entry_is = same ∙ before.entry_is;
   }
 
-  pub emitted_fault : (f : AsmFault) → i < length placed → piece_at labels (get_or placed i d) ≡ Err f → slice_get (map (piece_at labels) placed) (i + 1 - 1) ≡ Some (Err f)
+  pub emitted_fault : (f : AsmFault) → i < length placed → piece_at labels (get_or placed i d) ≡ Err f →
+      slice_get (map (piece_at labels) placed) (i + 1 - 1) ≡ Some (Err f)
   emitted_fault f lt bad =
       let at : i + 1 - 1 ≡ i = omega arith in
-      rw at (slice_get-map (piece_at labels) placed i ∙ ap (option_map (piece_at labels)) (slice_get-get_or placed i d lt) ∙ ap (λ (r : Result Piece AsmFault). Some r) bad)
+      rw at (slice_get-map (piece_at labels) placed i ∙ ap (option_map (piece_at labels)) (slice_get-get_or placed i d lt)
+      ∙ ap (λ (r : Result Piece AsmFault). Some r) bad)
 
 pub emitted_all : (labels : Labels) (placed : List LineAt) (i entry : ℕ) (layout : Layout) → length placed ≤ i → Emitted labels placed i entry layout
-    → All IsOk (map (piece_at labels) placed) × (layout.code ≡ section_bytes Code (map (piece_at labels) placed)) × (layout.local ≡ section_bytes Local (map (piece_at labels) placed)) × (layout.shared ≡ section_bytes Shared (map (piece_at labels) placed))
+    → All IsOk (map (piece_at labels) placed) × (layout.code ≡ section_bytes Code (map (piece_at labels) placed))
+    × (layout.local ≡ section_bytes Local (map (piece_at labels) placed)) × (layout.shared ≡ section_bytes Shared (map (piece_at labels) placed))
 emitted_all labels placed i entry layout le before =
     let all : take i placed ≡ placed = take_all i placed le in
     (rw all at before.faultless, rw all at before.code_is, rw all at before.local_is, rw all at before.shared_is)
@@ -107,10 +128,12 @@ pub pieces_are : (text : List ℕ) (lines : List (Bor (List ℕ))) (placed : Lis
 unfolding pieces_of
 pieces_are text lines placed cursor same pieces places =
     let labels : labels_of (nows lines) ≡ label_values cursor.labels = ap (λ p. p.labels) (sym places) in
-    let all : pieces_of (nows lines) ≡ map (piece_at (label_values cursor.labels)) placed = ap (λ ls. pieces_from ls start (nows lines)) labels ∙ pieces (label_values cursor.labels) in
+    let all : pieces_of (nows lines) ≡ map (piece_at (label_values cursor.labels)) placed =
+    ap (λ ls. pieces_from ls start (nows lines)) labels ∙ pieces (label_values cursor.labels) in
     (ap labels_of (sym same) ∙ labels, ap pieces_of (sym same) ∙ all)
 
-pub present : (text : List ℕ) (lines : List (Bor (List ℕ))) (i : ℕ) (f : AsmFault) → nows lines ≡ lines_of text → ((ls : Labels) → slice_get (pieces_from ls start (nows lines)) i ≡ Some (Err f)) → slice_get (pieces_of (lines_of text)) i ≡ Some (Err f)
+pub present : (text : List ℕ) (lines : List (Bor (List ℕ))) (i : ℕ) (f : AsmFault) → nows lines ≡ lines_of text →
+    ((ls : Labels) → slice_get (pieces_from ls start (nows lines)) i ≡ Some (Err f)) → slice_get (pieces_of (lines_of text)) i ≡ Some (Err f)
 unfolding pieces_of
 present text lines i f same bad = ap (λ all. slice_get (pieces_of all) i) (sym same) ∙ bad (labels_of (nows lines))
 
@@ -123,12 +146,15 @@ no_fault all i f each bad =
 pub same_layout : (a b : Layout) → a.entry ≡ b.entry → a.code ≡ b.code → a.local ≡ b.local → a.shared ≡ b.shared → a ≡ b
 same_layout a b entry code local shared =
     let make = λ (e : ℕ) (c l s : List ℕ). let layout : Layout = record { entry = e; code = c; local = l; shared = s } in layout in
-    ap (λ (e : ℕ). make e a.code a.local a.shared) entry ∙ ap (λ (c : List ℕ). make b.entry c a.local a.shared) code ∙ ap (λ (l : List ℕ). make b.entry b.code l a.shared) local ∙ ap (λ (s : List ℕ). make b.entry b.code b.local s) shared
+    ap (λ (e : ℕ). make e a.code a.local a.shared) entry ∙ ap (λ (c : List ℕ). make b.entry c a.local a.shared) code
+    ∙ ap (λ (l : List ℕ). make b.entry b.code l a.shared) local ∙ ap (λ (s : List ℕ). make b.entry b.code b.local s) shared
 
 pub meaning_from : (text : List ℕ) (lines : List (Bor (List ℕ))) (placed : List LineAt) (cursor : Cursor) (layout : Layout) → nows lines ≡ lines_of text
     → ((ls : Labels) → pieces_from ls start (nows lines) ≡ map (piece_at ls) placed) → place_of cursor ≡ fold after start (nows lines)
-    → All IsOk (map (piece_at (label_values cursor.labels)) placed) → layout.code ≡ section_bytes Code (map (piece_at (label_values cursor.labels)) placed) → layout.local ≡ section_bytes Local (map (piece_at (label_values cursor.labels)) placed)
-    → layout.shared ≡ section_bytes Shared (map (piece_at (label_values cursor.labels)) placed) → layout.entry ≡ entry_of (label_values cursor.labels (codes "start")) → IsMeaning text layout
+    → All IsOk (map (piece_at (label_values cursor.labels)) placed) → layout.code ≡ section_bytes Code (map (piece_at (label_values cursor.labels)) placed) →
+    layout.local ≡ section_bytes Local (map (piece_at (label_values cursor.labels)) placed)
+    → layout.shared ≡ section_bytes Shared (map (piece_at (label_values cursor.labels)) placed) →
+    layout.entry ≡ entry_of (label_values cursor.labels (codes "start")) → IsMeaning text layout
 meaning_from text lines placed cursor layout same pieces places oks code local shared entry =
     let are = pieces_are text lines placed cursor same pieces places in
     record {

@@ -1,5 +1,6 @@
 -- A machine that opens on the layout that a text means has at each address what the text places there.
-use Rattle.std.proofs.Common.{◌≡◌, ℕ, ◌+◌, ◌-◌, ◌*◌, ◌/◌, ◌%◌, ◌^◌, ◌<◌, ◌≤◌, Bool, true, false, List, length, Option, Some, None, refl, sym, ap, subst, ◌∙◌, inl, inr, arith}
+use Rattle.std.proofs.Common.{◌≡◌, ℕ, ◌+◌, ◌-◌, ◌*◌, ◌/◌, ◌%◌, ◌^◌, ◌<◌, ◌≤◌, Bool, true, false, List, length, Option, Some, None, refl, sym, ap, subst, ◌∙◌}
+use Rattle.std.proofs.Common.{inl, inr, arith}
 use Rattle.std.specs.Prelude.{◌==◌, ◌&&◌, nat_lt, slice_index, if◌then◌else◌}
 use Rattle.std.proofs.lemmas.Bool.{cases_lt}
 use Rattle.std.proofs.lemmas.Bool.Decides.{nat_tests}
@@ -38,14 +39,16 @@ entry_aligned (Some symbol) = by_test (same_section symbol.section Code) (symbol
 
 module _ (known : (config : Config) (layout : Layout) → IsOpenable layout → IsLayoutOpening layout config (opening config layout))
     (config : Config) (text : List ℕ) (layout : Layout) (m : IsMeaning text layout) (fits : FitsRegions layout) where
-  placed : (s : Section) (bytes : List ℕ) (b address : ℕ) → bytes ≡ section_bytes s (pieces_of (lines_of text)) → b ≡ slice_index bytes (address - base_of s) → b ≡ placed_byte text s address
+  placed : (s : Section) (bytes : List ℕ) (b address : ℕ) → bytes ≡ section_bytes s (pieces_of (lines_of text)) → b ≡ slice_index bytes (address - base_of s) →
+      b ≡ placed_byte text s address
   placed s bytes b address same at =
       at
       ∙ behind_zero bytes (address - base_of s)
       ∙ ap (λ (xs : List ℕ). if nat_lt (address - base_of s) (length xs) then slice_index xs (address - base_of s) else 0) same
 
   small : (i : ℕ) → slice_index layout.shared i < 256
-  small i = subst (λ bs. slice_index bs i < 256) (sym m.shared) (byte_below (section_bytes Shared (pieces_of (lines_of text))) (placed_bytes Shared (lines_of text)) i)
+  small i = subst (λ bs. slice_index bs i < 256) (sym m.shared)
+      (byte_below (section_bytes Shared (pieces_of (lines_of text))) (placed_bytes Shared (lines_of text)) i)
 
   processor : (p : Processor) → IsOpeningProcessor layout.entry (IsPlacedAt layout) p → IsTextProcessor text p
   processor p q = record {

@@ -9,7 +9,9 @@ use Rattle.asm_lines.specs.Statements.{Val, Stmt, section, words, bytes, zeros, 
 use Rattle.assembler.specs.declared.fault.AsmFault.{AsmFault}
 use Rattle.assembler.specs.declared.fault.AsmFault.TheVariants.{LabelTwice}
 use Rattle.assembler.specs.Faults.{◌>>=◌, lifted}
-use Rattle.assembler.specs.Meaning.{Labels, Place, start, address, Placed, misplaced, place_statement, is_taken, place_said, after, part_of, insn_at, word_bytes, words_bytes, option_bytes, same_section, Piece, piece_of, line_piece, pieces_from, pieces_of, labels_of, bytes_in, section_bytes}
+use Rattle.assembler.specs.Meaning.{Labels, Place, start, address, Placed, misplaced, place_statement, is_taken, place_said, after, part_of, insn_at}
+use Rattle.assembler.specs.Meaning.{word_bytes, words_bytes, option_bytes, same_section, Piece, piece_of, line_piece, pieces_from, pieces_of, labels_of}
+use Rattle.assembler.specs.Meaning.{bytes_in, section_bytes}
 use Rattle.assembler.proofs.Fits.{bind_ok, placed_fits}
 use Rattle.assembler.proofs.LineBytes.{AreBytes, bytes_append, zero_bytes, number_bytes, HasBytesIn, line_bytes}
 
@@ -22,7 +24,8 @@ words_are_bytes labels (v ∷ vs) bs h =
     let first = bind_ok (part_of pos labels v) (λ z. words_bytes labels vs >>= λ tail. Ok (word_bytes (low_bits (2 ^ 32) z) ++ tail)) bs h in
     let rest = bind_ok (words_bytes labels vs) (λ tail. Ok (word_bytes (low_bits (2 ^ 32) first.0) ++ tail)) bs first.2 in
     let same : word_bytes (low_bits (2 ^ 32) first.0) ++ rest.0 ≡ bs = cc rest.2 in
-    subst AreBytes same (bytes_append (word_bytes (low_bits (2 ^ 32) first.0)) rest.0 (number_bytes 0 4 (low_bits (2 ^ 32) first.0)) (words_are_bytes labels vs rest.0 rest.1))
+    subst AreBytes same (bytes_append (word_bytes (low_bits (2 ^ 32) first.0)) rest.0 (number_bytes 0 4 (low_bits (2 ^ 32) first.0))
+    (words_are_bytes labels vs rest.0 rest.1))
 
 option_are_bytes : (labels : Labels) (at : ℕ) (o : Option Stmt) (bs : List ℕ) → HasBytesIn o → option_bytes labels at o ≡ Ok bs → AreBytes bs
 option_are_bytes labels at None bs small h = let same : [] ≡ bs = cc in subst AreBytes same tt
@@ -52,7 +55,8 @@ piece_are_bytes labels p piece small h =
     let same : ◌≡◌ {A = Piece} (p.section, found.0) piece = cc found.2 in
     subst (λ (x : Piece). AreBytes x.1) same (option_are_bytes labels p.address p.statement found.0 small found.1)
 
-said_are_bytes : (labels : Labels) (at : Place) (said : Said) (piece : Piece) → HasBytesIn said.statement → (place_said at said >>= piece_of labels) ≡ Ok piece → AreBytes piece.1
+said_are_bytes : (labels : Labels) (at : Place) (said : Said) (piece : Piece) → HasBytesIn said.statement →
+    (place_said at said >>= piece_of labels) ≡ Ok piece → AreBytes piece.1
 unfolding place_said
 said_are_bytes labels at said piece small h =
     let placed = bind_ok (if is_taken at said.name then Err LabelTwice else place_statement at said.statement) (piece_of labels) piece h in
@@ -63,7 +67,8 @@ said_are_bytes labels at said piece small h =
     not_taken true e = absurd cc
     not_taken false e = e
 
-read_are_bytes : (labels : Labels) (at : Place) (r : Result Said LineFault) (piece : Piece) → ((said : Said) → r ≡ Ok said → HasBytesIn said.statement) → ((lifted r >>= place_said at) >>= piece_of labels) ≡ Ok piece → AreBytes piece.1
+read_are_bytes : (labels : Labels) (at : Place) (r : Result Said LineFault) (piece : Piece) → ((said : Said) → r ≡ Ok said → HasBytesIn said.statement) →
+    ((lifted r >>= place_said at) >>= piece_of labels) ≡ Ok piece → AreBytes piece.1
 read_are_bytes labels at (Ok said) piece small h = said_are_bytes labels at said piece (small said refl) h
 read_are_bytes labels at (Err f) piece small h = absurd cc
 

@@ -15,14 +15,17 @@ not_past : (bytes : List ℕ) (rest : Option (List ℕ)) → length bytes ≤ 10
 not_past bytes None short h = h.3
 not_past bytes (Some xs) short h = absurd (omega (arith, h.1, short, ap length h.3, length-append h.0 xs))
 
-none_is_none : (bytes : List ℕ) (words : ℕ) (rest : Option (List ℕ)) (e : ImageError) → refusal_of words bytes ≡ None → (read : List ℕ) → ConsumesAll (Some bytes) rest read → refusal_of words read ≡ Some e → ⊥
+none_is_none : (bytes : List ℕ) (words : ℕ) (rest : Option (List ℕ)) (e : ImageError) → refusal_of words bytes ≡ None → (read : List ℕ) →
+    ConsumesAll (Some bytes) rest read → refusal_of words read ≡ Some e → ⊥
 none_is_none bytes words rest e none read all h = cc (none, ap (refusal_of words) (all_read bytes rest read all), h)
 
 -- input that is accepted is refused by the link or for want of memory alone
-pub refused_by_link_or_memory : (words : ℕ) (bytes : List ℕ) (rest : Option (List ℕ)) (e : ImageError) → length bytes ≤ 1048576 → refusal_of words bytes ≡ None → IsRefused words (Some bytes) rest e → (e ≡ error.Link) ⊎ (e ≡ error.Memory)
+pub refused_by_link_or_memory : (words : ℕ) (bytes : List ℕ) (rest : Option (List ℕ)) (e : ImageError) → length bytes ≤ 1048576 →
+    refusal_of words bytes ≡ None → IsRefused words (Some bytes) rest e → (e ≡ error.Link) ⊎ (e ≡ error.Memory)
 refused_by_link_or_memory words bytes rest error.Truncated short none h = absurd (none_is_none bytes words rest error.Truncated none h.0 h.1 h.2)
 refused_by_link_or_memory words bytes rest error.NotExecutable short none h = absurd (none_is_none bytes words rest error.NotExecutable none h.0 h.1 h.2)
-refused_by_link_or_memory words bytes rest error.UnsupportedHeader short none h = absurd (none_is_none bytes words rest error.UnsupportedHeader none h.0 h.1 h.2)
+refused_by_link_or_memory words bytes rest error.UnsupportedHeader short none h =
+    absurd (none_is_none bytes words rest error.UnsupportedHeader none h.0 h.1 h.2)
 refused_by_link_or_memory words bytes rest error.OutsideInput short none h = absurd (none_is_none bytes words rest error.OutsideInput none h.0 h.1 h.2)
 refused_by_link_or_memory words bytes rest error.OutsideRegions short none h = absurd (none_is_none bytes words rest error.OutsideRegions none h.0 h.1 h.2)
 refused_by_link_or_memory words bytes rest error.Overlap short none h = absurd (none_is_none bytes words rest error.Overlap none h.0 h.1 h.2)

@@ -1,5 +1,6 @@
 -- The loop over the values of .word.
-use Rattle.std.proofs.Common.{◌≡◌, ℕ, ◌+◌, ◌^◌, ◌<◌, ◌≤◌, List, ◌∷◌, ◌++◌, length, get_or, drop, Result, Ok, Err, Bor, BTreeMap, refl, sym, ap, ◌∙◌, append_assoc, append-nil, add-one, drop-cons}
+use Rattle.std.proofs.Common.{◌≡◌, ℕ, ◌+◌, ◌^◌, ◌<◌, ◌≤◌, List, ◌∷◌, ◌++◌, length, get_or, drop, Result, Ok, Err, Bor, BTreeMap, refl, sym, ap, ◌∙◌}
+use Rattle.std.proofs.Common.{append_assoc, append-nil, add-one, drop-cons}
 use Rattle.std.specs.Prelude.{map, IsOkAnd}
 use Rattle.std.specs.Int.{w32, to_le_bytes}
 use Rattle.std.proofs.Math.ListN.{drop_of_length-le}
@@ -26,7 +27,8 @@ module _ (m : BTreeMap (Bor (List ℕ)) Symbol) (values : List Value) (i : ℕ) 
   rest_is : i < length values → map val_of (drop i values) ≡ val_of (get_or values i d) ∷ map val_of (drop (i + 1) values)
   rest_is lt = rw (add-one, drop-cons values i d lt) refl
 
-  pub words_more : (z : _) (out' : List ℕ) → i < length values → WordsSoFar m values i old out → part_of (taken parts.Whole) (label_values m) (val_of (get_or values i d)) ≡ Ok z → out' ≡ out ++ to_le_bytes w32 (low_bits (2 ^ 32) z)
+  pub words_more : (z : _) (out' : List ℕ) → i < length values → WordsSoFar m values i old out →
+      part_of (taken parts.Whole) (label_values m) (val_of (get_or values i d)) ≡ Ok z → out' ≡ out ++ to_le_bytes w32 (low_bits (2 ^ 32) z)
       → WordsSoFar m values (i + 1) old out'
   unfolding words_bytes
   words_more z out' lt before read more = record {
@@ -34,7 +36,9 @@ module _ (m : BTreeMap (Bor (List ℕ)) Symbol) (values : List Value) (i : ℕ) 
     out_is = more ∙ ap (λ x. x ++ to_le_bytes w32 (low_bits (2 ^ 32) z)) before.out_is ∙ append_assoc old before.done _;
     so_far =
         let ls = label_values m in
-        let one : words_bytes (label_values m) (map val_of (drop i values)) ≡ (words_bytes (label_values m) (map val_of (drop (i + 1) values)) >>= λ bytes. Ok (to_le_bytes w32 (low_bits (2 ^ 32) z) ++ bytes)) = ap (words_bytes (label_values m)) (rest_is lt) ∙ rw read refl in
+        let one : words_bytes (label_values m) (map val_of (drop i values))
+        ≡ (words_bytes (label_values m) (map val_of (drop (i + 1) values)) >>= λ bytes. Ok (to_le_bytes w32 (low_bits (2 ^ 32) z) ++ bytes)) =
+        ap (words_bytes (label_values m)) (rest_is lt) ∙ rw read refl in
         sym (regroup before.done (to_le_bytes w32 (low_bits (2 ^ 32) z)) _) ∙ ap (prefixed before.done) (sym one) ∙ before.so_far;
   }
     where
@@ -42,7 +46,8 @@ module _ (m : BTreeMap (Bor (List ℕ)) Symbol) (values : List Value) (i : ℕ) 
       regroup front new (Ok bytes) = ap (λ (x : List ℕ). Ok x) (sym (append_assoc front new bytes))
       regroup front new (Err f) = refl
 
-  pub words_fault : (f : AsmFault) → i < length values → WordsSoFar m values i old out → part_of (taken parts.Whole) (label_values m) (val_of (get_or values i d)) ≡ Err f → words_bytes (label_values m) (map val_of values) ≡ Err f
+  pub words_fault : (f : AsmFault) → i < length values → WordsSoFar m values i old out →
+      part_of (taken parts.Whole) (label_values m) (val_of (get_or values i d)) ≡ Err f → words_bytes (label_values m) (map val_of values) ≡ Err f
   unfolding words_bytes
   words_fault f lt before read =
       let one : words_bytes (label_values m) (map val_of (drop i values)) ≡ Err f = ap (words_bytes (label_values m)) (rest_is lt) ∙ rw read refl in
@@ -51,5 +56,6 @@ module _ (m : BTreeMap (Bor (List ℕ)) Symbol) (values : List Value) (i : ℕ) 
   pub words_done : length values ≤ i → WordsSoFar m values i old out → IsOkAnd (words_bytes (label_values m) (map val_of values)) (λ bytes. out ≡ old ++ bytes)
   unfolding words_bytes
   words_done le before =
-      let one : prefixed before.done (words_bytes (label_values m) (map val_of (drop i values))) ≡ Ok before.done = rw (drop_of_length-le values le) (ap (λ (x : List ℕ). Ok x) (append-nil before.done)) in
+      let one : prefixed before.done (words_bytes (label_values m) (map val_of (drop i values))) ≡ Ok before.done =
+      rw (drop_of_length-le values le) (ap (λ (x : List ℕ). Ok x) (append-nil before.done)) in
       rw (sym before.so_far ∙ one) before.out_is

@@ -4,7 +4,8 @@ ghost use Rattle.std.specs.Prelude.{◌≡◌, ◌≢◌, ◌≤◌, ◌-◌, �
 ghost use Rattle.std.specs.Option.{option_map};
 ghost use Rattle.asm_lines.specs.Statements.{stmt_of, said_of};
 ghost use Rattle.assembler.specs.declared.fault.AsmFault.TheVariants.{Memory, LabelTwice};
-ghost use Rattle.assembler.specs.Meaning.{Labels, Place, start, address, base_of, room_of, count_of, size_of, misplaced, after_option, labelled, is_taken, place_statement, place_said, place_line, after_said, after, line_piece, pieces_from};
+ghost use Rattle.assembler.specs.Meaning.{Labels, Place, start, address, base_of, room_of, count_of, size_of, misplaced, after_option, labelled, is_taken};
+ghost use Rattle.assembler.specs.Meaning.{place_statement, place_said, place_line, after_said, after, line_piece, pieces_from};
 ghost use Rattle.assembler.specs.Passes.{name_of, nows, place_of, piece_at};
 
 use crate::cursor::{Cursor, LineAt};

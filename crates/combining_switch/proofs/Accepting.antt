@@ -1,5 +1,6 @@
 -- What an output does with a request, by whether some entry combines with it and by room.
-use Rattle.std.proofs.Common.{◌≡◌, ◌↔◌, ◌⊎◌, inl, inr, ℕ, zero, suc, ◌<◌, ◌≤◌, List, [], ◌∷◌, ◌++◌, length, Option, Some, None, refl, sym, ap, ◌∙◌, arith, Bool, true, false, ◌&&◌, nat_lt, ltb-true, eqb-true, eq-eqb}
+use Rattle.std.proofs.Common.{◌≡◌, ◌↔◌, ◌⊎◌, inl, inr, ℕ, zero, suc, ◌<◌, ◌≤◌, List, [], ◌∷◌, ◌++◌, length, Option, Some, None, refl, sym, ap, ◌∙◌, arith}
+use Rattle.std.proofs.Common.{Bool, true, false, ◌&&◌, nat_lt, ltb-true, eqb-true, eq-eqb}
 use Rattle.std.specs.Prelude.{slice_set, ◌==◌, if◌then◌else◌}
 use Rattle.std.proofs.lemmas.Bool.{lt-ltb, ltb-false, le-ltb}
 use Rattle.std.proofs.lemmas.Option.{slice_get_within}
@@ -27,16 +28,19 @@ joint_parts : (x e : Request) (phi : Phi) → joint most_marks x e ≡ Some phi 
 unfolding joint
 joint_parts x e phi is = go (nat_lt e.marks most_marks) refl (e.word == x.word) refl
   where
-    go : (a : Bool) → nat_lt e.marks most_marks ≡ a → (b : Bool) → (e.word == x.word) ≡ b → (e.marks ≡ 0) × (e.word ≡ x.word) × (composed e.phi x.phi ≡ Some phi)
+    go : (a : Bool) → nat_lt e.marks most_marks ≡ a → (b : Bool) → (e.word == x.word) ≡ b →
+        (e.marks ≡ 0) × (e.word ≡ x.word) × (composed e.phi x.phi ≡ Some phi)
     go false f b g =
         let none : None ≡ Some phi = sym (ap (λ b. if (b && (e.word == x.word)) then composed e.phi x.phi else None) f) ∙ is in
         absurd (cc)
     go true f false g =
-        let none : None ≡ Some phi = sym (ap (λ b. if (b && (e.word == x.word)) then composed e.phi x.phi else None) f ∙ ap (λ b. if b then composed e.phi x.phi else None) g) ∙ is in
+        let none : None ≡ Some phi =
+        sym (ap (λ b. if (b && (e.word == x.word)) then composed e.phi x.phi else None) f ∙ ap (λ b. if b then composed e.phi x.phi else None) g) ∙ is in
         absurd (cc)
     go true f true g =
         let fewer : e.marks < most_marks = ltb-true e.marks most_marks f in
-        let both : composed e.phi x.phi ≡ Some phi = sym (ap (λ b. if (b && (e.word == x.word)) then composed e.phi x.phi else None) f ∙ ap (λ b. if b then composed e.phi x.phi else None) g) ∙ is in
+        let both : composed e.phi x.phi ≡ Some phi =
+        sym (ap (λ b. if (b && (e.word == x.word)) then composed e.phi x.phi else None) f ∙ ap (λ b. if b then composed e.phi x.phi else None) g) ∙ is in
         (omega arith, eqb-true e.word x.word g, both)
 
 none_joint : (queue : List Request) (x : Request) (i : ℕ) → NoneInFront queue x i → NoneBefore most_marks x queue i
@@ -96,17 +100,20 @@ first_or_none (d ∷ ds) x = go (joint most_marks x d) refl (first_or_none ds x)
 
 -- ---- an output
 
-accepted_is : (o : OutputLists) (x : Request) (j : Option Combination) → combination o.b most_marks x o.requests o.records ≡ j → accepted o x ≡ accepted_as o x j
+accepted_is : (o : OutputLists) (x : Request) (j : Option Combination) → combination o.b most_marks x o.requests o.records ≡ j →
+    accepted o x ≡ accepted_as o x j
 unfolding accepted
 accepted_is o x j is = ap (accepted_as o x) is
 
-with_a_record : (o : OutputLists) (x : Request) → length o.records < o.b → combination o.b most_marks x o.requests o.records ≡ combined_in most_marks x o.requests
+with_a_record : (o : OutputLists) (x : Request) → length o.records < o.b →
+    combination o.b most_marks x o.requests o.records ≡ combined_in most_marks x o.requests
 with_a_record o x free = ap (λ b. if b then combined_in most_marks x o.requests else None) (lt-ltb (length o.records) o.b free)
 
 without_a_record : (o : OutputLists) (x : Request) → o.b ≤ length o.records → combination o.b most_marks x o.requests o.records ≡ None
 without_a_record o x full = ap (λ b. if b then combined_in most_marks x o.requests else None) (le-ltb (length o.records) o.b full)
 
-pub with_the_first : (o : OutputLists) (x : Request) (i : ℕ) (e : Request) (phi : Phi) → length o.records < o.b → CombinesAt o.requests x i e phi → NoneInFront o.requests x i
+pub with_the_first : (o : OutputLists) (x : Request) (i : ℕ) (e : Request) (phi : Phi) → length o.records < o.b → CombinesAt o.requests x i e phi →
+    NoneInFront o.requests x i
     → accepted o x ≡ (
       Combined e.leader,
       record {
@@ -155,10 +162,12 @@ can_combine o x free f = record { free = free; place = f.place; entry = f.entry;
 abbrev behind_all : OutputLists → Request → OutputLists
 behind_all o x = record { c = o.c; b = o.b; requests = o.requests ++ unmarked x ∷ []; records = o.records }
 
-queued_with_room : (o : OutputLists) (x : Request) → combination o.b most_marks x o.requests o.records ≡ None → length o.requests < o.c → accepted o x ≡ (Queued, behind_all o x)
+queued_with_room : (o : OutputLists) (x : Request) → combination o.b most_marks x o.requests o.records ≡ None → length o.requests < o.c →
+    accepted o x ≡ (Queued, behind_all o x)
 queued_with_room o x is room = accepted_is o x None is ∙ ap (λ b. if b then (Queued, behind_all o x) else (Full, o)) (lt-ltb (length o.requests) o.c room)
 
-refused_without : (o : OutputLists) (x : Request) → combination o.b most_marks x o.requests o.records ≡ None → o.c ≤ length o.requests → accepted o x ≡ (Full, o)
+refused_without : (o : OutputLists) (x : Request) → combination o.b most_marks x o.requests o.records ≡ None → o.c ≤ length o.requests →
+    accepted o x ≡ (Full, o)
 refused_without o x is none = accepted_is o x None is ∙ ap (λ b. if b then (Queued, behind_all o x) else (Full, o)) (le-ltb (length o.requests) o.c none)
 
 -- ---- the laws
@@ -175,19 +184,24 @@ combines_where_it_can o x = (
   ]),
 )
   where
-    not_made : (b : Bool) → nat_lt (length o.requests) o.c ≡ b → combination o.b most_marks x o.requests o.records ≡ None → (leader : ℕ) → (accepted o x).0 ≡ Combined leader → ⊥
+    not_made : (b : Bool) → nat_lt (length o.requests) o.c ≡ b → combination o.b most_marks x o.requests o.records ≡ None → (leader : ℕ) →
+        (accepted o x).0 ≡ Combined leader → ⊥
     not_made true f is leader made =
-        let other : Queued ≡ Combined leader = sym (ap (λ (r : Accepted × OutputLists). r.0) (queued_with_room o x is (ltb-true (length o.requests) o.c f))) ∙ made in
+        let other : Queued ≡ Combined leader =
+        sym (ap (λ (r : Accepted × OutputLists). r.0) (queued_with_room o x is (ltb-true (length o.requests) o.c f))) ∙ made in
         cc
     not_made false f is leader made =
-        let other : Full ≡ Combined leader = sym (ap (λ (r : Accepted × OutputLists). r.0) (refused_without o x is (ltb-false (length o.requests) o.c f))) ∙ made in
+        let other : Full ≡ Combined leader =
+        sym (ap (λ (r : Accepted × OutputLists). r.0) (refused_without o x is (ltb-false (length o.requests) o.c f))) ∙ made in
         cc
 
 -- where it is not combined, room decides
-not_combined : (o : OutputLists) (x : Request) (a : Accepted) → (accepted o x).0 ≡ a → ((leader : ℕ) → a ≡ Combined leader → ⊥) → (CanCombine o x → ⊥) × (combination o.b most_marks x o.requests o.records ≡ None)
+not_combined : (o : OutputLists) (x : Request) (a : Accepted) → (accepted o x).0 ≡ a → ((leader : ℕ) → a ≡ Combined leader → ⊥) →
+    (CanCombine o x → ⊥) × (combination o.b most_marks x o.requests o.records ≡ None)
 not_combined o x a is other = elim (decided o x) [
   | can free f ↦
-      let made : (accepted o x).0 ≡ Combined f.entry.leader = ap (λ (r : Accepted × OutputLists). r.0) (with_the_first o x f.place f.entry f.phi free f.combines f.first) in
+      let made : (accepted o x).0 ≡ Combined f.entry.leader =
+      ap (λ (r : Accepted × OutputLists). r.0) (with_the_first o x f.place f.entry f.phi free f.combines f.first) in
       absurd (other f.entry.leader (sym is ∙ made))
   | cannot none e ↦ (none, e)
 ]
@@ -215,7 +229,8 @@ queues_where_there_is_room o x = (
   (λ h. queued_with_room o x (no_combination o x h.0) h.1),
 )
   where
-    room : (b : Bool) → nat_lt (length o.requests) o.c ≡ b → (accepted o x).0 ≡ Queued → combination o.b most_marks x o.requests o.records ≡ None → length o.requests < o.c
+    room : (b : Bool) → nat_lt (length o.requests) o.c ≡ b → (accepted o x).0 ≡ Queued → combination o.b most_marks x o.requests o.records ≡ None →
+        length o.requests < o.c
     room true f answer none = ltb-true (length o.requests) o.c f
     room false f answer none =
         let other : Full ≡ Queued = sym (ap (λ (r : Accepted × OutputLists). r.0) (refused_without o x none (ltb-false (length o.requests) o.c f))) ∙ answer in
@@ -230,7 +245,8 @@ refuses_where_there_is_none o x = (
   (λ h. refused_without o x (no_combination o x h.0) h.1),
 )
   where
-    full : (b : Bool) → nat_lt (length o.requests) o.c ≡ b → (accepted o x).0 ≡ Full → combination o.b most_marks x o.requests o.records ≡ None → o.c ≤ length o.requests
+    full : (b : Bool) → nat_lt (length o.requests) o.c ≡ b → (accepted o x).0 ≡ Full → combination o.b most_marks x o.requests o.records ≡ None →
+        o.c ≤ length o.requests
     full false f answer none = ltb-false (length o.requests) o.c f
     full true f answer none =
         let other : Queued ≡ Full = sym (ap (λ (r : Accepted × OutputLists). r.0) (queued_with_room o x none (ltb-true (length o.requests) o.c f))) ∙ answer in

@@ -1,5 +1,6 @@
 -- The entry with which a request combines, by its place, as a loop over the queue finds it.
-use Rattle.std.proofs.Common.{◌≡◌, ℕ, zero, suc, ◌<◌, set, List, [], ◌∷◌, length, Option, Some, None, refl, sym, ap, ◌∙◌, arith, Bool, true, false, ◌&&◌, nat_lt, ltb-true}
+use Rattle.std.proofs.Common.{◌≡◌, ℕ, zero, suc, ◌<◌, set, List, [], ◌∷◌, length, Option, Some, None, refl, sym, ap, ◌∙◌, arith, Bool, true, false, ◌&&◌}
+use Rattle.std.proofs.Common.{nat_lt, ltb-true}
 use Rattle.std.specs.Prelude.{slice_get, ◌==◌, if◌then◌else◌}
 use Rattle.phi_algebra.specs.declared.phi.Phi.{Phi}
 use Rattle.phi_algebra.specs.Composition.{composed}
@@ -19,12 +20,14 @@ first_is r x e es = refl
 abbrev pub NoneBefore : ℕ → Request → List Request → ℕ → Type 0
 NoneBefore r x queue i = (j : ℕ) (e : Request) → j < i → slice_get queue j ≡ Some e → joint r x e ≡ None
 
-pub combined_at : (r : ℕ) (x : Request) (queue : List Request) (i : ℕ) (e : Request) (phi : Phi) → slice_get queue i ≡ Some e → NoneBefore r x queue i → joint r x e ≡ Some phi
+pub combined_at : (r : ℕ) (x : Request) (queue : List Request) (i : ℕ) (e : Request) (phi : Phi) → slice_get queue i ≡ Some e → NoneBefore r x queue i →
+    joint r x e ≡ Some phi
     → combined_in r x queue ≡ Some (record { queue = set queue i (merged e phi); made = record_of x e })
 combined_at r x [] i e phi at before is = cc
 combined_at r x (d ∷ ds) zero e phi at before is =
     let same : d ≡ e = cc in
-    first_is r x d ds ∙ ap (with_first r x d ds) (ap (joint r x) same ∙ is) ∙ ap (λ (y : Request). Some (record { queue = merged y phi ∷ ds; made = record_of x y })) same
+    first_is r x d ds ∙ ap (with_first r x d ds) (ap (joint r x) same ∙ is)
+    ∙ ap (λ (y : Request). Some (record { queue = merged y phi ∷ ds; made = record_of x y })) same
     ∙ refl
 combined_at r x (d ∷ ds) (suc i) e phi at before is =
     first_is r x d ds ∙ ap (with_first r x d ds) (before 0 d (omega arith) refl)

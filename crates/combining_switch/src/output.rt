@@ -72,7 +72,8 @@ impl Output {
 
     /// The entry with which a request is combined, if a record is free for it.
     fn partner(&self, request: &Request) -> Option<Partner>
-        ensures first { option_map (partnership self.now.requests request.now) result ≡ combination self.now.b most_marks request.now self.now.requests self.now.records }
+        ensures first { option_map (partnership self.now.requests request.now) result
+            ≡ combination self.now.b most_marks request.now self.now.requests self.now.records }
         ensures partner { IfSome result (IsPartner self.now.requests) }
         ensures room { OnSome result (length self.now.records < self.now.b) }
     {

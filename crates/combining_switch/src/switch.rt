@@ -6,7 +6,8 @@ ghost use Rattle.messages.specs.declared.message.Record.{Record};
 ghost use Rattle.messages.specs.Queues.{answers, records_but, records_of};
 ghost use Rattle.omega_wires.specs.Wires.{bit};
 ghost use Rattle.combining_switch.specs.Outputs.{accepted};
-ghost use Rattle.combining_switch.specs.Switches.{IsEmptySwitch, answered, answered_for, empty_switch, has_room, output_of, put_replies, put_reply, records_at, replies_at, replies_for, requests_at, with_inputs, with_output, with_records, with_requests};
+ghost use Rattle.combining_switch.specs.Switches.{IsEmptySwitch, answered, answered_for, empty_switch, has_room, output_of, put_replies, put_reply};
+ghost use Rattle.combining_switch.specs.Switches.{records_at, replies_at, replies_for, requests_at, with_inputs, with_output, with_records, with_requests};
 
 use crate::answers::{Accepted, Answered};
 use crate::output::Output;

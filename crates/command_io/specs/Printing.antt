@@ -19,7 +19,8 @@ pub record IsPartPrinted (is_to_be_printed : List ℕ → Type 0) (old new : Opt
 
 -- The exit status tells a fault, which has its cause. A failed write to the output is told as the output's fault, which may have
 -- come from elsewhere too; where no write failed, the output is as it was.
-pub record IsTold {W : Type 0} (has_failed : W → Bool) (of_output : Fault) (elsewhere : Type 0) (is_cause : Fault → Type 0) (old new : W) (status : ℕ) : Type 0 where
+pub record IsTold {W : Type 0} (has_failed : W → Bool) (of_output : Fault) (elsewhere : Type 0) (is_cause : Fault →
+    Type 0) (old new : W) (status : ℕ) : Type 0 where
   pub fault : Fault
   pub tells : status ≡ status_of_fault fault
   pub cause : is_cause fault

@@ -25,7 +25,8 @@ joined-push (l ∷ lines) line = rw (joined-push lines line) (sym (append_assoc 
 pub held_more-of : (xs ys : List ℕ) → held_more (held_of xs) ys ≡ held_of (xs ++ ys)
 held_more-of xs ys = grind (arith, nat_tests, length-append)
 
-pub IsAfter-more : (bytes : List ℕ) (events : List Event) (held : Held) (more : List ℕ) → IsAfter bytes events held → IsUnbroken more → IsAfter (bytes ++ more) events (held_more held more)
+pub IsAfter-more : (bytes : List ℕ) (events : List Event) (held : Held) (more : List ℕ) → IsAfter bytes events held → IsUnbroken more →
+    IsAfter (bytes ++ more) events (held_more held more)
 IsAfter-more bytes events held more a u = record {
   rest = a.rest ++ more;
   stands = record {
@@ -42,11 +43,13 @@ line-whole : (bytes : List ℕ) (lines : List (List ℕ)) (rest : List ℕ) → 
 line-whole bytes lines rest e =
     ap (λ x. x ++ 10 ∷ []) e ∙ append_assoc (joined lines) rest (10 ∷ []) ∙ sym (joined-push lines rest) ∙ sym (append-nil (joined (lines ++ rest ∷ [])))
 
-line-each : (events : List Event) (held : Held) (lines : List (List ℕ)) (rest : List ℕ) → events ≡ map event_of lines → held ≡ held_of rest → events ++ event_of_held held ∷ [] ≡ map event_of (lines ++ rest ∷ [])
+line-each : (events : List Event) (held : Held) (lines : List (List ℕ)) (rest : List ℕ) → events ≡ map event_of lines → held ≡ held_of rest →
+    events ++ event_of_held held ∷ [] ≡ map event_of (lines ++ rest ∷ [])
 line-each events held lines rest e k =
     ap (λ x. x ++ event_of_held held ∷ []) e ∙ ap (λ h. map event_of lines ++ event_of_held h ∷ []) k ∙ sym (map-append event_of lines (rest ∷ []))
 
-pub IsAfter-line : (bytes : List ℕ) (events : List Event) (held : Held) → IsAfter bytes events held → IsAfter (bytes ++ 10 ∷ []) (events ++ event_of_held held ∷ []) (held_of [])
+pub IsAfter-line : (bytes : List ℕ) (events : List Event) (held : Held) → IsAfter bytes events held →
+    IsAfter (bytes ++ 10 ∷ []) (events ++ event_of_held held ∷ []) (held_of [])
 IsAfter-line bytes events held a = record {
   rest = [];
   stands = record {
@@ -60,7 +63,9 @@ IsAfter-line bytes events held a = record {
 }
 
 -- a piece with its first line feed
-pub IsAfter-piece : (bytes : List ℕ) (events : List Event) (held : Held) (piece : List ℕ) (at : ℕ) → at < length piece → IsUnbroken (take at piece) → get_or piece at 0 ≡ 10 → IsAfter bytes events held → IsAfter (bytes ++ take (at + 1) piece) (events ++ event_of_held (held_more held (take at piece)) ∷ []) (held_of [])
+pub IsAfter-piece : (bytes : List ℕ) (events : List Event) (held : Held) (piece : List ℕ) (at : ℕ) → at < length piece → IsUnbroken (take at piece) →
+    get_or piece at 0 ≡ 10 → IsAfter bytes events held →
+    IsAfter (bytes ++ take (at + 1) piece) (events ++ event_of_held (held_more held (take at piece)) ∷ []) (held_of [])
 IsAfter-piece bytes events held piece at h u e a =
     let after = IsAfter-line (bytes ++ take at piece) events (held_more held (take at piece)) (IsAfter-more bytes events held (take at piece) a u) in
     let same : bytes ++ take (at + 1) piece ≡ (bytes ++ take at piece) ++ 10 ∷ [] =
@@ -85,7 +90,8 @@ no-break (x ∷ xs) zs [] u e = cc
 no-break (x ∷ xs) zs (r ∷ rest) u e = no-break xs zs rest u.1 (cc)
 
 -- a list of bytes has one list of lines and one rest
-pub joined-one : (ls ms : List (List ℕ)) (r s : List ℕ) → AreUnbroken ls → AreUnbroken ms → IsUnbroken r → IsUnbroken s → joined ls ++ r ≡ joined ms ++ s → (ls ≡ ms) × (r ≡ s)
+pub joined-one : (ls ms : List (List ℕ)) (r s : List ℕ) → AreUnbroken ls → AreUnbroken ms → IsUnbroken r → IsUnbroken s → joined ls ++ r ≡ joined ms ++ s →
+    (ls ≡ ms) × (r ≡ s)
 joined-one [] [] r s p q u v e = (refl, e)
 joined-one [] (m ∷ ms) r s p q u v e = absurd (no-break m (joined ms ++ s) r u (e ∙ append_assoc m (10 ∷ joined ms) s))
 joined-one (l ∷ ls) [] r s p q u v e = absurd (no-break l (joined ls ++ r) s v (sym e ∙ append_assoc l (10 ∷ joined ls) r))
@@ -96,7 +102,9 @@ joined-one (l ∷ ls) (m ∷ ms) r s p q u v e =
     let tails : ls ≡ ms = rest.0 in
     (cc, rest.1)
 
-pub IsAfter-one : (bytes : List ℕ) (events others : List Event) (held kept : Held) → IsAfter bytes events held → IsAfter bytes others kept → (events ≡ others) × (held ≡ kept)
+pub IsAfter-one : (bytes : List ℕ) (events others : List Event) (held kept : Held) → IsAfter bytes events held → IsAfter bytes others kept →
+    (events ≡ others) × (held ≡ kept)
 IsAfter-one bytes events others held kept a b =
-    let same = joined-one a.stands.lines b.stands.lines a.rest b.rest a.stands.unbroken b.stands.unbroken a.stands.open_rest b.stands.open_rest (sym a.stands.whole ∙ b.stands.whole) in
+    let same = joined-one a.stands.lines b.stands.lines a.rest b.rest a.stands.unbroken b.stands.unbroken a.stands.open_rest b.stands.open_rest
+    (sym a.stands.whole ∙ b.stands.whole) in
     (a.stands.each ∙ ap (map event_of) same.0 ∙ sym b.stands.each, a.kept ∙ ap held_of same.1 ∙ sym b.kept)

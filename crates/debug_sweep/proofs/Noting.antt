@@ -34,7 +34,9 @@ module _ (m : MachineLists) (start : ℕ) (done : List Step) where
   pub retired_either : (s : Step) (p : ℕ) → HasRetired m start (done ++ s ∷ []) p → HasRetired m start done p ⊎ Retires s (answer_after m done s) p
   retired_either s p h = by (split_last done h.before h.rest s (step.Turn p) h.is)
     where
-      by : ((h.rest ≡ []) × (done ≡ h.before) × (s ≡ step.Turn p)) ⊎ ((rest' : List Step) × (done ≡ h.before ++ step.Turn p ∷ rest')) → HasRetired m start done p ⊎ Retires s (answer_after m done s) p
+      by : ((h.rest ≡ []) × (done ≡ h.before) × (s ≡ step.Turn p)) ⊎ ((rest' : List Step) × (done ≡ h.before ++ step.Turn p ∷ rest')) →
+          HasRetired m start done p ⊎ Retires s (answer_after m done s) p
       by (inl (none, alike, last)) =
-          inr (subst (λ t. Retires t (answer_after m done t) p) (sym last) (refl, subst (λ xs. IsRetirement (answer_after m xs (step.Turn p))) (sym alike) h.retired))
+          inr (subst (λ t. Retires t (answer_after m done t) p) (sym last)
+          (refl, subst (λ xs. IsRetirement (answer_after m xs (step.Turn p))) (sym alike) h.retired))
       by (inr (rest', is)) = inl (record { before = h.before; rest = rest'; is = is; behind = h.behind; retired = h.retired })

@@ -54,10 +54,12 @@ module _ (l new : Log) (s : Step) (o : Outcome) (taken : HasTaken l s o new) (st
       by (inr more) (inl less) = n.quiet place more less
       by (inr more) (inr here) =
           let next = n.next in
-          let same : n.place ≡ place = omega (arith, next, here, to) in quiet_now place (subst (λ i. slice_get (round l.machine.config.k) i ≡ Some s) same n.there)
+          let same : n.place ≡ place =
+          omega (arith, next, here, to) in quiet_now place (subst (λ i. slice_get (round l.machine.config.k) i ≡ Some s) same n.there)
 
 -- a step more
-pub moved_more : (count behind behind' : ℕ) (l new : Log) (s : Step) (o : Outcome) → HasTaken l s o new → IsNext l.machine behind s behind' → HasMoved count behind l → HasMoved count behind' new
+pub moved_more : (count behind behind' : ℕ) (l new : Log) (s : Step) (o : Outcome) → HasTaken l s o new → IsNext l.machine behind s behind' →
+    HasMoved count behind l → HasMoved count behind' new
 moved_more count behind behind' l new s o taken next so_far = by (entered_either l.steps s o) so_far
   where
     by : ((o ≡ Stalled) × (entered l.steps s o ≡ l.steps)) ⊎ (entered l.steps s o ≡ l.steps ++ s ∷ []) → HasMoved count behind l → HasMoved count behind' new
@@ -65,7 +67,8 @@ moved_more count behind behind' l new s o taken next so_far = by (entered_either
     by (inl (stalled, same)) (inr (is, runs, quiet)) =
         inr (ap length (taken.steps ∙ same) ∙ is, still_running l new s o taken stalled runs, stays_quiet l new s o taken stalled behind behind' next quiet)
     by (inr one) (inl more) = inl (let is = ap length (taken.steps ∙ one) in let plus = length-append l.steps (s ∷ []) in omega (arith, is, plus, more))
-    by (inr one) (inr (is, runs, quiet)) = inl (let now = ap length (taken.steps ∙ one) in let plus = length-append l.steps (s ∷ []) in omega (arith, now, plus, is))
+    by (inr one) (inr (is, runs, quiet)) =
+        inl (let now = ap length (taken.steps ∙ one) in let plus = length-append l.steps (s ∷ []) in omega (arith, now, plus, is))
 
 -- the rest of the round is quiet too
 all_quiet : (m : MachineLists) (place : ℕ) → AreQuiet m 0 place → AreQuiet m place (length (round m.config.k)) → AreQuiet m 0 (length (round m.config.k))
@@ -76,6 +79,7 @@ all_quiet m place front rest i from to = by (cases_lt i place)
     by (inr more) = rest i more to
 
 -- At the end of a round it has entered a step, since a round of a machine in which a processor runs is not quiet.
-pub some_moved : (count place : ℕ) (l : Log) → ((m : MachineLists) → IsMachine m → HasRunning m → AreQuiet m 0 (length (round m.config.k)) → ⊥) → IsMachine l.machine → AreQuiet l.machine place (length (round l.machine.config.k)) → HasMoved count place l → count < length l.steps
+pub some_moved : (count place : ℕ) (l : Log) → ((m : MachineLists) → IsMachine m → HasRunning m → AreQuiet m 0 (length (round m.config.k)) → ⊥) →
+    IsMachine l.machine → AreQuiet l.machine place (length (round l.machine.config.k)) → HasMoved count place l → count < length l.steps
 some_moved count place l law is rest (inl more) = more
 some_moved count place l law is rest (inr (same, runs, quiet)) = absurd (law l.machine is runs (all_quiet l.machine place quiet rest))

@@ -11,7 +11,8 @@ use Rattle.debug_sweep.specs.Runs.{HasRun}
 use Rattle.debug_sweep.specs.Sweeps.{HasContinued}
 use Rattle.debug_sweep.proofs.Stepping.{own_both}
 
-pub has_run : ReplaysAreCut → ((m : MachineLists) → AreOwn (drain_steps m)) → (breaks : List Bool) (budget : ℕ) (old new : Log) → HasContinued breaks budget old new → IsReplay old.opening old.steps old.machine →
+pub has_run : ReplaysAreCut → ((m : MachineLists) → AreOwn (drain_steps m)) → (breaks : List Bool) (budget : ℕ) (old new : Log) →
+    HasContinued breaks budget old new → IsReplay old.opening old.steps old.machine →
     IsReplay new.opening new.steps new.machine → HasRun old new
 has_run cut own breaks budget old new c before after =
     let drained : List Step = drain_steps c.middle.machine in

@@ -4,7 +4,8 @@ use Rattle.std.proofs.lemmas.List.{length-append}
 use Rattle.steps.specs.declared.step.Step.{Step}
 
 -- The place is the last, or it is one of the list.
-pub split_last : (done before rest : List Step) (s x : Step) → done ++ s ∷ [] ≡ before ++ x ∷ rest → ((rest ≡ []) × (done ≡ before) × (s ≡ x)) ⊎ ((rest' : List Step) × (done ≡ before ++ x ∷ rest'))
+pub split_last : (done before rest : List Step) (s x : Step) → done ++ s ∷ [] ≡ before ++ x ∷ rest →
+    ((rest ≡ []) × (done ≡ before) × (s ≡ x)) ⊎ ((rest' : List Step) × (done ≡ before ++ x ∷ rest'))
 split_last [] [] rest s x e =
     let same : s ≡ x = cc in
     let none : rest ≡ [] = cc in inl (none, refl, same)

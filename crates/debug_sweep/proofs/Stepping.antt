@@ -1,5 +1,6 @@
 -- A sweep from step to step.
-use Rattle.std.proofs.Common.{◌≡◌, ℕ, ◌+◌, ◌^◌, ◌<◌, ◌≤◌, ◌⊎◌, inl, inr, ◌↔◌, Bool, true, false, List, [], ◌∷◌, ◌++◌, length, refl, sym, ap, ◌∙◌, subst, append_assoc, arith}
+use Rattle.std.proofs.Common.{◌≡◌, ℕ, ◌+◌, ◌^◌, ◌<◌, ◌≤◌, ◌⊎◌, inl, inr, ◌↔◌, Bool, true, false, List, [], ◌∷◌, ◌++◌, length, refl, sym, ap, ◌∙◌, subst}
+use Rattle.std.proofs.Common.{append_assoc, arith}
 use Rattle.std.proofs.lemmas.Bool.{true≢false}
 use Rattle.std.proofs.lemmas.List.{append-nil, length-append}
 use Rattle.steps.specs.declared.step.Step.{Step}
@@ -19,7 +20,8 @@ use Rattle.debug_sweep.proofs.Splits.{split_last}
 use Rattle.debug_sweep.proofs.Standing.{at_break, has_running, stands_there}
 
 -- A step is entered, or it has stalled.
-pub entered_either : (steps : List Step) (s : Step) (o : Outcome) → ((o ≡ outcome.Stalled) × (entered steps s o ≡ steps)) ⊎ (entered steps s o ≡ steps ++ s ∷ [])
+pub entered_either : (steps : List Step) (s : Step) (o : Outcome) →
+    ((o ≡ outcome.Stalled) × (entered steps s o ≡ steps)) ⊎ (entered steps s o ≡ steps ++ s ∷ [])
 entered_either steps s outcome.Stalled = inl (refl, refl)
 entered_either steps s (outcome.Retired retired) = inr refl
 entered_either steps s outcome.Issued = inr refl
@@ -52,7 +54,9 @@ retires_none (step.Serve q) o p stalled r = absurd r
 retires_none (step.Down t w) o p stalled r = absurd r
 retires_none (step.Poke q) o p stalled r = absurd r
 
-module _ (breaks : List Bool) (limit : ℕ) (old l new : Log) (flags : List Bool) (u : IsUnderWay breaks limit old flags l) (s : Step) (o : Outcome) (taken : HasTaken l s o new) (answer : o ≡ answer_after l.opening l.steps s) (own : IsOwn s) (replayed : IsReplay new.opening new.steps new.machine) (clear : MeetsBreak l.machine breaks flags s → ⊥) (room : length l.steps < limit) where
+module _ (breaks : List Bool) (limit : ℕ) (old l new : Log) (flags : List Bool) (u : IsUnderWay breaks limit old flags l) (s : Step) (o : Outcome)
+    (taken : HasTaken l s o new) (answer : o ≡ answer_after l.opening l.steps s) (own : IsOwn s) (replayed : IsReplay new.opening new.steps new.machine)
+    (clear : MeetsBreak l.machine breaks flags s → ⊥) (room : length l.steps < limit) where
   abbrev m : MachineLists
   m = old.opening
 
@@ -95,7 +99,8 @@ module _ (breaks : List Bool) (limit : ℕ) (old l new : Log) (flags : List Bool
   -- the step is no turn at a break
   clear_now : (p : ℕ) → s ≡ step.Turn p → StandsAtBreak m breaks start l.steps p → ⊥
   clear_now p is stands =
-      clear (subst (MeetsBreak l.machine breaks flags) (sym is) (at_break m l.machine l.steps (subst (λ n. IsReplay n l.steps l.machine) u.opening u.replay) breaks flags start u.noted p stands))
+      clear (subst (MeetsBreak l.machine breaks flags) (sym is)
+      (at_break m l.machine l.steps (subst (λ n. IsReplay n l.steps l.machine) u.opening u.replay) breaks flags start u.noted p stands))
 
   no_break : NoBreakIsPassed m breaks start new.steps
   no_break before rest p is from stands = by either
@@ -109,7 +114,8 @@ module _ (breaks : List Bool) (limit : ℕ) (old l new : Log) (flags : List Bool
       by (inr one) = split (split_last l.steps before rest s (step.Turn p) (sym one ∙ is))
 
   -- a step that is no fault
-  pub goes_on : (flags' : List Bool) → ((p : ℕ) → p < 2 ^ m.config.k → (is_noted flags' p ≡ true) ↔ ((is_noted flags p ≡ true) ⊎ Retires s o p)) → (IsFault o → ⊥) → IsUnderWay breaks limit old flags' new
+  pub goes_on : (flags' : List Bool) → ((p : ℕ) → p < 2 ^ m.config.k → (is_noted flags' p ≡ true) ↔ ((is_noted flags p ≡ true) ⊎ Retires s o p)) →
+      (IsFault o → ⊥) → IsUnderWay breaks limit old flags' new
   goes_on flags' marks plain = record {
     opening = opens;
     replay = replayed;
@@ -126,7 +132,8 @@ module _ (breaks : List Bool) (limit : ℕ) (old l new : Log) (flags : List Bool
       sound before rest t is from fault = by either
         where
           split : ((rest ≡ []) × (l.steps ≡ before) × (s ≡ t)) ⊎ ((rest' : List Step) × (l.steps ≡ before ++ t ∷ rest')) → ⊥
-          split (inl (none, alike, last)) = plain (subst IsFault (ap (answer_after m before) (sym last) ∙ ap (λ xs. answer_after m xs s) (sym alike) ∙ sym answer_is) fault)
+          split (inl (none, alike, last)) =
+              plain (subst IsFault (ap (answer_after m before) (sym last) ∙ ap (λ xs. answer_after m xs s) (sym alike) ∙ sym answer_is) fault)
           split (inr (rest', there)) = u.sound before rest' t there from fault
 
           by : Either → ⊥
@@ -195,7 +202,8 @@ module _ (breaks : List Bool) (limit : ℕ) (old l new : Log) (flags : List Bool
       ends (inr one) = record { before = l.steps; last = s; is = one; behind = behind; fault = subst IsFault answer_is fault }
 
 -- Where a sweep that is under way may end, it has swept.
-pub ends_here : (breaks : List Bool) (limit : ℕ) (old l : Log) (flags : List Bool) → IsUnderWay breaks limit old flags l → EndsHere old.opening breaks (length old.steps) limit l.steps → HasSwept breaks limit old l
+pub ends_here : (breaks : List Bool) (limit : ℕ) (old l : Log) (flags : List Bool) → IsUnderWay breaks limit old flags l →
+    EndsHere old.opening breaks (length old.steps) limit l.steps → HasSwept breaks limit old l
 ends_here breaks limit old l flags u ends = record {
   opening = u.opening;
   replay = u.replay;
@@ -214,7 +222,10 @@ module _ (breaks : List Bool) (limit : ℕ) (old l : Log) (flags : List Bool) (u
 
   pub ends_at_break : (s : Step) → MeetsBreak l.machine breaks flags s → HasSwept breaks limit old l
   ends_at_break (step.Turn p) meets =
-      ends_here breaks limit old l flags u (inr (inr (inr (p, stands_there old.opening l.machine l.steps replay_there breaks flags (length old.steps) u.noted p meets))))
+      ends_here breaks limit old l flags u (inr (inr (inr (
+        p,
+        stands_there old.opening l.machine l.steps replay_there breaks flags (length old.steps) u.noted p meets,
+      ))))
   ends_at_break (step.Up t w) meets = absurd meets
   ends_at_break (step.Serve q) meets = absurd meets
   ends_at_break (step.Down t w) meets = absurd meets
@@ -224,10 +235,12 @@ module _ (breaks : List Bool) (limit : ℕ) (old l : Log) (flags : List Bool) (u
   ends_where_none_runs none = ends_here breaks limit old l flags u (inr (inl (λ runs. none (has_running old.opening l.machine l.steps replay_there runs))))
 
   pub ends_with_budget : limit ≤ length l.steps → HasSwept breaks limit old l
-  ends_with_budget full = ends_here breaks limit old l flags u (inr (inr (inl (let few = u.few in let same : length l.steps ≡ limit = omega (arith, few, full) in same))))
+  ends_with_budget full =
+      ends_here breaks limit old l flags u (inr (inr (inl (let few = u.few in let same : length l.steps ≡ limit = omega (arith, few, full) in same))))
 
 -- It begins with no step of its own.
-pub begins : (breaks : List Bool) (limit : ℕ) (old : Log) (flags : List Bool) → IsReplay old.opening old.steps old.machine → length old.steps ≤ limit → ((p : ℕ) → p < 2 ^ old.opening.config.k → is_noted flags p ≡ false) → IsUnderWay breaks limit old flags old
+pub begins : (breaks : List Bool) (limit : ℕ) (old : Log) (flags : List Bool) → IsReplay old.opening old.steps old.machine → length old.steps ≤ limit →
+    ((p : ℕ) → p < 2 ^ old.opening.config.k → is_noted flags p ≡ false) → IsUnderWay breaks limit old flags old
 begins breaks limit old flags replay few none = record {
   opening = refl;
   replay = replay;

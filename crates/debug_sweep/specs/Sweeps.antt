@@ -12,16 +12,19 @@ use Rattle.debug_sweep.specs.Breaks.{AreNoted, StandsAtBreak}
 
 -- Behind a step in which a fault stopped a processor there is none, the first so many steps aside.
 abbrev pub FaultsAreLast : (opening : MachineLists) → (start : ℕ) → (steps : List Step) → Type 0
-FaultsAreLast m start steps = (before rest : List Step) (s : Step) → steps ≡ before ++ s ∷ rest → start ≤ length before → IsFault (answer_after m before s) → rest ≡ []
+FaultsAreLast m start steps =
+    (before rest : List Step) (s : Step) → steps ≡ before ++ s ∷ rest → start ≤ length before → IsFault (answer_after m before s) → rest ≡ []
 
 -- No processor has had a turn where it stood at a break, the first so many steps aside.
 abbrev pub NoBreakIsPassed : (opening : MachineLists) → (breaks : List Bool) → (start : ℕ) → (steps : List Step) → Type 0
-NoBreakIsPassed m breaks start steps = (before rest : List Step) (p : ℕ) → steps ≡ before ++ step.Turn p ∷ rest → start ≤ length before → StandsAtBreak m breaks start before p → ⊥
+NoBreakIsPassed m breaks start steps =
+    (before rest : List Step) (p : ℕ) → steps ≡ before ++ step.Turn p ∷ rest → start ≤ length before → StandsAtBreak m breaks start before p → ⊥
 
 -- Why a sweep ends that began behind so many steps: its last step is a fault, no processor runs, there are as many steps as there
 -- may be, or a processor stands at a break.
 abbrev pub EndsHere : (opening : MachineLists) → (breaks : List Bool) → (start limit : ℕ) → (steps : List Step) → Type 0
-EndsHere m breaks start limit steps = EndsInFault m start steps ⊎ ((RunsAfter m steps → ⊥) ⊎ ((length steps ≡ limit) ⊎ ((p : ℕ) × StandsAtBreak m breaks start steps p)))
+EndsHere m breaks start limit steps =
+    EndsInFault m start steps ⊎ ((RunsAfter m steps → ⊥) ⊎ ((length steps ≡ limit) ⊎ ((p : ℕ) × StandsAtBreak m breaks start steps p)))
 
 -- A log has entered steps of the machine's own, behind no fault and over no break, until the sweep ended, or it had so many.
 pub record HasSwept (breaks : List Bool) (limit : ℕ) (old new : Log) : Type 0 where

@@ -12,7 +12,8 @@ use machine_runs::runs_are_serialized;
 /// Whatever steps a runner takes, behind them the machine is the flat machine after the serial order of just
 /// these steps, from where it stood before.
 pub fn runs_are_in_order()
-    ensures { (old new : Log) → IsKept old → IsKept new → IsIdle old.machine → (run : HasRun old new) → flat_state new.machine ≡ flat_run (flat_state old.machine) (passed old.machine run.more).order }
+    ensures { (old new : Log) → IsKept old → IsKept new → IsIdle old.machine → (run : HasRun old new) →
+        flat_state new.machine ≡ flat_run (flat_state old.machine) (passed old.machine run.more).order }
 {
     runs_are_serialized();
 }

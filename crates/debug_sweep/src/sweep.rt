@@ -106,7 +106,8 @@ fn take_round(
     requires few { length log.old.log.steps < limit }
     requires room { limit ≤ length log.old.log.steps + log.old.places }
     requires running { HasRunning log.old.log.machine }
-    ensures goes_on { result ≡ false → (first : Log) → IsUnderWay breaks.now limit first retired.old log.old.log → IsUnderWay breaks.now limit first retired.new log.new.log }
+    ensures goes_on { result ≡ false → (first : Log) → IsUnderWay breaks.now limit first retired.old log.old.log →
+        IsUnderWay breaks.now limit first retired.new log.new.log }
     ensures some { result ≡ false → length log.old.log.steps < length log.new.log.steps }
     ensures over { result ≡ true → (first : Log) → IsUnderWay breaks.now limit first retired.old log.old.log → HasSwept breaks.now limit first log.new.log }
     ensures config { log.new.log.machine.config ≡ log.old.log.machine.config }

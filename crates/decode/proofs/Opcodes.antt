@@ -69,7 +69,8 @@ pub no_op : (w : ℕ) → bit_and w 0x7F ≡ 0x33 → ((op : RegisterOp) → ¬ 
 no_op w opcode none (Op op rd rs1 rs2) s = none op (sym s.row)
 no_op w opcode none i s = grind (arith, opcode_from_spells w i s)
 
-pub no_op_imm : (w : ℕ) → bit_and w 0x7F ≡ 0x13 → ((op : ImmediateOp) → ¬ immediate_match op ≡ bit_and w 0x707F) → ((op : ShiftOp) → ¬ shift_match op ≡ bit_and w 0xFE00707F) → (i : Insn) → ¬ Spells w i
+pub no_op_imm : (w : ℕ) → bit_and w 0x7F ≡ 0x13 → ((op : ImmediateOp) → ¬ immediate_match op ≡ bit_and w 0x707F) →
+    ((op : ShiftOp) → ¬ shift_match op ≡ bit_and w 0xFE00707F) → (i : Insn) → ¬ Spells w i
 no_op_imm w opcode none no_shift (OpImm op rd rs1 imm) s = none op (sym s.row)
 no_op_imm w opcode none no_shift (Shift op rd rs1 amount) s = no_shift op (sym s.row)
 no_op_imm w opcode none no_shift i s = grind (arith, opcode_from_spells w i s)

@@ -27,7 +27,8 @@ pub fn dis_command<R: Read + Drop, W: LinkWrite, E: Write>(
 ) -> u8
     requires works { W.has_failed out.old ≡ false }
     ensures listed { result ≡ 0 → IsPrinted (IsDisassembly shared_words (R.remaining file)) (W.contents out.old) (W.contents out.new) }
-    ensures told { result ≢ 0 → IsTold W.has_failed Fault.Link ⊥ (IsNoDisassembly shared_words (R.remaining file) (W.contents out.old) (W.contents out.new)) out.old out.new result }
+    ensures told { result ≢ 0 → IsTold W.has_failed Fault.Link ⊥
+        (IsNoDisassembly shared_words (R.remaining file) (W.contents out.old) (W.contents out.new)) out.old out.new result }
     ensures failed { W.has_failed out.new ≡ true → result ≡ 3 }
 {
     match carried_out(alloc, file, shared_words, out) {

@@ -12,7 +12,8 @@ use Rattle.asm_lines.specs.Number.{low_bits}
 use Rattle.asm_lines.specs.Statements.{Instr, number, instruction, line_of}
 use Rattle.asm_lines.specs.Written.{signed, offset, IsEvenWithin, as_said}
 use Rattle.assembler.specs.declared.fault.AsmFault.{AsmFault}
-use Rattle.assembler.specs.Meaning.{Labels, Piece, start, after_said, after_read, place_said, line_piece, piece_of, pieces_of, labels_of, lines_of, offset_of, insn_at, section_bytes, entry_of, word_bytes, IsMeaning}
+use Rattle.assembler.specs.Meaning.{Labels, Piece, start, after_said, after_read, place_said, line_piece, piece_of, pieces_of, labels_of, lines_of, offset_of}
+use Rattle.assembler.specs.Meaning.{insn_at, section_bytes, entry_of, word_bytes, IsMeaning}
 
 -- what is known of the numbers that are written
 pub record AreRead : Type 0 where
@@ -33,9 +34,11 @@ module _ (known : AreRead) (labels : Labels) (at : ℕ) where
   insn_again (OpImm op rd rs1 imm) r = ap (λ f. Ok (OpImm op rd rs1 f)) (known.lower imm r.2)
   insn_again (Load op rd rs1 imm) r = ap (λ f. Ok (Load op rd rs1 f)) (known.lower imm r.2)
   insn_again (Store op rs1 rs2 imm) r = ap (λ f. Ok (Store op rs1 rs2 f)) (known.lower imm r.2)
-  insn_again (Branch op rs1 rs2 field) r = rw (in_range (negsuc 4095) (pos 4094) labels at (offset (2 ^ 11) field) (known.branch_in_range field r.2)) (ap (λ f. Ok (Branch op rs1 rs2 f)) (known.branch field r.2))
+  insn_again (Branch op rs1 rs2 field) r = rw (in_range (negsuc 4095) (pos 4094) labels at (offset (2 ^ 11) field) (known.branch_in_range field r.2))
+      (ap (λ f. Ok (Branch op rs1 rs2 f)) (known.branch field r.2))
   insn_again (Upper op rd v) r = ap (λ f. Ok (Upper op rd f)) (known.upper v r.1)
-  insn_again (Jal rd field) r = rw (in_range (negsuc 1048575) (pos 1048574) labels at (offset (2 ^ 19) field) (known.jump_in_range field r.1)) (ap (λ f. Ok (Jal rd f)) (known.jump field r.1))
+  insn_again (Jal rd field) r = rw (in_range (negsuc 1048575) (pos 1048574) labels at (offset (2 ^ 19) field) (known.jump_in_range field r.1))
+      (ap (λ f. Ok (Jal rd f)) (known.jump field r.1))
   insn_again (Jalr rd rs1 imm) r = ap (λ f. Ok (Jalr rd rs1 f)) (known.lower imm r.2)
   insn_again (Op op rd rs1 rs2) r = refl
   insn_again (Shift op rd rs1 amount) r = refl
@@ -47,7 +50,8 @@ module _ (known : AreRead) (labels : Labels) (at : ℕ) where
 one_ok : (piece : Piece) → All (λ (r : Result Piece AsmFault). IsOk r) (Ok piece ∷ [])
 one_ok piece = All-push (λ (r : Result Piece AsmFault). IsOk r) [] (Ok piece) (λ k d lt. absurd (omega arith)) refl
 
-module _ (text : List ℕ) (said : Instr) (i : Insn) (one_line : parts_at 10 text ≡ text ∷ []) (read : line_of text ≡ Ok (record { name = None; statement = Some (instruction said) })) (same : (labels : Labels) (at : ℕ) → insn_at labels at said ≡ Ok i) where
+module _ (text : List ℕ) (said : Instr) (i : Insn) (one_line : parts_at 10 text ≡ text ∷ []) (read : line_of text
+    ≡ Ok (record { name = None; statement = Some (instruction said) })) (same : (labels : Labels) (at : ℕ) → insn_at labels at said ≡ Ok i) where
   one_piece : (labels : Labels) → line_piece labels start text ≡ Ok (Code, word_bytes (word_of i))
   unfolding place_said piece_of
   one_piece labels = rw (read, same labels 65536) refl

@@ -1,12 +1,15 @@
 -- Refusals of the input, and their place in the order.
-use Rattle.std.proofs.Common.{◌≡◌, ℕ, ◌+◌, ◌*◌, ◌&&◌, ◌≤◌, Bool, true, false, not, cond, List, [], ◌∷◌, length, Option, None, Some, refl, subst, ap, arith, nat_lt}
+use Rattle.std.proofs.Common.{◌≡◌, ℕ, ◌+◌, ◌*◌, ◌&&◌, ◌≤◌, Bool, true, false, not, cond, List, [], ◌∷◌, length, Option, None, Some, refl, subst, ap, arith}
+use Rattle.std.proofs.Common.{nat_lt}
 use Rattle.std.proofs.lemmas.Bool.Decides.{nat_tests}
 use Rattle.elf_image.specs.declared.error.ImageError.{ImageError}
-use Rattle.elf_image.specs.declared.error.ImageError.TheVariants.{Truncated, NotExecutable, UnsupportedHeader, OutsideInput, OutsideRegions, Overlap, Entry, TooLong, Link, Memory}
+use Rattle.elf_image.specs.declared.error.ImageError.TheVariants.{Truncated, NotExecutable, UnsupportedHeader, OutsideInput, OutsideRegions, Overlap, Entry}
+use Rattle.elf_image.specs.declared.error.ImageError.TheVariants.{TooLong, Link, Memory}
 use Rattle.elf_image.specs.declared.segment.ProgramHeader.{ProgramHeader}
 use Rattle.elf_image.specs.Headers.{file_header, segments}
 use Rattle.elf_image.specs.Regions.{is_in_a_region}
-use Rattle.elf_image.specs.Refusals.{is_executable, is_supported, header_refusal, is_in_file, segment_refusal, segment_refusals, have_overlap, is_entry, first_of, refusal_of}
+use Rattle.elf_image.specs.Refusals.{is_executable, is_supported, header_refusal, is_in_file, segment_refusal, segment_refusals, have_overlap, is_entry}
+use Rattle.elf_image.specs.Refusals.{first_of, refusal_of}
 use Rattle.elf_image.specs.Images.{IsCause}
 
 -- an error that tells of what the input holds
@@ -33,10 +36,13 @@ of_test false e rest here there = there
 of_headers : (file : List ℕ) → OfInput (header_refusal file)
 of_headers file =
     let h = file_header file in
-    of_test (nat_lt (length file) 52) Truncated _ refl (of_test (not (is_executable file h)) NotExecutable _ refl (of_test (not (is_supported h)) UnsupportedHeader _ refl (of_test (nat_lt (length file) (h.e_phoff + 32 * h.e_phnum)) Truncated None refl tt)))
+    of_test (nat_lt (length file) 52) Truncated _ refl
+    (of_test (not (is_executable file h)) NotExecutable _ refl
+    (of_test (not (is_supported h)) UnsupportedHeader _ refl (of_test (nat_lt (length file) (h.e_phoff + 32 * h.e_phnum)) Truncated None refl tt)))
 
 of_segment : (bytes w : ℕ) (p : ProgramHeader) → OfInput (segment_refusal bytes w p)
-of_segment bytes w p = of_test (not (is_in_file bytes p)) OutsideInput _ refl (of_test (nat_lt 0 p.p_memsz && not (is_in_a_region w p)) OutsideRegions None refl tt)
+of_segment bytes w p =
+    of_test (not (is_in_file bytes p)) OutsideInput _ refl (of_test (nat_lt 0 p.p_memsz && not (is_in_a_region w p)) OutsideRegions None refl tt)
 
 of_first : (o : Option ImageError) (os : List (Option ImageError)) → OfInput o → OfInput (first_of os) → OfInput (first_of (o ∷ os))
 of_first None os here there = there
@@ -68,7 +74,8 @@ at_third a b c d e x p q r = rw (p, q, r) refl
 at_fourth : (a b c d e : Option ImageError) (x : ImageError) → a ≡ None → b ≡ None → c ≡ None → d ≡ Some x → first_of (a ∷ b ∷ c ∷ d ∷ e ∷ []) ≡ Some x
 at_fourth a b c d e x p q r s = rw (p, q, r, s) refl
 
-at_fifth : (a b c d e : Option ImageError) (x : ImageError) → a ≡ None → b ≡ None → c ≡ None → d ≡ None → e ≡ Some x → first_of (a ∷ b ∷ c ∷ d ∷ e ∷ []) ≡ Some x
+at_fifth : (a b c d e : Option ImageError) (x : ImageError) → a ≡ None → b ≡ None → c ≡ None → d ≡ None → e ≡ Some x →
+    first_of (a ∷ b ∷ c ∷ d ∷ e ∷ []) ≡ Some x
 at_fifth a b c d e x p q r s t = rw (p, q, r, s, t) refl
 
 module _ (w : ℕ) (file : List ℕ) (short : length file ≤ 1048576) where
@@ -100,7 +107,8 @@ module _ (w : ℕ) (file : List ℕ) (short : length file ≤ 1048576) where
   unfolding refusal_of
   cause_overlap h s o = at_fourth one (header_refusal file) three four five Overlap not_long h s (ap (λ b. cond b (Some Overlap) None) o)
 
-  pub cause_entry : header_refusal file ≡ None → three ≡ None → have_overlap (segments file) ≡ false → is_entry (file_header file).e_entry ≡ false → IsCause w file Entry
+  pub cause_entry : header_refusal file ≡ None → three ≡ None → have_overlap (segments file) ≡ false → is_entry (file_header file).e_entry ≡ false →
+      IsCause w file Entry
   unfolding refusal_of
   cause_entry h s o n =
       at_fifth one (header_refusal file) three four five Entry not_long h s (ap (λ b. cond b (Some Overlap) None) o) (ap (λ b. cond b None (Some Entry)) n)

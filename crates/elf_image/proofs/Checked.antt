@@ -1,5 +1,6 @@
 -- What the checks of a file tell.
-use Rattle.std.proofs.Common.{◌≡◌, ℕ, zero, suc, ◌+◌, ◌*◌, ◌<◌, ◌≤◌, Bool, true, false, not, ◌&&◌, ◌||◌, List, [], ◌∷◌, length, None, Some, refl, arith, nat_lt, nat_le}
+use Rattle.std.proofs.Common.{◌≡◌, ℕ, zero, suc, ◌+◌, ◌*◌, ◌<◌, ◌≤◌, Bool, true, false, not, ◌&&◌, ◌||◌, List, [], ◌∷◌, length, None, Some, refl, arith}
+use Rattle.std.proofs.Common.{nat_lt, nat_le}
 use Rattle.std.specs.Prelude.{slice_get}
 use Rattle.std.specs.List.{list_any}
 use Rattle.std.proofs.lemmas.Bool.Decides.{nat_tests}
@@ -69,7 +70,8 @@ inside shared_words region p e =
     record { flagged = b.0; above = grind (arith, nat_tests, b.1); below = grind (arith, nat_tests, a.1) }
 
 -- a segment lies in the region of each address that it sets
-home : (shared_words : ℕ) (there region : Region) (p : ProgramHeader) (i : ℕ) → is_in shared_words there p ≡ true → Sets p (region_start region + i) → i < region_length shared_words region → is_in shared_words region p ≡ true
+home : (shared_words : ℕ) (there region : Region) (p : ProgramHeader) (i : ℕ) → is_in shared_words there p ≡ true → Sets p (region_start region + i) →
+    i < region_length shared_words region → is_in shared_words region p ≡ true
 home w Code Code p i e s h = e
 home w Local Local p i e s h = e
 home w Shared Shared p i e s h = e
@@ -89,14 +91,16 @@ which w p e = by_tests (is_in w Code p) (is_in w Local p) refl refl e
     by_tests false true code local e = (Local, local)
     by_tests false false code local e = (Shared, e)
 
-pub at_home : (shared_words : ℕ) (region : Region) (p : ProgramHeader) (i : ℕ) → is_in_a_region shared_words p ≡ true → Sets p (region_start region + i) → i < region_length shared_words region → is_in shared_words region p ≡ true
+pub at_home : (shared_words : ℕ) (region : Region) (p : ProgramHeader) (i : ℕ) → is_in_a_region shared_words p ≡ true → Sets p (region_start region + i) →
+    i < region_length shared_words region → is_in shared_words region p ≡ true
 at_home w region p i e s h = let there = which w p e in home w there.0 region p i there.1 s h
 
 -- segments that do not overlap set no address both
 pub overlap_false : (p q : ProgramHeader) (a : ℕ) → overlap p q ≡ false → Sets p a → Sets q a → ⊥
 overlap_false p q a e s t = grind (arith, nat_tests, e, s.0, s.1, t.0, t.1)
 
-pub apart : (ps : List ProgramHeader) (j k : ℕ) (p q : ProgramHeader) (a : ℕ) → have_overlap ps ≡ false → j < k → slice_get ps j ≡ Some p → slice_get ps k ≡ Some q → Sets p a → Sets q a → ⊥
+pub apart : (ps : List ProgramHeader) (j k : ℕ) (p q : ProgramHeader) (a : ℕ) → have_overlap ps ≡ false → j < k → slice_get ps j ≡ Some p →
+    slice_get ps k ≡ Some q → Sets p a → Sets q a → ⊥
 apart [] j k p q a e h at_j at_k s t = absurd (cc)
 apart (r ∷ ps) j zero p q a e h at_j at_k s t = absurd (omega arith)
 apart (r ∷ ps) zero (suc k) p q a e h at_j at_k s t =

@@ -1,5 +1,6 @@
 -- What tests and first refusals tell.
-use Rattle.std.proofs.Common.{◌≡◌, ℕ, zero, suc, Bool, true, false, not, cond, ◌&&◌, ◌||◌, List, [], ◌∷◌, map, Option, None, Some, Result, Ok, Err, refl, sym, subst}
+use Rattle.std.proofs.Common.{◌≡◌, ℕ, zero, suc, Bool, true, false, not, cond, ◌&&◌, ◌||◌, List, [], ◌∷◌, map, Option, None, Some, Result, Ok, Err, refl, sym}
+use Rattle.std.proofs.Common.{subst}
 use Rattle.std.specs.Prelude.{slice_get, IfErr, IsErrAnd, OnErr}
 use Rattle.std.specs.List.{list_any}
 use Rattle.elf_image.specs.declared.error.ImageError.{ImageError}
@@ -27,7 +28,8 @@ first_none None os h = (refl, h)
 first_none (Some e) os h = absurd (cc)
 
 -- where there is no first refusal, none of a list's elements is refused
-pub each_none : {X : Type 0} (refusal : X → Option ImageError) (xs : List X) (k : ℕ) (x : X) → first_of (map refusal xs) ≡ None → slice_get xs k ≡ Some x → refusal x ≡ None
+pub each_none : {X : Type 0} (refusal : X → Option ImageError) (xs : List X) (k : ℕ) (x : X) → first_of (map refusal xs) ≡ None → slice_get xs k ≡ Some x →
+    refusal x ≡ None
 each_none refusal [] k x h at = absurd (cc)
 each_none refusal (y ∷ ys) zero x h at = let same : y ≡ x = cc in rw same at (first_none (refusal y) (map refusal ys) h).0
 each_none refusal (y ∷ ys) (suc k) x h at = each_none refusal ys k x (first_none (refusal y) (map refusal ys) h).1 at

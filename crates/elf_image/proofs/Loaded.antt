@@ -35,7 +35,8 @@ module _ (ps : List ProgramHeader) (w : ℕ) (r : Region) (n : ℕ) (p : Program
   pub extent_skip : (extent : ℕ) → sets_in w r p ≡ false → IsExtent ps w r n extent → IsExtent ps w r (n + 1) extent
   extent_skip extent misses l = record { reached = λ k q h one. l.reached k q (earlier k q misses h one) one; last = l.last }
 
-  pub extent_next : (extent new : ℕ) → sets_in w r p ≡ true → new ≡ max extent (p.p_vaddr + p.p_memsz - region_start r) → IsExtent ps w r n extent → IsExtent ps w r (n + 1) new
+  pub extent_next : (extent new : ℕ) → sets_in w r p ≡ true → new ≡ max extent (p.p_vaddr + p.p_memsz - region_start r) → IsExtent ps w r n extent →
+      IsExtent ps w r (n + 1) new
   extent_next extent new hits is l = record { reached = reached; last = last }
     where
       above : region_start r ≤ p.p_vaddr
@@ -89,7 +90,8 @@ module _ (ps : List ProgramHeader) (w : ℕ) (r : Region) (n : ℕ) (p : Program
             let h : p.p_filesz ≤ region_start r + i - p.p_vaddr = grind (arith, nat_tests, e) in
             copies.behind i (omega (arith, h, s.0)) ∙ clear i s
 
-        set : (k : ℕ) (q : ProgramHeader) (i : ℕ) → k < n + 1 → IsOne ps w r k q → Sets q (region_start r + i) → slice_index new i ≡ byte_of file q (region_start r + i)
+        set : (k : ℕ) (q : ProgramHeader) (i : ℕ) → k < n + 1 → IsOne ps w r k q → Sets q (region_start r + i) →
+            slice_index new i ≡ byte_of file q (region_start r + i)
         set k q i h one s =
             elim (cases_eq k n) [
               | inl e ↦

@@ -5,7 +5,8 @@ use Rattle.std.proofs.lemmas.List.FromFn.{filter_of_map_range_with_len_more}
 use Rattle.elf_image.specs.declared.segment.ProgramHeader.{ProgramHeader}
 use Rattle.elf_image.specs.Headers.{is_load}
 
-module _ (f : ℕ → ProgramHeader) (n : ℕ) (old new : List ProgramHeader) (entry : ProgramHeader) (before : old ≡ filter is_load (map f (range_with_len 0 n))) (is : entry ≡ f n) where
+module _ (f : ℕ → ProgramHeader) (n : ℕ) (old new : List ProgramHeader) (entry : ProgramHeader) (before : old ≡ filter is_load (map f (range_with_len 0 n)))
+    (is : entry ≡ f n) where
   more : (b : Bool) → is_load entry ≡ b → filter is_load (map f (range_with_len 0 (n + 1))) ≡ old ++ cond b (entry ∷ []) []
   more b e =
       filter_of_map_range_with_len_more is_load f 0 n n (omega arith)

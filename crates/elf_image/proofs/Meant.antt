@@ -1,5 +1,6 @@
 -- From what the checks and the loader tell to accepted input and its meaning.
-use Rattle.std.proofs.Common.{◌≡◌, ℕ, ◌+◌, ◌-◌, ◌/◌, ◌%◌, ◌<◌, ◌≤◌, Bool, true, false, cond, List, [], length, None, Some, refl, ap, ◌∙◌, inl, inr, arith, nat_lt, eqb}
+use Rattle.std.proofs.Common.{◌≡◌, ℕ, ◌+◌, ◌-◌, ◌/◌, ◌%◌, ◌<◌, ◌≤◌, Bool, true, false, cond, List, [], length, None, Some, refl, ap, ◌∙◌, inl, inr, arith}
+use Rattle.std.proofs.Common.{nat_lt, eqb}
 use Rattle.std.specs.Prelude.{slice_get, slice_index}
 use Rattle.std.proofs.lemmas.Bool.{cases_lt, cases_eq}
 use Rattle.std.proofs.lemmas.Bool.Decides.{nat_tests}
@@ -81,7 +82,8 @@ module _ (w : ℕ) (file : List ℕ) (passed : Passed w file) where
         entry = passed.enters;
       }
     where
-      alone : (j k : ℕ) (p q : ProgramHeader) (a : ℕ) → slice_get (segments file) j ≡ Some p → slice_get (segments file) k ≡ Some q → Sets p a → Sets q a → j ≡ k
+      alone : (j k : ℕ) (p q : ProgramHeader) (a : ℕ) → slice_get (segments file) j ≡ Some p → slice_get (segments file) k ≡ Some q → Sets p a → Sets q a →
+          j ≡ k
       alone j k p q a at_j at_k s t =
           elim (cases_eq j k) [
             | inl e ↦ e
@@ -92,7 +94,8 @@ module _ (w : ℕ) (file : List ℕ) (passed : Passed w file) where
           ]
 
   -- a segment that sets an address of a region sets it there
-  one : (region : Region) (k : ℕ) (p : ProgramHeader) (i : ℕ) → slice_get (segments file) k ≡ Some p → i < region_length w region → Sets p (region_start region + i) → IsOne (segments file) w region k p
+  one : (region : Region) (k : ℕ) (p : ProgramHeader) (i : ℕ) → slice_get (segments file) k ≡ Some p → i < region_length w region →
+      Sets p (region_start region + i) → IsOne (segments file) w region k p
   one region k p i at h s =
       let some : 0 < p.p_memsz = omega (arith, s.0, s.1) in
       let home : is_in w region p ≡ true = at_home w region p i ((check k p at).placed some) s h in
@@ -109,7 +112,8 @@ module _ (w : ℕ) (file : List ℕ) (passed : Passed w file) where
             | inr none ↦ omega arith
           ]
 
-      set : (k : ℕ) (p : ProgramHeader) (i : ℕ) → slice_get (segments file) k ≡ Some p → i < length bytes → Sets p (region_start region + i) → slice_index bytes i ≡ byte_of file p (region_start region + i)
+      set : (k : ℕ) (p : ProgramHeader) (i : ℕ) → slice_get (segments file) k ≡ Some p → i < length bytes → Sets p (region_start region + i) →
+          slice_index bytes i ≡ byte_of file p (region_start region + i)
       set k p i at h s = l.loaded.set k p i (slice_get_within (segments file) k p at) (one region k p i at (omega (arith, h, fits)) s) s
 
       unset : (i : ℕ) → i < length bytes → IsUnset (segments file) (region_start region + i) → slice_index bytes i ≡ 0
@@ -126,7 +130,8 @@ module _ (w : ℕ) (file : List ℕ) (passed : Passed w file) where
           (end.0, end.1, end.2.at, (omega (arith, i.0, i.1.above, end.3), omega (arith, end.3)))
 
   pub meant : (layout : Layout) → layout.entry ≡ (file_header file).e_entry →
-      IsLoaded file (segments file) w Code layout.code → IsLoaded file (segments file) w Local layout.local → IsLoaded file (segments file) w Shared layout.shared →
+      IsLoaded file (segments file) w Code layout.code → IsLoaded file (segments file) w Local layout.local →
+      IsLoaded file (segments file) w Shared layout.shared →
       IsMeant w file layout
   meant layout entry code local shared = record {
     entry = entry;

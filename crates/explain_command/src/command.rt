@@ -24,7 +24,8 @@ pub fn explain_command<W: LinkWrite, E: Write>(
     requires works { W.has_failed out.old ≡ false }
     ensures explained { result ≡ 0 → IsPrinted (IsExplanation topics.now (option_map (λ w. w.now) word.entry)) (W.contents out.old) (W.contents out.new) }
     ensures unknown { result ≡ 2 → IsUnknown topics.now (option_map (λ w. w.now) word.entry) × (out.new ≡ out.old) }
-    ensures told { result ≢ 0 → result ≢ 2 → IsTold W.has_failed Fault.Link ⊥ (IsNoExplanation topics.now (option_map (λ w. w.now) word.entry) (W.contents out.old) (W.contents out.new)) out.old out.new result }
+    ensures told { result ≢ 0 → result ≢ 2 → IsTold W.has_failed Fault.Link ⊥
+        (IsNoExplanation topics.now (option_map (λ w. w.now) word.entry) (W.contents out.old) (W.contents out.new)) out.old out.new result }
     ensures failed { W.has_failed out.new ≡ true → result ≡ 3 }
 {
     let text = match word {

@@ -1,5 +1,6 @@
 -- What an access reads and writes is in range: bytes, words, and parts of words.
-use Rattle.std.proofs.Common.{◌≡◌, ℕ, zero, suc, ◌+◌, ◌-◌, ◌*◌, ◌/◌, ◌%◌, ◌^◌, ◌<◌, ◌≤◌, Bool, true, false, cond, eqb, List, [], ◌∷◌, Ok, Err, refl, sym, ap, ◌∙◌, arith}
+use Rattle.std.proofs.Common.{◌≡◌, ℕ, zero, suc, ◌+◌, ◌-◌, ◌*◌, ◌/◌, ◌%◌, ◌^◌, ◌<◌, ◌≤◌, Bool, true, false, cond, eqb, List, [], ◌∷◌, Ok, Err, refl, sym, ap}
+use Rattle.std.proofs.Common.{◌∙◌, arith}
 use Rattle.std.specs.Prelude.{not, nat_le, nat_lt, slice_index, slice_set}
 use Rattle.std.proofs.lemmas.Bool.{and_parts, eqb-true, leb-true, ltb-true}
 use Rattle.std.proofs.lemmas.Nat.{mod_below, mul-add-lt, pow_pos, pow-add, shr_below}
@@ -86,7 +87,8 @@ store_inside Sh address aligned = omega arith
 store_inside Sw address aligned = omega arith
 
 found_shared : (aligned shared local code writes : Bool) (reached place word : ℕ) →
-    cond (not aligned) (Err AddressNotAligned) (cond shared (Ok (region.Shared reached)) (cond local (Ok (region.Local place)) (cond code (cond writes (Err StoreToCode) (Ok (region.Code place))) (Err NoRegion)))) ≡ Ok (region.Shared word) →
+    cond (not aligned) (Err AddressNotAligned) (cond shared (Ok (region.Shared reached))
+    (cond local (Ok (region.Local place)) (cond code (cond writes (Err StoreToCode) (Ok (region.Code place))) (Err NoRegion)))) ≡ Ok (region.Shared word) →
     (aligned ≡ true) × (shared ≡ true) × (reached ≡ word)
 found_shared false shared local code writes reached place word e = absurd (cc)
 found_shared true true local code writes reached place word e = (refl, refl, cc)
@@ -100,7 +102,8 @@ pub shared_region : (s : Setting) (size address : ℕ) (writes : Bool) (word : �
     (address % size ≡ 0) × (word < s.shared_words)
 unfolding region_of
 shared_region s size address writes word e =
-    let f = found_shared (eqb (address % size) 0) (in_shared s.shared_words address) (in_local address) (in_code address) writes ((address - 2 ^ 31) / 4) (address % 2 ^ 16) word e in
+    let f = found_shared (eqb (address % size) 0) (in_shared s.shared_words address) (in_local address) (in_code address) writes ((address - 2 ^ 31) / 4)
+    (address % 2 ^ 16) word e in
     let between = and_parts (nat_le (2 ^ 31) address) (nat_lt address (2 ^ 31 + 4 * s.shared_words)) f.1 in
     let from : 2 ^ 31 ≤ address = leb-true (2 ^ 31) address between.0 in
     let below : address < 2 ^ 31 + 4 * s.shared_words = ltb-true address (2 ^ 31 + 4 * s.shared_words) between.1 in

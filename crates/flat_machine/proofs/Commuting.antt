@@ -1,5 +1,6 @@
 -- Local turns of two processors commute.
-use Rattle.std.proofs.Common.{◌≡◌, ◌≢◌, ℕ, ◌+◌, ◌<◌, Bool, true, false, cond, zero, suc, List, [], ◌∷◌, Option, Some, None, length, refl, sym, ap, subst, ◌∙◌, arith}
+use Rattle.std.proofs.Common.{◌≡◌, ◌≢◌, ℕ, ◌+◌, ◌<◌, Bool, true, false, cond, zero, suc, List, [], ◌∷◌, Option, Some, None, length, refl, sym, ap, subst, ◌∙◌}
+use Rattle.std.proofs.Common.{arith}
 use Rattle.std.specs.Prelude.{slice_get, slice_set, slice_index}
 use Rattle.std.proofs.lemmas.List.{length-set}
 use Rattle.flat_machine.specs.declared.event.Event.{Event}
@@ -48,14 +49,16 @@ turned_own m k (Some p) l = by_running (is_running p.status)
     by_running : (b : Bool) → cond b (with_taken m k (step_of m k p)) m ≡ with_own m k (cond b (Some (own p (turn_of (setting_of m k) m.code p))) None)
     by_running true =
         let is = own_taken p m.shared (turn_of (setting_of m k) m.code p) l in
-        ap (λ q. record m { processors = slice_set m.processors k q; shared = (step_of m k p).1 }) is.0 ∙ ap (λ w. record m { processors = slice_set m.processors k (own p (turn_of (setting_of m k) m.code p)); shared = w }) is.1
+        ap (λ q. record m { processors = slice_set m.processors k q; shared = (step_of m k p).1 }) is.0
+        ∙ ap (λ w. record m { processors = slice_set m.processors k (own p (turn_of (setting_of m k) m.code p)); shared = w }) is.1
     by_running false = refl
 
 -- the other processor's turn is not touched
 own_setting : (m : FlatState) (j k : ℕ) (q : Option Processor) → setting_of (with_own m j q) k ≡ setting_of m k
 unfolding with_own
 own_setting m j k None = refl
-own_setting m j k (Some p) = let e : length (slice_set m.processors j p) ≡ length m.processors = simp length-set in ap (λ n. record { number = k; processors = n; shared_words = length m.shared }) e
+own_setting m j k (Some p) = let e : length (slice_set m.processors j p) ≡ length m.processors =
+    simp length-set in ap (λ n. record { number = k; processors = n; shared_words = length m.shared }) e
 
 own_code : (m : FlatState) (j : ℕ) (q : Option Processor) → (with_own m j q).code ≡ m.code
 unfolding with_own
@@ -78,7 +81,8 @@ local_there m n k None setting code l = l
 local_there m n k (Some p) setting code l = subst (λ (x : Setting × List ℕ). NeedsNoWord (turn_of x.0 x.1 p)) (λ i. (setting i, code i)) l
 
 after_other : (m : FlatState) (j k : ℕ) → k ≢ j → IsLocalAt m j (slice_get m.processors j) → IsLocalAt m k (slice_get m.processors k) →
-    flat_step (flat_step m (entry.Processor j)) (entry.Processor k) ≡ with_own (with_own m j (own_of (setting_of m j) m.code (slice_get m.processors j))) k (own_of (setting_of m k) m.code (slice_get m.processors k))
+    flat_step (flat_step m (entry.Processor j)) (entry.Processor k)
+    ≡ with_own (with_own m j (own_of (setting_of m j) m.code (slice_get m.processors j))) k (own_of (setting_of m k) m.code (slice_get m.processors k))
 unfolding flat_step
 after_other m j k ne at_j at_k =
     let q = own_of (setting_of m j) m.code (slice_get m.processors j) in

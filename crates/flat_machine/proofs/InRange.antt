@@ -1,5 +1,6 @@
 -- Words stay words, in a turn, a step and a run.
-use Rattle.std.proofs.Common.{◌≡◌, ℕ, ◌*◌, ◌+◌, ◌-◌, ◌/◌, ◌%◌, ◌^◌, ◌<◌, ◌≤◌, Bool, true, false, cond, eqb, List, [], ◌∷◌, Option, Some, None, Result, Ok, Err, length, refl, arith}
+use Rattle.std.proofs.Common.{◌≡◌, ℕ, ◌*◌, ◌+◌, ◌-◌, ◌/◌, ◌%◌, ◌^◌, ◌<◌, ◌≤◌, Bool, true, false, cond, eqb, List, [], ◌∷◌, Option, Some, None, Result, Ok, Err}
+use Rattle.std.proofs.Common.{length, refl, arith}
 use Rattle.std.specs.Prelude.{All, not, slice_get, slice_index, slice_set}
 use Rattle.std.proofs.lemmas.List.{length-set}
 use Rattle.std.proofs.lemmas.List.Elements.{All-head, All-set, All-tail}
@@ -25,7 +26,8 @@ use Rattle.flat_machine.specs.Operations.{amo_value, load_size, loaded, store_si
 use Rattle.flat_machine.specs.Memory.{in_code, number_at, region_of, with_number}
 use Rattle.flat_machine.specs.Effects.{effect_of, with_register}
 use Rattle.flat_machine.specs.Turns.{Turn, Retires, Reaches, Stops, accessed, fetched, found, gone_to, next_pc, performed, retired_writing, turn_by, turn_of}
-use Rattle.flat_machine.specs.Flat.{flat_run, flat_step, is_lawful, poked, step_of, taken, turned, with_poked_byte, with_poked_register, with_processor, with_taken, written}
+use Rattle.flat_machine.specs.Flat.{flat_run, flat_step, is_lawful, poked, step_of, taken, turned, with_poked_byte, with_poked_register, with_processor}
+use Rattle.flat_machine.specs.Flat.{with_taken, written}
 use Rattle.flat_machine.specs.Laws.{AreBelow, AsksForWords, HasWords, IsInRange, LeavesWords, WritesWords}
 use Rattle.flat_machine.proofs.Accesses.{load_inside, number_small, part_small, set_below, shared_region, store_inside, with_number_below, with_part_small}
 use Rattle.flat_machine.proofs.Kept.{all_get}
@@ -48,8 +50,10 @@ next_words : (rd value : ℕ) (p : Processor) → value < 2 ^ 32 → HasWords p 
 next_words rd value p small h = gone_words (next_pc p) rd value p (sum_small p.pc 4) small h
 
 module _ (s : Setting) (code : List ℕ) (p : Processor) (i : Insn) (bytes : AreBelow 256 code) (h : HasWords p) where
-  module _ (size address rd : ℕ) (value change : ℕ → ℕ) (writes : Bool) (small : (old : ℕ) → old < 2 ^ (8 * size) → value old < 2 ^ 32) (inside : address % size ≡ 0 → address % 4 + size ≤ 4) where
-    word_after : (x : ℕ) (b : Bool) → address % 4 + size ≤ 4 → x < 2 ^ 32 → cond b (with_part size (address % 4) x (change (part_of size (address % 4) x))) x < 2 ^ 32
+  module _ (size address rd : ℕ) (value change : ℕ → ℕ) (writes : Bool) (small : (old : ℕ) → old < 2 ^ (8 * size) →
+      value old < 2 ^ 32) (inside : address % size ≡ 0 → address % 4 + size ≤ 4) where
+    word_after : (x : ℕ) (b : Bool) → address % 4 + size ≤ 4 → x < 2 ^ 32 →
+        cond b (with_part size (address % 4) x (change (part_of size (address % 4) x))) x < 2 ^ 32
     word_after x true fits below = with_part_small size (address % 4) x (change (part_of size (address % 4) x)) fits below
     word_after x false fits below = below
 
@@ -79,11 +83,14 @@ module _ (s : Setting) (code : List ℕ) (p : Processor) (i : Insn) (bytes : Are
   performed_words (does.Jump rd value target) asks = jump_words rd value target (eqb (target % 4) 0) asks.0 asks.1
   performed_words does.Pass asks = next_words 0 0 p (omega arith) h
   performed_words (does.Load op rd address) asks =
-      accessed_words (load_size op) address rd (loaded op) (λ old. old) false (loaded_small op) (load_inside op address) (region_of s (load_size op) address false) refl
+      accessed_words (load_size op) address rd (loaded op) (λ old. old) false (loaded_small op) (load_inside op address)
+      (region_of s (load_size op) address false) refl
   performed_words (does.Store op address value) asks =
-      accessed_words (store_size op) address 0 (λ old. 0) (λ old. value) true (λ old below. omega arith) (store_inside op address) (region_of s (store_size op) address true) refl
+      accessed_words (store_size op) address 0 (λ old. 0) (λ old. value) true (λ old below. omega arith) (store_inside op address)
+      (region_of s (store_size op) address true) refl
   performed_words (does.Amo op rd address value) asks =
-      accessed_words 4 address rd (λ old. old) (λ old. amo_value op old value) true (λ old below. below) (λ aligned. omega arith) (region_of s 4 address true) refl
+      accessed_words 4 address rd (λ old. old) (λ old. amo_value op old value) true (λ old below. below) (λ aligned. omega arith)
+      (region_of s 4 address true) refl
   performed_words (does.Print byte) asks = next_words 0 0 p (omega arith) h
   performed_words (does.Halt byte) asks = tt
   performed_words (does.Fail fault) asks = tt
@@ -98,11 +105,13 @@ fetched_fits code pc i e = by_place (in_code pc) (insn_of (number_at code (pc % 
     by_place true None is e = absurd (cc)
     by_place false o is e = absurd (cc)
 
-pub turn_words : (s : Setting) (code : List ℕ) (p : Processor) → s.number < 2 ^ 32 → s.processors < 2 ^ 32 → AreBelow 256 code → HasWords p → LeavesWords (turn_of s code p)
+pub turn_words : (s : Setting) (code : List ℕ) (p : Processor) → s.number < 2 ^ 32 → s.processors < 2 ^ 32 → AreBelow 256 code → HasWords p →
+    LeavesWords (turn_of s code p)
 turn_words s code p number count bytes h = by_fetched (fetched code p.pc) refl
   where
     by_fetched : (r : Result Insn Fault) → fetched code p.pc ≡ r → LeavesWords (turn_by s code p r)
-    by_fetched (Ok i) is = performed_words s code p i bytes h (effect_of s p.pc p.registers i) (effect_asks s p.pc p.registers i number count h.registers (fetched_fits code p.pc i is))
+    by_fetched (Ok i) is = performed_words s code p i bytes h (effect_of s p.pc p.registers i)
+        (effect_asks s p.pc p.registers i number count h.registers (fetched_fits code p.pc i is))
     by_fetched (Err fault) is = tt
 
 -- ---- steps
@@ -158,7 +167,12 @@ written_in_range m (poke.Local k address value) small h =
 written_in_range m (poke.Shared address value) small h =
     let word : ℕ = (address - 2 ^ 31) / 4 in
     let new = with_part_small 1 (address % 4) (slice_index m.shared word) value (omega arith) (h.shared word) in
-    record { processors = h.processors; count = h.count; shared = set_below (2 ^ 32) m.shared word (with_part 1 (address % 4) (slice_index m.shared word) value) new h.shared; code = h.code }
+    record {
+      processors = h.processors;
+      count = h.count;
+      shared = set_below (2 ^ 32) m.shared word (with_part 1 (address % 4) (slice_index m.shared word) value) new h.shared;
+      code = h.code;
+    }
 
 poked_in_range : (m : FlatState) (p : Poke) → WritesWords (entry.Poke p) → IsInRange m → IsInRange (poked m p)
 poked_in_range m p small h = by_law (is_lawful m p)

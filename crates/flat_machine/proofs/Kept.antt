@@ -1,5 +1,6 @@
 -- Facts of processors that a whole run keeps.
-use Rattle.std.proofs.Common.{◌≡◌, ◌≢◌, ℕ, ◌+◌, ◌%◌, ◌^◌, Bool, true, false, cond, eqb, zero, suc, ◌<◌, ◌≤◌, List, [], ◌∷◌, Option, Some, None, Result, Ok, Err, length, refl, sym, ap, subst, ◌∙◌, arith, rules}
+use Rattle.std.proofs.Common.{◌≡◌, ◌≢◌, ℕ, ◌+◌, ◌%◌, ◌^◌, Bool, true, false, cond, eqb, zero, suc, ◌<◌, ◌≤◌, List, [], ◌∷◌, Option, Some, None, Result, Ok}
+use Rattle.std.proofs.Common.{Err, length, refl, sym, ap, subst, ◌∙◌, arith, rules}
 use Rattle.std.specs.Prelude.{All, slice_get, slice_set, slice_index, nat_le, nat_lt, ◌&&◌, ◌||◌}
 use Rattle.std.proofs.lemmas.List.Elements.{All-set}
 use Rattle.std.proofs.lemmas.List.{get_or-set_other}
@@ -25,7 +26,8 @@ use Rattle.flat_machine.specs.Operations.{load_size, loaded, store_size, amo_val
 use Rattle.flat_machine.specs.Memory.{region_of}
 use Rattle.flat_machine.specs.Effects.{effect_of, with_register}
 use Rattle.flat_machine.specs.Turns.{Turn, Retires, Reaches, Stops, turn_of, turn_by, performed, accessed, fetched, gone_to, next_pc, retired_writing}
-use Rattle.flat_machine.specs.Flat.{taken, with_taken, step_of, turned, flat_step, flat_run, poked, written, is_lawful, is_lawful_register, with_poked_register, with_poked_byte, with_processor}
+use Rattle.flat_machine.specs.Flat.{taken, with_taken, step_of, turned, flat_step, flat_run, poked, written, is_lawful, is_lawful_register}
+use Rattle.flat_machine.specs.Flat.{with_poked_register, with_poked_byte, with_processor}
 use Rattle.flat_machine.specs.Laws.{HasZero, HasAlignedPc}
 
 -- what holds of all holds of the one at a place
@@ -68,7 +70,8 @@ module _ (P : Processor → Type 0) (kept : IsKept P) where
   performed_leaves s code p i (does.Write rd value) h = kept.next p rd value h
   performed_leaves s code p i (does.Jump rd value target) h = jump_leaves p i rd value target (eqb (target % 4) 0) refl h
   performed_leaves s code p i does.Pass h = kept.next p 0 0 h
-  performed_leaves s code p i (does.Load op rd address) h = accessed_leaves code p i (load_size op) address rd (loaded op) (λ old. old) false (region_of s (load_size op) address false) h
+  performed_leaves s code p i (does.Load op rd address) h =
+      accessed_leaves code p i (load_size op) address rd (loaded op) (λ old. old) false (region_of s (load_size op) address false) h
   performed_leaves s code p i (does.Store op address value) h =
       accessed_leaves code p i (store_size op) address 0 (λ old. 0) (λ old. value) true (region_of s (store_size op) address true) h
   performed_leaves s code p i (does.Amo op rd address value) h =
@@ -106,7 +109,8 @@ module _ (P : Processor → Type 0) (kept : IsKept P) where
 
   written_keeps : (m : FlatState) (p : Poke) → is_lawful m p ≡ true → All P m.processors → All P (written m p).processors
   written_keeps m (poke.Register k r v) lawful all =
-      with_processor_keeps m k (with_poked_register r v) (slice_get m.processors k) refl (λ q h. kept.register q r v h (and_parts (nat_lt k (length m.processors)) (is_lawful_register r v) lawful).1) all
+      with_processor_keeps m k (with_poked_register r v) (slice_get m.processors k) refl
+      (λ q h. kept.register q r v h (and_parts (nat_lt k (length m.processors)) (is_lawful_register r v) lawful).1) all
   written_keeps m (poke.Local k address value) lawful all =
       with_processor_keeps m k (with_poked_byte address value) (slice_get m.processors k) refl (λ q h. kept.store q _ h) all
   written_keeps m (poke.Shared address value) lawful all = all
@@ -134,7 +138,8 @@ zero_written registers rd value h = by_register (eqb rd 0) refl
     by_register true e = h
     by_register false e = let ne : 0 ≢ rd = (λ is. eqb-false rd 0 e (sym is)) in get_or-set_other registers rd 0 value 0 ne ∙ h
 
-zero_poked : (p : Processor) (r v : ℕ) (b : Bool) → HasZero p → 1 ≤ r → HasZero (cond b (record p { pc = v }) (record p { registers = slice_set p.registers r v }))
+zero_poked : (p : Processor) (r v : ℕ) (b : Bool) → HasZero p → 1 ≤ r →
+    HasZero (cond b (record p { pc = v }) (record p { registers = slice_set p.registers r v }))
 zero_poked p r v true h some = h
 zero_poked p r v false h some = let ne : 0 ≢ r = omega arith in get_or-set_other p.registers r 0 v 0 ne ∙ h
 
@@ -159,7 +164,8 @@ next_aligned : (pc : ℕ) → pc % 4 ≡ 0 → plus pc 4 % 4 ≡ 0
 unfolding plus
 next_aligned pc h = omega arith
 
-pc_poked : (p : Processor) (r v : ℕ) (b : Bool) → eqb r 32 ≡ b → HasAlignedPc p → is_lawful_register r v ≡ true → HasAlignedPc (cond b (record p { pc = v }) (record p { registers = slice_set p.registers r v }))
+pc_poked : (p : Processor) (r v : ℕ) (b : Bool) → eqb r 32 ≡ b → HasAlignedPc p → is_lawful_register r v ≡ true →
+    HasAlignedPc (cond b (record p { pc = v }) (record p { registers = slice_set p.registers r v }))
 pc_poked p r v true is h lawful =
     let r_is : r ≡ 32 = eqb-true r 32 is in
     let not_below : nat_lt r 32 ≡ false = le-ltb r 32 (omega arith) in

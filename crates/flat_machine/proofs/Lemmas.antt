@@ -2,12 +2,9 @@
 
 -- What an access reads and writes is in range: bytes, words, and parts of words.
 pub use Rattle.flat_machine.proofs.Accesses.{number_small, shared_region, store_inside, with_part_small}
-
 -- Words stay words, in a turn, a step and a run.
 pub use Rattle.flat_machine.proofs.InRange.{byte_words, register_words, step_in_range, turn_words}
-
 -- Facts of processors that a whole run keeps.
 pub use Rattle.flat_machine.proofs.Kept.{all_get}
-
 -- What instructions compute of words are words.
 pub use Rattle.flat_machine.proofs.Values.{register_small}

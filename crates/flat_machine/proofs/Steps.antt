@@ -1,5 +1,6 @@
 -- What one step does.
-use Rattle.std.proofs.Common.{◌≡◌, ◌≢◌, ℕ, ◌+◌, ◌<◌, ◌≤◌, Bool, true, false, cond, zero, suc, List, [], ◌∷◌, ◌++◌, Option, Some, None, length, refl, sym, ap, ◌∙◌, arith, append_assoc}
+use Rattle.std.proofs.Common.{◌≡◌, ◌≢◌, ℕ, ◌+◌, ◌<◌, ◌≤◌, Bool, true, false, cond, zero, suc, List, [], ◌∷◌, ◌++◌, Option, Some, None, length, refl, sym, ap}
+use Rattle.std.proofs.Common.{◌∙◌, arith, append_assoc}
 use Rattle.std.specs.Prelude.{slice_get, slice_set, slice_index}
 use Rattle.flat_machine.specs.declared.event.Cause.{Cause}
 use Rattle.flat_machine.specs.declared.event.Event.{Event}
@@ -23,26 +24,30 @@ events_append m (e ∷ es) second =
 -- ---- stops
 
 -- a turn that shows a stop leaves all but the status
-stop_taken : (p : Processor) (shared : List ℕ) (t : Turn) (cause : Cause) → (taken p shared t).2 ≡ Stopped cause → taken p shared t ≡ (record p { status = status_of cause }, shared, Stopped cause)
+stop_taken : (p : Processor) (shared : List ℕ) (t : Turn) (cause : Cause) → (taken p shared t).2 ≡ Stopped cause →
+    taken p shared t ≡ (record p { status = status_of cause }, shared, Stopped cause)
 stop_taken p shared (Retires after retired) cause e = absurd (cc)
 stop_taken p shared (Reaches word change after) cause e = absurd (cc)
 stop_taken p shared (Stops other) cause e = let same : other ≡ cause = cc in ap (λ c. (record p { status = status_of c }, shared, Stopped c)) same
 
 stop_turned : (m : FlatState) (k : ℕ) (p : Processor) (cause : Cause) (running : Bool) → is_running p.status ≡ running →
-    turn_event m k (Some p) ≡ Some (Stopped cause) → turned m k (Some p) ≡ record m { processors = slice_set m.processors k (record p { status = status_of cause }) }
+    turn_event m k (Some p) ≡ Some (Stopped cause) →
+    turned m k (Some p) ≡ record m { processors = slice_set m.processors k (record p { status = status_of cause }) }
 stop_turned m k p cause true r e =
     let shown : (step_of m k p).2 ≡ Stopped cause = let e' = rw r at e in cc in
     let stops = stop_taken p m.shared (turn_of (setting_of m k) m.code p) cause shown in
     rw r (ap (with_taken m k) stops)
 stop_turned m k p cause false r e = let e' = rw r at e in absurd (cc)
 
-pub stop_changes_status : (m : FlatState) (k : ℕ) (p : Processor) (cause : Cause) → slice_get m.processors k ≡ Some p → flat_event m (entry.Processor k) ≡ Some (Stopped cause) →
+pub stop_changes_status : (m : FlatState) (k : ℕ) (p : Processor) (cause : Cause) → slice_get m.processors k ≡ Some p →
+    flat_event m (entry.Processor k) ≡ Some (Stopped cause) →
     flat_step m (entry.Processor k) ≡ record m { processors = slice_set m.processors k (record p { status = status_of cause }) }
 unfolding flat_step flat_event
 stop_changes_status m k p cause at e =
     ap (turned m k) at ∙ stop_turned m k p cause (is_running p.status) refl (ap (turn_event m k) (sym at) ∙ e)
 
-pub stopped_stays : (m : FlatState) (k : ℕ) (p : Processor) → slice_get m.processors k ≡ Some p → is_running p.status ≡ false → flat_step m (entry.Processor k) ≡ m
+pub stopped_stays : (m : FlatState) (k : ℕ) (p : Processor) → slice_get m.processors k ≡ Some p → is_running p.status ≡ false →
+    flat_step m (entry.Processor k) ≡ m
 unfolding flat_step
 stopped_stays m k p at stopped = ap (turned m k) at ∙ rw stopped refl
 
@@ -88,11 +93,13 @@ unfolding OneWord
 word_turned m k None = (0, λ other ne. refl)
 word_turned m k (Some p) = by_running (is_running p.status)
   where
-    by_running : (b : Bool) → (word : ℕ) × ((other : ℕ) → other ≢ word → slice_get (cond b (with_taken m k (step_of m k p)) m).shared other ≡ slice_get m.shared other)
+    by_running : (b : Bool) → (word : ℕ) × ((other : ℕ) → other ≢ word →
+        slice_get (cond b (with_taken m k (step_of m k p)) m).shared other ≡ slice_get m.shared other)
     by_running true = (reached (turn_of (setting_of m k) m.code p), others_taken p m.shared (turn_of (setting_of m k) m.code p))
     by_running false = (0, λ other ne. refl)
 
-pub one_word : (m : FlatState) (k : ℕ) → (word : ℕ) × ((other : ℕ) → other ≢ word → slice_get (flat_step m (entry.Processor k)).shared other ≡ slice_get m.shared other)
+pub one_word : (m : FlatState) (k : ℕ) → (word : ℕ)
+    × ((other : ℕ) → other ≢ word → slice_get (flat_step m (entry.Processor k)).shared other ≡ slice_get m.shared other)
 unfolding flat_step OneWord
 one_word m k = word_turned m k (slice_get m.processors k)
 

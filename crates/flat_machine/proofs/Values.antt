@@ -113,7 +113,8 @@ unfolding call_of
 call_asks s a7 a0 number count = by_call (eqb a7 0) (eqb a7 1) (eqb a7 2) (eqb a7 3)
   where
     by_call : (halt print own all : Bool) →
-        AsksForWords (cond halt (does.Halt (a0 % 256)) (cond print (does.Print (a0 % 256)) (cond own (does.Write 10 s.number) (cond all (does.Write 10 s.processors) (does.Fail UnknownCall)))))
+        AsksForWords (cond halt (does.Halt (a0 % 256))
+        (cond print (does.Print (a0 % 256)) (cond own (does.Write 10 s.number) (cond all (does.Write 10 s.processors) (does.Fail UnknownCall)))))
     by_call true print own all = omega arith
     by_call false true own all = omega arith
     by_call false false true all = number
@@ -128,12 +129,15 @@ jump_asks false pc offset = tt
 pub effect_asks : (s : Setting) (pc : ℕ) (registers : List ℕ) (i : Insn) → s.number < 2 ^ 32 → s.processors < 2 ^ 32 → AreBelow (2 ^ 32) registers → InRange i →
     AsksForWords (effect_of s pc registers i)
 unfolding effect_of
-effect_asks s pc registers (Op op rd rs1 rs2) number count all fits = register_value_small op _ _ (register_small registers rs1 all) (register_small registers rs2 all)
-effect_asks s pc registers (OpImm op rd rs1 imm) number count all fits = immediate_value_small op _ _ (register_small registers rs1 all) (extended_small imm fits.2)
+effect_asks s pc registers (Op op rd rs1 rs2) number count all fits =
+    register_value_small op _ _ (register_small registers rs1 all) (register_small registers rs2 all)
+effect_asks s pc registers (OpImm op rd rs1 imm) number count all fits =
+    immediate_value_small op _ _ (register_small registers rs1 all) (extended_small imm fits.2)
 effect_asks s pc registers (Shift op rd rs1 amount) number count all fits = shift_value_small op _ amount (register_small registers rs1 all)
 effect_asks s pc registers (Load op rd rs1 imm) number count all fits = sum_small _ _
 effect_asks s pc registers (Store op rs1 rs2 imm) number count all fits = (sum_small _ _, register_small registers rs2 all)
-effect_asks s pc registers (Branch op rs1 rs2 offset) number count all fits = jump_asks (is_taken op (register_of registers rs1) (register_of registers rs2)) pc offset
+effect_asks s pc registers (Branch op rs1 rs2 offset) number count all fits =
+    jump_asks (is_taken op (register_of registers rs1) (register_of registers rs2)) pc offset
 effect_asks s pc registers (Upper Lui rd upper) number count all fits = omega (arith, fits.1)
 effect_asks s pc registers (Upper Auipc rd upper) number count all fits = sum_small _ _
 effect_asks s pc registers (Jal rd offset) number count all fits = (sum_small _ _, sum_small _ _)

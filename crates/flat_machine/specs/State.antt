@@ -2,7 +2,8 @@
 use Rattle.std.specs.Prelude.{ℕ, Bool, true, false, List, length}
 use Rattle.flat_machine.specs.declared.setting.Setting.{Setting}
 use Rattle.flat_machine.specs.declared.fault.Fault.{Fault}
-use Rattle.flat_machine.specs.declared.fault.Fault.TheVariants.{NoRow, FetchOutsideCode, TargetNotAligned, AddressNotAligned, NoRegion, StoreToCode, UnknownCall, Breakpoint}
+use Rattle.flat_machine.specs.declared.fault.Fault.TheVariants.{NoRow, FetchOutsideCode, TargetNotAligned, AddressNotAligned, NoRegion, StoreToCode}
+use Rattle.flat_machine.specs.declared.fault.Fault.TheVariants.{UnknownCall, Breakpoint}
 use Rattle.flat_machine.specs.declared.event.Status.{Status}
 use Rattle.flat_machine.specs.declared.event.Status.TheVariants.{Running, Halted, Faulted}
 use Rattle.flat_machine.specs.declared.event.Cause.{Cause}

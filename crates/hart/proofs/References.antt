@@ -27,7 +27,8 @@ unfolding with_part
 whole_with x y hx hy = omega arith
 
 module _ (code : List ℕ) (p : Processor) (insn : Insn) (size address rd : ℕ) (value change : ℕ → ℕ) (writes : Bool) where
-  no_fault : (b : Bool) (rest : Result Region Fault) → IsReference (accessed code p insn size address rd value change writes (cond (not b) (Err AddressNotAligned) rest)) → b ≡ true
+  no_fault : (b : Bool) (rest : Result Region Fault) →
+      IsReference (accessed code p insn size address rd value change writes (cond (not b) (Err AddressNotAligned) rest)) → b ≡ true
   no_fault true rest h = refl
   no_fault false rest h = absurd h
 
@@ -40,7 +41,8 @@ module _ (code : List ℕ) (p : Processor) (insn : Insn) (size address rd : ℕ)
   -- what a reference leaves
   leaves : (reply : ℕ) (r : Result Region Fault) → IsReference (accessed code p insn size address rd value change writes r) →
       let old = part_of size (address % 4) reply in
-      after_reply (accessed code p insn size address rd value change writes r) reply ≡ Some (gone_to (next_pc p) rd (value old) p, retired_writing p.pc insn rd (value old))
+      after_reply (accessed code p insn size address rd value change writes r) reply
+      ≡ Some (gone_to (next_pc p) rd (value old) p, retired_writing p.pc insn rd (value old))
   leaves reply (Ok (region.Shared word)) h = refl
   leaves reply (Ok (region.Local place)) h = absurd h
   leaves reply (Ok (region.Code place)) h = absurd h

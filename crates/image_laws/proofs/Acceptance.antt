@@ -1,17 +1,20 @@
 -- What is accepted is not refused.
-use Rattle.std.proofs.Common.{◌≡◌, ◌↔◌, ℕ, suc, ◌+◌, ◌-◌, ◌*◌, ◌/◌, ◌<◌, ◌≤◌, max, min, Bool, true, false, not, cond, ◌&&◌, ◌||◌, List, [], ◌∷◌, map, length, Option, None, Some, refl, ap, inl, inr, arith, nat_lt, nat_le}
+use Rattle.std.proofs.Common.{◌≡◌, ◌↔◌, ℕ, suc, ◌+◌, ◌-◌, ◌*◌, ◌/◌, ◌<◌, ◌≤◌, max, min, Bool, true, false, not, cond, ◌&&◌, ◌||◌, List, [], ◌∷◌, map, length}
+use Rattle.std.proofs.Common.{Option, None, Some, refl, ap, inl, inr, arith, nat_lt, nat_le}
 use Rattle.std.specs.Prelude.{slice_get}
 use Rattle.std.specs.List.{list_any}
 use Rattle.std.proofs.lemmas.Bool.{cases_lt}
 use Rattle.std.proofs.lemmas.Bool.Decides.{nat_tests}
 use Rattle.elf_image.specs.declared.error.ImageError.{ImageError}
-use Rattle.elf_image.specs.declared.error.ImageError.TheVariants.{Truncated, NotExecutable, UnsupportedHeader, OutsideInput, OutsideRegions, Overlap, Entry, TooLong}
+use Rattle.elf_image.specs.declared.error.ImageError.TheVariants.{Truncated, NotExecutable, UnsupportedHeader, OutsideInput, OutsideRegions, Overlap, Entry}
+use Rattle.elf_image.specs.declared.error.ImageError.TheVariants.{TooLong}
 use Rattle.elf_image.specs.declared.region.Region.{Region}
 use Rattle.elf_image.specs.declared.region.Region.TheVariants.{Code, Local, Shared}
 use Rattle.elf_image.specs.declared.segment.ProgramHeader.{ProgramHeader}
 use Rattle.elf_image.specs.Headers.{file_header, segments}
 use Rattle.elf_image.specs.Regions.{region_start, region_length, is_in, is_in_a_region}
-use Rattle.elf_image.specs.Refusals.{is_executable, is_supported, header_refusal, is_in_file, segment_refusal, segment_refusals, overlap, have_overlap, is_entry, first_of, refusal_of}
+use Rattle.elf_image.specs.Refusals.{is_executable, is_supported, header_refusal, is_in_file, segment_refusal, segment_refusals, overlap, have_overlap}
+use Rattle.elf_image.specs.Refusals.{is_entry, first_of, refusal_of}
 use Rattle.elf_image.specs.Segments.{Sets}
 use Rattle.elf_image.specs.Images.{in_region, LiesIn, IsAccepted}
 
@@ -25,7 +28,8 @@ pub and_true : (a b : Bool) → (a && b) ≡ true → (a ≡ true) × (b ≡ tru
 and_true true b e = (refl, e)
 and_true false b e = absurd (cc)
 
-pub none_refused : {X : Type 0} (refusal : X → Option ImageError) (xs : List X) → ((k : ℕ) (x : X) → slice_get xs k ≡ Some x → refusal x ≡ None) → first_of (map refusal xs) ≡ None
+pub none_refused : {X : Type 0} (refusal : X → Option ImageError) (xs : List X) → ((k : ℕ) (x : X) → slice_get xs k ≡ Some x → refusal x ≡ None) →
+    first_of (map refusal xs) ≡ None
 none_refused refusal [] h = refl
 none_refused refusal (x ∷ xs) h = rw (h 0 x refl) (none_refused refusal xs (λ k y at. h (suc k) y at))
 
@@ -33,10 +37,12 @@ any_false : {X : Type 0} (test : X → Bool) (xs : List X) → ((k : ℕ) (x : X
 any_false test [] h = refl
 any_false test (x ∷ xs) h = rw (h 0 x refl) (any_false test xs (λ k y at. h (suc k) y at))
 
-no_overlap : (ps : List ProgramHeader) → ((j k : ℕ) (p q : ProgramHeader) → j < k → slice_get ps j ≡ Some p → slice_get ps k ≡ Some q → overlap p q ≡ false) → have_overlap ps ≡ false
+no_overlap : (ps : List ProgramHeader) → ((j k : ℕ) (p q : ProgramHeader) → j < k → slice_get ps j ≡ Some p → slice_get ps k ≡ Some q → overlap p q ≡ false) →
+    have_overlap ps ≡ false
 no_overlap [] h = refl
 no_overlap (p ∷ ps) h =
-    rw (any_false (overlap p) ps (λ k q at. h 0 (suc k) p q (omega arith) refl at)) (no_overlap ps (λ j k q r less at_j at_k. h (suc j) (suc k) q r (omega arith) at_j at_k))
+    rw (any_false (overlap p) ps (λ k q at. h 0 (suc k) p q (omega arith) refl at))
+    (no_overlap ps (λ j k q r less at_j at_k. h (suc j) (suc k) q r (omega arith) at_j at_k))
 
 -- two segments that overlap set an address both
 pub common : (p q : ProgramHeader) → ((a : ℕ) → Sets p a → Sets q a → ⊥) → overlap p q ≡ false
@@ -78,12 +84,14 @@ in_one w Shared p e = in_third (is_in w Code p) (is_in w Local p) _ e
     in_third false true c e = refl
     in_third false false c e = e
 
-pub segment_fine : (bytes w : ℕ) (p : ProgramHeader) → p.p_offset + p.p_filesz ≤ bytes → p.p_filesz ≤ p.p_memsz → (0 < p.p_memsz → is_in_a_region w p ≡ true) → segment_refusal bytes w p ≡ None
+pub segment_fine : (bytes w : ℕ) (p : ProgramHeader) → p.p_offset + p.p_filesz ≤ bytes → p.p_filesz ≤ p.p_memsz → (0 < p.p_memsz → is_in_a_region w p ≡ true) →
+    segment_refusal bytes w p ≡ None
 segment_fine bytes w p there room placed =
     let first : nat_le (p.p_offset + p.p_filesz) bytes ≡ true = grind (arith, nat_tests, there) in
     let second : nat_le p.p_filesz p.p_memsz ≡ true = grind (arith, nat_tests, room) in
     let filed : is_in_file bytes p ≡ true = rw (first, second) refl in
-    passes (not (is_in_file bytes p)) OutsideInput _ (not_true (is_in_file bytes p) filed) (passes (nat_lt 0 p.p_memsz && not (is_in_a_region w p)) OutsideRegions None here refl)
+    passes (not (is_in_file bytes p)) OutsideInput _ (not_true (is_in_file bytes p) filed)
+    (passes (nat_lt 0 p.p_memsz && not (is_in_a_region w p)) OutsideRegions None here refl)
   where
     here : (nat_lt 0 p.p_memsz && not (is_in_a_region w p)) ≡ false
     here =
@@ -107,7 +115,8 @@ five_none : (a b c d e : Option ImageError) → a ≡ None → b ≡ None → c 
 five_none a b c d e p q r s t = rw (p, q, r, s, t) refl
 
 -- a file that no check refuses
-pub unrefused : (w : ℕ) (file : List ℕ) → length file ≤ 1048576 → header_refusal file ≡ None → first_of (segment_refusals (length file) w (segments file)) ≡ None →
+pub unrefused : (w : ℕ) (file : List ℕ) → length file ≤ 1048576 → header_refusal file ≡ None →
+    first_of (segment_refusals (length file) w (segments file)) ≡ None →
     have_overlap (segments file) ≡ false → is_entry (file_header file).e_entry ≡ true → refusal_of w file ≡ None
 unfolding refusal_of
 unrefused w file size headers filed disjoint enters =
@@ -120,6 +129,8 @@ pub accepted_is_not_refused : (w : ℕ) (file : List ℕ) → IsAccepted w file 
 accepted_is_not_refused w file a =
     unrefused w file a.not_long (headers_fine file a.headed a.executable a.supported a.listed)
     (none_refused (segment_refusal (length file) w) (segments file) (λ k p at.
-    segment_fine (length file) w p (a.filed k p at).0 (a.filed k p at).1 (λ some. let there = a.placed k p at some in in_one w there.0 p (is_inside w there.0 p some there.1))))
-    (no_overlap (segments file) (λ j k p q less at_j at_k. common p q (λ x s t. let same = a.apart j k p q x at_j at_k s t in absurd (omega (arith, same, less)))))
+    segment_fine (length file) w p (a.filed k p at).0 (a.filed k p at).1 (λ some. let there = a.placed k p at some in
+    in_one w there.0 p (is_inside w there.0 p some there.1))))
+    (no_overlap (segments file) (λ j k p q less at_j at_k. common p q (λ x s t. let same = a.apart j k p q x at_j at_k s t in
+    absurd (omega (arith, same, less)))))
     a.entry

@@ -1,5 +1,6 @@
 -- How a machine opens, address by address.
-use Rattle.std.proofs.Common.{◌≡◌, ℕ, zero, suc, ◌+◌, ◌-◌, ◌*◌, ◌/◌, ◌%◌, ◌^◌, ◌<◌, ◌≤◌, true, List, length, replicate, Some, refl, sym, ap, subst, ◌∙◌, inl, inr, arith, length-append}
+use Rattle.std.proofs.Common.{◌≡◌, ℕ, zero, suc, ◌+◌, ◌-◌, ◌*◌, ◌/◌, ◌%◌, ◌^◌, ◌<◌, ◌≤◌, true, List, length, replicate, Some, refl, sym, ap, subst, ◌∙◌, inl}
+use Rattle.std.proofs.Common.{inr, arith, length-append}
 use Rattle.std.specs.Prelude.{slice_get, slice_index}
 use Rattle.std.proofs.lemmas.Bool.{cases_lt}
 use Rattle.std.proofs.lemmas.Bool.Decides.{nat_tests}
@@ -29,7 +30,8 @@ padded_same n bytes i =
     elim (cases_lt i (length bytes)) [
       | inl less ↦ get_or_append_left bytes (replicate (n - length bytes) 0) 0 i less
       | inr past ↦
-          get_or-append_right bytes (replicate (n - length bytes) 0) (length bytes) i 0 refl past ∙ zero_of_replicate (n - length bytes) (i - length bytes) ∙ sym (get_or_past bytes i 0 past)
+          get_or-append_right bytes (replicate (n - length bytes) 0) (length bytes) i 0 refl past ∙ zero_of_replicate (n - length bytes) (i - length bytes)
+          ∙ sym (get_or_past bytes i 0 past)
     ]
 
 pub length-region_of_bytes : (bytes : List ℕ) → length bytes ≤ 65536 → length (region_of_bytes bytes) ≡ 65536
@@ -37,7 +39,8 @@ unfolding padded
 length-region_of_bytes bytes h = length-append bytes (replicate (65536 - length bytes) 0) ∙ omega (arith, h, length-replicate {A = ℕ} (65536 - length bytes) 0)
 
 -- a region's bytes, and zero after them, are what the file has there
-byte_at : (file : List ℕ) (w : ℕ) (region : Region) (bytes : List ℕ) (i : ℕ) → HasBytes file w region bytes → i < region_length w region → IsByteAt file (region_start region + i) (slice_index bytes i)
+byte_at : (file : List ℕ) (w : ℕ) (region : Region) (bytes : List ℕ) (i : ℕ) → HasBytes file w region bytes → i < region_length w region →
+    IsByteAt file (region_start region + i) (slice_index bytes i)
 byte_at file w region bytes i h inside =
     elim (cases_lt i (length bytes)) [
       | inl less ↦ record { set = λ k p at s. h.set k p i at less s; unset = λ none. h.unset i less none }
@@ -69,11 +72,13 @@ part_3 : (a b c d : ℕ) → a < 256 → b < 256 → c < 256 → d < 256 → par
 unfolding part_of
 part_3 a b c d h i j k = omega arith
 
-pub part_of_number : (bytes : List ℕ) (place offset : ℕ) → ((i : ℕ) → slice_index bytes i < 256) → offset < 4 → part_of 1 offset (number_at bytes place 4) ≡ slice_index bytes (place + offset)
+pub part_of_number : (bytes : List ℕ) (place offset : ℕ) → ((i : ℕ) → slice_index bytes i < 256) → offset < 4 →
+    part_of 1 offset (number_at bytes place 4) ≡ slice_index bytes (place + offset)
 unfolding number_at
 part_of_number bytes place zero small h = part_0 _ _ _ _ (small place) ∙ ap (slice_index bytes) (omega arith)
 part_of_number bytes place (suc zero) small h = part_1 _ _ _ _ (small place) (small (place + 1)) ∙ ap (slice_index bytes) (omega arith)
-part_of_number bytes place (suc (suc zero)) small h = part_2 _ _ _ _ (small place) (small (place + 1)) (small (place + 1 + 1)) ∙ ap (slice_index bytes) (omega arith)
+part_of_number bytes place (suc (suc zero)) small h =
+    part_2 _ _ _ _ (small place) (small (place + 1)) (small (place + 1 + 1)) ∙ ap (slice_index bytes) (omega arith)
 part_of_number bytes place (suc (suc (suc zero))) small h =
     part_3 _ _ _ _ (small place) (small (place + 1)) (small (place + 1 + 1)) (small (place + 1 + 1 + 1)) ∙ ap (slice_index bytes) (omega arith)
 part_of_number bytes place (suc (suc (suc (suc n)))) small h = absurd (omega arith)
@@ -128,7 +133,8 @@ module _ (config : Config) (layout : Layout) (openable : IsOpenable layout) wher
       let low : 0x80000000 ≤ a = grind (arith, nat_tests, e) in
       let high : a < 0x80000000 + 4 * config.shared_words = grind (arith, nat_tests, e) in
       let i = (a - 0x80000000) / 4 in
-      let word : slice_index (words_of layout.shared config.shared_words) i ≡ number_at layout.shared (4 * i) 4 = word_here layout.shared config.shared_words i (omega arith) in
+      let word : slice_index (words_of layout.shared config.shared_words) i ≡ number_at layout.shared (4 * i) 4 =
+      word_here layout.shared config.shared_words i (omega arith) in
       let part = part_of_number layout.shared (4 * i) (a % 4) openable.bytes (omega arith) in
       let place : 4 * i + a % 4 ≡ a - 0x80000000 = omega arith in
       record {
@@ -140,7 +146,14 @@ module _ (config : Config) (layout : Layout) (openable : IsOpenable layout) wher
   processor : (p : Processor) → opening_processor layout ≡ p → IsOpeningProcessor layout.entry (IsPlacedAt layout) p
   processor p is =
       subst (IsOpeningProcessor layout.entry (IsPlacedAt layout)) is
-      (record { pc = refl; registers = refl; zero = zero_of_replicate 32; running = refl; local_size = length-region_of_bytes layout.local openable.local; local = local })
+      (record {
+        pc = refl;
+        registers = refl;
+        zero = zero_of_replicate 32;
+        running = refl;
+        local_size = length-region_of_bytes layout.local openable.local;
+        local = local;
+      })
 
   pub opens_on_the_layout : IsLayoutOpening layout config (opening config layout)
   opens_on_the_layout = record {
@@ -175,8 +188,10 @@ module _ (config : Config) (file : List ℕ) (layout : Layout) (m : IsMeant conf
 
   pub opens_on_the_meaning : ((i : ℕ) → slice_index layout.shared i < 256) → IsFileOpening file config (opening config layout)
   opens_on_the_meaning small =
-      said_again layout.entry (file_header file).e_entry (IsPlacedAt layout) (IsByteAt file) config (opening config layout) m.entry code_byte local_byte shared_byte
+      said_again layout.entry (file_header file).e_entry (IsPlacedAt layout) (IsByteAt file) config
+      (opening config layout) m.entry code_byte local_byte shared_byte
       (opens_on_the_layout config layout (record { code = m.code.fits; local = m.local.fits; bytes = small }))
 
-pub opens_on_the_file : (config : Config) (file : List ℕ) (layout : Layout) → IsMeant config.shared_words file layout → ((i : ℕ) → slice_index layout.shared i < 256) → IsFileOpening file config (opening config layout)
+pub opens_on_the_file : (config : Config) (file : List ℕ) (layout : Layout) → IsMeant config.shared_words file layout →
+    ((i : ℕ) → slice_index layout.shared i < 256) → IsFileOpening file config (opening config layout)
 opens_on_the_file config file layout m small = opens_on_the_meaning config file layout m small

@@ -1,16 +1,19 @@
 -- What a refusal tells.
-use Rattle.std.proofs.Common.{◌≡◌, ℕ, suc, ◌+◌, ◌*◌, ◌<◌, max, min, Bool, true, false, not, cond, ◌&&◌, ◌||◌, List, [], ◌∷◌, map, length, Option, None, Some, refl, sym, subst, ◌∙◌, ◌⊎◌, inl, inr, arith, nat_lt, nat_le}
+use Rattle.std.proofs.Common.{◌≡◌, ℕ, suc, ◌+◌, ◌*◌, ◌<◌, max, min, Bool, true, false, not, cond, ◌&&◌, ◌||◌, List, [], ◌∷◌, map, length, Option, None, Some}
+use Rattle.std.proofs.Common.{refl, sym, subst, ◌∙◌, ◌⊎◌, inl, inr, arith, nat_lt, nat_le}
 use Rattle.std.specs.Prelude.{slice_get}
 use Rattle.std.specs.List.{list_any}
 use Rattle.std.proofs.lemmas.Bool.{cases_lt}
 use Rattle.std.proofs.lemmas.Bool.Decides.{nat_tests}
 use Rattle.elf_image.specs.declared.error.ImageError.{ImageError}
-use Rattle.elf_image.specs.declared.error.ImageError.TheVariants.{Truncated, NotExecutable, UnsupportedHeader, OutsideInput, OutsideRegions, Overlap, Entry, TooLong}
+use Rattle.elf_image.specs.declared.error.ImageError.TheVariants.{Truncated, NotExecutable, UnsupportedHeader, OutsideInput, OutsideRegions, Overlap, Entry}
+use Rattle.elf_image.specs.declared.error.ImageError.TheVariants.{TooLong}
 use Rattle.elf_image.specs.declared.region.Region.{Region}
 use Rattle.elf_image.specs.declared.segment.ProgramHeader.{ProgramHeader}
 use Rattle.elf_image.specs.Headers.{file_header, segments}
 use Rattle.elf_image.specs.Regions.{is_in_a_region}
-use Rattle.elf_image.specs.Refusals.{is_executable, is_supported, header_refusal, is_in_file, segment_refusal, segment_refusals, overlap, have_overlap, is_entry, first_of, refusal_of}
+use Rattle.elf_image.specs.Refusals.{is_executable, is_supported, header_refusal, is_in_file, segment_refusal, segment_refusals, overlap, have_overlap}
+use Rattle.elf_image.specs.Refusals.{is_entry, first_of, refusal_of}
 use Rattle.elf_image.specs.Images.{LiesIn}
 use Rattle.image_laws.specs.Laws.{HasCause}
 use Rattle.image_laws.proofs.Acceptance.{and_true, in_one, is_inside}
@@ -36,7 +39,8 @@ from_not true e = absurd (cc)
 from_not false e = refl
 
 -- one of a list's elements is refused
-one_refused : {X : Type 0} (refusal : X → Option ImageError) (xs : List X) (e : ImageError) → first_of (map refusal xs) ≡ Some e → (k : ℕ) × (x : X) × (slice_get xs k ≡ Some x) × (refusal x ≡ Some e)
+one_refused : {X : Type 0} (refusal : X → Option ImageError) (xs : List X) (e : ImageError) → first_of (map refusal xs) ≡ Some e →
+    (k : ℕ) × (x : X) × (slice_get xs k ≡ Some x) × (refusal x ≡ Some e)
 one_refused refusal [] e h = absurd (not_there e h)
 one_refused refusal (x ∷ xs) e h =
     elim (first_some (refusal x) (map refusal xs) e h) [
@@ -48,7 +52,8 @@ or_true : (a b : Bool) → (a || b) ≡ true → (a ≡ true) ⊎ (b ≡ true)
 or_true true b h = inl refl
 or_true false b h = inr h
 
-any_true : (test : ProgramHeader → Bool) (xs : List ProgramHeader) → list_any test xs ≡ true → (k : ℕ) × (x : ProgramHeader) × (slice_get xs k ≡ Some x) × (test x ≡ true)
+any_true : (test : ProgramHeader → Bool) (xs : List ProgramHeader) → list_any test xs ≡ true →
+    (k : ℕ) × (x : ProgramHeader) × (slice_get xs k ≡ Some x) × (test x ≡ true)
 any_true test [] h = absurd (cc)
 any_true test (x ∷ xs) h =
     elim (or_true (test x) (list_any test xs) h) [
@@ -71,7 +76,8 @@ two_overlap : (ps : List ProgramHeader) → have_overlap ps ≡ true → Overlap
 two_overlap [] h = absurd (cc)
 two_overlap (p ∷ ps) h =
     elim (or_true (list_any (overlap p) ps) (have_overlap ps) h) [
-      | inl here ↦ let other = any_true (overlap p) ps here in record { j = 0; k = suc other.0; p = p; q = other.1; less = omega arith; first = refl; second = other.2; share = other.3 }
+      | inl here ↦ let other = any_true (overlap p) ps here in
+          record { j = 0; k = suc other.0; p = p; q = other.1; less = omega arith; first = refl; second = other.2; share = other.3 }
       | inr there ↦
           let o = two_overlap ps there in
           record { j = suc o.j; k = suc o.k; p = o.p; q = o.q; less = let l = o.less in omega arith; first = o.first; second = o.second; share = o.share }
@@ -110,7 +116,8 @@ module _ (w : ℕ) (file : List ℕ) where
         ]
       ]
 
-  in_segment : (k : ℕ) (p : ProgramHeader) (e : ImageError) → slice_get (segments file) k ≡ Some p → segment_refusal (length file) w p ≡ Some e → HasCause w file e
+  in_segment : (k : ℕ) (p : ProgramHeader) (e : ImageError) → slice_get (segments file) k ≡ Some p → segment_refusal (length file) w p ≡ Some e →
+      HasCause w file e
   in_segment k p e at h =
       elim (chosen (not (is_in_file (length file) p)) OutsideInput e _ h) [
         | inl t ↦ subst (HasCause w file) t.1 (k, p, at, not_filed p (from_not (is_in_file (length file) p) t.0))
@@ -123,8 +130,11 @@ module _ (w : ℕ) (file : List ℕ) where
       nowhere : (nat_lt 0 p.p_memsz && not (is_in_a_region w p)) ≡ true → (0 < p.p_memsz) × ((region : Region) → LiesIn w region p → ⊥)
       nowhere e =
           let parts = and_true (nat_lt 0 p.p_memsz) (not (is_in_a_region w p)) e in
-          let some : 0 < p.p_memsz = grind (arith, nat_tests, parts.0) in
-          (some, λ region l. let here = in_one w region p (is_inside w region p some l) in let no : true ≡ false = sym here ∙ from_not (is_in_a_region w p) parts.1 in absurd (cc))
+          let some : 0 < p.p_memsz = grind (arith, nat_tests, parts.0) in (
+            some,
+            λ region l. let here = in_one w region p (is_inside w region p some l) in
+                let no : true ≡ false = sym here ∙ from_not (is_in_a_region w p) parts.1 in absurd (cc),
+          )
 
   in_overlap : have_overlap (segments file) ≡ true → HasCause w file Overlap
   in_overlap h =

@@ -1,5 +1,6 @@
 -- The spelling of a layout read as headers.
-use Rattle.std.proofs.Common.{◌≡◌, ℕ, zero, suc, ◌+◌, ◌*◌, ◌^◌, ◌<◌, ◌≤◌, Bool, true, false, cond, List, [], ◌∷◌, ◌++◌, length, map, refl, sym, ap, ◌∙◌, arith, append_assoc, append-nil, length-append}
+use Rattle.std.proofs.Common.{◌≡◌, ℕ, zero, suc, ◌+◌, ◌*◌, ◌^◌, ◌<◌, ◌≤◌, Bool, true, false, cond, List, [], ◌∷◌, ◌++◌, length, map, refl, sym, ap, ◌∙◌, arith}
+use Rattle.std.proofs.Common.{append_assoc, append-nil, length-append}
 use Rattle.std.specs.Prelude.{slice_index}
 use Rattle.std.specs.List.{range_with_len, filter, flat_map}
 use Rattle.std.proofs.lemmas.List.{get_or-append-add}
@@ -10,7 +11,8 @@ use Rattle.elf_image.specs.declared.region.Region.TheVariants.{Code, Local, Shar
 use Rattle.elf_image.specs.declared.segment.ProgramHeader.{ProgramHeader}
 use Rattle.elf_image.specs.Headers.{file_header, program_header, is_load, program_headers, segments}
 use Rattle.elf_image.specs.Regions.{region_start}
-use Rattle.elf_image.specs.Spellings.{file_header_bytes, program_header_bytes, is_nil, count_of, code_offset, local_offset, shared_offset, written_flags, spelling}
+use Rattle.elf_image.specs.Spellings.{file_header_bytes, program_header_bytes, is_nil, count_of, code_offset, local_offset, shared_offset, written_flags}
+use Rattle.elf_image.specs.Spellings.{spelling}
 
 -- ---- numbers
 
@@ -38,7 +40,8 @@ spelled_header entry count = record {
   e_phnum = count;
 }
 
-header_spelled : (entry count : ℕ) (rest : List ℕ) → entry < 2 ^ 32 → count < 2 ^ 16 → file_header (file_header_bytes entry count ++ rest) ≡ spelled_header entry count
+header_spelled : (entry count : ℕ) (rest : List ℕ) → entry < 2 ^ 32 → count < 2 ^ 16 →
+    file_header (file_header_bytes entry count ++ rest) ≡ spelled_header entry count
 unfolding file_header file_header_bytes number_at
 header_spelled entry count rest h k =
     let first : number_at (file_header_bytes entry count ++ rest) 24 4 ≡ entry = omega arith in
@@ -81,7 +84,8 @@ length-bytes_of : (p : ProgramHeader) → length (bytes_of p) ≡ 32
 unfolding program_header_bytes
 length-bytes_of p = refl
 
-program_header_first : (o s n f : ℕ) (rest : List ℕ) → o < 2 ^ 32 → s < 2 ^ 32 → n < 2 ^ 32 → f < 2 ^ 32 → program_header (program_header_bytes o s n f ++ rest) 0 ≡ header_of o s n f
+program_header_first : (o s n f : ℕ) (rest : List ℕ) → o < 2 ^ 32 → s < 2 ^ 32 → n < 2 ^ 32 → f < 2 ^ 32 →
+    program_header (program_header_bytes o s n f ++ rest) 0 ≡ header_of o s n f
 unfolding program_header program_header_bytes number_at
 program_header_first o s n f rest a b c d =
     let offset : number_at (program_header_bytes o s n f ++ rest) 4 4 ≡ o = omega arith in
@@ -130,12 +134,15 @@ table_back pre rest place (p ∷ ps) e s =
     let file = pre ++ ((bytes_of p ++ flat_map bytes_of ps) ++ rest) in
     let whole : file ≡ pre ++ (bytes_of p ++ (flat_map bytes_of ps ++ rest)) = ap (λ x. pre ++ x) (append_assoc (bytes_of p) (flat_map bytes_of ps) rest) in
     let here : place + 32 * 0 ≡ length pre = omega (arith, e) in
-    let first : program_header file (place + 32 * 0) ≡ p = ap (program_header file) here ∙ ap (λ x. program_header x (length pre)) whole ∙ header_back pre (flat_map bytes_of ps ++ rest) p s.0 in
+    let first : program_header file (place + 32 * 0) ≡ p =
+    ap (program_header file) here ∙ ap (λ x. program_header x (length pre)) whole ∙ header_back pre (flat_map bytes_of ps ++ rest) p s.0 in
     let longer : file ≡ (pre ++ bytes_of p) ++ (flat_map bytes_of ps ++ rest) = whole ∙ sym (append_assoc pre (bytes_of p) (flat_map bytes_of ps ++ rest)) in
     let count : length (pre ++ bytes_of p) ≡ place + 32 = omega (arith, e, length-append pre (bytes_of p), length-bytes_of p) in
     let others =
     map_shift (λ k. program_header file (place + 32 * k)) 0 (length ps)
-    ∙ same_map (λ k. program_header file (place + 32 * (k + 1))) (λ k. program_header ((pre ++ bytes_of p) ++ (flat_map bytes_of ps ++ rest)) (place + 32 + 32 * k)) 0 (length ps) (λ k. ap (program_header file) (omega arith) ∙ ap (λ x. program_header x (place + 32 + 32 * k)) longer)
+    ∙ same_map (λ k. program_header file (place + 32 * (k + 1)))
+    (λ k. program_header ((pre ++ bytes_of p) ++ (flat_map bytes_of ps ++ rest)) (place + 32 + 32 * k)) 0 (length ps)
+    (λ k. ap (program_header file) (omega arith) ∙ ap (λ x. program_header x (place + 32 + 32 * k)) longer)
     ∙ table_back (pre ++ bytes_of p) rest (place + 32) ps count s.1 in
     λ i. first i ∷ others i
 
@@ -183,7 +190,8 @@ all_spelled p q r false true e f g = (e, (f, tt))
 all_spelled p q r false false e f g = (e, (f, (g, tt)))
 
 joined : (head : List ℕ) (p q r : ProgramHeader) (b d : Bool) (code local shared : List ℕ) →
-    (((((head ++ bytes_of p) ++ cond b [] (bytes_of q)) ++ cond d [] (bytes_of r)) ++ code) ++ local) ++ shared ≡ head ++ (flat_map bytes_of (table_with p q r b d) ++ (code ++ (local ++ shared)))
+    (((((head ++ bytes_of p) ++ cond b [] (bytes_of q)) ++ cond d [] (bytes_of r)) ++ code) ++ local) ++ shared
+    ≡ head ++ (flat_map bytes_of (table_with p q r b d) ++ (code ++ (local ++ shared)))
 joined head p q r true true code local shared = simp (append_assoc, append-nil)
 joined head p q r true false code local shared = simp (append_assoc, append-nil)
 joined head p q r false true code local shared = simp (append_assoc, append-nil)
@@ -230,9 +238,12 @@ module _ (l : Layout) where
   pub segments_read : l.entry < 2 ^ 32 → length (spelling l) ≤ 1048576 → segments (spelling l) ≡ table l
   segments_read h short =
       let size = length-spelling in
-      let code : IsSpelled (code_header l) = record { load = refl; same = refl; offset = omega (arith, size); start = omega arith; count = omega (arith, size); flags = omega arith } in
-      let local : IsSpelled (local_header l) = record { load = refl; same = refl; offset = omega (arith, size); start = omega arith; count = omega (arith, size); flags = omega arith } in
-      let shared : IsSpelled (shared_header l) = record { load = refl; same = refl; offset = omega (arith, size); start = omega arith; count = omega (arith, size); flags = omega arith } in
+      let code : IsSpelled (code_header l) =
+      record { load = refl; same = refl; offset = omega (arith, size); start = omega arith; count = omega (arith, size); flags = omega arith } in
+      let local : IsSpelled (local_header l) =
+      record { load = refl; same = refl; offset = omega (arith, size); start = omega arith; count = omega (arith, size); flags = omega arith } in
+      let shared : IsSpelled (shared_header l) =
+      record { load = refl; same = refl; offset = omega (arith, size); start = omega arith; count = omega (arith, size); flags = omega arith } in
       let spelled = all_spelled (code_header l) (local_header l) (shared_header l) (is_nil l.local) (is_nil l.shared) code local shared in
       let rest = l.code ++ (l.local ++ l.shared) in
       let read : program_headers (spelling l) ≡ table l =

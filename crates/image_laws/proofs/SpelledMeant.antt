@@ -1,5 +1,6 @@
 -- The spelling of a layout is accepted, and means the layout.
-use Rattle.std.proofs.Common.{◌≡◌, ℕ, zero, suc, ◌+◌, ◌-◌, ◌*◌, ◌/◌, ◌%◌, ◌^◌, ◌<◌, ◌≤◌, Bool, true, false, cond, ◌&&◌, List, [], ◌++◌, length, None, Some, refl, sym, ap, subst, ◌∙◌, ◌⊎◌, inl, inr, arith, append_assoc, append-nil, length-append, nat_lt, nat_le, eqb, eq-eqb}
+use Rattle.std.proofs.Common.{◌≡◌, ℕ, zero, suc, ◌+◌, ◌-◌, ◌*◌, ◌/◌, ◌%◌, ◌^◌, ◌<◌, ◌≤◌, Bool, true, false, cond, ◌&&◌, List, [], ◌++◌, length, None, Some}
+use Rattle.std.proofs.Common.{refl, sym, ap, subst, ◌∙◌, ◌⊎◌, inl, inr, arith, append_assoc, append-nil, length-append, nat_lt, nat_le, eqb, eq-eqb}
 use Rattle.std.specs.Prelude.{slice_get, slice_index}
 use Rattle.std.specs.List.{flat_map}
 use Rattle.std.proofs.lemmas.Option.{slice_get_within}
@@ -19,12 +20,14 @@ use Rattle.elf_image.specs.Loading.{IsOne, IsLoaded, LoadsLayout}
 use Rattle.elf_image.specs.Images.{IsAccepted, IsMeant, IsPlaced}
 use Rattle.elf_image.specs.Spellings.{file_header_bytes, is_nil, count_of, code_offset, local_offset, shared_offset, spelling}
 use Rattle.image_laws.proofs.Acceptance.{and_true, segment_fine, headers_fine, none_refused, in_one, unrefused}
-use Rattle.image_laws.proofs.Spelled.{header_of, header_read, segments_read, spelled_header, in_parts, length-spelling, length-table, length-file_header_bytes, length-flat_map-bytes_of, bytes_of, table, table_with, code_header, local_header, shared_header}
+use Rattle.image_laws.proofs.Spelled.{header_of, header_read, segments_read, spelled_header, in_parts, length-spelling, length-table, length-file_header_bytes}
+use Rattle.image_laws.proofs.Spelled.{length-flat_map-bytes_of, bytes_of, table, table_with, code_header, local_header, shared_header}
 
 -- ---- what the table lists
 
 -- a header of a table is its first, or its second where it has one, or its third
-listed : (p q r x : ProgramHeader) (b d : Bool) (k : ℕ) → slice_get (table_with p q r b d) k ≡ Some x → (x ≡ p) ⊎ ((x ≡ q) × (b ≡ false)) ⊎ ((x ≡ r) × (d ≡ false))
+listed : (p q r x : ProgramHeader) (b d : Bool) (k : ℕ) → slice_get (table_with p q r b d) k ≡ Some x →
+    (x ≡ p) ⊎ ((x ≡ q) × (b ≡ false)) ⊎ ((x ≡ r) × (d ≡ false))
 listed p q r x true true zero e = inl (cc)
 listed p q r x true true (suc k) e = absurd (cc)
 listed p q r x true false zero e = inl (cc)
@@ -66,7 +69,8 @@ rising p q r false false e f g = rw (e, f, g) refl
 
 -- ---- a header in its region
 
-lies : (w : ℕ) (region : Region) (offset count flags : ℕ) → is_flagged region flags ≡ true → count ≤ region_length w region → is_in w region (header_of offset (region_start region) count flags) ≡ true
+lies : (w : ℕ) (region : Region) (offset count flags : ℕ) → is_flagged region flags ≡ true → count ≤ region_length w region →
+    is_in w region (header_of offset (region_start region) count flags) ≡ true
 lies w region offset count flags flagged room =
     let above : nat_le (region_start region) (region_start region) ≡ true = grind (arith, nat_tests) in
     let end : nat_le (region_start region + count) (region_start region + region_length w region) ≡ true = grind (arith, nat_tests, room) in
@@ -83,7 +87,8 @@ module _ (file : List ℕ) (ps : List ProgramHeader) (w : ℕ) (region : Region)
   abbrev header : ProgramHeader
   header = header_of offset (region_start region) (length bytes) flags
 
-  byte_here : (i : ℕ) (b : Bool) → nat_lt (region_start region + i - region_start region) (length bytes) ≡ b → i < length bytes → slice_index bytes i ≡ cond b (slice_index file (offset + (region_start region + i - region_start region))) 0
+  byte_here : (i : ℕ) (b : Bool) → nat_lt (region_start region + i - region_start region) (length bytes) ≡ b → i < length bytes →
+      slice_index bytes i ≡ cond b (slice_index file (offset + (region_start region + i - region_start region))) 0
   byte_here i true e h = sym (ap (λ x. slice_index file (offset + x)) (omega arith) ∙ at i h)
   byte_here i false e h = let past : length bytes ≤ region_start region + i - region_start region = grind (arith, nat_tests, e) in absurd (omega (arith, past))
 
@@ -96,7 +101,8 @@ module _ (file : List ℕ) (ps : List ProgramHeader) (w : ℕ) (region : Region)
     loaded = record { set = set; unset = unset };
   }
     where
-      set : (k : ℕ) (p : ProgramHeader) (i : ℕ) → k < length ps → IsOne ps w region k p → Sets p (region_start region + i) → slice_index bytes i ≡ byte_of file p (region_start region + i)
+      set : (k : ℕ) (p : ProgramHeader) (i : ℕ) → k < length ps → IsOne ps w region k p → Sets p (region_start region + i) →
+          slice_index bytes i ≡ byte_of file p (region_start region + i)
       set k p i h one s =
           let same = only k p one in
           let P : ProgramHeader → Type 0 = λ x. Sets x (region_start region + i) → slice_index bytes i ≡ byte_of file x (region_start region + i) in
@@ -111,7 +117,8 @@ module _ (file : List ℕ) (ps : List ProgramHeader) (w : ℕ) (region : Region)
 
 -- ---- the bytes
 
-found : (file pre bytes rest : List ℕ) (place i : ℕ) → file ≡ pre ++ (bytes ++ rest) → length pre ≡ place → i < length bytes → slice_index file (place + i) ≡ slice_index bytes i
+found : (file pre bytes rest : List ℕ) (place i : ℕ) → file ≡ pre ++ (bytes ++ rest) → length pre ≡ place → i < length bytes →
+    slice_index file (place + i) ≡ slice_index bytes i
 found file pre bytes rest place i whole e h =
     ap (λ f. slice_index f (place + i)) whole
     ∙ ap (slice_index (pre ++ (bytes ++ rest))) (let there : place + i ≡ length pre + i = omega (arith, e) in there)
@@ -173,8 +180,10 @@ module _ (w : ℕ) (l : Layout) (placed : IsPlaced l w) (short : length (spellin
   each_fine : (k : ℕ) (p : ProgramHeader) → slice_get (table l) k ≡ Some p → segment_refusal (length (spelling l)) w p ≡ None
   each_fine k p at =
       let code = segment_fine (length (spelling l)) w (code_header l) (omega (arith, size)) (omega arith) (λ some. in_one w Code (code_header l) code_lies) in
-      let local = segment_fine (length (spelling l)) w (local_header l) (omega (arith, size)) (omega arith) (λ some. in_one w Local (local_header l) local_lies) in
-      let shared = segment_fine (length (spelling l)) w (shared_header l) (omega (arith, size)) (omega arith) (λ some. in_one w Shared (shared_header l) shared_lies) in
+      let local =
+      segment_fine (length (spelling l)) w (local_header l) (omega (arith, size)) (omega arith) (λ some. in_one w Local (local_header l) local_lies) in
+      let shared =
+      segment_fine (length (spelling l)) w (shared_header l) (omega (arith, size)) (omega arith) (λ some. in_one w Shared (shared_header l) shared_lies) in
       elim (listed (code_header l) (local_header l) (shared_header l) p (is_nil l.local) (is_nil l.shared) k at) [
         | inl e ↦ ap (segment_refusal (length (spelling l)) w) e ∙ code
         | inr others ↦ elim others [
@@ -187,7 +196,8 @@ module _ (w : ℕ) (l : Layout) (placed : IsPlaced l w) (short : length (spellin
   passed =
       unrefused w (spelling l) short
       (headers_fine (spelling l) (omega (arith, size))
-      (ap (is_executable (spelling l)) header_is ∙ ap (λ x. is_executable x (spelled_header l.entry (count_of l))) (in_parts l) ∙ executable_bytes l.entry (count_of l) _)
+      (ap (is_executable (spelling l)) header_is ∙ ap (λ x. is_executable x (spelled_header l.entry (count_of l))) (in_parts l)
+      ∙ executable_bytes l.entry (count_of l) _)
       (ap is_supported header_is ∙ supported_count l.entry (is_nil l.local) (is_nil l.shared))
       (subst (λ h. h.e_phoff + 32 * h.e_phnum ≤ length (spelling l)) (sym header_is) (omega (arith, size))))
       (ap (λ x. first_of (segment_refusals (length (spelling l)) w x)) table_is ∙ none_refused (segment_refusal (length (spelling l)) w) (table l) each_fine)
@@ -203,7 +213,8 @@ module _ (w : ℕ) (l : Layout) (placed : IsPlaced l w) (short : length (spellin
 
   -- which header sets addresses of a region
   which_one : (region : Region) (k : ℕ) (p : ProgramHeader) → IsOne (table l) w region k p →
-      ((p ≡ code_header l) × (sets_in w region (code_header l) ≡ true)) ⊎ ((p ≡ local_header l) × (sets_in w region (local_header l) ≡ true)) ⊎ ((p ≡ shared_header l) × (sets_in w region (shared_header l) ≡ true))
+      ((p ≡ code_header l) × (sets_in w region (code_header l) ≡ true)) ⊎ ((p ≡ local_header l) × (sets_in w region (local_header l) ≡ true))
+      ⊎ ((p ≡ shared_header l) × (sets_in w region (shared_header l) ≡ true))
   which_one region k p one =
       elim (listed (code_header l) (local_header l) (shared_header l) p (is_nil l.local) (is_nil l.shared) k one.at) [
         | inl e ↦ inl (e, subst (λ x. sets_in w region x ≡ true) e one.sets)
@@ -237,7 +248,8 @@ module _ (w : ℕ) (l : Layout) (placed : IsPlaced l w) (short : length (spellin
         | inr others ↦ elim others [ inl e ↦ let i = stands_in w Shared (local_header l) e.1 in absurd (omega (arith, i.above)) | inr e ↦ e.0 ]
       ]
 
-  one_at : (region : Region) (k : ℕ) (p : ProgramHeader) → slice_get (table l) k ≡ Some p → 0 < p.p_memsz → is_in w region p ≡ true → (j : ℕ) × (j < length (table l)) × IsOne (table l) w region j p
+  one_at : (region : Region) (k : ℕ) (p : ProgramHeader) → slice_get (table l) k ≡ Some p → 0 < p.p_memsz → is_in w region p ≡ true →
+      (j : ℕ) × (j < length (table l)) × IsOne (table l) w region j p
   one_at region k p at h e = (k, slice_get_within (table l) k p at, record { at = at; sets = some_sets region p h e })
 
   some_code : 0 < length l.code → (k : ℕ) × (k < length (table l)) × IsOne (table l) w Code k (code_header l)
@@ -245,7 +257,8 @@ module _ (w : ℕ) (l : Layout) (placed : IsPlaced l w) (short : length (spellin
 
   some_local : 0 < length l.local → (k : ℕ) × (k < length (table l)) × IsOne (table l) w Local k (local_header l)
   some_local h =
-      one_at Local 1 (local_header l) (second_listed (code_header l) (local_header l) (shared_header l) (is_nil l.local) (is_nil l.shared) (some_bytes l.local h)) h local_lies
+      one_at Local 1 (local_header l) (second_listed (code_header l) (local_header l) (shared_header l) (is_nil l.local) (is_nil l.shared)
+      (some_bytes l.local h)) h local_lies
 
   some_shared : 0 < length l.shared → (k : ℕ) × (k < length (table l)) × IsOne (table l) w Shared k (shared_header l)
   some_shared h =
@@ -261,29 +274,41 @@ module _ (w : ℕ) (l : Layout) (placed : IsPlaced l w) (short : length (spellin
 
   length-head : length head ≡ code_offset l
   length-head =
-      omega (arith, length-append (file_header_bytes l.entry (count_of l)) (flat_map bytes_of (table l)), length-file_header_bytes l.entry (count_of l), length-flat_map-bytes_of (table l), length-table l)
+      omega (
+        arith,
+        length-append (file_header_bytes l.entry (count_of l)) (flat_map bytes_of (table l)),
+        length-file_header_bytes l.entry (count_of l),
+        length-flat_map-bytes_of (table l),
+        length-table l,
+      )
 
   at_code : (i : ℕ) → i < length l.code → slice_index (spelling l) (code_offset l + i) ≡ slice_index l.code i
   at_code i h = found (spelling l) head l.code (l.local ++ l.shared) (code_offset l) i whole length-head h
 
   at_local : (i : ℕ) → i < length l.local → slice_index (spelling l) (local_offset l + i) ≡ slice_index l.local i
   at_local i h =
-      found (spelling l) (head ++ l.code) l.local l.shared (local_offset l) i (whole ∙ sym (append_assoc head l.code (l.local ++ l.shared))) (omega (arith, length-append head l.code, length-head)) h
+      found (spelling l) (head ++ l.code) l.local l.shared (local_offset l) i (whole ∙ sym (append_assoc head l.code (l.local ++ l.shared)))
+      (omega (arith, length-append head l.code, length-head)) h
 
   at_shared : (i : ℕ) → i < length l.shared → slice_index (spelling l) (shared_offset l + i) ≡ slice_index l.shared i
   at_shared i h =
       let behind : spelling l ≡ ((head ++ l.code) ++ l.local) ++ (l.shared ++ []) =
-      whole ∙ sym (append_assoc head l.code (l.local ++ l.shared)) ∙ sym (append_assoc (head ++ l.code) l.local l.shared) ∙ ap (λ x. ((head ++ l.code) ++ l.local) ++ x) (sym (append-nil l.shared)) in
-      found (spelling l) ((head ++ l.code) ++ l.local) l.shared [] (shared_offset l) i behind (omega (arith, length-append (head ++ l.code) l.local, length-append head l.code, length-head)) h
+      whole ∙ sym (append_assoc head l.code (l.local ++ l.shared)) ∙ sym (append_assoc (head ++ l.code) l.local l.shared)
+      ∙ ap (λ x. ((head ++ l.code) ++ l.local) ++ x) (sym (append-nil l.shared)) in
+      found (spelling l) ((head ++ l.code) ++ l.local) l.shared [] (shared_offset l) i behind
+      (omega (arith, length-append (head ++ l.code) l.local, length-append head l.code, length-head)) h
 
   loads : LoadsLayout (spelling l) w l
   loads =
       let back = sym table_is in
       record {
         entry = sym (ap (λ h. h.e_entry) header_is);
-        code = subst (λ x. IsLoaded (spelling l) x w Code l.code) back (loaded_alone (spelling l) (table l) w Code (code_offset l) 5 l.code only_code some_code at_code);
-        local = subst (λ x. IsLoaded (spelling l) x w Local l.local) back (loaded_alone (spelling l) (table l) w Local (local_offset l) 6 l.local only_local some_local at_local);
-        shared = subst (λ x. IsLoaded (spelling l) x w Shared l.shared) back (loaded_alone (spelling l) (table l) w Shared (shared_offset l) 6 l.shared only_shared some_shared at_shared);
+        code = subst (λ x. IsLoaded (spelling l) x w Code l.code) back
+            (loaded_alone (spelling l) (table l) w Code (code_offset l) 5 l.code only_code some_code at_code);
+        local = subst (λ x. IsLoaded (spelling l) x w Local l.local) back
+            (loaded_alone (spelling l) (table l) w Local (local_offset l) 6 l.local only_local some_local at_local);
+        shared = subst (λ x. IsLoaded (spelling l) x w Shared l.shared) back
+            (loaded_alone (spelling l) (table l) w Shared (shared_offset l) 6 l.shared only_shared some_shared at_shared);
       }
 
 -- by what is known of files that are not refused

@@ -1,5 +1,6 @@
 -- What a move leaves as it was.
-use Rattle.std.proofs.Common.{◌≡◌, ℕ, zero, suc, ◌+◌, ◌*◌, ◌/◌, ◌%◌, ◌<◌, Bool, true, false, ◌⊎◌, inl, inr, nat_lt, List, [], ◌∷◌, ◌++◌, length, Option, Some, None, refl, ap, ◌∙◌, arith}
+use Rattle.std.proofs.Common.{◌≡◌, ℕ, zero, suc, ◌+◌, ◌*◌, ◌/◌, ◌%◌, ◌<◌, Bool, true, false, ◌⊎◌, inl, inr, nat_lt, List, [], ◌∷◌, ◌++◌, length, Option, Some}
+use Rattle.std.proofs.Common.{None, refl, ap, ◌∙◌, arith}
 use Rattle.std.specs.Prelude.{if◌then◌else◌}
 use Rattle.omega_wires.specs.Wires.{bit, bit_of_stage, rotated_left, rotated_right, wire_after, wire_before}
 use Rattle.messages.specs.declared.message.Request.{Request}
@@ -70,7 +71,8 @@ module _ (z : Sizes) (net : Net) (s w : ℕ) where
 -- ---- down
 
 -- replies that are put change the wires of their leaders alone
-pushed_elsewhere : (wire : ℕ → ℕ) (s : ℕ) (ys : List Reply) (net : Net) (d v : ℕ) → ((p : ℕ) → d ≡ s → v ≡ wire p → ⊥) → (push_all wire s ys net).replies d v ≡ net.replies d v
+pushed_elsewhere : (wire : ℕ → ℕ) (s : ℕ) (ys : List Reply) (net : Net) (d v : ℕ) → ((p : ℕ) → d ≡ s → v ≡ wire p → ⊥) →
+    (push_all wire s ys net).replies d v ≡ net.replies d v
 unfolding push_all
 pushed_elsewhere wire s [] net d v away = refl
 pushed_elsewhere wire s (y ∷ ys) net d v away =
@@ -96,12 +98,14 @@ module _ (z : Sizes) (net : Net) (s w : ℕ) where
 
     answered_elsewhere : (d v : ℕ) → AwayBack d v → (answer z net taken_back s w x records).1.replies d v ≡ net.replies d v
     answered_elsewhere d v away =
-        either (λ (r : DownMove × Net). r.1.replies d v ≡ net.replies d v) (has_room z.c (wire_before z.k s w) s (push_all (wire_before z.k s w) s (answers records x) ready) (answers records x)) _ _
+        either (λ (r : DownMove × Net). r.1.replies d v ≡ net.replies d v)
+        (has_room z.c (wire_before z.k s w) s (push_all (wire_before z.k s w) s (answers records x) ready) (answers records x)) _ _
         (pushed_elsewhere (wire_before z.k s w) s (answers records x) ready d v away.1 ∙ put2_other net.replies (suc s) w rest d v away.0) refl
 
     answered_requests : (answer z net taken_back s w x records).1.requests ≡ net.requests
     answered_requests =
-        either (λ (r : DownMove × Net). r.1.requests ≡ net.requests) (has_room z.c (wire_before z.k s w) s (push_all (wire_before z.k s w) s (answers records x) ready) (answers records x)) _ _
+        either (λ (r : DownMove × Net). r.1.requests ≡ net.requests)
+        (has_room z.c (wire_before z.k s w) s (push_all (wire_before z.k s w) s (answers records x) ready) (answers records x)) _ _
         (pushed_requests (wire_before z.k s w) s (answers records x) ready) refl
 
   back_from : (xs : List Reply) (d v : ℕ) → AwayBack d v → (down_from z net s w xs).1.replies d v ≡ net.replies d v
@@ -114,7 +118,8 @@ module _ (z : Sizes) (net : Net) (s w : ℕ) where
 
   pub down_elsewhere : (d v : ℕ) → AwayBack d v → (moved_down z net s w).1.replies d v ≡ net.replies d v
   unfolding moved_down
-  down_elsewhere d v away = either (λ (r : DownMove × Net). r.1.replies d v ≡ net.replies d v) (nat_lt s z.k) _ _ (back_from (net.replies (suc s) w) d v away) refl
+  down_elsewhere d v away =
+      either (λ (r : DownMove × Net). r.1.replies d v ≡ net.replies d v) (nat_lt s z.k) _ _ (back_from (net.replies (suc s) w) d v away) refl
 
   pub down_requests : (moved_down z net s w).1.requests ≡ net.requests
   unfolding moved_down
@@ -125,7 +130,8 @@ module _ (z : Sizes) (net : Net) (s w : ℕ) where
   unfolding wire_before
   input_is p = by (bit (bit_of_stage z.k s) p) (omega arith)
     where
-      by : (b : ℕ) → b < 2 → (rotated_right z.k (2 * (w / 2) + b) ≡ rotated_right z.k (2 * (w / 2))) ⊎ (rotated_right z.k (2 * (w / 2) + b) ≡ rotated_right z.k (2 * (w / 2) + 1))
+      by : (b : ℕ) → b < 2 → (rotated_right z.k (2 * (w / 2) + b) ≡ rotated_right z.k (2 * (w / 2)))
+          ⊎ (rotated_right z.k (2 * (w / 2) + b) ≡ rotated_right z.k (2 * (w / 2) + 1))
       by zero few = inl (ap (rotated_right z.k) (omega arith))
       by (suc zero) few = inr refl
       by (suc (suc b)) few = absurd (omega (arith, few))

@@ -15,7 +15,8 @@ module _ {X : Type 0} (k : ℕ) (before after : ℕ → ℕ → List X) where
   same_known sets d w same is = is ∙ ap (λ xs. is_some (slice_get xs 0)) (sym same)
 
   -- a place is this one, or another
-  here : (sets sets' : List ℕ) (d' w' d w : ℕ) → IsLookedAt k after d' w' sets sets' → ((d ≡ d' → w ≡ w' → ⊥) → IsKnown after sets d w) → IsKnown after sets' d w
+  here : (sets sets' : List ℕ) (d' w' d w : ℕ) → IsLookedAt k after d' w' sets sets' → ((d ≡ d' → w ≡ w' → ⊥) → IsKnown after sets d w) →
+      IsKnown after sets' d w
   here sets sets' d' w' d w look others = by (cases_eq d d') (cases_eq w w')
     where
       by : (d ≡ d') ⊎ (d ≡ d' → ⊥) → (w ≡ w') ⊎ (w ≡ w' → ⊥) → IsKnown after sets' d w
@@ -23,7 +24,8 @@ module _ {X : Type 0} (k : ℕ) (before after : ℕ → ℕ → List X) where
       by (inl a) (inr n) = look.kept d w (others (λ _ b. n b))
       by (inr n) _ = look.kept d w (others (λ b _. n b))
 
-  pub one_look : (sets sets' : List ℕ) (d1 w1 : ℕ) → Knows k before sets → ((d w : ℕ) → (d ≡ d1 → w ≡ w1 → ⊥) → after d w ≡ before d w) → IsLookedAt k after d1 w1 sets sets' → Knows k after sets'
+  pub one_look : (sets sets' : List ℕ) (d1 w1 : ℕ) → Knows k before sets → ((d w : ℕ) → (d ≡ d1 → w ≡ w1 → ⊥) → after d w ≡ before d w) →
+      IsLookedAt k after d1 w1 sets sets' → Knows k after sets'
   one_look sets sets' d1 w1 knows same look = record {
     there = λ d w deep wire. here sets sets' d1 w1 d w look (λ away. same_known sets d w (same d w away) (knows.there d w deep wire));
     few = λ d w past. look.few d w past (knows.few d w past);
@@ -35,7 +37,8 @@ module _ {X : Type 0} (k : ℕ) (before after : ℕ → ℕ → List X) where
   three_looks sets sets1 sets2 sets3 d1 w1 d2 w2 d3 w3 knows same one two three = record {
     there = λ d w deep wire.
         here sets2 sets3 d3 w3 d w three
-        (λ away3. here sets1 sets2 d2 w2 d w two (λ away2. here sets sets1 d1 w1 d w one (λ away1. same_known sets d w (same d w away1 away2 away3) (knows.there d w deep wire))));
+        (λ away3. here sets1 sets2 d2 w2 d w two (λ away2. here sets sets1 d1 w1 d w one
+        (λ away1. same_known sets d w (same d w away1 away2 away3) (knows.there d w deep wire))));
     few = λ d w past. three.few d w past (two.few d w past (one.few d w past (knows.few d w past)));
   }
 

@@ -7,13 +7,16 @@ use Rattle.std.specs.Io.KnownBytes.{Appends}
 use borrow.Rule.Slice.PartMut.{put_mid, post_of}
 
 -- one more write of a text, of which `rest` was left
-pub part-more : (a b c : Option (List ℕ)) (text written rest : List ℕ) (n k : ℕ) → length rest ≤ k → text ≡ written ++ rest → Appends a b written → Appends b c (take n rest) → (more : List ℕ) × (text ≡ more ++ take (k - n) (drop n rest)) × Appends a c more
+pub part-more : (a b c : Option (List ℕ)) (text written rest : List ℕ) (n k : ℕ) → length rest ≤ k → text ≡ written ++ rest → Appends a b written →
+    Appends b c (take n rest) → (more : List ℕ) × (text ≡ more ++ take (k - n) (drop n rest)) × Appends a c more
 part-more a b c text written rest n k h e p q =
     (written ++ take n rest, rw (between_to_end rest n k h, append_assoc, take-append-drop) e, Appends-trans a b c written (take n rest) p q)
 
 write-whole : (a k m : ℕ) (xs ys : List ℕ) → put_mid a k xs ys ≡ (take a xs ++ take m ys) ++ (drop m ys ++ post_of a k xs)
 write-whole a k m xs ys =
-    ap (λ z. take a xs ++ (z ++ post_of a k xs)) (sym (take-append-drop m ys)) ∙ ap (λ z. take a xs ++ z) (append_assoc (take m ys) (drop m ys) (post_of a k xs)) ∙ sym (append_assoc (take a xs) (take m ys) (drop m ys ++ post_of a k xs))
+    ap (λ z. take a xs ++ (z ++ post_of a k xs)) (sym (take-append-drop m ys))
+    ∙ ap (λ z. take a xs ++ z) (append_assoc (take m ys) (drop m ys) (post_of a k xs))
+    ∙ sym (append_assoc (take a xs) (take m ys) (drop m ys ++ post_of a k xs))
 
 write-len : (a m : ℕ) (xs ys : List ℕ) → a ≤ length xs → m ≤ length ys → length (take a xs ++ take m ys) ≡ a + m
 write-len a m xs ys h k = omega (arith, length-append (take a xs) (take m ys), length-take-le a xs h, length-take-le m ys k)

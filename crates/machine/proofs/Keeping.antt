@@ -1,5 +1,6 @@
 -- What holds of every machine is kept where a port, a module or the network changes.
-use Rattle.std.proofs.Common.{◌≡◌, ℕ, zero, suc, ◌/◌, ◌%◌, ◌^◌, ◌<◌, ◌≤◌, false, List, [], length, Some, ◌⊎◌, inl, inr, refl, sym, ap, ◌∙◌, subst, arith, get_or-set_same, get_or-set_other}
+use Rattle.std.proofs.Common.{◌≡◌, ℕ, zero, suc, ◌/◌, ◌%◌, ◌^◌, ◌<◌, ◌≤◌, false, List, [], length, Some, ◌⊎◌, inl, inr, refl, sym, ap, ◌∙◌, subst, arith}
+use Rattle.std.proofs.Common.{get_or-set_same, get_or-set_other}
 use Rattle.std.specs.Prelude.{slice_index_or, slice_set}
 use Rattle.std.proofs.lemmas.Bool.{cases_eq}
 use Rattle.std.proofs.lemmas.List.{length-set}
@@ -48,7 +49,8 @@ module _ (c : Config) (ports : List PortState) (all : ArePorts c ports) (p : ℕ
     where
       setting_at : (q : ℕ) → q < 2 ^ c.k → (q ≡ p) ⊎ (q ≡ p → ⊥) → (port_at (slice_set ports p x) q).core.setting ≡ setting_of c q
       setting_at q small (inl e) =
-          ap (λ i. (port_at (slice_set ports p x) i).core.setting) e ∙ ap (λ (y : PortState). y.core.setting) here ∙ setting ∙ all.settings p within ∙ ap (setting_of c) (sym e)
+          ap (λ i. (port_at (slice_set ports p x) i).core.setting) e ∙ ap (λ (y : PortState). y.core.setting) here ∙ setting ∙ all.settings p within
+          ∙ ap (setting_of c) (sym e)
       setting_at q small (inr other) = ap (λ (y : PortState). y.core.setting) (there q other) ∙ all.settings q small
 
       words_at : (q : ℕ) → (q ≡ p) ⊎ (q ≡ p → ⊥) → HasWords (port_at (slice_set ports p x) q).core.state
@@ -67,7 +69,8 @@ count_small (suc (suc (suc (suc (suc zero))))) l = omega arith
 count_small (suc (suc (suc (suc (suc (suc zero)))))) l = omega arith
 count_small (suc (suc (suc (suc (suc (suc (suc k))))))) l = absurd (omega arith)
 
-module _ (c : Config) (code : List ℕ) (limits : IsWithinLimits c) (bytes : AreBelow 256 code) (ports : List PortState) (all : ArePorts c ports) (p : ℕ) (within : p < 2 ^ c.k) where
+module _ (c : Config) (code : List ℕ) (limits : IsWithinLimits c) (bytes : AreBelow 256 code) (ports : List PortState) (all : ArePorts c ports) (p : ℕ)
+    (within : p < 2 ^ c.k) where
   leaves : LeavesWords (turn (port_at ports p) code)
   leaves =
       let few = count_small c.k limits.stages in
@@ -83,22 +86,28 @@ module _ (c : Config) (code : List ℕ) (limits : IsWithinLimits c) (bytes : Are
       by (Reaches word change after) l = ports_set c ports all p within (begun (port_at ports p) code (Reaches word change after)).1 refl (all.words p)
       by (Stops cause) l =
           let old = all.words p in
-          ports_set c ports all p within (begun (port_at ports p) code (Stops cause)).1 refl (record { pc = old.pc; registers = old.registers; local = old.local })
+          ports_set c ports all p within (begun (port_at ports p) code (Stops cause)).1 refl
+          (record { pc = old.pc; registers = old.registers; local = old.local })
 
   -- where it is finished with a word
-  pub finished_kept : (port' : PortState) (found : ℕ) (done : Processor × retirement.Retired) → found < 2 ^ 32 → after_reply (turn (port_at ports p) code) found ≡ Some done →
+  pub finished_kept : (port' : PortState) (found : ℕ) (done : Processor × retirement.Retired) → found < 2 ^ 32 →
+      after_reply (turn (port_at ports p) code) found ≡ Some done →
       port' ≡ record { core = record { setting = (port_at ports p).core.setting; state = done.0 }; is_open = false } → ArePorts c (slice_set ports p port')
   finished_kept port' found done small by_turn is =
-      subst (λ y. ArePorts c (slice_set ports p y)) (sym is) (ports_set c ports all p within (record { core = record { setting = (port_at ports p).core.setting; state = done.0 }; is_open = false }) refl (by (turn (port_at ports p) code) leaves by_turn))
+      subst (λ y. ArePorts c (slice_set ports p y)) (sym is)
+      (ports_set c ports all p within (record { core = record { setting = (port_at ports p).core.setting; state = done.0 }; is_open = false }) refl
+      (by (turn (port_at ports p) code) leaves by_turn))
     where
       by : (t : Turn) → LeavesWords t → after_reply t found ≡ Some done → HasWords done.0
-      by (Reaches word change after) l e = let same : after found ≡ done = cc in subst (λ (d : Processor × retirement.Retired). HasWords d.0) same (l found small).1
+      by (Reaches word change after) l e = let same : after found ≡ done =
+          cc in subst (λ (d : Processor × retirement.Retired). HasWords d.0) same (l found small).1
       by (Retires after retired) l e = absurd (cc)
       by (Stops cause) l e = absurd (cc)
 
 -- ---- a module changes
 
-module _ (c : Config) (modules : List (List ℕ)) (all : AreModules c modules) (number word : ℕ) (v : ℕ) (is : word % 2 ^ c.k ≡ number) (inside : word < c.shared_words) where
+module _ (c : Config) (modules : List (List ℕ)) (all : AreModules c modules) (number word : ℕ) (v : ℕ) (is : word % 2 ^ c.k ≡ number)
+    (inside : word < c.shared_words) where
   within : number < 2 ^ c.k
   within = subst (λ n. n < 2 ^ c.k) is (mod_below word (2 ^ c.k) (pow_pos c.k))
 
@@ -115,15 +124,18 @@ module _ (c : Config) (modules : List (List ℕ)) (all : AreModules c modules) (
         all = length-set modules number (slice_set (slice_index_or modules number []) (word / 2 ^ c.k) v) ∙ all.all;
         places = λ m l. places_at m l (cases_eq m number);
         words = λ i. subst (λ (f : ℕ → ℕ). f i < 2 ^ 32) (sym w) (words_at i (cases_eq i word));
-        end = λ i past. ap (λ (f : ℕ → ℕ). f i) w ∙ put_other (word_at c.k modules) word v i (λ e. absurd (let l : c.shared_words ≤ word = subst (λ j. c.shared_words ≤ j) e past in omega arith)) ∙ all.end i past;
+        end = λ i past. ap (λ (f : ℕ → ℕ). f i) w ∙ put_other (word_at c.k modules) word v i
+            (λ e. absurd (let l : c.shared_words ≤ word = subst (λ j. c.shared_words ≤ j) e past in omega arith)) ∙ all.end i past;
       }
     where
-      places_at : (m : ℕ) → m < 2 ^ c.k → (m ≡ number) ⊎ (m ≡ number → ⊥) → length (slice_index_or (slice_set modules number (slice_set (slice_index_or modules number []) (word / 2 ^ c.k) v)) m []) ≡ places_of c
+      places_at : (m : ℕ) → m < 2 ^ c.k → (m ≡ number) ⊎ (m ≡ number → ⊥) →
+          length (slice_index_or (slice_set modules number (slice_set (slice_index_or modules number []) (word / 2 ^ c.k) v)) m []) ≡ places_of c
       places_at m l (inl e) =
           ap (λ j. length (slice_index_or (slice_set modules number (slice_set (slice_index_or modules number []) (word / 2 ^ c.k) v)) j [])) e
           ∙ ap length (get_or-set_same modules number (slice_set (slice_index_or modules number []) (word / 2 ^ c.k) v) [] module_there)
           ∙ length-set (slice_index_or modules number []) (word / 2 ^ c.k) v ∙ all.places number within
-      places_at m l (inr other) = ap length (get_or-set_other modules number m (slice_set (slice_index_or modules number []) (word / 2 ^ c.k) v) [] other) ∙ all.places m l
+      places_at m l (inr other) =
+          ap length (get_or-set_other modules number m (slice_set (slice_index_or modules number []) (word / 2 ^ c.k) v) [] other) ∙ all.places m l
 
       words_at : (i : ℕ) → (i ≡ word) ⊎ (i ≡ word → ⊥) → put (word_at c.k modules) word v i < 2 ^ 32
       words_at i (inl e) = subst (λ (n : ℕ). n < 2 ^ 32) (sym (put_same (word_at c.k modules) word v) ∙ ap (put (word_at c.k modules) word v) (sym e)) small
@@ -136,7 +148,8 @@ module _ (config : Config) (code : List ℕ) (image : ImageContents) where
   abbrev machine : NetworkLists → List PortState → List (List ℕ) → MachineLists
   machine net ports modules = record { config = config; image = image; network = net; ports = ports; modules = modules; code = code }
 
-  pub parts_kept : (net net' : NetworkLists) (ports ports' : List PortState) (modules modules' : List (List ℕ)) (s : Step) (o : Outcome) → IsMachine (machine net ports modules) →
+  pub parts_kept : (net net' : NetworkLists) (ports ports' : List PortState) (modules modules' : List (List ℕ)) (s : Step) (o : Outcome) →
+      IsMachine (machine net ports modules) →
       IsStepOf config code (net_of net) ports modules s o (net_of net') ports' modules' → network.sizes_of net' ≡ network.sizes_of net →
       ArePorts config ports' → AreModules config modules' → IsMachine (machine net' ports' modules')
   parts_kept net net' ports ports' modules modules' s o m is sizes ports_are modules_are =

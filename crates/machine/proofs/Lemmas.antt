@@ -2,9 +2,7 @@
 
 -- The flat machine that the processors, words and code of a machine make.
 pub use Rattle.machine.proofs.Flattening.{all_shut, count_is, flat_is, none_past, past_end, sound, state_at, word_is}
-
 -- What holds of every machine is kept where a port, a module or the network changes.
 pub use Rattle.machine.proofs.Keeping.{count_small}
-
 -- A step that stalls changes nothing.
 pub use Rattle.machine.proofs.Stalling.{keeps, retell, retold, stalled_keeps}

@@ -14,7 +14,8 @@ pub byte_is_aligned : (address : ℕ) → is_aligned 1 address ≡ true
 byte_is_aligned address = let e : address % 1 ≡ 0 = omega arith in rw e refl
 
 -- what a load of one byte gives
-byte_loaded : (bytes : List ℕ) (address : ℕ) (inside : Bool) → result_ok (load_of bytes 1 address inside) ≡ (if inside then Some (slice_index bytes (address % 2 ^ 16)) else None)
+byte_loaded : (bytes : List ℕ) (address : ℕ) (inside : Bool) →
+    result_ok (load_of bytes 1 address inside) ≡ (if inside then Some (slice_index bytes (address % 2 ^ 16)) else None)
 byte_loaded bytes address true = rw (byte_is_aligned address) (ap (λ b. Some b) (number_of_byte bytes (address % 2 ^ 16)))
 byte_loaded bytes address false = rw (byte_is_aligned address) refl
 

@@ -1,5 +1,6 @@
 -- What a new machine is made of.
-use Rattle.std.proofs.Common.{◌≡◌, ℕ, zero, suc, ◌+◌, ◌-◌, ◌*◌, ◌/◌, ◌%◌, ◌^◌, ◌<◌, ◌≤◌, false, List, [], ◌∷◌, ◌++◌, length, ◌⊎◌, inl, inr, refl, sym, ap, ◌∙◌, subst, arith}
+use Rattle.std.proofs.Common.{◌≡◌, ℕ, zero, suc, ◌+◌, ◌-◌, ◌*◌, ◌/◌, ◌%◌, ◌^◌, ◌<◌, ◌≤◌, false, List, [], ◌∷◌, ◌++◌, length, ◌⊎◌, inl, inr, refl, sym, ap, ◌∙◌}
+use Rattle.std.proofs.Common.{subst, arith}
 use Rattle.std.specs.Prelude.{slice_index, slice_index_or, replicate}
 use Rattle.std.proofs.lemmas.Bool.{cases_lt, eqb-true}
 use Rattle.std.proofs.lemmas.Nat.{div-add-mod', mod_below, pow_pos}
@@ -80,8 +81,10 @@ module _ (c : Config) (layout : Layout) (limits : IsWithinLimits c) (placed : Is
   }
     where
       at : (p : ℕ) → (p < 2 ^ c.k) ⊎ (2 ^ c.k ≤ p) → HasWords (port_at ports p).core.state
-      at p (inl within) = subst (λ (q : PortState). HasWords q.core.state) (sym (port_is p within)) (record { pc = entry_small; registers = zeros_below 32 (2 ^ 32) (omega arith); local = region_below layout.local bytes })
-      at p (inr past) = subst (λ (q : PortState). HasWords q.core.state) (sym (port_past p past)) (record { pc = omega arith; registers = λ r. omega arith; local = λ r. omega arith })
+      at p (inl within) = subst (λ (q : PortState). HasWords q.core.state) (sym (port_is p within))
+          (record { pc = entry_small; registers = zeros_below 32 (2 ^ 32) (omega arith); local = region_below layout.local bytes })
+      at p (inr past) = subst (λ (q : PortState). HasWords q.core.state) (sym (port_past p past))
+          (record { pc = omega arith; registers = λ r. omega arith; local = λ r. omega arith })
 
   pub ports_shut : (p : ℕ) → open_at ports p ≡ false
   ports_shut p = at (cases_lt p (2 ^ c.k))
@@ -110,7 +113,8 @@ module _ (c : Config) (layout : Layout) (limits : IsWithinLimits c) (placed : Is
           inl (there ∙ get_or-map-range_with_len (opening_word c layout.shared (i % 2 ^ c.k)) 0 (places_of c) (i / 2 ^ c.k) (i / 2 ^ c.k) 0 within (omega arith)
           ∙ ap (λ n. number_at layout.shared (4 * n) 4) (div-add-mod' i (2 ^ c.k)))
       at (inr past) =
-          let n : length (opening_module c layout.shared (places_of c) (i % 2 ^ c.k)) ≡ places_of c = length-map-range_with_len (opening_word c layout.shared (i % 2 ^ c.k)) 0 (places_of c) in
+          let n : length (opening_module c layout.shared (places_of c) (i % 2 ^ c.k)) ≡ places_of c =
+          length-map-range_with_len (opening_word c layout.shared (i % 2 ^ c.k)) 0 (places_of c) in
           inr (there ∙ past_end (opening_module c layout.shared (places_of c) (i % 2 ^ c.k)) (i / 2 ^ c.k) 0 (subst (λ l. l ≤ i / 2 ^ c.k) (sym n) past))
 
   pub modules_are : AreBelow 256 layout.shared → AreModules c modules
@@ -125,7 +129,8 @@ module _ (c : Config) (layout : Layout) (limits : IsWithinLimits c) (placed : Is
       small i (inl e) = subst (λ (n : ℕ). n < 2 ^ 32) (sym e) (number_small layout.shared (4 * i) 4 bytes)
       small i (inr e) = omega arith
 
-      none : (i : ℕ) → c.shared_words ≤ i → (word_at c.k modules i ≡ number_at layout.shared (4 * i) 4) ⊎ (word_at c.k modules i ≡ 0) → word_at c.k modules i ≡ 0
+      none : (i : ℕ) → c.shared_words ≤ i → (word_at c.k modules i ≡ number_at layout.shared (4 * i) 4) ⊎ (word_at c.k modules i ≡ 0) →
+          word_at c.k modules i ≡ 0
       none i past (inl e) = let short = placed.shared in e ∙ none_there layout.shared (4 * i) 4 (omega arith)
       none i past (inr e) = e
 
@@ -146,7 +151,8 @@ module _ (c : Config) (layout : Layout) (limits : IsWithinLimits c) (placed : Is
         (λ i. record { net = sym net_is i; mem = word_at c.k modules; core = told_at ports (λ p. []); is_open = fun_ext (λ p. sym (ports_shut p)) i })
         (steady_start (sizes_of c) (program c code) (word_at c.k modules) (told_at ports (λ p. [])))
 
-    pub new_is_machine : (image : ImageContents) → network.sizes_of net ≡ sizes_of c → AreBelow 256 layout.code → AreBelow 256 layout.local → AreBelow 256 layout.shared →
+    pub new_is_machine : (image : ImageContents) → network.sizes_of net ≡ sizes_of c → AreBelow 256 layout.code → AreBelow 256 layout.local →
+        AreBelow 256 layout.shared →
         IsMachine (record { config = c; image = image; network = net; ports = ports; modules = modules; code = region_of_bytes layout.code })
     new_is_machine image sizes code local shared = record {
       limits = limits;
@@ -158,7 +164,15 @@ module _ (c : Config) (layout : Layout) (limits : IsWithinLimits c) (placed : Is
       steady = steady (region_of_bytes layout.code);
     }
 
-    pub new_opens : IsOpening c (record { layout = layout; shared_words = c.shared_words }) (record { config = c; image = record { layout = layout; shared_words = c.shared_words }; network = net; ports = ports; modules = modules; code = region_of_bytes layout.code })
+    pub new_opens : IsOpening c (record { layout = layout; shared_words = c.shared_words })
+        (record {
+          config = c;
+          image = record { layout = layout; shared_words = c.shared_words };
+          network = net;
+          ports = ports;
+          modules = modules;
+          code = region_of_bytes layout.code;
+        })
     new_opens = record {
       config = refl;
       image_is = refl;

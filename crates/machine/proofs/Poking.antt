@@ -21,7 +21,8 @@ use Rattle.machine.specs.Openings.{flat_state}
 use Rattle.machine.specs.Poking.{IsPoked}
 use Rattle.machine.proofs.Flattening.{all_shut, state_at, word_is, sound, flat_is}
 
-module _ (old : MachineLists) (q : Poke) (o : Outcome) (new : MachineLists) (is : IsMachine old) (idle : IsIdle old) (is' : IsMachine new) (st : IsStep old (step.Poke q) o new) where
+module _ (old : MachineLists) (q : Poke) (o : Outcome) (new : MachineLists) (is : IsMachine old) (idle : IsIdle old) (is' : IsMachine new)
+    (st : IsStep old (step.Poke q) o new) where
   abbrev c : Config
   c = old.config
 
@@ -73,14 +74,16 @@ module _ (old : MachineLists) (q : Poke) (o : Outcome) (new : MachineLists) (is 
 
   before : parts M ≡ parts_of F (λ p. [])
   unfolding machine_of_parts
-  before = ap₂ (λ (f : ℕ → ℕ) (g : ℕ → Told). (f, g)) (fun_ext (λ i. sym (word_is old is i))) (fun_ext (λ p. ap (λ s. record { state = s; events = [] }) (sym (state_at old is p))))
+  before = ap₂ (λ (f : ℕ → ℕ) (g : ℕ → Told). (f, g)) (fun_ext (λ i. sym (word_is old is i)))
+      (fun_ext (λ p. ap (λ s. record { state = s; events = [] }) (sym (state_at old is p))))
 
   -- the flat machine after it
   abbrev next_flat : Bool → FlatState
   next_flat b = if b then written F q else F
 
   parts_are : (b : Bool) → lawful ≡ b → parts (done b).machine ≡ parts_of (next_flat b) (λ p. [])
-  parts_are true e = ap (λ (x : (ℕ → ℕ) × (ℕ → Told)). (poked_words q x.0, poked_processors q x.1)) before ∙ written_agrees c old.code F (λ p. []) q (sound old is).size e
+  parts_are true e =
+      ap (λ (x : (ℕ → ℕ) × (ℕ → Told)). (poked_words q x.0, poked_processors q x.1)) before ∙ written_agrees c old.code F (λ p. []) q (sound old is).size e
   parts_are false e = before
 
   size_is : (b : Bool) → HasSize c old.code (next_flat b)
@@ -96,7 +99,8 @@ module _ (old : MachineLists) (q : Poke) (o : Outcome) (new : MachineLists) (is 
   unfolding machine_of_parts
   flat_after =
       let all : parts (machine_of new (λ p. [])) ≡ parts_of (next_flat lawful) (λ p. []) = ap parts leaves ∙ parts_are lawful refl in
-      flat_is new is' (next_flat lawful) (subst (λ (x : Config). HasSize x new.code (next_flat lawful)) (sym st.config) (subst (λ code. HasSize c code (next_flat lawful)) (sym st.code) (size_is lawful)))
+      flat_is new is' (next_flat lawful) (subst (λ (x : Config). HasSize x new.code (next_flat lawful)) (sym st.config)
+      (subst (λ code. HasSize c code (next_flat lawful)) (sym st.code) (size_is lawful)))
       (λ p. ap (λ (x : (ℕ → ℕ) × (ℕ → Told)). (x.1 p).state) all) (λ i. ap (λ (x : (ℕ → ℕ) × (ℕ → Told)). x.0 i) all)
 
   pub poke_whole : IsPoked old q o new

@@ -1,5 +1,6 @@
 -- The byte that a processor sees: where an address lies, and what stands there.
-use Rattle.std.proofs.Common.{◌≡◌, ℕ, ◌+◌, ◌-◌, ◌*◌, ◌/◌, ◌%◌, ◌^◌, ◌<◌, ◌≤◌, Bool, true, false, nat_lt, Option, Some, None, Ok, Err, refl, sym, ap, ap₂, ◌∙◌, subst, arith, le-leb, ne_eqb, eq-eqb, lt-ltb, le-ltb, ltb-true, ltb-false}
+use Rattle.std.proofs.Common.{◌≡◌, ℕ, ◌+◌, ◌-◌, ◌*◌, ◌/◌, ◌%◌, ◌^◌, ◌<◌, ◌≤◌, Bool, true, false, nat_lt, Option, Some, None, Ok, Err, refl, sym, ap, ap₂, ◌∙◌}
+use Rattle.std.proofs.Common.{subst, arith, le-leb, ne_eqb, eq-eqb, lt-ltb, le-ltb, ltb-true, ltb-false}
 use Rattle.std.specs.Prelude.{◌&&◌, slice_get, slice_index, if◌then◌else◌}
 use Rattle.flat_machine.specs.declared.fault.Fault.TheVariants.{NoRegion}
 use Rattle.flat_machine.specs.declared.effect.Region.TheVariants as region
@@ -50,7 +51,8 @@ module _ (m : MachineLists) (is : IsMachine m) (k address : ℕ) where
         ap (byte_of (flat_state m) k address) found ∙ ap (byte_in (flat_state m) own address) (byte_region (setting_of (flat_state m) k) address)
         ∙ ap (λ words. by_region (in_shared words address) (in_local address) (in_code address)) (sound m is).size.shared
 
-    shared_by : (b : Bool) → by_region b false false ≡ (if b then Some (part_of 1 (address % 4) (word_at m.config.k m.modules ((address - 2 ^ 31) / 4))) else None)
+    shared_by : (b : Bool) → by_region b false false
+        ≡ (if b then Some (part_of 1 (address % 4) (word_at m.config.k m.modules ((address - 2 ^ 31) / 4))) else None)
     shared_by true = ap (λ w. Some (part_of 1 (address % 4) w)) (word_is m is ((address - 2 ^ 31) / 4))
     shared_by false = refl
 
@@ -60,10 +62,12 @@ module _ (m : MachineLists) (is : IsMachine m) (k address : ℕ) where
 
     -- a shared word's
     pub in_words : 2 ^ 31 ≤ address →
-        byte_seen (flat_state m) k address ≡ (if in_shared m.config.shared_words address then Some (part_of 1 (address % 4) (word_at m.config.k m.modules ((address - 2 ^ 31) / 4))) else None)
+        byte_seen (flat_state m) k address ≡ (if in_shared m.config.shared_words address
+        then Some (part_of 1 (address % 4) (word_at m.config.k m.modules ((address - 2 ^ 31) / 4))) else None)
     in_words start =
         there
-        ∙ ap₂ (λ l c. by_region (in_shared m.config.shared_words address) l c) (ne_eqb (address / 2 ^ 16) 2 (λ e. absurd (omega (arith, start, e)))) (ne_eqb (address / 2 ^ 16) 1 (λ e. absurd (omega (arith, start, e))))
+        ∙ ap₂ (λ l c. by_region (in_shared m.config.shared_words address) l c) (ne_eqb (address / 2 ^ 16) 2 (λ e. absurd (omega (arith, start, e))))
+        (ne_eqb (address / 2 ^ 16) 1 (λ e. absurd (omega (arith, start, e))))
         ∙ shared_by (in_shared m.config.shared_words address)
 
     -- of code

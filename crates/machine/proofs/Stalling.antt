@@ -48,7 +48,8 @@ module _ (c : Config) (code : List ℕ) (M : Machine Told) (refers : (p : ℕ) �
   retired p (y ∷ ys) opened e =
       let runs = runs_by (is_running (M.core p).state.status) (turns p) Refers (refers p opened) (λ no. cc) in
       let r = reaches_of (turns p) runs.1 in
-      let told : told_of_reply (after_reply (Reaches r.word r.change r.after) y.value) ≡ Stalled = ap (λ t. told_of_reply (after_reply t y.value)) (sym r.is) ∙ e in
+      let told : told_of_reply (after_reply (Reaches r.word r.change r.after) y.value) ≡ Stalled =
+      ap (λ t. told_of_reply (after_reply t y.value)) (sym r.is) ∙ e in
       absurd (cc)
 
   alone : (runs : Bool) (t : Turn) → kind_of runs t ≡ Alone → told_of_turn t ≡ Stalled → ⊥
@@ -84,7 +85,8 @@ module _ (c : Config) (code : List ℕ) (M : Machine Told) (refers : (p : ℕ) �
   pub keeps : (s : Step) → Keeps answer M (taken c code M s)
   keeps (step.Turn p) = either (nat_lt p (2 ^ c.k)) (turned (program c code) M p (M.is_open p)) (turn p (M.is_open p) refl)
   keeps (step.Up s w) = either (nat_lt w (2 ^ c.k)) (went_up M (moved_up (sizes_of c) M.net s w)) (goes_up (moved_up (sizes_of c) M.net s w))
-  keeps (step.Serve m) = either (nat_lt m (2 ^ c.k)) (serve_from (sizes_of c) M m (M.net.requests c.k m) (M.net.replies c.k m)) (serves m (M.net.requests c.k m) (M.net.replies c.k m))
+  keeps (step.Serve m) = either (nat_lt m (2 ^ c.k)) (serve_from (sizes_of c) M m (M.net.requests c.k m) (M.net.replies c.k m))
+      (serves m (M.net.requests c.k m) (M.net.replies c.k m))
   keeps (step.Down s w) = either (nat_lt w (2 ^ c.k)) (went_down M (moved_down (sizes_of c) M.net s w)) (goes_down (moved_down (sizes_of c) M.net s w))
   keeps (step.Poke q) = either (all_shut (2 ^ c.k) M.is_open && is_lawful_poke c q) (poked (program c code) M q) (λ e. absurd (cc))
 
@@ -103,12 +105,14 @@ pub retold : (m : MachineLists) (shown : ℕ → List Event) → retell shown (m
 unfolding machine_of_parts
 retold m shown = refl
 
-pub stalled_keeps : (old new : MachineLists) (s : Step) (o : Outcome) → IsMachine old → IsStep old s o new → o ≡ Stalled → (shown : ℕ → List Event) → machine_of new shown ≡ machine_of old shown
+pub stalled_keeps : (old new : MachineLists) (s : Step) (o : Outcome) → IsMachine old → IsStep old s o new → o ≡ Stalled → (shown : ℕ → List Event) →
+    machine_of new shown ≡ machine_of old shown
 unfolding outcome_of after
 stalled_keeps old new s o is st e shown =
     let M : Machine Told = machine_of old (λ p. []) in
     let leaves : machine_of new (with_shown (λ p. []) s o) ≡ (taken old.config old.code M s).machine =
     ap (λ c. machine_of_parts c (net_of new.network) new.ports new.modules (with_shown (λ p. []) s o)) st.config ∙ st.step.after (λ p. []) in
     let same : machine_of new (λ p. []) ≡ M =
-    ap (machine_of new) (sym (ap (with_shown (λ p. []) s) e ∙ shown_stalled (λ p. []) s)) ∙ leaves ∙ keeps old.config old.code M is.steady.refers s (sym st.step.outcome ∙ e) in
+    ap (machine_of new) (sym (ap (with_shown (λ p. []) s) e ∙ shown_stalled (λ p. []) s)) ∙ leaves
+    ∙ keeps old.config old.code M is.steady.refers s (sym st.step.outcome ∙ e) in
     sym (retold new shown) ∙ ap (retell shown) same ∙ retold old shown

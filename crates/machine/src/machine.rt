@@ -1,6 +1,7 @@
 //! The machine.
 
-ghost use Rattle.std.specs.Prelude.{◌≡◌, ◌↔◌, ◌<◌, ◌≤◌, ◌*◌, ◌+◌, ◌-◌, ◌/◌, ◌%◌, ◌^◌, ◌&&◌, ℕ, List, [], true, false, nat_lt, is_some, slice_get, slice_index, Some, None, Err, IfOk, IsTrue, if◌then◌else◌};
+ghost use Rattle.std.specs.Prelude.{◌≡◌, ◌↔◌, ◌<◌, ◌≤◌, ◌*◌, ◌+◌, ◌-◌, ◌/◌, ◌%◌, ◌^◌, ◌&&◌, ℕ, List, [], true, false, nat_lt, is_some, slice_get, slice_index};
+ghost use Rattle.std.specs.Prelude.{Some, None, Err, IfOk, IsTrue, if◌then◌else◌};
 ghost use Rattle.std.specs.Option.{option_copied};
 ghost use Rattle.flat_machine.specs.declared.event.Event.{Event};
 ghost use Rattle.flat_machine.specs.declared.poke.Poke.TheVariants as pokes;

@@ -45,7 +45,8 @@ entered_stalled steps s o stalls = ap (λ b. if b then steps else steps ++ s ∷
 pub entered_none : (m : MachineLists) (steps : List Step) (most : ℕ) → IsMachine m → IsEntered m steps most m steps
 entered_none m steps most is = record { sound = is; more = []; is = sym (append-nil steps); count = omega arith; replay = λ opening r. r }
 
-pub entered_one : (m new : MachineLists) (steps : List Step) (s : Step) (o : Outcome) → IsMachine new → IsStep m s o new → (o ≡ Stalled → (shown : ℕ → List Event) → machine_of new shown ≡ machine_of m shown) →
+pub entered_one : (m new : MachineLists) (steps : List Step) (s : Step) (o : Outcome) → IsMachine new → IsStep m s o new →
+    (o ≡ Stalled → (shown : ℕ → List Event) → machine_of new shown ≡ machine_of m shown) →
     IsEntered m steps 1 new (entered steps s o)
 entered_one m new steps s o is st kept = by (is_stalled o) refl
   where
@@ -57,9 +58,11 @@ entered_one m new steps s o is st kept = by (is_stalled o) refl
       count = omega arith;
       replay = λ opening r. replay_kept opening m new steps s o r st (kept (stalled_is o e));
     }
-    by false e = record { sound = is; more = s ∷ []; is = refl; count = omega arith; replay = λ opening r. replay_more opening m new steps s o r st (moving_is o e) }
+    by false e =
+        record { sound = is; more = s ∷ []; is = refl; count = omega arith; replay = λ opening r. replay_more opening m new steps s o r st (moving_is o e) }
 
-pub entered_join : (m0 m1 m2 : MachineLists) (steps0 steps1 steps2 : List Step) (a b most : ℕ) → IsEntered m0 steps0 a m1 steps1 → IsEntered m1 steps1 b m2 steps2 → a + b ≤ most → IsEntered m0 steps0 most m2 steps2
+pub entered_join : (m0 m1 m2 : MachineLists) (steps0 steps1 steps2 : List Step) (a b most : ℕ) → IsEntered m0 steps0 a m1 steps1 →
+    IsEntered m1 steps1 b m2 steps2 → a + b ≤ most → IsEntered m0 steps0 most m2 steps2
 entered_join m0 m1 m2 steps0 steps1 steps2 a b most first second few = record {
   sound = second.sound;
   more = first.more ++ second.more;
@@ -69,7 +72,8 @@ entered_join m0 m1 m2 steps0 steps1 steps2 a b most first second few = record {
 }
 
 pub entered_most : (m new : MachineLists) (steps steps' : List Step) (a b : ℕ) → IsEntered m steps a new steps' → a ≤ b → IsEntered m steps b new steps'
-entered_most m new steps steps' a b e few = record { sound = e.sound; more = e.more; is = e.is; count = (let x = e.count in omega (arith, x, few)); replay = e.replay }
+entered_most m new steps steps' a b e few =
+    record { sound = e.sound; more = e.more; is = e.is; count = (let x = e.count in omega (arith, x, few)); replay = e.replay }
 
 -- how many steps there are then
 pub entered_length : (m new : MachineLists) (steps steps' : List Step) (most : ℕ) → IsEntered m steps most new steps' → length steps' ≤ length steps + most
@@ -78,13 +82,16 @@ entered_length m new steps steps' most e =
     let few = e.count in omega (arith, all, few)
 
 -- a log is kept where it is new
-pub kept_new : (opening m : MachineLists) (steps : List Step) → IsMachine m → IsIdle m → opening ≡ m → steps ≡ [] → IsKept (record { opening = opening; steps = steps; machine = m })
+pub kept_new : (opening m : MachineLists) (steps : List Step) → IsMachine m → IsIdle m → opening ≡ m → steps ≡ [] →
+    IsKept (record { opening = opening; steps = steps; machine = m })
 kept_new opening m steps is idle same none =
     subst (λ (o : MachineLists). IsKept (record { opening = o; steps = steps; machine = m })) (sym same)
-    (subst (λ xs. IsKept (record { opening = m; steps = xs; machine = m })) (sym none) (record { opens = is; idle = idle; sound = is; replay = replay_begins m; room = omega arith }))
+    (subst (λ xs. IsKept (record { opening = m; steps = xs; machine = m })) (sym none)
+    (record { opens = is; idle = idle; sound = is; replay = replay_begins m; room = omega arith }))
 
 -- and where its machine's steps are entered, and there is room for them
-pub kept_after : (l : Log) (new : MachineLists) (steps' : List Step) (most : ℕ) → IsKept l → IsEntered l.machine l.steps most new steps' → length steps' ≤ 4194304 → IsKept (record { opening = l.opening; steps = steps'; machine = new })
+pub kept_after : (l : Log) (new : MachineLists) (steps' : List Step) (most : ℕ) → IsKept l → IsEntered l.machine l.steps most new steps' →
+    length steps' ≤ 4194304 → IsKept (record { opening = l.opening; steps = steps'; machine = new })
 kept_after l new steps' most k e room = record { opens = k.opens; idle = k.idle; sound = e.sound; replay = e.replay l.opening k.replay; room = room }
 
 -- ---- a drain
@@ -99,8 +106,10 @@ pub record IsHomeEntered (old : MachineLists) (steps : List Step) (i : ℕ) (m :
 pub entering_begins : (m : MachineLists) (steps : List Step) → IsMachine m → IsHomeEntered m steps 0 m steps Issued
 entering_begins m steps is = record { tail = []; home = home_begins m is; is = sym (append-nil steps); entered = entered_none m steps 0 is }
 
-module _ (old : MachineLists) (steps : List Step) (i : ℕ) (m : MachineLists) (steps' : List Step) (last : Outcome) (b : IsHomeEntered old steps i m steps' last) where
-  pub entering_goes_on : (s : Step) (o : Outcome) (new : MachineLists) (steps2 : List Step) → i < drain_bound old.config → drain_step m ≡ Some s → GoesOn m s → IsStep m s o new →
+module _ (old : MachineLists) (steps : List Step) (i : ℕ) (m : MachineLists) (steps' : List Step) (last : Outcome)
+    (b : IsHomeEntered old steps i m steps' last) where
+  pub entering_goes_on : (s : Step) (o : Outcome) (new : MachineLists) (steps2 : List Step) → i < drain_bound old.config → drain_step m ≡ Some s → GoesOn m s →
+      IsStep m s o new →
       steps2 ≡ entered steps' s o → IsEntered m steps' 1 new steps2 → IsHomeEntered old steps (i + 1) new steps2 o
   entering_goes_on s o new steps2 within names goes st is e =
       let moves : o ≡ Stalled → ⊥ = (λ f. goes.moves (sym st.step.outcome ∙ f)) in
@@ -124,7 +133,8 @@ module _ (old : MachineLists) (steps : List Step) (i : ℕ) (m : MachineLists) (
 -- ---- a whole instruction
 
 -- of a turn that sends no request its own step is entered, unless it stalls
-turn_entered : (m : MachineLists) (steps : List Step) (s : Step) (o : Outcome) → (o ≡ Issued → ⊥) → entered steps s o ≡ steps ++ steps_from m.config m.code (machine_of m (λ q. [])) s o
+turn_entered : (m : MachineLists) (steps : List Step) (s : Step) (o : Outcome) → (o ≡ Issued → ⊥) →
+    entered steps s o ≡ steps ++ steps_from m.config m.code (machine_of m (λ q. [])) s o
 turn_entered m steps s Issued other = absurd (other refl)
 turn_entered m steps s Stalled other = sym (append-nil steps)
 turn_entered m steps s (Retired retired) other = refl
@@ -135,7 +145,8 @@ turn_entered m steps s (Served leader) other = refl
 turn_entered m steps s (Answered to) other = refl
 turn_entered m steps s Poked other = refl
 
-pub one_entered : (m : MachineLists) (p : ℕ) (steps : List Step) (o : Outcome) (new : MachineLists) → IsStep m (step.Turn p) o new → (o ≡ Issued → ⊥) → entered steps (step.Turn p) o ≡ steps ++ one_steps m p
+pub one_entered : (m : MachineLists) (p : ℕ) (steps : List Step) (o : Outcome) (new : MachineLists) → IsStep m (step.Turn p) o new → (o ≡ Issued → ⊥) →
+    entered steps (step.Turn p) o ≡ steps ++ one_steps m p
 one_entered m p steps o new st other =
     turn_entered m steps (step.Turn p) o other ∙ ap (λ x. steps ++ steps_from m.config m.code (machine_of m (λ q. [])) (step.Turn p) x) st.step.outcome
 
@@ -156,13 +167,15 @@ pub poked_none : (m : MachineLists) (steps : List Step) → IsMachine m → IsId
 poked_none m steps is idle = record { is = sym (append-nil steps); replay = replay_begins m; idle = idle; flat = refl; entered = entered_none m steps 0 is }
 
 module _ (old m new : MachineLists) (steps steps' steps2 : List Step) (done : List Poke) (q : Poke) (o : Outcome) (d : ArePoked old steps done m steps') where
-  pub poked_more : is_lawful_poke old.config q ≡ true → IsStep m (step.Poke q) o new → IsPoked m q o new → steps2 ≡ entered steps' (step.Poke q) o → IsEntered m steps' 1 new steps2 → ArePoked old steps (done ++ q ∷ []) new steps2
+  pub poked_more : is_lawful_poke old.config q ≡ true → IsStep m (step.Poke q) o new → IsPoked m q o new → steps2 ≡ entered steps' (step.Poke q) o →
+      IsEntered m steps' 1 new steps2 → ArePoked old steps (done ++ q ∷ []) new steps2
   poked_more lawful st w is e =
       let lawful_here : is_lawful_poke m.config q ≡ true = ap (λ c. is_lawful_poke c q) d.replay.run.config ∙ lawful in
       let does : o ≡ Poked = w.answer ∙ ap (λ b. if b then Poked else Stalled) lawful_here in
       let one : (xs : List Poke) → map step.Poke (xs ++ q ∷ []) ≡ map step.Poke xs ++ step.Poke q ∷ [] = (λ xs. map-append step.Poke xs (q ∷ [])) in
       record {
-        is = is ∙ ap (entered steps' (step.Poke q)) does ∙ ap (λ xs. xs ++ step.Poke q ∷ []) d.is ∙ append_assoc steps (map step.Poke done) (step.Poke q ∷ []) ∙ ap (λ xs. steps ++ xs) (sym (one done));
+        is = is ∙ ap (entered steps' (step.Poke q)) does ∙ ap (λ xs. xs ++ step.Poke q ∷ []) d.is ∙ append_assoc steps (map step.Poke done) (step.Poke q ∷ [])
+            ∙ ap (λ xs. steps ++ xs) (sym (one done));
         replay =
             subst (λ xs. IsReplay old xs new) (sym (one done))
             (replay_more old m new (map step.Poke done) (step.Poke q) o d.replay st (λ stalls. let no : Poked ≡ Stalled = sym does ∙ stalls in cc));
@@ -170,15 +183,18 @@ module _ (old m new : MachineLists) (steps steps' steps2 : List Step) (done : Li
         flat =
             w.flat ∙ ap (λ b. if b then flat_step (flat_state m) (entry.Poke q) else flat_state m) lawful_here
             ∙ ap (λ F. flat_step F (entry.Poke q)) d.flat
-            ∙ sym (flat_more (flat_state old) (map entry.Poke done) (entry.Poke q)) ∙ ap (flat_run (flat_state old)) (sym (map-append entry.Poke done (q ∷ [])));
+            ∙ sym (flat_more (flat_state old) (map entry.Poke done) (entry.Poke q))
+            ∙ ap (flat_run (flat_state old)) (sym (map-append entry.Poke done (q ∷ [])));
         entered =
-            entered_join old m new steps steps' steps2 (length done) 1 (length (done ++ q ∷ [])) d.entered e (let n = length-append done (q ∷ []) in omega (arith, n));
+            entered_join old m new steps steps' steps2 (length done) 1 (length (done ++ q ∷ [])) d.entered e (let n = length-append done (q ∷ []) in
+            omega (arith, n));
       }
 
 -- ---- places
 
 -- What is entered takes the places that it needs, and leaves the others.
-pub places_kept : (steps steps' : List Step) (capacity capacity' most : ℕ) → length steps' ≤ length steps + most → most ≤ places_of capacity steps → capacity' ≡ capacity →
+pub places_kept : (steps steps' : List Step) (capacity capacity' most : ℕ) → length steps' ≤ length steps + most → most ≤ places_of capacity steps →
+    capacity' ≡ capacity →
     length steps ≤ min capacity 4194304 → length steps' + places_of capacity' steps' ≡ length steps + places_of capacity steps
 places_kept steps steps' capacity capacity' most few room same within =
     let fits : length steps' ≤ min capacity 4194304 = omega (arith, few, room, within) in

@@ -167,7 +167,8 @@ impl Logged {
         ensures entered { OnOk result (IsIdle self.old.machine → self.new.steps ≡ self.old.steps ++ one_steps self.old.machine p) }
         ensures longer { OnOk result (IsLonger self.old self.new (2 * self.old.machine.config.k + 3)) }
         ensures unnamed { (result ≡ Err LogRefusal.Unnamed) ↔ (nat_lt p (2 ^ self.old.machine.config.k) ≡ false) }
-        ensures full { (result ≡ Err LogRefusal.Full) ↔ ((p < 2 ^ self.old.machine.config.k) × (4194304 < length self.old.steps + (2 * self.old.machine.config.k + 3))) }
+        ensures full { (result ≡ Err LogRefusal.Full)
+            ↔ ((p < 2 ^ self.old.machine.config.k) × (4194304 < length self.old.steps + (2 * self.old.machine.config.k + 3))) }
         ensures refused { OnErr result (self.new ≡ self.old) }
     {
         let config = self.machine().config();

@@ -31,7 +31,10 @@ impl Model for Roomy {
 
     ghost Value = { RoomyLog };
 
-    ghost view = { λ l. record { log = record { opening = l.opening.value; steps = l.steps.items; machine = l.machine }; places = places_of (vec_capacity l.steps) l.steps.items } };
+    ghost view = { λ l. record {
+      log = record { opening = l.opening.value; steps = l.steps.items; machine = l.machine };
+      places = places_of (vec_capacity l.steps) l.steps.items;
+    } };
 
     ghost invariant = { λ l. IsKept (record { opening = l.opening.value; steps = l.steps.items; machine = l.machine }) };
 }

@@ -16,7 +16,8 @@ use Rattle.machine_program.specs.Processors.{word_at, setting_of}
 use Rattle.machine_opening.specs.Openings.{opening_port, opening_ports, opening_word, opening_module, opening_modules, places_of, AreTheOpening}
 
 -- a list whose elements are all one
-states_are : (c : Config) (layout : Layout) (xs : List ℕ) → map (λ (p : PortState). p.core.state) (map (opening_port c layout) xs) ≡ replicate (length xs) (opening_processor layout)
+states_are : (c : Config) (layout : Layout) (xs : List ℕ) →
+    map (λ (p : PortState). p.core.state) (map (opening_port c layout) xs) ≡ replicate (length xs) (opening_processor layout)
 states_are c layout [] = refl
 states_are c layout (x ∷ xs) = ap (λ ps. opening_processor layout ∷ ps) (states_are c layout xs)
 
@@ -46,7 +47,8 @@ module _ (c : Config) (shared : List ℕ) where
       ∙ get_or-map-range_with_len (opening_word c shared number) 0 (places_of c) place place 0 inside (omega arith)
       ∙ ap (λ n. number_at shared (4 * n) 4) (div-add-mod' i count)
 
-  words_are : (start count : ℕ) → start + count ≤ c.shared_words → map (word_at c.k (opening_modules c shared (2 ^ c.k))) (range_with_len start count) ≡ map (λ i. number_at shared (4 * i) 4) (range_with_len start count)
+  words_are : (start count : ℕ) → start + count ≤ c.shared_words →
+      map (word_at c.k (opening_modules c shared (2 ^ c.k))) (range_with_len start count) ≡ map (λ i. number_at shared (4 * i) 4) (range_with_len start count)
   words_are start zero l = refl
   words_are start (suc count) l = ap₂ (λ w ws. w ∷ ws) (word_is start (omega arith)) (words_are (start + 1) count (omega arith))
 
@@ -61,8 +63,10 @@ the_opening c layout = record {
 pub one_port_more : (c : Config) (layout : Layout) (n : ℕ) → opening_ports c layout (n + 1) ≡ opening_ports c layout n ++ opening_port c layout n ∷ []
 one_port_more c layout n = map-range_with_len_more (opening_port c layout) 0 n n (omega arith)
 
-pub one_module_more : (c : Config) (shared : List ℕ) (n : ℕ) → opening_modules c shared (n + 1) ≡ opening_modules c shared n ++ opening_module c shared (places_of c) n ∷ []
+pub one_module_more : (c : Config) (shared : List ℕ) (n : ℕ) →
+    opening_modules c shared (n + 1) ≡ opening_modules c shared n ++ opening_module c shared (places_of c) n ∷ []
 one_module_more c shared n = map-range_with_len_more (opening_module c shared (places_of c)) 0 n n (omega arith)
 
-pub one_word_more : (c : Config) (shared : List ℕ) (number n : ℕ) → opening_module c shared (n + 1) number ≡ opening_module c shared n number ++ opening_word c shared number n ∷ []
+pub one_word_more : (c : Config) (shared : List ℕ) (number n : ℕ) →
+    opening_module c shared (n + 1) number ≡ opening_module c shared n number ++ opening_word c shared number n ∷ []
 one_word_more c shared number n = map-range_with_len_more (opening_word c shared number) 0 n n (omega arith)

@@ -1,5 +1,6 @@
 -- The rows fit the steps: at the start, and after each answer.
-use Rattle.std.proofs.Common.{◌≡◌, ℕ, zero, suc, ◌+◌, ◌<◌, ◌≤◌, Bool, true, false, not, List, [], ◌∷◌, ◌++◌, length, drop, refl, sym, ap, ◌∙◌, subst, arith, length-append, append_assoc, ◌⊎◌, inl, inr, ⊎_elim}
+use Rattle.std.proofs.Common.{◌≡◌, ℕ, zero, suc, ◌+◌, ◌<◌, ◌≤◌, Bool, true, false, not, List, [], ◌∷◌, ◌++◌, length, drop, refl, sym, ap, ◌∙◌, subst, arith}
+use Rattle.std.proofs.Common.{length-append, append_assoc, ◌⊎◌, inl, inr, ⊎_elim}
 use Rattle.std.specs.Prelude.{slice_get, slice_set, slice_index_or as get_or, Some, None, Option, if◌then◌else◌}
 use Rattle.std.proofs.Common.{lt-ltb, eq-eqb}
 use Rattle.std.proofs.lemmas.List.{append-nil, drop-append-le, take-append-le}
@@ -89,7 +90,8 @@ module _ (opening : MachineLists) (first : List Step) where
   abbrev low : ℕ
   low = length first
 
-  pub long : (count : ℕ) (steps : List Step) (rows : List Row) → Fits opening first count steps rows → (low + length (drop low steps) ≡ length steps) × (low ≤ length steps)
+  pub long : (count : ℕ) (steps : List Step) (rows : List Row) → Fits opening first count steps rows →
+      (low + length (drop low steps) ≡ length steps) × (low ≤ length steps)
   long count steps rows h = let n = ap length h.begins in let m = length-append first (drop low steps) in (omega arith, omega arith)
 
   -- the machine after the first steps and the others is that after all
@@ -98,7 +100,8 @@ module _ (opening : MachineLists) (first : List Step) where
   here_is count steps rows h =
       sym (all_after-append opening.config opening.code (machine_of opening (λ p. [])) first (drop low steps)) ∙ ap (machine_after opening) (sym h.begins)
 
-  last_more : (steps : List Step) (q : ℕ) (s : Step) (l : Option Answer) → is_turn_of q s ≡ false → LastFits opening low steps q l → LastFits opening low (steps ++ s ∷ []) q l
+  last_more : (steps : List Step) (q : ℕ) (s : Step) (l : Option Answer) → is_turn_of q s ≡ false → LastFits opening low steps q l →
+      LastFits opening low (steps ++ s ∷ []) q l
   last_more steps q s None off f = tt
   last_more steps q s (Some a) off f =
       let more = length-append steps (s ∷ []) in
@@ -108,7 +111,8 @@ module _ (opening : MachineLists) (first : List Step) where
         high = omega arith;
         outcome = f.outcome ∙ ap (λ t. answer_after opening t a.step) (sym (take-append-le a.place steps (s ∷ []) (omega arith)));
         stands = λ n. get-front steps (s ∷ []) a.place a.step (f.stands n);
-        final = subst (λ t. no_turn q t ≡ true) (sym (drop-append-le (behind a) steps (s ∷ []) high)) (all-push (λ t. not (is_turn_of q t)) (drop (behind a) steps) s f.final (ap not off));
+        final = subst (λ t. no_turn q t ≡ true) (sym (drop-append-le (behind a) steps (s ∷ []) high))
+            (all-push (λ t. not (is_turn_of q t)) (drop (behind a) steps) s f.final (ap not off));
       }
 
   -- the list of a processor with one step more
@@ -120,18 +124,23 @@ module _ (opening : MachineLists) (first : List Step) where
       let M : Machine Told = machine_after opening first in
       ap (notices_of opening.config opening.code q low M) (drop-append-le low steps (s ∷ []) n.1)
       ∙ notices_pushed opening.config opening.code q low M rest s
-      ∙ (λ i. notices_of opening.config opening.code q low M rest ++ given_to q (n.0 i) s (outcome_of opening.config opening.code (here_is count steps rows h i) s))
+      ∙ (λ i. notices_of opening.config opening.code q low M rest
+      ++ given_to q (n.0 i) s (outcome_of opening.config opening.code (here_is count steps rows h i) s))
 
   -- the row of a processor that the step is not of
-  row_more : (count : ℕ) (steps : List Step) (rows : List Row) (q : ℕ) (s : Step) (r : Row) → Fits opening first count steps rows → is_turn_of q s ≡ false → RowFits opening first steps q r → RowFits opening first (steps ++ s ∷ []) q r
+  row_more : (count : ℕ) (steps : List Step) (rows : List Row) (q : ℕ) (s : Step) (r : Row) → Fits opening first count steps rows → is_turn_of q s ≡ false →
+      RowFits opening first steps q r → RowFits opening first (steps ++ s ∷ []) q r
   row_more count steps rows q s r h off f =
       record {
-        notices = f.notices ∙ sym (append-nil (notices_since opening first q steps)) ∙ ap (λ ns. notices_since opening first q steps ++ ns) (sym (none_of q (length steps) s (answer_after opening steps s) off)) ∙ sym (list_more count steps rows q s h);
+        notices = f.notices ∙ sym (append-nil (notices_since opening first q steps))
+            ∙ ap (λ ns. notices_since opening first q steps ++ ns) (sym (none_of q (length steps) s (answer_after opening steps s) off))
+            ∙ sym (list_more count steps rows q s h);
         last = last_more steps q s r.last off f.last;
       }
 
   answered_at : (count : ℕ) (steps : List Step) (rows : List Row) (p : ℕ) (r : Row) (s : Step) (o : Outcome) (b : Bool) → is_stalled o ≡ b
-      → Fits opening first count steps rows → slice_get rows p ≡ Some r → is_poke s ≡ false → ((q : ℕ) → is_turn_of q s ≡ true → q ≡ p) → o ≡ answer_after opening steps s
+      → Fits opening first count steps rows → slice_get rows p ≡ Some r → is_poke s ≡ false → ((q : ℕ) → is_turn_of q s ≡ true → q ≡ p) →
+      o ≡ answer_after opening steps s
       → Fits opening first count (if b then steps else steps ++ s ∷ []) (slice_set rows p (told p r s o (length steps)))
   answered_at count steps rows p r s o true is h at may own out =
       let n = long count steps rows h in
@@ -156,7 +165,8 @@ module _ (opening : MachineLists) (first : List Step) where
                 high = omega arith;
                 outcome = out ∙ ap (λ t. answer_after opening t s) (sym (take-length steps));
                 stands = λ no. absurd (cc);
-                final = subst (λ t. no_turn p t ≡ true) (sym (ap (λ k. drop (length steps + k) steps) none ∙ ap (λ k. drop k steps) (omega arith) ∙ drop-length steps)) refl;
+                final = subst (λ t. no_turn p t ≡ true) (sym (ap (λ k. drop (length steps + k) steps) none ∙ ap (λ k. drop k steps) (omega arith)
+                    ∙ drop-length steps)) refl;
               };
             })
             (λ other. h.each q x (get-set_else rows p q new x other e));
@@ -185,7 +195,8 @@ module _ (opening : MachineLists) (first : List Step) where
             let e' : slice_get (slice_set rows p new) p ≡ Some x = subst (λ k. slice_get (slice_set rows p new) k ≡ Some x) same e in
             let x' : x ≡ new = get-set rows p new x e' in
             subst (λ (y : ℕ × Row). RowFits opening first now y.0 y.1) (λ i. (sym same i, sym x' i)) record {
-              notices = ap (λ ns. ns ++ given_to p (length steps) s o) old.notices ∙ ap (λ x. notices_since opening first p steps ++ given_to p (length steps) s x) out ∙ sym (list_more count steps rows p s h);
+              notices = ap (λ ns. ns ++ given_to p (length steps) s o) old.notices
+                  ∙ ap (λ x. notices_since opening first p steps ++ given_to p (length steps) s x) out ∙ sym (list_more count steps rows p s h);
               last = record {
                 low = n.1;
                 high = omega arith;
@@ -199,18 +210,21 @@ module _ (opening : MachineLists) (first : List Step) where
       }
 
   pub answered : (count : ℕ) (steps : List Step) (rows : List Row) (p : ℕ) (r : Row) (s : Step) (o : Outcome)
-      → Fits opening first count steps rows → slice_get rows p ≡ Some r → is_poke s ≡ false → ((q : ℕ) → is_turn_of q s ≡ true → q ≡ p) → o ≡ answer_after opening steps s
+      → Fits opening first count steps rows → slice_get rows p ≡ Some r → is_poke s ≡ false → ((q : ℕ) → is_turn_of q s ≡ true → q ≡ p) →
+      o ≡ answer_after opening steps s
       → Fits opening first count (entered steps s o) (slice_set rows p (told p r s o (length steps)))
   answered count steps rows p r s o = answered_at count steps rows p r s o (is_stalled o) refl
 
-pub follows_last : (opening : MachineLists) (from : ℕ) (steps : List Step) (p : ℕ) (l : Option Answer) → LastFits opening from steps p l → Follows l (length steps)
+pub follows_last : (opening : MachineLists) (from : ℕ) (steps : List Step) (p : ℕ) (l : Option Answer) → LastFits opening from steps p l →
+    Follows l (length steps)
 follows_last opening from steps p None f = tt
 follows_last opening from steps p (Some a) f = f.high
 
 -- ---- the passes of all processors
 
 -- their rows, in order
-pub rows_are : (rows : List Row) (hs : List Held) → length rows ≡ length hs → ((k : ℕ) (h : Held) → slice_get hs k ≡ Some h → slice_get rows k ≡ Some h.row) → rows ≡ rows_of hs
+pub rows_are : (rows : List Row) (hs : List Held) → length rows ≡ length hs → ((k : ℕ) (h : Held) → slice_get hs k ≡ Some h → slice_get rows k ≡ Some h.row) →
+    rows ≡ rows_of hs
 rows_are [] [] e f = refl
 rows_are [] (h ∷ hs) e f = absurd (omega arith)
 rows_are (r ∷ rs) [] e f = absurd (omega arith)
@@ -241,7 +255,8 @@ new_at : (n k : ℕ) (h : Held) → slice_get (new_passes n) k ≡ Some h → (h
 new_at zero k h e = absurd (cc)
 new_at (suc n) k h e = ⊎_elim
     (λ (t : slice_get (new_passes n) k ≡ Some h). new_at n k h t)
-    (λ (t : (k ≡ length (new_passes n)) × (held n new_row ≡ h)). let l = length-new_passes n in let p = ap (λ (x : Held). x.processor) t.1 in (omega arith, sym (ap (λ (x : Held). x.row) t.1)))
+    (λ (t : (k ≡ length (new_passes n)) × (held n new_row ≡ h)). let l = length-new_passes n in let p = ap (λ (x : Held). x.processor) t.1 in
+    (omega arith, sym (ap (λ (x : Held). x.row) t.1)))
     (get-end (new_passes n) (held n new_row) h k e)
 
 get-rows_of : (hs : List Held) (k : ℕ) (r : Row) → slice_get (rows_of hs) k ≡ Some r → (h : Held) × (slice_get hs k ≡ Some h) × (h.row ≡ r)
@@ -254,7 +269,8 @@ whole-new n = record { many = length-new_passes n; own = λ k h e. (new_at n k h
 
 steps_of-new : (n : ℕ) → steps_of (rows_of (new_passes n)) ≡ 0
 steps_of-new zero = refl
-steps_of-new (suc n) = let h = steps_of-new n in ap steps_of (rows_of-push (new_passes n) (held n new_row)) ∙ steps_of-append (rows_of (new_passes n)) (new_row ∷ []) ∙ omega arith
+steps_of-new (suc n) = let h =
+    steps_of-new n in ap steps_of (rows_of-push (new_passes n) (held n new_row)) ∙ steps_of-append (rows_of (new_passes n)) (new_row ∷ []) ∙ omega arith
 
 -- the run at its start
 pub starts : (opening : MachineLists) (first : List Step) (count : ℕ) → Fits opening first count first (rows_of (new_passes count))
@@ -267,7 +283,8 @@ starts opening first count =
       each = λ p r e.
           let g = get-rows_of (new_passes count) p r e in
           let is : r ≡ new_row = sym g.2 ∙ (new_at count p g.0 g.1).1 in
-          subst (λ (x : Row). RowFits opening first first p x) (sym is) record { notices = sym (ap (notices_of opening.config opening.code p (length first) (machine_after opening first)) none); last = tt };
+          subst (λ (x : Row). RowFits opening first first p x)
+          (sym is) record { notices = sym (ap (notices_of opening.config opening.code p (length first) (machine_after opening first)) none); last = tt };
       total = let z = steps_of-new count in omega arith;
     }
 
@@ -282,7 +299,8 @@ get_is (x ∷ xs) zero d v e = cc
 get_is (x ∷ xs) (suc i) d v e = get_is xs i d v e
 
 -- They stay whole where one is another one of the same processor.
-pub whole_set : (n : ℕ) (hs : List Held) (k : ℕ) (h d : Held) → k < length hs → h.processor ≡ (get_or hs k d).processor → IsWhole n hs → IsWhole n (slice_set hs k h)
+pub whole_set : (n : ℕ) (hs : List Held) (k : ℕ) (h d : Held) → k < length hs → h.processor ≡ (get_or hs k d).processor → IsWhole n hs →
+    IsWhole n (slice_set hs k h)
 whole_set n hs k h d less same whole =
     record {
       many = length-slice_set hs k h ∙ whole.many;

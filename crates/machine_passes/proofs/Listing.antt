@@ -1,5 +1,6 @@
 -- A processor's list has the events that the outcomes of the steps tell of it.
-use Rattle.std.proofs.Common.{◌≡◌, ℕ, suc, cond, Bool, true, false, List, [], ◌∷◌, ◌++◌, refl, sym, ap, ◌∙◌, subst, append_assoc, inl, inr, eqb, ◌==◌, ◌≢◌, ◌⊎◌, eq-eqb, ne_eqb}
+use Rattle.std.proofs.Common.{◌≡◌, ℕ, suc, cond, Bool, true, false, List, [], ◌∷◌, ◌++◌, refl, sym, ap, ◌∙◌, subst, append_assoc, inl, inr, eqb, ◌==◌, ◌≢◌}
+use Rattle.std.proofs.Common.{◌⊎◌, eq-eqb, ne_eqb}
 use Rattle.std.specs.Prelude.{map, if◌then◌else◌}
 use Rattle.std.proofs.lemmas.Bool.{cases_eq}
 use Rattle.std.proofs.lemmas.List.{append-nil, map-append}
@@ -22,13 +23,16 @@ abbrev events : List Notice → List Event
 events ns = map (λ n. n.event) ns
 
 -- what stands behind the events of p, where a turn of q shows this one
-behind : (shown : ℕ → List Event) (q p place : ℕ) (e : Event) → put shown q (shown q ++ e ∷ []) p ≡ shown p ++ events (if q == p then record { event = e; place = place } ∷ [] else [])
+behind : (shown : ℕ → List Event) (q p place : ℕ) (e : Event) →
+    put shown q (shown q ++ e ∷ []) p ≡ shown p ++ events (if q == p then record { event = e; place = place } ∷ [] else [])
 unfolding put
 behind shown q p place e = by (cases_eq p q)
   where
     by : (p ≡ q) ⊎ (p ≢ q) → cond (eqb p q) (shown q ++ e ∷ []) (shown p) ≡ shown p ++ events (if q == p then record { event = e; place = place } ∷ [] else [])
-    by (inl same) = subst (λ (r : ℕ). cond (eqb r q) (shown q ++ e ∷ []) (shown r) ≡ shown r ++ events (if q == r then record { event = e; place = place } ∷ [] else [])) (sym same)
-        (ap (λ b. cond b (shown q ++ e ∷ []) (shown q)) (eq-eqb q q refl) ∙ ap (λ b. shown q ++ events (if b then record { event = e; place = place } ∷ [] else [])) (sym (eq-eqb q q refl)))
+    by (inl same) = subst (λ (r : ℕ). cond (eqb r q) (shown q ++ e ∷ []) (shown r)
+        ≡ shown r ++ events (if q == r then record { event = e; place = place } ∷ [] else [])) (sym same)
+        (ap (λ b. cond b (shown q ++ e ∷ []) (shown q)) (eq-eqb q q refl)
+        ∙ ap (λ b. shown q ++ events (if b then record { event = e; place = place } ∷ [] else [])) (sym (eq-eqb q q refl)))
     by (inr other) =
         ap (λ b. cond b (shown q ++ e ∷ []) (shown p)) (ne_eqb p q other) ∙ sym (append-nil (shown p))
         ∙ ap (λ b. shown p ++ events (if b then record { event = e; place = place } ∷ [] else [])) (sym (ne_eqb q p (λ h. other (sym h))))

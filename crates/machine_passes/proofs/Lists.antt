@@ -12,7 +12,8 @@ use Rattle.steps.specs.declared.step.Step.{Step}
 use Rattle.machine_runs.specs.Runs.{all_after}
 use Rattle.machine_passes.specs.Lists.{notices_of, given_to}
 
-pub all_after-append : (c : Config) (code : List ℕ) (M : Machine Told) (xs ys : List Step) → all_after c code M (xs ++ ys) ≡ all_after c code (all_after c code M xs) ys
+pub all_after-append : (c : Config) (code : List ℕ) (M : Machine Told) (xs ys : List Step) →
+    all_after c code M (xs ++ ys) ≡ all_after c code (all_after c code M xs) ys
 unfolding all_after
 all_after-append c code M [] ys = refl
 all_after-append c code M (x ∷ xs) ys = all_after-append c code (after c code M x) xs ys
@@ -25,11 +26,14 @@ notices_joined c code p place M (x ∷ xs) ys =
     let rest = notices_joined c code p (suc place) (after c code M x) xs ys in
     let n : suc place + length xs ≡ place + length (x ∷ xs) = omega arith in
     let M' : Machine Told = all_after c code (after c code M x) xs in
-    ap (λ ns. given_to p place x (outcome_of c code M x) ++ ns) (rest ∙ ap (λ k. notices_of c code p (suc place) (after c code M x) xs ++ notices_of c code p k M' ys) n)
-    ∙ sym (append_assoc (given_to p place x (outcome_of c code M x)) (notices_of c code p (suc place) (after c code M x) xs) (notices_of c code p (place + length (x ∷ xs)) M' ys))
+    ap (λ ns. given_to p place x (outcome_of c code M x) ++ ns)
+    (rest ∙ ap (λ k. notices_of c code p (suc place) (after c code M x) xs ++ notices_of c code p k M' ys) n)
+    ∙ sym (append_assoc (given_to p place x (outcome_of c code M x)) (notices_of c code p (suc place) (after c code M x) xs)
+    (notices_of c code p (place + length (x ∷ xs)) M' ys))
 
 pub notices_pushed : (c : Config) (code : List ℕ) (p place : ℕ) (M : Machine Told) (xs : List Step) (s : Step) →
-    notices_of c code p place M (xs ++ s ∷ []) ≡ notices_of c code p place M xs ++ given_to p (place + length xs) s (outcome_of c code (all_after c code M xs) s)
+    notices_of c code p place M (xs ++ s ∷ []) ≡ notices_of c code p place M xs
+    ++ given_to p (place + length xs) s (outcome_of c code (all_after c code M xs) s)
 notices_pushed c code p place M xs s =
     notices_joined c code p place M xs (s ∷ [])
     ∙ ap (λ ns. notices_of c code p place M xs ++ ns) (append-nil (given_to p (place + length xs) s (outcome_of c code (all_after c code M xs) s)))

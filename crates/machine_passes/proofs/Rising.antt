@@ -33,4 +33,5 @@ joins false o place ns h = lower place ns h
 pub places_rise : (c : Config) (code : List ℕ) (p place : ℕ) (M : Machine Told) (steps : List Step) → IsRising place (notices_of c code p place M steps)
 places_rise c code p place M [] = tt
 places_rise c code p place M (s ∷ ss) =
-    joins (is_turn_of p s) (outcome_of c code M s) place (notices_of c code p (suc place) (after c code M s) ss) (places_rise c code p (suc place) (after c code M s) ss)
+    joins (is_turn_of p s) (outcome_of c code M s) place (notices_of c code p (suc place) (after c code M s) ss)
+    (places_rise c code p (suc place) (after c code M s) ss)

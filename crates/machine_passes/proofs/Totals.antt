@@ -1,5 +1,6 @@
 -- As often as an entry stands in the passes' lists, the steps gave it.
-use Rattle.std.proofs.Common.{◌≡◌, ◌≢◌, ◌⊎◌, ℕ, zero, suc, ◌+◌, ◌<◌, ◌≤◌, Bool, true, false, List, [], ◌∷◌, ◌++◌, length, map, count_by, ◌==◌, drop, refl, sym, ap, ◌∙◌, arith, inl, inr, Some, slice_get, eq-eqb, ne_eqb, ltb-true}
+use Rattle.std.proofs.Common.{◌≡◌, ◌≢◌, ◌⊎◌, ℕ, zero, suc, ◌+◌, ◌<◌, ◌≤◌, Bool, true, false, List, [], ◌∷◌, ◌++◌, length, map, count_by, ◌==◌, drop, refl, sym}
+use Rattle.std.proofs.Common.{ap, ◌∙◌, arith, inl, inr, Some, slice_get, eq-eqb, ne_eqb, ltb-true}
 use Rattle.std.specs.Prelude.{◌&&◌, if◌then◌else◌}
 use Rattle.std.proofs.lemmas.Bool.{cases_eq}
 use Rattle.std.proofs.lemmas.List.{map-append}
@@ -68,7 +69,8 @@ module _ (test : ℕ × Notice → Bool) where
   one p zero q ns low high = absurd (omega arith)
   one p (suc many) q ns low high = by (λ less. one (suc p) many q ns less (omega arith)) (cases_eq p q)
     where
-      by : (suc p ≤ q → times (lists (suc p) many (only q ns)) ≡ times (of q ns)) → (p ≡ q) ⊎ (p ≢ q) → times (of p (only q ns p) ++ lists (suc p) many (only q ns)) ≡ times (of q ns)
+      by : (suc p ≤ q → times (lists (suc p) many (only q ns)) ≡ times (of q ns)) → (p ≡ q) ⊎ (p ≢ q) →
+          times (of p (only q ns p) ++ lists (suc p) many (only q ns)) ≡ times (of q ns)
       by behind (inl same) =
           let here : only q ns p ≡ ns = ap (λ b. if b then ns else []) (eq-eqb q p (sym same)) in
           let rest = above (suc p) many q ns (omega arith) in
@@ -81,7 +83,8 @@ module _ (test : ℕ × Notice → Bool) where
           ap (λ ms. times (of p ms ++ lists (suc p) many (only q ns))) no ∙ behind less
 
   -- what one step gives
-  step_gives : (count place : ℕ) (s : Step) (o : Outcome) → is_turn_below count s ≡ true → times (lists 0 count (λ p. given_to p place s o)) ≡ times (given place s o)
+  step_gives : (count place : ℕ) (s : Step) (o : Outcome) → is_turn_below count s ≡ true →
+      times (lists 0 count (λ p. given_to p place s o)) ≡ times (given place s o)
   step_gives count place (step.Turn q) o h = one 0 count q (shown_at place o) (omega arith) (let less = ltb-true q count h in omega arith)
   step_gives count place (step.Up s w) o h = none 0 count
   step_gives count place (step.Serve m) o h = none 0 count
@@ -102,7 +105,8 @@ module _ (test : ℕ × Notice → Bool) where
       omega arith
 
 -- the lists of the passes, in order
-stored_are : (hs : List Held) (p : ℕ) (f : ℕ → List Notice) → ((k : ℕ) (h : Held) → slice_get hs k ≡ Some h → (h.processor ≡ p + k) × (h.row.notices ≡ f (p + k))) → all_stored hs ≡ lists p (length hs) f
+stored_are : (hs : List Held) (p : ℕ) (f : ℕ → List Notice) →
+    ((k : ℕ) (h : Held) → slice_get hs k ≡ Some h → (h.processor ≡ p + k) × (h.row.notices ≡ f (p + k))) → all_stored hs ≡ lists p (length hs) f
 stored_are [] p f is = refl
 stored_are (h ∷ hs) p f is =
     let here = is zero h refl in
@@ -119,7 +123,8 @@ get-rows [] k h e = absurd (cc)
 get-rows (x ∷ hs) zero h e = let is : x ≡ h = cc in ap (λ (y : Held). Some y.row) is
 get-rows (x ∷ hs) (suc k) h e = get-rows hs k h e
 
-pub totals_agree : (opening : MachineLists) (first : List Step) (count : ℕ) (steps : List Step) (hs : List Held) → IsWhole count hs → Fits opening first count steps (rows_of hs) →
+pub totals_agree : (opening : MachineLists) (first : List Step) (count : ℕ) (steps : List Step) (hs : List Held) → IsWhole count hs →
+    Fits opening first count steps (rows_of hs) →
     (test : ℕ × Notice → Bool) → count_by test (all_stored hs) ≡ count_by test (all_since opening first steps)
 totals_agree opening first count steps hs whole fits test =
     let f : ℕ → List Notice = (λ p. notices_since opening first p steps) in

@@ -15,7 +15,8 @@ PlacesRise = (c : Config) (code : List ℕ) (p place : ℕ) (M : theory.Machine 
 -- The list over steps and more steps is that over the steps, and then that over the others, from their place on.
 abbrev pub ListsAreJoined : Type 0
 ListsAreJoined = (c : Config) (code : List ℕ) (p place : ℕ) (M : theory.Machine Told) (steps more : List Step) →
-    notices_of c code p place M (steps ++ more) ≡ notices_of c code p place M steps ++ notices_of c code p (place + length steps) (all_after c code M steps) more
+    notices_of c code p place M (steps ++ more) ≡ notices_of c code p place M steps
+    ++ notices_of c code p (place + length steps) (all_after c code M steps) more
 
 -- A processor's list has the events that the outcomes of the steps tell of it, in their order.
 abbrev pub EventsAreListed : Type 0

@@ -47,7 +47,8 @@ unfolding StoresWord call_of
 call_stores s a7 a0 = by_call (eqb a7 0) (eqb a7 1) (eqb a7 2) (eqb a7 3)
   where
     by_call : (halt print own all : Bool) →
-        StoresWord (cond halt (does.Halt (a0 % 256)) (cond print (does.Print (a0 % 256)) (cond own (does.Write 10 s.number) (cond all (does.Write 10 s.processors) (does.Fail UnknownCall)))))
+        StoresWord (cond halt (does.Halt (a0 % 256)) (cond print (does.Print (a0 % 256))
+        (cond own (does.Write 10 s.number) (cond all (does.Write 10 s.processors) (does.Fail UnknownCall)))))
     by_call true print own all = tt
     by_call false true own all = tt
     by_call false false true all = tt
@@ -66,7 +67,8 @@ effect_stores s pc registers (OpImm op rd rs1 imm) all = tt
 effect_stores s pc registers (Shift op rd rs1 amount) all = tt
 effect_stores s pc registers (Load op rd rs1 imm) all = tt
 effect_stores s pc registers (Store op rs1 rs2 imm) all = register_small registers rs2 all
-effect_stores s pc registers (Branch op rs1 rs2 offset) all = branch_stores (is_taken op (register_of registers rs1) (register_of registers rs2)) (plus pc (extended 13 (2 * offset)))
+effect_stores s pc registers (Branch op rs1 rs2 offset) all =
+    branch_stores (is_taken op (register_of registers rs1) (register_of registers rs2)) (plus pc (extended 13 (2 * offset)))
 effect_stores s pc registers (Upper Lui rd upper) all = tt
 effect_stores s pc registers (Upper Auipc rd upper) all = tt
 effect_stores s pc registers (Jal rd offset) all = tt
@@ -106,7 +108,8 @@ module _ (s : Setting) (code : List ℕ) (p : Processor) (i : Insn) where
   performed_means (does.Jump rd value target) small = jump_means (phi_of_effect (does.Jump rd value target)) rd value target (eqb (target % 4) 0)
   performed_means does.Pass small = tt
   performed_means (does.Load op rd address) small =
-      accessed_means (load_size op) address rd (loaded op) (λ old. old) false load_phi (λ aligned. load_range) (λ aligned. load_means) (region_of s (load_size op) address false) refl
+      accessed_means (load_size op) address rd (loaded op) (λ old. old) false load_phi (λ aligned. load_range) (λ aligned. load_means)
+      (region_of s (load_size op) address false) refl
   performed_means (does.Store op address value) small =
       accessed_means (store_size op) address 0 (λ old. 0) (λ old. value) true (store_phi (store_size op) (address % 4) value)
       (λ aligned. store_range (store_size op) (address % 4) value (store_inside op address aligned))
@@ -115,7 +118,8 @@ module _ (s : Setting) (code : List ℕ) (p : Processor) (i : Insn) where
   performed_means (does.Amo op rd address value) small =
       accessed_means 4 address rd (λ old. old) (λ old. amo_value op old value) true (amo_phi op value)
       (λ aligned. amo_range op value small)
-      (λ aligned x h. amo_means op value x small h ∙ sym (whole_change (λ old. amo_value op old value) (address % 4) x aligned h (amo_small op x value h small)))
+      (λ aligned x h. amo_means op value x small h ∙ sym
+      (whole_change (λ old. amo_value op old value) (address % 4) x aligned h (amo_small op x value h small)))
       (region_of s 4 address true) refl
   performed_means (does.Print byte) small = tt
   performed_means (does.Halt byte) small = tt
@@ -134,7 +138,8 @@ reference_means s code p word change after h reaches = subst (Means s (phi_of_in
 
 -- ---- each fact alone
 
-module _ (s : Setting) (code : List ℕ) (p : Processor) (word : ℕ) (change : ℕ → ℕ) (after : ℕ → Processor × Retired) (h : HasWords p) (reaches : turn_of s code p ≡ Reaches word change after) where
+module _ (s : Setting) (code : List ℕ) (p : Processor) (word : ℕ) (change : ℕ → ℕ) (after : ℕ →
+    Processor × Retired) (h : HasWords p) (reaches : turn_of s code p ≡ Reaches word change after) where
   pub reference_in_range : IsInRange (reference_phi s code p)
   reference_in_range = (reference_means s code p word change after h reaches).0
 

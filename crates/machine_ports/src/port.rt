@@ -119,7 +119,8 @@ impl Port {
     /// nothing changes. A `pc` is divisible by 4.
     pub fn poke_register(&mut self, register: u8, value: u32) -> bool
         ensures lawful { result ≡ is_lawful_register register value }
-        ensures written { self.new ≡ (if is_lawful_register register value then with_state self.old (with_poked_register register value self.old.core.state) else self.old) }
+        ensures written { self.new ≡ (if is_lawful_register register value then with_state self.old (with_poked_register register value self.old.core.state)
+            else self.old) }
     {
         match register {
             PC if value % 4 == 0 => self.core.set_pc(value),

@@ -2,24 +2,17 @@
 
 -- What a lawful poke writes is what it writes of the flat machine.
 pub use Rattle.machine_program.proofs.FlatPokes.{lawful_same, lawful_writes, parts_of, size_written, written_agrees}
-
 -- Moves of messages are steps of the machine.
 pub use Rattle.machine_program.proofs.MoveSteps.{goes_down, goes_up, no_stage_down, no_stage_up, no_wire_down, no_wire_up}
-
 -- Writes from outside are steps of the machine.
 pub use Rattle.machine_program.proofs.PokeSteps.{byte_poked, not_idle, register_poked, shut_all, unlawful, word_poked}
-
 -- Lists, read as functions of places.
 pub use Rattle.machine_program.proofs.Reading.{found_within, read_found, read_none, read_set, told_set}
-
 -- Services are steps of the machine.
 pub use Rattle.machine_program.proofs.ServeSteps.{applied_word, no_module, no_place, no_request, serves, words_set}
-
 -- What a steady machine has where: that its handlers find things as they need them, and that it stays steady.
 pub use Rattle.machine_program.proofs.Standing.{at_its_module, refers, retold, slot_free, stays_steady, word_there}
-
 -- What the kind of a processor's turn says of the turn.
 pub use Rattle.machine_program.proofs.TurnKinds.{reaches_of, runs_by}
-
 -- Turns are steps of the machine.
 pub use Rattle.machine_program.proofs.TurnSteps.{begins, finishes, rests, unnamed}

@@ -1,5 +1,6 @@
 -- Moves of messages are steps of the machine.
-use Rattle.std.proofs.Common.{◌≡◌, ℕ, suc, ◌%◌, ◌^◌, ◌<◌, ◌≤◌, Bool, true, false, List, [], ◌∷◌, ◌++◌, length, nat_lt, Option, Some, None, refl, sym, ap, ◌∙◌, subst, lt-ltb, le-ltb}
+use Rattle.std.proofs.Common.{◌≡◌, ℕ, suc, ◌%◌, ◌^◌, ◌<◌, ◌≤◌, Bool, true, false, List, [], ◌∷◌, ◌++◌, length, nat_lt, Option, Some, None, refl, sym, ap, ◌∙◌}
+use Rattle.std.proofs.Common.{subst, lt-ltb, le-ltb}
 use Rattle.std.specs.Prelude.{if◌then◌else◌}
 use Rattle.flat_machine.specs.declared.config.Config.{Config}
 use Rattle.flat_machine.specs.declared.event.Event.{Event}
@@ -35,11 +36,13 @@ pick_down b x y = if b then x else y
 queue_stalls : (z : Sizes) (net before : Net) (s w : ℕ) (x : Request) → (queued z net before s w x).0 ≡ up.Stalled → (queued z net before s w x).1 ≡ net
 queue_stalls z net before s w x e = go (nat_lt (length (before.requests (suc s) w)) z.c) e
   where
-    go : (b : Bool) → (pick_up b (up.Moved, put_requests before (suc s) w (before.requests (suc s) w ++ unmarked x ∷ [])) (up.Stalled, net)).0 ≡ up.Stalled → (pick_up b (up.Moved, put_requests before (suc s) w (before.requests (suc s) w ++ unmarked x ∷ [])) (up.Stalled, net)).1 ≡ net
+    go : (b : Bool) → (pick_up b (up.Moved, put_requests before (suc s) w (before.requests (suc s) w ++ unmarked x ∷ [])) (up.Stalled, net)).0 ≡ up.Stalled →
+        (pick_up b (up.Moved, put_requests before (suc s) w (before.requests (suc s) w ++ unmarked x ∷ [])) (up.Stalled, net)).1 ≡ net
     go true f = absurd (cc)
     go false f = refl
 
-accept_stalls : (z : Sizes) (net before : Net) (s w : ℕ) (x : Request) (o : Option Combination) → (accepted z net before s w x o).0 ≡ up.Stalled → (accepted z net before s w x o).1 ≡ net
+accept_stalls : (z : Sizes) (net before : Net) (s w : ℕ) (x : Request) (o : Option Combination) → (accepted z net before s w x o).0 ≡ up.Stalled →
+    (accepted z net before s w x o).1 ≡ net
 accept_stalls z net before s w x None e = queue_stalls z net before s w x e
 accept_stalls z net before s w x (Some j) e = absurd (cc)
 
@@ -54,7 +57,8 @@ up_stalls : (z : Sizes) (net : Net) (s w : ℕ) → (moved_up z net s w).0 ≡ u
 unfolding moved_up
 up_stalls z net s w e = go (nat_lt s z.k) e
   where
-    go : (b : Bool) → (pick_up b (up_from z net s w (net.requests s w)) (up.Stalled, net)).0 ≡ up.Stalled → (pick_up b (up_from z net s w (net.requests s w)) (up.Stalled, net)).1 ≡ net
+    go : (b : Bool) → (pick_up b (up_from z net s w (net.requests s w)) (up.Stalled, net)).0 ≡ up.Stalled →
+        (pick_up b (up_from z net s w (net.requests s w)) (up.Stalled, net)).1 ≡ net
     go true f = up_from_stalls z net s w (net.requests s w) f
     go false f = refl
 
@@ -62,13 +66,21 @@ answered_moves : (records : List Record) → answered records ≡ down.Stalled �
 answered_moves [] e = cc
 answered_moves (r ∷ rs) e = cc
 
-answer_stalls : (z : Sizes) (net before : Net) (s w : ℕ) (x : Reply) (records : List Record) → (answer z net before s w x records).0 ≡ down.Stalled → (answer z net before s w x records).1 ≡ net
+answer_stalls : (z : Sizes) (net before : Net) (s w : ℕ) (x : Reply) (records : List Record) → (answer z net before s w x records).0 ≡ down.Stalled →
+    (answer z net before s w x records).1 ≡ net
 answer_stalls z net before s w x records e = go (has_room z.c (wire_before z.k s w) s all (answers records x)) e
   where
     all : Net
     all = push_all (wire_before z.k s w) s (answers records x) (put_records before s w (records_but x.leader (before.records s w)))
 
-    go : (b : Bool) → (pick_down b (answered records, push_all (wire_before z.k s w) s (answers records x) (put_records before s w (records_but x.leader (before.records s w)))) (down.Stalled, net)).0 ≡ down.Stalled → (pick_down b (answered records, push_all (wire_before z.k s w) s (answers records x) (put_records before s w (records_but x.leader (before.records s w)))) (down.Stalled, net)).1 ≡ net
+    go : (b : Bool) → (pick_down b (
+      answered records,
+      push_all (wire_before z.k s w) s (answers records x) (put_records before s w (records_but x.leader (before.records s w))),
+    ) (down.Stalled, net)).0
+        ≡ down.Stalled → (pick_down b (
+          answered records,
+          push_all (wire_before z.k s w) s (answers records x) (put_records before s w (records_but x.leader (before.records s w))),
+        ) (down.Stalled, net)).1 ≡ net
     go true f = absurd (answered_moves records f)
     go false f = refl
 
@@ -80,7 +92,8 @@ down_stalls : (z : Sizes) (net : Net) (s w : ℕ) → (moved_down z net s w).0 �
 unfolding moved_down
 down_stalls z net s w e = go (nat_lt s z.k) e
   where
-    go : (b : Bool) → (pick_down b (down_from z net s w (net.replies (suc s) w)) (down.Stalled, net)).0 ≡ down.Stalled → (pick_down b (down_from z net s w (net.replies (suc s) w)) (down.Stalled, net)).1 ≡ net
+    go : (b : Bool) → (pick_down b (down_from z net s w (net.replies (suc s) w)) (down.Stalled, net)).0 ≡ down.Stalled →
+        (pick_down b (down_from z net s w (net.replies (suc s) w)) (down.Stalled, net)).1 ≡ net
     go true f = down_from_stalls z net s w (net.replies (suc s) w) f
     go false f = refl
 
@@ -90,36 +103,44 @@ module _ (c : Config) (code : List ℕ) (net : Net) (ports : List PortState) (mo
   abbrev M : (ℕ → List Event) → Machine Told
   M shown = machine_of_parts c net ports modules shown
 
-  up_by : (s w : ℕ) (q : UpMove × Net) → moved_up (sizes_of c) net s w ≡ q → w < 2 ^ c.k → IsStepOf c code net ports modules (step.Up s w) (told_of_up q.0) q.1 ports modules
+  up_by : (s w : ℕ) (q : UpMove × Net) → moved_up (sizes_of c) net s w ≡ q → w < 2 ^ c.k →
+      IsStepOf c code net ports modules (step.Up s w) (told_of_up q.0) q.1 ports modules
   unfolding machine_of_parts
   up_by s w (up.Stalled, n) e within = step_of c code net n ports ports modules modules (step.Up s w) Stalled (record {
     result = λ shown. went_up (M shown) (up.Stalled, n);
-    is = λ shown. ap (λ b. if b then went_up (M shown) (moved_up (sizes_of c) net s w) else stalled (M shown)) (lt-ltb w (2 ^ c.k) within) ∙ ap (went_up (M shown)) e;
+    is = λ shown. ap (λ b. if b then went_up (M shown) (moved_up (sizes_of c) net s w) else stalled (M shown)) (lt-ltb w (2 ^ c.k) within)
+        ∙ ap (went_up (M shown)) e;
     answers = refl;
-    leaves = λ shown. ap (λ n. machine_of_parts c n ports modules shown) (sym (ap (λ (q : UpMove × Net). q.1) e) ∙ up_stalls (sizes_of c) net s w (ap (λ (q : UpMove × Net). q.0) e));
+    leaves = λ shown. ap (λ n. machine_of_parts c n ports modules shown)
+        (sym (ap (λ (q : UpMove × Net). q.1) e) ∙ up_stalls (sizes_of c) net s w (ap (λ (q : UpMove × Net). q.0) e));
   })
   up_by s w (up.Moved, n) e within = step_of c code net n ports ports modules modules (step.Up s w) Moved (record {
     result = λ shown. went_up (M shown) (up.Moved, n);
-    is = λ shown. ap (λ b. if b then went_up (M shown) (moved_up (sizes_of c) net s w) else stalled (M shown)) (lt-ltb w (2 ^ c.k) within) ∙ ap (went_up (M shown)) e;
+    is = λ shown. ap (λ b. if b then went_up (M shown) (moved_up (sizes_of c) net s w) else stalled (M shown)) (lt-ltb w (2 ^ c.k) within)
+        ∙ ap (went_up (M shown)) e;
     answers = refl;
     leaves = λ shown. refl;
   })
   up_by s w (up.Combined first second, n) e within = step_of c code net n ports ports modules modules (step.Up s w) (Combined first second) (record {
     result = λ shown. went_up (M shown) (up.Combined first second, n);
-    is = λ shown. ap (λ b. if b then went_up (M shown) (moved_up (sizes_of c) net s w) else stalled (M shown)) (lt-ltb w (2 ^ c.k) within) ∙ ap (went_up (M shown)) e;
+    is = λ shown. ap (λ b. if b then went_up (M shown) (moved_up (sizes_of c) net s w) else stalled (M shown)) (lt-ltb w (2 ^ c.k) within)
+        ∙ ap (went_up (M shown)) e;
     answers = refl;
     leaves = λ shown. refl;
   })
 
-  pub goes_up : (s w : ℕ) (r : UpMove) (net' : Net) → w < 2 ^ c.k → r ≡ (moved_up (sizes_of c) net s w).0 → net' ≡ (moved_up (sizes_of c) net s w).1 → IsStepOf c code net ports modules (step.Up s w) (told_of_up r) net' ports modules
+  pub goes_up : (s w : ℕ) (r : UpMove) (net' : Net) → w < 2 ^ c.k → r ≡ (moved_up (sizes_of c) net s w).0 → net' ≡ (moved_up (sizes_of c) net s w).1 →
+      IsStepOf c code net ports modules (step.Up s w) (told_of_up r) net' ports modules
   goes_up s w r net' within outcome after =
-      subst (λ (q : UpMove × Net). IsStepOf c code net ports modules (step.Up s w) (told_of_up q.0) q.1 ports modules) (λ i. (sym outcome i, sym after i)) (up_by s w (moved_up (sizes_of c) net s w) refl within)
+      subst (λ (q : UpMove × Net). IsStepOf c code net ports modules (step.Up s w) (told_of_up q.0) q.1 ports modules) (λ i. (sym outcome i, sym after i))
+      (up_by s w (moved_up (sizes_of c) net s w) refl within)
 
   pub no_stage_up : (s w : ℕ) → (c.k ≤ s) → IsStepOf c code net ports modules (step.Up s w) Stalled net ports modules
   unfolding machine_of_parts moved_up
   no_stage_up s w past = step_of c code net net ports ports modules modules (step.Up s w) Stalled (record {
     result = λ shown. stalled (M shown);
-    is = λ shown. ap (λ b. if nat_lt w (2 ^ c.k) then went_up (M shown) (if b then up_from (sizes_of c) net s w (net.requests s w) else (up.Stalled, net)) else stalled (M shown)) (le-ltb s c.k past) ∙ either (nat_lt w (2 ^ c.k)) shown;
+    is = λ shown. ap (λ b. if nat_lt w (2 ^ c.k) then went_up (M shown) (if b then up_from (sizes_of c) net s w (net.requests s w) else (up.Stalled, net))
+        else stalled (M shown)) (le-ltb s c.k past) ∙ either (nat_lt w (2 ^ c.k)) shown;
     answers = refl;
     leaves = λ shown. refl;
   })
@@ -137,36 +158,44 @@ module _ (c : Config) (code : List ℕ) (net : Net) (ports : List PortState) (mo
     leaves = λ shown. refl;
   })
 
-  down_by : (s w : ℕ) (q : DownMove × Net) → moved_down (sizes_of c) net s w ≡ q → w < 2 ^ c.k → IsStepOf c code net ports modules (step.Down s w) (told_of_down q.0) q.1 ports modules
+  down_by : (s w : ℕ) (q : DownMove × Net) → moved_down (sizes_of c) net s w ≡ q → w < 2 ^ c.k →
+      IsStepOf c code net ports modules (step.Down s w) (told_of_down q.0) q.1 ports modules
   unfolding machine_of_parts
   down_by s w (down.Stalled, n) e within = step_of c code net n ports ports modules modules (step.Down s w) Stalled (record {
     result = λ shown. went_down (M shown) (down.Stalled, n);
-    is = λ shown. ap (λ b. if b then went_down (M shown) (moved_down (sizes_of c) net s w) else stalled (M shown)) (lt-ltb w (2 ^ c.k) within) ∙ ap (went_down (M shown)) e;
+    is = λ shown. ap (λ b. if b then went_down (M shown) (moved_down (sizes_of c) net s w) else stalled (M shown)) (lt-ltb w (2 ^ c.k) within)
+        ∙ ap (went_down (M shown)) e;
     answers = refl;
-    leaves = λ shown. ap (λ n. machine_of_parts c n ports modules shown) (sym (ap (λ (q : DownMove × Net). q.1) e) ∙ down_stalls (sizes_of c) net s w (ap (λ (q : DownMove × Net). q.0) e));
+    leaves = λ shown. ap (λ n. machine_of_parts c n ports modules shown)
+        (sym (ap (λ (q : DownMove × Net). q.1) e) ∙ down_stalls (sizes_of c) net s w (ap (λ (q : DownMove × Net). q.0) e));
   })
   down_by s w (down.Moved, n) e within = step_of c code net n ports ports modules modules (step.Down s w) Moved (record {
     result = λ shown. went_down (M shown) (down.Moved, n);
-    is = λ shown. ap (λ b. if b then went_down (M shown) (moved_down (sizes_of c) net s w) else stalled (M shown)) (lt-ltb w (2 ^ c.k) within) ∙ ap (went_down (M shown)) e;
+    is = λ shown. ap (λ b. if b then went_down (M shown) (moved_down (sizes_of c) net s w) else stalled (M shown)) (lt-ltb w (2 ^ c.k) within)
+        ∙ ap (went_down (M shown)) e;
     answers = refl;
     leaves = λ shown. refl;
   })
   down_by s w (down.Answered to, n) e within = step_of c code net n ports ports modules modules (step.Down s w) (Answered to) (record {
     result = λ shown. went_down (M shown) (down.Answered to, n);
-    is = λ shown. ap (λ b. if b then went_down (M shown) (moved_down (sizes_of c) net s w) else stalled (M shown)) (lt-ltb w (2 ^ c.k) within) ∙ ap (went_down (M shown)) e;
+    is = λ shown. ap (λ b. if b then went_down (M shown) (moved_down (sizes_of c) net s w) else stalled (M shown)) (lt-ltb w (2 ^ c.k) within)
+        ∙ ap (went_down (M shown)) e;
     answers = refl;
     leaves = λ shown. refl;
   })
 
-  pub goes_down : (s w : ℕ) (r : DownMove) (net' : Net) → w < 2 ^ c.k → r ≡ (moved_down (sizes_of c) net s w).0 → net' ≡ (moved_down (sizes_of c) net s w).1 → IsStepOf c code net ports modules (step.Down s w) (told_of_down r) net' ports modules
+  pub goes_down : (s w : ℕ) (r : DownMove) (net' : Net) → w < 2 ^ c.k → r ≡ (moved_down (sizes_of c) net s w).0 → net' ≡ (moved_down (sizes_of c) net s w).1 →
+      IsStepOf c code net ports modules (step.Down s w) (told_of_down r) net' ports modules
   goes_down s w r net' within outcome after =
-      subst (λ (q : DownMove × Net). IsStepOf c code net ports modules (step.Down s w) (told_of_down q.0) q.1 ports modules) (λ i. (sym outcome i, sym after i)) (down_by s w (moved_down (sizes_of c) net s w) refl within)
+      subst (λ (q : DownMove × Net). IsStepOf c code net ports modules (step.Down s w) (told_of_down q.0) q.1 ports modules)
+      (λ i. (sym outcome i, sym after i)) (down_by s w (moved_down (sizes_of c) net s w) refl within)
 
   pub no_stage_down : (s w : ℕ) → (c.k ≤ s) → IsStepOf c code net ports modules (step.Down s w) Stalled net ports modules
   unfolding machine_of_parts moved_down
   no_stage_down s w past = step_of c code net net ports ports modules modules (step.Down s w) Stalled (record {
     result = λ shown. stalled (M shown);
-    is = λ shown. ap (λ b. if nat_lt w (2 ^ c.k) then went_down (M shown) (if b then down_from (sizes_of c) net s w (net.replies (suc s) w) else (down.Stalled, net)) else stalled (M shown)) (le-ltb s c.k past) ∙ either (nat_lt w (2 ^ c.k)) shown;
+    is = λ shown. ap (λ b. if nat_lt w (2 ^ c.k) then went_down (M shown) (if b then down_from (sizes_of c) net s w (net.replies (suc s) w)
+        else (down.Stalled, net)) else stalled (M shown)) (le-ltb s c.k past) ∙ either (nat_lt w (2 ^ c.k)) shown;
     answers = refl;
     leaves = λ shown. refl;
   })

@@ -32,11 +32,13 @@ module _ (c : Config) (code : List ℕ) (net : Net) (ports : List PortState) (mo
   abbrev M : (ℕ → List Event) → Machine Told
   M shown = machine_of_parts c net ports modules shown
 
-  poke_by : (q : Poke) (b : Bool) → (all_shut (2 ^ c.k) (open_at ports) && is_lawful_poke c q) ≡ b → (shown : ℕ → List Event) → taken c code (M shown) (step.Poke q) ≡ (if b then poked (program c code) (M shown) q else stalled (M shown))
+  poke_by : (q : Poke) (b : Bool) → (all_shut (2 ^ c.k) (open_at ports) && is_lawful_poke c q) ≡ b → (shown : ℕ → List Event) →
+      taken c code (M shown) (step.Poke q) ≡ (if b then poked (program c code) (M shown) q else stalled (M shown))
   unfolding machine_of_parts
   poke_by q b e shown = ap (λ b. if b then poked (program c code) (M shown) q else stalled (M shown)) e
 
-  pub poke_refused : (q : Poke) → (all_shut (2 ^ c.k) (open_at ports) && is_lawful_poke c q) ≡ false → IsStepOf c code net ports modules (step.Poke q) Stalled net ports modules
+  pub poke_refused : (q : Poke) → (all_shut (2 ^ c.k) (open_at ports) && is_lawful_poke c q) ≡ false →
+      IsStepOf c code net ports modules (step.Poke q) Stalled net ports modules
   unfolding machine_of_parts
   poke_refused q e = step_of c code net net ports ports modules modules (step.Poke q) Stalled (record {
     result = λ shown. stalled (M shown);
@@ -45,7 +47,8 @@ module _ (c : Config) (code : List ℕ) (net : Net) (ports : List PortState) (mo
     leaves = λ shown. refl;
   })
 
-  pub not_idle : (q : Poke) → (((p : ℕ) → p < 2 ^ c.k → open_at ports p ≡ false) → ⊥) → IsStepOf c code net ports modules (step.Poke q) Stalled net ports modules
+  pub not_idle : (q : Poke) → (((p : ℕ) → p < 2 ^ c.k → open_at ports p ≡ false) → ⊥) →
+      IsStepOf c code net ports modules (step.Poke q) Stalled net ports modules
   not_idle q busy = poke_refused q (by (all_shut (2 ^ c.k) (open_at ports)) refl)
     where
       by : (b : Bool) → all_shut (2 ^ c.k) (open_at ports) ≡ b → (all_shut (2 ^ c.k) (open_at ports) && is_lawful_poke c q) ≡ false
@@ -60,41 +63,51 @@ module _ (c : Config) (code : List ℕ) (net : Net) (ports : List PortState) (mo
     unlawful q e = poke_refused q (ap₂ (λ a b. a && b) shut e)
 
     -- a port changes
-    port_poked : (q : Poke) (p : ℕ) (change : Processor → Processor) → p < length ports → is_lawful_poke c q ≡ true → poked_words q (word_at c.k modules) ≡ word_at c.k modules →
+    port_poked : (q : Poke) (p : ℕ) (change : Processor → Processor) → p < length ports → is_lawful_poke c q ≡ true →
+        poked_words q (word_at c.k modules) ≡ word_at c.k modules →
         ((core : ℕ → Told) → poked_processors q core ≡ put core p (changed change (core p))) →
-        IsStepOf c code net ports modules (step.Poke q) Poked net (slice_set ports p (with_state (port_at ports p) (change (port_at ports p).core.state))) modules
+        IsStepOf c code net ports modules (step.Poke q) Poked net
+        (slice_set ports p (with_state (port_at ports p) (change (port_at ports p).core.state))) modules
     unfolding machine_of_parts
-    port_poked q p change inside lawful words by = step_of c code net net ports (slice_set ports p (with_state (port_at ports p) (change (port_at ports p).core.state))) modules modules (step.Poke q) Poked (record {
-      result = λ shown. poked (program c code) (M shown) q;
-      is = λ shown. poke_by q true (ap₂ (λ a b. a && b) shut lawful) shown;
-      answers = refl;
-      leaves = λ shown.
-          ap₂ (λ (f : ℕ → Told) (b : ℕ → Bool). record { net = net; mem = word_at c.k modules; core = f; is_open = b })
-          (core_changed ports p (with_state (port_at ports p) (change (port_at ports p).core.state)) inside shown)
-          (open_kept ports p (with_state (port_at ports p) (change (port_at ports p).core.state)) inside refl)
-          ∙ ap₂ (λ w (f : ℕ → Told). record { net = net; mem = w; core = f; is_open = open_at ports }) (sym words) (sym (by (told_at ports shown)));
-    })
+    port_poked q p change inside lawful words by = step_of c code net net ports
+        (slice_set ports p (with_state (port_at ports p) (change (port_at ports p).core.state))) modules modules (step.Poke q) Poked (record {
+          result = λ shown. poked (program c code) (M shown) q;
+          is = λ shown. poke_by q true (ap₂ (λ a b. a && b) shut lawful) shown;
+          answers = refl;
+          leaves = λ shown.
+              ap₂ (λ (f : ℕ → Told) (b : ℕ → Bool). record { net = net; mem = word_at c.k modules; core = f; is_open = b })
+              (core_changed ports p (with_state (port_at ports p) (change (port_at ports p).core.state)) inside shown)
+              (open_kept ports p (with_state (port_at ports p) (change (port_at ports p).core.state)) inside refl)
+              ∙ ap₂ (λ w (f : ℕ → Told). record { net = net; mem = w; core = f; is_open = open_at ports }) (sym words) (sym (by (told_at ports shown)));
+        })
 
     pub register_poked : (p register value : ℕ) → p < 2 ^ c.k → p < length ports → value < 2 ^ 32 → is_lawful_register register value ≡ true →
-        IsStepOf c code net ports modules (step.Poke (poke.Register p register value)) Poked net (slice_set ports p (with_state (port_at ports p) (with_poked_register register value (port_at ports p).core.state))) modules
+        IsStepOf c code net ports modules (step.Poke (poke.Register p register value)) Poked net
+        (slice_set ports p (with_state (port_at ports p) (with_poked_register register value (port_at ports p).core.state))) modules
     register_poked p register value within inside small lawful =
-        port_poked (poke.Register p register value) p (with_poked_register register value) inside (ap₂ (λ a b. a && b) (lt-ltb value (2 ^ 32) small) (ap₂ (λ a b. a && b) (lt-ltb p (2 ^ c.k) within) lawful)) refl (λ core. refl)
+        port_poked (poke.Register p register value) p (with_poked_register register value) inside
+        (ap₂ (λ a b. a && b) (lt-ltb value (2 ^ 32) small) (ap₂ (λ a b. a && b) (lt-ltb p (2 ^ c.k) within) lawful)) refl (λ core. refl)
 
     pub byte_poked : (p address value : ℕ) → p < 2 ^ c.k → p < length ports → value < 256 → in_local address ≡ true →
-        IsStepOf c code net ports modules (step.Poke (poke.Local p address value)) Poked net (slice_set ports p (with_state (port_at ports p) (with_poked_byte address value (port_at ports p).core.state))) modules
+        IsStepOf c code net ports modules (step.Poke (poke.Local p address value)) Poked net
+        (slice_set ports p (with_state (port_at ports p) (with_poked_byte address value (port_at ports p).core.state))) modules
     byte_poked p address value within inside small lawful =
-        port_poked (poke.Local p address value) p (with_poked_byte address value) inside (ap₂ (λ a b. a && b) (lt-ltb value 256 small) (ap₂ (λ a b. a && b) (lt-ltb p (2 ^ c.k) within) lawful)) refl (λ core. refl)
+        port_poked (poke.Local p address value) p (with_poked_byte address value) inside
+        (ap₂ (λ a b. a && b) (lt-ltb value 256 small) (ap₂ (λ a b. a && b) (lt-ltb p (2 ^ c.k) within) lawful)) refl (λ core. refl)
 
-    pub word_poked : (address value number : ℕ) (memory' : List ℕ) → value < 256 → in_shared c.shared_words address ≡ true → (address - 2 ^ 31) / 4 % 2 ^ c.k ≡ number → number < length modules →
+    pub word_poked : (address value number : ℕ) (memory' : List ℕ) → value < 256 → in_shared c.shared_words address ≡ true →
+        (address - 2 ^ 31) / 4 % 2 ^ c.k ≡ number → number < length modules →
         (address - 2 ^ 31) / 4 / 2 ^ c.k < length (slice_index_or modules number []) →
-        memory' ≡ slice_set (slice_index_or modules number []) ((address - 2 ^ 31) / 4 / 2 ^ c.k) (with_part 1 (address % 4) (slice_index (slice_index_or modules number []) ((address - 2 ^ 31) / 4 / 2 ^ c.k)) value) →
+        memory' ≡ slice_set (slice_index_or modules number []) ((address - 2 ^ 31) / 4 / 2 ^ c.k)
+        (with_part 1 (address % 4) (slice_index (slice_index_or modules number []) ((address - 2 ^ 31) / 4 / 2 ^ c.k)) value) →
         IsStepOf c code net ports modules (step.Poke (poke.Shared address value)) Poked net ports (slice_set modules number memory')
     unfolding machine_of_parts
     word_poked address value number memory' small lawful is there place memory =
         let word : ℕ = (address - 2 ^ 31) / 4 in
         let old : ℕ = slice_index (slice_index_or modules number []) (word / 2 ^ c.k) in
         let found : word_at c.k modules word ≡ old = ap (λ i. slice_index (slice_index_or modules i []) (word / 2 ^ c.k)) is in
-        let written : word_at c.k (slice_set modules number memory') ≡ put (word_at c.k modules) word (with_part 1 (address % 4) (word_at c.k modules word) value)
+        let written : word_at c.k (slice_set modules number memory')
+        ≡ put (word_at c.k modules) word (with_part 1 (address % 4) (word_at c.k modules word) value)
         = ap (λ xs. word_at c.k (slice_set modules number xs)) memory ∙ words_set c.k modules number word (with_part 1 (address % 4) old value) is there place
         ∙ ap (λ v. put (word_at c.k modules) word (with_part 1 (address % 4) v value)) (sym found) in
         step_of c code net net ports ports modules (slice_set modules number memory') (step.Poke (poke.Shared address value)) Poked (record {

@@ -33,11 +33,13 @@ module _ (ports : List PortState) (p : ℕ) (x : PortState) (within : p < length
       f : ℕ → Told
       f = told_at ports shown
 
-      at : (q : ℕ) → (q ≡ p) ⊎ (q ≡ p → ⊥) → record { state = (port_at (slice_set ports p x) q).core.state; events = put shown p events q } ≡ put {X = Told} f p (record { state = x.core.state; events = events }) q
+      at : (q : ℕ) → (q ≡ p) ⊎ (q ≡ p → ⊥) → record { state = (port_at (slice_set ports p x) q).core.state; events = put shown p events q }
+          ≡ put {X = Told} f p (record { state = x.core.state; events = events }) q
       at q (inl e) =
           ap (λ j. record { state = (port_at (slice_set ports p x) j).core.state; events = put shown p events j }) e
           ∙ ap₂ (λ (s : PortState) es. record { state = s.core.state; events = es }) here (put_same shown p events)
-          ∙ sym (put_same f p (record { state = x.core.state; events = events })) ∙ ap (put {X = Told} f p (record { state = x.core.state; events = events })) (sym e)
+          ∙ sym (put_same f p (record { state = x.core.state; events = events }))
+          ∙ ap (put {X = Told} f p (record { state = x.core.state; events = events })) (sym e)
       at q (inr n) =
           ap₂ (λ (s : PortState) es. record { state = s.core.state; events = es }) (there q n) (put_other shown p events q n)
           ∙ sym (put_other f p (record { state = x.core.state; events = events }) q n)
@@ -66,7 +68,8 @@ module _ (ports : List PortState) (p : ℕ) (x : PortState) (within : p < length
       f = open_at ports
 
       at : (q : ℕ) → (q ≡ p) ⊎ (q ≡ p → ⊥) → (port_at (slice_set ports p x) q).is_open ≡ put {X = Bool} f p x.is_open q
-      at q (inl e) = ap (λ j. (port_at (slice_set ports p x) j).is_open) e ∙ ap (λ (s : PortState). s.is_open) here ∙ sym (put_same f p x.is_open) ∙ ap (put {X = Bool} f p x.is_open) (sym e)
+      at q (inl e) = ap (λ j. (port_at (slice_set ports p x) j).is_open) e ∙ ap (λ (s : PortState). s.is_open) here ∙ sym (put_same f p x.is_open)
+          ∙ ap (put {X = Bool} f p x.is_open) (sym e)
       at q (inr n) = ap (λ (s : PortState). s.is_open) (there q n) ∙ sym (put_other f p x.is_open q n)
 
   pub open_kept : x.is_open ≡ (port_at ports p).is_open → open_at (slice_set ports p x) ≡ (open_at ports)

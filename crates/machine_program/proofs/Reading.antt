@@ -1,5 +1,6 @@
 -- Lists, read as functions of places.
-use Rattle.std.proofs.Common.{◌≡◌, ℕ, zero, suc, ◌<◌, List, [], ◌∷◌, length, get_or-set_same, get_or-set_other, Some, None, ◌⊎◌, inl, inr, refl, sym, ap, ap₂, ◌∙◌, arith}
+use Rattle.std.proofs.Common.{◌≡◌, ℕ, zero, suc, ◌<◌, List, [], ◌∷◌, length, get_or-set_same, get_or-set_other, Some, None, ◌⊎◌, inl, inr, refl, sym, ap, ap₂}
+use Rattle.std.proofs.Common.{◌∙◌, arith}
 use Rattle.std.specs.Prelude.{slice_get, slice_set, slice_index_or}
 use Rattle.std.proofs.lemmas.Bool.{cases_eq}
 use mathlib.Core.Path.{fun_ext}
@@ -10,11 +11,13 @@ use Rattle.messages.proofs.Lemmas.{put_other, put_same}
 use Rattle.machine_program.specs.Processors.{Told, no_processor}
 
 -- a list with a place written, read as a function
-pub read_set : {X : Type 0} (xs : List X) (p : ℕ) (x d : X) → p < length xs → (λ q. slice_index_or (slice_set xs p x) q d) ≡ put (λ q. slice_index_or xs q d) p x
+pub read_set : {X : Type 0} (xs : List X) (p : ℕ) (x d : X) → p < length xs →
+    (λ q. slice_index_or (slice_set xs p x) q d) ≡ put (λ q. slice_index_or xs q d) p x
 read_set {X} xs p x d within = fun_ext (λ q. at q (cases_eq q p))
   where
     at : (q : ℕ) → (q ≡ p) ⊎ (q ≡ p → ⊥) → slice_index_or (slice_set xs p x) q d ≡ put (λ j. slice_index_or xs j d) p x q
-    at q (inl e) = ap (λ j. slice_index_or (slice_set xs p x) j d) e ∙ get_or-set_same xs p x d within ∙ sym (put_same (λ j. slice_index_or xs j d) p x) ∙ ap (put (λ j. slice_index_or xs j d) p x) (sym e)
+    at q (inl e) = ap (λ j. slice_index_or (slice_set xs p x) j d) e ∙ get_or-set_same xs p x d within ∙ sym (put_same (λ j. slice_index_or xs j d) p x)
+        ∙ ap (put (λ j. slice_index_or xs j d) p x) (sym e)
     at q (inr n) = get_or-set_other xs p q x d n ∙ sym (put_other (λ j. slice_index_or xs j d) p x q n)
 
 -- what is found at a place is read there, and what isn't is not
@@ -42,7 +45,8 @@ told_set ps p x shown events within = fun_ext (λ q. at q (cases_eq q p))
     f : ℕ → Told
     f q = record { state = slice_index_or ps q no_processor; events = shown q }
 
-    at : (q : ℕ) → (q ≡ p) ⊎ (q ≡ p → ⊥) → record { state = slice_index_or (slice_set ps p x) q no_processor; events = put shown p events q } ≡ put {X = Told} f p (record { state = x; events = events }) q
+    at : (q : ℕ) → (q ≡ p) ⊎ (q ≡ p → ⊥) → record { state = slice_index_or (slice_set ps p x) q no_processor; events = put shown p events q }
+        ≡ put {X = Told} f p (record { state = x; events = events }) q
     at q (inl e) =
         ap (λ j. record { state = slice_index_or (slice_set ps p x) j no_processor; events = put shown p events j }) e
         ∙ ap₂ (λ s es. record { state = s; events = es }) (get_or-set_same ps p x no_processor within) (put_same shown p events)
@@ -60,7 +64,8 @@ told_changed ps p x shown within = fun_ext (λ q. at q (cases_eq q p))
     f : ℕ → Told
     f q = record { state = slice_index_or ps q no_processor; events = shown q }
 
-    at : (q : ℕ) → (q ≡ p) ⊎ (q ≡ p → ⊥) → record { state = slice_index_or (slice_set ps p x) q no_processor; events = shown q } ≡ put {X = Told} f p (record { state = x; events = shown p }) q
+    at : (q : ℕ) → (q ≡ p) ⊎ (q ≡ p → ⊥) → record { state = slice_index_or (slice_set ps p x) q no_processor; events = shown q }
+        ≡ put {X = Told} f p (record { state = x; events = shown p }) q
     at q (inl e) =
         ap (λ j. record { state = slice_index_or (slice_set ps p x) j no_processor; events = shown j }) e
         ∙ ap (λ s. record { state = s; events = shown p }) (get_or-set_same ps p x no_processor within)

@@ -32,7 +32,8 @@ module _ (c : Config) (code : List ℕ) (net : Net) (ports : List PortState) (mo
   -- events that were shown make no difference
   pub retold : (shown shown' : ℕ → List Event) (role : ℕ → Role) → SteadyAs shown role → SteadyAs shown' role
   unfolding machine_of_parts
-  retold shown shown' role s = record { placed = s.placed; worded = s.worded; marked = s.marked; few = s.few; stands = s.stands; shut = s.shut; small = s.small; refers = s.refers }
+  retold shown shown' role s =
+      record { placed = s.placed; worded = s.worded; marked = s.marked; few = s.few; stands = s.stands; shut = s.shut; small = s.small; refers = s.refers }
 
   module _ (shown : ℕ → List Event) (role : ℕ → Role) (s : SteadyAs shown role) where
     -- an open processor's turn is a reference
@@ -46,7 +47,8 @@ module _ (c : Config) (code : List ℕ) (net : Net) (ports : List PortState) (mo
     is_reference t r = subst IsReference (sym r.is) tt
 
     pub refers : (p : ℕ) → open_at ports p ≡ true → (port_at ports p).core.setting ≡ setting_of c p → IsReference (turn (port_at ports p) code)
-    refers p opened setting = subst IsReference (ap (λ s. turn_of s code (port_at ports p).core.state) (sym setting)) (is_reference (next c code p (port_at ports p).core.state) (reaches p opened).1)
+    refers p opened setting = subst IsReference (ap (λ s. turn_of s code (port_at ports p).core.state) (sym setting))
+        (is_reference (next c code p (port_at ports p).core.state) (reaches p opened).1)
 
     -- the slot of a processor that is not open is free
     pub slot_free : (p : ℕ) → open_at ports p ≡ false → net.requests 0 p ≡ []
@@ -63,7 +65,8 @@ module _ (c : Config) (code : List ℕ) (net : Net) (ports : List PortState) (mo
             absurd (cc)
 
     -- a request at a module is for one of its words
-    pub at_its_module : (m : ℕ) (x : Request) (rest : List Request) → net.requests c.k m ≡ x ∷ rest → (x.word % 2 ^ c.k ≡ m) × (x.word ≡ word_by (next c code x.leader (port_at ports x.leader).core.state)) × (open_at ports x.leader ≡ true)
+    pub at_its_module : (m : ℕ) (x : Request) (rest : List Request) → net.requests c.k m ≡ x ∷ rest →
+        (x.word % 2 ^ c.k ≡ m) × (x.word ≡ word_by (next c code x.leader (port_at ports x.leader).core.state)) × (open_at ports x.leader ≡ true)
     unfolding machine_of_parts
     at_its_module m x rest e =
         let here : In x (net.requests c.k m) = subst (In x) (sym e) (inl refl) in
@@ -82,7 +85,8 @@ module _ (c : Config) (code : List ℕ) (net : Net) (ports : List PortState) (mo
         opened x asks true e = e
         opened x asks false e = let f : Asking c.k ≡ Idle = sym asks ∙ (s.shut x.leader).0 e in absurd (cc)
 
-    pub word_there : (m : ℕ) (x : Request) (rest : List Request) → net.requests c.k m ≡ x ∷ rest → ((p : ℕ) → HasWords (port_at ports p).core.state) → x.word < c.shared_words
+    pub word_there : (m : ℕ) (x : Request) (rest : List Request) → net.requests c.k m ≡ x ∷ rest → ((p : ℕ) → HasWords (port_at ports p).core.state) →
+        x.word < c.shared_words
     word_there m x rest e words =
         let a = at_its_module m x rest e in
         let p : ℕ = x.leader in
@@ -91,7 +95,8 @@ module _ (c : Config) (code : List ℕ) (net : Net) (ports : List PortState) (mo
         subst (λ w. w < c.shared_words) (sym (a.1 ∙ ap word_by r.is)) m.2
 
   -- a step keeps it
-  pub stays_steady : (role : ℕ → Role) (s : Step) (o : Outcome) (net' : Net) (ports' : List PortState) (modules' : List (List ℕ)) → SteadyAs (λ p. []) role → IsStepOf c code net ports modules s o net' ports' modules' →
+  pub stays_steady : (role : ℕ → Role) (s : Step) (o : Outcome) (net' : Net) (ports' : List PortState) (modules' : List (List ℕ)) → SteadyAs (λ p. []) role →
+      IsStepOf c code net ports modules s o net' ports' modules' →
       (role' : ℕ → Role) × Steady (sizes_of c) (program c code) (machine_of_parts c net' ports' modules' (with_shown (λ p. []) s o)) role'
   unfolding after
   stays_steady role s o net' ports' modules' steady is =

@@ -79,6 +79,8 @@ machine_of_parts c net ports modules shown = record {
 }
 
 -- The step and its answer are as the definitions say, whatever the processors have shown before.
-pub record IsStepOf (c : Config) (code : List ℕ) (net : Net) (ports : List PortState) (modules : List (List ℕ)) (s : Step) (o : Outcome) (net' : Net) (ports' : List PortState) (modules' : List (List ℕ)) : Type 0 where
+pub record IsStepOf (c : Config) (code : List ℕ) (net : Net) (ports : List PortState) (modules : List (List ℕ)) (s : Step) (o : Outcome) (net' : Net)
+    (ports' : List PortState) (modules' : List (List ℕ)) : Type 0 where
   pub outcome : o ≡ outcome_of c code (machine_of_parts c net ports modules (λ p. [])) s
-  pub after : (shown : ℕ → List Event) → machine_of_parts c net' ports' modules' (with_shown shown s o) ≡ after c code (machine_of_parts c net ports modules shown) s
+  pub after : (shown : ℕ → List Event) → machine_of_parts c net' ports' modules' (with_shown shown s o)
+      ≡ after c code (machine_of_parts c net ports modules shown) s

@@ -12,7 +12,8 @@ use Rattle.abstract_machine.specs.Program as program
 use Rattle.abstract_machine.specs.Program.{Content, TurnOf, PokeOf, Entries}
 use Rattle.abstract_machine.specs.Machine as machine
 use Rattle.abstract_machine.specs.Draining as draining
-pub use Rattle.abstract_machine.specs.Machine.{Machine, Turn, Up, Serve, Down, Poke, Issued, Advanced, Retired, Moved, Combined, Served, Answered, Poked, Stalled}
+pub use Rattle.abstract_machine.specs.Machine.{Machine, Turn, Up, Serve, Down, Poke, Issued, Advanced, Retired, Moved, Combined, Served, Answered, Poked}
+pub use Rattle.abstract_machine.specs.Machine.{Stalled}
 pub use Rattle.abstract_machine.specs.Machine.{retire_from, issue, advance, begin, turned, poked, step}
 unfoldable pub use Rattle.abstract_machine.specs.Machine.{machine_after}
 

@@ -115,11 +115,17 @@ module _ (c : Config) (code : List ℕ) (M : Machine Told) (shown told : ℕ →
   serves m (x ∷ rest) [] = refl
 
   same : (s : Step) → Alike (taken c code R s) (taken c code M s)
-  same (step.Turn p) = either (nat_lt p (2 ^ c.k)) (turned (program c code) R p (M.is_open p)) (turned (program c code) M p (M.is_open p)) (turns p (M.is_open p))
-  same (step.Up s w) = either (nat_lt w (2 ^ c.k)) (went_up R (moved_up (sizes_of c) M.net s w)) (went_up M (moved_up (sizes_of c) M.net s w)) (goes_up (moved_up (sizes_of c) M.net s w))
-  same (step.Serve m) = either (nat_lt m (2 ^ c.k)) (serve_from (sizes_of c) R m (M.net.requests c.k m) (M.net.replies c.k m)) (serve_from (sizes_of c) M m (M.net.requests c.k m) (M.net.replies c.k m)) (serves m (M.net.requests c.k m) (M.net.replies c.k m))
-  same (step.Down s w) = either (nat_lt w (2 ^ c.k)) (went_down R (moved_down (sizes_of c) M.net s w)) (went_down M (moved_down (sizes_of c) M.net s w)) (goes_down (moved_down (sizes_of c) M.net s w))
-  same (step.Poke q) = either (all_shut (2 ^ c.k) M.is_open && is_lawful_poke c q) (poked (program c code) R q) (poked (program c code) M q) (retell_cores told M.net (poked_words q M.mem) M.is_open (poked_processors q R.core) (poked_processors q M.core) (poked_states q R.core M.core (λ p. refl)))
+  same (step.Turn p) =
+      either (nat_lt p (2 ^ c.k)) (turned (program c code) R p (M.is_open p)) (turned (program c code) M p (M.is_open p)) (turns p (M.is_open p))
+  same (step.Up s w) = either (nat_lt w (2 ^ c.k)) (went_up R (moved_up (sizes_of c) M.net s w)) (went_up M (moved_up (sizes_of c) M.net s w))
+      (goes_up (moved_up (sizes_of c) M.net s w))
+  same (step.Serve m) = either (nat_lt m (2 ^ c.k)) (serve_from (sizes_of c) R m (M.net.requests c.k m) (M.net.replies c.k m))
+      (serve_from (sizes_of c) M m (M.net.requests c.k m) (M.net.replies c.k m)) (serves m (M.net.requests c.k m) (M.net.replies c.k m))
+  same (step.Down s w) = either (nat_lt w (2 ^ c.k)) (went_down R (moved_down (sizes_of c) M.net s w)) (went_down M (moved_down (sizes_of c) M.net s w))
+      (goes_down (moved_down (sizes_of c) M.net s w))
+  same (step.Poke q) = either (all_shut (2 ^ c.k) M.is_open && is_lawful_poke c q) (poked (program c code) R q) (poked (program c code) M q)
+      (retell_cores told M.net (poked_words q M.mem) M.is_open (poked_processors q R.core) (poked_processors q M.core)
+      (poked_states q R.core M.core (λ p. refl)))
 
   pub after_alike : (s : Step) → retell told (after c code R s) ≡ retell told (after c code M s)
   unfolding after
@@ -229,20 +235,25 @@ run_joined opening mid new steps more first second = record {
   code = second.code ∙ first.code;
   after = λ shown.
       let M : Machine Told = all_after opening.config opening.code (machine_of opening shown) steps in
-      let here : machine_of new (events_of (all_after opening.config opening.code (machine_of mid (events_of M)) more)) ≡ all_after opening.config opening.code (machine_of mid (events_of M)) more =
-      subst (λ (k : Config × List ℕ). machine_of new (events_of (all_after k.0 k.1 (machine_of mid (events_of M)) more)) ≡ all_after k.0 k.1 (machine_of mid (events_of M)) more)
+      let here : machine_of new (events_of (all_after opening.config opening.code (machine_of mid (events_of M)) more))
+      ≡ all_after opening.config opening.code (machine_of mid (events_of M)) more =
+      subst (λ (k : Config × List ℕ). machine_of new (events_of (all_after k.0 k.1 (machine_of mid (events_of M)) more))
+      ≡ all_after k.0 k.1 (machine_of mid (events_of M)) more)
       (λ i. (first.config i, first.code i)) (second.after (events_of M)) in
       let there : machine_of new (events_of (all_after opening.config opening.code M more)) ≡ all_after opening.config opening.code M more =
-      subst (λ (K : Machine Told). machine_of new (events_of (all_after opening.config opening.code K more)) ≡ all_after opening.config opening.code K more) (first.after shown) here in
+      subst (λ (K : Machine Told). machine_of new (events_of (all_after opening.config opening.code K more)) ≡ all_after opening.config opening.code K more)
+      (first.after shown) here in
       subst (λ (K : Machine Told). machine_of new (events_of K) ≡ K) (sym (all_joined opening.config opening.code (machine_of opening shown) steps more)) there;
 }
 
-none_joined : (c : Config) (code : List ℕ) (M : Machine Told) (steps more : List Step) → NoneStalls c code M steps → NoneStalls c code (all_after c code M steps) more → NoneStalls c code M (steps ++ more)
+none_joined : (c : Config) (code : List ℕ) (M : Machine Told) (steps more : List Step) → NoneStalls c code M steps →
+    NoneStalls c code (all_after c code M steps) more → NoneStalls c code M (steps ++ more)
 unfolding all_after
 none_joined c code M [] more first second = second
 none_joined c code M (s ∷ ss) more first second = (first.0, none_joined c code (after c code M s) ss more first.1 second)
 
-pub replay_joined : (opening mid new : MachineLists) (steps more : List Step) → IsReplay opening steps mid → IsReplay mid more new → IsReplay opening (steps ++ more) new
+pub replay_joined : (opening mid new : MachineLists) (steps more : List Step) → IsReplay opening steps mid → IsReplay mid more new →
+    IsReplay opening (steps ++ more) new
 replay_joined opening mid new steps more first second = record {
   run = run_joined opening mid new steps more first.run second.run;
   moved =

@@ -51,9 +51,12 @@ module _ (m : MachineLists) (is : IsMachine m) where
   goes_on s names =
       let M : theory.Machine Told = machine_of m (λ p. []) in
       let n = named_step (draining.drain_step (sizes_of m.config) M) s names in
-      let d = subst (DrainIs (sizes_of m.config) (program m.config m.code) M) n.1 (drain_is (sizes_of m.config) (program m.config m.code) M is.role is.steady room) in
+      let d = subst (DrainIs (sizes_of m.config) (program m.config m.code) M) n.1
+      (drain_is (sizes_of m.config) (program m.config m.code) M is.role is.steady room) in
       let same : n.0 ≡ named s = sym (named_again n.0) ∙ ap named n.2 in
-      let nearer = subst (λ st. (f g : ℕ → ℕ) → AreDistances (sizes_of m.config) M f → AreDistances (sizes_of m.config) (theory.step (sizes_of m.config) (program m.config m.code) M st).machine g → total g (2 ^ m.config.k) < total f (2 ^ m.config.k)) same d.1 in
+      let nearer = subst (λ st. (f g : ℕ → ℕ) → AreDistances (sizes_of m.config) M f →
+      AreDistances (sizes_of m.config) (theory.step (sizes_of m.config) (program m.config m.code) M st).machine g →
+      total g (2 ^ m.config.k) < total f (2 ^ m.config.k)) same d.1 in
       let f = distances_are (sizes_of m.config) (program m.config m.code) M is.role is.steady in
       record {
         moves = λ e.
@@ -70,7 +73,8 @@ module _ (m : MachineLists) (is : IsMachine m) where
   unfolding machine_of_parts
   none_idle e =
       let d = drain_is (sizes_of m.config) (program m.config m.code) (machine_of m (λ p. [])) is.role is.steady room in
-      let none : draining.drain_step (sizes_of m.config) (machine_of m (λ p. [])) ≡ None = some_none (draining.drain_step (sizes_of m.config) (machine_of m (λ p. []))) e in
+      let none : draining.drain_step (sizes_of m.config) (machine_of m (λ p. [])) ≡ None =
+      some_none (draining.drain_step (sizes_of m.config) (machine_of m (λ p. []))) e in
       let shut = subst (DrainIs (sizes_of m.config) (program m.config m.code) (machine_of m (λ p. []))) none d in
       λ p within. shut p
 
@@ -89,7 +93,8 @@ pub record IsUnderWay (old : MachineLists) (bound : ℕ) (done : List Step) (m :
   pub left : ℕ
   pub split : length done + left ≡ bound
   pub run : IsRun old done m
-  pub rest : first_steps bound old ≡ done ++ map step_of (draining.drain_steps (sizes_of old.config) (program old.config old.code) left (all_after old.config old.code (machine_of old (λ p. [])) done))
+  pub rest : first_steps bound old ≡ done ++ map step_of
+      (draining.drain_steps (sizes_of old.config) (program old.config old.code) left (all_after old.config old.code (machine_of old (λ p. [])) done))
 
 pub drain_begins : (bound : ℕ) (m : MachineLists) → IsUnderWay m bound [] m
 unfolding all_after
@@ -105,20 +110,24 @@ module _ (old m : MachineLists) (bound : ℕ) (done : List Step) (d : IsUnderWay
   -- the step that is named is the theory's
   same_next : theory.drain_step (sizes_of old.config) here ≡ draining.drain_step (sizes_of m.config) (machine_of m (λ p. []))
   unfolding machine_of_parts
-  same_next = ap (draining.drain_step (sizes_of old.config)) (sym (d.run.after (λ p. []))) ∙ ap (λ c. draining.drain_step (sizes_of c) (machine_of m (events_of here))) (sym d.run.config)
+  same_next = ap (draining.drain_step (sizes_of old.config)) (sym (d.run.after (λ p. [])))
+      ∙ ap (λ c. draining.drain_step (sizes_of c) (machine_of m (events_of here))) (sym d.run.config)
 
   abbrev after_named : theory.Step → theory.Machine Told
   after_named st = (theory.step (sizes_of old.config) (program old.config old.code) here st).machine
 
   next_rest : (st : theory.Step) (n : ℕ) → draining.drain_step (sizes_of old.config) here ≡ Some st →
-      draining.drain_steps (sizes_of old.config) (program old.config old.code) (suc n) here ≡ st ∷ draining.drain_steps (sizes_of old.config) (program old.config old.code) n (after_named st)
+      draining.drain_steps (sizes_of old.config) (program old.config old.code) (suc n) here
+      ≡ st ∷ draining.drain_steps (sizes_of old.config) (program old.config old.code) n (after_named st)
   unfolding draining.drain_steps
-  next_rest st n e = ap (λ o. elim o [ Some st ↦ st ∷ draining.drain_steps (sizes_of old.config) (program old.config old.code) n (after_named st) | None ↦ [] ]) e
+  next_rest st n e =
+      ap (λ o. elim o [ Some st ↦ st ∷ draining.drain_steps (sizes_of old.config) (program old.config old.code) n (after_named st) | None ↦ [] ]) e
 
   no_rest : (n : ℕ) → theory.drain_step (sizes_of old.config) here ≡ None → draining.drain_steps (sizes_of old.config) (program old.config old.code) n here ≡ []
   unfolding draining.drain_steps
   no_rest zero e = refl
-  no_rest (suc n) e = ap (λ o. elim o [ Some st ↦ st ∷ draining.drain_steps (sizes_of old.config) (program old.config old.code) n (after_named st) | None ↦ [] ]) e
+  no_rest (suc n) e =
+      ap (λ o. elim o [ Some st ↦ st ∷ draining.drain_steps (sizes_of old.config) (program old.config old.code) n (after_named st) | None ↦ [] ]) e
 
   none_left : draining.drain_steps (sizes_of old.config) (program old.config old.code) zero here ≡ []
   unfolding draining.drain_steps
@@ -129,12 +138,14 @@ module _ (old m : MachineLists) (bound : ℕ) (done : List Step) (d : IsUnderWay
   after_is st s e =
       ap after_named (sym (named_again st)) ∙ ap (λ t. after_named (named t)) e ∙ sym (all_after_more old.config old.code M0 done s)
 
-  pub drain_goes_on : (s : Step) (o : Outcome) (new : MachineLists) → length done < bound → drain_step m ≡ Some s → IsStep m s o new → IsUnderWay old bound (done ++ s ∷ []) new
+  pub drain_goes_on : (s : Step) (o : Outcome) (new : MachineLists) → length done < bound → drain_step m ≡ Some s → IsStep m s o new →
+      IsUnderWay old bound (done ++ s ∷ []) new
   drain_goes_on s o new within names is =
       let n = named_step (draining.drain_step (sizes_of m.config) (machine_of m (λ p. []))) s names in
       by n.0 (same_next ∙ n.1) n.2 d.left refl
     where
-      by : (st : theory.Step) → draining.drain_step (sizes_of old.config) here ≡ Some st → step_of st ≡ s → (left : ℕ) → left ≡ d.left → IsUnderWay old bound (done ++ s ∷ []) new
+      by : (st : theory.Step) → draining.drain_step (sizes_of old.config) here ≡ Some st → step_of st ≡ s → (left : ℕ) → left ≡ d.left →
+          IsUnderWay old bound (done ++ s ∷ []) new
       by st e same zero l = let split = d.split in absurd (omega (arith, within, split, l))
       by st e same (suc n) l = record {
         left = n;
@@ -145,7 +156,8 @@ module _ (old m : MachineLists) (bound : ℕ) (done : List Step) (d : IsUnderWay
             ∙ ap (λ n. done ++ map step_of (draining.drain_steps (sizes_of old.config) (program old.config old.code) n here)) (sym l)
             ∙ ap (λ xs. done ++ map step_of xs) (next_rest st n e)
             ∙ ap₂ (λ a M. done ++ a ∷ map step_of (draining.drain_steps (sizes_of old.config) (program old.config old.code) n M)) same (after_is st s same)
-            ∙ sym (append_assoc done (s ∷ []) (map step_of (draining.drain_steps (sizes_of old.config) (program old.config old.code) n (all_after old.config old.code M0 (done ++ s ∷ [])))));
+            ∙ sym (append_assoc done (s ∷ []) (map step_of
+            (draining.drain_steps (sizes_of old.config) (program old.config old.code) n (all_after old.config old.code M0 (done ++ s ∷ [])))));
       }
 
   ended : draining.drain_steps (sizes_of old.config) (program old.config old.code) d.left here ≡ [] → first_steps bound old ≡ done
@@ -166,7 +178,8 @@ module _ (old m : MachineLists) (bound : ℕ) (done : List Step) (d : IsUnderWay
       let rest : List Step = map step_of (draining.drain_steps (sizes_of old.config) (program old.config old.code) d.left here) in
       d.rest ∙ no_tail done rest (subst (λ xs. length xs ≤ length done) d.rest few)
 
-  machine_is : (ts : List theory.Step) (M : theory.Machine Told) → all_after old.config old.code M (map step_of ts) ≡ theory.machine_after (sizes_of old.config) (program old.config old.code) ts M
+  machine_is : (ts : List theory.Step) (M : theory.Machine Told) →
+      all_after old.config old.code M (map step_of ts) ≡ theory.machine_after (sizes_of old.config) (program old.config old.code) ts M
   unfolding all_after after theory.machine_after
   machine_is [] M = refl
   machine_is (t ∷ ts) M =
@@ -194,17 +207,20 @@ module _ (old m : MachineLists) (bound : ℕ) (done : List Step) (d : IsUnderWay
   all_longer (suc n) (suc N) M few e =
       by (λ st. all_longer n N (after_theory M st) (omega (arith, few))) (draining.drain_step (sizes_of old.config) M) e
     where
-      by : ((st : theory.Step) → Ended (drained_from n (after_theory M st)) (after_theory M st) → drained_from N (after_theory M st) ≡ drained_from n (after_theory M st)) →
+      by : ((st : theory.Step) → Ended (drained_from n (after_theory M st)) (after_theory M st) →
+          drained_from N (after_theory M st) ≡ drained_from n (after_theory M st)) →
           (o : Option theory.Step) → Ended (drained_by n M o) M → drained_by N M o ≡ drained_by n M o
       by later None e = refl
       by later (Some st) e = ap (λ xs. st ∷ xs) (later st e)
 
   -- no reference is open then, where the distances were no more together than the bound
-  pub taken_idle : IsMachine old → first_steps bound old ≡ done → (f : ℕ → ℕ) → AreDistances (sizes_of old.config) M0 f → total f (2 ^ old.config.k) ≤ bound → IsIdle m
+  pub taken_idle : IsMachine old → first_steps bound old ≡ done → (f : ℕ → ℕ) → AreDistances (sizes_of old.config) M0 f → total f (2 ^ old.config.k) ≤ bound →
+      IsIdle m
   unfolding machine_of_parts
   taken_idle is e f are enough =
       let all = draining.drain_steps (sizes_of old.config) (program old.config old.code) bound M0 in
-      let there : here ≡ theory.machine_after (sizes_of old.config) (program old.config old.code) all M0 = ap (all_after old.config old.code M0) (sym e) ∙ machine_is all M0 in
+      let there : here ≡ theory.machine_after (sizes_of old.config) (program old.config old.code) all M0 =
+      ap (all_after old.config old.code M0) (sym e) ∙ machine_is all M0 in
       let shut = drained (sizes_of old.config) (program old.config old.code) bound M0 is.role f is.steady (room old is) are enough in
       λ p within. ap (λ (M : theory.Machine Told). M.is_open p) (d.run.after (λ p. []) ∙ there) ∙ shut p
 
@@ -228,7 +244,8 @@ module _ (old m : MachineLists) (done : List Step) (d : IsUnderWay old (drain_bo
   drain_is_whole is e =
       let M = machine_of old (λ p. []) in
       let f = distances_are (sizes_of old.config) (program old.config old.code) M is.role is.steady in
-      is_drained e (taken_idle old m (drain_bound old.config) done d is e f.0 f.1 (distances_bound (sizes_of old.config) (program old.config old.code) M is.role is.steady f.0 f.1))
+      is_drained e (taken_idle old m (drain_bound old.config) done d is e f.0 f.1
+      (distances_bound (sizes_of old.config) (program old.config old.code) M is.role is.steady f.0 f.1))
 
   -- and at the bound
   pub drain_is_over : IsMachine old → length done ≡ drain_bound old.config → IsDrained old (length done) m
@@ -244,7 +261,8 @@ drain_is_bounded m =
     omega (arith, same, few)
 
 -- no more than the distances together
-pub steps_short : (m : MachineLists) → IsMachine m → (n : ℕ) (f : ℕ → ℕ) → AreDistances (sizes_of m.config) (machine_of m (λ p. [])) f → total f (2 ^ m.config.k) ≤ n → n ≤ drain_bound m.config →
+pub steps_short : (m : MachineLists) → IsMachine m → (n : ℕ) (f : ℕ → ℕ) → AreDistances (sizes_of m.config) (machine_of m (λ p. [])) f →
+    total f (2 ^ m.config.k) ≤ n → n ≤ drain_bound m.config →
     length (drain_steps m) ≤ n
 steps_short m is n f are enough few =
     let z = sizes_of m.config in

@@ -13,7 +13,8 @@ use Rattle.machine.proofs.Lemmas.{sound, state_at, word_is}
 module _ (m : MachineLists) (is : IsMachine m) where
   pub reads : flat_of (machine_of m (λ p. [])) ≡ read_flat (flat_state m) (λ p. [])
   unfolding machine_of_parts
-  reads = ap₂ (λ (f : ℕ → ℕ) (g : ℕ → Told). record { mem = f; core = g }) (fun_ext (λ i. sym (word_is m is i))) (fun_ext (λ p. ap (λ s. record { state = s; events = [] }) (sym (state_at m is p))))
+  reads = ap₂ (λ (f : ℕ → ℕ) (g : ℕ → Told). record { mem = f; core = g }) (fun_ext (λ i. sym (word_is m is i)))
+      (fun_ext (λ p. ap (λ s. record { state = s; events = [] }) (sym (state_at m is p))))
 
   pub opens : IsIdle m → Opens m.config m.code (machine_of m (λ p. [])) (flat_state m)
   unfolding machine_of_parts

@@ -23,11 +23,13 @@ group_set gs p v within = fun_ext at
   where
     at : (q : ℕ) → group_in (slice_set gs p v) q ≡ put (group_in gs) p v.items q
     at q = elim (cases_eq q p) [
-      | inl e ↦ ap (group_in (slice_set gs p v)) e ∙ ap (λ (g : ArrayVec ℕ). g.items) (get_or-set_same gs p v no_group within) ∙ sym (ap (put (group_in gs) p v.items) e ∙ put_same (group_in gs) p v.items)
+      | inl e ↦ ap (group_in (slice_set gs p v)) e ∙ ap (λ (g : ArrayVec ℕ). g.items) (get_or-set_same gs p v no_group within)
+          ∙ sym (ap (put (group_in gs) p v.items) e ∙ put_same (group_in gs) p v.items)
       | inr n ↦ ap (λ (g : ArrayVec ℕ). g.items) (get_or-set_other gs p q v no_group n) ∙ sym (put_other (group_in gs) p v.items q n)
     ]
 
-pub count_set : (gs : List (ArrayVec ℕ)) (p : ℕ) (v : ArrayVec ℕ) → p < length gs → count_in (slice_set gs p v) + length (group_in gs p) ≡ count_in gs + length v.items
+pub count_set : (gs : List (ArrayVec ℕ)) (p : ℕ) (v : ArrayVec ℕ) → p < length gs →
+    count_in (slice_set gs p v) + length (group_in gs p) ≡ count_in gs + length v.items
 count_set [] p v within = absurd (omega arith)
 count_set (g ∷ gs) zero v within = omega arith
 count_set (g ∷ gs) (suc p) v within = let rest = count_set gs p v (omega arith) in omega (arith, rest)
@@ -75,7 +77,8 @@ module _ (gs : List (ArrayVec ℕ)) (es : List Entry) where
     count = (let n = count_set gs p v within in let one : length v.items ≡ 1 = ap length is in omega (arith, n, one));
   }
 
-  pub enters_served : (p : ℕ) (v : ArrayVec ℕ) (es' : List Entry) → p < length gs → v.items ≡ [] → es' ≡ es ++ map entry.Processor (group_in gs p) → IsEntered gs es (theory.Served p) (slice_set gs p v) es'
+  pub enters_served : (p : ℕ) (v : ArrayVec ℕ) (es' : List Entry) → p < length gs → v.items ≡ [] → es' ≡ es ++ map entry.Processor (group_in gs p) →
+      IsEntered gs es (theory.Served p) (slice_set gs p v) es'
   enters_served p v es' within none is = record {
     places = length-set gs p v;
     group = group_set gs p v within ∙ ap (put (group_in gs) p) none;
@@ -83,7 +86,8 @@ module _ (gs : List (ArrayVec ℕ)) (es : List Entry) where
     count =
         (let n = count_set gs p v within in
         let zero_now : length v.items ≡ 0 = ap length none in
-        let more : length es' ≡ length es + length (group_in gs p) = ap length is ∙ length-append es (map entry.Processor (group_in gs p)) ∙ ap (λ (n : ℕ). length es + n) (length-map (group_in gs p) entry.Processor) in
+        let more : length es' ≡ length es + length (group_in gs p) = ap length is ∙ length-append es (map entry.Processor (group_in gs p))
+        ∙ ap (λ (n : ℕ). length es + n) (length-map (group_in gs p) entry.Processor) in
         omega (arith, n, zero_now, more));
   }
 
@@ -94,7 +98,9 @@ module _ (gs : List (ArrayVec ℕ)) (es : List Entry) where
     | inr n ↦ put_other (put f p x) p z q n ∙ put_other f p x q n ∙ sym (put_other (put f p y) p z q n ∙ put_other f p y q n)
   ])
 
-  pub enters_combined : (p q : ℕ) (v w : ArrayVec ℕ) → p < length gs → q < length gs → (length (group_in gs p) + length (group_in gs q) ≤ 64 → v.items ≡ group_in gs p ++ group_in gs q) → w.items ≡ [] → ((i : ℕ) → length (joined (group_in gs) p q i) ≤ 64)
+  pub enters_combined : (p q : ℕ) (v w : ArrayVec ℕ) → p < length gs → q < length gs →
+      (length (group_in gs p) + length (group_in gs q) ≤ 64 → v.items ≡ group_in gs p ++ group_in gs q) → w.items ≡ [] →
+      ((i : ℕ) → length (joined (group_in gs) p q i) ≤ 64)
       → IsEntered gs es (theory.Combined p q) (slice_set (slice_set gs p v) q w) es
   unfolding joined
   enters_combined p q v w p_in q_in both none few = by (cases_eq p q)
@@ -120,10 +126,12 @@ module _ (gs : List (ArrayVec ℕ)) (es : List Entry) where
       by : (p ≡ q) ⊎ (p ≡ q → ⊥) → IsEntered gs es (theory.Combined p q) (slice_set gs1 q w) es
       by (inl e) = record {
         places = places;
-        group = now ∙ ap (λ (i : ℕ). put (put (group_in gs) p v.items) i []) (sym e) ∙ put_put (group_in gs) p v.items (group_in gs p ++ group_in gs q) [] ∙ ap (λ (i : ℕ). put (put (group_in gs) p (group_in gs p ++ group_in gs q)) i []) e;
+        group = now ∙ ap (λ (i : ℕ). put (put (group_in gs) p v.items) i []) (sym e) ∙ put_put (group_in gs) p v.items (group_in gs p ++ group_in gs q) []
+            ∙ ap (λ (i : ℕ). put (put (group_in gs) p (group_in gs p ++ group_in gs q)) i []) e;
         order = sym (append-nil es);
         count =
-            (let there : group_in gs1 q ≡ v.items = ap (λ (f : ℕ → List ℕ). f q) (group_set gs p v p_in) ∙ ap (put (group_in gs) p v.items) (sym e) ∙ put_same (group_in gs) p v.items in
+            (let there : group_in gs1 q ≡ v.items = ap (λ (f : ℕ → List ℕ). f q) (group_set gs p v p_in) ∙ ap (put (group_in gs) p v.items) (sym e)
+            ∙ put_same (group_in gs) p v.items in
             let l : length (group_in gs1 q) ≡ length v.items = ap length there in
             let a = n1 in
             let b = n2 in
@@ -138,7 +146,8 @@ module _ (gs : List (ArrayVec ℕ)) (es : List Entry) where
             group = now ∙ ap (λ (xs : List ℕ). put (put (group_in gs) p xs) q []) is;
             order = sym (append-nil es);
             count =
-                (let there : group_in gs1 q ≡ group_in gs q = ap (λ (f : ℕ → List ℕ). f q) (group_set gs p v p_in) ∙ put_other (group_in gs) p v.items q (λ e. n (sym e)) in
+                (let there : group_in gs1 q ≡ group_in gs q = ap (λ (f : ℕ → List ℕ). f q) (group_set gs p v p_in)
+                ∙ put_other (group_in gs) p v.items q (λ e. n (sym e)) in
                 let l : length (group_in gs1 q) ≡ length (group_in gs q) = ap length there in
                 let m : length v.items ≡ length (group_in gs p) + length (group_in gs q) = ap length is ∙ length-append (group_in gs p) (group_in gs q) in
                 let a = n1 in

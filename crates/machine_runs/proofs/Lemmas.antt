@@ -3,18 +3,13 @@
 -- The next step of a drain, and where a drain ends.
 pub use Rattle.machine_runs.proofs.Drained.{IsUnderWay, all_taken, bound_taken, drain_begins, drain_goes_on, drain_is_bounded, drain_is_over, goes_on}
 pub use Rattle.machine_runs.proofs.Drained.{named_again, named_step, none_idle}
-
 -- A machine in which no reference is open is the flat machine of its processors, words and code.
 pub use Rattle.machine_runs.proofs.Flattening.{opens}
-
 -- One processor alone has a reference open, and a drain brings it back: its entry comes to stand in the order, and no other.
 pub use Rattle.machine_runs.proofs.Lone.{FirstTurn, IsAnswered, IsAsking, IsLone, Named, drain_named, first_turn, goes_on as lone_goes_on, starts}
-
 -- Replays: runs in which each step does something.
 pub use Rattle.machine_runs.proofs.Replaying.{outcome_there, replay_begins, replay_kept, replay_more, stalled_is}
-
 -- Runs of the machine, and the theorem for them.
 pub use Rattle.machine_runs.proofs.Running.{all_after_more, passes_machine, serialized, shown_is}
-
 -- One instruction at a time: the flat machine's step.
 pub use Rattle.machine_runs.proofs.Whole.{IsGoingHome, few_moves, home_begins, home_goes_on, home_in_time, home_now, sent_is_short, steps_back, turn_whole}

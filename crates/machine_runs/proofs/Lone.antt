@@ -1,5 +1,6 @@
 -- One processor alone has a reference open, and a drain brings it back: its entry comes to stand in the order, and no other.
-use Rattle.std.proofs.Common.{◌≡◌, ℕ, suc, ◌%◌, ◌<◌, Bool, true, false, List, [], ◌∷◌, ◌++◌, length, drop, map, nat_lt, ◌⊎◌, inl, inr, Option, Some, None, refl, sym, ap, ap₂, ◌∙◌, subst, lt-ltb}
+use Rattle.std.proofs.Common.{◌≡◌, ℕ, suc, ◌%◌, ◌<◌, Bool, true, false, List, [], ◌∷◌, ◌++◌, length, drop, map, nat_lt, ◌⊎◌, inl, inr, Option, Some, None}
+use Rattle.std.proofs.Common.{refl, sym, ap, ap₂, ◌∙◌, subst, lt-ltb}
 use Rattle.std.specs.Prelude.{if◌then◌else◌}
 use Rattle.std.proofs.lemmas.Bool.{cases_eq, cases_Bool, true≢false}
 use Rattle.std.proofs.lemmas.List.{append-nil}
@@ -11,7 +12,8 @@ use Rattle.messages.specs.declared.moves.DownMove.TheVariants as down
 use Rattle.messages.specs.Places.{put, put2, In}
 use Rattle.messages.specs.Queues.{Combination, combination, unmarked, records_of, records_but, answers}
 use Rattle.messages.specs.Network.{Sizes, wires, Net, put_requests, put_records, put_replies}
-use Rattle.messages.specs.Moves.{accepted, up_from, moved_up, push_all, has_room, answered, down_from, moved_down, injected, module_taken, module_replied, port_taken}
+use Rattle.messages.specs.Moves.{accepted, up_from, moved_up, push_all, has_room, answered, down_from, moved_down, injected, module_taken, module_replied}
+use Rattle.messages.specs.Moves.{port_taken}
 use Rattle.omega_wires.specs.Wires.{wire_after, wire_before}
 use Rattle.omega_wires.proofs.Lemmas.{path_zero}
 use Rattle.placement.specs.Roles.{Role, Idle, Asking, Told, Unnamed}
@@ -62,7 +64,8 @@ module _ (Core : Type 0) (M : Machine Core) where
 
   all_named : (z : Sizes) → AllNamed M (drain_step z M)
   all_named z =
-      or_named (first_wire (M.net.replies 0) (wires z) Turn) (or_else (down_step z M.net) (or_else (first_wire (M.net.requests z.k) (wires z) Serve) (up_step z M.net)))
+      or_named (first_wire (M.net.replies 0) (wires z) Turn)
+      (or_else (down_step z M.net) (or_else (first_wire (M.net.requests z.k) (wires z) Serve) (up_step z M.net)))
       (first_named (M.net.replies 0) (wires z) Turn (λ w e. e))
       (or_named (down_step z M.net) (or_else (first_wire (M.net.requests z.k) (wires z) Serve) (up_step z M.net))
       (down_named z (least (λ s. some_wire (M.net.replies (suc s)) (wires z)) z.k))
@@ -122,7 +125,8 @@ module _ (Core : Type 0) (z : Sizes) (P : Program Core) (p : ℕ) where
 
   -- ---- it begins
 
-  pub starts : (M : Machine Core) (role : ℕ → Role) → Steady z P M role → ((q : ℕ) → M.is_open q ≡ false) → step z P M (Turn p) ≡ issue P M p → IsLone (pass z P (from_machine M) (Turn p))
+  pub starts : (M : Machine Core) (role : ℕ → Role) → Steady z P M role → ((q : ℕ) → M.is_open q ≡ false) → step z P M (Turn p) ≡ issue P M p →
+      IsLone (pass z P (from_machine M) (Turn p))
   unfolding injected
   starts M role ok shut e =
       let g = goes_step z P M role (Turn p) ok in
@@ -151,9 +155,11 @@ module _ (Core : Type 0) (z : Sizes) (P : Program Core) (p : ℕ) where
     leads_request d w x m = is_p x.leader (Asking d) (lone.steady.placed.requests d w x m).asks (λ c. cc)
 
     -- with one request taken, none is left
-    none_left : (d w : ℕ) (x : Request) (rest : List Request) → M.net.requests d w ≡ x ∷ rest → (d' w' : ℕ) (b : Request) → In b (put2 M.net.requests d w rest d' w') → ⊥
+    none_left : (d w : ℕ) (x : Request) (rest : List Request) → M.net.requests d w ≡ x ∷ rest → (d' w' : ℕ) (b : Request) →
+        In b (put2 M.net.requests d w rest d' w') → ⊥
     none_left d w x rest e d' w' b m =
-        let free : Unnamed (put_requests M.net d w rest) x.leader = pop_request_unnamed z.k (path_of z P M.core) lone.role M.net d w x rest lone.steady.placed e in
+        let free : Unnamed (put_requests M.net d w rest) x.leader =
+        pop_request_unnamed z.k (path_of z P M.core) lone.role M.net d w x rest lone.steady.placed e in
         let here : In x (M.net.requests d w) = subst (In x) (sym e) (inl refl) in
         let old : In b (M.net.requests d' w') = elim (In-put2 M.net.requests d w rest d' w' b m) [ inl g ↦ rw (g.0, g.1, e) (inr g.2) | inr g ↦ g.1 ] in
         free.requests d' w' b m (leads_request d' w' b old ∙ sym (leads_request d w x here))
@@ -190,7 +196,9 @@ module _ (Core : Type 0) (z : Sizes) (P : Program Core) (p : ℕ) where
     goes_up s w [] e = still
     goes_up s w (x ∷ rest) e = by lone.stage
       where
-        joins : (v : ℕ) → IsAsking h → (o : Option Combination) → ((j : Combination) → o ≡ Some j → Joins z.r x ((put_requests M.net s w rest).requests (suc s) v) j) → Fine (went_up M (accepted z M.net (put_requests M.net s w rest) s v x o))
+        joins : (v : ℕ) → IsAsking h → (o : Option Combination) →
+            ((j : Combination) → o ≡ Some j → Joins z.r x ((put_requests M.net s w rest).requests (suc s) v) j) →
+            Fine (went_up M (accepted z M.net (put_requests M.net s w rest) s v x o))
         joins v a None f =
             queued_fine a (nat_lt (length ((put_requests M.net s w rest).requests (suc s) v)) z.c)
             (put_requests (put_requests M.net s w rest) (suc s) v ((put_requests M.net s w rest).requests (suc s) v ++ unmarked x ∷ [])) refl
@@ -229,7 +237,8 @@ module _ (Core : Type 0) (z : Sizes) (P : Program Core) (p : ℕ) where
     goes_down s w [] e = still
     goes_down s w (x ∷ rest) e = by lone.stage
       where
-        room : IsAnswered h → (b : Bool) (rs : List Record) (net : Net) → net.requests ≡ M.net.requests → Fine (went_down M (if b then (answered rs, net) else (down.Stalled, M.net)))
+        room : IsAnswered h → (b : Bool) (rs : List Record) (net : Net) → net.requests ≡ M.net.requests →
+            Fine (went_down M (if b then (answered rs, net) else (down.Stalled, M.net)))
         room a true rs net same = answered_fine a rs net same
         room a false rs net same = still
 
@@ -258,7 +267,8 @@ module _ (Core : Type 0) (z : Sizes) (P : Program Core) (p : ℕ) where
           inr (record {
             no_request = λ d w b i. none_left z.k m x (drop 1 (M.net.requests z.k m)) taken d w b i;
             order = ap₂ (λ es g. es ++ map P.entry.turn g) a.order
-                (ap (λ (f : ℕ → List ℕ). f x.leader) a.group ∙ ap (put {X = List ℕ} (λ q. []) p (p ∷ [])) (leads_request z.k m x here) ∙ put_same {X = List ℕ} (λ q. []) p (p ∷ []));
+                (ap (λ (f : ℕ → List ℕ). f x.leader) a.group ∙ ap (put {X = List ℕ} (λ q. []) p (p ∷ [])) (leads_request z.k m x here)
+                ∙ put_same {X = List ℕ} (λ q. []) p (p ∷ []));
           }),
         )
 
@@ -272,7 +282,8 @@ module _ (Core : Type 0) (z : Sizes) (P : Program Core) (p : ℕ) where
         by (inr b) = absurd (b.no_request z.k m x (subst (In x) (sym e) (inl refl)))
 
     serve_fine : (m : ℕ) → Fine (step z P M (Serve m))
-    serve_fine m = either (nat_lt m (wires z)) (serve_from z M m (M.net.requests z.k m) (M.net.replies z.k m)) (serves m (M.net.requests z.k m) refl (M.net.replies z.k m))
+    serve_fine m = either (nat_lt m (wires z)) (serve_from z M m (M.net.requests z.k m) (M.net.replies z.k m))
+        (serves m (M.net.requests z.k m) refl (M.net.replies z.k m))
 
     -- ---- p's turn
 

@@ -1,5 +1,6 @@
 -- The order of a run grows with the outcomes.
-use Rattle.std.proofs.Common.{◌≡◌, ℕ, ◌^◌, ◌<◌, ◌≤◌, Bool, true, false, eqb, List, [], ◌∷◌, ◌++◌, length, nat_lt, Some, None, ◌⊎◌, inl, inr, refl, sym, ap, ap₂, ◌∙◌, subst, arith}
+use Rattle.std.proofs.Common.{◌≡◌, ℕ, ◌^◌, ◌<◌, ◌≤◌, Bool, true, false, eqb, List, [], ◌∷◌, ◌++◌, length, nat_lt, Some, None, ◌⊎◌, inl, inr, refl, sym, ap}
+use Rattle.std.proofs.Common.{ap₂, ◌∙◌, subst, arith}
 use Rattle.std.specs.Prelude.{◌&&◌, map, if◌then◌else◌}
 use Rattle.std.specs.List.{IsDistinct, AllByRecursion, list_any}
 use Rattle.std.proofs.lemmas.Bool.{cases_lt, eqb-true, ne_eqb}
@@ -95,7 +96,8 @@ module _ (c : Config) (code : List ℕ) (M : Machine Told) where
 
   begun : (p : ℕ) (k : Kind) → kind_of (is_running (M.core p).state.status) (turns p) ≡ k → Tells (step.Turn p) false (begin (program c code) M p k)
   begun p Rests e = tells_stalled (step.Turn p) false
-  begun p Alone e = let same = alone p (is_running (M.core p).state.status) (turns p) e in record { group = λ g. ap (group_after g) same; segment_is = λ g. ap (segment g) same }
+  begun p Alone e = let same =
+      alone p (is_running (M.core p).state.status) (turns p) e in record { group = λ g. ap (group_after g) same; segment_is = λ g. ap (segment g) same }
   begun p Refers e = same_itself (theory.Issued p)
 
   turn : (p : ℕ) (b : Bool) → Tells (step.Turn p) b (turned (program c code) M p b)
@@ -127,10 +129,14 @@ module _ (c : Config) (code : List ℕ) (M : Machine Told) where
 
   pub tells : (s : Step) → Tells s (opened s) (taken c code M s)
   tells (step.Turn p) = either (step.Turn p) (M.is_open p) (nat_lt p (2 ^ c.k)) (turned (program c code) M p (M.is_open p)) (turn p (M.is_open p))
-  tells (step.Up s w) = either (step.Up s w) false (nat_lt w (2 ^ c.k)) (went_up M (moved_up (sizes_of c) M.net s w)) (goes_up s w (moved_up (sizes_of c) M.net s w))
-  tells (step.Serve m) = either (step.Serve m) false (nat_lt m (2 ^ c.k)) (serve_from (sizes_of c) M m (M.net.requests c.k m) (M.net.replies c.k m)) (serves m (M.net.requests c.k m) (M.net.replies c.k m))
-  tells (step.Down s w) = either (step.Down s w) false (nat_lt w (2 ^ c.k)) (went_down M (moved_down (sizes_of c) M.net s w)) (goes_down s w (moved_down (sizes_of c) M.net s w))
-  tells (step.Poke q) = either (step.Poke q) false (all_shut (2 ^ c.k) M.is_open && is_lawful_poke c q) (poked (program c code) M q) (same_itself (theory.Poked q))
+  tells (step.Up s w) =
+      either (step.Up s w) false (nat_lt w (2 ^ c.k)) (went_up M (moved_up (sizes_of c) M.net s w)) (goes_up s w (moved_up (sizes_of c) M.net s w))
+  tells (step.Serve m) = either (step.Serve m) false (nat_lt m (2 ^ c.k)) (serve_from (sizes_of c) M m (M.net.requests c.k m) (M.net.replies c.k m))
+      (serves m (M.net.requests c.k m) (M.net.replies c.k m))
+  tells (step.Down s w) =
+      either (step.Down s w) false (nat_lt w (2 ^ c.k)) (went_down M (moved_down (sizes_of c) M.net s w)) (goes_down s w (moved_down (sizes_of c) M.net s w))
+  tells (step.Poke q) =
+      either (step.Poke q) false (all_shut (2 ^ c.k) M.is_open && is_lawful_poke c q) (poked (program c code) M q) (same_itself (theory.Poked q))
 
 -- ---- an outcome does not depend on what the processors have shown
 
@@ -179,12 +185,16 @@ module _ (c : Config) (code : List ℕ) where
     alike_serve m (x ∷ rest) [] = refl
 
     pub alike : (s : Step) → Alike (taken c code M s) (taken c code M' s)
-    alike (step.Turn p) = alike_if M M' (nat_lt p (2 ^ c.k)) (turned (program c code) M p (M.is_open p)) (turned (program c code) M' p (M.is_open p)) (alike_turn p (M.is_open p))
-    alike (step.Up s w) = alike_if M M' (nat_lt w (2 ^ c.k)) (went_up M (moved_up (sizes_of c) M.net s w)) (went_up M' (moved_up (sizes_of c) M.net s w)) (alike_up (moved_up (sizes_of c) M.net s w))
+    alike (step.Turn p) = alike_if M M' (nat_lt p (2 ^ c.k)) (turned (program c code) M p (M.is_open p)) (turned (program c code) M' p (M.is_open p))
+        (alike_turn p (M.is_open p))
+    alike (step.Up s w) = alike_if M M' (nat_lt w (2 ^ c.k)) (went_up M (moved_up (sizes_of c) M.net s w)) (went_up M' (moved_up (sizes_of c) M.net s w))
+        (alike_up (moved_up (sizes_of c) M.net s w))
     alike (step.Serve m) =
-        alike_if M M' (nat_lt m (2 ^ c.k)) (serve_from (sizes_of c) M m (M.net.requests c.k m) (M.net.replies c.k m)) (serve_from (sizes_of c) M' m (M.net.requests c.k m) (M.net.replies c.k m))
+        alike_if M M' (nat_lt m (2 ^ c.k)) (serve_from (sizes_of c) M m (M.net.requests c.k m) (M.net.replies c.k m))
+        (serve_from (sizes_of c) M' m (M.net.requests c.k m) (M.net.replies c.k m))
         (alike_serve m (M.net.requests c.k m) (M.net.replies c.k m))
-    alike (step.Down s w) = alike_if M M' (nat_lt w (2 ^ c.k)) (went_down M (moved_down (sizes_of c) M.net s w)) (went_down M' (moved_down (sizes_of c) M.net s w)) (alike_down (moved_down (sizes_of c) M.net s w))
+    alike (step.Down s w) = alike_if M M' (nat_lt w (2 ^ c.k)) (went_down M (moved_down (sizes_of c) M.net s w))
+        (went_down M' (moved_down (sizes_of c) M.net s w)) (alike_down (moved_down (sizes_of c) M.net s w))
     alike (step.Poke q) = alike_if M M' (all_shut (2 ^ c.k) M.is_open && is_lawful_poke c q) (poked (program c code) M q) (poked (program c code) M' q) refl
 
 -- ---- distinct numbers below n are n at most
@@ -218,7 +228,8 @@ module _ (old : MachineLists) (is : IsMachine old) (idle : IsIdle old) where
     where
       at : (p < 2 ^ old.config.k) ⊎ (2 ^ old.config.k ≤ p) → (p < 2 ^ 8) ⊎ (is_running (port_at old.ports p).core.state.status ≡ false)
       at (inl within) = let small = count_small old.config.k is.limits.stages in inl (omega arith)
-      at (inr past) = inr (ap (λ (port : PortState). is_running port.core.state.status) (past_end old.ports p no_port (subst (λ n. n ≤ p) (sym is.ports.all) past)))
+      at (inr past) =
+          inr (ap (λ (port : PortState). is_running port.core.state.status) (past_end old.ports p no_port (subst (λ n. n ≤ p) (sym is.ports.all) past)))
 
   begins : Begins (sizes_of old.config) (program old.config old.code) IsGood (machine_of old (λ p. []))
   unfolding machine_of_parts
@@ -227,7 +238,8 @@ module _ (old : MachineLists) (is : IsMachine old) (idle : IsIdle old) where
   pub few_wait : (steps : List Step) (p : ℕ) → length ((passed old steps).group p) ≤ 64
   few_wait steps p =
       let c = old.config in
-      let f = follows (sizes_of c) (program c old.code) IsGood (keeps c old.code is.limits.stages is.code) (machine_of old (λ p. [])) begins (map named steps) in
+      let f =
+      follows (sizes_of c) (program c old.code) IsGood (keeps c old.code is.limits.stages is.code) (machine_of old (λ p. [])) begins (map named steps) in
       let g = f.simulates.groups in
       let few = few_below ((passed old steps).group p) (2 ^ c.k) (g.distinct p) (λ j m. f.simulates.within j (g.opened p j m)) in
       let small = count_small c.k is.limits.stages in
@@ -235,12 +247,14 @@ module _ (old : MachineLists) (is : IsMachine old) (idle : IsIdle old) where
 
 -- ---- one step more
 
-passes_more : (z : Sizes) (P : Program Told) (xs : List theory.Step) (st : theory.Step) (h : Passed Told) → passes z P (xs ++ st ∷ []) h ≡ pass z P (passes z P xs h) st
+passes_more : (z : Sizes) (P : Program Told) (xs : List theory.Step) (st : theory.Step) (h : Passed Told) →
+    passes z P (xs ++ st ∷ []) h ≡ pass z P (passes z P xs h) st
 unfolding passes
 passes_more z P [] st h = refl
 passes_more z P (x ∷ xs) st h = passes_more z P xs st (pass z P h x)
 
-passed_more : (old : MachineLists) (done : List Step) (s : Step) → passed old (done ++ s ∷ []) ≡ pass (sizes_of old.config) (program old.config old.code) (passed old done) (named s)
+passed_more : (old : MachineLists) (done : List Step) (s : Step) →
+    passed old (done ++ s ∷ []) ≡ pass (sizes_of old.config) (program old.config old.code) (passed old done) (named s)
 passed_more old done s =
     ap (ran (sizes_of old.config) (program old.config old.code) (machine_of old (λ p. []))) (map-append named done (s ∷ []))
     ∙ passes_more (sizes_of old.config) (program old.config old.code) (map named done) (named s) (from_machine (machine_of old (λ p. [])))
@@ -252,11 +266,13 @@ pub record IsOrdered (old : MachineLists) (done : List Step) (m : MachineLists) 
   pub order : entries ≡ (passed old done).order
   pub leaders : length groups ≡ 256
 
-pub order_begins : (old : MachineLists) (groups : List (ArrayVec ℕ)) (entries : List Entry) → length groups ≡ 256 → ((p : ℕ) → group_in groups p ≡ []) → entries ≡ [] → IsOrdered old [] old groups entries
+pub order_begins : (old : MachineLists) (groups : List (ArrayVec ℕ)) (entries : List Entry) → length groups ≡ 256 → ((p : ℕ) → group_in groups p ≡ []) →
+    entries ≡ [] → IsOrdered old [] old groups entries
 unfolding passes
 order_begins old groups entries leaders none empty = record { run = run_begins old; group = fun_ext none; order = empty; leaders = leaders }
 
-module _ (old m : MachineLists) (done : List Step) (groups : List (ArrayVec ℕ)) (entries : List Entry) (d : IsOrdered old done m groups entries) (s : Step) (o : Outcome) (new : MachineLists) (is : IsStep m s o new) where
+module _ (old m : MachineLists) (done : List Step) (groups : List (ArrayVec ℕ)) (entries : List Entry) (d : IsOrdered old done m groups entries) (s : Step)
+    (o : Outcome) (new : MachineLists) (is : IsStep m s o new) where
   abbrev h : Passed Told
   h = passed old done
 
@@ -269,7 +285,8 @@ module _ (old m : MachineLists) (done : List Step) (groups : List (ArrayVec ℕ)
   -- the machine is the theory's
   machine_is : M ≡ h.machine
   machine_is =
-      let e : h.machine ≡ all_after old.config old.code (machine_of old (λ p. [])) done = passes_machine old.config old.code done (from_machine (machine_of old (λ p. []))) in
+      let e : h.machine ≡ all_after old.config old.code (machine_of old (λ p. [])) done =
+      passes_machine old.config old.code done (from_machine (machine_of old (λ p. []))) in
       subst (λ N. machine_of m (events_of N) ≡ N) (sym e) (d.run.after (λ p. []))
 
   open_is : (t : Step) → is_open_at m t ≡ opened m.config m.code M t
@@ -282,12 +299,14 @@ module _ (old m : MachineLists) (done : List Step) (groups : List (ArrayVec ℕ)
 
   outcome_is : o ≡ answer_of (λ p. next m.config m.code p (M.core p).state) (taken m.config m.code M s).outcome
   unfolding machine_of_parts outcome_of
-  outcome_is = is.step.outcome ∙ ap (answer_of (λ p. next m.config m.code p (M.core p).state)) (alike m.config m.code (machine_of m (λ p. [])) (events_of h.machine) s)
+  outcome_is =
+      is.step.outcome ∙ ap (answer_of (λ p. next m.config m.code p (M.core p).state)) (alike m.config m.code (machine_of m (λ p. [])) (events_of h.machine) s)
 
   -- what is told enters the same as the theory's outcome
   same : Same told (theory.step (sizes_of old.config) (program old.config old.code) h.machine (named s)).outcome
   same =
-      let here : Same told (taken m.config m.code M s).outcome = subst (λ b. Same (told_by s b o) (taken m.config m.code M s).outcome) (sym (open_is s)) (subst (λ a. Same (told_by s (opened m.config m.code M s) a) (taken m.config m.code M s).outcome) (sym outcome_is) (tells m.config m.code M s)) in
+      let here : Same told (taken m.config m.code M s).outcome = subst (λ b. Same (told_by s b o) (taken m.config m.code M s).outcome) (sym (open_is s))
+      (subst (λ a. Same (told_by s (opened m.config m.code M s) a) (taken m.config m.code M s).outcome) (sym outcome_is) (tells m.config m.code M s)) in
       subst (λ N. Same told (taken old.config old.code N s).outcome) machine_is
       (subst (λ code. Same told (taken old.config code M s).outcome) d.run.code (subst (λ c. Same told (taken c m.code M s).outcome) d.run.config here))
 
@@ -298,7 +317,8 @@ module _ (old m : MachineLists) (done : List Step) (groups : List (ArrayVec ℕ)
   pub few_after : IsMachine old → IsIdle old → (p : ℕ) → length (group_after (group_in groups) told p) ≤ 64
   few_after machine idle p = subst (λ g. length (g p) ≤ 64) (sym group_is) (few_wait old machine idle (done ++ s ∷ []) p)
 
-  pub order_goes_on : (groups' : List (ArrayVec ℕ)) (entries' : List Entry) → IsEntered groups entries told groups' entries' → IsOrdered old (done ++ s ∷ []) new groups' entries'
+  pub order_goes_on : (groups' : List (ArrayVec ℕ)) (entries' : List Entry) → IsEntered groups entries told groups' entries' →
+      IsOrdered old (done ++ s ∷ []) new groups' entries'
   order_goes_on groups' entries' e = record {
     run = run_more old m new done s o d.run is;
     group = e.group ∙ group_is;

@@ -80,10 +80,14 @@ module _ (c : Config) (code : List ℕ) (M : Machine Told) (shown : ℕ → List
   serves m (x ∷ rest) [] = refl
 
   same : (s : Step) → (taken c code R s).outcome ≡ (taken c code M s).outcome
-  same (step.Turn p) = either (nat_lt p (2 ^ c.k)) (turned (program c code) R p (M.is_open p)) (turned (program c code) M p (M.is_open p)) (turns p (M.is_open p))
-  same (step.Up s w) = either (nat_lt w (2 ^ c.k)) (went_up R (moved_up (sizes_of c) M.net s w)) (went_up M (moved_up (sizes_of c) M.net s w)) (goes_up (moved_up (sizes_of c) M.net s w))
-  same (step.Serve m) = either (nat_lt m (2 ^ c.k)) (serve_from (sizes_of c) R m (M.net.requests c.k m) (M.net.replies c.k m)) (serve_from (sizes_of c) M m (M.net.requests c.k m) (M.net.replies c.k m)) (serves m (M.net.requests c.k m) (M.net.replies c.k m))
-  same (step.Down s w) = either (nat_lt w (2 ^ c.k)) (went_down R (moved_down (sizes_of c) M.net s w)) (went_down M (moved_down (sizes_of c) M.net s w)) (goes_down (moved_down (sizes_of c) M.net s w))
+  same (step.Turn p) =
+      either (nat_lt p (2 ^ c.k)) (turned (program c code) R p (M.is_open p)) (turned (program c code) M p (M.is_open p)) (turns p (M.is_open p))
+  same (step.Up s w) = either (nat_lt w (2 ^ c.k)) (went_up R (moved_up (sizes_of c) M.net s w)) (went_up M (moved_up (sizes_of c) M.net s w))
+      (goes_up (moved_up (sizes_of c) M.net s w))
+  same (step.Serve m) = either (nat_lt m (2 ^ c.k)) (serve_from (sizes_of c) R m (M.net.requests c.k m) (M.net.replies c.k m))
+      (serve_from (sizes_of c) M m (M.net.requests c.k m) (M.net.replies c.k m)) (serves m (M.net.requests c.k m) (M.net.replies c.k m))
+  same (step.Down s w) = either (nat_lt w (2 ^ c.k)) (went_down R (moved_down (sizes_of c) M.net s w)) (went_down M (moved_down (sizes_of c) M.net s w))
+      (goes_down (moved_down (sizes_of c) M.net s w))
   same (step.Poke q) = either (all_shut (2 ^ c.k) M.is_open && is_lawful_poke c q) (poked (program c code) R q) (poked (program c code) M q) refl
 
   pub outcome_same : (s : Step) → outcome_of c code (retell shown M) s ≡ outcome_of c code M s
@@ -101,7 +105,8 @@ outcome_there old m done r s =
 
 -- ---- one step more
 
-none_more : (c : Config) (code : List ℕ) (M : Machine Told) (xs : List Step) (s : Step) → NoneStalls c code M xs → (outcome_of c code (all_after c code M xs) s ≡ Stalled → ⊥) → NoneStalls c code M (xs ++ s ∷ [])
+none_more : (c : Config) (code : List ℕ) (M : Machine Told) (xs : List Step) (s : Step) → NoneStalls c code M xs →
+    (outcome_of c code (all_after c code M xs) s ≡ Stalled → ⊥) → NoneStalls c code M (xs ++ s ∷ [])
 unfolding all_after
 none_more c code M [] s n moves = (moves, tt)
 none_more c code M (x ∷ xs) s n moves = (n.0, none_more c code (after c code M x) xs s n.1 moves)
@@ -109,14 +114,16 @@ none_more c code M (x ∷ xs) s n moves = (n.0, none_more c code (after c code M
 pub replay_begins : (m : MachineLists) → IsReplay m [] m
 replay_begins m = record { run = run_begins m; moved = tt }
 
-pub replay_more : (old m new : MachineLists) (done : List Step) (s : Step) (o : Outcome) → IsReplay old done m → IsStep m s o new → (o ≡ Stalled → ⊥) → IsReplay old (done ++ s ∷ []) new
+pub replay_more : (old m new : MachineLists) (done : List Step) (s : Step) (o : Outcome) → IsReplay old done m → IsStep m s o new → (o ≡ Stalled → ⊥) →
+    IsReplay old (done ++ s ∷ []) new
 replay_more old m new done s o r is moves = record {
   run = run_more old m new done s o r.run is;
   moved = none_more old.config old.code (machine_of old (λ p. [])) done s r.moved (λ e. moves (is.step.outcome ∙ sym (outcome_there old m done r.run s) ∙ e));
 }
 
 -- a step that stalls leaves the run as it was
-pub replay_kept : (old m new : MachineLists) (done : List Step) (s : Step) (o : Outcome) → IsReplay old done m → IsStep m s o new → ((shown : ℕ → List Event) → machine_of new shown ≡ machine_of m shown) → IsReplay old done new
+pub replay_kept : (old m new : MachineLists) (done : List Step) (s : Step) (o : Outcome) → IsReplay old done m → IsStep m s o new →
+    ((shown : ℕ → List Event) → machine_of new shown ≡ machine_of m shown) → IsReplay old done new
 replay_kept old m new done s o r is same = record {
   run = record {
     config = is.config ∙ r.run.config;

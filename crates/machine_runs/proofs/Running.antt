@@ -25,7 +25,8 @@ use Rattle.machine_runs.proofs.Flattening.{opens}
 
 -- ---- one step more
 
-pub all_after_more : (c : Config) (code : List ℕ) (M : theory.Machine Told) (xs : List Step) (s : Step) → all_after c code M (xs ++ s ∷ []) ≡ after c code (all_after c code M xs) s
+pub all_after_more : (c : Config) (code : List ℕ) (M : theory.Machine Told) (xs : List Step) (s : Step) →
+    all_after c code M (xs ++ s ∷ []) ≡ after c code (all_after c code M xs) s
 unfolding all_after
 all_after_more c code M [] s = refl
 all_after_more c code M (x ∷ xs) s = all_after_more c code (after c code M x) xs s
@@ -59,18 +60,21 @@ run_more old m new done s o r is = record {
 
 -- ---- the theory's run is the same
 
-pub passes_machine : (c : Config) (code : List ℕ) (steps : List Step) (h : Passed Told) → (passes (sizes_of c) (program c code) (map named steps) h).machine ≡ all_after c code h.machine steps
+pub passes_machine : (c : Config) (code : List ℕ) (steps : List Step) (h : Passed Told) →
+    (passes (sizes_of c) (program c code) (map named steps) h).machine ≡ all_after c code h.machine steps
 unfolding passes all_after after
 passes_machine c code [] h = refl
 passes_machine c code (s ∷ ss) h = passes_machine c code ss (pass (sizes_of c) (program c code) h (named s))
 
-module _ (old : MachineLists) (steps : List Step) (new : MachineLists) (is : IsMachine old) (idle : IsIdle old) (is' : IsMachine new) (r : IsRun old steps new) where
+module _ (old : MachineLists) (steps : List Step) (new : MachineLists) (is : IsMachine old) (idle : IsIdle old) (is' : IsMachine new)
+    (r : IsRun old steps new) where
   abbrev h : Passed Told
   h = passed old steps
 
   reached : machine_of new (events_of h.machine) ≡ h.machine
   reached =
-      let e : h.machine ≡ all_after old.config old.code (machine_of old (λ p. [])) steps = passes_machine old.config old.code steps (from_machine (machine_of old (λ p. []))) in
+      let e : h.machine ≡ all_after old.config old.code (machine_of old (λ p. [])) steps =
+      passes_machine old.config old.code steps (from_machine (machine_of old (λ p. []))) in
       subst (λ M. machine_of new (events_of M) ≡ M) (sym e) (r.after (λ p. []))
 
   explained : IsExplained old.config old.code (flat_state old) h
@@ -81,7 +85,8 @@ module _ (old : MachineLists) (steps : List Step) (new : MachineLists) (is : IsM
   F = flat_run (flat_state old) h.order
 
   sound_after : IsSoundFlat old.config old.code F
-  sound_after = run_sound old.config old.code (means_change old.config old.code is.limits.stages is.code) h.order (flat_state old) (order_lawful old.config old.code (map named steps) (from_machine (machine_of old (λ p. []))) tt) (sound old is)
+  sound_after = run_sound old.config old.code (means_change old.config old.code is.limits.stages is.code) h.order (flat_state old)
+      (order_lawful old.config old.code (map named steps) (from_machine (machine_of old (λ p. []))) tt) (sound old is)
 
   module _ (idle' : IsIdle new) where
     none_open : (p : ℕ) → h.machine.is_open p ≡ false

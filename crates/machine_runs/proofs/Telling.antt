@@ -1,5 +1,6 @@
 -- The events that outcomes tell of are those that processors have shown, and the flat machine shows the same.
-use Rattle.std.proofs.Common.{◌≡◌, ℕ, ◌^◌, ◌≤◌, cond, eqb, Bool, true, false, List, [], ◌∷◌, ◌++◌, length, nat_lt, inl, inr, Option, Some, None, refl, sym, ap, ◌∙◌, arith}
+use Rattle.std.proofs.Common.{◌≡◌, ℕ, ◌^◌, ◌≤◌, cond, eqb, Bool, true, false, List, [], ◌∷◌, ◌++◌, length, nat_lt, inl, inr, Option, Some, None, refl, sym, ap}
+use Rattle.std.proofs.Common.{◌∙◌, arith}
 use Rattle.std.specs.Prelude.{◌&&◌, map, if◌then◌else◌}
 use Rattle.std.proofs.lemmas.Bool.{cases_eq}
 use Rattle.std.proofs.lemmas.List.{append-nil}
@@ -59,7 +60,8 @@ unfolding put
 put_shown f p g = fun_ext (λ q. picked (eqb q p) g (f q))
 
 put_own : (f : ℕ → List Event) (p : ℕ) → put f p (f p) ≡ f
-put_own f p = fun_ext (λ q. elim (cases_eq q p) [ inl same ↦ ap (put f p (f p)) same ∙ put_same f p (f p) ∙ ap f (sym same) | inr other ↦ put_other f p (f p) q other ])
+put_own f p =
+    fun_ext (λ q. elim (cases_eq q p) [ inl same ↦ ap (put f p (f p)) same ∙ put_same f p (f p) ∙ ap f (sym same) | inr other ↦ put_other f p (f p) q other ])
 
 -- a processor that shows nothing
 put_silent : (f : ℕ → Told) (p : ℕ) (g : Told) → g.events ≡ (f p).events → shown_by (put f p g) ≡ shown_by f
@@ -83,7 +85,8 @@ module _ (c : Config) (code : List ℕ) (M : Machine Told) where
   either s true r t = t
   either s false r t = still s
 
-  replied : (p : ℕ) (o : Option (Processor × retirement.Retired)) → shown_by (put M.core p (retired_by (M.core p) o)) ≡ with_shown (events_of M) (step.Turn p) (told_of_reply o)
+  replied : (p : ℕ) (o : Option (Processor × retirement.Retired)) →
+      shown_by (put M.core p (retired_by (M.core p) o)) ≡ with_shown (events_of M) (step.Turn p) (told_of_reply o)
   replied p None = put_silent M.core p (M.core p) refl
   replied p (Some done) = put_shown M.core p (retired_by (M.core p) (Some done))
 
@@ -130,7 +133,8 @@ module _ (c : Config) (code : List ℕ) (M : Machine Told) where
   taken_tells (step.Up s w) =
       either (step.Up s w) (nat_lt w (2 ^ c.k)) (went_up M (moved_up (sizes_of c) M.net s w)) (goes_up s w (moved_up (sizes_of c) M.net s w))
   taken_tells (step.Serve m) =
-      either (step.Serve m) (nat_lt m (2 ^ c.k)) (serve_from (sizes_of c) M m (M.net.requests c.k m) (M.net.replies c.k m)) (serves m (M.net.requests c.k m) (M.net.replies c.k m))
+      either (step.Serve m) (nat_lt m (2 ^ c.k)) (serve_from (sizes_of c) M m (M.net.requests c.k m) (M.net.replies c.k m))
+      (serves m (M.net.requests c.k m) (M.net.replies c.k m))
   taken_tells (step.Down s w) =
       either (step.Down s w) (nat_lt w (2 ^ c.k)) (went_down M (moved_down (sizes_of c) M.net s w)) (goes_down s w (moved_down (sizes_of c) M.net s w))
   taken_tells (step.Poke q) = either (step.Poke q) (all_shut (2 ^ c.k) M.is_open && is_lawful_poke c q) (poked (program c code) M q) (pokes q)
@@ -141,12 +145,14 @@ module _ (c : Config) (code : List ℕ) (M : Machine Told) where
 
 -- ---- a list of steps
 
-steps_tell : (c : Config) (code : List ℕ) (M : Machine Told) (steps : List Step) → told_after c code M steps (events_of M) ≡ events_of (all_after c code M steps)
+steps_tell : (c : Config) (code : List ℕ) (M : Machine Told) (steps : List Step) →
+    told_after c code M steps (events_of M) ≡ events_of (all_after c code M steps)
 unfolding told_after all_after
 steps_tell c code M [] = refl
 steps_tell c code M (s ∷ ss) = ap (told_after c code (after c code M s) ss) (sym (step_tells c code M s)) ∙ steps_tell c code (after c code M s) ss
 
-module _ (opening : MachineLists) (steps : List Step) (machine : MachineLists) (is : IsMachine opening) (idle : IsIdle opening) (r : IsRun opening steps machine) where
+module _ (opening : MachineLists) (steps : List Step) (machine : MachineLists) (is : IsMachine opening) (idle : IsIdle opening)
+    (r : IsRun opening steps machine) where
   abbrev h : Passed Told
   h = passed opening steps
 
@@ -158,7 +164,8 @@ module _ (opening : MachineLists) (steps : List Step) (machine : MachineLists) (
       ∙ ap (λ (K : Machine Told). events_of K p) (sym (passes_machine opening.config opening.code steps (from_machine M)))
 
   explained : IsExplained opening.config opening.code (flat_state opening) h
-  explained = (runs_are_explained opening.config opening.code).moments (machine_of opening (λ p. [])) (flat_state opening) (map named steps) (opens opening is idle)
+  explained =
+      (runs_are_explained opening.config opening.code).moments (machine_of opening (λ p. [])) (flat_state opening) (map named steps) (opens opening is idle)
 
   unserved_same : (p : ℕ) → h.served p ≡ None → told_of_steps opening steps p ≡ shown_in_order opening steps p
   unserved_same p none = told_is p ∙ ap (λ (g : Told). g.events) (explained.unserved p none)
@@ -167,7 +174,8 @@ module _ (opening : MachineLists) (steps : List Step) (machine : MachineLists) (
   abbrev Later : ℕ → Type 0
   Later p = (later : List Event) × (shown_in_order opening steps p ≡ told_of_steps opening steps p ++ later) × (length later ≤ 1)
 
-  retired_later : (p : ℕ) (o : Option (Processor × retirement.Retired)) → (flat_after opening.config opening.code (flat_state opening) h.order).core p ≡ retired_by (h.machine.core p) o → Later p
+  retired_later : (p : ℕ) (o : Option (Processor × retirement.Retired)) →
+      (flat_after opening.config opening.code (flat_state opening) h.order).core p ≡ retired_by (h.machine.core p) o → Later p
   retired_later p None e = ([], ap (λ (g : Told). g.events) e ∙ sym (told_is p) ∙ sym (append-nil (told_of_steps opening steps p)), omega arith)
   retired_later p (Some done) e =
       (event.Retired done.1 ∷ [], ap (λ (g : Told). g.events) e ∙ ap (λ es. es ++ event.Retired done.1 ∷ []) (sym (told_is p)), omega arith)

@@ -1,5 +1,6 @@
 -- One instruction at a time: the flat machine's step.
-use Rattle.std.proofs.Common.{◌≡◌, ℕ, zero, suc, ◌+◌, ◌*◌, ◌^◌, ◌<◌, ◌≤◌, Bool, true, false, List, [], ◌∷◌, ◌++◌, length, nat_lt, Option, Some, None, ◌⊎◌, inl, inr, refl, sym, ap, ap₂, ◌∙◌, subst, arith}
+use Rattle.std.proofs.Common.{◌≡◌, ℕ, zero, suc, ◌+◌, ◌*◌, ◌^◌, ◌<◌, ◌≤◌, Bool, true, false, List, [], ◌∷◌, ◌++◌, length, nat_lt, Option, Some, None, ◌⊎◌, inl}
+use Rattle.std.proofs.Common.{inr, refl, sym, ap, ap₂, ◌∙◌, subst, arith}
 use Rattle.std.specs.Prelude.{map, slice_get, if◌then◌else◌}
 use Rattle.std.proofs.lemmas.Bool.{true≢false, lt-ltb}
 use Rattle.std.proofs.lemmas.List.{length-append}
@@ -39,7 +40,8 @@ use Rattle.machine_runs.specs.Whole.{event_of, steps_from, one_steps, IsOne, IsS
 use Rattle.machine.proofs.Lemmas.{all_shut, count_is, stalled_keeps, state_at}
 use Rattle.machine_runs.proofs.Running.{run_begins, run_more, passes_machine, serialized}
 use Rattle.machine_runs.proofs.Replaying.{replay_begins, replay_more, replay_kept}
-use Rattle.machine_runs.proofs.Drained.{named_again, named_step, goes_on as names_a_move, IsUnderWay, drain_begins, drain_goes_on, all_taken, none_more, steps_short, drain_stops, drain_is_whole}
+use Rattle.machine_runs.proofs.Drained.{named_again, named_step, goes_on as names_a_move, IsUnderWay, drain_begins, drain_goes_on, all_taken, none_more}
+use Rattle.machine_runs.proofs.Drained.{steps_short, drain_stops, drain_is_whole}
 use Rattle.machine_runs.proofs.Lone.{IsLone, IsAsking, IsAnswered, FirstTurn, first_turn, starts, After, goes_on, is_open_yet}
 
 -- ---- events
@@ -99,20 +101,24 @@ module _ (c : Config) (code : List ℕ) (M : theory.Machine Told) (p : ℕ) wher
   open_tells : M.is_open p ≡ true → Tells (outcome_of c code M (step.Turn p))
   unfolding outcome_of
   open_tells opened =
-      subst (λ b. Tells (answer (if nat_lt p (2 ^ c.k) then theory.turned (program c code) M p b else theory.stalled M).outcome)) (sym opened) (taken_tells (nat_lt p (2 ^ c.k)))
+      subst (λ b. Tells (answer (if nat_lt p (2 ^ c.k) then theory.turned (program c code) M p b else theory.stalled M).outcome)) (sym opened)
+      (taken_tells (nat_lt p (2 ^ c.k)))
 
 -- ---- a step more
 
 passes_more : (c : Config) (code : List ℕ) (xs : List Step) (s : Step) (h : Passed Told) →
-    passes (sizes_of c) (program c code) (map named (xs ++ s ∷ [])) h ≡ pass (sizes_of c) (program c code) (passes (sizes_of c) (program c code) (map named xs) h) (named s)
+    passes (sizes_of c) (program c code) (map named (xs ++ s ∷ [])) h
+    ≡ pass (sizes_of c) (program c code) (passes (sizes_of c) (program c code) (map named xs) h) (named s)
 unfolding passes
 passes_more c code [] s h = refl
 passes_more c code (x ∷ xs) s h = passes_more c code xs s (pass (sizes_of c) (program c code) h (named x))
 
 -- what a run leaves is what the theory's does
-pub run_reaches : (old new : MachineLists) (steps : List Step) → IsRun old steps new → machine_of new (events_of (passed old steps).machine) ≡ (passed old steps).machine
+pub run_reaches : (old new : MachineLists) (steps : List Step) → IsRun old steps new →
+    machine_of new (events_of (passed old steps).machine) ≡ (passed old steps).machine
 run_reaches old new steps r =
-    let e : (passed old steps).machine ≡ all_after old.config old.code (machine_of old (λ p. [])) steps = passes_machine old.config old.code steps (from_machine (machine_of old (λ p. []))) in
+    let e : (passed old steps).machine ≡ all_after old.config old.code (machine_of old (λ p. [])) steps =
+    passes_machine old.config old.code steps (from_machine (machine_of old (λ p. []))) in
     subst (λ (M : theory.Machine Told). machine_of new (events_of M) ≡ M) (sym e) (r.after (λ p. []))
 
 pub open_same : (old new : MachineLists) (steps : List Step) → IsRun old steps new → (q : ℕ) → open_at new.ports q ≡ (passed old steps).machine.is_open q
@@ -121,7 +127,8 @@ open_same old new steps r q = ap (λ (M : theory.Machine Told). M.is_open q) (ru
 
 -- ---- the end
 
-module _ (old : MachineLists) (p : ℕ) (o : Outcome) (new : MachineLists) (steps : List Step) (is : IsMachine old) (idle : IsIdle old) (is' : IsMachine new) (idle' : IsIdle new) (r : IsRun old steps new) (taken : IsReplay old (one_steps old p) new) (nothing : o ≡ Stalled → one_steps old p ≡ []) where
+module _ (old : MachineLists) (p : ℕ) (o : Outcome) (new : MachineLists) (steps : List Step) (is : IsMachine old) (idle : IsIdle old) (is' : IsMachine new)
+    (idle' : IsIdle new) (r : IsRun old steps new) (taken : IsReplay old (one_steps old p) new) (nothing : o ≡ Stalled → one_steps old p ≡ []) where
   serial : IsSerialized old steps new
   serial = serialized old steps new is idle is' r
 
@@ -130,7 +137,8 @@ module _ (old : MachineLists) (p : ℕ) (o : Outcome) (new : MachineLists) (step
   is_one order shown tells =
       let same : event_of o ≡ flat_event (flat_state old) (entry.Processor p) =
       same_option (event_of o) (flat_event (flat_state old) (entry.Processor p))
-      (sym shown ∙ serial.shown idle' p ∙ ap (λ es. with_events (λ q. []) (flat_events (flat_state old) es) p) order ∙ events_one p (flat_event (flat_state old) (entry.Processor p))) in
+      (sym shown ∙ serial.shown idle' p ∙ ap (λ es. with_events (λ q. []) (flat_events (flat_state old) es) p) order
+      ∙ events_one p (flat_event (flat_state old) (entry.Processor p))) in
       record {
         replay = taken;
         idle = idle';
@@ -140,7 +148,8 @@ module _ (old : MachineLists) (p : ℕ) (o : Outcome) (new : MachineLists) (step
       }
 
   -- the order is empty, and the flat machine has no step
-  pub is_none : (passed old steps).order ≡ [] → flat_step (flat_state old) (entry.Processor p) ≡ flat_state old → flat_event (flat_state old) (entry.Processor p) ≡ None → o ≡ Stalled → IsOne old p o new
+  pub is_none : (passed old steps).order ≡ [] → flat_step (flat_state old) (entry.Processor p) ≡ flat_state old →
+      flat_event (flat_state old) (entry.Processor p) ≡ None → o ≡ Stalled → IsOne old p o new
   is_none order same none stalled = record {
     replay = taken;
     idle = idle';
@@ -157,7 +166,8 @@ steps_back before p sent s =
     let M : theory.Machine Told = machine_of before (λ q. []) in
     let same : steps_home before.config before.code (drain_bound before.config) (after before.config before.code M (step.Turn p)) ≡ drain_steps sent =
     ap (steps_home before.config before.code (drain_bound before.config)) (sym (s.turn.step.after (λ q. [])))
-    ∙ ap₂ (λ (c : Config) code. steps_home c code (drain_bound c) (machine_of_parts c (net_of sent.network) sent.ports sent.modules (λ q. []))) (sym s.turn.config) (sym s.turn.code) in
+    ∙ ap₂ (λ (c : Config) code. steps_home c code (drain_bound c) (machine_of_parts c (net_of sent.network) sent.ports sent.modules (λ q. [])))
+    (sym s.turn.config) (sym s.turn.code) in
     ap (steps_from before.config before.code M (step.Turn p)) (sym s.turn.step.outcome) ∙ ap (λ xs. step.Turn p ∷ xs) same
 
 -- since p's turn these steps were taken
@@ -183,7 +193,8 @@ module _ (before : MachineLists) (p : ℕ) (tail : List Step) (m : MachineLists)
 
   same_next : theory.drain_step (sizes_of before.config) h.machine ≡ draining.drain_step (sizes_of m.config) (machine_of m (λ p. []))
   unfolding machine_of_parts
-  same_next = ap (draining.drain_step (sizes_of before.config)) (sym (run_reaches before m done way)) ∙ ap (λ c. draining.drain_step (sizes_of c) (machine_of m (events_of h.machine))) (sym way.config)
+  same_next = ap (draining.drain_step (sizes_of before.config)) (sym (run_reaches before m done way))
+      ∙ ap (λ c. draining.drain_step (sizes_of c) (machine_of m (events_of h.machine))) (sym way.config)
 
   open_there : h.machine.is_open p ≡ true → (machine_of m (λ q. [])).is_open p ≡ true
   unfolding machine_of_parts
@@ -222,7 +233,8 @@ module _ (before : MachineLists) (p : ℕ) (tail : List Step) (m : MachineLists)
       shown_by : (t : Step) → t ≡ s → events_of h'.machine p ≡ with_shown (events_of h.machine) t o p
       shown_by t same = ap (λ (f : ℕ → List Event). f p) shown_now ∙ ap (λ u. with_shown (events_of h.machine) u o p) (sym same)
 
-      back : (h'.machine.is_open p ≡ true → events_of h'.machine p ≡ []) → (h'.machine.is_open p ≡ false → events_of h'.machine p ≡ list_of (event_of o)) → (h'.machine.is_open p ≡ false → Tells o) → IsComingBack before p (tail ++ s ∷ []) new o
+      back : (h'.machine.is_open p ≡ true → events_of h'.machine p ≡ []) → (h'.machine.is_open p ≡ false → events_of h'.machine p ≡ list_of (event_of o)) →
+          (h'.machine.is_open p ≡ false → Tells o) → IsComingBack before p (tail ++ s ∷ []) new o
       back silent told tells = record {
         replay = replay_more before m new done s o b.replay is moves_on;
         moves = moves_on;
@@ -237,13 +249,16 @@ module _ (before : MachineLists) (p : ℕ) (tail : List Step) (m : MachineLists)
       closes q same is_p shut =
           back (λ open_now. absurd (true≢false (sym open_now ∙ shut)))
           (λ f. shown_by (step.Turn p) (ap step.Turn (sym is_p) ∙ same) ∙ shown_turn (events_of h.machine) p o (b.silent opened))
-          (λ f. subst Tells (sym (is.step.outcome ∙ ap (outcome_of m.config m.code (machine_of m (λ q. []))) (sym same ∙ ap step.Turn is_p))) (open_tells m.config m.code (machine_of m (λ q. [])) p (open_there opened)))
+          (λ f. subst Tells (sym (is.step.outcome ∙ ap (outcome_of m.config m.code (machine_of m (λ q. []))) (sym same ∙ ap step.Turn is_p)))
+          (open_tells m.config m.code (machine_of m (λ q. [])) p (open_there opened)))
 
       -- p is still open
       stays : h'.machine.is_open p ≡ true → events_of h'.machine p ≡ events_of h.machine p → IsComingBack before p (tail ++ s ∷ []) new o
-      stays open_now kept = back (λ f. kept ∙ b.silent opened) (λ shut. absurd (true≢false (sym open_now ∙ shut))) (λ shut. absurd (true≢false (sym open_now ∙ shut)))
+      stays open_now kept =
+          back (λ f. kept ∙ b.silent opened) (λ shut. absurd (true≢false (sym open_now ∙ shut))) (λ shut. absurd (true≢false (sym open_now ∙ shut)))
 
-    comes : (st : theory.Step) → draining.drain_step (sizes_of before.config) h.machine ≡ Some st → step_of st ≡ s → IsComingBack before p (tail ++ s ∷ []) new o
+    comes : (st : theory.Step) → draining.drain_step (sizes_of before.config) h.machine ≡ Some st → step_of st ≡ s →
+        IsComingBack before p (tail ++ s ∷ []) new o
     comes st e names = by st e names (goes st e names).1
       where
         open_of : (st : theory.Step) (e : draining.drain_step (sizes_of before.config) h.machine ≡ Some st) (names : step_of st ≡ s) →
@@ -252,11 +267,14 @@ module _ (before : MachineLists) (p : ℕ) (tail : List Step) (m : MachineLists)
 
         by : (st : theory.Step) (e : draining.drain_step (sizes_of before.config) h.machine ≡ Some st) (names : step_of st ≡ s) →
             After Told (sizes_of before.config) (program before.config before.code) p h b.lone st → IsComingBack before p (tail ++ s ∷ []) new o
-        by (theory.Turn q) e names a = closes (theory.Turn q) e names q names a.0 (ap (λ (g : Passed Told). g.machine.is_open p) (now (theory.Turn q) e names) ∙ a.1)
+        by (theory.Turn q) e names a =
+            closes (theory.Turn q) e names q names a.0 (ap (λ (g : Passed Told). g.machine.is_open p) (now (theory.Turn q) e names) ∙ a.1)
         by (theory.Poke q) e names a = absurd a
         by (theory.Up i w) e names a = stays (theory.Up i w) e names (open_of (theory.Up i w) e names a) (shown_by (theory.Up i w) e names (step.Up i w) names)
-        by (theory.Serve i) e names a = stays (theory.Serve i) e names (open_of (theory.Serve i) e names a) (shown_by (theory.Serve i) e names (step.Serve i) names)
-        by (theory.Down i w) e names a = stays (theory.Down i w) e names (open_of (theory.Down i w) e names a) (shown_by (theory.Down i w) e names (step.Down i w) names)
+        by (theory.Serve i) e names a =
+            stays (theory.Serve i) e names (open_of (theory.Serve i) e names a) (shown_by (theory.Serve i) e names (step.Serve i) names)
+        by (theory.Down i w) e names a =
+            stays (theory.Down i w) e names (open_of (theory.Down i w) e names a) (shown_by (theory.Down i w) e names (step.Down i w) names)
 
     pub comes_on : IsComingBack before p (tail ++ s ∷ []) new o
     comes_on =
@@ -269,10 +287,13 @@ module _ (before : MachineLists) (p : ℕ) (tail : List Step) (m : MachineLists)
       let shut : h.machine.is_open p ≡ false = sym (open_same before m done way p) ∙ all_shut m is' idle' p in
       by shut b.lone.stage
     where
-      by : h.machine.is_open p ≡ false → IsAsking Told (sizes_of before.config) (program before.config before.code) p h ⊎ IsAnswered Told (sizes_of before.config) (program before.config before.code) p h → IsOne before p last m
+      by : h.machine.is_open p ≡ false → IsAsking Told (sizes_of before.config) (program before.config before.code) p h
+          ⊎ IsAnswered Told (sizes_of before.config) (program before.config before.code) p h → IsOne before p last m
       by shut (inl a) = absurd (true≢false (sym a.opened ∙ shut))
       by shut (inr a) =
-          is_one before p last m done s.machine s.idle is' idle' way (subst (λ xs. IsReplay before xs m) (sym (steps_back before p sent s ∙ ap (λ xs. step.Turn p ∷ xs) all)) b.replay) (λ e. absurd (b.moves e)) a.order (b.told shut) (b.tells shut)
+          is_one before p last m done s.machine s.idle is' idle' way
+          (subst (λ xs. IsReplay before xs m) (sym (steps_back before p sent s ∙ ap (λ xs. step.Turn p ∷ xs) all)) b.replay)
+          (λ e. absurd (b.moves e)) a.order (b.told shut) (b.tells shut)
 
 -- ---- a turn
 
@@ -297,20 +318,25 @@ module _ (old : MachineLists) (p : ℕ) (is : IsMachine old) (idle : IsIdle old)
   first : FirstTurn (sizes_of c) (program c old.code) M p
   first = first_turn (sizes_of c) (program c old.code) M p (shut p)
 
-  no_step : (nat_lt p (2 ^ c.k) ≡ false) ⊎ ((program c old.code).kind p (M.core p) ≡ Rests) → (flat_step (flat_state old) (entry.Processor p) ≡ flat_state old) × (flat_event (flat_state old) (entry.Processor p) ≡ None)
+  no_step : (nat_lt p (2 ^ c.k) ≡ false) ⊎ ((program c old.code).kind p (M.core p) ≡ Rests) →
+      (flat_step (flat_state old) (entry.Processor p) ≡ flat_state old) × (flat_event (flat_state old) (entry.Processor p) ≡ None)
   unfolding flat_step flat_event machine_of_parts
   no_step why = at (slice_get (flat_state old).processors p) refl why
     where
       at : (o : Option Processor) → slice_get (flat_state old).processors p ≡ o →
-          (nat_lt p (2 ^ c.k) ≡ false) ⊎ (kind_of (is_running (port_at old.ports p).core.state.status) (next c old.code p (port_at old.ports p).core.state) ≡ Rests) → (turned (flat_state old) p o ≡ flat_state old) × (turn_event (flat_state old) p o ≡ None)
+          (nat_lt p (2 ^ c.k) ≡ false) ⊎ (kind_of (is_running (port_at old.ports p).core.state.status) (next c old.code p (port_at old.ports p).core.state)
+          ≡ Rests) → (turned (flat_state old) p o ≡ flat_state old) × (turn_event (flat_state old) p o ≡ None)
       at None e why = (refl, refl)
       at (Some s) e (inl past) =
           let within : p < 2 ^ c.k = subst (λ n. p < n) (count_is old is) (read_found (flat_state old).processors p s no_processor e).1 in
           absurd (true≢false (sym (lt-ltb p (2 ^ c.k) within) ∙ past))
       at (Some s) e (inr none) =
           let state : (port_at old.ports p).core.state ≡ s = sym (state_at old is p) ∙ (read_found (flat_state old).processors p s no_processor e).0 in
-          let still : is_running s.status ≡ false = ap (λ (x : Processor). is_running x.status) (sym state) ∙ rests (next c old.code p (port_at old.ports p).core.state) (is_running (port_at old.ports p).core.state.status) none in
-          (ap (λ b. if b then with_taken (flat_state old) p (flat_step_of (flat_state old) p s) else flat_state old) still, ap (λ b. if b then Some (flat_step_of (flat_state old) p s).2 else None) still)
+          let still : is_running s.status ≡ false = ap (λ (x : Processor). is_running x.status) (sym state)
+          ∙ rests (next c old.code p (port_at old.ports p).core.state) (is_running (port_at old.ports p).core.state.status) none in (
+            ap (λ b. if b then with_taken (flat_state old) p (flat_step_of (flat_state old) p s) else flat_state old) still,
+            ap (λ b. if b then Some (flat_step_of (flat_state old) p s).2 else None) still,
+          )
 
   module _ (o : Outcome) (new : MachineLists) (st : IsStep old (step.Turn p) o new) where
     moved : (o ≡ Stalled → ⊥) → IsReplay old (step.Turn p ∷ []) new
@@ -319,11 +345,13 @@ module _ (old : MachineLists) (p : ℕ) (is : IsMachine old) (idle : IsIdle old)
     run : IsRun old (step.Turn p ∷ []) new
     run = run_more old old new [] (step.Turn p) o (run_begins old) st
 
-    answers : (r : theory.Result Told) → theory.step (sizes_of c) (program c old.code) M (theory.Turn p) ≡ r → o ≡ answer_of (λ q. next c old.code q (M.core q).state) r.outcome
+    answers : (r : theory.Result Told) → theory.step (sizes_of c) (program c old.code) M (theory.Turn p) ≡ r →
+        o ≡ answer_of (λ q. next c old.code q (M.core q).state) r.outcome
     unfolding outcome_of
     answers r e = st.step.outcome ∙ ap (λ (r : theory.Result Told). answer_of (λ q. next c old.code q (M.core q).state) r.outcome) e
 
-    passes_to : (r : theory.Result Told) → theory.step (sizes_of c) (program c old.code) M (theory.Turn p) ≡ r → passed old (step.Turn p ∷ []) ≡ passed_by (from_machine M) r
+    passes_to : (r : theory.Result Told) → theory.step (sizes_of c) (program c old.code) M (theory.Turn p) ≡ r →
+        passed old (step.Turn p ∷ []) ≡ passed_by (from_machine M) r
     unfolding passes
     passes_to r e = ap (passed_by (from_machine M)) e
 
@@ -375,15 +403,18 @@ module _ (old : MachineLists) (p : ℕ) (is : IsMachine old) (idle : IsIdle old)
     tells (Stops cause) e = cc
 
     -- one that sends a request is on its way
-    on_way : o ≡ Issued → theory.step (sizes_of c) (program c old.code) M (theory.Turn p) ≡ theory.issue (program c old.code) M p → IsComingBack old p [] new Issued
+    on_way : o ≡ Issued → theory.step (sizes_of c) (program c old.code) M (theory.Turn p) ≡ theory.issue (program c old.code) M p →
+        IsComingBack old p [] new Issued
     unfolding passes machine_of_parts
     on_way issued e = record {
       replay = moved (λ f. let no : Issued ≡ Stalled = sym issued ∙ f in cc);
       moves = λ f. cc;
       lone = starts Told (sizes_of c) (program c old.code) p M is.role is.steady shut e;
       silent = λ f. ap (λ (h : Passed Told). events_of h.machine p) (passes_to (theory.issue (program c old.code) M p) e);
-      told = λ f. absurd (true≢false (sym (ap (λ (h : Passed Told). h.machine.is_open p) (passes_to (theory.issue (program c old.code) M p) e) ∙ put_same M.is_open p true) ∙ f));
-      tells = λ f. absurd (true≢false (sym (ap (λ (h : Passed Told). h.machine.is_open p) (passes_to (theory.issue (program c old.code) M p) e) ∙ put_same M.is_open p true) ∙ f));
+      told = λ f. absurd (true≢false (sym (ap (λ (h : Passed Told). h.machine.is_open p) (passes_to (theory.issue (program c old.code) M p) e)
+          ∙ put_same M.is_open p true) ∙ f));
+      tells = λ f. absurd (true≢false (sym (ap (λ (h : Passed Told). h.machine.is_open p) (passes_to (theory.issue (program c old.code) M p) e)
+          ∙ put_same M.is_open p true) ∙ f));
     }
 
     pub sent_comes_back : o ≡ Issued → IsComingBack old p [] new Issued
@@ -437,7 +468,8 @@ home_begins m is = record {
 }
 
 module _ (sent : MachineLists) (tail : List Step) (i : ℕ) (m : MachineLists) (last : Outcome) (b : IsGoingHome sent tail i m last) where
-  pub home_goes_on : (s : Step) (o : Outcome) (new : MachineLists) → IsMachine new → i < drain_bound sent.config → drain_step m ≡ Some s → IsStep m s o new → IsGoingHome sent (tail ++ s ∷ []) (i + 1) new o
+  pub home_goes_on : (s : Step) (o : Outcome) (new : MachineLists) → IsMachine new → i < drain_bound sent.config → drain_step m ≡ Some s → IsStep m s o new →
+      IsGoingHome sent (tail ++ s ∷ []) (i + 1) new o
   home_goes_on s o new is' within names is = record {
     under_way = drain_goes_on sent m (drain_bound sent.config) tail b.under_way s o new (let n = b.count in omega (arith, n, within)) names is;
     count = length-append tail (s ∷ []) ∙ (let n = b.count in omega (arith, n));
@@ -450,8 +482,11 @@ module _ (sent : MachineLists) (tail : List Step) (i : ℕ) (m : MachineLists) (
   AtHome = (drain_steps sent ≡ tail) × IsDrained sent i m × ((before : MachineLists) (p : ℕ) → IsSent before p sent → IsOne before p last m)
 
   at_home : drain_steps sent ≡ tail → IsDrained sent (length tail) m → AtHome
-  at_home all drained =
-      (all, subst (λ n. IsDrained sent n m) b.count drained, λ before p sends. is_back before p tail m last (b.coming before p sends) sent sends b.sound drained.idle all)
+  at_home all drained = (
+    all,
+    subst (λ n. IsDrained sent n m) b.count drained,
+    λ before p sends. is_back before p tail m last (b.coming before p sends) sent sends b.sound drained.idle all,
+  )
 
   -- It ends where the drain names no step any more, and where as many were taken as there are.
   pub home_now : drain_step m ≡ None → IsIdle m → AtHome

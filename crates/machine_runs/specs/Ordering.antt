@@ -61,7 +61,8 @@ count_in [] = 0
 count_in (group ∷ groups) = length group.items + count_in groups
 
 -- The outcome is entered: the groups and the order go on, and the order and those who wait are one more together at most.
-pub record IsEntered (groups : List (ArrayVec ℕ)) (entries : List Entry) (o : theory.Outcome) (groups' : List (ArrayVec ℕ)) (entries' : List Entry) : Type 0 where
+pub record IsEntered (groups : List (ArrayVec ℕ)) (entries : List Entry) (o : theory.Outcome) (groups' : List (ArrayVec ℕ))
+    (entries' : List Entry) : Type 0 where
   pub places : length groups' ≡ length groups
   pub group : group_in groups' ≡ group_after (group_in groups) o
   pub order : entries' ≡ entries ++ segment (group_in groups) o

@@ -33,7 +33,8 @@ pub is_entered : (steps steps' : List Step) (s : Step) (o : Outcome) → steps' 
 is_entered steps steps' s o is moves =
     let more : length steps' ≡ length steps + 1 = ap length (is ∙ entered_moving steps s o moves) ∙ length-append steps (s ∷ []) in omega (arith, more)
 
-pub one_asked : (old new : Log) (s : Step) (o : Outcome) → IsReplay old.opening old.steps old.machine → HasTaken old s o new → new.steps ≡ entered_of old.opening old.steps (s ∷ [])
+pub one_asked : (old new : Log) (s : Step) (o : Outcome) → IsReplay old.opening old.steps old.machine → HasTaken old s o new →
+    new.steps ≡ entered_of old.opening old.steps (s ∷ [])
 unfolding entered_of
 one_asked old new s o r t = t.steps ∙ ap (entered old.steps s) (t.step.step.outcome ∙ sym (outcome_there old.opening old.machine old.steps r.run s))
 
@@ -52,13 +53,15 @@ longer m done (s ∷ ss) =
     let more = longer m (entered done s (answer_after m done s)) ss in omega (arith, one, more)
 
 -- where nothing is entered, each step stalls
-pub each_stalls : (m : MachineLists) (done asked : List Step) → length (entered_of m done asked) ≤ length done → (i : ℕ) (s : Step) → slice_get asked i ≡ Some s → answer_after m done s ≡ Stalled
+pub each_stalls : (m : MachineLists) (done asked : List Step) → length (entered_of m done asked) ≤ length done → (i : ℕ) (s : Step) →
+    slice_get asked i ≡ Some s → answer_after m done s ≡ Stalled
 unfolding entered_of
 each_stalls m done [] none i s there = absurd (cc)
 each_stalls m done (x ∷ xs) none i s there =
     by (is_stalled (answer_after m done x)) refl none i there (λ j short at. each_stalls m done xs short j s at)
   where
-    by : (b : Bool) → is_stalled (answer_after m done x) ≡ b → length (entered_of m (if b then done else done ++ x ∷ []) xs) ≤ length done → (i : ℕ) → slice_get (x ∷ xs) i ≡ Some s →
+    by : (b : Bool) → is_stalled (answer_after m done x) ≡ b → length (entered_of m (if b then done else done ++ x ∷ []) xs) ≤ length done → (i : ℕ) →
+        slice_get (x ∷ xs) i ≡ Some s →
         ((j : ℕ) → length (entered_of m done xs) ≤ length done → slice_get xs j ≡ Some s → answer_after m done s ≡ Stalled) → answer_after m done s ≡ Stalled
     by false e short i at later =
         let one : length (done ++ x ∷ []) ≡ length done + 1 = length-append done (x ∷ []) in
@@ -69,7 +72,8 @@ each_stalls m done (x ∷ xs) none i s there =
 -- ---- rounds
 
 -- a step more of the round
-pub next_asked : (old l : Log) (k i : ℕ) (s : Step) (steps' : List Step) → l.opening ≡ old.opening → i < length (round k) → slice_get (round k) i ≡ Some s → l.steps ≡ entered_of old.opening old.steps (take i (round k)) →
+pub next_asked : (old l : Log) (k i : ℕ) (s : Step) (steps' : List Step) → l.opening ≡ old.opening → i < length (round k) → slice_get (round k) i ≡ Some s →
+    l.steps ≡ entered_of old.opening old.steps (take i (round k)) →
     steps' ≡ entered_of l.opening l.steps (s ∷ []) → steps' ≡ entered_of old.opening old.steps (take (i + 1) (round k))
 next_asked old l k i s steps' opens within there before is =
     let all : List Step = round k in
@@ -86,7 +90,8 @@ unfolding entered_of
 none_asked m done = refl
 
 -- so many rounds, and then a part of one
-module _ (opening : MachineLists) (old middle new : List Step) (k whole part : ℕ) (before : middle ≡ entered_of opening old (rounds k whole)) (more : new ≡ entered_of opening middle (take part (round k))) where
+module _ (opening : MachineLists) (old middle new : List Step) (k whole part : ℕ) (before : middle ≡ entered_of opening old (rounds k whole)) (more : new
+    ≡ entered_of opening middle (take part (round k))) where
   pub rounds_more : new ≡ entered_of opening old (rounds k whole ++ take part (round k))
   rounds_more = more ∙ ap (λ xs. entered_of opening xs (take part (round k))) before ∙ sym (asked_append opening old (rounds k whole) (take part (round k)))
 

@@ -1,5 +1,6 @@
 -- Where a sweep is over: what a step more tells of it, and that what has not ended in one part has not ended in all.
-use Rattle.std.proofs.Common.{◌≡◌, ℕ, zero, suc, ◌^◌, ◌<◌, ◌≤◌, Bool, true, false, ◌⊎◌, inl, inr, List, [], ◌∷◌, ◌++◌, length, take, refl, sym, ap, ◌∙◌, subst, arith}
+use Rattle.std.proofs.Common.{◌≡◌, ℕ, zero, suc, ◌^◌, ◌<◌, ◌≤◌, Bool, true, false, ◌⊎◌, inl, inr, List, [], ◌∷◌, ◌++◌, length, take, refl, sym, ap, ◌∙◌, subst}
+use Rattle.std.proofs.Common.{arith}
 use Rattle.std.specs.Prelude.{if◌then◌else◌}
 use Rattle.std.proofs.lemmas.Bool.{cases_eq, cases_lt}
 use Rattle.std.proofs.lemmas.List.{length-append, take_all}
@@ -58,7 +59,8 @@ module _ (opening m : MachineLists) (steps : List Step) (r : IsReplay opening st
 -- ---- a step more
 
 -- a step that stops no processor leaves one running
-pub runs_on : (m : MachineLists) (done : List Step) (s : Step) → IsOwn s → (IsStop (answer_after m done s) → ⊥) → RunsAfter m done → RunsAfter m (entered done s (answer_after m done s))
+pub runs_on : (m : MachineLists) (done : List Step) (s : Step) → IsOwn s → (IsStop (answer_after m done s) → ⊥) → RunsAfter m done →
+    RunsAfter m (entered done s (answer_after m done s))
 runs_on m done s own plain (p, within, runs) = by (is_stalled (answer_after m done s))
   where
     by : (b : Bool) → RunsAfter m (if b then done else done ++ s ∷ [])
@@ -67,7 +69,8 @@ runs_on m done s own plain (p, within, runs) = by (is_stalled (answer_after m do
         let M : theory.Machine Told = all_after m.config m.code (machine_of m (λ q. [])) done in (
           p,
           within,
-          ap (λ (N : theory.Machine Told). (N.core p).state.status) (all_after_more m.config m.code (machine_of m (λ q. [])) done s) ∙ statuses_kept m.config m.code M s own plain p ∙ runs,
+          ap (λ (N : theory.Machine Told). (N.core p).state.status) (all_after_more m.config m.code (machine_of m (λ q. [])) done s)
+              ∙ statuses_kept m.config m.code M s own plain p ∙ runs,
         )
 
 module _ (m : MachineLists) (start : ℕ) where
@@ -88,7 +91,8 @@ module _ (m : MachineLists) (start : ℕ) where
       let behind = f.behind in omega (arith, count, more, behind, short)
 
   -- a step more that is no fault
-  pub sound_on : (done : List Step) (s : Step) → (IsFault (answer_after m done s) → ⊥) → (EndsInFault m start done → ⊥) → EndsInFault m start (entered done s (answer_after m done s)) → ⊥
+  pub sound_on : (done : List Step) (s : Step) → (IsFault (answer_after m done s) → ⊥) → (EndsInFault m start done → ⊥) →
+      EndsInFault m start (entered done s (answer_after m done s)) → ⊥
   sound_on done s plain before = by (is_stalled (answer_after m done s))
     where
       by : (b : Bool) → EndsInFault m start (if b then done else done ++ s ∷ []) → ⊥
@@ -98,8 +102,15 @@ module _ (m : MachineLists) (start : ℕ) where
           plain (subst IsFault (λ i. answer_after m (sym same.0 i) (sym same.1 i)) f.fault)
 
   -- a step more that is one
-  pub ends_in : (done : List Step) (s : Step) → start ≤ length done → IsFault (answer_after m done s) → EndsInFault m start (entered done s (answer_after m done s))
-  ends_in done s behind fault = record { before = done; last = s; is = entered_moving done s (answer_after m done s) (no_stall (answer_after m done s) fault); behind = behind; fault = fault }
+  pub ends_in : (done : List Step) (s : Step) → start ≤ length done → IsFault (answer_after m done s) →
+      EndsInFault m start (entered done s (answer_after m done s))
+  ends_in done s behind fault = record {
+    before = done;
+    last = s;
+    is = entered_moving done s (answer_after m done s) (no_stall (answer_after m done s) fault);
+    behind = behind;
+    fault = fault;
+  }
     where
       no_stall : (o : Outcome) → IsFault o → o ≡ Stalled → ⊥
       no_stall o is e = absurd (subst IsFault e is)
@@ -114,13 +125,16 @@ module _ (m : MachineLists) (start : ℕ) where
   pub first_on : (done : List Step) (s : Step) (o : Outcome) → IsFirst done → IsUnder done → IsFirst (entered done s o)
   first_on done s o before under = by (is_stalled o)
     where
-      entered_first : (place : ℕ) → start ≤ place → place < length (done ++ s ∷ []) → IsOver m start (take place (done ++ s ∷ [])) → (place < length done) ⊎ (length done ≤ place) → ⊥
-      entered_first place from inside over (inl less) = before place from less (subst (IsOver m start) (take_front place done (s ∷ []) (omega (arith, less))) over)
+      entered_first : (place : ℕ) → start ≤ place → place < length (done ++ s ∷ []) → IsOver m start (take place (done ++ s ∷ [])) →
+          (place < length done) ⊎ (length done ≤ place) → ⊥
+      entered_first place from inside over (inl less) =
+          before place from less (subst (IsOver m start) (take_front place done (s ∷ []) (omega (arith, less))) over)
       entered_first place from inside over (inr past) =
           let count = length-append done (s ∷ []) in
           let last : place ≡ length done = omega (arith, past, inside, count) in
           not_over done under
-          (subst (IsOver m start) (ap (λ n. take n (done ++ s ∷ [])) last ∙ take_front (length done) done (s ∷ []) (omega arith) ∙ take_all (length done) done (omega arith)) over)
+          (subst (IsOver m start) (ap (λ n. take n (done ++ s ∷ [])) last ∙ take_front (length done) done (s ∷ []) (omega arith)
+          ∙ take_all (length done) done (omega arith)) over)
 
       by : (b : Bool) → IsFirst (if b then done else done ++ s ∷ [])
       by true = before
@@ -130,7 +144,8 @@ module _ (m : MachineLists) (start : ℕ) where
 
 -- What is over behind so many steps is over behind fewer.
 pub over_sooner : (m : MachineLists) (start mid : ℕ) (steps : List Step) → start ≤ mid → IsOver m mid steps → IsOver m start steps
-over_sooner m start mid steps less (inl f) = inl (record { before = f.before; last = f.last; is = f.is; behind = (let behind = f.behind in omega (arith, behind, less)); fault = f.fault })
+over_sooner m start mid steps less (inl f) =
+    inl (record { before = f.before; last = f.last; is = f.is; behind = (let behind = f.behind in omega (arith, behind, less)); fault = f.fault })
 over_sooner m start mid steps less (inr none) = inr none
 
 -- what is over behind few is over behind more, where it has more
@@ -146,14 +161,16 @@ over_later m start mid steps more (inl f) =
 over_later m start mid steps more (inr none) = inr none
 
 -- one part behind another
-pub first_joined : (m : MachineLists) (start : ℕ) (middle rest : List Step) → start ≤ length middle → IsFirst m start middle → IsUnder m start middle → IsFirst m (length middle) (middle ++ rest) → IsFirst m start (middle ++ rest)
+pub first_joined : (m : MachineLists) (start : ℕ) (middle rest : List Step) → start ≤ length middle → IsFirst m start middle → IsUnder m start middle →
+    IsFirst m (length middle) (middle ++ rest) → IsFirst m start (middle ++ rest)
 first_joined m start middle rest less one under other place from inside over = by (cases_lt place (length middle)) (cases_eq place (length middle))
   where
     by : (place < length middle) ⊎ (length middle ≤ place) → (place ≡ length middle) ⊎ (place ≡ length middle → ⊥) → ⊥
     by (inl before) either = one place from before (subst (IsOver m start) (take_front place middle rest (omega (arith, before))) over)
     by (inr behind) (inl same) =
         not_over m start middle under
-        (subst (IsOver m start) (ap (λ n. take n (middle ++ rest)) same ∙ take_front (length middle) middle rest (omega arith) ∙ take_all (length middle) middle (omega arith)) over)
+        (subst (IsOver m start) (ap (λ n. take n (middle ++ rest)) same ∙ take_front (length middle) middle rest (omega arith)
+        ∙ take_all (length middle) middle (omega arith)) over)
     by (inr behind) (inr later) =
         let long = take_length place (middle ++ rest) (omega (arith, inside)) in
         other place behind inside (over_later m start (length middle) (take place (middle ++ rest)) (omega (arith, long, behind, later)) over)

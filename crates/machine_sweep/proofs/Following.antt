@@ -40,7 +40,8 @@ following_begins limit l few replay runs = record {
 }
 
 -- where no processor runs, the sweep is over at once
-pub over_at_once : (limit : ℕ) (l : Log) → length l.steps ≤ limit → IsReplay l.opening l.steps l.machine → (RunsAfter l.opening l.steps → ⊥) → HasFollowed limit l Over l
+pub over_at_once : (limit : ℕ) (l : Log) → length l.steps ≤ limit → IsReplay l.opening l.steps l.machine → (RunsAfter l.opening l.steps → ⊥) →
+    HasFollowed limit l Over l
 over_at_once limit l few replay none = record {
   opening = refl;
   replay = replay;
@@ -69,7 +70,8 @@ budget_used limit old l f full = record {
   ends = ((let few = f.few in let same : length l.steps ≡ limit = omega (arith, few, full) in same), not_over old.opening (length old.steps) l.steps f.under);
 }
 
-module _ (limit : ℕ) (old l new : Log) (f : IsFollowing limit old l) (size : l.machine.config.k ≡ old.machine.config.k) (room : length l.steps < limit) (b : Bool) (r : WasAskedRound limit l b new) where
+module _ (limit : ℕ) (old l new : Log) (f : IsFollowing limit old l) (size : l.machine.config.k ≡ old.machine.config.k) (room : length l.steps < limit)
+    (b : Bool) (r : WasAskedRound limit l b new) where
   abbrev k : ℕ
   k = old.machine.config.k
 
@@ -84,7 +86,8 @@ module _ (limit : ℕ) (old l new : Log) (f : IsFollowing limit old l) (size : l
   so_far = by f.cut
     where
       by : (take f.part (round k) ≡ []) ⊎ (limit ≤ length l.steps) → l.steps ≡ entered_of old.opening old.steps (rounds k f.whole)
-      by (inl none) = f.steps ∙ ap (λ xs. entered_of old.opening old.steps (rounds k f.whole ++ xs)) none ∙ ap (entered_of old.opening old.steps) (append-nil (rounds k f.whole))
+      by (inl none) = f.steps ∙ ap (λ xs. entered_of old.opening old.steps (rounds k f.whole ++ xs)) none
+          ∙ ap (entered_of old.opening old.steps) (append-nil (rounds k f.whole))
       by (inr full) = absurd (omega (arith, full, room))
 
   part_is : new.steps ≡ entered_of old.opening l.steps (take r.part (round k))
@@ -156,4 +159,15 @@ module _ (limit : ℕ) (old l new : Log) (f : IsFollowing limit old l) (size : l
         first = first_all;
         under = under;
       }
-      by (inr full) = record { opening = opens; replay = r.replay; whole = f.whole; part = r.part; steps = after; cut = inr full; longer = longer; few = r.few; first = first_all; under = under }
+      by (inr full) = record {
+        opening = opens;
+        replay = r.replay;
+        whole = f.whole;
+        part = r.part;
+        steps = after;
+        cut = inr full;
+        longer = longer;
+        few = r.few;
+        first = first_all;
+        under = under;
+      }

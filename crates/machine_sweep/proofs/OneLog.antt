@@ -1,5 +1,6 @@
 -- The steps that a run enters are a function of the machine's size, the image and the most steps that its sweep enters.
-use Rattle.std.proofs.Common.{◌≡◌, ℕ, zero, suc, ◌+◌, ◌-◌, ◌^◌, ◌<◌, ◌≤◌, ◌⊎◌, inl, inr, List, [], ◌∷◌, ◌++◌, length, take, drop, map, refl, sym, ap, ap₂, ◌∙◌, subst, arith, append_assoc}
+use Rattle.std.proofs.Common.{◌≡◌, ℕ, zero, suc, ◌+◌, ◌-◌, ◌^◌, ◌<◌, ◌≤◌, ◌⊎◌, inl, inr, List, [], ◌∷◌, ◌++◌, length, take, drop, map, refl, sym, ap, ap₂, ◌∙◌}
+use Rattle.std.proofs.Common.{subst, arith, append_assoc}
 use Rattle.std.proofs.lemmas.Bool.{cases_lt, cases_eq}
 use Rattle.std.proofs.lemmas.List.{append-nil, length-append, take-append-drop, take_at}
 use Rattle.flat_machine.specs.declared.config.Config.{Config}
@@ -41,7 +42,8 @@ take_grows (suc i) (suc j) (x ∷ xs) less = let r = take_grows i j xs (omega (a
 rounds_split : (k a n m : ℕ) → m ≡ a + n → rounds k m ≡ rounds k a ++ rounds k n
 rounds_split k a zero m is = ap (rounds k) (let same : m ≡ a = omega (arith, is) in same) ∙ sym (append-nil (rounds k a))
 rounds_split k a (suc n) m is =
-    ap (rounds k) (let same : m ≡ suc (a + n) = omega (arith, is) in same) ∙ ap (λ xs. xs ++ round k) (rounds_split k a n (a + n) refl) ∙ append_assoc (rounds k a) (rounds k n) (round k)
+    ap (rounds k) (let same : m ≡ suc (a + n) = omega (arith, is) in same) ∙ ap (λ xs. xs ++ round k) (rounds_split k a n (a + n) refl)
+    ∙ append_assoc (rounds k a) (rounds k n) (round k)
 
 first_round : (k n : ℕ) → rounds k (suc n) ≡ round k ++ rounds k n
 first_round k n = rounds_split k 1 n (suc n) (omega arith)
@@ -67,7 +69,8 @@ one_goes_on k w p w' p' (inr same) =
 either_goes_on : (k w p w' p' : ℕ) → GoesOnFrom (asked k w p) (asked k w' p') ⊎ GoesOnFrom (asked k w' p') (asked k w p)
 either_goes_on k w p w' p' = by (cases_lt w w') (cases_eq w w') (cases_lt p p')
   where
-    by : (w < w') ⊎ (w' ≤ w) → (w ≡ w') ⊎ (w ≡ w' → ⊥) → (p < p') ⊎ (p' ≤ p) → GoesOnFrom (asked k w p) (asked k w' p') ⊎ GoesOnFrom (asked k w' p') (asked k w p)
+    by : (w < w') ⊎ (w' ≤ w) → (w ≡ w') ⊎ (w ≡ w' → ⊥) → (p < p') ⊎ (p' ≤ p) →
+        GoesOnFrom (asked k w p) (asked k w' p') ⊎ GoesOnFrom (asked k w' p') (asked k w p)
     by (inl less) _ _ = inl (one_goes_on k w p w' p' (inl less))
     by (inr more) (inr other) _ = inr (one_goes_on k w' p' w p (inl (omega (arith, more, other))))
     by (inr more) (inl same) (inl less) = inl (one_goes_on k w p w' p' (inr (same, omega (arith, less))))
@@ -99,7 +102,8 @@ module _ (m n : MachineLists) (config : m.config ≡ n.config) (code : m.code �
   runs_there done (p, within, runs) = (p, subst (λ (c : Config). p < 2 ^ c.k) (sym config) within, same_status done p ∙ runs)
 
   over_there : (start : ℕ) (done : List Step) → IsOver m start done → IsOver n start done
-  over_there start done (inl f) = inl (record { before = f.before; last = f.last; is = f.is; behind = f.behind; fault = subst IsFault (same_answer f.before f.last) f.fault })
+  over_there start done (inl f) =
+      inl (record { before = f.before; last = f.last; is = f.is; behind = f.behind; fault = subst IsFault (same_answer f.before f.last) f.fault })
   over_there start done (inr none) = inr (λ runs. none (runs_there done runs))
 
 -- a machine is what its steps left, whatever its processors have shown
@@ -109,11 +113,13 @@ told_nothing m shown = refl
 
 -- a drain takes the same steps on machines that are one
 same_drain : (m n : MachineLists) → m.config ≡ n.config → m.code ≡ n.code → machine_of m (λ p. []) ≡ machine_of n (λ p. []) → drain_steps m ≡ drain_steps n
-same_drain m n config code machine i = map step_of (draining.drain_steps (sizes_of (config i)) (program (config i) (code i)) (drain_bound (config i)) (machine i))
+same_drain m n config code machine i =
+    map step_of (draining.drain_steps (sizes_of (config i)) (program (config i) (code i)) (drain_bound (config i)) (machine i))
 
 -- ---- two runs
 
-module _ (c : Config) (image : ImageContents) (most : ℕ) (end other : SweepEnd) (a b : Log) (one : IsWholeRun c image most end a) (two : IsWholeRun c image most other b) where
+module _ (c : Config) (image : ImageContents) (most : ℕ) (end other : SweepEnd) (a b : Log) (one : IsWholeRun c image most end a)
+    (two : IsWholeRun c image most other b) where
   abbrev first : Log
   first = one.swept.middle
 
@@ -130,11 +136,14 @@ module _ (c : Config) (image : ImageContents) (most : ℕ) (end other : SweepEnd
   machine_is = two.opens.machine (λ p. []) ∙ sym (one.opens.machine (λ p. []))
 
   -- the asked steps of a run, with the number of stages of the size
-  by_size : (l : Log) (e : SweepEnd) (w : IsWholeRun c image most e l) → w.swept.middle.steps ≡ entered_of l.opening [] (asked c.k w.swept.followed.whole w.swept.followed.part)
+  by_size : (l : Log) (e : SweepEnd) (w : IsWholeRun c image most e l) →
+      w.swept.middle.steps ≡ entered_of l.opening [] (asked c.k w.swept.followed.whole w.swept.followed.part)
   by_size l e w = w.swept.followed.steps ∙ ap (λ (d : Config). entered_of l.opening [] (asked d.k w.swept.followed.whole w.swept.followed.part)) w.opens.config
 
-  same_behind : GoesOnFrom (asked c.k one.swept.followed.whole one.swept.followed.part) (asked c.k two.swept.followed.whole two.swept.followed.part) → second.steps ≡ first.steps
-  same_behind (rest, is) = there ∙ no_longer a.opening first.steps rest own (subst (λ n. n ≤ length first.steps) (ap length there) (short end one.swept.followed.ends (cases_lt (length first.steps) (length second.steps))))
+  same_behind : GoesOnFrom (asked c.k one.swept.followed.whole one.swept.followed.part) (asked c.k two.swept.followed.whole two.swept.followed.part) →
+      second.steps ≡ first.steps
+  same_behind (rest, is) = there ∙ no_longer a.opening first.steps rest own
+      (subst (λ n. n ≤ length first.steps) (ap length there) (short end one.swept.followed.ends (cases_lt (length first.steps) (length second.steps))))
     where
       there : second.steps ≡ entered_of a.opening first.steps rest
       there =
@@ -145,7 +154,8 @@ module _ (c : Config) (image : ImageContents) (most : ℕ) (end other : SweepEnd
           ∙ ap (λ done. entered_of a.opening done rest) (sym (by_size a end one))
 
       own : AreOwn rest
-      own = own_behind (asked c.k one.swept.followed.whole one.swept.followed.part) rest (subst AreOwn is (own_asked c.k two.swept.followed.whole two.swept.followed.part))
+      own = own_behind (asked c.k one.swept.followed.whole one.swept.followed.part) rest
+          (subst AreOwn is (own_asked c.k two.swept.followed.whole two.swept.followed.part))
 
       -- what the first run entered is the beginning of what the second did
       begins : take (length first.steps) second.steps ≡ first.steps
@@ -153,23 +163,28 @@ module _ (c : Config) (image : ImageContents) (most : ℕ) (end other : SweepEnd
           let e = own_entered a.opening first.steps rest own in
           ap (take (length first.steps)) (there ∙ e.2) ∙ take_at first.steps e.0 (length first.steps) refl
 
-      short : (e : SweepEnd) → EndsAt a.opening 0 (0 + most) first.steps e → (length first.steps < length second.steps) ⊎ (length second.steps ≤ length first.steps) → length second.steps ≤ length first.steps
+      short : (e : SweepEnd) → EndsAt a.opening 0 (0 + most) first.steps e →
+          (length first.steps < length second.steps) ⊎ (length second.steps ≤ length first.steps) → length second.steps ≤ length first.steps
       short e ends (inr less) = less
       short Over ends (inl longer) =
           absurd
           (two.swept.followed.first (length first.steps) (omega arith) longer
-          (over_there a.opening b.opening (sym config_is) (sym code_is) (sym machine_is) 0 (take (length first.steps) second.steps) (subst (IsOver a.opening 0) (sym begins) ends)))
+          (over_there a.opening b.opening (sym config_is) (sym code_is) (sym machine_is) 0 (take (length first.steps) second.steps)
+          (subst (IsOver a.opening 0) (sym begins) ends)))
       short Budget ends (inl longer) = (let few = two.swept.followed.few in let used = ends.0 in omega (arith, few, used))
 
 -- where two runs followed the same steps, they were drained of the same
-module _ (c : Config) (image : ImageContents) (most : ℕ) (end other : SweepEnd) (a b : Log) (one : IsWholeRun c image most end a) (two : IsWholeRun c image most other b) (same : one.swept.middle.steps ≡ two.swept.middle.steps) where
+module _ (c : Config) (image : ImageContents) (most : ℕ) (end other : SweepEnd) (a b : Log) (one : IsWholeRun c image most end a)
+    (two : IsWholeRun c image most other b) (same : one.swept.middle.steps ≡ two.swept.middle.steps) where
   -- the machine where the sweep of a run ended
   machine_there : (l : Log) (e : SweepEnd) (w : IsWholeRun c image most e l) →
-      machine_of w.swept.middle.machine (λ p. []) ≡ retell (λ p. []) (all_after l.opening.config l.opening.code (machine_of l.opening (λ p. [])) w.swept.middle.steps)
+      machine_of w.swept.middle.machine (λ p. []) ≡ retell (λ p. [])
+      (all_after l.opening.config l.opening.code (machine_of l.opening (λ p. [])) w.swept.middle.steps)
   machine_there l e w =
       let f = w.swept.followed in
       let r = subst (λ m. IsReplay m w.swept.middle.steps w.swept.middle.machine) f.opening f.replay in
-      sym (told_nothing w.swept.middle.machine (events_of (all_after l.opening.config l.opening.code (machine_of l.opening (λ p. [])) w.swept.middle.steps))) ∙ ap (retell (λ p. [])) (r.run.after (λ p. []))
+      sym (told_nothing w.swept.middle.machine (events_of (all_after l.opening.config l.opening.code (machine_of l.opening (λ p. [])) w.swept.middle.steps)))
+      ∙ ap (retell (λ p. [])) (r.run.after (λ p. []))
 
   config_there : (l : Log) (e : SweepEnd) (w : IsWholeRun c image most e l) → w.swept.middle.machine.config ≡ c
   config_there l e w = w.swept.followed.replay.run.config ∙ ap (λ (m : MachineLists). m.config) w.swept.followed.opening ∙ w.opens.config
@@ -179,25 +194,31 @@ module _ (c : Config) (image : ImageContents) (most : ℕ) (end other : SweepEnd
 
   drained_alike : drain_steps one.swept.middle.machine ≡ drain_steps two.swept.middle.machine
   drained_alike =
-      same_drain one.swept.middle.machine two.swept.middle.machine (config_there a end one ∙ sym (config_there b other two)) (code_there a end one ∙ sym (code_there b other two))
+      same_drain one.swept.middle.machine two.swept.middle.machine (config_there a end one ∙ sym (config_there b other two))
+      (code_there a end one ∙ sym (code_there b other two))
       (machine_there a end one
       ∙ ap (retell (λ p. []))
       (ap (all_after a.opening.config a.opening.code (machine_of a.opening (λ p. []))) same ∙ sym (alike_opened (two.swept.middle.steps)))
       ∙ sym (machine_there b other two))
     where
-      alike_opened : (steps : List Step) → all_after b.opening.config b.opening.code (machine_of b.opening (λ p. [])) steps ≡ all_after a.opening.config a.opening.code (machine_of a.opening (λ p. [])) steps
+      alike_opened : (steps : List Step) → all_after b.opening.config b.opening.code (machine_of b.opening (λ p. [])) steps
+          ≡ all_after a.opening.config a.opening.code (machine_of a.opening (λ p. [])) steps
       alike_opened steps i =
-          all_after (config_is c image most end other a b one two i) (code_is c image most end other a b one two i) (machine_is c image most end other a b one two i) steps
+          all_after (config_is c image most end other a b one two i) (code_is c image most end other a b one two i)
+          (machine_is c image most end other a b one two i) steps
 
   pub logs_alike : a.steps ≡ b.steps
   logs_alike = one.swept.steps ∙ ap₂ (λ (xs ys : List Step). xs ++ ys) same drained_alike ∙ sym two.swept.steps
 
 -- two runs of one image enter the same steps
-pub one_log : (c : Config) (image : ImageContents) (most : ℕ) (end other : SweepEnd) (a b : Log) → IsWholeRun c image most end a → IsWholeRun c image most other b → a.steps ≡ b.steps
+pub one_log : (c : Config) (image : ImageContents) (most : ℕ) (end other : SweepEnd) (a b : Log) → IsWholeRun c image most end a →
+    IsWholeRun c image most other b → a.steps ≡ b.steps
 one_log c image most end other a b one two =
-    logs_alike c image most end other a b one two (by (either_goes_on c.k one.swept.followed.whole one.swept.followed.part two.swept.followed.whole two.swept.followed.part))
+    logs_alike c image most end other a b one two
+    (by (either_goes_on c.k one.swept.followed.whole one.swept.followed.part two.swept.followed.whole two.swept.followed.part))
   where
     by : GoesOnFrom (asked c.k one.swept.followed.whole one.swept.followed.part) (asked c.k two.swept.followed.whole two.swept.followed.part) ⊎
-        GoesOnFrom (asked c.k two.swept.followed.whole two.swept.followed.part) (asked c.k one.swept.followed.whole one.swept.followed.part) → one.swept.middle.steps ≡ two.swept.middle.steps
+        GoesOnFrom (asked c.k two.swept.followed.whole two.swept.followed.part) (asked c.k one.swept.followed.whole one.swept.followed.part) →
+        one.swept.middle.steps ≡ two.swept.middle.steps
     by (inl more) = sym (same_behind c image most end other a b one two more)
     by (inr more) = same_behind c image most other end b a two one more

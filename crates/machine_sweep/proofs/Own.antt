@@ -47,11 +47,13 @@ own_each f own (w ∷ ws) = (own w, own_each f own ws)
 
 own_ups : (k stages : ℕ) → AreOwn (ups k stages)
 own_ups k zero = tt
-own_ups k (suc stage) = own_both (on_each_wire k (step.Up stage)) (ups k stage) (own_each (step.Up stage) (λ w. tt) (range_with_len 0 (2 ^ k))) (own_ups k stage)
+own_ups k (suc stage) =
+    own_both (on_each_wire k (step.Up stage)) (ups k stage) (own_each (step.Up stage) (λ w. tt) (range_with_len 0 (2 ^ k))) (own_ups k stage)
 
 own_downs : (k stages : ℕ) → AreOwn (downs k stages)
 own_downs k zero = tt
-own_downs k (suc stage) = own_both (downs k stage) (on_each_wire k (step.Down stage)) (own_downs k stage) (own_each (step.Down stage) (λ w. tt) (range_with_len 0 (2 ^ k)))
+own_downs k (suc stage) =
+    own_both (downs k stage) (on_each_wire k (step.Down stage)) (own_downs k stage) (own_each (step.Down stage) (λ w. tt) (range_with_len 0 (2 ^ k)))
 
 own_round : (k : ℕ) → AreOwn (round k)
 unfolding round
@@ -107,13 +109,16 @@ of_stage (Some s) f h = h s
 names_own : (z : Sizes) (M : theory.Machine Told) → NamesOwn (draining.drain_step z M)
 names_own z M =
     let net : Net = M.net in
-    either (first_wire (net.replies 0) (wires z) theory.Turn) (or_else (down_step z net) (or_else (first_wire (net.requests z.k) (wires z) theory.Serve) (up_step z net)))
+    either (first_wire (net.replies 0) (wires z) theory.Turn)
+    (or_else (down_step z net) (or_else (first_wire (net.requests z.k) (wires z) theory.Serve) (up_step z net)))
     (of_wire (least (λ w. is_any (net.replies 0 w)) (wires z)) theory.Turn (λ w. tt))
     (either (down_step z net) (or_else (first_wire (net.requests z.k) (wires z) theory.Serve) (up_step z net))
-    (of_stage (least (λ s. some_wire (net.replies (suc s)) (wires z)) z.k) (λ s. first_wire (net.replies (suc s)) (wires z) (theory.Down s)) (λ s. of_wire (least (λ w. is_any (net.replies (suc s) w)) (wires z)) (theory.Down s) (λ w. tt)))
+    (of_stage (least (λ s. some_wire (net.replies (suc s)) (wires z)) z.k) (λ s. first_wire (net.replies (suc s)) (wires z) (theory.Down s))
+    (λ s. of_wire (least (λ w. is_any (net.replies (suc s) w)) (wires z)) (theory.Down s) (λ w. tt)))
     (either (first_wire (net.requests z.k) (wires z) theory.Serve) (up_step z net)
     (of_wire (least (λ w. is_any (net.requests z.k w)) (wires z)) theory.Serve (λ w. tt))
-    (of_stage (greatest (λ s. some_wire (net.requests s) (wires z)) z.k) (λ s. first_wire (net.requests s) (wires z) (theory.Up s)) (λ s. of_wire (least (λ w. is_any (net.requests s w)) (wires z)) (theory.Up s) (λ w. tt)))))
+    (of_stage (greatest (λ s. some_wire (net.requests s) (wires z)) z.k) (λ s. first_wire (net.requests s) (wires z) (theory.Up s))
+    (λ s. of_wire (least (λ w. is_any (net.requests s w)) (wires z)) (theory.Up s) (λ w. tt)))))
 
 pub drain_is_own : (m : MachineLists) (s : Step) → drain_step m ≡ Some s → IsOwn s
 drain_is_own m s e =

@@ -1,5 +1,6 @@
 -- While a processor runs, some step of a round does something.
-use Rattle.std.proofs.Common.{◌≡◌, ℕ, zero, suc, ◌^◌, ◌<◌, Bool, true, false, ◌⊎◌, inl, inr, nat_lt, List, [], ◌∷◌, ◌++◌, Option, Some, None, refl, sym, ap, ◌∙◌, subst, arith}
+use Rattle.std.proofs.Common.{◌≡◌, ℕ, zero, suc, ◌^◌, ◌<◌, Bool, true, false, ◌⊎◌, inl, inr, nat_lt, List, [], ◌∷◌, ◌++◌, Option, Some, None, refl, sym, ap}
+use Rattle.std.proofs.Common.{◌∙◌, subst, arith}
 use Rattle.std.specs.Prelude.{slice_get, if◌then◌else◌}
 use Rattle.std.proofs.lemmas.Bool.{cases_eq, ltb-true, lt-ltb}
 use Rattle.std.proofs.lemmas.List.FromFn.{get_or-map-range_with_len, length-map-range_with_len}
@@ -61,7 +62,8 @@ in_ups k zero s w few within = absurd (omega (arith, few))
 in_ups k (suc stage) s w few within = by (cases_eq s stage) (λ less. in_ups k stage s w less within)
   where
     by : (s ≡ stage) ⊎ (s ≡ stage → ⊥) → (s < stage → Stands (ups k stage) (step.Up s w)) → Stands (ups k (suc stage)) (step.Up s w)
-    by (inl last) later = in_front (on_each_wire k (step.Up stage)) (ups k stage) (step.Up s w) (subst (λ t. Stands (on_each_wire k (step.Up stage)) (step.Up t w)) (sym last) (on_wire k (step.Up stage) w within))
+    by (inl last) later = in_front (on_each_wire k (step.Up stage)) (ups k stage) (step.Up s w)
+        (subst (λ t. Stands (on_each_wire k (step.Up stage)) (step.Up t w)) (sym last) (on_wire k (step.Up stage) w within))
     by (inr other) later = behind (on_each_wire k (step.Up stage)) (ups k stage) (step.Up s w) (later (omega (arith, few, other)))
 
 in_downs : (k stages s w : ℕ) → s < stages → w < 2 ^ k → Stands (downs k stages) (step.Down s w)
@@ -69,7 +71,8 @@ in_downs k zero s w few within = absurd (omega (arith, few))
 in_downs k (suc stage) s w few within = by (cases_eq s stage) (λ less. in_downs k stage s w less within)
   where
     by : (s ≡ stage) ⊎ (s ≡ stage → ⊥) → (s < stage → Stands (downs k stage) (step.Down s w)) → Stands (downs k (suc stage)) (step.Down s w)
-    by (inl last) later = behind (downs k stage) (on_each_wire k (step.Down stage)) (step.Down s w) (subst (λ t. Stands (on_each_wire k (step.Down stage)) (step.Down t w)) (sym last) (on_wire k (step.Down stage) w within))
+    by (inl last) later = behind (downs k stage) (on_each_wire k (step.Down stage)) (step.Down s w)
+        (subst (λ t. Stands (on_each_wire k (step.Down stage)) (step.Down t w)) (sym last) (on_wire k (step.Down stage) w within))
     by (inr other) later = in_front (downs k stage) (on_each_wire k (step.Down stage)) (step.Down s w) (later (omega (arith, few, other)))
 
 abbrev turns_and_ups : ℕ → List Step
@@ -78,11 +81,16 @@ turns_and_ups k = on_each_wire k step.Turn ++ ups k k
 pub in_round : (k : ℕ) (s : Step) → IsOfRound k s → Stands (round k) s
 unfolding round
 in_round k (step.Turn p) within =
-    in_front (turns_and_ups k ++ on_each_wire k step.Serve) (downs k k) (step.Turn p) (in_front (turns_and_ups k) (on_each_wire k step.Serve) (step.Turn p) (in_front (on_each_wire k step.Turn) (ups k k) (step.Turn p) (on_wire k step.Turn p within)))
+    in_front (turns_and_ups k ++ on_each_wire k step.Serve) (downs k k) (step.Turn p)
+    (in_front (turns_and_ups k) (on_each_wire k step.Serve) (step.Turn p)
+    (in_front (on_each_wire k step.Turn) (ups k k) (step.Turn p) (on_wire k step.Turn p within)))
 in_round k (step.Up s w) within =
-    in_front (turns_and_ups k ++ on_each_wire k step.Serve) (downs k k) (step.Up s w) (in_front (turns_and_ups k) (on_each_wire k step.Serve) (step.Up s w) (behind (on_each_wire k step.Turn) (ups k k) (step.Up s w) (in_ups k k s w within.0 within.1)))
+    in_front (turns_and_ups k ++ on_each_wire k step.Serve) (downs k k) (step.Up s w)
+    (in_front (turns_and_ups k) (on_each_wire k step.Serve) (step.Up s w)
+    (behind (on_each_wire k step.Turn) (ups k k) (step.Up s w) (in_ups k k s w within.0 within.1)))
 in_round k (step.Serve m) within =
-    in_front (turns_and_ups k ++ on_each_wire k step.Serve) (downs k k) (step.Serve m) (behind (turns_and_ups k) (on_each_wire k step.Serve) (step.Serve m) (on_wire k step.Serve m within))
+    in_front (turns_and_ups k ++ on_each_wire k step.Serve) (downs k k) (step.Serve m)
+    (behind (turns_and_ups k) (on_each_wire k step.Serve) (step.Serve m) (on_wire k step.Serve m within))
 in_round k (step.Down s w) within = behind (turns_and_ups k ++ on_each_wire k step.Serve) (downs k k) (step.Down s w) (in_downs k k s w within.0 within.1)
 in_round k (step.Poke q) within = absurd within
 
@@ -100,13 +108,15 @@ module _ (c : Config) (code : List ℕ) (M : theory.Machine Told) where
   inside a n r false e moves = absurd (moves refl)
 
   stage_up : (s w : ℕ) (on_wire there : Bool) → nat_lt s c.k ≡ there →
-      (answers (if on_wire then went_up M (if there then up_from (sizes_of c) M.net s w (M.net.requests s w) else (up.Stalled, M.net)) else stalled M).outcome ≡ Stalled → ⊥) → s < c.k
+      (answers (if on_wire then went_up M (if there then up_from (sizes_of c) M.net s w (M.net.requests s w) else (up.Stalled, M.net)) else stalled M).outcome
+      ≡ Stalled → ⊥) → s < c.k
   stage_up s w b true e moves = ltb-true s c.k e
   stage_up s w true false e moves = absurd (moves refl)
   stage_up s w false false e moves = absurd (moves refl)
 
   stage_down : (s w : ℕ) (on_wire there : Bool) → nat_lt s c.k ≡ there →
-      (answers (if on_wire then went_down M (if there then down_from (sizes_of c) M.net s w (M.net.replies (suc s) w) else (down.Stalled, M.net)) else stalled M).outcome ≡ Stalled → ⊥) → s < c.k
+      (answers (if on_wire then went_down M (if there then down_from (sizes_of c) M.net s w (M.net.replies (suc s) w) else (down.Stalled, M.net))
+      else stalled M).outcome ≡ Stalled → ⊥) → s < c.k
   stage_down s w b true e moves = ltb-true s c.k e
   stage_down s w true false e moves = absurd (moves refl)
   stage_down s w false false e moves = absurd (moves refl)
@@ -118,7 +128,8 @@ module _ (c : Config) (code : List ℕ) (M : theory.Machine Told) where
     stage_up s w (nat_lt w (2 ^ c.k)) (nat_lt s c.k) refl moves,
     inside w (2 ^ c.k) (went_up M (moved_up (sizes_of c) M.net s w)) (nat_lt w (2 ^ c.k)) refl moves,
   )
-  of_round (step.Serve m) plain moves = inside m (2 ^ c.k) (serve_from (sizes_of c) M m (M.net.requests c.k m) (M.net.replies c.k m)) (nat_lt m (2 ^ c.k)) refl moves
+  of_round (step.Serve m) plain moves =
+      inside m (2 ^ c.k) (serve_from (sizes_of c) M m (M.net.requests c.k m) (M.net.replies c.k m)) (nat_lt m (2 ^ c.k)) refl moves
   of_round (step.Down s w) plain moves = (
     stage_down s w (nat_lt w (2 ^ c.k)) (nat_lt s c.k) refl moves,
     inside w (2 ^ c.k) (went_down M (moved_down (sizes_of c) M.net s w)) (nat_lt w (2 ^ c.k)) refl moves,

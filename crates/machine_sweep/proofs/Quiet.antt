@@ -41,13 +41,15 @@ module _ (c : Config) (code : List ℕ) (M : theory.Machine Told) where
   pub up_stalls : (s w : ℕ) → M.net.requests s w ≡ [] → outcome_of c code M (step.Up s w) ≡ Stalled
   unfolding outcome_of moved_up
   up_stalls s w none =
-      ap (λ xs. answers (if nat_lt w (2 ^ c.k) then went_up M (if nat_lt s c.k then up_from (sizes_of c) M.net s w xs else (up.Stalled, M.net)) else stalled M).outcome) none
+      ap (λ xs. answers (if nat_lt w (2 ^ c.k) then went_up M (if nat_lt s c.k then up_from (sizes_of c) M.net s w xs else (up.Stalled, M.net))
+      else stalled M).outcome) none
       ∙ up_same (nat_lt w (2 ^ c.k)) (nat_lt s c.k)
 
   pub down_stalls : (s w : ℕ) → M.net.replies (suc s) w ≡ [] → outcome_of c code M (step.Down s w) ≡ Stalled
   unfolding outcome_of moved_down
   down_stalls s w none =
-      ap (λ xs. answers (if nat_lt w (2 ^ c.k) then went_down M (if nat_lt s c.k then down_from (sizes_of c) M.net s w xs else (down.Stalled, M.net)) else stalled M).outcome) none
+      ap (λ xs. answers (if nat_lt w (2 ^ c.k) then went_down M (if nat_lt s c.k then down_from (sizes_of c) M.net s w xs else (down.Stalled, M.net))
+      else stalled M).outcome) none
       ∙ down_same (nat_lt w (2 ^ c.k)) (nat_lt s c.k)
 
   pub serve_stalls : (m : ℕ) → M.net.requests c.k m ≡ [] → outcome_of c code M (step.Serve m) ≡ Stalled
@@ -72,7 +74,8 @@ module _ (m : MachineLists) (few : m.config.k ≤ 6) where
   quiet_by : (place : ℕ) (s : Step) → slice_get (round k) place ≡ Some s → answer s ≡ Stalled → IsQuiet m place
   quiet_by place s there e t found = (let is : s ≡ t = (let f = sym there ∙ found in cc) in ap answer (sym is) ∙ e)
 
-  pub up_quiet : (row w : ℕ) → 0 < row → row ≤ k → w < 2 ^ k → is_some (slice_get ((net_of m.network).requests (k - row) w) 0) ≡ false → IsQuiet m (row * 2 ^ k + w)
+  pub up_quiet : (row w : ℕ) → 0 < row → row ≤ k → w < 2 ^ k → is_some (slice_get ((net_of m.network).requests (k - row) w) 0) ≡ false →
+      IsQuiet m (row * 2 ^ k + w)
   unfolding machine_of_parts
   up_quiet row w some at_most within none =
       quiet_by (row * 2 ^ k + w) (step.Up (k - row) w) (up_at k row w few (omega (arith, at_most)) within some at_most)
@@ -84,10 +87,12 @@ module _ (m : MachineLists) (few : m.config.k ≤ 6) where
       quiet_by (row * 2 ^ k + w) (step.Serve w) (serve_at k row w few (omega (arith, is)) within is)
       (serve_stalls m.config m.code (machine_of m (λ p. [])) w (none_there ((net_of m.network).requests k w) none))
 
-  pub down_quiet : (row w : ℕ) → k + 1 < row → row < 2 * k + 2 → w < 2 ^ k → is_some (slice_get ((net_of m.network).replies (row - (k + 1)) w) 0) ≡ false → IsQuiet m (row * 2 ^ k + w)
+  pub down_quiet : (row w : ℕ) → k + 1 < row → row < 2 * k + 2 → w < 2 ^ k → is_some (slice_get ((net_of m.network).replies (row - (k + 1)) w) 0) ≡ false →
+      IsQuiet m (row * 2 ^ k + w)
   unfolding machine_of_parts
   down_quiet row w behind at_most within none =
       let depth : row - (k + 1) ≡ suc (row - (k + 2)) = omega (arith, behind) in
       quiet_by (row * 2 ^ k + w) (step.Down (row - (k + 2)) w) (down_at k row w few at_most within behind)
       (down_stalls m.config m.code (machine_of m (λ p. [])) (row - (k + 2)) w
-      (none_there ((net_of m.network).replies (suc (row - (k + 2))) w) (subst (λ d. is_some (slice_get ((net_of m.network).replies d w) 0) ≡ false) depth none)))
+      (none_there ((net_of m.network).replies (suc (row - (k + 2))) w)
+      (subst (λ d. is_some (slice_get ((net_of m.network).replies d w) 0) ≡ false) depth none)))

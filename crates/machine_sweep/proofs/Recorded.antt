@@ -32,17 +32,21 @@ of_round_has_record k (step.Down s w) within = both s w k (2 ^ k) within.0 withi
 of_round_has_record k (step.Poke q) within = absurd within
 
 -- steps that all do something, and write nothing from outside
-moves_have_records : (c : Config) (code : List ℕ) (M : theory.Machine Told) (steps : List Step) → AreOwn steps → NoneStalls c code M steps → HaveRecords c.k steps
+moves_have_records : (c : Config) (code : List ℕ) (M : theory.Machine Told) (steps : List Step) → AreOwn steps → NoneStalls c code M steps →
+    HaveRecords c.k steps
 moves_have_records c code M [] own moves = All-nil (HasRecord c.k)
 moves_have_records c code M (s ∷ ss) own moves =
-    All-cons (HasRecord c.k) s ss (of_round_has_record c.k s (of_round c code M s own.0 moves.0)) (moves_have_records c code (after c code M s) ss own.1 moves.1)
+    All-cons (HasRecord c.k) s ss (of_round_has_record c.k s (of_round c code M s own.0 moves.0))
+    (moves_have_records c code (after c code M s) ss own.1 moves.1)
 
-later_moves : (c : Config) (code : List ℕ) (M : theory.Machine Told) (xs ys : List Step) → NoneStalls c code M (xs ++ ys) → NoneStalls c code (all_after c code M xs) ys
+later_moves : (c : Config) (code : List ℕ) (M : theory.Machine Told) (xs ys : List Step) → NoneStalls c code M (xs ++ ys) →
+    NoneStalls c code (all_after c code M xs) ys
 unfolding all_after
 later_moves c code M [] ys moves = moves
 later_moves c code M (x ∷ xs) ys moves = later_moves c code (after c code M x) xs ys moves.1
 
-module _ (most : ℕ) (old : Log) (end : SweepEnd) (new : Log) (swept : IsSwept most old end new) (replay : IsReplay new.opening new.steps new.machine) (size : old.machine.config ≡ old.opening.config) where
+module _ (most : ℕ) (old : Log) (end : SweepEnd) (new : Log) (swept : IsSwept most old end new) (replay : IsReplay new.opening new.steps new.machine)
+    (size : old.machine.config ≡ old.opening.config) where
   abbrev asked : List Step
   asked = rounds old.machine.config.k swept.followed.whole ++ take swept.followed.part (round old.machine.config.k)
 
@@ -52,7 +56,8 @@ module _ (most : ℕ) (old : Log) (end : SweepEnd) (new : Log) (swept : IsSwept 
       let e = own_entered old.opening old.steps asked (own_asked old.machine.config.k swept.followed.whole swept.followed.part) in (
         e.0 ++ drain_steps swept.middle.machine,
         own_both e.0 (drain_steps swept.middle.machine) e.1 (drain_steps_are_own swept.middle.machine),
-        swept.steps ∙ ap (λ xs. xs ++ drain_steps swept.middle.machine) (swept.followed.steps ∙ e.2) ∙ append_assoc old.steps e.0 (drain_steps swept.middle.machine),
+        swept.steps ∙ ap (λ xs. xs ++ drain_steps swept.middle.machine) (swept.followed.steps ∙ e.2)
+            ∙ append_assoc old.steps e.0 (drain_steps swept.middle.machine),
       )
 
   config_is : new.machine.config ≡ old.machine.config
@@ -61,7 +66,9 @@ module _ (most : ℕ) (old : Log) (end : SweepEnd) (new : Log) (swept : IsSwept 
   pub swept_has_records : HaveRecords old.machine.config.k old.steps → HaveRecords new.machine.config.k new.steps
   swept_has_records before =
       let moves = subst (NoneStalls new.opening.config new.opening.code (machine_of new.opening (λ p. []))) more.2 replay.moved in
-      let later = moves_have_records new.opening.config new.opening.code (all_after new.opening.config new.opening.code (machine_of new.opening (λ p. [])) old.steps) more.0 more.1
+      let later = moves_have_records new.opening.config new.opening.code
+      (all_after new.opening.config new.opening.code (machine_of new.opening (λ p. [])) old.steps) more.0 more.1
       (later_moves new.opening.config new.opening.code (machine_of new.opening (λ p. [])) old.steps more.0 moves) in
       let here = subst (λ (c : Config). HaveRecords c.k more.0) (ap (λ m. m.config) swept.opening ∙ sym size) later in
-      subst (λ (c : Config). HaveRecords c.k new.steps) (sym config_is) (subst (HaveRecords old.machine.config.k) (sym more.2) (All-append (HasRecord old.machine.config.k) old.steps more.0 before here))
+      subst (λ (c : Config). HaveRecords c.k new.steps) (sym config_is)
+      (subst (HaveRecords old.machine.config.k) (sym more.2) (All-append (HasRecord old.machine.config.k) old.steps more.0 before here))

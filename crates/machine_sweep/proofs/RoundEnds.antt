@@ -19,7 +19,8 @@ use Rattle.machine_sweep.proofs.Own.{IsOwn}
 
 -- ---- a step
 
-module _ (old l new : Log) (s : Step) (o : Outcome) (opens : l.opening ≡ old.opening) (replay : IsReplay l.opening l.steps l.machine) (own : IsOwn s) (taken : HasTaken l s o new) (under : IsUnder old.opening (length old.steps) l.steps) where
+module _ (old l new : Log) (s : Step) (o : Outcome) (opens : l.opening ≡ old.opening) (replay : IsReplay l.opening l.steps l.machine) (own : IsOwn s)
+    (taken : HasTaken l s o new) (under : IsUnder old.opening (length old.steps) l.steps) where
   -- what it answered is what the definition says
   answer_is : o ≡ answer_after old.opening l.steps s
   answer_is = taken.step.step.outcome ∙ sym (outcome_there l.opening l.machine l.steps replay.run s) ∙ ap (λ m. answer_after m l.steps s) opens
@@ -36,29 +37,44 @@ module _ (old l new : Log) (s : Step) (o : Outcome) (opens : l.opening ≡ old.o
 
     running_on : (IsStop o → ⊥) ⊎ HasRunning new.machine → RunsAfter old.opening new.steps
     running_on (inr runs) = runs_there runs
-    running_on (inl plain) = subst (RunsAfter old.opening) (sym steps_are) (runs_on old.opening l.steps s own (λ stop. plain (subst IsStop (sym answer_is) stop)) under.running)
+    running_on (inl plain) =
+        subst (RunsAfter old.opening) (sym steps_are) (runs_on old.opening l.steps s own (λ stop. plain (subst IsStop (sym answer_is) stop)) under.running)
 
     pub step_under : (IsFault o → ⊥) × ((IsStop o → ⊥) ⊎ HasRunning new.machine) → IsUnder old.opening (length old.steps) new.steps
     step_under (plain, runs) = record {
       running = running_on runs;
-      sound = λ f. sound_on old.opening (length old.steps) l.steps s (λ fault. plain (subst IsFault (sym answer_is) fault)) under.sound (subst (λ xs. EndsInFault old.opening (length old.steps) xs) steps_are f);
+      sound = λ f. sound_on old.opening (length old.steps) l.steps s (λ fault. plain (subst IsFault (sym answer_is) fault)) under.sound
+          (subst (λ xs. EndsInFault old.opening (length old.steps) xs) steps_are f);
     }
 
     pub step_over : length old.steps ≤ length l.steps → IsFault o ⊎ (HasRunning new.machine → ⊥) → IsOver old.opening (length old.steps) new.steps
     step_over behind (inl fault) =
-        inl (subst (λ xs. EndsInFault old.opening (length old.steps) xs) (sym steps_are) (ends_in old.opening (length old.steps) l.steps s behind (subst IsFault answer_is fault)))
+        inl (subst (λ xs. EndsInFault old.opening (length old.steps) xs) (sym steps_are)
+        (ends_in old.opening (length old.steps) l.steps s behind (subst IsFault answer_is fault)))
     step_over behind (inr none) =
         inr (λ runs. none (has_running new.opening new.machine new.steps replayed (subst (λ m. RunsAfter m new.steps) (sym (taken.opening ∙ opens)) runs)))
 
 -- ---- a round
 
-module _ (limit : ℕ) (old l : Log) (i : ℕ) (opens : l.opening ≡ old.opening) (replayed : IsReplay l.opening l.steps l.machine) (steps : l.steps ≡ entered_of old.opening old.steps (take i (round old.machine.config.k))) (few : length l.steps ≤ limit) (first : IsFirst old.opening (length old.steps) l.steps) where
+module _ (limit : ℕ) (old l : Log) (i : ℕ) (opens : l.opening ≡ old.opening) (replayed : IsReplay l.opening l.steps l.machine) (steps : l.steps
+    ≡ entered_of old.opening old.steps (take i (round old.machine.config.k))) (few : length l.steps ≤ limit)
+    (first : IsFirst old.opening (length old.steps) l.steps) where
   -- the sweep is over
   pub round_over : (b : Bool) → b ≡ true → IsOver old.opening (length old.steps) l.steps → WasAskedRound limit old b l
-  round_over b is over = record { opening = opens; replay = replayed; part = i; steps = steps; few = few; first = first; over = λ e. over; goes_on = λ other. absurd (true≢false (sym is ∙ other)) }
+  round_over b is over = record {
+    opening = opens;
+    replay = replayed;
+    part = i;
+    steps = steps;
+    few = few;
+    first = first;
+    over = λ e. over;
+    goes_on = λ other. absurd (true≢false (sym is ∙ other));
+  }
 
   module _ (under : IsUnder old.opening (length old.steps) l.steps) (b : Bool) (is_not : b ≡ false) where
-    goes_on_by : (take i (round old.machine.config.k) ≡ round old.machine.config.k) ⊎ (limit ≤ length l.steps) → length old.steps < length l.steps → WasAskedRound limit old b l
+    goes_on_by : (take i (round old.machine.config.k) ≡ round old.machine.config.k) ⊎ (limit ≤ length l.steps) → length old.steps < length l.steps →
+        WasAskedRound limit old b l
     goes_on_by whole some = record {
       opening = opens;
       replay = replayed;
@@ -75,7 +91,8 @@ module _ (limit : ℕ) (old l : Log) (i : ℕ) (opens : l.opening ≡ old.openin
     full_round room full = goes_on_by (inr full) (omega (arith, room, full))
 
     -- the round has no step more
-    pub whole_round : IsMachine old.machine → HasRunning old.machine → IsReplay old.opening old.steps old.machine → length (round old.machine.config.k) ≤ i → WasAskedRound limit old b l
+    pub whole_round : IsMachine old.machine → HasRunning old.machine → IsReplay old.opening old.steps old.machine → length (round old.machine.config.k) ≤ i →
+        WasAskedRound limit old b l
     whole_round is running replay over = goes_on_by (inl all) (some (cases_lt (length old.steps) (length l.steps)))
       where
         all : take i (round old.machine.config.k) ≡ round old.machine.config.k
@@ -87,7 +104,8 @@ module _ (limit : ℕ) (old l : Log) (i : ℕ) (opens : l.opening ≡ old.openin
             let place = in_round old.machine.config.k goes.0 goes.1.0 in
             let none : length (entered_of old.opening old.steps (round old.machine.config.k)) ≤ length old.steps =
             subst (λ n. n ≤ length old.steps) (ap length (steps ∙ ap (entered_of old.opening old.steps) all)) short in
-            let stalls : answer_after old.opening old.steps goes.0 ≡ Stalled = each_stalls old.opening old.steps (round old.machine.config.k) none place.0 goes.0 place.1 in
+            let stalls : answer_after old.opening old.steps goes.0 ≡ Stalled =
+            each_stalls old.opening old.steps (round old.machine.config.k) none place.0 goes.0 place.1 in
             goes.1.1 (sym (outcome_there old.opening old.machine old.steps replay.run goes.0) ∙ stalls)
 
         some : (length old.steps < length l.steps) ⊎ (length l.steps ≤ length old.steps) → length old.steps < length l.steps

@@ -7,11 +7,13 @@ use Rattle.machine_runs.specs.Machines.{MachineLists}
 use Rattle.wire_sets.specs.Members.{HasNoneIn, IsFirst}
 use Rattle.machine_sweep.specs.Skips.{AreQuiet, IsQuiet}
 
-module _ (m : MachineLists) (base wires wire : ℕ) (set : ℕ → Bool) (few : (w : ℕ) → wires ≤ w → set w ≡ false) (quiet : (w : ℕ) → w < wires → set w ≡ false → IsQuiet m (base + w)) where
+module _ (m : MachineLists) (base wires wire : ℕ) (set : ℕ → Bool) (few : (w : ℕ) → wires ≤ w → set w ≡ false) (quiet : (w : ℕ) → w < wires → set w ≡ false →
+    IsQuiet m (base + w)) where
   up_to : (to : ℕ) → to ≤ wires → HasNoneIn set wire to → AreQuiet m (base + wire) (base + to)
   up_to to within none place from before =
       let same : base + (place - base) ≡ place = omega (arith, from) in
-      subst (IsQuiet m) same (quiet (place - base) (omega (arith, before, within, from)) (none (place - base) (omega (arith, from)) (omega (arith, before, from))))
+      subst (IsQuiet m) same (quiet (place - base) (omega (arith, before, within, from))
+      (none (place - base) (omega (arith, from)) (omega (arith, before, from))))
 
   pub first_found : (o : Option ℕ) → IfSome o (IsFirst set wire) → IfSome o (λ w. (wire ≤ w) × (w < wires) × AreQuiet m (base + wire) (base + w))
   first_found None f = f
@@ -22,7 +24,8 @@ module _ (m : MachineLists) (base wires wire : ℕ) (set : ℕ → Bool) (few : 
       by (inr past) = absurd (true≢false (sym f.member ∙ few w past))
 
   pub none_found : (end : ℕ) → end ≡ base + wires → wires ≤ 64 → HasNoneIn set wire 64 → AreQuiet m (base + wire) end
-  none_found end is most none = subst (AreQuiet m (base + wire)) (sym is) (up_to wires (omega arith) (λ w from before. none w from (omega (arith, before, most))))
+  none_found end is most none =
+      subst (AreQuiet m (base + wire)) (sym is) (up_to wires (omega arith) (λ w from before. none w from (omega (arith, before, most))))
 
 -- behind the last row there is no step
 pub past_rows : (wires rows row wire : ℕ) → rows ≤ row → wires * rows ≤ row * wires + wire

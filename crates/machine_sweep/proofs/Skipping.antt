@@ -17,7 +17,8 @@ use Rattle.machine_sweep.specs.Sweeps.{entered_of}
 use Rattle.machine_sweep.proofs.Asking.{next_asked}
 
 -- a step that stalls is not entered
-left_out : (l : Log) (s : Step) → IsReplay l.opening l.steps l.machine → outcome_of l.machine.config l.machine.code (machine_of l.machine (λ p. [])) s ≡ Stalled → l.steps ≡ entered_of l.opening l.steps (s ∷ [])
+left_out : (l : Log) (s : Step) → IsReplay l.opening l.steps l.machine →
+    outcome_of l.machine.config l.machine.code (machine_of l.machine (λ p. [])) s ≡ Stalled → l.steps ≡ entered_of l.opening l.steps (s ∷ [])
 unfolding entered_of
 left_out l s r e = sym (ap (entered l.steps s) (outcome_there l.opening l.machine l.steps r.run s ∙ e))
 
@@ -29,7 +30,8 @@ module _ (old l : Log) (opens : l.opening ≡ old.opening) (size : l.machine.con
   abbrev pub HasAsked : (List Step) → ℕ → Type 0
   HasAsked steps i = steps ≡ entered_of old.opening old.steps (take i all)
 
-  quiet_here : (place : ℕ) (s : Step) → IsQuiet l.machine place → slice_get all place ≡ Some s → outcome_of l.machine.config l.machine.code (machine_of l.machine (λ p. [])) s ≡ Stalled
+  quiet_here : (place : ℕ) (s : Step) → IsQuiet l.machine place → slice_get all place ≡ Some s →
+      outcome_of l.machine.config l.machine.code (machine_of l.machine (λ p. [])) s ≡ Stalled
   quiet_here place s quiet there = quiet s (subst (λ k. slice_get (round k) place ≡ Some s) (sym size) there)
 
   skipped : (i n : ℕ) → i + n ≤ length all → AreQuiet l.machine i (i + n) → HasAsked l.steps i → HasAsked l.steps (i + n)
@@ -40,7 +42,8 @@ module _ (old l : Log) (opens : l.opening ≡ old.opening) (size : l.machine.con
       let there : slice_get all (i + n) ≡ Some s = slice_get-get_or all (i + n) (step.Turn 0) inside in
       let so_far : HasAsked l.steps (i + n) = skipped i n (omega (arith, within)) (λ place from to. quiet place from (omega (arith, to))) before in
       let more : HasAsked l.steps (i + n + 1) =
-      next_asked old l old.machine.config.k (i + n) s l.steps opens inside there so_far (left_out l s r (quiet_here (i + n) s (quiet (i + n) (omega arith) (omega arith)) there)) in
+      next_asked old l old.machine.config.k (i + n) s l.steps opens inside there so_far
+      (left_out l s r (quiet_here (i + n) s (quiet (i + n) (omega arith) (omega arith)) there)) in
       subst (HasAsked l.steps) (let same : i + n + 1 ≡ i + suc n = omega arith in same) more
 
   skipped_to : (i j : ℕ) → i ≤ j → j ≤ length all → AreQuiet l.machine i j → HasAsked l.steps i → HasAsked l.steps j
@@ -49,7 +52,8 @@ module _ (old l : Log) (opens : l.opening ≡ old.opening) (size : l.machine.con
       subst (HasAsked l.steps) same (skipped i (j - i) (subst (λ n. n ≤ length all) (sym same) within) (subst (AreQuiet l.machine i) (sym same) quiet) before)
 
   -- the next step that is asked for
-  pub next_is_asked : (i j : ℕ) (s : Step) (steps' : List Step) → IsNext l.machine i s j → HasAsked l.steps i → steps' ≡ entered_of l.opening l.steps (s ∷ []) → HasAsked steps' j
+  pub next_is_asked : (i j : ℕ) (s : Step) (steps' : List Step) → IsNext l.machine i s j → HasAsked l.steps i →
+      steps' ≡ entered_of l.opening l.steps (s ∷ []) → HasAsked steps' j
   next_is_asked i j s steps' n before is =
       let there : slice_get all n.place ≡ Some s = subst (λ k. slice_get (round k) n.place ≡ Some s) size n.there in
       let inside : n.place < length all = slice_get_within all n.place s there in
@@ -61,5 +65,10 @@ module _ (old l : Log) (opens : l.opening ≡ old.opening) (size : l.machine.con
   rest_is_asked i quiet before = by (cases_lt i (length all))
     where
       by : (i < length all) ⊎ (length all ≤ i) → (j : ℕ) × HasAsked l.steps j × (length all ≤ j)
-      by (inl less) = (length all, skipped_to i (length all) (omega (arith, less)) (omega arith) (subst (λ k. AreQuiet l.machine i (length (round k))) size quiet) before, omega arith)
+      by (inl less) = (
+        length all,
+        skipped_to i (length all) (omega (arith, less)) (omega arith)
+            (subst (λ k. AreQuiet l.machine i (length (round k))) size quiet) before,
+        omega arith,
+      )
       by (inr over) = (i, before, over)

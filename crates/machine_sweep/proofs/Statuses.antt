@@ -45,7 +45,8 @@ KeepsStatus p (Reaches word change after) = (found : ℕ) → (after found).0.st
 KeepsStatus p (Stops cause) = Unit {0}
 
 module _ (s : Setting) (code : List ℕ) (p : Processor) (i : Insn) where
-  in_region : (size address rd : ℕ) (value change : ℕ → ℕ) (writes : Bool) (r : Result Region Fault) → KeepsStatus p (accessed code p i size address rd value change writes r)
+  in_region : (size address rd : ℕ) (value change : ℕ → ℕ) (writes : Bool) (r : Result Region Fault) →
+      KeepsStatus p (accessed code p i size address rd value change writes r)
   in_region size address rd value change writes (Ok (region.Shared word)) = λ found. refl
   in_region size address rd value change writes (Ok (region.Local place)) = refl
   in_region size address rd value change writes (Ok (region.Code place)) = refl
@@ -107,9 +108,11 @@ module _ (c : Config) (code : List ℕ) (M : theory.Machine Told) where
 
   retires : (p : ℕ) (ys : List Reply) → KeepsAll (retire_from (program c code) M p ys)
   retires p [] = λ plain q. refl
-  retires p (y ∷ ys) = λ plain. put_keeps M.core p (retired_by (M.core p) (after_reply (turns p) y.value)) (of_reply (M.core p) (turns p) y.value (keeps_turn p))
+  retires p (y ∷ ys) =
+      λ plain. put_keeps M.core p (retired_by (M.core p) (after_reply (turns p) y.value)) (of_reply (M.core p) (turns p) y.value (keeps_turn p))
 
-  alone : (p : ℕ) (t : Turn) → turns p ≡ t → KeepsStatus (M.core p).state t → (IsStop (answers (theory.Advanced p)) → ⊥) → (alone_by (M.core p) t).state.status ≡ (M.core p).state.status
+  alone : (p : ℕ) (t : Turn) → turns p ≡ t → KeepsStatus (M.core p).state t → (IsStop (answers (theory.Advanced p)) → ⊥) →
+      (alone_by (M.core p) t).state.status ≡ (M.core p).state.status
   alone p (Retires after retired) e keeps plain = keeps
   alone p (Reaches word change after) e keeps plain = refl
   alone p (Stops cause) e keeps plain = absurd (plain (subst (λ t. IsStop (told_of_turn t)) (sym e) tt))
@@ -141,7 +144,8 @@ module _ (c : Config) (code : List ℕ) (M : theory.Machine Told) where
   keeps_all : (s : Step) → IsOwn s → KeepsAll (taken c code M s)
   keeps_all (step.Turn p) own = either (nat_lt p (2 ^ c.k)) (turned (program c code) M p (M.is_open p)) (takes p (M.is_open p))
   keeps_all (step.Up s w) own = either (nat_lt w (2 ^ c.k)) (went_up M (moved_up (sizes_of c) M.net s w)) (goes_up (moved_up (sizes_of c) M.net s w))
-  keeps_all (step.Serve m) own = either (nat_lt m (2 ^ c.k)) (serve_from (sizes_of c) M m (M.net.requests c.k m) (M.net.replies c.k m)) (serves m (M.net.requests c.k m) (M.net.replies c.k m))
+  keeps_all (step.Serve m) own = either (nat_lt m (2 ^ c.k)) (serve_from (sizes_of c) M m (M.net.requests c.k m) (M.net.replies c.k m))
+      (serves m (M.net.requests c.k m) (M.net.replies c.k m))
   keeps_all (step.Down s w) own = either (nat_lt w (2 ^ c.k)) (went_down M (moved_down (sizes_of c) M.net s w)) (goes_down (moved_down (sizes_of c) M.net s w))
   keeps_all (step.Poke q) own = absurd own
 

@@ -65,7 +65,8 @@ impl Round {
 fn first_from(machine: &Machine, row: u8, wire: u8) -> Option<u8>
     requires stages { machine.now.config.k ≤ 6 }
     requires row { row < 2 * machine.now.config.k + 2 }
-    ensures first { IfSome result (λ w. (wire ≤ w) × (w < 2 ^ machine.now.config.k) × AreQuiet machine.now (row * 2 ^ machine.now.config.k + wire) (row * 2 ^ machine.now.config.k + w)) }
+    ensures first { IfSome result (λ w. (wire ≤ w) × (w < 2 ^ machine.now.config.k)
+        × AreQuiet machine.now (row * 2 ^ machine.now.config.k + wire) (row * 2 ^ machine.now.config.k + w)) }
     ensures none { result ≡ None → AreQuiet machine.now (row * 2 ^ machine.now.config.k + wire) ((row + 1) * 2 ^ machine.now.config.k) }
 {
     if row > 0 {

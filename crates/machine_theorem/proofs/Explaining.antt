@@ -35,11 +35,15 @@ module _ (c : Config) (code : List ℕ) where
     where
       at : (p < length F.processors) ⊎ (length F.processors ≤ p) → IsGood p ((read_flat F (λ p. [])).core p)
       at (inl within) =
-          let count = sound.ranges.count in
-          (all_get HasWords F.processors p (slice_index_or F.processors p no_processor) sound.ranges.processors (found_within F.processors p no_processor within), inl (omega arith))
+          let count = sound.ranges.count in (
+            all_get HasWords F.processors p (slice_index_or F.processors p no_processor) sound.ranges.processors
+                (found_within F.processors p no_processor within),
+            inl (omega arith),
+          )
       at (inr past) =
           let none : slice_index_or F.processors p no_processor ≡ no_processor = past_all F.processors p past in
-          subst (λ s. IsGood p (record { state = s; events = [] })) (sym none) (record { pc = omega arith; registers = λ r. omega arith; local = λ r. omega arith }, inr refl)
+          subst (λ s. IsGood p (record { state = s; events = [] })) (sym none)
+          (record { pc = omega arith; registers = λ r. omega arith; local = λ r. omega arith }, inr refl)
         where
           past_all : (xs : List Processor) (i : ℕ) → length xs ≤ i → slice_index_or xs i no_processor ≡ no_processor
           past_all [] i l = refl
@@ -57,13 +61,15 @@ module _ (c : Config) (code : List ℕ) where
 
   module _ (M : Machine Told) (F : FlatState) (o : Opens c code M F) where
     agrees : (es : List Entry) → AreLawful c es → flat_run (program c code) (flat_of M) es ≡ flat_after c code F es
-    agrees es lawful = ap (λ f. flat_run (program c code) f es) o.reads ∙ run_agrees c code (means_change c code o.few (bytes_of F o.sound)) es F (λ p. []) lawful o.sound
+    agrees es lawful =
+        ap (λ f. flat_run (program c code) f es) o.reads ∙ run_agrees c code (means_change c code o.few (bytes_of F o.sound)) es F (λ p. []) lawful o.sound
 
     before_lawful : (xs ys : List Entry) → AreLawful c (xs ++ ys) → AreLawful c xs
     before_lawful [] ys a = tt
     before_lawful (x ∷ xs) ys a = (a.0, before_lawful xs ys a.1)
 
-    finds : (order : List Entry) → AreLawful c order → (core : ℕ → Told) (p place found : ℕ) → FindsAt (program c code) (flat_of M) order core p place found → Finds c code F order p place found (core p)
+    finds : (order : List Entry) → AreLawful c order → (core : ℕ → Told) (p place found : ℕ) → FindsAt (program c code) (flat_of M) order core p place found →
+        Finds c code F order p place found (core p)
     finds order lawful core p place found f =
         let a = before_lawful f.before (entry.Processor p ∷ f.later) (subst (AreLawful c) f.is lawful) in
         record {
@@ -78,13 +84,15 @@ module _ (c : Config) (code : List ℕ) where
     explained steps =
         let h : Passed Told = ran (sizes_of c) (program c code) M steps in
         let lawful : AreLawful c h.order = order_lawful c code steps (from_machine M) tt in
-        let m = at_the_moment (sizes_of c) (program c code) IsGood (flat_of M) h (follows (sizes_of c) (program c code) IsGood (keeps c code o.few (bytes_of F o.sound)) M (begins M F o) steps) in
+        let m = at_the_moment (sizes_of c) (program c code) IsGood (flat_of M) h
+        (follows (sizes_of c) (program c code) IsGood (keeps c code o.few (bytes_of F o.sound)) M (begins M F o) steps) in
         let same = agrees h.order lawful in
         record {
           words = λ i. m.words i ∙ ap (λ (g : FlatMachine Told). g.mem i) same;
           shut = m.shut;
           unserved = λ p none. sym (m.unserved p none) ∙ ap (λ (g : FlatMachine Told). g.core p) same;
-          served = λ p place e. let s = m.served p place e in (s.0, finds h.order lawful h.machine.core p place s.0 s.1, sym (ap (λ (g : FlatMachine Told). g.core p) same) ∙ s.2);
+          served = λ p place e. let s =
+              m.served p place e in (s.0, finds h.order lawful h.machine.core p place s.0 s.1, sym (ap (λ (g : FlatMachine Told). g.core p) same) ∙ s.2);
           retires = λ p found e. let r = m.retires p found e in (r.0, r.1, finds h.order lawful h.machine.core p r.0 found r.2);
         }
 
@@ -92,7 +100,8 @@ module _ (c : Config) (code : List ℕ) where
     once steps = served_once (sizes_of c) (program c code) IsGood (keeps c code o.few (bytes_of F o.sound)) M (begins M F o) steps
 
 -- a new machine, beside the flat machine that it is
-opens_on : (c : Config) (code : List ℕ) (F : FlatState) → c.k ≤ 6 → IsSoundFlat c code F → Opens c code (new_machine (read_flat F (λ p. [])).mem (read_flat F (λ p. [])).core) F
+opens_on : (c : Config) (code : List ℕ) (F : FlatState) → c.k ≤ 6 → IsSoundFlat c code F →
+    Opens c code (new_machine (read_flat F (λ p. [])).mem (read_flat F (λ p. [])).core) F
 opens_on c code F few sound = record {
   few = few;
   sound = sound;

@@ -11,7 +11,8 @@ use Rattle.flat_machine.specs.declared.poke.Entry.TheVariants as entry
 use Rattle.flat_machine.specs.State as flat
 use Rattle.flat_machine.specs.State.{Processor, FlatState, is_running, status_of}
 use Rattle.flat_machine.specs.Turns.{Turn, Retires, Reaches, Stops, turn_of}
-use Rattle.flat_machine.specs.Flat.{flat_step, flat_event, flat_run, flat_events, taken, with_taken, step_of, turned, turn_event, written, is_lawful, with_processor_number}
+use Rattle.flat_machine.specs.Flat.{flat_step, flat_event, flat_run, flat_events, taken, with_taken, step_of, turned, turn_event, written, is_lawful}
+use Rattle.flat_machine.specs.Flat.{with_processor_number}
 use Rattle.flat_machine.specs.Laws.{HasWords}
 use Rattle.flat_machine.proofs.Lemmas.{all_get, step_in_range}
 use Rattle.phi_algebra.specs.Functions.{apply}
@@ -21,7 +22,8 @@ use Rattle.messages.specs.Places.{put}
 use Rattle.messages.specs.Queues.{applied}
 use Rattle.serialization.specs.Order as theory
 use Rattle.serialization.specs.Order.{FlatMachine, flat_turn}
-use Rattle.machine_program.specs.Processors.{Told, no_processor, setting_of, kind_of, kind_of_turn, alone_by, word_by, retired_by, is_lawful_poke, next, program}
+use Rattle.machine_program.specs.Processors.{Told, no_processor, setting_of, kind_of, kind_of_turn, alone_by, word_by, retired_by, is_lawful_poke, next}
+use Rattle.machine_program.specs.Processors.{program}
 use Rattle.machine_program.specs.FlatSizes.{HasSize, IsSoundFlat}
 use Rattle.machine_program.proofs.Lemmas.{applied_word, lawful_same, lawful_writes, read_found, read_none, read_set, size_written, told_set, written_agrees}
 use Rattle.machine_theorem.specs.Flatness.{read_flat, with_events, IsLawful, AreLawful}
@@ -34,7 +36,8 @@ pub record MeansChange (c : Config) (code : List ℕ) (j : ℕ) (p : Processor) 
 module _ (c : Config) (code : List ℕ) where
   -- ---- turns
 
-  turn_agrees : (F : FlatState) (shown : ℕ → List Event) (j : ℕ) (p : Processor) → j < length F.processors → HasSize c code F → MeansChange c code j p → ((w : ℕ) → slice_index F.shared w < 2 ^ 32) →
+  turn_agrees : (F : FlatState) (shown : ℕ → List Event) (j : ℕ) (p : Processor) → j < length F.processors → HasSize c code F → MeansChange c code j p →
+      ((w : ℕ) → slice_index F.shared w < 2 ^ 32) →
       (t : Turn) → next c code j p ≡ t →
       flat_turn (program c code) (read_flat F shown) j (record { state = p; events = shown j }) (kind_of_turn t)
       ≡ read_flat (with_taken F j (taken p F.shared t)) (put shown j (shown j ++ (taken p F.shared t).2 ∷ []))
@@ -43,13 +46,15 @@ module _ (c : Config) (code : List ℕ) where
       ∙ ap (λ f. record { mem = slice_index F.shared; core = f }) (sym (told_set F.processors j after shown (shown j ++ event.Retired retired ∷ []) within))
   turn_agrees F shown j p within size means words (Stops cause) e =
       ap (λ t. record { mem = slice_index F.shared; core = put (read_flat F shown).core j (alone_by (record { state = p; events = shown j }) t) }) e
-      ∙ ap (λ f. record { mem = slice_index F.shared; core = f }) (sym (told_set F.processors j (record p { status = status_of cause }) shown (shown j ++ event.Stopped cause ∷ []) within))
+      ∙ ap (λ f. record { mem = slice_index F.shared; core = f })
+      (sym (told_set F.processors j (record p { status = status_of cause }) shown (shown j ++ event.Stopped cause ∷ []) within))
   turn_agrees F shown j p within size means words (Reaches word change after) e =
       let g : Told = record { state = p; events = shown j } in
       let old : ℕ = slice_index F.shared word in
       let m = means.change word change after e in
       let there : word < length F.shared = subst (λ n. word < n) (sym size.shared) m.0 in
-      let value : applied (reference_phi (setting_of c j) code p) old ≡ change old = applied_word (reference_phi (setting_of c j) code p) old (words word) ∙ m.1 old (words word) in
+      let value : applied (reference_phi (setting_of c j) code p) old ≡ change old =
+      applied_word (reference_phi (setting_of c j) code p) old (words word) ∙ m.1 old (words word) in
       ap (λ t. record {
         mem = put (slice_index F.shared) (word_by t) (applied (reference_phi (setting_of c j) code p) (slice_index F.shared (word_by t)));
         core = put (read_flat F shown).core j (retired_by g (after_reply t (slice_index F.shared (word_by t))));
@@ -58,8 +63,10 @@ module _ (c : Config) (code : List ℕ) where
       (ap (put (slice_index F.shared) word) value ∙ sym (read_set F.shared word (change old) 0 there))
       (sym (told_set F.processors j (after old).0 shown (shown j ++ event.Retired (after old).1 ∷ []) within))
 
-  step_processor : (F : FlatState) (shown : ℕ → List Event) (j : ℕ) → HasSize c code F → ((p : Processor) → slice_get F.processors j ≡ Some p → MeansChange c code j p) → ((w : ℕ) → slice_index F.shared w < 2 ^ 32) →
-      theory.flat_step (program c code) (read_flat F shown) (entry.Processor j) ≡ read_flat (flat_step F (entry.Processor j)) (with_events shown (with_processor_number (entry.Processor j) (flat_event F (entry.Processor j))))
+  step_processor : (F : FlatState) (shown : ℕ → List Event) (j : ℕ) → HasSize c code F →
+      ((p : Processor) → slice_get F.processors j ≡ Some p → MeansChange c code j p) → ((w : ℕ) → slice_index F.shared w < 2 ^ 32) →
+      theory.flat_step (program c code) (read_flat F shown) (entry.Processor j)
+      ≡ read_flat (flat_step F (entry.Processor j)) (with_events shown (with_processor_number (entry.Processor j) (flat_event F (entry.Processor j))))
   unfolding flat_step flat_event
   step_processor F shown j size means words = at (slice_get F.processors j) refl
     where
@@ -68,19 +75,24 @@ module _ (c : Config) (code : List ℕ) where
 
       runs : (p : Processor) → slice_get F.processors j ≡ Some p → (b : Bool) → is_running p.status ≡ b →
           flat_turn (program c code) f j (record { state = p; events = shown j }) (kind_of b (next c code j p))
-          ≡ read_flat (if b then with_taken F j (step_of F j p) else F) (with_events shown (with_processor_number (entry.Processor j) (if b then Some (step_of F j p).2 else None)))
+          ≡ read_flat (if b then with_taken F j (step_of F j p)
+          else F) (with_events shown (with_processor_number (entry.Processor j) (if b then Some (step_of F j p).2 else None)))
       runs p found false r = refl
       runs p found true r =
           let within : j < length F.processors = (read_found F.processors j p no_processor found).1 in
-          let same : next c code j p ≡ turn_of (flat.setting_of F j) F.code p = (λ i. turn_of (record { number = j; processors = sym size.processors i; shared_words = sym size.shared i }) (sym size.code_is i) p) in
+          let same : next c code j p ≡ turn_of (flat.setting_of F j) F.code p =
+          (λ i. turn_of (record { number = j; processors = sym size.processors i; shared_words = sym size.shared i }) (sym size.code_is i) p) in
           turn_agrees F shown j p within size (means p found) words (next c code j p) refl
           ∙ ap (λ t. read_flat (with_taken F j (taken p F.shared t)) (put shown j (shown j ++ (taken p F.shared t).2 ∷ []))) same
 
       at : (o : Option Processor) → slice_get F.processors j ≡ o →
-          theory.flat_step (program c code) f (entry.Processor j) ≡ read_flat (turned F j o) (with_events shown (with_processor_number (entry.Processor j) (turn_event F j o)))
-      at None e = ap (λ p. flat_turn (program c code) f j (record { state = p; events = shown j }) (kind_of (is_running p.status) (next c code j p))) (read_none F.processors j no_processor e)
+          theory.flat_step (program c code) f (entry.Processor j)
+          ≡ read_flat (turned F j o) (with_events shown (with_processor_number (entry.Processor j) (turn_event F j o)))
+      at None e = ap (λ p. flat_turn (program c code) f j (record { state = p; events = shown j }) (kind_of (is_running p.status) (next c code j p)))
+          (read_none F.processors j no_processor e)
       at (Some p) e =
-          ap (λ p. flat_turn (program c code) f j (record { state = p; events = shown j }) (kind_of (is_running p.status) (next c code j p))) (read_found F.processors j p no_processor e).0
+          ap (λ p. flat_turn (program c code) f j (record { state = p; events = shown j }) (kind_of (is_running p.status) (next c code j p)))
+          (read_found F.processors j p no_processor e).0
           ∙ runs p e (is_running p.status) refl
 
   -- ---- pokes
@@ -124,8 +136,10 @@ module _ (c : Config) (code : List ℕ) where
 
   module _ (law : (j : ℕ) (p : Processor) → HasWords p → MeansChange c code j p) where
     sound_kept : (F : FlatState) (e : Entry) → IsLawful c e → IsSoundFlat c code F → IsSoundFlat c code (flat_step F e)
-    sound_kept F (entry.Processor j) lawful h = record { size = size_kept F (entry.Processor j) h.size; ranges = step_in_range F (entry.Processor j) tt h.ranges }
-    sound_kept F (entry.Poke q) lawful h = record { size = size_kept F (entry.Poke q) h.size; ranges = step_in_range F (entry.Poke q) (lawful_writes c code q lawful) h.ranges }
+    sound_kept F (entry.Processor j) lawful h =
+        record { size = size_kept F (entry.Processor j) h.size; ranges = step_in_range F (entry.Processor j) tt h.ranges }
+    sound_kept F (entry.Poke q) lawful h =
+        record { size = size_kept F (entry.Poke q) h.size; ranges = step_in_range F (entry.Poke q) (lawful_writes c code q lawful) h.ranges }
 
     means_of : (F : FlatState) (j : ℕ) (p : Processor) → IsSoundFlat c code F → slice_get F.processors j ≡ Some p → MeansChange c code j p
     means_of F j p h found =
@@ -148,7 +162,8 @@ module _ (c : Config) (code : List ℕ) where
     run_agrees (e ∷ es) F shown lawful h =
         ap (λ f. theory.flat_run (program c code) f es) (step_agrees F shown e lawful.0 h)
         ∙ run_agrees es (flat_step F e) (with_events shown (with_processor_number e (flat_event F e))) lawful.1 (sound_kept F e lawful.0 h)
-        ∙ ap (read_flat (flat_run (flat_step F e) es)) (sym (with_events_append shown (with_processor_number e (flat_event F e)) (flat_events (flat_step F e) es)))
+        ∙ ap (read_flat (flat_run (flat_step F e) es))
+        (sym (with_events_append shown (with_processor_number e (flat_event F e)) (flat_events (flat_step F e) es)))
 
     pub run_sound : (es : List Entry) (F : FlatState) → AreLawful c es → IsSoundFlat c code F → IsSoundFlat c code (flat_run F es)
     run_sound [] F lawful h = h

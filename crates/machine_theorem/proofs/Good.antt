@@ -18,7 +18,8 @@ use Rattle.machine_ports.proofs.Lemmas.{reference_means}
 use Rattle.messages.specs.Places.{put}
 use Rattle.messages.proofs.Lemmas.{put_other, put_same}
 use Rattle.abstract_machine.specs.Program.{Keeps, Alone, Refers}
-use Rattle.machine_program.specs.Processors.{Told, setting_of, kind_of, alone_by, retired_by, changed, poked_processors, poked_words, is_lawful_poke, next, program}
+use Rattle.machine_program.specs.Processors.{Told, setting_of, kind_of, alone_by, retired_by, changed, poked_processors, poked_words, is_lawful_poke, next}
+use Rattle.machine_program.specs.Processors.{program}
 use Rattle.machine_program.proofs.Lemmas.{reaches_of, runs_by}
 use Rattle.machine_theorem.specs.Flatness.{IsGood}
 use Rattle.machine_theorem.proofs.Flat.{MeansChange}
@@ -50,35 +51,44 @@ module _ (c : Config) (code : List ℕ) (few : c.k ≤ 6) (bytes : AreBelow 256 
   pub means_change : (p : ℕ) (state : Processor) → HasWords state → MeansChange c code p state
   means_change p state h = record { change = λ word change after e. let m = reference_means (setting_of c p) code state word change after h e in (m.2, m.1) }
 
-  phi_kept : (p : ℕ) (g : Told) → IsGood p g → kind_of (is_running g.state.status) (next c code p g.state) ≡ Refers → IsInRange (reference_phi (setting_of c p) code g.state)
+  phi_kept : (p : ℕ) (g : Told) → IsGood p g → kind_of (is_running g.state.status) (next c code p g.state) ≡ Refers →
+      IsInRange (reference_phi (setting_of c p) code g.state)
   phi_kept p g h e =
       let runs = runs_by (is_running g.state.status) (next c code p g.state) Refers e (λ no. cc) in
       let r = reaches_of (next c code p g.state) runs.1 in
       (reference_means (setting_of c p) code g.state r.word r.change r.after h.0 r.is).0
 
-  alone_kept : (p : ℕ) (g : Told) → IsGood p g → kind_of (is_running g.state.status) (next c code p g.state) ≡ Alone → IsGood p (alone_by g (next c code p g.state))
+  alone_kept : (p : ℕ) (g : Told) → IsGood p g → kind_of (is_running g.state.status) (next c code p g.state) ≡ Alone →
+      IsGood p (alone_by g (next c code p g.state))
   alone_kept p g h e =
       let runs = runs_by (is_running g.state.status) (next c code p g.state) Alone e (λ no. cc) in
       by_turn (next c code p g.state) (turn_leaves p g h runs.0)
     where
       by_turn : (t : Turn) → LeavesWords t → IsGood p (alone_by g t)
-      by_turn (Retires after retired) leaves = (leaves, inl (number_small p g h (runs_by (is_running g.state.status) (next c code p g.state) Alone e (λ no. cc)).0))
-      by_turn (Stops cause) leaves = (record { pc = h.0.pc; registers = h.0.registers; local = h.0.local }, inl (number_small p g h (runs_by (is_running g.state.status) (next c code p g.state) Alone e (λ no. cc)).0))
+      by_turn (Retires after retired) leaves =
+          (leaves, inl (number_small p g h (runs_by (is_running g.state.status) (next c code p g.state) Alone e (λ no. cc)).0))
+      by_turn (Stops cause) leaves = (
+        record { pc = h.0.pc; registers = h.0.registers; local = h.0.local },
+        inl (number_small p g h (runs_by (is_running g.state.status) (next c code p g.state) Alone e (λ no. cc)).0),
+      )
       by_turn (Reaches word change after) leaves = h
 
-  retire_kept : (p : ℕ) (g : Told) (v : ℕ) → IsGood p g → kind_of (is_running g.state.status) (next c code p g.state) ≡ Refers → v < 2 ^ 32 → IsGood p (retired_by g (after_reply (next c code p g.state) v))
+  retire_kept : (p : ℕ) (g : Told) (v : ℕ) → IsGood p g → kind_of (is_running g.state.status) (next c code p g.state) ≡ Refers → v < 2 ^ 32 →
+      IsGood p (retired_by g (after_reply (next c code p g.state) v))
   retire_kept p g v h e small =
       let runs = runs_by (is_running g.state.status) (next c code p g.state) Refers e (λ no. cc) in
       by_turn (next c code p g.state) (turn_leaves p g h runs.0)
     where
       by_turn : (t : Turn) → LeavesWords t → IsGood p (retired_by g (after_reply t v))
-      by_turn (Reaches word change after) leaves = ((leaves v small).1, inl (number_small p g h (runs_by (is_running g.state.status) (next c code p g.state) Refers e (λ no. cc)).0))
+      by_turn (Reaches word change after) leaves =
+          ((leaves v small).1, inl (number_small p g h (runs_by (is_running g.state.status) (next c code p g.state) Refers e (λ no. cc)).0))
       by_turn (Retires after retired) leaves = h
       by_turn (Stops cause) leaves = h
 
   -- ---- pokes
 
-  changed_kept : (j : ℕ) (change : Processor → Processor) (core : ℕ → Told) → ((s : Processor) → HasWords s → HasWords (change s)) → ((s : Processor) → is_running (change s).status ≡ is_running s.status) →
+  changed_kept : (j : ℕ) (change : Processor → Processor) (core : ℕ → Told) → ((s : Processor) → HasWords s → HasWords (change s)) →
+      ((s : Processor) → is_running (change s).status ≡ is_running s.status) →
       ((p : ℕ) → IsGood p (core p)) → (p : ℕ) → IsGood p (put core j (changed change (core j)) p)
   changed_kept j change core words status h p = at (cases_eq p j)
     where
@@ -90,19 +100,23 @@ module _ (c : Config) (code : List ℕ) (few : c.k ≤ 6) (bytes : AreBelow 256 
       good = (words (core p).state (h p).0, still (h p).1)
 
       at : (p ≡ j) ⊎ (p ≡ j → ⊥) → IsGood p (put core j (changed change (core j)) p)
-      at (inl same) = subst (λ (g : Told). IsGood p g) (ap (λ i. changed change (core i)) same ∙ sym (put_same core j (changed change (core j))) ∙ ap (put core j (changed change (core j))) (sym same)) good
+      at (inl same) = subst (λ (g : Told). IsGood p g)
+          (ap (λ i. changed change (core i)) same ∙ sym (put_same core j (changed change (core j))) ∙ ap (put core j (changed change (core j))) (sym same))
+          good
       at (inr other) = subst (λ (g : Told). IsGood p g) (sym (put_other core j (changed change (core j)) p other)) (h p)
 
   register_status : (register value : ℕ) (s : Processor) → is_running (with_poked_register register value s).status ≡ is_running s.status
   register_status register value s = at (eqb register 32)
     where
-      at : (b : Bool) → is_running (if b then record s { pc = value } else record s { registers = slice_set s.registers register value }).status ≡ is_running s.status
+      at : (b : Bool) → is_running (if b then record s { pc = value } else record s { registers = slice_set s.registers register value }).status
+          ≡ is_running s.status
       at true = refl
       at false = refl
 
   poked_core_kept : (q : Poke) (core : ℕ → Told) → is_lawful_poke c q ≡ true → ((p : ℕ) → IsGood p (core p)) → (p : ℕ) → IsGood p (poked_processors q core p)
   poked_core_kept (poke.Register j register value) core lawful h =
-      let small : value < 2 ^ 32 = ltb-true value (2 ^ 32) (and_parts (nat_lt value (2 ^ 32)) (nat_lt j (2 ^ c.k) && is_lawful_register register value) lawful).0 in
+      let small : value < 2 ^ 32 =
+      ltb-true value (2 ^ 32) (and_parts (nat_lt value (2 ^ 32)) (nat_lt j (2 ^ c.k) && is_lawful_register register value) lawful).0 in
       changed_kept j (with_poked_register register value) core (λ s words. register_words register value s small words) (register_status register value) h
   poked_core_kept (poke.Local j address value) core lawful h =
       let small : value < 256 = ltb-true value 256 (and_parts (nat_lt value 256) (nat_lt j (2 ^ c.k) && in_local address) lawful).0 in
@@ -115,7 +129,8 @@ module _ (c : Config) (code : List ℕ) (few : c.k ≤ 6) (bytes : AreBelow 256 
   poked_mem_kept (poke.Shared address value) mem lawful h a = at (cases_eq a ((address - 2 ^ 31) / 4))
     where
       at : (a ≡ (address - 2 ^ 31) / 4) ⊎ (a ≡ (address - 2 ^ 31) / 4 → ⊥) → poked_words (poke.Shared address value) mem a < 2 ^ 32
-      at (inl same) = subst (λ v. v < 2 ^ 32) (sym (ap (poked_words (poke.Shared address value) mem) same ∙ put_same mem ((address - 2 ^ 31) / 4) _)) (with_part_small 1 (address % 4) (mem ((address - 2 ^ 31) / 4)) value (omega arith) (h ((address - 2 ^ 31) / 4)))
+      at (inl same) = subst (λ v. v < 2 ^ 32) (sym (ap (poked_words (poke.Shared address value) mem) same ∙ put_same mem ((address - 2 ^ 31) / 4) _))
+          (with_part_small 1 (address % 4) (mem ((address - 2 ^ 31) / 4)) value (omega arith) (h ((address - 2 ^ 31) / 4)))
       at (inr other) = subst (λ v. v < 2 ^ 32) (sym (put_other mem ((address - 2 ^ 31) / 4) _ a other)) (h a)
 
   pub keeps : Keeps (program c code) IsGood

@@ -15,7 +15,8 @@ use Rattle.messages.specs.declared.moves.DownMove.TheVariants as down
 use Rattle.messages.specs.Network.{Net, wires}
 use Rattle.messages.specs.Moves.{moved_up, moved_down}
 use Rattle.abstract_machine.specs.Program.{Kind, Rests, Alone, Refers}
-use Rattle.abstract_machine.specs.Machine.{Machine, Turn, Up, Serve, Down, Poke, Issued, Advanced, Retired, Moved, Combined, Served, Answered, Poked, Stalled, retire_from, begin, turned, all_shut, poked, step}
+use Rattle.abstract_machine.specs.Machine.{Machine, Turn, Up, Serve, Down, Poke, Issued, Advanced, Retired, Moved, Combined, Served, Answered, Poked, Stalled}
+use Rattle.abstract_machine.specs.Machine.{retire_from, begin, turned, all_shut, poked, step}
 use Rattle.serialization.specs.Order.{pass, passes}
 use Rattle.machine_program.specs.Theory.{Result, Step, Outcome, stalled, went_up, went_down, serve_from}
 use Rattle.machine_theorem.specs.Order.{Passed, segment}
@@ -63,9 +64,11 @@ module _ (c : Config) (code : List ℕ) where
   unfolding Lawful
   stalled_lawful M q e = absurd (cc)
 
-  poke_lawful : (M : Machine Told) (r : pokes.Poke) (b : Bool) → (all_shut (wires (sizes_of c)) M.is_open && is_lawful_poke c r) ≡ b → Lawful (if b then poked (program c code) M r else stalled M).outcome
+  poke_lawful : (M : Machine Told) (r : pokes.Poke) (b : Bool) → (all_shut (wires (sizes_of c)) M.is_open && is_lawful_poke c r) ≡ b →
+      Lawful (if b then poked (program c code) M r else stalled M).outcome
   unfolding Lawful
-  poke_lawful M r true e q f = let same : r ≡ q = cc in ap (is_lawful_poke c) (sym same) ∙ (and_parts (all_shut (wires (sizes_of c)) M.is_open) (is_lawful_poke c r) e).1
+  poke_lawful M r true e q f = let same : r ≡ q =
+      cc in ap (is_lawful_poke c) (sym same) ∙ (and_parts (all_shut (wires (sizes_of c)) M.is_open) (is_lawful_poke c r) e).1
   poke_lawful M r false e q f = absurd (cc)
 
   step_lawful : (M : Machine Told) (st : Step) → Lawful (step (sizes_of c) (program c code) M st).outcome
@@ -114,4 +117,6 @@ module _ (c : Config) (code : List ℕ) where
   pub order_lawful : (steps : List Step) (h : Passed Told) → AreLawful c h.order → AreLawful c (passes (sizes_of c) (program c code) steps h).order
   unfolding passes
   order_lawful [] h a = a
-  order_lawful (st ∷ steps) h a = order_lawful steps (pass (sizes_of c) (program c code) h st) (lawful_append h.order (segment h.group (step (sizes_of c) (program c code) h.machine st).outcome) a (segment_lawful h.group (step (sizes_of c) (program c code) h.machine st).outcome (step_lawful h.machine st)))
+  order_lawful (st ∷ steps) h a = order_lawful steps (pass (sizes_of c) (program c code) h st)
+      (lawful_append h.order (segment h.group (step (sizes_of c) (program c code) h.machine st).outcome) a
+      (segment_lawful h.group (step (sizes_of c) (program c code) h.machine st).outcome (step_lawful h.machine st)))

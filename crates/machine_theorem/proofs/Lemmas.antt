@@ -2,12 +2,9 @@
 
 -- One serial order of whole instructions explains a run.
 pub use Rattle.machine_theorem.proofs.Explaining.{runs_are_explained}
-
 -- The flat machine of lists takes the entries that the theory's does.
 pub use Rattle.machine_theorem.proofs.Flat.{run_sound}
-
 -- Processors keep their words, so their references go by functions in range.
 pub use Rattle.machine_theorem.proofs.Good.{keeps, means_change}
-
 -- Only lawful pokes are in the order.
 pub use Rattle.machine_theorem.proofs.Lawful.{order_lawful}

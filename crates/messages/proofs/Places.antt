@@ -1,5 +1,6 @@
 -- Functions from places with one place changed, and what stands in lists.
-use Rattle.std.proofs.Common.{◌≡◌, ℕ, Bool, true, false, cond, eqb, List, [], ◌∷◌, ◌++◌, map, filter, ◌⊎◌, inl, inr, refl, sym, ap, ◌∙◌, subst, eq-eqb, eqb-true, ne_eqb}
+use Rattle.std.proofs.Common.{◌≡◌, ℕ, Bool, true, false, cond, eqb, List, [], ◌∷◌, ◌++◌, map, filter, ◌⊎◌, inl, inr, refl, sym, ap, ◌∙◌, subst, eq-eqb}
+use Rattle.std.proofs.Common.{eqb-true, ne_eqb}
 use Rattle.std.proofs.lemmas.Bool.{cases_eq}
 use Rattle.std.proofs.lemmas.List.{map-append}
 use mathlib.Core.Path.{fun_ext}
@@ -19,22 +20,26 @@ put2_other f d w x d' w' away = go (eqb d' d) (eqb w' w) refl refl
     go false b p q = simp p
 
 -- a place is the one that was put, or another
-pub at_put2 : {X : Type 0} (f : ℕ → ℕ → X) (d w : ℕ) (x : X) (d' w' : ℕ) → ((d' ≡ d) × (w' ≡ w) × (put2 f d w x d' w' ≡ x)) ⊎ ((d' ≡ d → w' ≡ w → ⊥) × (put2 f d w x d' w' ≡ f d' w'))
+pub at_put2 : {X : Type 0} (f : ℕ → ℕ → X) (d w : ℕ) (x : X) (d' w' : ℕ) →
+    ((d' ≡ d) × (w' ≡ w) × (put2 f d w x d' w' ≡ x)) ⊎ ((d' ≡ d → w' ≡ w → ⊥) × (put2 f d w x d' w' ≡ f d' w'))
 at_put2 {X} f d w x d' w' = go (cases_eq d' d) (cases_eq w' w)
   where
     Goal : Type 0
     Goal = ((d' ≡ d) × (w' ≡ w) × (put2 f d w x d' w' ≡ x)) ⊎ ((d' ≡ d → w' ≡ w → ⊥) × (put2 f d w x d' w' ≡ f d' w'))
 
-    go : (d' ≡ d) ⊎ (d' ≡ d → ⊥) → (w' ≡ w) ⊎ (w' ≡ w → ⊥) → ((d' ≡ d) × (w' ≡ w) × (put2 f d w x d' w' ≡ x)) ⊎ ((d' ≡ d → w' ≡ w → ⊥) × (put2 f d w x d' w' ≡ f d' w'))
+    go : (d' ≡ d) ⊎ (d' ≡ d → ⊥) → (w' ≡ w) ⊎ (w' ≡ w → ⊥) →
+        ((d' ≡ d) × (w' ≡ w) × (put2 f d w x d' w' ≡ x)) ⊎ ((d' ≡ d → w' ≡ w → ⊥) × (put2 f d w x d' w' ≡ f d' w'))
     go (inl p) (inl q) = inl (p, q, rw (p, q) (put2_same f d w x))
     go (inl p) (inr n) = inr ((λ _ b. n b), put2_other f d w x d' w' (λ _ b. n b))
     go (inr n) e = inr ((λ a _. n a), put2_other f d w x d' w' (λ a _. n a))
 
 -- what stands at a place after a put
-pub In-put2 : {X : Type 0} (f : ℕ → ℕ → List X) (d w : ℕ) (xs : List X) (d' w' : ℕ) (y : X) → In y (put2 f d w xs d' w') → ((d' ≡ d) × (w' ≡ w) × In y xs) ⊎ ((d' ≡ d → w' ≡ w → ⊥) × In y (f d' w'))
+pub In-put2 : {X : Type 0} (f : ℕ → ℕ → List X) (d w : ℕ) (xs : List X) (d' w' : ℕ) (y : X) → In y (put2 f d w xs d' w') →
+    ((d' ≡ d) × (w' ≡ w) × In y xs) ⊎ ((d' ≡ d → w' ≡ w → ⊥) × In y (f d' w'))
 In-put2 {X} f d w xs d' w' y m = go (at_put2 f d w xs d' w')
   where
-    go : ((d' ≡ d) × (w' ≡ w) × (put2 f d w xs d' w' ≡ xs)) ⊎ ((d' ≡ d → w' ≡ w → ⊥) × (put2 f d w xs d' w' ≡ f d' w')) → ((d' ≡ d) × (w' ≡ w) × In y xs) ⊎ ((d' ≡ d → w' ≡ w → ⊥) × In y (f d' w'))
+    go : ((d' ≡ d) × (w' ≡ w) × (put2 f d w xs d' w' ≡ xs)) ⊎ ((d' ≡ d → w' ≡ w → ⊥) × (put2 f d w xs d' w' ≡ f d' w')) →
+        ((d' ≡ d) × (w' ≡ w) × In y xs) ⊎ ((d' ≡ d → w' ≡ w → ⊥) × In y (f d' w'))
     go (inl h) = inl (h.0, h.1, subst (In y) h.2 m)
     go (inr h) = inr (h.0, subst (In y) h.1 m)
 
@@ -115,18 +120,21 @@ In-map_from f j (y ∷ xs) (inr m) = let h = In-map_from f j xs m in (h.0, inr h
 
 pub Distinct-append : (js ks : List ℕ) → Distinct js → Distinct ks → ((j : ℕ) → In j js → In j ks → ⊥) → Distinct (js ++ ks)
 Distinct-append [] ks a b n = b
-Distinct-append (j ∷ js) ks a b n = ((λ m. elim (In-append j js ks m) [ inl h ↦ a.0 h | inr h ↦ n j (inl refl) h ]), Distinct-append js ks a.1 b (λ i m. n i (inr m)))
+Distinct-append (j ∷ js) ks a b n =
+    ((λ m. elim (In-append j js ks m) [ inl h ↦ a.0 h | inr h ↦ n j (inl refl) h ]), Distinct-append js ks a.1 b (λ i m. n i (inr m)))
 
 pub ApartBy-push : {X : Type 0} (f : X → ℕ) (xs : List X) (y : X) → ApartBy f xs → ((x : X) → In x xs → f x ≡ f y → ⊥) → ApartBy f (xs ++ y ∷ [])
 ApartBy-push f xs y a n =
-    rw (map-append f xs (y ∷ [])) (Distinct-append (map f xs) (f y ∷ []) a ((λ m. m), tt) (λ j m o. elim o [ inl e ↦ (let h = In-map_from f j xs m in n h.0 h.1 (h.2 ∙ e)) | inr i ↦ i ]))
+    rw (map-append f xs (y ∷ [])) (Distinct-append (map f xs) (f y ∷ []) a ((λ m. m), tt)
+    (λ j m o. elim o [ inl e ↦ (let h = In-map_from f j xs m in n h.0 h.1 (h.2 ∙ e)) | inr i ↦ i ]))
 
 pub ApartBy-filter : {X : Type 0} (f : X → ℕ) (p : X → Bool) (xs : List X) → ApartBy f xs → ApartBy f (filter p xs)
 ApartBy-filter f p [] a = tt
 ApartBy-filter {X} f p (y ∷ xs) a = go (ApartBy-filter f p xs a.1) (p y)
   where
     go : ApartBy f (filter p xs) → (b : Bool) → ApartBy f (cond b (y ∷ filter p xs) (filter p xs))
-    go rec true = ((λ m. let h = In-map_from f (f y) (filter p xs) m in a.0 (subst (λ z. In z (map f xs)) h.2 (In-map f h.0 xs ((In-filter p h.0 xs h.1).0)))), rec)
+    go rec true =
+        ((λ m. let h = In-map_from f (f y) (filter p xs) m in a.0 (subst (λ z. In z (map f xs)) h.2 (In-map f h.0 xs ((In-filter p h.0 xs h.1).0)))), rec)
     go rec false = rec
 
 -- one f, one element
@@ -148,5 +156,6 @@ filter_none {X} p (y ∷ xs) h = go (filter_none p xs (λ x m. h x (inr m))) (p 
 
 pub ApartBy-middle : {X : Type 0} (f : X → ℕ) (xs : List X) (x : X) (ys : List X) → ApartBy f (xs ++ x ∷ ys) → (y : X) → In y (xs ++ ys) → f y ≡ f x → ⊥
 ApartBy-middle f [] x ys a y m e = a.0 (subst (λ j. In j (map f ys)) e (In-map f y ys m))
-ApartBy-middle f (z ∷ xs) x ys a y (inl s) e = a.0 (subst (λ j. In j (map f (xs ++ x ∷ ys))) (sym e ∙ ap f s) (In-map f x (xs ++ x ∷ ys) (In-append_right x xs (x ∷ ys) (inl refl))))
+ApartBy-middle f (z ∷ xs) x ys a y (inl s) e =
+    a.0 (subst (λ j. In j (map f (xs ++ x ∷ ys))) (sym e ∙ ap f s) (In-map f x (xs ++ x ∷ ys) (In-append_right x xs (x ∷ ys) (inl refl))))
 ApartBy-middle f (z ∷ xs) x ys a y (inr m) e = ApartBy-middle f xs x ys a.1 y m e

@@ -1,5 +1,6 @@
 -- Each call of a network keeps messages to their paths.
-use Rattle.std.proofs.Common.{◌≡◌, ℕ, suc, ◌%◌, ◌^◌, ◌<◌, Bool, true, false, List, [], ◌∷◌, ◌++◌, length, drop, nat_lt, inl, inr, Option, Some, None, refl, sym, ap, ◌∙◌, subst, arith, ltb-true, ◌==◌, not}
+use Rattle.std.proofs.Common.{◌≡◌, ℕ, suc, ◌%◌, ◌^◌, ◌<◌, Bool, true, false, List, [], ◌∷◌, ◌++◌, length, drop, nat_lt, inl, inr, Option, Some, None, refl}
+use Rattle.std.proofs.Common.{sym, ap, ◌∙◌, subst, arith, ltb-true, ◌==◌, not}
 use Rattle.std.specs.Prelude.{if◌then◌else◌}
 use Rattle.std.proofs.lemmas.Nat.{mod_below, pow_pos}
 use Rattle.omega_wires.specs.Laws.{PathEndsAtTheModule, RepliesGoBackTheSameWay}
@@ -14,28 +15,34 @@ use Rattle.messages.specs.declared.moves.DownMove.TheVariants as down
 use Rattle.messages.specs.Places.{In}
 use Rattle.messages.specs.Queues.{Combination, answers, combination, merged, records_but, records_of, unmarked}
 use Rattle.messages.specs.Network.{Net, Sizes, wires, put_records, put_replies, put_requests}
-use Rattle.messages.specs.Moves.{accepted, answered, combined, down_from, has_room, injected, module_replied, module_taken, moved_down, moved_up, port_taken, push_all, up_from}
+use Rattle.messages.specs.Moves.{accepted, answered, combined, down_from, has_room, injected, module_replied, module_taken, moved_down, moved_up, port_taken}
+use Rattle.messages.specs.Moves.{push_all, up_from}
 use Rattle.messages.proofs.Lemmas.{In-append, In-append_left, In-append_right, In-filter, In-put2}
 use Rattle.placement.proofs.Lemmas.{Joins, combination_joins, from_answers}
-use Rattle.network_paths.specs.Paths.{EmptyNetworksKeepToPaths, InjectingKeepsToPaths, KeepToPaths, MovingDownKeepsToPaths, MovingUpKeepsToPaths, OthersDoNotCount, RecordOnPath, RepliesArrive, ReplyOnPath, RequestOnPath, RequestsArrive, ServingKeepsToPaths, TakingKeepsToPaths}
+use Rattle.network_paths.specs.Paths.{EmptyNetworksKeepToPaths, InjectingKeepsToPaths, KeepToPaths, MovingDownKeepsToPaths, MovingUpKeepsToPaths}
+use Rattle.network_paths.specs.Paths.{OthersDoNotCount, RecordOnPath, RepliesArrive, ReplyOnPath, RequestOnPath, RequestsArrive, ServingKeepsToPaths}
+use Rattle.network_paths.specs.Paths.{TakingKeepsToPaths}
 
 -- ---- a place changes
 
-with_requests : (z : Sizes) (goes : ℕ → ℕ → Bool) (net : Net) (d w : ℕ) (xs : List Request) → KeepToPaths z goes net → ((x : Request) → In x xs → RequestOnPath z.k goes d w x) → KeepToPaths z goes (put_requests net d w xs)
+with_requests : (z : Sizes) (goes : ℕ → ℕ → Bool) (net : Net) (d w : ℕ) (xs : List Request) → KeepToPaths z goes net →
+    ((x : Request) → In x xs → RequestOnPath z.k goes d w x) → KeepToPaths z goes (put_requests net d w xs)
 with_requests z goes net d w xs ok these = record {
   requests = λ e v x m. elim (In-put2 net.requests d w xs e v x m) [ inl h ↦ rw (h.0, h.1) (these x h.2) | inr h ↦ ok.requests e v x h.1 ];
   records = ok.records;
   replies = ok.replies;
 }
 
-with_records : (z : Sizes) (goes : ℕ → ℕ → Bool) (net : Net) (s w : ℕ) (xs : List Record) → KeepToPaths z goes net → ((x : Record) → In x xs → RecordOnPath z.k goes s w x) → KeepToPaths z goes (put_records net s w xs)
+with_records : (z : Sizes) (goes : ℕ → ℕ → Bool) (net : Net) (s w : ℕ) (xs : List Record) → KeepToPaths z goes net →
+    ((x : Record) → In x xs → RecordOnPath z.k goes s w x) → KeepToPaths z goes (put_records net s w xs)
 with_records z goes net s w xs ok these = record {
   requests = ok.requests;
   records = λ e v x m. elim (In-put2 net.records s w xs e v x m) [ inl h ↦ rw (h.0, h.1) (these x h.2) | inr h ↦ ok.records e v x h.1 ];
   replies = ok.replies;
 }
 
-with_replies : (z : Sizes) (goes : ℕ → ℕ → Bool) (net : Net) (d w : ℕ) (xs : List Reply) → KeepToPaths z goes net → ((x : Reply) → In x xs → ReplyOnPath z.k goes d w x) → KeepToPaths z goes (put_replies net d w xs)
+with_replies : (z : Sizes) (goes : ℕ → ℕ → Bool) (net : Net) (d w : ℕ) (xs : List Reply) → KeepToPaths z goes net →
+    ((x : Reply) → In x xs → ReplyOnPath z.k goes d w x) → KeepToPaths z goes (put_replies net d w xs)
 with_replies z goes net d w xs ok these = record {
   requests = ok.requests;
   records = ok.records;
@@ -124,7 +131,8 @@ on_alone z goes net s w x ok on =
     (record { goes_there = on.goes_there; wire = on.wire; deep = on.deep; processor = on.processor }))
 
 -- or as part of an entry of the queue
-on_together : (z : Sizes) (goes : ℕ → ℕ → Bool) (net : Net) (s w : ℕ) (x : Request) (j : Combination) → KeepToPaths z goes net → RequestOnPath z.k goes (suc s) w x → Joins z.r x (net.requests (suc s) w) j
+on_together : (z : Sizes) (goes : ℕ → ℕ → Bool) (net : Net) (s w : ℕ) (x : Request) (j : Combination) → KeepToPaths z goes net →
+    RequestOnPath z.k goes (suc s) w x → Joins z.r x (net.requests (suc s) w) j
     → KeepToPaths z goes (combined net s w j).1
 on_together z goes net s w x j ok on J =
     let made : Record = record { leader = J.entry.leader; phi = J.entry.phi; second = x.leader } in
@@ -133,7 +141,8 @@ on_together z goes net s w x j ok on J =
     let each : (y : Request) → In y queue → RequestOnPath z.k goes (suc s) w y
     = (λ y m. elim (In-append y J.front (merged J.entry J.function ∷ J.behind) m) [
       | inl o ↦ ok.requests (suc s) w y (rw J.was (In-append_left y J.front (J.entry ∷ J.behind) o))
-      | inr (inl e) ↦ subst (RequestOnPath z.k goes (suc s) w) (sym e) (record { goes_there = at.goes_there; wire = at.wire; deep = at.deep; processor = at.processor })
+      | inr (inl e) ↦ subst (RequestOnPath z.k goes (suc s) w) (sym e)
+          (record { goes_there = at.goes_there; wire = at.wire; deep = at.deep; processor = at.processor })
       | inr (inr o) ↦ ok.requests (suc s) w y (rw J.was (In-append_right y J.front (J.entry ∷ J.behind) (inr o)))
     ]) in
     let kept : RecordOnPath z.k goes s w made = record {
@@ -157,14 +166,17 @@ unfolding moved_up path
 moving_up z goes net s w ok = go (nat_lt s z.k) refl
   where
     queue : (taken : Net) (v : ℕ) (x : Request) → KeepToPaths z goes taken → RequestOnPath z.k goes (suc s) v x → (free : Bool)
-        → KeepToPaths z goes (if◌then◌else◌ {A = UpMove × Net} free (up.Moved, put_requests taken (suc s) v (taken.requests (suc s) v ++ unmarked x ∷ [])) (up.Stalled, net)).1
+        → KeepToPaths z goes (if◌then◌else◌ {A = UpMove
+        × Net} free (up.Moved, put_requests taken (suc s) v (taken.requests (suc s) v ++ unmarked x ∷ [])) (up.Stalled, net)).1
     queue taken v x fine on true = on_alone z goes taken s v x fine on
     queue taken v x fine on false = ok
 
     offer : (taken : Net) (v : ℕ) (x : Request) → KeepToPaths z goes taken → RequestOnPath z.k goes (suc s) v x
-        → (o : Option Combination) → combination z.b z.r x (taken.requests (suc s) v) (taken.records s v) ≡ o → KeepToPaths z goes (accepted z net taken s v x o).1
+        → (o : Option Combination) → combination z.b z.r x (taken.requests (suc s) v) (taken.records s v) ≡ o →
+        KeepToPaths z goes (accepted z net taken s v x o).1
     offer taken v x fine on None e = queue taken v x fine on (nat_lt (length (taken.requests (suc s) v)) z.c)
-    offer taken v x fine on (Some j) e = on_together z goes taken s v x j fine on (combination_joins z.b z.r x (taken.requests (suc s) v) (taken.records s v) j e)
+    offer taken v x fine on (Some j) e =
+        on_together z goes taken s v x j fine on (combination_joins z.b z.r x (taken.requests (suc s) v) (taken.records s v) j e)
 
     from : s < z.k → (q : List Request) → net.requests s w ≡ q → KeepToPaths z goes (up_from z net s w q).1
     from l [] e = ok
@@ -183,7 +195,8 @@ moving_up z goes net s w ok = go (nat_lt s z.k) refl
 
 -- ---- down
 
-pushed : (z : Sizes) (goes : ℕ → ℕ → Bool) (wire : ℕ → ℕ) (s : ℕ) (ys : List Reply) (net : Net) → KeepToPaths z goes net → ((y : Reply) → In y ys → ReplyOnPath z.k goes s (wire y.leader) y) → KeepToPaths z goes (push_all wire s ys net)
+pushed : (z : Sizes) (goes : ℕ → ℕ → Bool) (wire : ℕ → ℕ) (s : ℕ) (ys : List Reply) (net : Net) → KeepToPaths z goes net →
+    ((y : Reply) → In y ys → ReplyOnPath z.k goes s (wire y.leader) y) → KeepToPaths z goes (push_all wire s ys net)
 unfolding push_all
 pushed z goes wire s [] net ok each = ok
 pushed z goes wire s (y ∷ ys) net ok each =
@@ -193,7 +206,8 @@ pushed z goes wire s (y ∷ ys) net ok each =
     (λ x m. each x (inr m))
 
 -- a reply for p, where p's path comes to wire w after stage s
-goes_back : RepliesGoBackTheSameWay → (k : ℕ) (goes : ℕ → ℕ → Bool) (s w p m : ℕ) (y : Reply) → s < k → y.leader ≡ p → p < 2 ^ k → m < 2 ^ k → goes p m ≡ true → path k p m (suc s) ≡ w
+goes_back : RepliesGoBackTheSameWay → (k : ℕ) (goes : ℕ → ℕ → Bool) (s w p m : ℕ) (y : Reply) → s < k → y.leader ≡ p → p < 2 ^ k → m < 2 ^ k →
+    goes p m ≡ true → path k p m (suc s) ≡ w
     → ReplyOnPath k goes s (wire_before k s w y.leader) y
 goes_back same_way k goes s w p m y l led small m_small there on = record {
   from_module = m;
@@ -208,7 +222,8 @@ pub moving_down : RepliesGoBackTheSameWay → MovingDownKeepsToPaths
 unfolding moved_down
 moving_down same_way z goes net s w ok = go (nat_lt s z.k) refl
   where
-    put_all : s < z.k → (taken : Net) (x : Reply) → KeepToPaths z goes taken → ReplyOnPath z.k goes (suc s) w x → (records : List Record) → ((e : Record) → In e records → RecordOnPath z.k goes s w e) → (fits : Bool)
+    put_all : s < z.k → (taken : Net) (x : Reply) → KeepToPaths z goes taken → ReplyOnPath z.k goes (suc s) w x → (records : List Record) →
+        ((e : Record) → In e records → RecordOnPath z.k goes s w e) → (fits : Bool)
         → KeepToPaths z goes (if◌then◌else◌ {A = DownMove × Net} fits
         (answered records, push_all (wire_before z.k s w) s (answers records x) (put_records taken s w (records_but x.leader (taken.records s w))))
         (down.Stalled, net)).1
@@ -219,7 +234,8 @@ moving_down same_way z goes net s w ok = go (nat_lt s z.k) refl
         (λ e m. fine.records s w e ((In-filter (λ (r : Record). not (r.leader == x.leader)) e (taken.records s w) m).0)))
         (λ y m. elim (from_answers x y records m) [
           | inl a ↦ goes_back same_way z.k goes s w x.leader on.from_module y l a on.processor on.a_module on.goes_there on.wire
-          | inr a ↦ (let r = there a.0 a.1 in goes_back same_way z.k goes s w a.0.second r.to_module y l a.2 r.processor_second r.a_module r.second_goes r.wire_second)
+          | inr a ↦ (let r = there a.0 a.1 in goes_back same_way z.k goes s w a.0.second r.to_module y l a.2 r.processor_second r.a_module r.second_goes
+              r.wire_second)
         ])
 
     from : s < z.k → (q : List Reply) → net.replies (suc s) w ≡ q → KeepToPaths z goes (down_from z net s w q).1
@@ -232,9 +248,11 @@ moving_down same_way z goes net s w ok = go (nat_lt s z.k) refl
         (ok.replies (suc s) w x (rw e (inl refl)))
         records
         (λ r m. ok.records s w r ((In-filter (λ (r : Record). r.leader == x.leader) r (net.records s w) m).0))
-        (has_room z.c (wire_before z.k s w) s (push_all (wire_before z.k s w) s (answers records x) (put_records taken s w (records_but x.leader (taken.records s w)))) (answers records x))
+        (has_room z.c (wire_before z.k s w) s (push_all (wire_before z.k s w) s (answers records x)
+        (put_records taken s w (records_but x.leader (taken.records s w)))) (answers records x))
 
-    go : (b : Bool) → nat_lt s z.k ≡ b → KeepToPaths z goes (if◌then◌else◌ {A = DownMove × Net} b (down_from z net s w (net.replies (suc s) w)) (down.Stalled, net)).1
+    go : (b : Bool) → nat_lt s z.k ≡ b → KeepToPaths z goes
+        (if◌then◌else◌ {A = DownMove × Net} b (down_from z net s w (net.replies (suc s) w)) (down.Stalled, net)).1
     go true e = from (ltb-true s z.k e) (net.replies (suc s) w) refl
     go false e = ok
 

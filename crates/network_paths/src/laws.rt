@@ -1,7 +1,8 @@
 //! What holds of the messages of every network. It is the contract of a function that does nothing:
 //! it calls the laws of the wires that its proof needs.
 
-ghost use Rattle.network_paths.specs.Paths.{EmptyNetworksKeepToPaths, InjectingKeepsToPaths, MovingDownKeepsToPaths, MovingUpKeepsToPaths, OthersDoNotCount, RepliesArrive, RequestsArrive, ServingKeepsToPaths, TakingKeepsToPaths};
+ghost use Rattle.network_paths.specs.Paths.{EmptyNetworksKeepToPaths, InjectingKeepsToPaths, MovingDownKeepsToPaths, MovingUpKeepsToPaths, OthersDoNotCount};
+ghost use Rattle.network_paths.specs.Paths.{RepliesArrive, RequestsArrive, ServingKeepsToPaths, TakingKeepsToPaths};
 
 use omega_wires::{path_ends_at_the_module, replies_go_back_the_same_way};
 

@@ -1,5 +1,6 @@
 -- A network with one slot or one switch replaced, as a network of places.
-use Rattle.std.proofs.Common.{◌≡◌, ℕ, zero, suc, ◌/◌, ◌%◌, ◌^◌, ◌<◌, ◌≤◌, Bool, List, [], length, drop, set, nat_lt, Option, Some, None, ◌⊎◌, inl, inr, refl, sym, ap, ◌∙◌, arith, lt-ltb, le-ltb, get_or-set_same, get_or-set_other}
+use Rattle.std.proofs.Common.{◌≡◌, ℕ, zero, suc, ◌/◌, ◌%◌, ◌^◌, ◌<◌, ◌≤◌, Bool, List, [], length, drop, set, nat_lt, Option, Some, None, ◌⊎◌, inl, inr, refl}
+use Rattle.std.proofs.Common.{sym, ap, ◌∙◌, arith, lt-ltb, le-ltb, get_or-set_same, get_or-set_other}
 use Rattle.std.specs.Prelude.{◌==◌, slice_get, if◌then◌else◌}
 use Rattle.std.specs.Option.{option_to_list}
 use Rattle.std.proofs.lemmas.Bool.{cases_eq, cases_lt, eq-eqb, ne_eqb}
@@ -43,26 +44,32 @@ module _ (n : NetworkLists) (is : IsNetwork n) (s w : ℕ) (stage : s < n.k) (wi
       Goal : Type 0
       Goal = at_output f (with_switch n s (w / 2) t) s' w' ≡ at_output f n s' w'
 
-      inside : w' < 2 ^ n.k → f (switch_at (with_switch n s (w / 2) t) s' (w' / 2)) (w' % 2) ≡ f (switch_at n s' (w' / 2)) (w' % 2) → at_output f (with_switch n s (w / 2) t) s' w' ≡ at_output f n s' w'
+      inside : w' < 2 ^ n.k → f (switch_at (with_switch n s (w / 2) t) s' (w' / 2)) (w' % 2) ≡ f (switch_at n s' (w' / 2)) (w' % 2) →
+          at_output f (with_switch n s (w / 2) t) s' w' ≡ at_output f n s' w'
       inside l e =
           ap (λ (b : Bool). if b then f (switch_at (with_switch n s (w / 2) t) s' (w' / 2)) (w' % 2) else []) (lt-ltb w' (2 ^ n.k) l) ∙ e
           ∙ sym (ap (λ (b : Bool). if b then f (switch_at n s' (w' / 2)) (w' % 2) else []) (lt-ltb w' (2 ^ n.k) l))
 
-      go : (w' < 2 ^ n.k) ⊎ (2 ^ n.k ≤ w') → (s' ≡ s) ⊎ (s' ≡ s → ⊥) → (w' / 2 ≡ w / 2) ⊎ (w' / 2 ≡ w / 2 → ⊥) → at_output f (with_switch n s (w / 2) t) s' w' ≡ at_output f n s' w'
+      go : (w' < 2 ^ n.k) ⊎ (2 ^ n.k ≤ w') → (s' ≡ s) ⊎ (s' ≡ s → ⊥) → (w' / 2 ≡ w / 2) ⊎ (w' / 2 ≡ w / 2 → ⊥) →
+          at_output f (with_switch n s (w / 2) t) s' w' ≡ at_output f n s' w'
       go (inr past) a e =
           ap (λ (b : Bool). if b then f (switch_at (with_switch n s (w / 2) t) s' (w' / 2)) (w' % 2) else []) (le-ltb w' (2 ^ n.k) past)
           ∙ sym (ap (λ (b : Bool). if b then f (switch_at n s' (w' / 2)) (w' % 2) else []) (le-ltb w' (2 ^ n.k) past))
       go (inl l) (inl a) (inl e) =
           let port : w' % 2 ≡ w % 2 → ⊥ = λ p. away a (same_wire w' w e p) in
-          inside l ((λ j. f (switch_at (with_switch n s (w / 2) t) (a j) (e j)) (w' % 2)) ∙ ap (λ u. f u (w' % 2)) (switch_put n s (w / 2) t stage number is.all_switches)
+          inside l ((λ j. f (switch_at (with_switch n s (w / 2) t) (a j) (e j)) (w' % 2))
+          ∙ ap (λ u. f u (w' % 2)) (switch_put n s (w / 2) t stage number is.all_switches)
           ∙ same (w' % 2) (small_rest w') port ∙ (λ j. f (switch_at n (sym a j) (sym e j)) (w' % 2)))
-      go (inl l) (inl a) (inr e) = inside l (ap (λ u. f u (w' % 2)) (switch_kept n s (w / 2) t stage number is.all_switches s' (w' / 2) (half_of_wire n.k s w' stage l) (λ _ q. e q)))
-      go (inl l) (inr a) e = inside l (ap (λ u. f u (w' % 2)) (switch_kept n s (w / 2) t stage number is.all_switches s' (w' / 2) (half_of_wire n.k s w' stage l) (λ p _. a p)))
+      go (inl l) (inl a) (inr e) =
+          inside l (ap (λ u. f u (w' % 2)) (switch_kept n s (w / 2) t stage number is.all_switches s' (w' / 2) (half_of_wire n.k s w' stage l) (λ _ q. e q)))
+      go (inl l) (inr a) e =
+          inside l (ap (λ u. f u (w' % 2)) (switch_kept n s (w / 2) t stage number is.all_switches s' (w' / 2) (half_of_wire n.k s w' stage l) (λ p _. a p)))
 
   pub requests_put : ((v : ℕ) → v < 2 → (v ≡ w % 2 → ⊥) → requests_at t v ≡ requests_at (switch_at n s (w / 2)) v)
       → requests_before (with_switch n s (w / 2) t) ≡ put2 (requests_before n) (suc s) w (requests_at t (w % 2))
   unfolding requests_before
-  requests_put same = is_put2 (requests_before n) (requests_before (with_switch n s (w / 2) t)) (suc s) w (requests_at t (w % 2)) (output_here requests_at) other
+  requests_put same =
+      is_put2 (requests_before n) (requests_before (with_switch n s (w / 2) t)) (suc s) w (requests_at t (w % 2)) (output_here requests_at) other
     where
       other : (d' w' : ℕ) → (d' ≡ suc s → w' ≡ w → ⊥) → requests_before (with_switch n s (w / 2) t) d' w' ≡ requests_before n d' w'
       other zero w' away = refl
@@ -71,12 +78,14 @@ module _ (n : NetworkLists) (is : IsNetwork n) (s w : ℕ) (stage : s < n.k) (wi
   pub records_put : ((v : ℕ) → v < 2 → (v ≡ w % 2 → ⊥) → records_at t v ≡ records_at (switch_at n s (w / 2)) v)
       → records_behind (with_switch n s (w / 2) t) ≡ put2 (records_behind n) s w (records_at t (w % 2))
   unfolding records_behind
-  records_put same = is_put2 (records_behind n) (records_behind (with_switch n s (w / 2) t)) s w (records_at t (w % 2)) (output_here records_at) (output_other records_at same)
+  records_put same = is_put2 (records_behind n) (records_behind (with_switch n s (w / 2) t)) s w (records_at t (w % 2)) (output_here records_at)
+      (output_other records_at same)
 
 -- ---- what a change leaves
 
 module _ (n : NetworkLists) (is : IsNetwork n) (s i : ℕ) (stage : s < n.k) (number : i < half n.k) (t : SwitchLists) where
-  outputs_left : {X : Type 0} (f : SwitchLists → ℕ → List X) → ((v : ℕ) → v < 2 → f t v ≡ f (switch_at n s i) v) → (s' w' : ℕ) → at_output f (with_switch n s i t) s' w' ≡ at_output f n s' w'
+  outputs_left : {X : Type 0} (f : SwitchLists → ℕ → List X) → ((v : ℕ) → v < 2 → f t v ≡ f (switch_at n s i) v) → (s' w' : ℕ) →
+      at_output f (with_switch n s i t) s' w' ≡ at_output f n s' w'
   outputs_left {X} f same s' w' = go (cases_lt w' (2 ^ n.k))
     where
       go : (w' < 2 ^ n.k) ⊎ (2 ^ n.k ≤ w') → at_output f (with_switch n s i t) s' w' ≡ at_output f n s' w'
@@ -115,7 +124,8 @@ module _ (inverse : RotationsAreInverse) (on_wires : RotationsStayOnWires) where
   pub at_input : (n : NetworkLists) (s w : ℕ) → s < n.k → w < 2 ^ n.k → replies_before n s w ≡ inputs_at (switch_at n s (switch_of n.k w)) (input_port n.k w)
   unfolding replies_before
   at_input n s w stage wire =
-      ap (λ (b : Bool). if b then slot_of n.module_slots w else if nat_lt w (2 ^ n.k) then inputs_at (switch_at n s (switch_of n.k w)) (input_port n.k w) else []) (ne_eqb s n.k (λ e. omega arith))
+      ap (λ (b : Bool). if b then slot_of n.module_slots w else if nat_lt w (2 ^ n.k) then inputs_at (switch_at n s (switch_of n.k w)) (input_port n.k w)
+      else []) (ne_eqb s n.k (λ e. omega arith))
       ∙ ap (λ (b : Bool). if b then inputs_at (switch_at n s (switch_of n.k w)) (input_port n.k w) else []) (lt-ltb w (2 ^ n.k) wire)
 
   -- two networks of one k whose module slots are the same have the same replies where those at the inputs are
@@ -124,7 +134,8 @@ module _ (inverse : RotationsAreInverse) (on_wires : RotationsStayOnWires) where
       → replies_before m d w ≡ replies_before n d w
   unfolding replies_before
   replies_same n m d w k_is slots same =
-      (λ j. if d == k_is j then slot_of (slots j) w else if nat_lt w (2 ^ k_is j) then inputs_at (switch_at m d (switch_of (k_is j) w)) (input_port (k_is j) w) else [])
+      (λ j. if d == k_is j then slot_of (slots j) w else if nat_lt w (2 ^ k_is j) then inputs_at (switch_at m d (switch_of (k_is j) w)) (input_port (k_is j) w)
+      else [])
       ∙ go (cases_lt w (2 ^ n.k))
     where
       go : (w < 2 ^ n.k) ⊎ (2 ^ n.k ≤ w)
@@ -132,8 +143,10 @@ module _ (inverse : RotationsAreInverse) (on_wires : RotationsStayOnWires) where
           ≡ (if d == n.k then slot_of n.module_slots w else if nat_lt w (2 ^ n.k) then inputs_at (switch_at n d (switch_of n.k w)) (input_port n.k w) else [])
       go (inl l) = ap (λ (xs : List Reply). if d == n.k then slot_of n.module_slots w else if nat_lt w (2 ^ n.k) then xs else []) (same l)
       go (inr past) =
-          ap (λ (b : Bool). if d == n.k then slot_of n.module_slots w else if b then inputs_at (switch_at m d (switch_of n.k w)) (input_port n.k w) else []) (le-ltb w (2 ^ n.k) past)
-          ∙ sym (ap (λ (b : Bool). if d == n.k then slot_of n.module_slots w else if b then inputs_at (switch_at n d (switch_of n.k w)) (input_port n.k w) else []) (le-ltb w (2 ^ n.k) past))
+          ap (λ (b : Bool). if d == n.k then slot_of n.module_slots w else if b then inputs_at (switch_at m d (switch_of n.k w)) (input_port n.k w)
+          else []) (le-ltb w (2 ^ n.k) past)
+          ∙ sym (ap (λ (b : Bool). if d == n.k then slot_of n.module_slots w else if b then inputs_at (switch_at n d (switch_of n.k w)) (input_port n.k w)
+          else []) (le-ltb w (2 ^ n.k) past))
 
   module _ (n : NetworkLists) (is : IsNetwork n) (s w : ℕ) (stage : s < n.k) (wire : w < 2 ^ n.k) (t : SwitchLists)
       (same : (v : ℕ) → v < 2 → (v ≡ input_port n.k w → ⊥) → inputs_at t v ≡ inputs_at (switch_at n s (switch_of n.k w)) v) where
@@ -150,21 +163,28 @@ module _ (inverse : RotationsAreInverse) (on_wires : RotationsStayOnWires) where
         here = at_input (with_switch n s (switch_of n.k w) t) s w stage wire ∙ ap (λ u. inputs_at u (input_port n.k w)) put
 
         other : (d' w' : ℕ) → (d' ≡ s → w' ≡ w → ⊥) → replies_before (with_switch n s (switch_of n.k w) t) d' w' ≡ replies_before n d' w'
-        other d' w' away = replies_same n (with_switch n s (switch_of n.k w) t) d' w' refl refl (λ l. go l (cases_eq d' s) (cases_eq (switch_of n.k w') (switch_of n.k w)))
+        other d' w' away =
+            replies_same n (with_switch n s (switch_of n.k w) t) d' w' refl refl (λ l. go l (cases_eq d' s) (cases_eq (switch_of n.k w') (switch_of n.k w)))
           where
             go : w' < 2 ^ n.k → (d' ≡ s) ⊎ (d' ≡ s → ⊥) → (switch_of n.k w' ≡ switch_of n.k w) ⊎ (switch_of n.k w' ≡ switch_of n.k w → ⊥)
-                → inputs_at (switch_at (with_switch n s (switch_of n.k w) t) d' (switch_of n.k w')) (input_port n.k w') ≡ inputs_at (switch_at n d' (switch_of n.k w')) (input_port n.k w')
+                → inputs_at (switch_at (with_switch n s (switch_of n.k w) t) d' (switch_of n.k w')) (input_port n.k w')
+                ≡ inputs_at (switch_at n d' (switch_of n.k w')) (input_port n.k w')
             go l (inl a) (inl e) =
                 let port : input_port n.k w' ≡ input_port n.k w → ⊥ = λ p. away a (one_input n.k w' w l wire e p) in
-                (λ j. inputs_at (switch_at (with_switch n s (switch_of n.k w) t) (a j) (e j)) (input_port n.k w')) ∙ ap (λ u. inputs_at u (input_port n.k w')) put
+                (λ j. inputs_at (switch_at (with_switch n s (switch_of n.k w) t) (a j) (e j)) (input_port n.k w'))
+                ∙ ap (λ u. inputs_at u (input_port n.k w')) put
                 ∙ same (input_port n.k w') (small_rest (rotated_left n.k w')) port ∙ (λ j. inputs_at (switch_at n (sym a j) (sym e j)) (input_port n.k w'))
-            go l (inl a) (inr e) = ap (λ u. inputs_at u (input_port n.k w')) (switch_kept n s (switch_of n.k w) t stage place is.all_switches d' (switch_of n.k w') (ahead n.k s w' stage l) (λ _ q. e q))
-            go l (inr a) e = ap (λ u. inputs_at u (input_port n.k w')) (switch_kept n s (switch_of n.k w) t stage place is.all_switches d' (switch_of n.k w') (ahead n.k s w' stage l) (λ p _. a p))
+            go l (inl a) (inr e) = ap (λ u. inputs_at u (input_port n.k w'))
+                (switch_kept n s (switch_of n.k w) t stage place is.all_switches d' (switch_of n.k w') (ahead n.k s w' stage l) (λ _ q. e q))
+            go l (inr a) e = ap (λ u. inputs_at u (input_port n.k w'))
+                (switch_kept n s (switch_of n.k w) t stage place is.all_switches d' (switch_of n.k w') (ahead n.k s w' stage l) (λ p _. a p))
 
-  pub replies_left : (n : NetworkLists) (is : IsNetwork n) (s i : ℕ) (stage : s < n.k) (number : i < half n.k) (t : SwitchLists) → t.inputs ≡ (switch_at n s i).inputs
+  pub replies_left : (n : NetworkLists) (is : IsNetwork n) (s i : ℕ) (stage : s < n.k) (number : i < half n.k) (t : SwitchLists) →
+      t.inputs ≡ (switch_at n s i).inputs
       → replies_before (with_switch n s i t) ≡ replies_before n
   replies_left n is s i stage number t same = fun_ext (λ d'. fun_ext (λ w'. replies_same n (with_switch n s i t) d' w' refl refl (λ l.
-      read_kept n s i t stage number is.all_switches inputs_at (λ v m. ap (λ inputs. replies_at inputs v) same) d' (switch_of n.k w') (input_port n.k w') (ahead n.k s w' stage l) (small_rest (rotated_left n.k w')))))
+      read_kept n s i t stage number is.all_switches inputs_at (λ v m. ap (λ inputs. replies_at inputs v) same) d' (switch_of n.k w') (input_port n.k w')
+      (ahead n.k s w' stage l) (small_rest (rotated_left n.k w')))))
 
 -- ---- slots
 
@@ -180,33 +200,41 @@ first_of_slot (Some x) = refl
 slot_set : {X : Type 0} (slots : List (Option X)) (w : ℕ) (x : Option X) (v : ℕ) → w < length slots → (v ≡ w → ⊥) → slot_of (set slots w x) v ≡ slot_of slots v
 slot_set slots w x v l away = ap option_to_list (get_or-set_other slots w v x None away)
 
-pub slot_put : (n : NetworkLists) (p : ℕ) (x : Option Request) → p < length n.slots → requests_before (with_slot n p x) ≡ put2 (requests_before n) 0 p (option_to_list x)
+pub slot_put : (n : NetworkLists) (p : ℕ) (x : Option Request) → p < length n.slots →
+    requests_before (with_slot n p x) ≡ put2 (requests_before n) 0 p (option_to_list x)
 unfolding requests_before
-slot_put n p x l = is_put2 (requests_before n) (requests_before (with_slot n p x)) 0 p (option_to_list x) (ap option_to_list (get_or-set_same n.slots p x None l)) other
+slot_put n p x l =
+    is_put2 (requests_before n) (requests_before (with_slot n p x)) 0 p (option_to_list x) (ap option_to_list (get_or-set_same n.slots p x None l)) other
   where
     other : (d w : ℕ) → (d ≡ 0 → w ≡ p → ⊥) → requests_before (with_slot n p x) d w ≡ requests_before n d w
     other zero w away = slot_set n.slots p x w l (away refl)
     other (suc s) w away = refl
 
-pub module_slot_put : (n : NetworkLists) (m : ℕ) (y : Option Reply) → m < length n.module_slots → replies_before (with_module_slot n m y) ≡ put2 (replies_before n) n.k m (option_to_list y)
+pub module_slot_put : (n : NetworkLists) (m : ℕ) (y : Option Reply) → m < length n.module_slots →
+    replies_before (with_module_slot n m y) ≡ put2 (replies_before n) n.k m (option_to_list y)
 unfolding replies_before
 module_slot_put n m y l = is_put2 (replies_before n) (replies_before (with_module_slot n m y)) n.k m (option_to_list y)
-    (ap (λ (b : Bool). if b then slot_of (set n.module_slots m y) m else if nat_lt m (2 ^ n.k) then inputs_at (switch_at n n.k (switch_of n.k m)) (input_port n.k m) else []) (eq-eqb n.k n.k refl)
+    (ap (λ (b : Bool). if b then slot_of (set n.module_slots m y) m else if nat_lt m (2 ^ n.k)
+    then inputs_at (switch_at n n.k (switch_of n.k m)) (input_port n.k m) else []) (eq-eqb n.k n.k refl)
     ∙ ap option_to_list (get_or-set_same n.module_slots m y None l))
     (λ d w away. other d w away (cases_eq d n.k))
   where
     other : (d w : ℕ) → (d ≡ n.k → w ≡ m → ⊥) → (d ≡ n.k) ⊎ (d ≡ n.k → ⊥) → replies_before (with_module_slot n m y) d w ≡ replies_before n d w
     other d w away (inl e) =
-        ap (λ (xs : List Reply). if d == n.k then xs else if nat_lt w (2 ^ n.k) then inputs_at (switch_at n d (switch_of n.k w)) (input_port n.k w) else []) (slot_set n.module_slots m y w l (away e))
+        ap (λ (xs : List Reply). if d == n.k then xs else if nat_lt w (2 ^ n.k) then inputs_at (switch_at n d (switch_of n.k w)) (input_port n.k w)
+        else []) (slot_set n.module_slots m y w l (away e))
     other d w away (inr apart) =
-        ap (λ (b : Bool). if b then slot_of (set n.module_slots m y) w else if nat_lt w (2 ^ n.k) then inputs_at (switch_at n d (switch_of n.k w)) (input_port n.k w) else []) (ne_eqb d n.k apart)
-        ∙ sym (ap (λ (b : Bool). if b then slot_of n.module_slots w else if nat_lt w (2 ^ n.k) then inputs_at (switch_at n d (switch_of n.k w)) (input_port n.k w) else []) (ne_eqb d n.k apart))
+        ap (λ (b : Bool). if b then slot_of (set n.module_slots m y) w else if nat_lt w (2 ^ n.k)
+        then inputs_at (switch_at n d (switch_of n.k w)) (input_port n.k w) else []) (ne_eqb d n.k apart)
+        ∙ sym (ap (λ (b : Bool). if b then slot_of n.module_slots w else if nat_lt w (2 ^ n.k)
+        then inputs_at (switch_at n d (switch_of n.k w)) (input_port n.k w) else []) (ne_eqb d n.k apart))
 
 -- what stands at a module's slot
 pub at_module : (n : NetworkLists) (m : ℕ) → replies_before n n.k m ≡ slot_of n.module_slots m
 unfolding replies_before
 at_module n m =
-    ap (λ (b : Bool). if b then slot_of n.module_slots m else if nat_lt m (2 ^ n.k) then inputs_at (switch_at n n.k (switch_of n.k m)) (input_port n.k m) else []) (eq-eqb n.k n.k refl)
+    ap (λ (b : Bool). if b then slot_of n.module_slots m else if nat_lt m (2 ^ n.k) then inputs_at (switch_at n n.k (switch_of n.k m)) (input_port n.k m)
+    else []) (eq-eqb n.k n.k refl)
 
 pub at_slot : (n : NetworkLists) (p : ℕ) → requests_before n 0 p ≡ slot_of n.slots p
 unfolding requests_before

@@ -1,5 +1,6 @@
 -- Networks in which nothing stands.
-use Rattle.std.proofs.Common.{◌≡◌, ℕ, zero, suc, ◌+◌, ◌*◌, ◌/◌, ◌%◌, ◌^◌, ◌<◌, ◌≤◌, Bool, true, false, List, [], ◌∷◌, ◌++◌, length, get_or, Option, Some, None, ◌⊎◌, inl, inr, refl, sym, ap, ◌∙◌, subst, arith, lt-ltb, nat_lt, mul-le-mul_left, mul_comm}
+use Rattle.std.proofs.Common.{◌≡◌, ℕ, zero, suc, ◌+◌, ◌*◌, ◌/◌, ◌%◌, ◌^◌, ◌<◌, ◌≤◌, Bool, true, false, List, [], ◌∷◌, ◌++◌, length, get_or, Option, Some, None}
+use Rattle.std.proofs.Common.{◌⊎◌, inl, inr, refl, sym, ap, ◌∙◌, subst, arith, lt-ltb, nat_lt, mul-le-mul_left, mul_comm}
 use Rattle.std.specs.Prelude.{◌==◌, ◌↔◌, All, IsNone, IsTrue, if◌then◌else◌}
 use Rattle.std.specs.Option.{option_to_list}
 use Rattle.std.proofs.lemmas.Bool.{cases_lt}
@@ -25,7 +26,8 @@ stage_of h k place positive within = go (cases_lt (place / h) k)
     go : (place / h < k) ⊎ (k ≤ place / h) → place / h < k
     go (inl l) = l
     go (inr past) =
-        absurd (let up : h * k ≤ h * (place / h) = mul-le-mul_left h past in let whole : h * (place / h) + place % h ≡ place = omega arith in omega (arith, mul_comm h k))
+        absurd (let up : h * k ≤ h * (place / h) = mul-le-mul_left h past in let whole : h * (place / h) + place % h ≡ place = omega arith in
+        omega (arith, mul_comm h k))
 
 -- ---- from the lists to the places
 
@@ -83,9 +85,11 @@ empty_net n slots switches module_slots d w = (requests d, records, replies)
     records = if_same (nat_lt w (2 ^ n.k)) (records_at (switch_at n d (w / 2)) (w % 2)) (records_none n switches d (w / 2) (w % 2) (small_rest w))
 
     replies : replies_before n d w ≡ []
-    replies = go (d == n.k) (slot_of n.module_slots w) (if nat_lt w (2 ^ n.k) then replies_at (switch_at n d (switch_of n.k w)).inputs (input_port n.k w) else [])
+    replies =
+        go (d == n.k) (slot_of n.module_slots w) (if nat_lt w (2 ^ n.k) then replies_at (switch_at n d (switch_of n.k w)).inputs (input_port n.k w) else [])
         (slot_empty n.module_slots module_slots w)
-        (if_same (nat_lt w (2 ^ n.k)) (replies_at (switch_at n d (switch_of n.k w)).inputs (input_port n.k w)) (replies_none n switches d (switch_of n.k w) (input_port n.k w) (small_rest (rotated_left n.k w))))
+        (if_same (nat_lt w (2 ^ n.k)) (replies_at (switch_at n d (switch_of n.k w)).inputs (input_port n.k w))
+        (replies_none n switches d (switch_of n.k w) (input_port n.k w) (small_rest (rotated_left n.k w))))
       where
         go : (b : Bool) (xs ys : List Reply) → xs ≡ [] → ys ≡ [] → (if b then xs else ys) ≡ []
         go true xs ys e f = e
@@ -166,21 +170,26 @@ module _ (inverse : RotationsAreInverse) (on_wires : RotationsStayOnWires) (n : 
           (switch_empty (place / half n.k) (place % half n.k) stage rest)
 
 -- what the tests of all lists tell
-pub told : (n m : NetworkLists) → n ≡ m → IsNetwork n → RotationsAreInverse → RotationsStayOnWires → (a b c : Bool) (slots : List (Option Request)) (switches : List SwitchLists) (module_slots : List (Option Reply))
-    → slots ≡ n.slots → switches ≡ n.switches → module_slots ≡ n.module_slots → (IsTrue a ↔ All IsNone slots) → (IsTrue b ↔ All IsEmptySwitch switches) → (IsTrue c ↔ All IsNone module_slots)
+pub told : (n m : NetworkLists) → n ≡ m → IsNetwork n → RotationsAreInverse → RotationsStayOnWires →
+    (a b c : Bool) (slots : List (Option Request)) (switches : List SwitchLists) (module_slots : List (Option Reply))
+    → slots ≡ n.slots → switches ≡ n.switches → module_slots ≡ n.module_slots → (IsTrue a ↔ All IsNone slots) → (IsTrue b ↔ All IsEmptySwitch switches) →
+    (IsTrue c ↔ All IsNone module_slots)
     → a ≡ true → b ≡ true → (IsTrue c ↔ IsEmptyNet (net_of m))
 told n m view is inverse on_wires a b c slots switches module_slots e f g has_slots has_switches has_module_slots is_a is_b =
     subst (λ (l : NetworkLists). IsTrue c ↔ IsEmptyNet (net_of l)) view (
-      (λ t. empty_net n (subst (All IsNone) e (has_slots.0 is_a)) (subst (All IsEmptySwitch) f (has_switches.0 is_b)) (subst (All IsNone) g (has_module_slots.0 t))),
+      (λ t. empty_net n (subst (All IsNone) e (has_slots.0 is_a)) (subst (All IsEmptySwitch) f (has_switches.0 is_b))
+          (subst (All IsNone) g (has_module_slots.0 t))),
       (λ empty. has_module_slots.1 (subst (All IsNone) (sym g) (module_slots_none inverse on_wires n is empty))),
     )
 
-pub not_empty_slots : (n m : NetworkLists) → n ≡ m → IsNetwork n → RotationsAreInverse → RotationsStayOnWires → (a : Bool) (slots : List (Option Request)) → slots ≡ n.slots → (IsTrue a ↔ All IsNone slots)
+pub not_empty_slots : (n m : NetworkLists) → n ≡ m → IsNetwork n → RotationsAreInverse → RotationsStayOnWires → (a : Bool) (slots : List (Option Request)) →
+    slots ≡ n.slots → (IsTrue a ↔ All IsNone slots)
     → IsEmptyNet (net_of m) → a ≡ true
 not_empty_slots n m view is inverse on_wires a slots e has empty =
     has.1 (subst (All IsNone) (sym e) (slots_none inverse on_wires n is (subst (λ (l : NetworkLists). IsEmptyNet (net_of l)) (sym view) empty)))
 
-pub not_empty_switches : (n m : NetworkLists) → n ≡ m → IsNetwork n → RotationsAreInverse → RotationsStayOnWires → (b : Bool) (switches : List SwitchLists) → switches ≡ n.switches → (IsTrue b ↔ All IsEmptySwitch switches)
+pub not_empty_switches : (n m : NetworkLists) → n ≡ m → IsNetwork n → RotationsAreInverse → RotationsStayOnWires → (b : Bool) (switches : List SwitchLists) →
+    switches ≡ n.switches → (IsTrue b ↔ All IsEmptySwitch switches)
     → IsEmptyNet (net_of m) → b ≡ true
 not_empty_switches n m view is inverse on_wires b switches e has empty =
     has.1 (subst (All IsEmptySwitch) (sym e) (switches_none inverse on_wires n is (subst (λ (l : NetworkLists). IsEmptyNet (net_of l)) (sym view) empty)))

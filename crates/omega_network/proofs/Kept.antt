@@ -1,5 +1,6 @@
 -- What stays of a network and of a switch through every change.
-use Rattle.std.proofs.Common.{◌≡◌, ℕ, zero, suc, ◌+◌, ◌*◌, ◌/◌, ◌^◌, ◌<◌, Bool, true, false, List, [], ◌∷◌, length, set, get_or, nat_lt, Option, Some, None, ◌⊎◌, inl, inr, refl, sym, ap, ◌∙◌, subst, arith, get_or-set_same, get_or-set_other, length-set}
+use Rattle.std.proofs.Common.{◌≡◌, ℕ, zero, suc, ◌+◌, ◌*◌, ◌/◌, ◌^◌, ◌<◌, Bool, true, false, List, [], ◌∷◌, length, set, get_or, nat_lt, Option, Some, None}
+use Rattle.std.proofs.Common.{◌⊎◌, inl, inr, refl, sym, ap, ◌∙◌, subst, arith, get_or-set_same, get_or-set_other, length-set}
 use Rattle.std.proofs.lemmas.Bool.{cases_eq}
 use Rattle.omega_wires.specs.Laws.{RotationsStayOnWires}
 use Rattle.omega_wires.specs.Wires.{bit, bit_of_stage, rotated_left, switch_of}
@@ -8,7 +9,8 @@ use Rattle.messages.specs.declared.message.Reply.{Reply}
 use Rattle.messages.specs.declared.message.Record.{Record}
 use Rattle.messages.specs.Queues.{Combination, answers, combination, records_but, records_of}
 use Rattle.combining_switch.specs.Outputs.{OutputLists, accepted, accepted_as, empty_output, most_marks, queued}
-use Rattle.combining_switch.specs.Switches.{SwitchLists, answered, answered_from, empty_switch, has_room, output_of, put_replies, put_reply, records_at, with_inputs, with_output, with_records, with_requests}
+use Rattle.combining_switch.specs.Switches.{SwitchLists, answered, answered_from, empty_switch, has_room, output_of, put_replies, put_reply, records_at}
+use Rattle.combining_switch.specs.Switches.{with_inputs, with_output, with_records, with_requests}
 use Rattle.omega_network.specs.Networks.{IsNetwork, IsSwitchOf, NetworkLists, half, switch_at}
 use Rattle.omega_network.specs.Changes.{with_module_slot, with_slot, with_switch}
 use Rattle.omega_network.proofs.Switches.{half_of_wire, place_within, switch_kept, switch_put}
@@ -26,7 +28,8 @@ module _ (c b i : ℕ) where
       within : out < length s.outputs
       within = let two = is.two_outputs in omega arith
 
-      go : (v : ℕ) → v < 2 → (d : OutputLists) → (v ≡ out) ⊎ (v ≡ out → ⊥) → ((get_or (set s.outputs out o) v d).c ≡ c) × ((get_or (set s.outputs out o) v d).b ≡ b)
+      go : (v : ℕ) → v < 2 → (d : OutputLists) → (v ≡ out) ⊎ (v ≡ out → ⊥) →
+          ((get_or (set s.outputs out o) v d).c ≡ c) × ((get_or (set s.outputs out o) v d).b ≡ b)
       go v m d (inl e) =
           let same : get_or (set s.outputs out o) v d ≡ o = ap (λ u. get_or (set s.outputs out o) u d) e ∙ get_or-set_same s.outputs out o d within in
           (ap (λ (p : OutputLists). p.c) same ∙ ec, ap (λ (p : OutputLists). p.b) same ∙ eb)
@@ -40,7 +43,8 @@ module _ (c b i : ℕ) where
 pub empty_is : (c b i : ℕ) → IsSwitchOf c b i (empty_switch c b i)
 empty_is c b i = record { c_is = refl; bit_is = refl; two_outputs = refl; two_inputs = refl; outputs = at }
   where
-    at : (out : ℕ) → out < 2 → (d : OutputLists) → ((get_or (empty_output c b ∷ empty_output c b ∷ []) out d).c ≡ c) × ((get_or (empty_output c b ∷ empty_output c b ∷ []) out d).b ≡ b)
+    at : (out : ℕ) → out < 2 → (d : OutputLists) →
+        ((get_or (empty_output c b ∷ empty_output c b ∷ []) out d).c ≡ c) × ((get_or (empty_output c b ∷ empty_output c b ∷ []) out d).b ≡ b)
     at zero l d = (refl, refl)
     at (suc zero) l d = (refl, refl)
     at (suc (suc out)) l d = absurd (omega arith)
@@ -58,7 +62,8 @@ accepted_sizes o x = go (combination o.b most_marks x o.requests o.records)
     go None = full (nat_lt (length o.requests) o.c) refl
     go (Some j) = (refl, refl)
 
-pub accepted_kept : (c b i : ℕ) (s : SwitchLists) (out : ℕ) (x : Request) → IsSwitchOf c b i s → out < 2 → IsSwitchOf c b i (with_output s out (accepted (output_of s out) x).1)
+pub accepted_kept : (c b i : ℕ) (s : SwitchLists) (out : ℕ) (x : Request) → IsSwitchOf c b i s → out < 2 →
+    IsSwitchOf c b i (with_output s out (accepted (output_of s out) x).1)
 accepted_kept c b i s out x is l =
     let sizes = accepted_sizes (output_of s out) x in
     let had = is.outputs out l (empty_output 0 0) in
@@ -79,16 +84,20 @@ answered_kept c b i s out x is l = go (has_room s.c s.its_bit all (answers recor
     all : List (List Reply)
     all = put_replies s.its_bit (answers records x) s.inputs
 
-    go : (r : Bool) → has_room s.c s.its_bit (put_replies s.its_bit (answers (records_of x.leader (records_at s out)) x) s.inputs) (answers (records_of x.leader (records_at s out)) x) ≡ r → IsSwitchOf c b i (answered_from s out x (records_of x.leader (records_at s out))).1
+    go : (r : Bool) → has_room s.c s.its_bit (put_replies s.its_bit (answers (records_of x.leader (records_at s out)) x) s.inputs)
+        (answers (records_of x.leader (records_at s out)) x) ≡ r → IsSwitchOf c b i (answered_from s out x (records_of x.leader (records_at s out))).1
     go false e = rw e is
     go true e =
         let had = is.outputs out l (empty_output 0 0) in
-        rw e (inputs_kept c b i (with_records s out (records_but x.leader (records_at s out))) (put_replies s.its_bit (answers (records_of x.leader (records_at s out)) x) s.inputs)
-        (output_kept c b i s out _ is l had.0 had.1) (length-put_replies s.its_bit (answers (records_of x.leader (records_at s out)) x) s.inputs ∙ is.two_inputs))
+        rw e (inputs_kept c b i (with_records s out (records_but x.leader (records_at s out)))
+        (put_replies s.its_bit (answers (records_of x.leader (records_at s out)) x) s.inputs)
+        (output_kept c b i s out _ is l had.0 had.1) (length-put_replies s.its_bit (answers (records_of x.leader (records_at s out)) x) s.inputs
+        ∙ is.two_inputs))
 
 -- ---- networks
 
-pub with_switch_kept : (n : NetworkLists) (s i : ℕ) (t : SwitchLists) → IsNetwork n → s < n.k → i < half n.k → IsSwitchOf n.c n.b (bit_of_stage n.k s) t → IsNetwork (with_switch n s i t)
+pub with_switch_kept : (n : NetworkLists) (s i : ℕ) (t : SwitchLists) → IsNetwork n → s < n.k → i < half n.k → IsSwitchOf n.c n.b (bit_of_stage n.k s) t →
+    IsNetwork (with_switch n s i t)
 with_switch_kept n s i t is l m new = record {
   few = is.few;
   all_slots = is.all_slots;
@@ -100,18 +109,33 @@ with_switch_kept n s i t is l m new = record {
     put : switch_at (with_switch n s i t) s i ≡ t
     put = switch_put n s i t l m is.all_switches
 
-    go : (s' i' : ℕ) → s' < n.k → i' < half n.k → (s' ≡ s) ⊎ (s' ≡ s → ⊥) → (i' ≡ i) ⊎ (i' ≡ i → ⊥) → IsSwitchOf n.c n.b (bit_of_stage n.k s') (switch_at (with_switch n s i t) s' i')
+    go : (s' i' : ℕ) → s' < n.k → i' < half n.k → (s' ≡ s) ⊎ (s' ≡ s → ⊥) → (i' ≡ i) ⊎ (i' ≡ i → ⊥) →
+        IsSwitchOf n.c n.b (bit_of_stage n.k s') (switch_at (with_switch n s i t) s' i')
     go s' i' l' m' (inl a) (inl e) =
         let same : switch_at (with_switch n s i t) s' i' ≡ t = (λ j. switch_at (with_switch n s i t) (a j) (e j)) ∙ put in
         subst (λ (u : SwitchLists). IsSwitchOf n.c n.b (bit_of_stage n.k s') u) (sym same) (subst (λ v. IsSwitchOf n.c n.b (bit_of_stage n.k v) t) (sym a) new)
-    go s' i' l' m' (inl a) (inr e) = subst (λ (u : SwitchLists). IsSwitchOf n.c n.b (bit_of_stage n.k s') u) (sym (switch_kept n s i t l m is.all_switches s' i' m' (λ _ f. e f))) (is.each_switch s' i' l' m')
-    go s' i' l' m' (inr a) _ = subst (λ (u : SwitchLists). IsSwitchOf n.c n.b (bit_of_stage n.k s') u) (sym (switch_kept n s i t l m is.all_switches s' i' m' (λ f _. a f))) (is.each_switch s' i' l' m')
+    go s' i' l' m' (inl a) (inr e) = subst (λ (u : SwitchLists). IsSwitchOf n.c n.b (bit_of_stage n.k s') u)
+        (sym (switch_kept n s i t l m is.all_switches s' i' m' (λ _ f. e f))) (is.each_switch s' i' l' m')
+    go s' i' l' m' (inr a) _ = subst (λ (u : SwitchLists). IsSwitchOf n.c n.b (bit_of_stage n.k s') u)
+        (sym (switch_kept n s i t l m is.all_switches s' i' m' (λ f _. a f))) (is.each_switch s' i' l' m')
 
 pub with_slot_kept : (n : NetworkLists) (p : ℕ) (x : Option Request) → IsNetwork n → IsNetwork (with_slot n p x)
-with_slot_kept n p x is = record { few = is.few; all_slots = length-set n.slots p x ∙ is.all_slots; all_module_slots = is.all_module_slots; all_switches = is.all_switches; each_switch = is.each_switch }
+with_slot_kept n p x is = record {
+  few = is.few;
+  all_slots = length-set n.slots p x ∙ is.all_slots;
+  all_module_slots = is.all_module_slots;
+  all_switches = is.all_switches;
+  each_switch = is.each_switch;
+}
 
 pub with_module_slot_kept : (n : NetworkLists) (m : ℕ) (y : Option Reply) → IsNetwork n → IsNetwork (with_module_slot n m y)
-with_module_slot_kept n m y is = record { few = is.few; all_slots = is.all_slots; all_module_slots = length-set n.module_slots m y ∙ is.all_module_slots; all_switches = is.all_switches; each_switch = is.each_switch }
+with_module_slot_kept n m y is = record {
+  few = is.few;
+  all_slots = is.all_slots;
+  all_module_slots = length-set n.module_slots m y ∙ is.all_module_slots;
+  all_switches = is.all_switches;
+  each_switch = is.each_switch;
+}
 
 -- a switch of the network with one output's requests, or one input's replies, changed
 pub requests_kept : (c b i : ℕ) (s : SwitchLists) (out : ℕ) (xs : List Request) → IsSwitchOf c b i s → out < 2

@@ -1,5 +1,6 @@
 -- A move as what a switch did with the message, which is then taken from its place.
-use Rattle.std.proofs.Common.{◌≡◌, ℕ, suc, ◌%◌, ◌^◌, ◌<◌, Bool, true, false, ◌&&◌, List, [], ◌∷◌, ◌++◌, length, drop, nat_lt, Option, Some, None, refl, sym, ap, ◌∙◌, arith, lt-ltb}
+use Rattle.std.proofs.Common.{◌≡◌, ℕ, suc, ◌%◌, ◌^◌, ◌<◌, Bool, true, false, ◌&&◌, List, [], ◌∷◌, ◌++◌, length, drop, nat_lt, Option, Some, None, refl, sym}
+use Rattle.std.proofs.Common.{ap, ◌∙◌, arith, lt-ltb}
 use Rattle.std.specs.Prelude.{IsTrue, if◌then◌else◌, is_some, nat_le, not, slice_get}
 use Rattle.phi_algebra.specs.declared.phi.Phi.{Phi}
 use Rattle.omega_wires.specs.Wires.{wire_after, wire_before}
@@ -57,14 +58,24 @@ second_is r x (d ∷ ds) j e = go (second_is r x ds) (joint r x d) e
         ap (λ (k : Combination). k.made.second) (sym same) ∙ rest i refl
 
     go : ((i : Combination) → combined_in r x ds ≡ Some i → i.made.second ≡ x.leader) → (o : Option Phi)
-        → elim o [ Some phi ↦ Some (record { queue = record { leader = d.leader; word = d.word; phi = phi; marks = suc d.marks } ∷ ds; made = record { leader = d.leader; phi = d.phi; second = x.leader } }) | None ↦ behind d (combined_in r x ds) ] ≡ Some j
+        → elim o [
+          | Some phi ↦ Some (record {
+            queue = record { leader = d.leader; word = d.word; phi = phi; marks = suc d.marks } ∷ ds;
+            made = record { leader = d.leader; phi = d.phi; second = x.leader };
+          })
+          | None ↦ behind d (combined_in r x ds)
+        ] ≡ Some j
         → j.made.second ≡ x.leader
     go rest None f = later (combined_in r x ds) rest f
     go rest (Some phi) f =
-        let same : record { queue = record { leader = d.leader; word = d.word; phi = phi; marks = suc d.marks } ∷ ds; made = record { leader = d.leader; phi = d.phi; second = x.leader } } ≡ j = cc in
+        let same : record {
+          queue = record { leader = d.leader; word = d.word; phi = phi; marks = suc d.marks } ∷ ds;
+          made = record { leader = d.leader; phi = d.phi; second = x.leader };
+        } ≡ j = cc in
         ap (λ (k : Combination). k.made.second) (sym same)
 
-combined_second : (b r : ℕ) (x : Request) (queue : List Request) (records : List Record) (j : Combination) → combination b r x queue records ≡ Some j → j.made.second ≡ x.leader
+combined_second : (b r : ℕ) (x : Request) (queue : List Request) (records : List Record) (j : Combination) → combination b r x queue records ≡ Some j →
+    j.made.second ≡ x.leader
 combined_second b r x queue records j e = go (nat_lt (length records) b) e
   where
     go : (c : Bool) → (if c then combined_in r x queue else None) ≡ Some j → j.made.second ≡ x.leader
@@ -89,10 +100,12 @@ module _ (z : Sizes) (net : Net) (s w out : ℕ) (x : Request) (rest : List Requ
   queue_same = put2_other net.requests s w rest (suc s) out (λ e _. apart s (sym e))
 
   -- what is put at the output, and then taken before it
-  swapped : (q : List Request) (es : List Record) → put_records (put_requests taken (suc s) out q) s out es ≡ first_request_taken (put_records (put_requests net (suc s) out q) s out es) s w
+  swapped : (q : List Request) (es : List Record) →
+      put_records (put_requests taken (suc s) out q) s out es ≡ first_request_taken (put_records (put_requests net (suc s) out q) s out es) s w
   swapped q es = λ j. record {
     requests = (put2_comm net.requests s w rest (suc s) out q (apart s)
-        ∙ ap (put2 (put2 net.requests (suc s) out q) s w) (ap (drop 1) (sym first) ∙ ap (drop 1) (sym (put2_other net.requests (suc s) out q s w (λ e _. apart s e))))) j;
+        ∙ ap (put2 (put2 net.requests (suc s) out q) s w)
+        (ap (drop 1) (sym first) ∙ ap (drop 1) (sym (put2_other net.requests (suc s) out q s w (λ e _. apart s e))))) j;
     records = put2 net.records s out es;
     replies = net.replies;
   }
@@ -100,33 +113,48 @@ module _ (z : Sizes) (net : Net) (s w out : ℕ) (x : Request) (rest : List Requ
   swapped_queue : (q : List Request) → put_requests taken (suc s) out q ≡ first_request_taken (put_requests net (suc s) out q) s w
   swapped_queue q = λ j. record {
     requests = (put2_comm net.requests s w rest (suc s) out q (apart s)
-        ∙ ap (put2 (put2 net.requests (suc s) out q) s w) (ap (drop 1) (sym first) ∙ ap (drop 1) (sym (put2_other net.requests (suc s) out q s w (λ e _. apart s e))))) j;
+        ∙ ap (put2 (put2 net.requests (suc s) out q) s w)
+        (ap (drop 1) (sym first) ∙ ap (drop 1) (sym (put2_other net.requests (suc s) out q s w (λ e _. apart s e))))) j;
     records = net.records;
     replies = net.replies;
   }
 
-  offered_is : moves.offered z net taken s out x ≡ (up_of (accepted_on z net s out x).0 x.leader, net_after_up (accepted_on z net s out x).0 (accepted_on z net s out x).1 s w)
+  offered_is : moves.offered z net taken s out x
+      ≡ (up_of (accepted_on z net s out x).0 x.leader, net_after_up (accepted_on z net s out x).0 (accepted_on z net s out x).1 s w)
   unfolding accepted_on
   offered_is =
       ap (λ q. moves.accepted z net taken s out x (combination z.b z.r x q (net.records s out))) queue_same
-      ∙ go (combination z.b z.r x (net.requests (suc s) out) (net.records s out)) (λ j e. combined_second z.b z.r x (net.requests (suc s) out) (net.records s out) j e)
+      ∙ go (combination z.b z.r x (net.requests (suc s) out) (net.records s out))
+      (λ j e. combined_second z.b z.r x (net.requests (suc s) out) (net.records s out) j e)
     where
       Goal : Option Combination → Type 0
-      Goal j = moves.accepted z net taken s out x j ≡ (up_of (accepted_where z net s out x j).0 x.leader, net_after_up (accepted_where z net s out x j).0 (accepted_where z net s out x j).1 s w)
+      Goal j = moves.accepted z net taken s out x j
+          ≡ (up_of (accepted_where z net s out x j).0 x.leader, net_after_up (accepted_where z net s out x j).0 (accepted_where z net s out x j).1 s w)
 
       queued : (b : Bool) → nat_lt (length (net.requests (suc s) out)) z.c ≡ b
-          → moves.accepted z net taken s out x None ≡ (up_of (accepted_where z net s out x None).0 x.leader, net_after_up (accepted_where z net s out x None).0 (accepted_where z net s out x None).1 s w)
+          → moves.accepted z net taken s out x None ≡ (
+            up_of (accepted_where z net s out x None).0 x.leader,
+            net_after_up (accepted_where z net s out x None).0 (accepted_where z net s out x None).1 s w,
+          )
       queued true e =
           rw (e, ap (λ q. nat_lt (length q) z.c) queue_same ∙ e)
-          (λ j. (up.Moved, (ap (λ q. put_requests taken (suc s) out (q ++ unmarked x ∷ [])) queue_same ∙ swapped_queue (net.requests (suc s) out ++ unmarked x ∷ [])) j))
+          (λ j. (
+            up.Moved,
+            (ap (λ q. put_requests taken (suc s) out (q ++ unmarked x ∷ [])) queue_same
+                ∙ swapped_queue (net.requests (suc s) out ++ unmarked x ∷ [])) j,
+          ))
       queued false e = rw (e, ap (λ q. nat_lt (length q) z.c) queue_same ∙ e) refl
 
       go : (j : Option Combination) → ((i : Combination) → j ≡ Some i → i.made.second ≡ x.leader)
-          → moves.accepted z net taken s out x j ≡ (up_of (accepted_where z net s out x j).0 x.leader, net_after_up (accepted_where z net s out x j).0 (accepted_where z net s out x j).1 s w)
+          → moves.accepted z net taken s out x j ≡ (
+            up_of (accepted_where z net s out x j).0 x.leader,
+            net_after_up (accepted_where z net s out x j).0 (accepted_where z net s out x j).1 s w,
+          )
       go None second = queued (nat_lt (length (net.requests (suc s) out)) z.c) refl
       go (Some i) second = λ j. (up.Combined i.made.leader (second i refl j), swapped i.queue (net.records s out ++ i.made ∷ []) j)
 
-pub up_law : (z : Sizes) (net : Net) (s w out : ℕ) (x : Request) → s < z.k → slice_get (net.requests s w) 0 ≡ Some x → out ≡ wire_after z.k s w (x.word % wires z)
+pub up_law : (z : Sizes) (net : Net) (s w out : ℕ) (x : Request) → s < z.k → slice_get (net.requests s w) 0 ≡ Some x →
+    out ≡ wire_after z.k s w (x.word % wires z)
     → moves.moved_up z net s w ≡ (up_of (accepted_on z net s out x).0 x.leader, net_after_up (accepted_on z net s out x).0 (accepted_on z net s out x).1 s w)
 unfolding moves.moved_up
 up_law z net s w out x stage found way =
@@ -160,7 +188,8 @@ module _ (wire : ℕ → ℕ) (s w : ℕ) (rest : List Reply) where
   before_same : (net : Net) (v : ℕ) → (put_replies net (suc s) w rest).replies s v ≡ net.replies s v
   before_same net v = put2_other net.replies (suc s) w rest s v (λ e _. apart s e)
 
-  push_taken : (ys : List Reply) (net : Net) → moves.push_all wire s ys (put_replies net (suc s) w rest) ≡ put_replies (moves.push_all wire s ys net) (suc s) w rest
+  push_taken : (ys : List Reply) (net : Net) → moves.push_all wire s ys (put_replies net (suc s) w rest)
+      ≡ put_replies (moves.push_all wire s ys net) (suc s) w rest
   unfolding moves.push_all
   push_taken [] net = refl
   push_taken (y ∷ ys) net =
@@ -215,7 +244,8 @@ module _ (z : Sizes) (net : Net) (s w : ℕ) (x : Reply) (rest : List Reply) (fi
   answer_is = go (moves.has_room z.c wire s (moves.push_all wire s ys left) ys) refl
     where
       go : (b : Bool) → moves.has_room z.c wire s (moves.push_all wire s ys left) ys ≡ b
-          → moves.answer z net (put_replies net (suc s) w rest) s w x es ≡ (down_of (answered_where z net s w x es).0, net_after_down (answered_where z net s w x es).0 (answered_where z net s w x es).1 (suc s) w)
+          → moves.answer z net (put_replies net (suc s) w rest) s w x es
+          ≡ (down_of (answered_where z net s w x es).0, net_after_down (answered_where z net s w x es).0 (answered_where z net s w x es).1 (suc s) w)
       go true e = rw (e, room ∙ e) (λ j. (answered_same es j, (pushed ∙ then_taken ∙ sym (not_refused es (moves.push_all wire s ys left) (suc s) w)) j))
       go false e = rw (e, room ∙ e) refl
 

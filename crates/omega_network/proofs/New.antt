@@ -1,5 +1,6 @@
 -- The switches of a new network, and that nothing stands in it.
-use Rattle.std.proofs.Common.{◌≡◌, ℕ, zero, suc, ◌+◌, ◌*◌, ◌/◌, ◌^◌, ◌<◌, ◌≤◌, List, [], ◌∷◌, ◌++◌, length, Some, ◌⊎◌, inl, inr, refl, sym, ap, ◌∙◌, subst, arith, length-append}
+use Rattle.std.proofs.Common.{◌≡◌, ℕ, zero, suc, ◌+◌, ◌*◌, ◌/◌, ◌^◌, ◌<◌, ◌≤◌, List, [], ◌∷◌, ◌++◌, length, Some, ◌⊎◌, inl, inr, refl, sym, ap, ◌∙◌, subst}
+use Rattle.std.proofs.Common.{arith, length-append}
 use Rattle.std.specs.Prelude.{All, IsNone, slice_get}
 use Rattle.std.proofs.lemmas.Bool.{cases_lt}
 use Rattle.std.proofs.lemmas.Nat.{div-mul-add}
@@ -61,7 +62,8 @@ all_done k c b count switches e so_far = record { all = so_far.all ∙ e; each =
 module _ (n : NetworkLists) (new : AreNew n.k n.c n.b n.switches) where
   is_new : (s i : ℕ) → s < n.k → i < half n.k → switch_at n s i ≡ empty_switch n.c n.b (bit_of_stage n.k s)
   is_new s i l m =
-      get_or_from_slice_get n.switches (s * half n.k + i) _ (empty_switch 0 0 0) (new.each (s * half n.k + i) (place_within n.k s i (length n.switches) l m new.all))
+      get_or_from_slice_get n.switches (s * half n.k + i) _ (empty_switch 0 0 0)
+      (new.each (s * half n.k + i) (place_within n.k s i (length n.switches) l m new.all))
       ∙ ap (λ t. empty_switch n.c n.b (bit_of_stage n.k t)) (div-mul-add s (half n.k) i m)
 
   pub new_network : n.k ≤ 6 → length n.slots ≡ 2 ^ n.k → length n.module_slots ≡ 2 ^ n.k → IsNetwork n
@@ -70,7 +72,8 @@ module _ (n : NetworkLists) (new : AreNew n.k n.c n.b n.switches) where
     all_slots = slots;
     all_module_slots = module_slots;
     all_switches = new.all;
-    each_switch = λ s i l m. subst (λ (t : SwitchLists). IsSwitchOf n.c n.b (bit_of_stage n.k s) t) (sym (is_new s i l m)) (empty_is n.c n.b (bit_of_stage n.k s));
+    each_switch =
+        λ s i l m. subst (λ (t : SwitchLists). IsSwitchOf n.c n.b (bit_of_stage n.k s) t) (sym (is_new s i l m)) (empty_is n.c n.b (bit_of_stage n.k s));
   }
 
   switches_are_empty : All IsEmptySwitch n.switches

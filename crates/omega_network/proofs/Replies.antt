@@ -1,5 +1,6 @@
 -- Replies that are put at a switch, or taken from it, in a network of places.
-use Rattle.std.proofs.Common.{◌≡◌, ℕ, ◌+◌, ◌*◌, ◌/◌, ◌%◌, ◌^◌, ◌<◌, Bool, true, false, ◌&&◌, List, [], ◌∷◌, ◌++◌, length, drop, set, ◌⊎◌, inl, inr, refl, sym, ap, ◌∙◌, subst, arith, lt-ltb, get_or-set_same, get_or-set_other, length-set}
+use Rattle.std.proofs.Common.{◌≡◌, ℕ, ◌+◌, ◌*◌, ◌/◌, ◌%◌, ◌^◌, ◌<◌, Bool, true, false, ◌&&◌, List, [], ◌∷◌, ◌++◌, length, drop, set, ◌⊎◌, inl, inr, refl, sym}
+use Rattle.std.proofs.Common.{ap, ◌∙◌, subst, arith, lt-ltb, get_or-set_same, get_or-set_other, length-set}
 use Rattle.std.specs.Prelude.{if◌then◌else◌, nat_le}
 use Rattle.std.proofs.lemmas.List.{set-get_or, set-set}
 use Rattle.std.proofs.lemmas.Bool.{cases_eq}
@@ -16,7 +17,8 @@ use Rattle.messages.specs.Moves as moves
 use Rattle.combining_switch.specs.declared.answers.Answered.{Answered}
 use Rattle.combining_switch.specs.declared.answers.Answered.TheVariants.{NoRoom}
 use Rattle.combining_switch.specs.Outputs.{OutputLists, empty_output}
-use Rattle.combining_switch.specs.Switches.{SwitchLists, answered, empty_switch, answered_for, has_room, output_of, put_replies, put_reply, records_at, replies_at, requests_at, with_inputs, with_records}
+use Rattle.combining_switch.specs.Switches.{SwitchLists, answered, empty_switch, answered_for, has_room, output_of, put_replies, put_reply, records_at}
+use Rattle.combining_switch.specs.Switches.{replies_at, requests_at, with_inputs, with_records}
 use Rattle.omega_network.specs.Networks.{IsNetwork, IsSwitchOf, NetworkLists, half, net_of, records_behind, replies_before, sizes_of, switch_at}
 use Rattle.omega_network.specs.Changes.{with_switch}
 use Rattle.omega_network.specs.Offers.{answered_on, first_reply_taken}
@@ -96,7 +98,14 @@ module _ (inverse : RotationsAreInverse) (on_wires : RotationsStayOnWires) where
 
       twice : here more ≡ with_switch (here t) s (switch_of n.k v) more
       twice =
-          (λ j. record { k = n.k; c = n.c; b = n.b; slots = n.slots; switches = sym (set-set n.switches (s * half n.k + w / 2) t more) j; module_slots = n.module_slots })
+          (λ j. record {
+            k = n.k;
+            c = n.c;
+            b = n.b;
+            slots = n.slots;
+            switches = sym (set-set n.switches (s * half n.k + w / 2) t more) j;
+            module_slots = n.module_slots;
+          })
           ∙ ap (λ i. with_switch (here t) s i more) (sym to)
 
       others : (u : ℕ) → u < 2 → (u ≡ input_port n.k v → ⊥) → replies_at more.inputs u ≡ replies_at (switch_at (here t) s (switch_of n.k v)).inputs u
@@ -116,8 +125,10 @@ module _ (inverse : RotationsAreInverse) (on_wires : RotationsStayOnWires) where
 
       pub one_put : net_of (here more) ≡ network.put_replies (net_of (here t)) s v (replies_before (here t) s v ++ y ∷ [])
       one_put = ap net_of twice ∙ (λ j. record {
-        requests = requests_left (here t) (here_is t ok) s (switch_of n.k v) stage to_is more (λ u l. ap (λ (x : SwitchLists). requests_at x u) (sym found_there)) j;
-        records = records_left (here t) (here_is t ok) s (switch_of n.k v) stage to_is more (λ u l. ap (λ (x : SwitchLists). records_at x u) (sym found_there)) j;
+        requests =
+            requests_left (here t) (here_is t ok) s (switch_of n.k v) stage to_is more (λ u l. ap (λ (x : SwitchLists). requests_at x u) (sym found_there)) j;
+        records =
+            records_left (here t) (here_is t ok) s (switch_of n.k v) stage to_is more (λ u l. ap (λ (x : SwitchLists). records_at x u) (sym found_there)) j;
         replies = (replies_put inverse on_wires (here t) (here_is t ok) s v stage v_on more others ∙ ap (put2 (replies_before (here t)) s v) gained) j;
       })
 
@@ -127,11 +138,13 @@ module _ (inverse : RotationsAreInverse) (on_wires : RotationsStayOnWires) where
     unfolding put_replies push_all
     all_put [] t ok = refl
     all_put (y ∷ ys) t ok =
-        all_put ys (with_inputs t (put_reply t.its_bit t.inputs y)) (inputs_kept n.c n.b (bit_of_stage n.k s) t (put_reply t.its_bit t.inputs y) ok (length-set t.inputs (bit t.its_bit y.leader) _ ∙ ok.two_inputs))
+        all_put ys (with_inputs t (put_reply t.its_bit t.inputs y))
+        (inputs_kept n.c n.b (bit_of_stage n.k s) t (put_reply t.its_bit t.inputs y) ok (length-set t.inputs (bit t.its_bit y.leader) _ ∙ ok.two_inputs))
         ∙ ap (push_all (wire_before n.k s w) s ys) (one_put t ok y)
 
     -- room at the inputs is room on the wires
-    rooms : (c : ℕ) (ys : List Reply) (t : SwitchLists) → t.its_bit ≡ bit_of_stage n.k s → moves.has_room c (wire_before n.k s w) s (net_of (here t)) ys ≡ has_room c t.its_bit t.inputs ys
+    rooms : (c : ℕ) (ys : List Reply) (t : SwitchLists) → t.its_bit ≡ bit_of_stage n.k s →
+        moves.has_room c (wire_before n.k s w) s (net_of (here t)) ys ≡ has_room c t.its_bit t.inputs ys
     unfolding has_room
     rooms c [] t its_bit = refl
     rooms c (y ∷ ys) t its_bit =
@@ -167,7 +180,12 @@ module _ (inverse : RotationsAreInverse) (on_wires : RotationsStayOnWires) where
       left_ok : IsSwitchOf n.c n.b (bit_of_stage n.k s) left
       left_ok = let had = ok.outputs (w % 2) rest (empty_output 0 0) in output_kept n.c n.b (bit_of_stage n.k s) u (w % 2) _ ok rest had.0 had.1
 
-      out_here : output_of left (w % 2) ≡ (record { c = (output_of u (w % 2)).c; b = (output_of u (w % 2)).b; requests = requests_at u (w % 2); records = records_but x.leader own })
+      out_here : output_of left (w % 2) ≡ (record {
+        c = (output_of u (w % 2)).c;
+        b = (output_of u (w % 2)).b;
+        requests = requests_at u (w % 2);
+        records = records_but x.leader own;
+      })
       out_here = get_or-set_same u.outputs (w % 2) _ (empty_output 0 0) output_in
 
       out_other : (v : ℕ) → (v ≡ w % 2 → ⊥) → output_of left v ≡ output_of u v
@@ -195,7 +213,14 @@ module _ (inverse : RotationsAreInverse) (on_wires : RotationsStayOnWires) where
 
       stays : net_of (here u) ≡ net_of n
       stays = ap (λ t. net_of (here t)) found
-          ∙ (λ j. net_of (record { k = n.k; c = n.c; b = n.b; slots = n.slots; switches = set-get_or n.switches (s * half n.k + w / 2) (empty_switch 0 0 0) j; module_slots = n.module_slots }))
+          ∙ (λ j. net_of (record {
+            k = n.k;
+            c = n.c;
+            b = n.b;
+            slots = n.slots;
+            switches = set-get_or n.switches (s * half n.k + w / 2) (empty_switch 0 0 0) j;
+            module_slots = n.module_slots;
+          }))
 
       room_is : moves.has_room n.c (wire_before n.k s w) s (push_all (wire_before n.k s w) s ys (put_records (net_of n) s w (records_but x.leader own))) ys
           ≡ has_room u.c u.its_bit (put_replies u.its_bit ys u.inputs) ys
@@ -207,9 +232,11 @@ module _ (inverse : RotationsAreInverse) (on_wires : RotationsStayOnWires) where
       by_records : List Record → Answered × Net
       by_records es =
           let net = push_all (wire_before n.k s w) s (answers (records_of x.leader es) x) (put_records (net_of n) s w (records_but x.leader es)) in
-          if moves.has_room n.c (wire_before n.k s w) s net (answers (records_of x.leader es) x) then (answered_for (records_of x.leader es), net) else (NoRoom, net_of n)
+          if moves.has_room n.c (wire_before n.k s w) s net (answers (records_of x.leader es) x) then (answered_for (records_of x.leader es), net)
+          else (NoRoom, net_of n)
 
-      pub answer_there : ((answered u (w % 2) x).0 ≡ (answered_on (sizes_of n) (net_of n) s w x).0) × (net_of (here (answered u (w % 2) x).1) ≡ (answered_on (sizes_of n) (net_of n) s w x).1)
+      pub answer_there : ((answered u (w % 2) x).0 ≡ (answered_on (sizes_of n) (net_of n) s w x).0)
+          × (net_of (here (answered u (w % 2) x).1) ≡ (answered_on (sizes_of n) (net_of n) s w x).1)
       unfolding answered answered_on by_records
       answer_there =
           subst (λ (r : Answered × Net). ((answered u (w % 2) x).0 ≡ r.0) × (net_of (here (answered u (w % 2) x).1) ≡ r.1)) (ap by_records records_are)
@@ -222,16 +249,20 @@ module _ (inverse : RotationsAreInverse) (on_wires : RotationsStayOnWires) where
 
   -- ---- as a caller sees it
 
-  pub answer_net : (n m : NetworkLists) (s w place : ℕ) (u : SwitchLists) → Found n m s (w / 2) place u → w < 2 ^ m.k → (x : Reply) (t : SwitchLists) (result : Answered)
+  pub answer_net : (n m : NetworkLists) (s w place : ℕ) (u : SwitchLists) → Found n m s (w / 2) place u → w < 2 ^ m.k →
+      (x : Reply) (t : SwitchLists) (result : Answered)
       → result ≡ (answered u (w % 2) x).0 → t ≡ (answered u (w % 2) x).1
       → (result ≡ (answered_on (sizes_of m) (net_of m) s w x).0) × (net_of (put_at n place t) ≡ (answered_on (sizes_of m) (net_of m) s w x).1)
   answer_net n m s w place u found wire x t result answer same =
       let on : w < 2 ^ n.k = subst (λ (l : NetworkLists). w < 2 ^ l.k) (sym found.view) wire in
-      let there = answer_there n found.is s w (stage_is n m s (w / 2) place u found) on u (had_is n m s (w / 2) place u found) (switch_is n m s (w / 2) place u found) x in
-      subst (λ (l : NetworkLists). (result ≡ (answered_on (sizes_of l) (net_of l) s w x).0) × (net_of (put_at n place t) ≡ (answered_on (sizes_of l) (net_of l) s w x).1)) found.view
+      let there = answer_there n found.is s w (stage_is n m s (w / 2) place u found) on u (had_is n m s (w / 2) place u found)
+      (switch_is n m s (w / 2) place u found) x in
+      subst (λ (l : NetworkLists). (result ≡ (answered_on (sizes_of l) (net_of l) s w x).0)
+      × (net_of (put_at n place t) ≡ (answered_on (sizes_of l) (net_of l) s w x).1)) found.view
       (answer ∙ there.0, ap net_of (put_is n m s (w / 2) place u found t) ∙ ap (λ v. net_of (with_switch n s (w / 2) v)) same ∙ there.1)
 
-  module _ (n : NetworkLists) (is : IsNetwork n) (s w : ℕ) (stage : s < n.k) (wire : w < 2 ^ n.k) (u : SwitchLists) (ok : IsSwitchOf n.c n.b (bit_of_stage n.k s) u) (found : u ≡ switch_at n s (switch_of n.k w)) where
+  module _ (n : NetworkLists) (is : IsNetwork n) (s w : ℕ) (stage : s < n.k) (wire : w < 2 ^ n.k) (u : SwitchLists)
+      (ok : IsSwitchOf n.c n.b (bit_of_stage n.k s) u) (found : u ≡ switch_at n s (switch_of n.k w)) where
     abbrev inp : ℕ
     inp = input_port n.k w
 
@@ -256,7 +287,8 @@ module _ (inverse : RotationsAreInverse) (on_wires : RotationsStayOnWires) where
     }
 
   pub reply_take_net : (n m : NetworkLists) (s w place : ℕ) (u t : SwitchLists) → Found n m s (switch_of m.k w) place u → w < 2 ^ m.k
-      → t ≡ with_inputs u (set u.inputs (input_port m.k w) (drop 1 (replies_at u.inputs (input_port m.k w)))) → net_of (put_at n place t) ≡ first_reply_taken (net_of m) s w
+      → t ≡ with_inputs u (set u.inputs (input_port m.k w) (drop 1 (replies_at u.inputs (input_port m.k w)))) →
+      net_of (put_at n place t) ≡ first_reply_taken (net_of m) s w
   reply_take_net n m s w place u t found wire same =
       let k : m.k ≡ n.k = ap (λ (l : NetworkLists). l.k) (sym found.view) in
       let on : w < 2 ^ n.k = subst (λ (l : NetworkLists). w < 2 ^ l.k) (sym found.view) wire in

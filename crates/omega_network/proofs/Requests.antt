@@ -1,5 +1,6 @@
 -- A request that is accepted at a switch, or taken from it, in a network of places.
-use Rattle.std.proofs.Common.{◌≡◌, ℕ, suc, ◌/◌, ◌%◌, ◌^◌, ◌<◌, Bool, true, false, List, [], ◌∷◌, ◌++◌, length, drop, nat_lt, Option, Some, None, refl, sym, ap, ◌∙◌, subst, arith, lt-ltb, get_or-set_same, get_or-set_other}
+use Rattle.std.proofs.Common.{◌≡◌, ℕ, suc, ◌/◌, ◌%◌, ◌^◌, ◌<◌, Bool, true, false, List, [], ◌∷◌, ◌++◌, length, drop, nat_lt, Option, Some, None, refl, sym, ap}
+use Rattle.std.proofs.Common.{◌∙◌, subst, arith, lt-ltb, get_or-set_same, get_or-set_other}
 use Rattle.std.specs.Prelude.{if◌then◌else◌}
 use Rattle.omega_wires.specs.Laws.{RotationsAreInverse, RotationsStayOnWires}
 use Rattle.messages.specs.declared.message.Request.{Request}
@@ -63,7 +64,8 @@ accepted_there z net s w o x marks is =
 
     go : (j i : Option Combination) → j ≡ i
         → ((accepted_as o x j).0 ≡ (accepted_where z net s w x i).0) × (after net s w (accepted_as o x j).1 ≡ (accepted_where z net s w x i).1)
-    go None None e = queue (nat_lt (length o.requests) o.c) (nat_lt (length (net.requests (suc s) w)) z.c) refl (λ i. nat_lt (length (is.requests_are i)) (is.c_is i)) refl
+    go None None e =
+        queue (nat_lt (length o.requests) o.c) (nat_lt (length (net.requests (suc s) w)) z.c) refl (λ i. nat_lt (length (is.requests_are i)) (is.c_is i)) refl
     go (Some j) (Some i) e =
         let same : j ≡ i = cc in (
           ap (λ (k : Combination). Combined k.made.leader) same,
@@ -108,9 +110,12 @@ module _ (inverse : RotationsAreInverse) (on_wires : RotationsStayOnWires)
 
   output_put : (o : OutputLists) → net_of (with_switch n s (w / 2) (with_output u (w % 2) o)) ≡ after (net_of n) s w o
   output_put o = λ j. record {
-    requests = (requests_put n found.is s w stage wire_is t (λ v l away. ap (λ (p : OutputLists). p.requests) (other v away)) ∙ (λ i. put2 (requests_before n) (suc s) w ((here i).requests))) j;
-    records = (records_put n found.is s w stage wire_is t (λ v l away. ap (λ (p : OutputLists). p.records) (other v away)) ∙ (λ i. put2 (records_behind n) s w ((here i).records))) j;
-    replies = replies_left inverse on_wires n found.is s (w / 2) stage (number_is n m s (w / 2) place u found) t (ap (λ (v : SwitchLists). v.inputs) found_switch) j;
+    requests = (requests_put n found.is s w stage wire_is t (λ v l away. ap (λ (p : OutputLists). p.requests) (other v away))
+        ∙ (λ i. put2 (requests_before n) (suc s) w ((here i).requests))) j;
+    records = (records_put n found.is s w stage wire_is t (λ v l away. ap (λ (p : OutputLists). p.records) (other v away))
+        ∙ (λ i. put2 (records_behind n) s w ((here i).records))) j;
+    replies =
+        replies_left inverse on_wires n found.is s (w / 2) stage (number_is n m s (w / 2) place u found) t (ap (λ (v : SwitchLists). v.inputs) found_switch) j;
   }
     where
       t : SwitchLists
@@ -125,14 +130,17 @@ module _ (inverse : RotationsAreInverse) (on_wires : RotationsStayOnWires)
   put_there : (t : SwitchLists) (o : OutputLists) → t ≡ with_output u (w % 2) o → net_of (put_at n place t) ≡ after (net_of n) s w o
   put_there t o same = ap net_of (put_is n m s (w / 2) place u found t) ∙ ap (λ v. net_of (with_switch n s (w / 2) v)) same ∙ output_put o
 
-  pub accept_net : (x : Request) (t : SwitchLists) (result : Accepted) → result ≡ (accepted (output_of u (w % 2)) x).0 → t ≡ with_output u (w % 2) (accepted (output_of u (w % 2)) x).1
+  pub accept_net : (x : Request) (t : SwitchLists) (result : Accepted) → result ≡ (accepted (output_of u (w % 2)) x).0 →
+      t ≡ with_output u (w % 2) (accepted (output_of u (w % 2)) x).1
       → (result ≡ (accepted_on (sizes_of m) (net_of m) s w x).0) × (net_of (put_at n place t) ≡ (accepted_on (sizes_of m) (net_of m) s w x).1)
   accept_net x t result answer same =
       let there = accepted_there (sizes_of n) (net_of n) s w (output_of u (w % 2)) x refl output_is in
-      subst (λ (l : NetworkLists). (result ≡ (accepted_on (sizes_of l) (net_of l) s w x).0) × (net_of (put_at n place t) ≡ (accepted_on (sizes_of l) (net_of l) s w x).1)) found.view
+      subst (λ (l : NetworkLists). (result ≡ (accepted_on (sizes_of l) (net_of l) s w x).0)
+      × (net_of (put_at n place t) ≡ (accepted_on (sizes_of l) (net_of l) s w x).1)) found.view
       (answer ∙ there.0, put_there t (accepted (output_of u (w % 2)) x).1 same ∙ there.1)
 
-  pub take_net : (t : SwitchLists) → t ≡ with_requests u (w % 2) (drop 1 (requests_at u (w % 2))) → net_of (put_at n place t) ≡ first_request_taken (net_of m) (suc s) w
+  pub take_net : (t : SwitchLists) → t ≡ with_requests u (w % 2) (drop 1 (requests_at u (w % 2))) →
+      net_of (put_at n place t) ≡ first_request_taken (net_of m) (suc s) w
   take_net t same =
       let is = output_is in
       subst (λ (l : NetworkLists). net_of (put_at n place t) ≡ first_request_taken (net_of l) (suc s) w) found.view

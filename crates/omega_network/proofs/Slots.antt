@@ -65,12 +65,14 @@ unfolding module_replied
 module_reply_net z net w y free = ap (λ q. put_replies net z.k w (q ++ y ∷ [])) (sym free)
 
 module _ (inverse : RotationsAreInverse) (on_wires : RotationsStayOnWires) where
-  pub front_net : (n m : NetworkLists) (s w place : ℕ) (u : SwitchLists) → Found n m s (w / 2) place u → w < 2 ^ m.k → requests_at u (w % 2) ≡ requests_before m (suc s) w
+  pub front_net : (n m : NetworkLists) (s w place : ℕ) (u : SwitchLists) → Found n m s (w / 2) place u → w < 2 ^ m.k →
+      requests_at u (w % 2) ≡ requests_before m (suc s) w
   unfolding requests_before
   front_net n m s w place u found wire =
       at_place inverse on_wires n m s w place u found wire requests_at ∙ ap (λ (l : NetworkLists). requests_before l (suc s) w) found.view
 
-  pub reply_front_net : (n m : NetworkLists) (s w place : ℕ) (u : SwitchLists) → Found n m s (switch_of m.k w) place u → w < 2 ^ m.k → replies_at u.inputs (input_port m.k w) ≡ replies_before m s w
+  pub reply_front_net : (n m : NetworkLists) (s w place : ℕ) (u : SwitchLists) → Found n m s (switch_of m.k w) place u → w < 2 ^ m.k →
+      replies_at u.inputs (input_port m.k w) ≡ replies_before m s w
   reply_front_net n m s w place u found wire =
       ap (λ (t : SwitchLists). replies_at t.inputs (input_port m.k w)) (switch_is n m s (switch_of m.k w) place u found)
       ∙ ap (λ (l : NetworkLists). replies_at (switch_at l s (switch_of m.k w)).inputs (input_port m.k w)) found.view

@@ -1,5 +1,6 @@
 -- Where the switches of a network stand, and what is read of them after one is replaced.
-use Rattle.std.proofs.Common.{◌≡◌, ℕ, zero, suc, ◌+◌, ◌-◌, ◌*◌, ◌/◌, ◌%◌, ◌^◌, ◌<◌, ◌≤◌, List, length, ◌⊎◌, inl, inr, sym, ap, ◌∙◌, arith, get_or-set_same, get_or-set_other, mul-le-mul_right, pow-suc}
+use Rattle.std.proofs.Common.{◌≡◌, ℕ, zero, suc, ◌+◌, ◌-◌, ◌*◌, ◌/◌, ◌%◌, ◌^◌, ◌<◌, ◌≤◌, List, length, ◌⊎◌, inl, inr, sym, ap, ◌∙◌, arith, get_or-set_same}
+use Rattle.std.proofs.Common.{get_or-set_other, mul-le-mul_right, pow-suc}
 use Rattle.std.proofs.lemmas.Bool.{cases_eq}
 use Rattle.std.proofs.lemmas.Nat.{mod-mul-add, div-mul-add}
 use Rattle.combining_switch.specs.Switches.{SwitchLists, empty_switch}
@@ -49,7 +50,8 @@ module _ (n : NetworkLists) (s i : ℕ) (t : SwitchLists) (stage : s < n.k) (num
   read_kept {X} f same s' i' v l m = go (cases_eq s' s) (cases_eq i' i)
     where
       go : (s' ≡ s) ⊎ (s' ≡ s → ⊥) → (i' ≡ i) ⊎ (i' ≡ i → ⊥) → f (switch_at (with_switch n s i t) s' i') v ≡ f (switch_at n s' i') v
-      go (inl a) (inl b) = (λ j. f (switch_at (with_switch n s i t) (a j) (b j)) v) ∙ ap (λ u. f u v) switch_put ∙ same v m ∙ (λ j. f (switch_at n (sym a j) (sym b j)) v)
+      go (inl a) (inl b) =
+          (λ j. f (switch_at (with_switch n s i t) (a j) (b j)) v) ∙ ap (λ u. f u v) switch_put ∙ same v m ∙ (λ j. f (switch_at n (sym a j) (sym b j)) v)
       go (inl a) (inr b) = ap (λ u. f u v) (switch_kept s' i' l (λ _ e. b e))
       go (inr a) _ = ap (λ u. f u v) (switch_kept s' i' l (λ e _. a e))
 

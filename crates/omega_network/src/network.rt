@@ -36,7 +36,14 @@ impl Model for Network {
 
     ghost view = { λ n. record { k = n.k; c = n.c; b = n.b; slots = n.slots.items; switches = n.switches.items; module_slots = n.module_slots.items } };
 
-    ghost invariant = { λ n. IsNetwork (record { k = n.k; c = n.c; b = n.b; slots = n.slots.items; switches = n.switches.items; module_slots = n.module_slots.items }) };
+    ghost invariant = { λ n. IsNetwork (record {
+      k = n.k;
+      c = n.c;
+      b = n.b;
+      slots = n.slots.items;
+      switches = n.switches.items;
+      module_slots = n.module_slots.items;
+    }) };
 }
 
 impl Network {

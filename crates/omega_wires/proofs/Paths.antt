@@ -1,5 +1,6 @@
 -- The laws of the wiring.
-use Rattle.std.proofs.Common.{◌≡◌, ℕ, zero, suc, ◌+◌, ◌-◌, ◌*◌, ◌/◌, ◌%◌, ◌^◌, ◌<◌, ◌≤◌, refl, sym, ap, ap₂, ◌∙◌, subst, arith, pow-suc, pow-add, pow_pos, mul-le-mul_right, mod-eq_of_lt, mul_comm, mul_assoc}
+use Rattle.std.proofs.Common.{◌≡◌, ℕ, zero, suc, ◌+◌, ◌-◌, ◌*◌, ◌/◌, ◌%◌, ◌^◌, ◌<◌, ◌≤◌, refl, sym, ap, ap₂, ◌∙◌, subst, arith, pow-suc, pow-add, pow_pos}
+use Rattle.std.proofs.Common.{mul-le-mul_right, mod-eq_of_lt, mul_comm, mul_assoc}
 use Rattle.std.proofs.lemmas.Nat.{div-mul-add, mod-mul-add, mod-pow-add, mod_below, shr_below, shr-shr, div-add-mod'}
 use Rattle.std.proofs.Common.{inl, inr, bit_and}
 use Rattle.std.proofs.lemmas.Nat.{and_mask}
@@ -33,7 +34,8 @@ bit-lt : (i m : ℕ) → bit i m < 2
 bit-lt i m = mod_below (m / 2 ^ i) 2 (omega arith)
 
 -- what stands on a wire of p's path before stage s, where t bits of p are still to be replaced after the first
-first_bit : (p s t Q : ℕ) → Q < 2 ^ s → ((p % 2 ^ (suc t)) * 2 ^ s + Q ≡ bit t p * (2 ^ t * 2 ^ s) + ((p % 2 ^ t) * 2 ^ s + Q)) × ((p % 2 ^ t) * 2 ^ s + Q < 2 ^ t * 2 ^ s)
+first_bit : (p s t Q : ℕ) → Q < 2 ^ s → ((p % 2 ^ (suc t)) * 2 ^ s + Q ≡ bit t p * (2 ^ t * 2 ^ s) + ((p % 2 ^ t) * 2 ^ s + Q))
+    × ((p % 2 ^ t) * 2 ^ s + Q < 2 ^ t * 2 ^ s)
 first_bit p s t Q q =
     let e : p % 2 ^ (suc t) ≡ bit t p * 2 ^ t + p % 2 ^ t = ap (λ n. p % 2 ^ n) (one_more t) ∙ mod-pow-add p 1 t in
     let l : p % 2 ^ t < 2 ^ t = mod_below p (2 ^ t) (pow_pos t) in
@@ -53,7 +55,8 @@ half_count k s t e =
 
 after_is : (k s t top L m : ℕ) → s + suc t ≡ k → L < 2 ^ t * 2 ^ s → top < 2 → wire_after k s (top * (2 ^ t * 2 ^ s) + L) m ≡ 2 * L + bit (k - 1 - s) m
 unfolding wire_after
-after_is k s t top L m e l b = ap (λ n. 2 * (n / 2) + bit (k - 1 - s) m) (rotated_is k (2 ^ t * 2 ^ s) top L (half_count k s t e) l) ∙ ap (λ n. 2 * n + bit (k - 1 - s) m) (half_of L top b)
+after_is k s t top L m e l b = ap (λ n. 2 * (n / 2) + bit (k - 1 - s) m) (rotated_is k (2 ^ t * 2 ^ s) top L (half_count k s t e) l)
+    ∙ ap (λ n. 2 * n + bit (k - 1 - s) m) (half_of L top b)
 
 pub record Shape (k p m s t : ℕ) : Type 0 where
   pub low : ℕ
@@ -70,7 +73,8 @@ shape k p m h (suc s) t e =
     let f = first_bit p s (suc t) g.low g.small in
     let L : ℕ = (p % 2 ^ suc t) * 2 ^ s + g.low in
     let b : ℕ = bit (k - 1 - s) m in
-    let now : wire_after k s (path k p m s) m ≡ 2 * L + b = ap (λ w. wire_after k s w m) (g.is ∙ f.0) ∙ after_is k s (suc t) (bit (suc t) p) L m (omega arith) f.1 (bit-lt (suc t) p) in
+    let now : wire_after k s (path k p m s) m ≡ 2 * L + b =
+    ap (λ w. wire_after k s w m) (g.is ∙ f.0) ∙ after_is k s (suc t) (bit (suc t) p) L m (omega arith) f.1 (bit-lt (suc t) p) in
     let two : 2 ^ suc s ≡ 2 ^ s * 2 = pow-suc 2 s in
     record {
       low = 2 * g.low + b;
@@ -89,7 +93,8 @@ before_path k p m s l h =
     let g = shape k p m h s t e in
     let f = first_bit p s t g.low g.small in
     let L : ℕ = (p % 2 ^ t) * 2 ^ s + g.low in
-    let next : path k p m (suc s) ≡ 2 * L + bit t m = path_suc k p m s ∙ ap (λ w. wire_after k s w m) (g.is ∙ f.0) ∙ after_is k s t (bit t p) L m e f.1 (bit-lt t p) in
+    let next : path k p m (suc s) ≡ 2 * L + bit t m =
+    path_suc k p m s ∙ ap (λ w. wire_after k s w m) (g.is ∙ f.0) ∙ after_is k s t (bit t p) L m e f.1 (bit-lt t p) in
     let half : path k p m (suc s) / 2 ≡ L = ap (λ w. w / 2) next ∙ half_of L (bit t m) (bit-lt t m) in
     let i : k - 1 ≡ t + s = omega arith in
     ap (λ n. rotated_right k (2 * n + bit t p)) half
@@ -110,7 +115,8 @@ path_lt k p m (suc s) l h =
     let g = shape k p m h s t e in
     let f = first_bit p s t g.low g.small in
     let L : ℕ = (p % 2 ^ t) * 2 ^ s + g.low in
-    let next : path k p m (suc s) ≡ 2 * L + bit (k - 1 - s) m = path_suc k p m s ∙ ap (λ w. wire_after k s w m) (g.is ∙ f.0) ∙ after_is k s t (bit t p) L m e f.1 (bit-lt t p) in
+    let next : path k p m (suc s) ≡ 2 * L + bit (k - 1 - s) m =
+    path_suc k p m s ∙ ap (λ w. wire_after k s w m) (g.is ∙ f.0) ∙ after_is k s t (bit t p) L m e f.1 (bit-lt t p) in
     let b = bit-lt (k - 1 - s) m in
     let half = half_count k s t e in
     let low = f.1 in
@@ -134,7 +140,8 @@ low_is k p m h b (suc s) t e =
     let f = first_bit p s (suc t) (m / 2 ^ suc (suc t)) q in
     let L : ℕ = (p % 2 ^ suc t) * 2 ^ s + m / 2 ^ suc (suc t) in
     let i : k - 1 - s ≡ suc t = omega arith in
-    let now : wire_after k s (path k p m s) m ≡ 2 * L + bit (suc t) m = ap (λ w. wire_after k s w m) (g ∙ f.0) ∙ after_is k s (suc t) (bit (suc t) p) L m (omega arith) f.1 (bit-lt (suc t) p) ∙ ap (λ n. 2 * L + bit n m) i in
+    let now : wire_after k s (path k p m s) m ≡ 2 * L + bit (suc t) m =
+    ap (λ w. wire_after k s w m) (g ∙ f.0) ∙ after_is k s (suc t) (bit (suc t) p) L m (omega arith) f.1 (bit-lt (suc t) p) ∙ ap (λ n. 2 * L + bit n m) i in
     now ∙ regroup (p % 2 ^ suc t) (2 ^ s) (m / 2 ^ suc (suc t)) (bit (suc t) m)
     ∙ ap₂ (λ a c. (p % 2 ^ suc t) * a + c) (sym (pow-suc 2 s)) (two_of m (suc t))
   where
@@ -145,7 +152,8 @@ low_is k p m h b (suc s) t e =
     one_more t = omega arith
 
     two_of : (m t : ℕ) → 2 * (m / 2 ^ suc t) + bit t m ≡ m / 2 ^ t
-    two_of m t = ap (λ n. 2 * n + bit t m) (ap (λ n. m / 2 ^ n) (one_more t) ∙ sym (shr-shr m t 1)) ∙ ap (λ n. n + bit t m) (mul_comm 2 (m / 2 ^ t / 2)) ∙ div-add-mod' (m / 2 ^ t) 2
+    two_of m t = ap (λ n. 2 * n + bit t m) (ap (λ n. m / 2 ^ n) (one_more t) ∙ sym (shr-shr m t 1)) ∙ ap (λ n. n + bit t m) (mul_comm 2 (m / 2 ^ t / 2))
+        ∙ div-add-mod' (m / 2 ^ t) 2
 
 -- each path ends at its module
 pub path_end : (k p m : ℕ) → p < 2 ^ k → m < 2 ^ k → path k p m k ≡ m
@@ -169,7 +177,8 @@ path_end (suc s) p m h b =
 -- ---- rotations
 
 -- a wire by its highest bit and the rest, and by its lowest bit and the rest
-rotations : (k L top : ℕ) → L < 2 ^ k → top < 2 → (rotated_left (suc k) (top * 2 ^ k + L) ≡ 2 * L + top) × (rotated_right (suc k) (2 * L + top) ≡ top * 2 ^ k + L)
+rotations : (k L top : ℕ) → L < 2 ^ k → top < 2 →
+    (rotated_left (suc k) (top * 2 ^ k + L) ≡ 2 * L + top) × (rotated_right (suc k) (2 * L + top) ≡ top * 2 ^ k + L)
 rotations k L top l b = (
   rotated_is (suc k) (2 ^ k) top L (pow-suc 2 k ∙ mul_comm (2 ^ k) 2) l,
   ap₂ (λ a c. a + c * 2 ^ (suc k - 1)) (half_of L top b) (odd_of L top b) ∙ ap (λ n. L + top * 2 ^ n) (one_less k) ∙ turned L (top * 2 ^ k),

@@ -1,7 +1,8 @@
 //! What holds of every way through the network. Each is the contract of a function that does
 //! nothing.
 
-ghost use Rattle.omega_wires.specs.Laws.{PathEndsAtTheModule, PathsStayOnWires, PathsThatMeetStayTogether, RepliesEndAtTheirLeader, RepliesGoBackTheSameWay, RotationsAreInverse, RotationsStayOnWires};
+ghost use Rattle.omega_wires.specs.Laws.{PathEndsAtTheModule, PathsStayOnWires, PathsThatMeetStayTogether, RepliesEndAtTheirLeader, RepliesGoBackTheSameWay};
+ghost use Rattle.omega_wires.specs.Laws.{RotationsAreInverse, RotationsStayOnWires};
 
 /// Each rotation undoes the other, and both give wires.
 pub fn rotations_are_inverse()

@@ -9,5 +9,8 @@ pub lines_more : LinesGoOn
 lines_more choice m number [] e = append-nil (chosen_line choice m number e) ∙ ap (λ n. chosen_line choice m n e) (omega arith)
 lines_more choice m number (x ∷ xs) e =
     let there : number + 1 + length xs ≡ number + length (x ∷ xs) = omega arith in
-    ap (λ rest. chosen_line choice m number x ++ rest) (lines_more choice (flat_step m x) (number + 1) xs e ∙ ap (λ n. lines_from choice (flat_step m x) (number + 1) xs ++ chosen_line choice (flat_run (flat_step m x) xs) n e) there)
-    ∙ sym (append_assoc (chosen_line choice m number x) (lines_from choice (flat_step m x) (number + 1) xs) (chosen_line choice (flat_run m (x ∷ xs)) (number + length (x ∷ xs)) e))
+    ap (λ rest. chosen_line choice m number x ++ rest)
+    (lines_more choice (flat_step m x) (number + 1) xs e
+    ∙ ap (λ n. lines_from choice (flat_step m x) (number + 1) xs ++ chosen_line choice (flat_run (flat_step m x) xs) n e) there)
+    ∙ sym (append_assoc (chosen_line choice m number x) (lines_from choice (flat_step m x) (number + 1) xs)
+    (chosen_line choice (flat_run m (x ∷ xs)) (number + length (x ∷ xs)) e))

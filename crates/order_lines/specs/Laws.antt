@@ -26,4 +26,5 @@ RetiredTurnsHaveWords = (m : FlatState) (k : ℕ) (p : Processor) (r : Retired) 
 
 -- a turn that stops its processor acts on no shared word
 abbrev pub StoppedTurnsHaveNone : Type 0
-StoppedTurnsHaveNone = (m : FlatState) (k : ℕ) (cause : Cause) → flat_event m (entry.Processor k) ≡ Some (event.Stopped cause) → word_of m (entry.Processor k) ≡ None
+StoppedTurnsHaveNone =
+    (m : FlatState) (k : ℕ) (cause : Cause) → flat_event m (entry.Processor k) ≡ Some (event.Stopped cause) → word_of m (entry.Processor k) ≡ None

@@ -52,7 +52,8 @@ fn push_event(alloc: Global, text: &mut String, event: &Event) -> Result<(), All
 
 /// Appends an instruction, and what it gave.
 fn push_retired(alloc: Global, text: &mut String, retired: &Retired) -> Result<(), AllocError>
-    ensures { OnOk result (string_bytes text.new ≡ string_bytes text.old ++ text_of retired.now.insn ++ result_text retired.now.result ++ console_text retired.now.out) }
+    ensures { OnOk result (string_bytes text.new ≡ string_bytes text.old ++ text_of retired.now.insn ++ result_text retired.now.result
+        ++ console_text retired.now.out) }
 {
     let mut written = ArrayString::new();
     disassemble(&retired.insn, &mut written);

@@ -57,7 +57,8 @@ identity_first (ClampU r) (ClampU s) t = (_, refl)
 identity_first i f t = (f, rw t refl)
 
 -- and with every function before it
-across_second : (f i : Phi) (a c k : Bool) → is_identity i ≡ true → (h : Phi) × ((if a || c then Some i else if is_identity i then Some f else if k then Some (Bits 0 (apply i (apply f 0))) else None) ≡ Some h)
+across_second : (f i : Phi) (a c k : Bool) → is_identity i ≡ true →
+    (h : Phi) × ((if a || c then Some i else if is_identity i then Some f else if k then Some (Bits 0 (apply i (apply f 0))) else None) ≡ Some h)
 across_second f i true c k t = (i, refl)
 across_second f i false true k t = (i, refl)
 across_second f i false false k t = (f, rw t refl)

@@ -1,5 +1,6 @@
 -- The composition is one, and there is none only where the functions are apart.
-use Rattle.std.proofs.Common.{◌≡◌, ℕ, ◌+◌, ◌%◌, ◌^◌, ◌<◌, ◌≤◌, ◌≢◌, ◌↔◌, Bool, true, false, ◌||◌, refl, sym, ap, ◌∙◌, arith, min, max, ℤ, ◌≤ℤ◌, Option, Some, None, IsNone, IfSome, FitsSigned, if◌then◌else◌}
+use Rattle.std.proofs.Common.{◌≡◌, ℕ, ◌+◌, ◌%◌, ◌^◌, ◌<◌, ◌≤◌, ◌≢◌, ◌↔◌, Bool, true, false, ◌||◌, refl, sym, ap, ◌∙◌, arith, min, max, ℤ, ◌≤ℤ◌, Option, Some}
+use Rattle.std.proofs.Common.{None, IsNone, IfSome, FitsSigned, if◌then◌else◌}
 use Rattle.std.specs.Int.{w32, cast_signed, cast_unsigned, bit_at}
 use Rattle.std.specs.Int.Bits.{bit_and, bit_xor, xor_assoc}
 use Rattle.std.proofs.lemmas.Int.{ints, to_z-of_z}
@@ -22,7 +23,8 @@ and_xor a b m =
     same_from_bits _ _ (λ i.
     let left : bit_at (bit_and (bit_xor a b) m) i ≡ min (bit_at (bit_xor a b) i) (bit_at m i) = bit_at_and (bit_xor a b) m i in
     let inner : bit_at (bit_xor a b) i ≡ (bit_at a i + bit_at b i) % 2 = bit_at_xor a b i in
-    let right : bit_at (bit_xor (bit_and a m) (bit_and b m)) i ≡ (bit_at (bit_and a m) i + bit_at (bit_and b m) i) % 2 = bit_at_xor (bit_and a m) (bit_and b m) i in
+    let right : bit_at (bit_xor (bit_and a m) (bit_and b m)) i ≡ (bit_at (bit_and a m) i + bit_at (bit_and b m) i) % 2 =
+    bit_at_xor (bit_and a m) (bit_and b m) i in
     let first : bit_at (bit_and a m) i ≡ min (bit_at a i) (bit_at m i) = bit_at_and a m i in
     let second : bit_at (bit_and b m) i ≡ min (bit_at b i) (bit_at m i) = bit_at_and b m i in
     let a_bit : bit_at a i < 2 = bit_at-lt a i in
@@ -43,11 +45,13 @@ clamps_compose r s z p q = grind (arith, ints, p.ordered, q.ordered)
 as_max : (r : UnsignedEnds) (x : ℕ) → r.lo ≤ r.hi → clamped_unsigned r x ≡ max r.lo (min x r.hi)
 as_max r x h = grind arith
 
-clamps_compose_unsigned : (r s : UnsignedEnds) (x : ℕ) → r.lo ≤ r.hi → s.lo ≤ s.hi → clamped_unsigned (brought_unsigned r s) x ≡ clamped_unsigned s (clamped_unsigned r x)
+clamps_compose_unsigned : (r s : UnsignedEnds) (x : ℕ) → r.lo ≤ r.hi → s.lo ≤ s.hi →
+    clamped_unsigned (brought_unsigned r s) x ≡ clamped_unsigned s (clamped_unsigned r x)
 clamps_compose_unsigned r s x p q =
     let low : clamped_unsigned s r.lo ≡ max s.lo (min r.lo s.hi) = as_max s r.lo q in
     let high : clamped_unsigned s r.hi ≡ max s.lo (min r.hi s.hi) = as_max s r.hi q in
-    let left : clamped_unsigned (brought_unsigned r s) x ≡ max (clamped_unsigned s r.lo) (min x (clamped_unsigned s r.hi)) = as_max (brought_unsigned r s) x (omega arith) in
+    let left : clamped_unsigned (brought_unsigned r s) x ≡ max (clamped_unsigned s r.lo) (min x (clamped_unsigned s r.hi)) =
+    as_max (brought_unsigned r s) x (omega arith) in
     let inner : clamped_unsigned r x ≡ max r.lo (min x r.hi) = as_max r x p in
     let right : clamped_unsigned s (clamped_unsigned r x) ≡ max s.lo (min (clamped_unsigned r x) s.hi) = as_max s (clamped_unsigned r x) q in
     omega arith
@@ -97,7 +101,8 @@ composed_meaning f g p q = across_meaning f g p
 
 -- ---- none
 
-none_by : (f g : Phi) (i c j k : Bool) → kind_of f ≢ kind_of g → (i ≡ true ↔ IsIdentity f) → (c ≡ true ↔ IsConstant g) → (j ≡ true ↔ IsIdentity g) → (k ≡ true ↔ IsConstant f) →
+none_by : (f g : Phi) (i c j k : Bool) → kind_of f ≢ kind_of g → (i ≡ true ↔ IsIdentity f) → (c ≡ true ↔ IsConstant g) → (j ≡ true ↔ IsIdentity g) →
+    (k ≡ true ↔ IsConstant f) →
     (IsNone (if i || c then Some g else if j then Some f else if k then Some (Bits 0 (apply g (apply f 0))) else None) ↔ AreApart f g)
 none_by f g true c j k kinds ei ec ej ek = (λ n. absurd (cc), λ a. absurd (a.first_changes (ei.0 refl)))
 none_by f g false true j k kinds ei ec ej ek = (λ n. absurd (cc), λ a. absurd (a.second_varies (ec.0 refl)))

@@ -2,6 +2,5 @@
 
 -- Laws of composition.
 pub use Rattle.phi_algebra.proofs.Composed.{meaning_of, range_of}
-
 -- The composition is one, and there is none only where the functions are apart.
 pub use Rattle.phi_algebra.proofs.Composing.{value_small}

@@ -54,7 +54,8 @@ identity_there (Bits and xor) h x small =
 identity_there (Clamp r) h x small =
     let ends : (int_eq r.lo (negsuc (2 ^ 31 - 1)) ≡ true) × (int_eq r.hi (pos (2 ^ 31 - 1)) ≡ true) = both _ _ h in
     let same : clamped_signed r (cast_signed w32 x) ≡ cast_signed w32 x =
-    full_keeps r (cast_signed w32 x) ((Decides-int_eq r.lo (negsuc (2 ^ 31 - 1))).0 ends.0) ((Decides-int_eq r.hi (pos (2 ^ 31 - 1))).0 ends.1) (sfits_to_z (Fits-of_lt small)) in
+    full_keeps r (cast_signed w32 x) ((Decides-int_eq r.lo (negsuc (2 ^ 31 - 1))).0 ends.0) ((Decides-int_eq r.hi (pos (2 ^ 31 - 1))).0 ends.1)
+    (sfits_to_z (Fits-of_lt small)) in
     ap (cast_unsigned w32) same ∙ of_z-to_z w32 x small
 identity_there (ClampU r) h x small = grind (arith, nat_tests)
 
@@ -65,7 +66,8 @@ identity_back (Add e) w h =
     (Decides-eqb e 0).1 (omega arith)
 identity_back (Bits and xor) w h =
     let b : xor ≡ 0 = h 0 (omega arith) in
-    let a : and ≡ 2 ^ 32 - 1 = sym (and_comm (2 ^ 32 - 1) and ∙ kept and w.0) ∙ sym (xor_zero (bit_and (2 ^ 32 - 1) and)) ∙ ap (bit_xor (bit_and (2 ^ 32 - 1) and)) (sym b) ∙ h (2 ^ 32 - 1) (omega arith) in
+    let a : and ≡ 2 ^ 32 - 1 = sym (and_comm (2 ^ 32 - 1) and ∙ kept and w.0) ∙ sym (xor_zero (bit_and (2 ^ 32 - 1) and))
+    ∙ ap (bit_xor (bit_and (2 ^ 32 - 1) and)) (sym b) ∙ h (2 ^ 32 - 1) (omega arith) in
     rw (a, b) refl
 identity_back (Clamp r) w h =
     let lo_word : cast_unsigned w32 r.lo ≡ 2 ^ 31 = sym (at_lowest r w) ∙ h (2 ^ 31) (omega arith) in
@@ -113,7 +115,8 @@ bits_clear and xor w (y, h) =
 
 pub ends_meet : (r : SignedEnds) → IsSignedRange r → IsConstant (Clamp r) → r.lo ≡ r.hi
 ends_meet r w (y, h) =
-    let words : cast_unsigned w32 r.lo ≡ cast_unsigned w32 r.hi = sym (at_lowest r w) ∙ h (2 ^ 31) (omega arith) ∙ sym (h (2 ^ 31 - 1) (omega arith)) ∙ at_highest r w in
+    let words : cast_unsigned w32 r.lo ≡ cast_unsigned w32 r.hi =
+    sym (at_lowest r w) ∙ h (2 ^ 31) (omega arith) ∙ sym (h (2 ^ 31 - 1) (omega arith)) ∙ at_highest r w in
     sym (to_z-of_z w32 r.lo w.lo_fits) ∙ ap (cast_signed w32) words ∙ to_z-of_z w32 r.hi w.hi_fits
 
 pub ends_meet_unsigned : (r : UnsignedEnds) → IsUnsignedRange r → IsConstant (ClampU r) → r.lo ≡ r.hi

@@ -74,7 +74,8 @@ nothing offset word value =
     rw (upto, gone, none) (shr_split word (8 * offset))
 
 -- the lowest byte is written first, and then the others
-one_then_rest : (size offset word value : ℕ) → with_part size (offset + 1) (with_part 1 offset word value) (value / 256) ≡ with_part (suc size) offset word value
+one_then_rest : (size offset word value : ℕ) →
+    with_part size (offset + 1) (with_part 1 offset word value) (value / 256) ≡ with_part (suc size) offset word value
 unfolding with_part
 one_then_rest size offset word value =
     let j : ℕ = 8 * offset in

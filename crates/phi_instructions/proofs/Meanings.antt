@@ -116,13 +116,16 @@ stored_small and xor x h g = xor_lt 32 _ _ (omega (arith, and_le_l x and)) h
 
 -- what the code makes of ones, by shifts and masks
 pub stored : (size offset v : ℕ) → offset + size ≤ 4 →
-    Bits (2 ^ 32 - 1 - (2 ^ 32 - 1) / 2 ^ (32 - 8 * size) * 2 ^ (8 * offset) % 2 ^ 32) (bit_and v ((2 ^ 32 - 1) / 2 ^ (32 - 8 * size)) * 2 ^ (8 * offset) % 2 ^ 32) ≡ store_phi size offset v
+    Bits (2 ^ 32 - 1 - (2 ^ 32 - 1) / 2 ^ (32 - 8 * size) * 2 ^ (8 * offset) % 2 ^ 32)
+    (bit_and v ((2 ^ 32 - 1) / 2 ^ (32 - 8 * size)) * 2 ^ (8 * offset) % 2 ^ 32) ≡ store_phi size offset v
 unfolding store_phi
 stored size offset v fits =
     let k : ℕ = 8 * size in
     let back : 32 - (32 - k) ≡ k = omega arith in
     let ones : (2 ^ 32 - 1) / 2 ^ (32 - k) ≡ 2 ^ k - 1 = ones_shr 32 (32 - k) (omega arith) ∙ ap (λ y. 2 ^ y - 1) back in
     let value : bit_and v (2 ^ k - 1) ≡ v % 2 ^ k = and_mask v k in
-    let mask : (2 ^ k - 1) * 2 ^ (8 * offset) % 2 ^ 32 ≡ (2 ^ k - 1) * 2 ^ (8 * offset) = shifted (8 * offset) k (2 ^ k - 1) (omega arith) (omega (arith, pow_pos k)) in
-    let moved : v % 2 ^ k * 2 ^ (8 * offset) % 2 ^ 32 ≡ v % 2 ^ k * 2 ^ (8 * offset) = shifted (8 * offset) k (v % 2 ^ k) (omega arith) (mod_below _ _ (pow_pos k)) in
+    let mask : (2 ^ k - 1) * 2 ^ (8 * offset) % 2 ^ 32 ≡ (2 ^ k - 1) * 2 ^ (8 * offset) =
+    shifted (8 * offset) k (2 ^ k - 1) (omega arith) (omega (arith, pow_pos k)) in
+    let moved : v % 2 ^ k * 2 ^ (8 * offset) % 2 ^ 32 ≡ v % 2 ^ k * 2 ^ (8 * offset) =
+    shifted (8 * offset) k (v % 2 ^ k) (omega arith) (mod_below _ _ (pow_pos k)) in
     rw (ones, value, mask, moved) refl

@@ -50,7 +50,8 @@ put j k h v low small fits =
     both ∙ ap (λ x. x * 2 ^ j + bit_xor low 0) mid ∙ omega (arith, end)
 
 -- By masks and by division the same word comes out.
-pub masked : (j k m x v : ℕ) → x < 2 ^ (m + k + j) → bit_xor (bit_and x (2 ^ (m + k + j) - 1 - (2 ^ k - 1) * 2 ^ j)) (v % 2 ^ k * 2 ^ j) ≡ x / 2 ^ (j + k) * 2 ^ (j + k) + v % 2 ^ k * 2 ^ j + x % 2 ^ j
+pub masked : (j k m x v : ℕ) → x < 2 ^ (m + k + j) →
+    bit_xor (bit_and x (2 ^ (m + k + j) - 1 - (2 ^ k - 1) * 2 ^ j)) (v % 2 ^ k * 2 ^ j) ≡ x / 2 ^ (j + k) * 2 ^ (j + k) + v % 2 ^ k * 2 ^ j + x % 2 ^ j
 masked j k m x v h =
     let whole : x / 2 ^ (j + k) * 2 ^ k * 2 ^ j ≡ x / 2 ^ (j + k) * 2 ^ (j + k) = omega (arith, pow-add 2 j k, ap (λ y. x / 2 ^ (j + k) * y) (pow-add 2 j k)) in
     ap (λ y. bit_xor y (v % 2 ^ k * 2 ^ j)) (cleared j k m x h)

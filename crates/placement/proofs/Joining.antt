@@ -1,5 +1,6 @@
 -- What a combination is.
-use Rattle.std.proofs.Common.{◌≡◌, ℕ, zero, suc, ◌<◌, Bool, true, false, ◌&&◌, List, [], ◌∷◌, ◌++◌, length, ◌==◌, nat_lt, Option, Some, None, refl, sym, ap, ◌∙◌, arith, ltb-true, eqb-true, get_or, set}
+use Rattle.std.proofs.Common.{◌≡◌, ℕ, zero, suc, ◌<◌, Bool, true, false, ◌&&◌, List, [], ◌∷◌, ◌++◌, length, ◌==◌, nat_lt, Option, Some, None, refl, sym, ap}
+use Rattle.std.proofs.Common.{◌∙◌, arith, ltb-true, eqb-true, get_or, set}
 use Rattle.std.specs.Prelude.{if◌then◌else◌}
 use Rattle.std.proofs.lemmas.Bool.{and_parts}
 use Rattle.phi_algebra.specs.declared.phi.Phi.{Phi}
@@ -7,7 +8,8 @@ use Rattle.phi_algebra.specs.Composition.{composed}
 use Rattle.messages.specs.declared.message.Request.{Request}
 use Rattle.messages.specs.declared.message.Record.{Record}
 use Rattle.messages.specs.Queues as queues
-use Rattle.messages.specs.Queues.{applied, Combination, joint, merged, record_of, combined_in, combination, unmarked, records_of, records_but, reply_of, answers}
+use Rattle.messages.specs.Queues.{applied, Combination, joint, merged, record_of, combined_in, combination, unmarked, records_of, records_but, reply_of}
+use Rattle.messages.specs.Queues.{answers}
 
 pub record Joins (r : ℕ) (x : Request) (q : List Request) (j : Combination) : Type 0 where
   pub front : List Request

@@ -1,5 +1,6 @@
 -- How single changes keep the meaning.
-use Rattle.std.proofs.Common.{◌≡◌, ℕ, suc, ◌<◌, Bool, true, false, List, [], ◌∷◌, ◌++◌, map, ◌⊎◌, inl, inr, Option, Some, None, refl, sym, ap, ap₂, ◌∙◌, subst, arith}
+use Rattle.std.proofs.Common.{◌≡◌, ℕ, suc, ◌<◌, Bool, true, false, List, [], ◌∷◌, ◌++◌, map, ◌⊎◌, inl, inr, Option, Some, None, refl, sym, ap, ap₂, ◌∙◌, subst}
+use Rattle.std.proofs.Common.{arith}
 use Rattle.std.proofs.lemmas.Bool.{cases_eq, true≢false}
 use Rattle.phi_algebra.specs.declared.phi.Phi.{Phi}
 use Rattle.phi_algebra.specs.Functions.{IsInRange}
@@ -17,7 +18,8 @@ use Rattle.placement.specs.Changes.{ServingExecutesTheGroup, ServingEndsTheGroup
 use Rattle.placement.specs.Meaning.{RequestMeans, ReplyMeans, Means, Groups, execute_all, joined}
 use Rattle.placement.proofs.Algebra.{composed_law, composed_in_range}
 use Rattle.messages.proofs.Lemmas.{Distinct-append, In-append, In-append_left, In-append_right, In-put2, put2_other, put2_same, put_other, put_same}
-use Rattle.placement.proofs.Giving.{finds-append, leaves-append, gives_frame, gives_below, gives_further, gives_more, gives_leader, gives_second, gives_unnamed, finds_agree, leaves_agree, leaves_one, finds_one, gives_first, gives_leads, In-finds}
+use Rattle.placement.proofs.Giving.{finds-append, leaves-append, gives_frame, gives_below, gives_further, gives_more, gives_leader, gives_second}
+use Rattle.placement.proofs.Giving.{gives_unnamed, finds_agree, leaves_agree, leaves_one, finds_one, gives_first, gives_leads, In-finds}
 use Rattle.placement.proofs.Records.{In-records_on, records_other_stage, records_push_other, records_push_same, records_drop_other, records_path}
 use Rattle.placement.proofs.Roles.{others_request}
 use Rattle.placement.proofs.Executing.{executed_other, executed_owed}

@@ -1,6 +1,7 @@
 //! What combining, answering and serving do. Each is the contract of a function that does nothing.
 
-ghost use Rattle.placement.specs.Changes.{AnsweringGivesEachItsOwn, AnsweringKeepsPlaces, CombiningJoinsGroups, CombiningKeepsPlaces, ServingEndsTheGroup, ServingExecutesTheGroup};
+ghost use Rattle.placement.specs.Changes.{AnsweringGivesEachItsOwn, AnsweringKeepsPlaces, CombiningJoinsGroups, CombiningKeepsPlaces, ServingEndsTheGroup};
+ghost use Rattle.placement.specs.Changes.{ServingExecutesTheGroup};
 
 /// A request that is combined with an entry of a queue: all stand where their roles say, and the entry
 /// stands for both groups.

@@ -1,5 +1,6 @@
 -- A result of the flat machine is one of the machine: whole instructions, one after another.
-use Rattle.std.proofs.Common.{◌≡◌, ◌⊎◌, inl, inr, ℕ, zero, suc, ◌<◌, ◌^◌, Bool, true, false, List, [], ◌∷◌, ◌++◌, Option, Some, None, map, refl, sym, ap, ap₂, subst, ◌∙◌, nat_lt, append_assoc, lt-ltb}
+use Rattle.std.proofs.Common.{◌≡◌, ◌⊎◌, inl, inr, ℕ, zero, suc, ◌<◌, ◌^◌, Bool, true, false, List, [], ◌∷◌, ◌++◌, Option, Some, None, map, refl, sym, ap, ap₂}
+use Rattle.std.proofs.Common.{subst, ◌∙◌, nat_lt, append_assoc, lt-ltb}
 use Rattle.std.specs.Prelude.{slice_get, slice_index, slice_index_or}
 use Rattle.std.proofs.lemmas.Bool.{true≢false}
 use Rattle.std.proofs.lemmas.List.{append-nil}
@@ -47,7 +48,8 @@ of_both : (xs ys : List Step) → AreOfTheMachine xs → AreOfTheMachine ys → 
 of_both [] ys h g = g
 of_both (x ∷ xs) ys h g = (h.0, of_both xs ys h.1 g)
 
-after_both : (c : Config) (code : List ℕ) (xs ys : List Step) (N : theory.Machine Told) → all_after c code N (xs ++ ys) ≡ all_after c code (all_after c code N xs) ys
+after_both : (c : Config) (code : List ℕ) (xs ys : List Step) (N : theory.Machine Told) →
+    all_after c code N (xs ++ ys) ≡ all_after c code (all_after c code N xs) ys
 unfolding all_after
 after_both c code [] ys N = refl
 after_both c code (x ∷ xs) ys N = after_both c code xs ys (after c code N x)
@@ -74,7 +76,8 @@ no_turn : (F : FlatState) (k : ℕ) → ((p : Processor) → slice_get F.process
 unfolding flat_step flat_event
 no_turn F k stands = by (slice_get F.processors k) refl
   where
-    by : (o : Option Processor) → slice_get F.processors k ≡ o → (turned F k (slice_get F.processors k) ≡ F) × (with_processor_number (entry.Processor k) (turn_event F k (slice_get F.processors k)) ≡ [])
+    by : (o : Option Processor) → slice_get F.processors k ≡ o →
+        (turned F k (slice_get F.processors k) ≡ F) × (with_processor_number (entry.Processor k) (turn_event F k (slice_get F.processors k)) ≡ [])
     by None e = (ap (turned F k) e, ap (λ o. with_processor_number (entry.Processor k) (turn_event F k o)) e)
     by (Some p) e =
         let still : is_running p.status ≡ false = stands p e in
@@ -107,20 +110,27 @@ module _ (c : Config) (code : List ℕ) (limits : IsWithinLimits c) (bytes : Are
     where
       by : (o : Option theory.Step) → draining.drain_step (sizes_of c) h.machine ≡ o →
           ((st : theory.Step) → IsLone Told (sizes_of c) (program c code) k (pass (sizes_of c) (program c code) h st) →
-          Loned k (pass (sizes_of c) (program c code) h st) (draining.drain_steps (sizes_of c) (program c code) n (theory.step (sizes_of c) (program c code) h.machine st).machine)) →
-          Loned k h (elim o [ Some st ↦ st ∷ draining.drain_steps (sizes_of c) (program c code) n (theory.step (sizes_of c) (program c code) h.machine st).machine | None ↦ [] ])
+          Loned k (pass (sizes_of c) (program c code) h st)
+          (draining.drain_steps (sizes_of c) (program c code) n (theory.step (sizes_of c) (program c code) h.machine st).machine)) →
+          Loned k h (elim o [
+            | Some st ↦ st ∷ draining.drain_steps (sizes_of c) (program c code) n
+                (theory.step (sizes_of c) (program c code) h.machine st).machine
+            | None ↦ []
+          ])
       by None e more = (lone, tt)
       by (Some st) e more =
           let g = goes_on Told (sizes_of c) (program c code) k h lone st e in
           let l = more st g.0 in
           (l.0, (of_named h.machine st (drain_named Told h.machine (sizes_of c) st e), l.1))
 
-  passes_after : (sts : List theory.Step) (h : Passed Told) → (passes (sizes_of c) (program c code) sts h).machine ≡ theory.machine_after (sizes_of c) (program c code) sts h.machine
+  passes_after : (sts : List theory.Step) (h : Passed Told) →
+      (passes (sizes_of c) (program c code) sts h).machine ≡ theory.machine_after (sizes_of c) (program c code) sts h.machine
   unfolding passes theory.machine_after
   passes_after [] h = refl
   passes_after (st ∷ sts) h = passes_after sts (pass (sizes_of c) (program c code) h st)
 
-  module _ (k : ℕ) (N : theory.Machine Told) (role : ℕ → Role) (steady : Steady (sizes_of c) (program c code) N role) (shut : (p : ℕ) → N.is_open p ≡ false) where
+  module _ (k : ℕ) (N : theory.Machine Told) (role : ℕ → Role) (steady : Steady (sizes_of c) (program c code) N role) (shut : (p : ℕ) →
+      N.is_open p ≡ false) where
     abbrev first_of : Passed Told
     first_of = pass (sizes_of c) (program c code) (from_machine N) (theory.Turn k)
 
@@ -134,11 +144,13 @@ module _ (c : Config) (code : List ℕ) (limits : IsWithinLimits c) (bytes : Are
 
     -- after the turn and all steps of a drain
     drained : (lone : IsLone Told (sizes_of c) (program c code) k first_of) → (sts : List theory.Step) →
-        sts ≡ draining.drain_steps (sizes_of c) (program c code) (draining.drain_bound (sizes_of c)) first_of.machine → Loned k first_of sts → IsTurn k N (step.Turn k ∷ map step_of sts)
+        sts ≡ draining.drain_steps (sizes_of c) (program c code) (draining.drain_bound (sizes_of c)) first_of.machine → Loned k first_of sts →
+        IsTurn k N (step.Turn k ∷ map step_of sts)
     unfolding passes all_after after
     drained lone sts all l = record { own = (tt, l.1); order = order; shut = λ p. there_shut p }
       where
-        last_shut : (p : ℕ) → (passes (sizes_of c) (program c code) sts (pass (sizes_of c) (program c code) (from_machine N) (theory.Turn k))).machine.is_open p ≡ false
+        last_shut : (p : ℕ) → (passes (sizes_of c) (program c code) sts (pass (sizes_of c) (program c code) (from_machine N) (theory.Turn k))).machine.is_open
+            p ≡ false
         last_shut p =
             ap (λ (M : theory.Machine Told). M.is_open p) (passes_after sts first_of)
             ∙ ap (λ ss. (theory.machine_after (sizes_of c) (program c code) ss first_of.machine).is_open p) all
@@ -150,13 +162,16 @@ module _ (c : Config) (code : List ℕ) (limits : IsWithinLimits c) (bytes : Are
             ∙ ap (λ ss. (passes (sizes_of c) (program c code) ss first_of).machine.is_open p) (again sts)
             ∙ last_shut p
 
-        entered : IsAsking Told (sizes_of c) (program c code) k (passes (sizes_of c) (program c code) sts (pass (sizes_of c) (program c code) (from_machine N) (theory.Turn k)))
-            ⊎ IsAnswered Told (sizes_of c) (program c code) k (passes (sizes_of c) (program c code) sts (pass (sizes_of c) (program c code) (from_machine N) (theory.Turn k))) →
+        entered : IsAsking Told (sizes_of c) (program c code) k
+            (passes (sizes_of c) (program c code) sts (pass (sizes_of c) (program c code) (from_machine N) (theory.Turn k)))
+            ⊎ IsAnswered Told (sizes_of c) (program c code) k
+            (passes (sizes_of c) (program c code) sts (pass (sizes_of c) (program c code) (from_machine N) (theory.Turn k))) →
             (passes (sizes_of c) (program c code) sts (pass (sizes_of c) (program c code) (from_machine N) (theory.Turn k))).order ≡ turns (k ∷ [])
         entered (inl asking) = absurd (true≢false (sym asking.opened ∙ last_shut k))
         entered (inr answered) = answered.order
 
-        order : (passes (sizes_of c) (program c code) (map named (map step_of sts)) (pass (sizes_of c) (program c code) (from_machine N) (theory.Turn k))).order ≡ turns (k ∷ [])
+        order : (passes (sizes_of c) (program c code) (map named (map step_of sts))
+            (pass (sizes_of c) (program c code) (from_machine N) (theory.Turn k))).order ≡ turns (k ∷ [])
         order = ap (λ ss. (passes (sizes_of c) (program c code) ss first_of).order) (again sts) ∙ entered l.0.stage
 
     by_issue : theory.step (sizes_of c) (program c code) N (theory.Turn k) ≡ theory.issue (program c code) N k → (steps : List Step) × IsTurn k N steps
@@ -235,13 +250,20 @@ module _ (c : Config) (code : List ℕ) (limits : IsWithinLimits c) (bytes : Are
             ap (λ (M : theory.Machine Told). M.core p) (sym reached)
             ∙ explained.unserved p (explained.shut p (ap (λ (M : theory.Machine Told). M.is_open p) reached ∙ t.shut p))
             ∙ ap (λ es. flat_core es p) t.order
-            ∙ ap (λ es. record { state = slice_index_or (flat_step F (entry.Processor k)).processors p no_processor; events = with_events (λ j. []) es p }) (append-nil (one_events F k))
+            ∙ ap (λ es. record { state = slice_index_or (flat_step F (entry.Processor k)).processors p no_processor; events = with_events (λ j. []) es p })
+            (append-nil (one_events F k))
 
         word_there : (i : ℕ) → (all_after c code (forget N) steps).mem i ≡ slice_index (flat_step F (entry.Processor k)).shared i
         word_there i = ap (λ (M : theory.Machine Told). M.mem i) (sym reached) ∙ explained.words i ∙ ap (λ es. slice_index (flat_run F es).shared i) t.order
 
-        joined : (p : ℕ) → shift (events_of N) p (record { state = slice_index_or (flat_step F (entry.Processor k)).processors p no_processor; events = with_events (λ j. []) (one_events F k) p })
-            ≡ record { state = slice_index_or (flat_step F (entry.Processor k)).processors p no_processor; events = with_events (λ j. []) (events ++ one_events F k) p }
+        joined : (p : ℕ) → shift (events_of N) p (record {
+          state = slice_index_or (flat_step F (entry.Processor k)).processors p no_processor;
+          events = with_events (λ j. []) (one_events F k) p;
+        })
+            ≡ record {
+              state = slice_index_or (flat_step F (entry.Processor k)).processors p no_processor;
+              events = with_events (λ j. []) (events ++ one_events F k) p;
+            }
         joined p =
             ap (λ es. record { state = slice_index_or (flat_step F (entry.Processor k)).processors p no_processor; events = es })
             (ap (λ (g : Told). g.events ++ with_events (λ j. []) (one_events F k) p) (h.matches.cores p)
@@ -262,7 +284,8 @@ module _ (c : Config) (code : List ℕ) (limits : IsWithinLimits c) (bytes : Are
         ∙ rests (next c code k (N.core k).state) (is_running (N.core k).state.status) none
 
     by_none : (flat_step F (entry.Processor k) ≡ F) × (one_events F k ≡ []) → IsFlat N (flat_step F (entry.Processor k)) (events ++ one_events F k)
-    by_none same = subst (λ (z : FlatState × List (ℕ × Event)). IsFlat N z.0 z.1) (λ i. (sym same.0 i, (sym (append-nil events) ∙ ap (λ es. events ++ es) (sym same.1)) i)) h
+    by_none same = subst (λ (z : FlatState × List (ℕ × Event)). IsFlat N z.0 z.1)
+        (λ i. (sym same.0 i, (sym (append-nil events) ∙ ap (λ es. events ++ es) (sym same.1)) i)) h
 
     abbrev Goes : Type 0
     Goes = (steps : List Step) × AreOfTheMachine steps × IsFlat (all_after c code N steps) (flat_step F (entry.Processor k)) (events ++ one_events F k)
@@ -289,7 +312,10 @@ module _ (c : Config) (code : List ℕ) (limits : IsWithinLimits c) (bytes : Are
         one.0 ++ rest.0,
         of_both one.0 rest.0 one.1 rest.1,
         subst (λ (z : theory.Machine Told × List (ℕ × Event)). IsFlat z.0 (flat_run F (turns (k ∷ ks))) z.1)
-            (λ i. (sym (after_both c code one.0 rest.0 N) i, append_assoc events (one_events F k) (flat_events (flat_step F (entry.Processor k)) (turns ks)) i)) rest.2,
+            (λ i. (
+              sym (after_both c code one.0 rest.0 N) i,
+              append_assoc events (one_events F k) (flat_events (flat_step F (entry.Processor k)) (turns ks)) i,
+            )) rest.2,
       )
 
 open_none : (m : MachineLists) → IsMachine m → IsIdle m → (p : ℕ) → (machine_of m (λ q. [])).is_open p ≡ false

@@ -1,5 +1,6 @@
 -- Where a machine has the processors and the words of the flat machine, both have one result.
-use Rattle.std.proofs.Common.{◌≡◌, ◌⊎◌, inl, inr, ℕ, ◌<◌, ◌≤◌, ◌^◌, cond, eqb, eq-eqb, ne_eqb, zero, suc, List, [], ◌∷◌, ◌++◌, Some, length, map, refl, sym, ap, ap₂, subst, ◌∙◌, arith}
+use Rattle.std.proofs.Common.{◌≡◌, ◌⊎◌, inl, inr, ℕ, ◌<◌, ◌≤◌, ◌^◌, cond, eqb, eq-eqb, ne_eqb, zero, suc, List, [], ◌∷◌, ◌++◌, Some, length, map, refl, sym}
+use Rattle.std.proofs.Common.{ap, ap₂, subst, ◌∙◌, arith}
 use Rattle.std.specs.Prelude.{slice_get, slice_index, slice_index_or}
 use Rattle.std.specs.List.{range_with_len}
 use Rattle.std.proofs.lemmas.Bool.{cases_lt, cases_eq}
@@ -73,9 +74,11 @@ pub record Matches (c : Config) (N : theory.Machine Told) (F : FlatState) (event
 
 module _ (c : Config) (N : theory.Machine Told) (F : FlatState) (events : List (ℕ × Event)) (h : Matches c N F events) where
   words_same : map N.mem (range_with_len 0 c.shared_words) ≡ F.shared
-  words_same = same_list (map N.mem (range_with_len 0 c.shared_words)) F.shared 0 (length-map-range_with_len N.mem 0 c.shared_words ∙ sym h.size) (λ i. at i (cases_lt i c.shared_words))
+  words_same = same_list (map N.mem (range_with_len 0 c.shared_words)) F.shared 0 (length-map-range_with_len N.mem 0 c.shared_words ∙ sym h.size)
+      (λ i. at i (cases_lt i c.shared_words))
     where
-      at : (i : ℕ) → (i < c.shared_words) ⊎ (c.shared_words ≤ i) → slice_index_or (map N.mem (range_with_len 0 c.shared_words)) i 0 ≡ slice_index_or F.shared i 0
+      at : (i : ℕ) → (i < c.shared_words) ⊎ (c.shared_words ≤ i) →
+          slice_index_or (map N.mem (range_with_len 0 c.shared_words)) i 0 ≡ slice_index_or F.shared i 0
       at i (inl within) = get_or-map-range_with_len N.mem 0 c.shared_words i i 0 within (omega arith) ∙ h.words i
       at i (inr past) =
           past_end (map N.mem (range_with_len 0 c.shared_words)) i 0 (subst (λ n. n ≤ i) (sym (length-map-range_with_len N.mem 0 c.shared_words)) past)
@@ -100,5 +103,6 @@ module _ (c : Config) (N : theory.Machine Told) (F : FlatState) (events : List (
   pub none_runs : HasStopped F → NoneRuns c N
   none_runs stopped k within =
       let there = found_there F.processors k (subst (λ n. k < n) (sym h.count) within) in
-      ap (λ (g : Told). is_running g.state.status) (h.cores k) ∙ ap (λ (q : Processor). is_running q.status) (found_at F.processors k there.0 no_processor there.1).1
+      ap (λ (g : Told). is_running g.state.status) (h.cores k)
+      ∙ ap (λ (q : Processor). is_running q.status) (found_at F.processors k there.0 no_processor there.1).1
       ∙ stopped k there.0 there.1

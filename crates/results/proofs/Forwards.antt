@@ -107,8 +107,10 @@ module _ (c : Config) (code : List ℕ) where
     not_poked (step.Turn p) h = either (nat_lt p (2 ^ c.k)) (theory.turned (program c code) M p (M.is_open p)) (by_turn p (M.is_open p))
     not_poked (step.Up s w) h = either (nat_lt w (2 ^ c.k)) (theory.went_up M (moved_up (sizes_of c) M.net s w)) (by_up (moved_up (sizes_of c) M.net s w))
     not_poked (step.Serve i) h =
-        either (nat_lt i (2 ^ c.k)) (theory.serve_from (sizes_of c) M i (M.net.requests c.k i) (M.net.replies c.k i)) (by_serving i (M.net.requests c.k i) (M.net.replies c.k i))
-    not_poked (step.Down s w) h = either (nat_lt w (2 ^ c.k)) (theory.went_down M (moved_down (sizes_of c) M.net s w)) (by_down (moved_down (sizes_of c) M.net s w))
+        either (nat_lt i (2 ^ c.k)) (theory.serve_from (sizes_of c) M i (M.net.requests c.k i) (M.net.replies c.k i))
+        (by_serving i (M.net.requests c.k i) (M.net.replies c.k i))
+    not_poked (step.Down s w) h =
+        either (nat_lt w (2 ^ c.k)) (theory.went_down M (moved_down (sizes_of c) M.net s w)) (by_down (moved_down (sizes_of c) M.net s w))
     not_poked (step.Poke q) h = absurd h
 
   -- steps without writes from outside enter turns
@@ -126,7 +128,8 @@ module _ (c : Config) (code : List ℕ) where
   passes_all [] h = refl
   passes_all (s ∷ steps) h = passes_all steps (pass (sizes_of c) (program c code) h (named s))
 
-  pub theory_all : (steps : List Step) (M : theory.Machine Told) → theory.machine_after (sizes_of c) (program c code) (map named steps) M ≡ all_after c code M steps
+  pub theory_all : (steps : List Step) (M : theory.Machine Told) →
+      theory.machine_after (sizes_of c) (program c code) (map named steps) M ≡ all_after c code M steps
   unfolding all_after after theory.machine_after
   theory_all [] M = refl
   theory_all (s ∷ steps) M = theory_all steps (after c code M s)
@@ -177,7 +180,10 @@ module _ (m : MachineLists) (is : IsMachine m) (idle : IsIdle m) where
       }
     where
       after_flat : List Entry → ℕ → Told
-      after_flat es p = record { state = slice_index_or (flat_run (flat_state m) es).processors p no_processor; events = with_events (λ j. []) (flat_events (flat_state m) es) p }
+      after_flat es p = record {
+        state = slice_index_or (flat_run (flat_state m) es).processors p no_processor;
+        events = with_events (λ j. []) (flat_events (flat_state m) es) p;
+      }
 
   pub flat_result : (r : FinalResult) → IsMachineResult m r → IsFlatResult (flat_state m) r
   flat_result r h =

@@ -1,5 +1,6 @@
 -- What a machine does does not depend on what its processors have shown before.
-use Rattle.std.proofs.Common.{◌≡◌, ◌⊎◌, inl, inr, ℕ, ◌^◌, Bool, true, false, cond, eqb, eq-eqb, ne_eqb, List, [], ◌∷◌, ◌++◌, Option, Some, None, refl, sym, ap, ◌∙◌, nat_lt, append_assoc}
+use Rattle.std.proofs.Common.{◌≡◌, ◌⊎◌, inl, inr, ℕ, ◌^◌, Bool, true, false, cond, eqb, eq-eqb, ne_eqb, List, [], ◌∷◌, ◌++◌, Option, Some, None, refl, sym, ap}
+use Rattle.std.proofs.Common.{◌∙◌, nat_lt, append_assoc}
 use Rattle.std.specs.Prelude.{if◌then◌else◌}
 use Rattle.std.proofs.lemmas.Bool.{cases_eq}
 use Rattle.std.proofs.lemmas.List.{append-nil}
@@ -43,7 +44,8 @@ put_shifted shift core p x = fun_ext (λ q. by q (cases_eq q p))
     by q (inr other) =
         ap (λ b. cond b (shift p x) (shift q (core q))) (ne_eqb q p other) ∙ sym (ap (λ b. shift q (cond b x (core q))) (ne_eqb q p other))
 
-pub events_join : (first second : List (ℕ × Event)) (shown : ℕ → List Event) → with_events shown (first ++ second) ≡ with_events (with_events shown first) second
+pub events_join : (first second : List (ℕ × Event)) (shown : ℕ → List Event) →
+    with_events shown (first ++ second) ≡ with_events (with_events shown first) second
 events_join [] second shown = refl
 events_join ((p, x) ∷ first) second shown = events_join first second (put shown p (shown p ++ x ∷ []))
 
@@ -76,7 +78,8 @@ as_before N =
 module _ (c : Config) (code : List ℕ) (e : ℕ → List Event) where
   alone_shifted : (p : ℕ) (g : Told) (t : Turn) → alone_by (shift e p g) t ≡ shift e p (alone_by g t)
   alone_shifted p g (Retires q r) = ap (λ es. record { state = q; events = es }) (append_assoc (e p) g.events (event.Retired r ∷ []))
-  alone_shifted p g (Stops cause) = ap (λ es. record { state = record g.state { status = status_of cause }; events = es }) (append_assoc (e p) g.events (event.Stopped cause ∷ []))
+  alone_shifted p g (Stops cause) =
+      ap (λ es. record { state = record g.state { status = status_of cause }; events = es }) (append_assoc (e p) g.events (event.Stopped cause ∷ []))
   alone_shifted p g (Reaches word change later) = refl
 
   retired_shifted : (p : ℕ) (g : Told) (o : Option (Processor × retirement.Retired)) → retired_by (shift e p g) o ≡ shift e p (retired_by g o)
@@ -98,7 +101,8 @@ module _ (c : Config) (code : List ℕ) (e : ℕ → List Event) where
     by_reply p [] = refl
     by_reply p (y ∷ ys) =
         ap (λ (core : ℕ → Told). record { net = port_taken N.net p; mem = N.mem; core = core; is_open = put N.is_open p false })
-        (put_told p (retired_by (shift e p (N.core p)) (after_reply (next c code p (N.core p).state) y.value)) (retired_by (N.core p) (after_reply (next c code p (N.core p).state) y.value))
+        (put_told p (retired_by (shift e p (N.core p)) (after_reply (next c code p (N.core p).state) y.value))
+        (retired_by (N.core p) (after_reply (next c code p (N.core p).state) y.value))
         (retired_shifted p (N.core p) (after_reply (next c code p (N.core p).state) y.value)))
 
     by_kind : (p : ℕ) (kind : Kind) → Same (theory.begin (program c code) (behind e N) p kind) (theory.begin (program c code) N p kind)
@@ -123,16 +127,19 @@ module _ (c : Config) (code : List ℕ) (e : ℕ → List Event) where
     by_down (down.Moved, net) = refl
     by_down (down.Answered to, net) = refl
 
-    by_serving : (i : ℕ) (xs : List Request) (ys : List Reply) → Same (theory.serve_from (sizes_of c) (behind e N) i xs ys) (theory.serve_from (sizes_of c) N i xs ys)
+    by_serving : (i : ℕ) (xs : List Request) (ys : List Reply) →
+        Same (theory.serve_from (sizes_of c) (behind e N) i xs ys) (theory.serve_from (sizes_of c) N i xs ys)
     by_serving i [] ys = refl
     by_serving i (x ∷ xs) [] = refl
     by_serving i (x ∷ xs) (y ∷ ys) = refl
 
     step_shifted : (s : Step) → IsOfTheMachine s → after c code (behind e N) s ≡ behind e (after c code N s)
     unfolding after
-    step_shifted (step.Turn p) h = either (nat_lt p (2 ^ c.k)) (theory.turned (program c code) (behind e N) p (N.is_open p)) (theory.turned (program c code) N p (N.is_open p)) (by_turn p (N.is_open p))
+    step_shifted (step.Turn p) h = either (nat_lt p (2 ^ c.k)) (theory.turned (program c code) (behind e N) p (N.is_open p))
+        (theory.turned (program c code) N p (N.is_open p)) (by_turn p (N.is_open p))
     step_shifted (step.Up s w) h =
-        either (nat_lt w (2 ^ c.k)) (theory.went_up (behind e N) (moved_up (sizes_of c) N.net s w)) (theory.went_up N (moved_up (sizes_of c) N.net s w)) (by_up (moved_up (sizes_of c) N.net s w))
+        either (nat_lt w (2 ^ c.k)) (theory.went_up (behind e N) (moved_up (sizes_of c) N.net s w)) (theory.went_up N (moved_up (sizes_of c) N.net s w))
+        (by_up (moved_up (sizes_of c) N.net s w))
     step_shifted (step.Serve i) h =
         either (nat_lt i (2 ^ c.k)) (theory.serve_from (sizes_of c) (behind e N) i (N.net.requests c.k i) (N.net.replies c.k i))
         (theory.serve_from (sizes_of c) N i (N.net.requests c.k i) (N.net.replies c.k i)) (by_serving i (N.net.requests c.k i) (N.net.replies c.k i))
@@ -141,7 +148,8 @@ module _ (c : Config) (code : List ℕ) (e : ℕ → List Event) where
         (by_down (moved_down (sizes_of c) N.net s w))
     step_shifted (step.Poke q) h = absurd h
 
-  pub all_shifted : (steps : List Step) (N : theory.Machine Told) → AreOfTheMachine steps → all_after c code (behind e N) steps ≡ behind e (all_after c code N steps)
+  pub all_shifted : (steps : List Step) (N : theory.Machine Told) → AreOfTheMachine steps →
+      all_after c code (behind e N) steps ≡ behind e (all_after c code N steps)
   unfolding all_after
   all_shifted [] N all = refl
   all_shifted (s ∷ steps) N all = ap (λ M. all_after c code M steps) (step_shifted N s all.0) ∙ all_shifted steps (after c code N s) all.1

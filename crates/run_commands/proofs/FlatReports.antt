@@ -26,10 +26,12 @@ use Rattle.run_report.specs.Lines.{processor_line, word_lines}
 use Rattle.run_report.specs.Tallies.{ShownBy, TallyState, nothing_shown}
 use Rattle.machine_sweep.specs.Standing.{HasFaulted, IsFaulted, processor_of}
 use Rattle.run_commands.specs.Commands.{IsReportOf}
-use Rattle.run_commands.specs.Reports.{HasFlatFaulted, IsExitOf, IsFlatReport, flat_processor, flat_processor_lines, flat_report, flat_shared_lines, processor_lines, report_of, shared_lines}
+use Rattle.run_commands.specs.Reports.{HasFlatFaulted, IsExitOf, IsFlatReport, flat_processor, flat_processor_lines, flat_report, flat_shared_lines}
+use Rattle.run_commands.specs.Reports.{processor_lines, report_of, shared_lines}
 use Rattle.run_commands.specs.Retaking.{IsRetaken, events_in}
 
-module _ (c : Config) (image : ImageContents) (steps : List Step) (opening m : MachineLists) (tally : TallyState) (opens : IsOpening c image opening) (retaken : IsRetaken opening steps m tally) (idle : IsIdle m) (serialized : IsSerialized opening steps m) where
+module _ (c : Config) (image : ImageContents) (steps : List Step) (opening m : MachineLists) (tally : TallyState) (opens : IsOpening c image opening)
+    (retaken : IsRetaken opening steps m tally) (idle : IsIdle m) (serialized : IsSerialized opening steps m) where
   abbrev order : List Entry
   order = (passed opening steps).order
 
@@ -52,7 +54,8 @@ module _ (c : Config) (image : ImageContents) (steps : List Step) (opening m : M
 
   word_is : (i : ℕ) → i < c.shared_words → word_at m.config.k m.modules i ≡ slice_index F.shared i
   word_is i within =
-      sym (get_or-map-range_with_len (word_at m.config.k m.modules) 0 m.config.shared_words i i 0 (subst (λ (d : Config). i < d.shared_words) (sym config_is) within) (omega arith))
+      sym (get_or-map-range_with_len (word_at m.config.k m.modules) 0 m.config.shared_words i i 0
+      (subst (λ (d : Config). i < d.shared_words) (sym config_is) within) (omega arith))
       ∙ ap (λ (G : FlatState). slice_index G.shared i) state_is
 
   -- what was counted is what the flat machine has shown
@@ -68,7 +71,8 @@ module _ (c : Config) (image : ImageContents) (steps : List Step) (opening m : M
   processors_are : (count : ℕ) → count ≤ 2 ^ c.k → processor_lines m tally.shown count ≡ flat_processor_lines F events count
   processors_are zero few = refl
   processors_are (suc p) few =
-      let line : processor_line p (processor_of m p).pc (processor_of m p).status (slice_index_or tally.shown p nothing_shown) ≡ processor_line p (flat_processor F p).pc (flat_processor F p).status (shown_by (events p)) =
+      let line : processor_line p (processor_of m p).pc (processor_of m p).status (slice_index_or tally.shown p nothing_shown)
+      ≡ processor_line p (flat_processor F p).pc (flat_processor F p).status (shown_by (events p)) =
       ap₂ (λ (q : Processor) (s : ShownBy). processor_line p q.pc q.status s) (processor_is p) (shown_is p (omega (arith, few))) in
       ap₂ (λ (xs ys : List ℕ). xs ++ ys) (processors_are p (omega (arith, few))) line
 
@@ -82,10 +86,12 @@ module _ (c : Config) (image : ImageContents) (steps : List Step) (opening m : M
       ∙ ap₂ (λ (xs ys : List ℕ). xs ++ ys) (processors_are (2 ^ c.k) (omega arith)) (words_are c.shared_words (omega arith))
 
   flat_faulted : HasFlatFaulted c F → HasFaulted m
-  flat_faulted (p, within, fault) = (p, subst (λ (d : Config). p < 2 ^ d.k) (sym config_is) within, subst (λ (q : Processor). IsFaulted q.status) (sym (processor_is p)) fault)
+  flat_faulted (p, within, fault) =
+      (p, subst (λ (d : Config). p < 2 ^ d.k) (sym config_is) within, subst (λ (q : Processor). IsFaulted q.status) (sym (processor_is p)) fault)
 
   faulted_flat : HasFaulted m → HasFlatFaulted c F
-  faulted_flat (p, within, fault) = (p, subst (λ (d : Config). p < 2 ^ d.k) config_is within, subst (λ (q : Processor). IsFaulted q.status) (processor_is p) fault)
+  faulted_flat (p, within, fault) =
+      (p, subst (λ (d : Config). p < 2 ^ d.k) config_is within, subst (λ (q : Processor). IsFaulted q.status) (processor_is p) fault)
 
   pub report_is_of : (text : List ℕ) (status : ℕ) → text ≡ report_of m tally.shown → IsExitOf m status → IsReportOf c image steps text status
   report_is_of text status is exit = record {
@@ -102,8 +108,10 @@ module _ (c : Config) (image : ImageContents) (steps : List Step) (opening m : M
   }
 
 -- of two machines that opened on one image and took the same steps, none has a reference open where the other has none
-pub idle_alike : (c : Config) (image : ImageContents) (steps : List Step) (first second m n : MachineLists) → IsOpening c image first → IsOpening c image second → IsReplay first steps m → IsReplay second steps n → IsIdle m → IsIdle n
+pub idle_alike : (c : Config) (image : ImageContents) (steps : List Step) (first second m n : MachineLists) → IsOpening c image first →
+    IsOpening c image second → IsReplay first steps m → IsReplay second steps n → IsIdle m → IsIdle n
 unfolding machine_of_parts
 idle_alike c image steps first second m n one two r s idle p within =
-    ap (λ (M : theory.Machine Told). M.is_open p) (s.run.after (λ q. []) ∙ sym (alike c image first second one two steps (λ q. [])) ∙ sym (r.run.after (λ q. [])))
+    ap (λ (M : theory.Machine Told). M.is_open p)
+    (s.run.after (λ q. []) ∙ sym (alike c image first second one two steps (λ q. [])) ∙ sym (r.run.after (λ q. [])))
     ∙ idle p (subst (λ (d : Config). p < 2 ^ d.k) (s.run.config ∙ two.config ∙ sym one.config ∙ sym r.run.config) within)

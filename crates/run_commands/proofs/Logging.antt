@@ -35,16 +35,22 @@ module _ (c : Config) (budget : ℕ) (known : Option (List ℕ)) (end : SweepEnd
   log_opens = subst (λ (x : Config × ImageContents). IsOpening x.0 x.1 log.opening) (λ i. (sym log_config i, sym log_image i)) is.run.opens
 
 -- the steps of a log do not stall on another machine that opens on the image
-pub not_stalled : (log : Log) (c : Config) (image : ImageContents) (steps : List Step) (second new : MachineLists) → IsOpening log.machine.config log.machine.image log.opening → IsReplay log.opening log.steps log.machine →
-    c ≡ log.machine.config → image ≡ log.machine.image → steps ≡ log.steps → IsOpening c image second → (e : RetakeError) → IsNotRetaken second steps new e → fault_of_retaking e ≡ fault.Memory
+pub not_stalled : (log : Log) (c : Config) (image : ImageContents) (steps : List Step) (second new : MachineLists) →
+    IsOpening log.machine.config log.machine.image log.opening → IsReplay log.opening log.steps log.machine →
+    c ≡ log.machine.config → image ≡ log.machine.image → steps ≡ log.steps → IsOpening c image second → (e : RetakeError) → IsNotRetaken second steps new e →
+    fault_of_retaking e ≡ fault.Memory
 not_stalled log c image steps second new one replay size same all two (retake.Stalled place) h =
-    let opens : IsOpening log.machine.config log.machine.image second = subst (λ (x : Config × ImageContents). IsOpening x.0 x.1 second) (λ i. (size i, same i)) two in
-    absurd (none_stalls log.machine.config log.machine.image log.opening second one opens log.steps log.machine replay place new (subst (λ (xs : List Step). StallsAt second xs place new) all h))
+    let opens : IsOpening log.machine.config log.machine.image second =
+    subst (λ (x : Config × ImageContents). IsOpening x.0 x.1 second) (λ i. (size i, same i)) two in
+    absurd (none_stalls log.machine.config log.machine.image log.opening second one opens log.steps log.machine replay place new
+    (subst (λ (xs : List Step). StallsAt second xs place new) all h))
 not_stalled log c image steps second new one replay size same all two retake.Memory h = refl
 
 -- ---- a run, from its machine's opening on
 
-module _ (c : Config) (budget : ℕ) (known : Option (List ℕ)) (image : ImageContents) (meant : IsImageOf c.shared_words known image) (m : MachineLists) (opens : IsOpening c image m) (old log : Log) (starts : old ≡ opened m) (kept : IsKept log) (end : SweepEnd) (swept : IsSwept (most_of budget) old end log) where
+module _ (c : Config) (budget : ℕ) (known : Option (List ℕ)) (image : ImageContents) (meant : IsImageOf c.shared_words known image) (m : MachineLists)
+    (opens : IsOpening c image m) (old log : Log) (starts : old ≡ opened m) (kept : IsKept log) (end : SweepEnd)
+    (swept : IsSwept (most_of budget) old end log) where
   opening_is : log.opening ≡ m
   opening_is = swept.opening ∙ ap (λ (l : Log). l.opening) starts
 
@@ -66,6 +72,8 @@ module _ (c : Config) (budget : ℕ) (known : Option (List ℕ)) (image : ImageC
   trace_is records =
       let limits : IsWithinLimits c = subst IsWithinLimits config_is kept.sound.limits in
       record {
-        header = record { stages = limits.stages; some_capacity = limits.some_capacity; capacity = limits.capacity; records = limits.records; count = kept.room };
-        records = subst (λ (d : Config). HaveRecords d.k log.steps) config_is (records (subst (λ (l : Log). HaveRecords l.machine.config.k l.steps) (sym starts) (λ p d inside. absurd (omega (arith, inside)))));
+        header =
+            record { stages = limits.stages; some_capacity = limits.some_capacity; capacity = limits.capacity; records = limits.records; count = kept.room };
+        records = subst (λ (d : Config). HaveRecords d.k log.steps) config_is
+            (records (subst (λ (l : Log). HaveRecords l.machine.config.k l.steps) (sym starts) (λ p d inside. absurd (omega (arith, inside)))));
       }

@@ -45,7 +45,8 @@ one_exit m n s t a b to from = by (cases_eq s 0) (cases_eq t 0)
 
 -- ---- reports
 
-module _ (c : Config) (image : ImageContents) (steps : List Step) (text text' : List ℕ) (status status' : ℕ) (one : IsReportOf c image steps text status) (two : IsReportOf c image steps text' status') where
+module _ (c : Config) (image : ImageContents) (steps : List Step) (text text' : List ℕ) (status status' : ℕ) (one : IsReportOf c image steps text status)
+    (two : IsReportOf c image steps text' status') where
   abbrev m : MachineLists
   m = one.machine
 
@@ -87,7 +88,8 @@ module _ (c : Config) (image : ImageContents) (steps : List Step) (text text' : 
   processors_alike : (count : ℕ) → count ≤ 2 ^ c.k → processor_lines m one.tally.shown count ≡ processor_lines n two.tally.shown count
   processors_alike zero few = refl
   processors_alike (suc p) few =
-      let line : processor_line p (processor_of m p).pc (processor_of m p).status (slice_index_or one.tally.shown p nothing_shown) ≡ processor_line p (processor_of n p).pc (processor_of n p).status (slice_index_or two.tally.shown p nothing_shown) =
+      let line : processor_line p (processor_of m p).pc (processor_of m p).status (slice_index_or one.tally.shown p nothing_shown)
+      ≡ processor_line p (processor_of n p).pc (processor_of n p).status (slice_index_or two.tally.shown p nothing_shown) =
       ap₂ (λ (q : Processor) (s : ShownBy). processor_line p q.pc q.status s) (processors p) (shown p (omega (arith, few))) in
       ap₂ (λ (xs ys : List ℕ). xs ++ ys) (processors_alike p (omega (arith, few))) line
 

@@ -16,15 +16,19 @@ abbrev OneLayout : Type 0
 OneLayout = (shared_words : ℕ) (file : List ℕ) (one other : Layout) → IsMeant shared_words file one → IsMeant shared_words file other → one ≡ other
 
 abbrev OneLog : Type 0
-OneLog = (c : Config) (image : ImageContents) (most : ℕ) (end other : SweepEnd) (first second : Log) → IsWholeRun c image most end first → IsWholeRun c image most other second → first.steps ≡ second.steps
+OneLog = (c : Config) (image : ImageContents) (most : ℕ) (end other : SweepEnd) (first second : Log) → IsWholeRun c image most end first →
+    IsWholeRun c image most other second → first.steps ≡ second.steps
 
-one_image : OneLayout → (shared_words : ℕ) (file : List ℕ) (one other : ImageContents) → IsImageOf shared_words (Some file) one → IsImageOf shared_words (Some file) other → other ≡ one
+one_image : OneLayout → (shared_words : ℕ) (file : List ℕ) (one other : ImageContents) → IsImageOf shared_words (Some file) one →
+    IsImageOf shared_words (Some file) other → other ≡ one
 one_image one_layout shared_words file one other a b =
-    let layout = one_layout shared_words file other.layout one.layout (subst (λ f. IsMeant shared_words f other.layout) b.whole b.meant) (subst (λ f. IsMeant shared_words f one.layout) a.whole a.meant) in
+    let layout = one_layout shared_words file other.layout one.layout (subst (λ f. IsMeant shared_words f other.layout) b.whole b.meant)
+    (subst (λ f. IsMeant shared_words f one.layout) a.whole a.meant) in
     let words = b.words ∙ sym a.words in
     (λ i. record { layout = layout i; shared_words = words i })
 
-module _ (one_layout : OneLayout) (one_log : OneLog) (c : Config) (budget : ℕ) (file : List ℕ) (steps others : List Step) (text other : List ℕ) (status another : ℕ)
+module _ (one_layout : OneLayout) (one_log : OneLog) (c : Config) (budget : ℕ) (file : List ℕ) (steps others : List Step) (text other : List ℕ)
+    (status another : ℕ)
     (a : IsReportedRun c budget (Some file) steps text status) (b : IsReportedRun c budget (Some file) others other another) where
   abbrev image : ImageContents
   image = a.ran.over.image
@@ -42,4 +46,5 @@ module _ (one_layout : OneLayout) (one_log : OneLog) (c : Config) (budget : ℕ)
   report_is = subst (λ ss. IsReportOf c image ss other another) (sym steps_are) (subst (λ i. IsReportOf c i others other another) image_is b.report)
 
   pub one_run : (steps ≡ others) × (text ≡ other) × (status ≡ another)
-  one_run = (steps_are, one_text c image steps text other status another a.report report_is, one_status c image steps text other status another a.report report_is)
+  one_run =
+      (steps_are, one_text c image steps text other status another a.report report_is, one_status c image steps text other status another a.report report_is)

@@ -34,13 +34,15 @@ module _ (n : ℕ) (t : TallyState) (events : ℕ → List Event) (steps : ℕ) 
   kept = record { all = is.all; each = is.each; noted = ap (λ m. m + 1) is.noted }
 
   -- a stop shows nothing of what is told
-  stopped : (p : ℕ) (e : Event) → ((s : ShownBy) → with_event s e ≡ s) → (q : ℕ) → q < n → slice_index_or t.shown q nothing_shown ≡ shown_by (put events p (events p ++ e ∷ []) q)
+  stopped : (p : ℕ) (e : Event) → ((s : ShownBy) → with_event s e ≡ s) → (q : ℕ) → q < n →
+      slice_index_or t.shown q nothing_shown ≡ shown_by (put events p (events p ++ e ∷ []) q)
   stopped p e nothing q within = by (cases_eq q p)
     where
       by : (q ≡ p) ⊎ (q ≡ p → ⊥) → slice_index_or t.shown q nothing_shown ≡ shown_by (put events p (events p ++ e ∷ []) q)
       by (inl same) =
           let old : slice_index_or t.shown q nothing_shown ≡ shown_by (events p) = is.each q within ∙ ap (λ i. shown_by (events i)) same in
-          let now : put events p (events p ++ e ∷ []) q ≡ events p ++ e ∷ [] = ap (put events p (events p ++ e ∷ [])) same ∙ put_same events p (events p ++ e ∷ []) in
+          let now : put events p (events p ++ e ∷ []) q ≡ events p ++ e ∷ [] =
+          ap (put events p (events p ++ e ∷ [])) same ∙ put_same events p (events p ++ e ∷ []) in
           old ∙ sym (nothing (shown_by (events p))) ∙ sym (shown_more nothing_shown (events p) e) ∙ ap shown_by (sym now)
       by (inr other) = is.each q within ∙ ap shown_by (sym (put_other events p (events p ++ e ∷ []) q other))
 
@@ -57,7 +59,8 @@ module _ (n : ℕ) (t : TallyState) (events : ℕ → List Event) (steps : ℕ) 
     outside : n ≤ p → retired_at t.shown p r.out (slice_get t.shown p) ≡ t.shown
     outside behind = by (slice_get_cases t.shown p).1
       where
-        by : ((x : ShownBy) × (p < length t.shown) × (slice_get t.shown p ≡ Some x) × (get_or t.shown p x ≡ x)) ⊎ ((length t.shown ≤ p) × (slice_get t.shown p ≡ None)) →
+        by : ((x : ShownBy) × (p < length t.shown) × (slice_get t.shown p ≡ Some x) × (get_or t.shown p x ≡ x))
+            ⊎ ((length t.shown ≤ p) × (slice_get t.shown p ≡ None)) →
             retired_at t.shown p r.out (slice_get t.shown p) ≡ t.shown
         by (inl some) = (let l = is.all in let h = some.1 in absurd (omega (arith, l, h, behind)))
         by (inr none) = ap (retired_at t.shown p r.out) none.1
@@ -68,7 +71,8 @@ module _ (n : ℕ) (t : TallyState) (events : ℕ → List Event) (steps : ℕ) 
         by : (q ≡ p) ⊎ (q ≡ p → ⊥) → slice_index_or (slice_set t.shown p (with_retired there r.out)) q nothing_shown ≡ shown_by (put events p told q)
         by (inl same) =
             let set : slice_index_or (slice_set t.shown p (with_retired there r.out)) q nothing_shown ≡ with_retired there r.out =
-            ap (λ i. slice_index_or (slice_set t.shown p (with_retired there r.out)) i nothing_shown) same ∙ get_or-set_same t.shown p (with_retired there r.out) nothing_shown (subst (λ m. p < m) (sym is.all) within) in
+            ap (λ i. slice_index_or (slice_set t.shown p (with_retired there r.out)) i nothing_shown) same
+            ∙ get_or-set_same t.shown p (with_retired there r.out) nothing_shown (subst (λ m. p < m) (sym is.all) within) in
             let now : put events p told q ≡ told = ap (put events p told) same ∙ put_same events p told in
             set ∙ ap (λ s. with_retired s r.out) (is.each p within) ∙ sym (shown_more nothing_shown (events p) (event.Retired r)) ∙ ap shown_by (sym now)
         by (inr other) =
@@ -84,7 +88,8 @@ module _ (n : ℕ) (t : TallyState) (events : ℕ → List Event) (steps : ℕ) 
     }
     retires (inr behind) = record {
       all = ap length (outside behind) ∙ is.all;
-      each = λ q q_within. ap (λ xs. slice_index_or xs q nothing_shown) (outside behind) ∙ is.each q q_within ∙ ap shown_by (sym (put_other events p told q (λ e. omega (arith, e, behind, q_within))));
+      each = λ q q_within. ap (λ xs. slice_index_or xs q nothing_shown) (outside behind) ∙ is.each q q_within
+          ∙ ap shown_by (sym (put_other events p told q (λ e. omega (arith, e, behind, q_within))));
       noted = ap (λ m. m + 1) is.noted;
     }
 

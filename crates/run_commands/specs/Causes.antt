@@ -45,7 +45,8 @@ IsNotRun c budget known other = ⊥
 
 -- Why a run is not reported: its trace cannot be written, or, once that is, its report; else the run is not there, and no byte
 -- of a trace is written.
-abbrev pub IsNoRun : {T : Type 0} → (contents : T → Option (List ℕ)) → (c : Config) → (budget : ℕ) → (known : Option (List ℕ)) → (old new : Option T) → (out out' : Option (List ℕ)) → Fault → Type 0
+abbrev pub IsNoRun : {T : Type 0} → (contents : T → Option (List ℕ)) → (c : Config) → (budget : ℕ) → (known : Option (List ℕ)) → (old new : Option T) →
+    (out out' : Option (List ℕ)) → Fault → Type 0
 IsNoRun contents c budget known old new out out' (fault.Trace e) = (e ≡ of_trace.Link) × IsPartSavedRun contents c budget known old new
 IsNoRun contents c budget known old new out out' fault.Link = IsPartPrinted (IsSomeRunReport contents c budget known old new) out out'
 IsNoRun contents c budget known old new out out' other = IsNotRun c budget known other × (new ≡ old)

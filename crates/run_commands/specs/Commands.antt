@@ -110,11 +110,13 @@ pub record IsReportedRun (c : Config) (budget : ℕ) (known : Option (List ℕ))
 
 -- This is the report of a run of the image that a file means, and this its exit status; the trace of the run is written, where one
 -- is asked for.
-pub record IsRunReport {T : Type 0} (contents : T → Option (List ℕ)) (c : Config) (budget : ℕ) (known : Option (List ℕ)) (trace trace' : Option T) (status : ℕ) (text : List ℕ) : Type 0 where
+pub record IsRunReport {T : Type 0} (contents : T →
+    Option (List ℕ)) (c : Config) (budget : ℕ) (known : Option (List ℕ)) (trace trace' : Option T) (status : ℕ) (text : List ℕ) : Type 0 where
   pub steps : List Step
   pub run : IsReportedRun c budget known steps text status
   pub saved : IsSaved contents trace trace' (trace_bytes (trace_of c steps))
 
 -- the report of a run, with whatever exit status
-abbrev pub IsSomeRunReport : {T : Type 0} → (contents : T → Option (List ℕ)) → (c : Config) → (budget : ℕ) → (known : Option (List ℕ)) → (trace trace' : Option T) → (text : List ℕ) → Type 0
+abbrev pub IsSomeRunReport : {T : Type 0} → (contents : T → Option (List ℕ)) → (c : Config) → (budget : ℕ) → (known : Option (List ℕ)) →
+    (trace trace' : Option T) → (text : List ℕ) → Type 0
 IsSomeRunReport contents c budget known trace trace' text = (status : ℕ) × IsRunReport contents c budget known trace trace' status text

@@ -17,7 +17,8 @@ use Rattle.run_report.specs.Lines.{processor_line, word_lines}
 -- the lines of the first processors, which have shown this
 abbrev pub processor_lines : MachineLists → List ShownBy → (count : ℕ) → List ℕ
 processor_lines m shown zero = []
-processor_lines m shown (suc p) = processor_lines m shown p ++ processor_line p (processor_of m p).pc (processor_of m p).status (slice_index_or shown p nothing_shown)
+processor_lines m shown (suc p) =
+    processor_lines m shown p ++ processor_line p (processor_of m p).pc (processor_of m p).status (slice_index_or shown p nothing_shown)
 
 -- the lines of the first shared words
 abbrev pub shared_lines : MachineLists → (count : ℕ) → List ℕ
@@ -42,7 +43,8 @@ flat_processor F p = slice_index_or F.processors p no_processor
 -- the lines of the first processors of a flat machine, which have shown these events
 abbrev pub flat_processor_lines : FlatState → (events : ℕ → List Event) → (count : ℕ) → List ℕ
 flat_processor_lines F events zero = []
-flat_processor_lines F events (suc p) = flat_processor_lines F events p ++ processor_line p (flat_processor F p).pc (flat_processor F p).status (shown_by (events p))
+flat_processor_lines F events (suc p) =
+    flat_processor_lines F events p ++ processor_line p (flat_processor F p).pc (flat_processor F p).status (shown_by (events p))
 
 -- the lines of its first shared words
 abbrev pub flat_shared_lines : FlatState → (count : ℕ) → List ℕ

@@ -19,7 +19,8 @@ pub(crate) fn save<T: LinkWrite>(
     requires works { IsWorking T.has_failed trace.old }
     requires trace { IsTrace (trace_of config.now steps.now) }
     ensures saved { OnOk result (IsSaved T.contents trace.old trace.new (trace_bytes (trace_of config.now steps.now))) }
-    ensures failed { IfErr result (λ fault. (fault ≡ Fault.Trace TraceError.Link) × IsPartSaved T.contents trace.old trace.new (trace_bytes (trace_of config.now steps.now))) }
+    ensures failed { IfErr result (λ fault. (fault ≡ Fault.Trace TraceError.Link)
+        × IsPartSaved T.contents trace.old trace.new (trace_bytes (trace_of config.now steps.now))) }
 {
     match trace {
         Some(writer) => Ok(write_trace(writer, config, steps)?),

@@ -36,8 +36,10 @@ pub fn replay_command<T: Read + Drop, R: Read + Drop, W: LinkWrite, E: Write>(
     err: &mut E,
 ) -> u8
     requires { W.has_failed out.old ≡ false }
-    ensures replayed { result ≤ 1 → IsPrinted (IsReplayReport shared_words (T.remaining trace) (known_of R.remaining file) result) (W.contents out.old) (W.contents out.new) }
-    ensures told { 2 ≤ result → IsTold W.has_failed Fault.Link (IsErr file) (IsNoReplay shared_words (T.remaining trace) (known_of R.remaining file) (W.contents out.old) (W.contents out.new)) out.old out.new result }
+    ensures replayed { result ≤ 1 → IsPrinted (IsReplayReport shared_words (T.remaining trace) (known_of R.remaining file) result) (W.contents out.old)
+        (W.contents out.new) }
+    ensures told { 2 ≤ result → IsTold W.has_failed Fault.Link (IsErr file)
+        (IsNoReplay shared_words (T.remaining trace) (known_of R.remaining file) (W.contents out.old) (W.contents out.new)) out.old out.new result }
     ensures failed { W.has_failed out.new ≡ true → result ≡ 3 }
 {
     match carried_out(alloc, trace, file, shared_words, out) {
@@ -57,7 +59,8 @@ fn carried_out<T: Read + Drop, R: Read + Drop, W: LinkWrite>(
     requires { W.has_failed out.old ≡ false }
     ensures failed { W.has_failed out.new ≡ true → IsErrOf result Fault.Link }
     ensures link { IsErrOf result Fault.Link → IsErr file ⊎ (W.has_failed out.new ≡ true) }
-    ensures replayed { IfOk result (λ status. IsPrinted (IsReplayReport shared_words (T.remaining trace) (known_of R.remaining file) status) (W.contents out.old) (W.contents out.new)) }
+    ensures replayed { IfOk result (λ status. IsPrinted (IsReplayReport shared_words (T.remaining trace) (known_of R.remaining file) status)
+        (W.contents out.old) (W.contents out.new)) }
     ensures low { IfOk result (λ status. status ≤ 1) }
     ensures told { IfErr result (IsNoReplay shared_words (T.remaining trace) (known_of R.remaining file) (W.contents out.old) (W.contents out.new)) }
     ensures silent { OnErr result (W.has_failed out.new ≡ false → out.new ≡ out.old) }

@@ -52,7 +52,8 @@ fn push_line(
 ) -> Result<(), AllocError>
     requires there { p < 2 ^ machine.now.config.k }
     requires all { length tally.now.shown ≡ 2 ^ machine.now.config.k }
-    ensures { OnOk result (string_bytes text.new ≡ string_bytes text.old ++ processor_line p (processor_of machine.now p).pc (processor_of machine.now p).status (slice_index_or tally.now.shown p nothing_shown)) }
+    ensures { OnOk result (string_bytes text.new ≡ string_bytes text.old
+        ++ processor_line p (processor_of machine.now p).pc (processor_of machine.now p).status (slice_index_or tally.now.shown p nothing_shown)) }
 {
     let Some(pc) = machine.pc(p) else {
         unreachable!()

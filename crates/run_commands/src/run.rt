@@ -40,8 +40,10 @@ pub fn run_command<R: Read + Drop, T: LinkWrite, W: LinkWrite, E: Write>(
 ) -> u8
     requires works { IsWorking T.has_failed trace.old }
     requires prints { W.has_failed out.old ≡ false }
-    ensures reported { result ≤ 1 → IsPrinted (IsRunReport T.contents config budget (R.remaining file) trace.old trace.new result) (W.contents out.old) (W.contents out.new) }
-    ensures told { 2 ≤ result → IsTold W.has_failed Fault.Link ⊥ (IsNoRun T.contents config budget (R.remaining file) trace.old trace.new (W.contents out.old) (W.contents out.new)) out.old out.new result }
+    ensures reported { result ≤ 1 → IsPrinted (IsRunReport T.contents config budget (R.remaining file) trace.old trace.new result) (W.contents out.old)
+        (W.contents out.new) }
+    ensures told { 2 ≤ result → IsTold W.has_failed Fault.Link ⊥
+        (IsNoRun T.contents config budget (R.remaining file) trace.old trace.new (W.contents out.old) (W.contents out.new)) out.old out.new result }
     ensures failed { W.has_failed out.new ≡ true → result ≡ 3 }
 {
     match carried_out(alloc, file, config, budget, trace, out) {
@@ -62,7 +64,8 @@ fn carried_out<R: Read + Drop, T: LinkWrite, W: LinkWrite>(
     requires works { IsWorking T.has_failed trace.old }
     requires prints { W.has_failed out.old ≡ false }
     ensures failed { IsErrOf result Fault.Link ↔ (W.has_failed out.new ≡ true) }
-    ensures reported { IfOk result (λ status. IsPrinted (IsRunReport T.contents config budget (R.remaining file) trace.old trace.new status) (W.contents out.old) (W.contents out.new)) }
+    ensures reported { IfOk result (λ status. IsPrinted (IsRunReport T.contents config budget (R.remaining file) trace.old trace.new status)
+        (W.contents out.old) (W.contents out.new)) }
     ensures low { IfOk result (λ status. status ≤ 1) }
     ensures told { IfErr result (IsNoRun T.contents config budget (R.remaining file) trace.old trace.new (W.contents out.old) (W.contents out.new)) }
     ensures silent { OnErr result (W.has_failed out.new ≡ false → out.new ≡ out.old) }

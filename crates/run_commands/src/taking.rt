@@ -62,7 +62,8 @@ pub fn retaken(alloc: Global, machine: &mut Machine, steps: &[Step]) -> Result<T
 pub fn drained(machine: &mut Machine, tally: &mut Tally) -> Result<(), AllocError>
     requires { tally.old.noted ≤ 4194304 }
     ensures idle { OnOk result (IsIdle machine.new) }
-    ensures taken { OnOk result ((opening : MachineLists) (steps : List Step) → IsRetaken opening steps machine.old tally.old → IsRetaken opening (steps ++ drain_steps machine.old) machine.new tally.new) }
+    ensures taken { OnOk result ((opening : MachineLists) (steps : List Step) → IsRetaken opening steps machine.old tally.old →
+        IsRetaken opening (steps ++ drain_steps machine.old) machine.new tally.new) }
 {
     // The proof needs that the machine is one.
     let _ = machine.is_idle();

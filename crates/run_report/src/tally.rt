@@ -70,7 +70,10 @@ impl Tally {
     fn retire(&mut self, place: usize, out: Option<u8>) -> Result<(), AllocError>
         requires small { self.old.noted < 2 ^ 32 }
         requires few { All (λ (s : ShownBy). s.retired < self.old.noted) self.old.shown }
-        ensures shown { OnOk result (self.new ≡ record { shown = retired_at self.old.shown place out (slice_get self.old.shown place); noted = self.old.noted }) }
+        ensures shown { OnOk result (self.new ≡ record {
+          shown = retired_at self.old.shown place out (slice_get self.old.shown place);
+          noted = self.old.noted;
+        }) }
     {
         if place >= self.processors.len() {
             return Ok(());

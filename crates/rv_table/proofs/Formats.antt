@@ -9,7 +9,8 @@ use Rattle.rv_table.specs.Formats.{fields_of, operands_of}
 use Rattle.rv_table.proofs.Candidates.{with_fields, has_fields, candidates_have_fields, candidates_have_rows}
 
 -- the instruction at the place of a row
-of_row : (w k : ℕ) (r : Row) (is : List Insn) → map (with_fields w) is ≡ is → k < length (map row_of is) → slice_index_or (map row_of is) k r ≡ r → (i : Insn) × (row_of i ≡ r) × (with_fields w i ≡ i)
+of_row : (w k : ℕ) (r : Row) (is : List Insn) → map (with_fields w) is ≡ is → k < length (map row_of is) → slice_index_or (map row_of is) k r ≡ r →
+    (i : Insn) × (row_of i ≡ r) × (with_fields w i ≡ i)
 of_row w k r [] same inside at = absurd (omega arith)
 of_row w zero r (i ∷ is) same inside at = let first : with_fields w i ≡ i = cc in (i, at, first)
 of_row w (suc k) r (i ∷ is) same inside at = let rest : map (with_fields w) is ≡ is = cc in of_row w k r is rest (omega arith) at

@@ -11,7 +11,8 @@ use Rattle.rv_table.proofs.Apart.{fits, apart, all_apart, rows_are_apart, fits_b
 use Rattle.rv_table.proofs.Candidates.{with_fields, has_fields, same_from_operands, candidates_have_fields, candidates_have_rows, listed}
 
 -- Among instructions whose rows are apart, one that the word fits is the one that is found.
-found : (w : ℕ) (i : Insn) (k : ℕ) (is : List Insn) → all_apart (map row_of is) ≡ true → fits w i ≡ true → k < length is → slice_index_or is k i ≡ i → find (fits w) is ≡ Some i
+found : (w : ℕ) (i : Insn) (k : ℕ) (is : List Insn) → all_apart (map row_of is) ≡ true → fits w i ≡ true → k < length is → slice_index_or is k i ≡ i →
+    find (fits w) is ≡ Some i
 found w i k [] apart_all fit inside at_k = absurd (omega arith)
 found w i zero (j ∷ is) apart_all fit inside at_k =
     let same : j ≡ i = at_k in

@@ -2,9 +2,7 @@
 
 -- What a run beside the flat machine says of the machine at the moment.
 pub use Rattle.serialization.proofs.Moments.{at_the_moment}
-
 -- Each reference is served once, by the outcomes alone.
 pub use Rattle.serialization.proofs.Once.{served_once}
-
 -- The machine is the flat one after the order, at each moment.
 pub use Rattle.serialization.proofs.Serial.{follows}

@@ -11,7 +11,8 @@ use Rattle.messages.specs.declared.moves.DownMove.{DownMove}
 use Rattle.messages.specs.declared.moves.DownMove.TheVariants as down
 use Rattle.messages.specs.Moves.{moved_up, moved_down}
 use Rattle.abstract_machine.specs.Program.{Program, Kind, Rests, Alone, Refers}
-use Rattle.abstract_machine.specs.Machine.{Machine, Step, Turn, Up, Serve, Down, Poke, Issued, Retired, stalled, retire_from, begin, turned, went_up, went_down, serve_from, all_shut, poked, step, IsIdle}
+use Rattle.abstract_machine.specs.Machine.{Machine, Step, Turn, Up, Serve, Down, Poke, Issued, Retired, stalled, retire_from, begin, turned, went_up}
+use Rattle.abstract_machine.specs.Machine.{went_down, serve_from, all_shut, poked, step, IsIdle}
 use Rattle.serialization.specs.Order.{Passed, FlatMachine, flat_run}
 use Rattle.serialization.specs.Simulation.{shows}
 use Rattle.serialization.specs.Serialization.{FindsAt, AtTheMoment, IsFlat}

@@ -1,5 +1,6 @@
 -- The machine is the flat one after the order, at each moment.
-use Rattle.std.proofs.Common.{◌≡◌, ℕ, suc, ◌<◌, Bool, true, false, ◌&&◌, List, [], ◌∷◌, ◌++◌, length, map, nat_lt, inl, inr, Option, Some, None, refl, sym, ap, ◌∙◌, subst, arith, ltb-true, append_assoc, length-append}
+use Rattle.std.proofs.Common.{◌≡◌, ℕ, suc, ◌<◌, Bool, true, false, ◌&&◌, List, [], ◌∷◌, ◌++◌, length, map, nat_lt, inl, inr, Option, Some, None, refl, sym, ap}
+use Rattle.std.proofs.Common.{◌∙◌, subst, arith, ltb-true, append_assoc, length-append}
 use Rattle.std.specs.Prelude.{if◌then◌else◌}
 use Rattle.std.proofs.lemmas.Bool.{cases_eq, cases_Bool, true≢false, and_parts}
 use Rattle.messages.specs.declared.message.Request.{Request}
@@ -14,8 +15,10 @@ use Rattle.messages.specs.Moves.{up_from, moved_up, down_from, moved_down}
 use Rattle.placement.specs.Roles.{Idle}
 use Rattle.placement.specs.Meaning.{Executed, execute, execute_all}
 use Rattle.abstract_machine.specs.Program.{Program, Kind, Rests, Alone, Refers, Keeps, own_of, word_of, path_of}
-use Rattle.abstract_machine.specs.Machine.{Machine, Step, Turn, Up, Serve, Down, Poke, Result, stalled, retire_from, begin, turned, went_up, went_down, serve_from, all_shut, poked, step}
-use Rattle.serialization.specs.Order.{group_after, segment, served_from, served_after, Passed, pass, passes, from_machine, FlatMachine, flat_step, flat_run, flat_of, ran}
+use Rattle.abstract_machine.specs.Machine.{Machine, Step, Turn, Up, Serve, Down, Poke, Result, stalled, retire_from, begin, turned, went_up, went_down}
+use Rattle.abstract_machine.specs.Machine.{serve_from, all_shut, poked, step}
+use Rattle.serialization.specs.Order.{group_after, segment, served_from, served_after, Passed, pass, passes, from_machine, FlatMachine, flat_step, flat_run}
+use Rattle.serialization.specs.Order.{flat_of, ran}
 use Rattle.serialization.specs.Simulation.{shows, owed_after, Simulates, Kept}
 use Rattle.serialization.proofs.Simulating.{kept_stalled, kept_issue, kept_advance, kept_retire, kept_serve, kept_poked, flat_shows_one, still_none}
 use Rattle.abstract_machine.proofs.Lemmas.{all_shut_is}

@@ -2,7 +2,8 @@
 use Rattle.placement.specs.Meaning.{Groups, joined}
 use Rattle.placement.proofs.Lemmas.{below_role, combination_joins, combining_meaning, combining_places, groups_joined, means_pop_request, means_push_request}
 use Rattle.placement.proofs.Lemmas.{not_idle, pop_request, pop_request_unnamed, push_request, records_none, request_further, request_led, small_put}
-use Rattle.std.proofs.Common.{◌≡◌, ℕ, suc, ◌%◌, ◌<◌, ◌≤◌, true, false, List, [], ◌∷◌, ◌++◌, length, nat_lt, inl, inr, Option, Some, None, refl, sym, ap₂, ◌∙◌, subst, arith, ap}
+use Rattle.std.proofs.Common.{◌≡◌, ℕ, suc, ◌%◌, ◌<◌, ◌≤◌, true, false, List, [], ◌∷◌, ◌++◌, length, nat_lt, inl, inr, Option, Some, None, refl, sym, ap₂, ◌∙◌}
+use Rattle.std.proofs.Common.{subst, arith, ap}
 use Rattle.std.specs.Prelude.{if◌then◌else◌}
 use Rattle.messages.specs.declared.message.Request.{Request}
 use Rattle.messages.specs.declared.message.Record.{Record}

@@ -187,7 +187,8 @@ is_explain name rows e = record {
 -- the subcommand that a walk stopped at, which is not `help`
 enters : (stop : Option (Text × List Text)) → StopsAtNoHelp stop → entered_fault built_ultra stop ≡ []
     → is_some (entered built_ultra stop) ≡ true → IsComplete (entered built_ultra stop)
-unfolding built_ultra ultra_command words_command asm_command dis_command run_command replay_command explain_command built_words built_asm built_dis built_run built_replay built_explain
+unfolding built_ultra ultra_command words_command asm_command dis_command run_command replay_command explain_command built_words built_asm built_dis built_run
+    built_replay built_explain
 enters None unhelped e has = absurd (true≢false (sym has))
 enters (Some p) unhelped e has =
     go (bytes_eq (codes "words") p.0) (bytes_eq (codes "asm") p.0) (bytes_eq (codes "dis") p.0) (bytes_eq (codes "run") p.0) (bytes_eq (codes "replay") p.0)

@@ -1,5 +1,6 @@
 -- What a getter of clap's matches gives, over plain values.
-use Rattle.std.proofs.Common.{◌≡◌, ◌∙◌, ◌==◌, ◌<◌, ◌≤◌, ◌^◌, ℕ, Bool, cond, ap, sym, arith, true≢false, [], ◌∷◌, drop, Option, Some, None, Result, Ok, true, false, option_map, is_some, refl, pos, codes}
+use Rattle.std.proofs.Common.{◌≡◌, ◌∙◌, ◌==◌, ◌<◌, ◌≤◌, ◌^◌, ℕ, Bool, cond, ap, sym, arith, true≢false, [], ◌∷◌, drop, Option, Some, None, Result, Ok, true}
+use Rattle.std.proofs.Common.{false, option_map, is_some, refl, pos, codes}
 use Rattle.std.specs.Prelude.{IfSome, IsSome, MatchOption, unwrap_or}
 use Rattle.std.specs.Borrow.{Bor}
 use Rattle.std.specs.Str.{bytes_eq}
@@ -54,10 +55,12 @@ no_plus (d ∷ ds) h =
     ap (λ (b : Bool). drop (cond b 1 0) (d ∷ ds)) plus
 
 -- what is read without a minus is the number that the text spells, where that is in a range with no negative number
-spelled : (low high : ℕ) (t : Text) (n : ℕ) → IsSignedIn (pos low) (pos high) t → n ≡ digits_value 10 (without_leading_plus (without_minus t)) → pos n ≡ signed_digits_value 10 t
+spelled : (low high : ℕ) (t : Text) (n : ℕ) → IsSignedIn (pos low) (pos high) t → n ≡ digits_value 10 (without_leading_plus (without_minus t)) →
+    pos n ≡ signed_digits_value 10 t
 spelled low high t n passed is = go (starts_with_minus t) refl (is ∙ ap (λ u. digits_value 10 (without_leading_plus u)) (without_minus_by t))
   where
-    go : (b : Bool) → starts_with_minus t ≡ b → n ≡ digits_value 10 (without_leading_plus (cond (starts_with_minus t) (drop 1 t) t)) → pos n ≡ signed_digits_value 10 t
+    go : (b : Bool) → starts_with_minus t ≡ b → n ≡ digits_value 10 (without_leading_plus (cond (starts_with_minus t) (drop 1 t) t)) →
+        pos n ≡ signed_digits_value 10 t
     go true minus e =
         let low_ok = rw minus at passed.2 in
         let numeral : IsNumeral 10 (drop 1 t) = rw minus at passed.0 in
@@ -68,9 +71,11 @@ spelled low high t n passed is = go (starts_with_minus t) refl (is ∙ ap (λ u.
 
 -- the number that a getter of numbers gives, or the default
 pub number_given : {E : Type 0} (G : Text → Result ℕ E → Type 0) (default low high : ℕ) (first one : Option Text) (r : Option ℕ)
-    → one ≡ option_map without_minus first → IfSome first (IsSignedIn (pos low) (pos high)) → (one ≡ None → r ≡ None) → ((t : Text) → one ≡ Some t → ReadsOne G t r)
+    → one ≡ option_map without_minus first → IfSome first (IsSignedIn (pos low) (pos high)) → (one ≡ None → r ≡ None) →
+    ((t : Text) → one ≡ Some t → ReadsOne G t r)
     → ((u : Text) (x : Result ℕ E) → G u x → ParsesUnsigned 32 10 u x) → high < 2 ^ 32 → low ≤ default → default ≤ high
-    → MatchOption first (unwrap_or r default ≡ default) (λ text. pos (unwrap_or r default) ≡ signed_digits_value 10 text) × (low ≤ unwrap_or r default) × (unwrap_or r default ≤ high)
+    → MatchOption first (unwrap_or r default ≡ default) (λ text. pos (unwrap_or r default) ≡ signed_digits_value 10 text) × (low ≤ unwrap_or r default)
+    × (unwrap_or r default ≤ high)
 number_given {E} G default low high None one r same passed none some only fits least most = rw (none same) (refl, least, most)
 number_given {E} G default low high (Some t) one r same passed none some only fits least most =
     let read = some (without_minus t) same in

@@ -35,7 +35,8 @@ flag_steps c waiting word h (waits id) = tt
 flag_steps c waiting word h plain = plain_steps c waiting word h
 flag_steps c waiting word h refused = plain_steps c waiting word h
 
-other_steps : (c : List Rule) (waiting : Waiting) (word : Text) (long : Option (Text × Option Text)) (h : Held) → StepsToNoHelp (long_or_other c waiting word long h).1
+other_steps : (c : List Rule) (waiting : Waiting) (word : Text) (long : Option (Text × Option Text)) (h : Held) →
+    StepsToNoHelp (long_or_other c waiting word long h).1
 other_steps c waiting word (Some p) h = flag_steps c waiting word _ _
 other_steps c waiting word None h = go (short_of word)
   where
@@ -64,7 +65,8 @@ module _ (s : Shape) (names : Names) (enabled : s.disable_help_subcommand ≡ fa
   word_steps true waiting position word h e = tt
   word_steps false waiting position word h e = met_steps waiting position word (subcommand_met names waiting word) h e
 
-  step_stops : (word : Text) (w : Walk) (h : Held) (step : Step) → StepsToNoHelp step → StopsAtNoHelp w.stopped → StopsAtNoHelp (after_step s.rules word w h step).stopped
+  step_stops : (word : Text) (w : Walk) (h : Held) (step : Step) → StepsToNoHelp step → StopsAtNoHelp w.stopped →
+      StopsAtNoHelp (after_step s.rules word w h step).stopped
   step_stops word w h (next waiting) other stops = stops
   step_stops word w h (trailing position) other stops = stops
   step_stops word w h (subcommand name) other stops = other
@@ -89,7 +91,8 @@ module _ (s : Shape) (names : Names) (enabled : s.disable_help_subcommand ≡ fa
           let p = neither (word_fault s names w.is_trailing w.waiting word w.held) (step_fault s w.position met.0 met.1) e in
           step_stops word w met.0 met.1 (word_steps w.is_trailing w.waiting w.position word w.held p.0) stops
 
-  pub walk_stops : (words : List Text) (w : Walk) → walk_fault s names w words ≡ [] → StopsAtNoHelp w.stopped → StopsAtNoHelp (fold (walked s.rules names) w words).stopped
+  pub walk_stops : (words : List Text) (w : Walk) → walk_fault s names w words ≡ [] → StopsAtNoHelp w.stopped →
+      StopsAtNoHelp (fold (walked s.rules names) w words).stopped
   unfolding walk_fault
   walk_stops [] w e stops = stops
   walk_stops (word ∷ rest) w e stops =

@@ -1,5 +1,6 @@
 -- At words with no fault, the text of an option that takes a number in a range spells such a number.
-use Rattle.std.proofs.Common.{◌≡◌, ◌&&◌, ◌||◌, ◌==◌, ◌++◌, ◌+◌, ◌∙◌, ℕ, Bool, cond, true, false, not, refl, sym, ap, true≢false, List, [], ◌∷◌, length, arith, Option, Some, None, pos, negsuc, min, option_map}
+use Rattle.std.proofs.Common.{◌≡◌, ◌&&◌, ◌||◌, ◌==◌, ◌++◌, ◌+◌, ◌∙◌, ℕ, Bool, cond, true, false, not, refl, sym, ap, true≢false, List, [], ◌∷◌, length, arith}
+use Rattle.std.proofs.Common.{Option, Some, None, pos, negsuc, min, option_map}
 use Rattle.std.specs.Prelude.{⊤, IfSome, find, option_and_then, slice_get}
 use Rattle.std.specs.List.{list_all}
 use Rattle.std.specs.Str.{bytes_eq}
@@ -56,12 +57,14 @@ module _ (id : Text) (low high : ℕ) where
   fit_append [] ys h k = k
   fit_append (x ∷ xs) ys h k = (h.0, fit_append xs ys h.1 k)
 
-  fit_at : (name : Text) (change : Row → List Row) (missing rows : List Row) → ((r : Row) → bytes_eq r.id name ≡ true → Fits id low high r → AllFit id low high (change r))
+  fit_at : (name : Text) (change : Row → List Row) (missing rows : List Row) →
+      ((r : Row) → bytes_eq r.id name ≡ true → Fits id low high r → AllFit id low high (change r))
       → AllFit id low high missing → AllFit id low high rows → AllFit id low high (at_row name change missing rows)
   fit_at name change missing [] keeps new h = new
   fit_at name change missing (r ∷ rs) keeps new h = go (bytes_eq r.id name) refl (fit_at name change missing rs keeps new h.1)
     where
-      go : (b : Bool) → bytes_eq r.id name ≡ b → AllFit id low high (at_row name change missing rs) → AllFit id low high (cond b (change r ++ rs) (r ∷ at_row name change missing rs))
+      go : (b : Bool) → bytes_eq r.id name ≡ b → AllFit id low high (at_row name change missing rs) →
+          AllFit id low high (cond b (change r ++ rs) (r ∷ at_row name change missing rs))
       go true e rest = fit_append (change r) rs (keeps r e h.0) h.1
       go false e rest = (h.0, rest)
 
@@ -91,7 +94,8 @@ module _ (id : Text) (low high : ℕ) where
   other_used action.SetTrue name not how values rows h = other_with name not how CommandLine values (without name rows) (fit_without name rows h)
   other_used action.SetFalse name not how values rows h = other_with name not how CommandLine values (without name rows) (fit_without name rows h)
   other_used action.Append name not how values rows h = other_with name not how CommandLine values rows h
-  other_used action.Count name not how [] rows h = other_count name not how CommandLine (min (count_of name rows + 1) 255) (without name rows) (fit_without name rows h)
+  other_used action.Count name not how [] rows h =
+      other_count name not how CommandLine (min (count_of name rows + 1) 255) (without name rows) (fit_without name rows h)
   other_used action.Count name not how (v ∷ vs) rows h = other_with name not how CommandLine (v ∷ vs) (without name rows) (fit_without name rows h)
   other_used action.Help name not how values rows h = h
   other_used action.HelpShort name not how values rows h = h
@@ -100,7 +104,8 @@ module _ (id : Text) (low high : ℕ) where
 
   -- ---- the option's own rows
 
-  number_with : (name : Text) (how : Reading) (s : ValueSource) (values : List Text) (rows : List Row) → how ≡ reading.WithoutMinus → FirstIn low high values → AllFit id low high rows
+  number_with : (name : Text) (how : Reading) (s : ValueSource) (values : List Text) (rows : List Row) → how ≡ reading.WithoutMinus → FirstIn low high values →
+      AllFit id low high rows
       → AllFit id low high (with_values name how s values rows)
   number_with name how s values rows read first h =
       fit_at name (more_values s values) (record { id = name; values = values; count = None; source = Some s; reading = how } ∷ []) rows
@@ -143,7 +148,8 @@ range_is low high (Some (vp.Values values)) e = cc
 -- ---- one use of an argument
 
 -- values that are no fault
-first_in : (low high : ℕ) (ignore_case : Bool) (values : List Text) → values_kinds ignore_case (vp.Signed (pos low) (pos high)) values ≡ [] → FirstIn low high values
+first_in : (low high : ℕ) (ignore_case : Bool) (values : List Text) → values_kinds ignore_case (vp.Signed (pos low) (pos high)) values ≡ [] →
+    FirstIn low high values
 first_in low high ignore_case [] e = tt
 first_in low high ignore_case (v ∷ vs) e = go (is_signed_in (pos low) (pos high) v) refl (neither _ _ e).0
   where
@@ -152,7 +158,8 @@ first_in low high ignore_case (v ∷ vs) e = go (is_signed_in (pos low) (pos hig
     go false is e = cc
 
 number_used_as : (id : Text) (low high : ℕ) (x : ArgAction) (again : Bool) (a : Rule) (values : List Text) (rows : List Row) → is_set x ≡ true
-    → a.parser ≡ Some (vp.Signed (pos low) (pos high)) → action_fault x again a values rows ≡ [] → AllFit id low high rows → AllFit id low high (used_as x a.id (reading_by a) values rows)
+    → a.parser ≡ Some (vp.Signed (pos low) (pos high)) → action_fault x again a values rows ≡ [] → AllFit id low high rows →
+    AllFit id low high (used_as x a.id (reading_by a) values rows)
 number_used_as id low high action.Set again a values rows set parser e h =
     let fault = (neither (repeat_fault again a.id rows) (values_kinds a.ignore_case (parser_of_value a.parser) values) e).1 in
     let first = first_in low high a.ignore_case values (rw parser at fault) in
@@ -166,18 +173,21 @@ number_used_as id low high action.HelpShort again a values rows set parser e h =
 number_used_as id low high action.HelpLong again a values rows set parser e h = cc
 number_used_as id low high action.Version again a values rows set parser e h = cc
 
-fit_used : (id : Text) (low high : ℕ) (again : Bool) (a : Rule) (values : List Text) (rows : List Row) → is_apart_or_number id low high a ≡ true → use_fault again a values rows ≡ []
+fit_used : (id : Text) (low high : ℕ) (again : Bool) (a : Rule) (values : List Text) (rows : List Row) → is_apart_or_number id low high a ≡ true →
+    use_fault again a values rows ≡ []
     → AllFit id low high rows → AllFit id low high (used a values rows)
 fit_used id low high again a values rows good e h = go (bytes_eq a.id id) refl good
   where
-    go : (b : Bool) → bytes_eq a.id id ≡ b → (not b || (is_range low high a.parser && (is_set (action_of a) && is_empty a.defaults))) ≡ true → AllFit id low high (used a values rows)
+    go : (b : Bool) → bytes_eq a.id id ≡ b → (not b || (is_range low high a.parser && (is_set (action_of a) && is_empty a.defaults))) ≡ true →
+        AllFit id low high (used a values rows)
     go false is good = other_used id low high (action_of a) a.id is (reading_by a) (values_or_missing a values) rows h
     go true is good =
         let p = both (is_range low high a.parser) (is_set (action_of a) && is_empty a.defaults) good in
         let q = both (is_set (action_of a)) (is_empty a.defaults) p.1 in
         number_used_as id low high (action_of a) again a (values_or_missing a values) rows q.0 (range_is low high a.parser p.0) (neither _ _ e).1 h
 
-fit_default : (id : Text) (low high : ℕ) (rows : List Row) (a : Rule) → is_apart_or_number id low high a ≡ true → AllFit id low high rows → AllFit id low high (with_default rows a)
+fit_default : (id : Text) (low high : ℕ) (rows : List Row) (a : Rule) → is_apart_or_number id low high a ≡ true → AllFit id low high rows →
+    AllFit id low high (with_default rows a)
 fit_default id low high rows a good h = by_row (has_row a.id rows) (bytes_eq a.id id) refl good
   where
     none : (values : List Text) → is_empty values ≡ true → AllFit id low high (default_rows a.id (reading_by a) values rows)

@@ -70,7 +70,8 @@ named_as stop name other rows rest is chosen =
     (ap (λ (p : Text × List Row). p.0) pair, subst rest (ap (λ (p : Text × List Row). p.1) pair) chosen.2)
 
 -- where the subcommand and its rows are known, the settings are of that subcommand, and those of the rows
-chosen_as : (stop : Option (Text × List Row)) (name : Text) (rows : List Row) (s : Settings) → stop ≡ Some (name, rows) → IsChosen stop s → (name_of s ≡ name) × AreOf rows s
+chosen_as : (stop : Option (Text × List Row)) (name : Text) (rows : List Row) (s : Settings) → stop ≡ Some (name, rows) → IsChosen stop s →
+    (name_of s ≡ name) × AreOf rows s
 unfolding name_of
 chosen_as stop name rows (asked.Words w) is chosen = named_as stop name (codes "words") rows (λ them. IsWords them w) is chosen
 chosen_as stop name rows (asked.Asm a) is chosen = named_as stop name (codes "asm") rows (λ them. IsAsm them a) is chosen
@@ -120,7 +121,8 @@ asm_fault program file out h k = rw (no_hyphens file h, no_hyphen file h, no_hyp
 asm_rows : (file out : Text) → List Row
 asm_rows file out = row (codes "FILE") file CommandLine ∷ row (codes "OUT") out CommandLine ∷ []
 
-asm_found : (program file out : Text) → IsPlain file → IsPlain out → subcommand_of ultra_command (program ∷ codes "asm" ∷ file ∷ out ∷ []) ≡ Some (codes "asm", asm_rows file out)
+asm_found : (program file out : Text) → IsPlain file → IsPlain out →
+    subcommand_of ultra_command (program ∷ codes "asm" ∷ file ∷ out ∷ []) ≡ Some (codes "asm", asm_rows file out)
 unfolding row asm_rows clap_on_literals ultra_command words_command asm_command dis_command run_command replay_command explain_command
 asm_found program file out h k = rw (no_hyphens file h, no_hyphen file h, no_hyphen file h, no_hyphens out k, no_hyphen out k, no_hyphen out k) refl
 
@@ -225,7 +227,8 @@ replay_fault program trace file h k = rw (no_hyphens trace h, no_hyphen trace h,
 replay_rows : (trace file : Text) → List Row
 replay_rows trace file = row (codes "TRACE") trace CommandLine ∷ row (codes "FILE") file CommandLine ∷ []
 
-replay_found : (program trace file : Text) → IsPlain trace → IsPlain file → subcommand_of ultra_command (program ∷ codes "replay" ∷ trace ∷ file ∷ []) ≡ Some (codes "replay", replay_rows trace file)
+replay_found : (program trace file : Text) → IsPlain trace → IsPlain file →
+    subcommand_of ultra_command (program ∷ codes "replay" ∷ trace ∷ file ∷ []) ≡ Some (codes "replay", replay_rows trace file)
 unfolding row replay_rows clap_on_literals ultra_command words_command asm_command dis_command run_command replay_command explain_command
 replay_found program trace file h k = rw (no_hyphens trace h, no_hyphen trace h, no_hyphen trace h, no_hyphens file k, no_hyphen file k, no_hyphen file k) refl
 
@@ -258,7 +261,8 @@ unfolding clap_on_literals ultra_command words_command asm_command dis_command r
 explain_fault None words named = rw named.1 refl
 explain_fault (Some code) words named = rw (named.1, no_hyphens code named.2, no_hyphen code named.2, no_hyphen code named.2) refl
 
-explain_found : (code : Option Text) (words : List Text) → NameExplainOf code words → subcommand_of ultra_command words ≡ Some (codes "explain", explain_rows code)
+explain_found : (code : Option Text) (words : List Text) → NameExplainOf code words →
+    subcommand_of ultra_command words ≡ Some (codes "explain", explain_rows code)
 unfolding row explain_rows clap_on_literals ultra_command words_command asm_command dis_command run_command replay_command explain_command
 explain_found None words named = rw named.1 refl
 explain_found (Some code) words named = rw (named.1, no_hyphens code named.2, no_hyphen code named.2, no_hyphen code named.2) refl
@@ -296,7 +300,8 @@ words_short r e words file named = memory_short (AreWordsOf file) r e words (ap 
 
 pub asm_short : (r : Result Settings Error) (e : Error) (words : List Text) (file out : Text) → NameAsmOf file out words → IsErrAnd r (λ y. y ≡ e)
     → HasKind (fault_of ultra_command words) e → MatchResult r (AreAsmOf file out) (λ y. kind_of y ≡ OutOfMemory)
-asm_short r e words file out named = memory_short (AreAsmOf file out) r e words (ap (fault_of ultra_command) named.1 ∙ asm_fault named.0 file out named.2 named.3)
+asm_short r e words file out named =
+    memory_short (AreAsmOf file out) r e words (ap (fault_of ultra_command) named.1 ∙ asm_fault named.0 file out named.2 named.3)
 
 pub dis_short : (r : Result Settings Error) (e : Error) (words : List Text) (file : Text) → NameDisOf file words → IsErrAnd r (λ y. y ≡ e)
     → HasKind (fault_of ultra_command words) e → MatchResult r (AreDisOf file) (λ y. kind_of y ≡ OutOfMemory)
@@ -308,7 +313,8 @@ run_short r e words file named = memory_short (AreRunOf file) r e words (ap (fau
 
 pub replay_short : (r : Result Settings Error) (e : Error) (words : List Text) (trace file : Text) → NameReplayOf trace file words → IsErrAnd r (λ y. y ≡ e)
     → HasKind (fault_of ultra_command words) e → MatchResult r (AreReplayOf trace file) (λ y. kind_of y ≡ OutOfMemory)
-replay_short r e words trace file named = memory_short (AreReplayOf trace file) r e words (ap (fault_of ultra_command) named.1 ∙ replay_fault named.0 trace file named.2 named.3)
+replay_short r e words trace file named =
+    memory_short (AreReplayOf trace file) r e words (ap (fault_of ultra_command) named.1 ∙ replay_fault named.0 trace file named.2 named.3)
 
 pub explain_short : (r : Result Settings Error) (e : Error) (words : List Text) (code : Option Text) → NameExplainOf code words → IsErrAnd r (λ y. y ≡ e)
     → HasKind (fault_of ultra_command words) e → MatchResult r (AreExplainOf code) (λ y. kind_of y ≡ OutOfMemory)

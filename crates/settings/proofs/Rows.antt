@@ -55,11 +55,13 @@ valued_without id rows h = valued_at id (λ _. []) [] rows (λ r lt. tt) tt h
 valued_with : (id : Text) (how : Reading) (s : ValueSource) (values : List Text) (rows : List Row) → 0 < length values → Valued rows
     → Valued (with_values id how s values rows)
 valued_with id how s values rows lt h =
-    valued_at id (more_values s values) (record { id = id; values = values; count = None; source = Some s; reading = how } ∷ []) rows (λ r some. (simp length-append (omega arith), tt)) (lt, tt) h
+    valued_at id (more_values s values) (record { id = id; values = values; count = None; source = Some s; reading = how } ∷ []) rows
+    (λ r some. (simp length-append (omega arith), tt)) (lt, tt) h
 
 valued_count : (id : Text) (how : Reading) (s : ValueSource) (n : ℕ) (rows : List Row) → Valued rows → Valued (with_count id how s n rows)
 valued_count id how s n rows h =
-    valued_at id (new_count s n) (record { id = id; values = count_text n ∷ []; count = Some n; source = Some s; reading = how } ∷ []) rows (λ r some. (simp length-append (omega arith), tt)) (omega arith, tt) h
+    valued_at id (new_count s n) (record { id = id; values = count_text n ∷ []; count = Some n; source = Some s; reading = how } ∷ []) rows
+    (λ r some. (simp length-append (omega arith), tt)) (omega arith, tt) h
 
 -- an argument that stands for no value itself
 abbrev takes_nothing : ArgAction → Bool
@@ -75,7 +77,8 @@ gives_value a = nat_lt 0 (unwrap_or_range a.range).start_inclusive || (not (is_e
 
 -- ---- one use of an argument
 
-valued_used_as : (x : ArgAction) (id : Text) (how : Reading) (values : List Text) (rows : List Row) → (takes_nothing x ≡ true) ⊎ (0 < length values) → Valued rows
+valued_used_as : (x : ArgAction) (id : Text) (how : Reading) (values : List Text) (rows : List Row) → (takes_nothing x ≡ true) ⊎ (0 < length values) →
+    Valued rows
     → Valued (used_as x id how values rows)
 valued_used_as action.Set id how values rows (inl e) h = absurd (true≢false (sym e))
 valued_used_as action.Set id how values rows (inr lt) h = valued_with id how CommandLine values (without id rows) lt (valued_without id rows h)
@@ -85,7 +88,8 @@ valued_used_as action.SetFalse id how values rows (inl e) h = absurd (true≢fal
 valued_used_as action.SetFalse id how values rows (inr lt) h = valued_with id how CommandLine values (without id rows) lt (valued_without id rows h)
 valued_used_as action.Append id how values rows (inl e) h = absurd (true≢false (sym e))
 valued_used_as action.Append id how values rows (inr lt) h = valued_with id how CommandLine values rows lt h
-valued_used_as action.Count id how [] rows some h = valued_count id how CommandLine (min (count_of id rows + 1) 255) (without id rows) (valued_without id rows h)
+valued_used_as action.Count id how [] rows some h =
+    valued_count id how CommandLine (min (count_of id rows + 1) 255) (without id rows) (valued_without id rows h)
 valued_used_as action.Count id how (v ∷ vs) rows some h = valued_with id how CommandLine (v ∷ vs) (without id rows) (omega arith) (valued_without id rows h)
 valued_used_as action.Help id how values rows some h = h
 valued_used_as action.HelpShort id how values rows some h = h
@@ -104,11 +108,14 @@ enough false rest (v ∷ vs) nothing e gives = inr (omega arith)
 
 some_given : (again : Bool) (a : Rule) (values : List Text) (rows : List Row) → gives_value a ≡ true → use_fault again a values rows ≡ []
     → (takes_nothing (action_of a) ≡ true) ⊎ (0 < length (values_or_missing a values))
-some_given again a [] rows gives e = enough (nat_lt 0 (unwrap_or_range a.range).start_inclusive) _ a.missing (takes_nothing (action_of a)) (neither _ _ e).0 gives
+some_given again a [] rows gives e =
+    enough (nat_lt 0 (unwrap_or_range a.range).start_inclusive) _ a.missing (takes_nothing (action_of a)) (neither _ _ e).0 gives
 some_given again a (v ∷ vs) rows gives e = inr (omega arith)
 
-valued_used : (again : Bool) (a : Rule) (values : List Text) (rows : List Row) → gives_value a ≡ true → use_fault again a values rows ≡ [] → Valued rows → Valued (used a values rows)
-valued_used again a values rows gives e h = valued_used_as (action_of a) a.id (reading_by a) (values_or_missing a values) rows (some_given again a values rows gives e) h
+valued_used : (again : Bool) (a : Rule) (values : List Text) (rows : List Row) → gives_value a ≡ true → use_fault again a values rows ≡ [] → Valued rows →
+    Valued (used a values rows)
+valued_used again a values rows gives e h =
+    valued_used_as (action_of a) a.id (reading_by a) (values_or_missing a values) rows (some_given again a values rows gives e) h
 
 valued_default : (rows : List Row) (a : Rule) → Valued rows → Valued (with_default rows a)
 valued_default rows a h = go (has_row a.id rows) a.defaults

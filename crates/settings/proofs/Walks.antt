@@ -32,13 +32,15 @@ pub found_passes : {X : Type 0} (p q : X → Bool) (xs : List X) (x : X) → fin
 found_passes p q [] x is all = cc
 found_passes p q (y ∷ ys) x is all = go (p y) is (both (q y) (list_all q ys) all) (found_passes p q ys x)
   where
-    go : (b : Bool) → cond b (Some y) (find p ys) ≡ Some x → (q y ≡ true) × (list_all q ys ≡ true) → (find p ys ≡ Some x → list_all q ys ≡ true → q x ≡ true) → q x ≡ true
+    go : (b : Bool) → cond b (Some y) (find p ys) ≡ Some x → (q y ≡ true) × (list_all q ys ≡ true) → (find p ys ≡ Some x → list_all q ys ≡ true → q x ≡ true) →
+        q x ≡ true
     go true e h rest = let same : y ≡ x = cc in rw (← same) h.0
     go false e h rest = rest e h.1
 
 -- a use of a good argument that is no fault keeps it true
 abbrev pub Keeps : (List Row → Type 0) → (Rule → Bool) → Type 0
-Keeps P good = (again : Bool) (a : Rule) (values : List Text) (rows : List Row) → good a ≡ true → use_fault again a values rows ≡ [] → P rows → P (used a values rows)
+Keeps P good =
+    (again : Bool) (a : Rule) (values : List Text) (rows : List Row) → good a ≡ true → use_fault again a values rows ≡ [] → P rows → P (used a values rows)
 
 -- and so do its default values
 abbrev pub KeepsDefault : (List Row → Type 0) → (Rule → Bool) → Type 0
@@ -53,7 +55,8 @@ module _ (P : List Row → Type 0) (good : Rule → Bool) (keeps : Keeps P good)
   kept_settled : (h : Held) → settle_fault c again h ≡ [] → P h.rows → P (settled c h).rows
   kept_settled h fault rows = go h.pending fault
     where
-      by_id : (p : Text × List Text) (o : Option Rule) → arg_by_id c p.0 ≡ o → option_map_or (λ a. use_fault again a p.1 h.rows) o [] ≡ [] → P (used_by_id o p.1 h.rows)
+      by_id : (p : Text × List Text) (o : Option Rule) → arg_by_id c p.0 ≡ o → option_map_or (λ a. use_fault again a p.1 h.rows) o [] ≡ [] →
+          P (used_by_id o p.1 h.rows)
       by_id p None is e = rows
       by_id p (Some a) is e = keeps again a p.1 h.rows (ready _ a is) e rows
 
@@ -109,7 +112,8 @@ module _ (P : List Row → Type 0) (good : Rule → Bool) (keeps : Keeps P good)
       go None skip e rest = rows
       go (Some x) zero e rest =
           let left = drop (length (encode_utf8 x)) flags in
-          kept_short (arg_by_short c x) left h (bundle_met c k left 0 done) (flags_fault c again k left 0) (λ a is. ready _ a is) (λ g. rest left 0 done g) e rows
+          kept_short (arg_by_short c x) left h (bundle_met c k left 0 done) (flags_fault c again k left 0) (λ a is. ready _ a is)
+          (λ g. rest left 0 done g) e rows
       go (Some x) (suc skip) e rest = rest (drop (length (encode_utf8 x)) flags) skip so_far h e rows
 
 -- a word that is no flag leaves the rows
@@ -130,7 +134,8 @@ flag_rows c waiting word h plain = plain_rows c waiting word h
 flag_rows c waiting word h refused = plain_rows c waiting word h
 
 module _ (P : List Row → Type 0) (good : Rule → Bool) (keeps : Keeps P good) (s : Shape) (names : Names) (all : list_all good s.rules ≡ true) where
-  kept_short_word : (waiting : Waiting) (word : Text) (short : Option Text) (h : Held) → option_map_or (λ flags. bundle_fault s.rules s.args_override_self flags h) short [] ≡ []
+  kept_short_word : (waiting : Waiting) (word : Text) (short : Option Text) (h : Held) →
+      option_map_or (λ flags. bundle_fault s.rules s.args_override_self flags h) short [] ≡ []
       → P h.rows → P (short_or_plain s.rules waiting word short h).0.rows
   kept_short_word waiting word None h e rows = subst P (sym (plain_rows s.rules waiting word h)) rows
   kept_short_word waiting word (Some flags) h e rows =
@@ -138,13 +143,15 @@ module _ (P : List Row → Type 0) (good : Rule → Bool) (keeps : Keeps P good)
       subst P (sym (flag_rows s.rules waiting word met.0 met.1))
       (kept_bundle P good keeps s.rules s.args_override_self all (length flags) flags h.skip plain (record h { skip = 0 }) e rows)
 
-  kept_flag_word : (waiting : Waiting) (word : Text) (long : Option (Text × Option Text)) (h : Held) → flag_word_fault s.rules s.args_override_self long word h ≡ []
+  kept_flag_word : (waiting : Waiting) (word : Text) (long : Option (Text × Option Text)) (h : Held) →
+      flag_word_fault s.rules s.args_override_self long word h ≡ []
       → P h.rows → P (long_or_other s.rules waiting word long h).0.rows
   kept_flag_word waiting word None h e rows = kept_short_word waiting word (short_of word) h e rows
   kept_flag_word waiting word (Some p) h e rows =
       let met = long_met s.rules (arg_by_long s.rules p.0) p.1 h in
       subst P (sym (flag_rows s.rules waiting word met.0 met.1))
-      (kept_long P good keeps s.rules s.args_override_self all (arg_by_long s.rules p.0) p.1 h (λ a is. ready P good keeps s.rules s.args_override_self all _ a is) e rows)
+      (kept_long P good keeps s.rules s.args_override_self all (arg_by_long s.rules p.0) p.1 h
+      (λ a is. ready P good keeps s.rules s.args_override_self all _ a is) e rows)
 
   kept_word : (waiting : Waiting) (position : ℕ) (word : Text) (met : Option Text) (h : Held) → other_fault s met word h ≡ [] → P h.rows
       → P (subcommand_or_other s.rules met waiting position word h).0.rows
@@ -162,7 +169,8 @@ module _ (P : List Row → Type 0) (good : Rule → Bool) (keeps : Keeps P good)
   kept_met false waiting position word h e rows = kept_word waiting position word (subcommand_met names waiting word) h e rows
 
   kept_positional : (found : Option Rule) (word : Text) (w : Walk) (h : Held)
-      → option_map_or (λ a. positional_fault s.rules s.args_override_self a h) found (stray_fault s) ≡ [] → P h.rows → P (to_positional s.rules found word w h).held.rows
+      → option_map_or (λ a. positional_fault s.rules s.args_override_self a h) found (stray_fault s) ≡ [] → P h.rows →
+      P (to_positional s.rules found word w h).held.rows
   kept_positional None word w h e rows = rows
   kept_positional (Some a) word w h e rows = go (is_pending a h.pending && takes_several a) e
     where
@@ -170,7 +178,8 @@ module _ (P : List Row → Type 0) (good : Rule → Bool) (keeps : Keeps P good)
       go true e = rows
       go false e = kept_settled P good keeps s.rules s.args_override_self all h e rows
 
-  kept_step : (word : Text) (w : Walk) (h : Held) (step : Step) → step_fault s w.position h step ≡ [] → P h.rows → P (after_step s.rules word w h step).held.rows
+  kept_step : (word : Text) (w : Walk) (h : Held) (step : Step) → step_fault s w.position h step ≡ [] → P h.rows →
+      P (after_step s.rules word w h step).held.rows
   kept_step word w h (next waiting) e rows = rows
   kept_step word w h (trailing position) e rows = rows
   kept_step word w h (subcommand name) e rows = rows
@@ -200,19 +209,22 @@ module _ (P : List Row → Type 0) (good : Rule → Bool) (keeps : Keeps P good)
 
 -- ---- the level
 
-kept_defaults : (P : List Row → Type 0) (good : Rule → Bool) → KeepsDefault P good → (rules : List Rule) (rows : List Row) → list_all good rules ≡ true → P rows → P (fold with_default rows rules)
+kept_defaults : (P : List Row → Type 0) (good : Rule → Bool) → KeepsDefault P good → (rules : List Rule) (rows : List Row) → list_all good rules ≡ true →
+    P rows → P (fold with_default rows rules)
 kept_defaults P good default [] rows all h = h
 kept_defaults P good default (a ∷ rest) rows all h =
     let p = both (good a) (list_all good rest) all in
     kept_defaults P good default rest (with_default rows a) p.1 (default rows a p.0 h)
 
 -- it is true of the rows that the level ends with, and the level's last check finds no fault in them
-pub rows_kept : (P : List Row → Type 0) (good : Rule → Bool) → Keeps P good → KeepsDefault P good → P [] → (s : Shape) (words : List Text) → list_all good s.rules ≡ true
+pub rows_kept : (P : List Row → Type 0) (good : Rule → Bool) → Keeps P good → KeepsDefault P good → P [] → (s : Shape) (words : List Text) →
+    list_all good s.rules ≡ true
     → level_fault s [] nothing_held words false [] ≡ [] → P (rows_after s.rules [] words) × (check_fault s (rows_after s.rules [] words) false ≡ [])
 rows_kept P good keeps default none s words all e =
     let end = (walk s.rules [] nothing_held words).held in
     let walks = neither (walk_fault s [] (walk_from nothing_held) words) _ e in
     let settles = neither (settle_fault s.rules s.args_override_self end) _ walks.1 in
     let defaults = neither (defaults_fault (settled s.rules end).rows s.rules) _ settles.1 in
-    let rows = kept_settled P good keeps s.rules s.args_override_self all end settles.0 (kept_walk P good keeps s [] all words (walk_from nothing_held) walks.0 none) in
+    let rows = kept_settled P good keeps s.rules s.args_override_self all end settles.0
+    (kept_walk P good keeps s [] all words (walk_from nothing_held) walks.0 none) in
     (kept_defaults P good default s.rules (settled s.rules end).rows all rows, defaults.1)

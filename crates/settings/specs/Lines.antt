@@ -1,5 +1,6 @@
 -- The command line: the command that `clap` parses, and what the settings are of the words.
-use Rattle.std.specs.Prelude.{◌≡◌, ◌≢◌, ◌≤◌, ◌⊎◌, ◌↔◌, ℕ, pos, Bool, true, false, List, [], ◌∷◌, codes, Option, Some, None, is_some, option_map, slice_get, IfSome, IsSomeAnd, MatchOption}
+use Rattle.std.specs.Prelude.{◌≡◌, ◌≢◌, ◌≤◌, ◌⊎◌, ◌↔◌, ℕ, pos, Bool, true, false, List, [], ◌∷◌, codes, Option, Some, None, is_some, option_map, slice_get}
+use Rattle.std.specs.Prelude.{IfSome, IsSomeAnd, MatchOption}
 use Rattle.std.specs.Str.Parse.{signed_digits_value}
 use Rattle.clap.specs.Words.{App, IsSignedIn, Row, Rule, Text, first_of, new_app, new_rule, one_of, with_rule, with_subcommand, without_minus, subcommand_of}
 use Rattle.clap.specs.Simple.{on_top}
@@ -86,7 +87,8 @@ with_sizes a = with_number shared_words (with_number records (with_number queue 
 
 unfoldable pub run_command : App
 run_command =
-    with_number start (with_number budget (with_sizes (with_rule (with_rule (with_file (new_app (codes "run"))) (option (codes "trace"))) (flag (codes "sweep")))))
+    with_number start (with_number budget (with_sizes
+    (with_rule (with_rule (with_file (new_app (codes "run"))) (option (codes "trace"))) (flag (codes "sweep")))))
 
 unfoldable pub replay_command : App
 replay_command = with_number shared_words (with_file (with_rule (new_app (codes "replay")) (path (codes "TRACE"))))
@@ -245,7 +247,8 @@ HasReplay rows = HasPath (codes "TRACE") rows × HasPath (codes "FILE") rows × 
 
 -- the name and the rows are of a subcommand of the program's, with all that has to be given
 pub record IsWhole (name : Text) (rows : List Row) : Type 0 where
-  pub known : (name ≡ codes "words") ⊎ ((name ≡ codes "asm") ⊎ ((name ≡ codes "dis") ⊎ ((name ≡ codes "run") ⊎ ((name ≡ codes "replay") ⊎ (name ≡ codes "explain")))))
+  pub known : (name ≡ codes "words") ⊎ ((name ≡ codes "asm")
+      ⊎ ((name ≡ codes "dis") ⊎ ((name ≡ codes "run") ⊎ ((name ≡ codes "replay") ⊎ (name ≡ codes "explain")))))
   pub words : name ≡ codes "words" → HasPath (codes "FILE") rows
   pub asm : name ≡ codes "asm" → HasAsm rows
   pub dis : name ≡ codes "dis" → HasDis rows

@@ -1,7 +1,8 @@
 //! The words of the command line, as settings.
 ghost use Rattle.std.specs.Prelude.{◌≡◌, ◌≢◌, ℕ, List, Option, IfOk, MatchResult, map};
 ghost use Rattle.clap.specs.Words.{FailsBy, fault_of, kind_of, subcommand_of, subcommand_rows_of};
-ghost use Rattle.settings.specs.Lines.{AreAsmOf, AreDisOf, AreExplainOf, AreReplayOf, AreRunOf, AreWordsOf, IsAsked, NameAsmOf, NameDisOf, NameExplainOf, NameReplayOf, NameRunOf, NameWordsOf, ultra_command};
+ghost use Rattle.settings.specs.Lines.{AreAsmOf, AreDisOf, AreExplainOf, AreReplayOf, AreRunOf, AreWordsOf, IsAsked, NameAsmOf, NameDisOf, NameExplainOf};
+ghost use Rattle.settings.specs.Lines.{NameReplayOf, NameRunOf, NameWordsOf, ultra_command};
 
 use crate::choice::Settings;
 use crate::command::ultra_shape;

@@ -2,7 +2,8 @@
 ghost use Rattle.std.specs.Prelude.{◌≡◌, false, IfOk};
 ghost use Rattle.clap.specs.Words.{app_of, new_app, with_subcommand};
 ghost use Rattle.clap.specs.declared.builder.command.Command.TheViews.{out-Command};
-ghost use Rattle.settings.specs.Lines.{program, with_sizes, words_command, asm_command, dis_command, run_command, replay_command, explain_command, ultra_command};
+ghost use Rattle.settings.specs.Lines.{program, with_sizes, words_command, asm_command, dis_command, run_command, replay_command, explain_command};
+ghost use Rattle.settings.specs.Lines.{ultra_command};
 
 use crate::args::{flag_arg, option_arg, path_arg, with, with_file, with_number, word_arg};
 use crate::help::{ASM_ENDS, DIS_ENDS, EXPLAIN_ENDS, REPLAY_ENDS, RUN_ENDS};

@@ -1,7 +1,8 @@
 //! What the matches of a subcommand say.
 ghost use Rattle.std.specs.Prelude.{◌≡◌, ◌≤◌, ◌<◌, ◌^◌, codes, option_map};
 ghost use Rattle.clap.specs.Words.{found_of, rows_of, subcommand_rows_of};
-ghost use Rattle.settings.specs.Lines.{IsPath, IsOption, IsFlag, IsNumber, IsWords, IsAsm, IsDis, IsRun, IsReplay, IsExplain, IsChosen, HasPath, HasNumber, HasAsm, HasDis, HasRun, HasReplay, IsComplete};
+ghost use Rattle.settings.specs.Lines.{IsPath, IsOption, IsFlag, IsNumber, IsWords, IsAsm, IsDis, IsRun, IsReplay, IsExplain, IsChosen, HasPath, HasNumber};
+ghost use Rattle.settings.specs.Lines.{HasAsm, HasDis, HasRun, HasReplay, IsComplete};
 ghost use Rattle.settings.specs.Options.{ranged, ranged_as};
 
 use crate::choice::{Asm, Dis, Explain, Replay, Run, Settings, Words};

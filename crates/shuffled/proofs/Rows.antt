@@ -1,5 +1,6 @@
 -- The step at each place of the list of choices.
-use Rattle.std.proofs.Common.{◌≡◌, ℕ, zero, suc, ◌+◌, ◌-◌, ◌*◌, ◌<◌, ◌≤◌, ◌⊎◌, inl, inr, ⊎_elim, List, [], ◌∷◌, ◌++◌, length, Some, refl, sym, ap, ap₂, ◌∙◌, arith, add-zero, zero-add, length-append}
+use Rattle.std.proofs.Common.{◌≡◌, ℕ, zero, suc, ◌+◌, ◌-◌, ◌*◌, ◌<◌, ◌≤◌, ◌⊎◌, inl, inr, ⊎_elim, List, [], ◌∷◌, ◌++◌, length, Some, refl, sym, ap, ap₂, ◌∙◌}
+use Rattle.std.proofs.Common.{arith, add-zero, zero-add, length-append}
 use Rattle.std.specs.Prelude.{◌^◌, ◌/◌, ◌%◌, slice_get}
 use Rattle.std.specs.Option.{option_map}
 use Rattle.std.specs.List.{range_with_len}
@@ -114,7 +115,8 @@ module _ (k : ℕ) where
       let sum : row ≡ suc k + stage = omega arith in
       let parts : row * 2 ^ k ≡ k * 2 ^ k + 2 ^ k + stage * 2 ^ k =
       ap (λ n. n * 2 ^ k) sum ∙ add-mul (suc k) stage (2 ^ k) ∙ ap (λ n. n + stage * 2 ^ k) (suc-mul k (2 ^ k)) in
-      get-behind (ups ++ serves) downs (row * 2 ^ k + wire) (stage * 2 ^ k + wire) (Down stage wire) (omega arith) (stage_at k Down stage wire (omega arith) within)
+      get-behind (ups ++ serves) downs (row * 2 ^ k + wire) (stage * 2 ^ k + wire) (Down stage wire) (omega arith)
+      (stage_at k Down stage wire (omega arith) within)
 
   -- ---- the laws
 

@@ -1,5 +1,6 @@
 -- Bytes spell a trace, or have a fault.
-use Rattle.std.proofs.Common.{◌≡◌, ◌≢◌, ◌⊎◌, ℕ, zero, suc, ◌+◌, ◌*◌, ◌<◌, ◌≤◌, Bool, true, false, ◌&&◌, nat_eq, nat_le, List, [], ◌∷◌, ◌++◌, length, take, drop, Option, Some, None, sym, ap, subst, refl, ◌∙◌, arith, inl, inr, append_assoc, append-nil}
+use Rattle.std.proofs.Common.{◌≡◌, ◌≢◌, ◌⊎◌, ℕ, zero, suc, ◌+◌, ◌*◌, ◌<◌, ◌≤◌, Bool, true, false, ◌&&◌, nat_eq, nat_le, List, [], ◌∷◌, ◌++◌, length, take}
+use Rattle.std.proofs.Common.{drop, Option, Some, None, sym, ap, subst, refl, ◌∙◌, arith, inl, inr, append_assoc, append-nil}
 use Rattle.std.specs.Prelude.{slice_index}
 use Rattle.std.specs.List.{starts_with}
 use Rattle.std.proofs.lemmas.Bool.{cases_lt, and_parts, and_from, eqb-true, leb-true, le-leb}
@@ -68,7 +69,8 @@ abbrev IsRecord : (k : ℕ) → List ℕ → Type 0
 IsRecord k bytes = ((step : Step) × HasRecord k step × (bytes ≡ record_bytes step)) ⊎ ((step : Step) → HasRecord k step → bytes ≢ record_bytes step)
 
 module _ (k : ℕ) (bytes : List ℕ) (size : length bytes ≡ 12) (small : Small bytes) where
-  with_test : (s : Step) → Some s ≡ named_step (fields_in bytes) → (test : Bool) → test ≡ (has_record k s && equal (fields_of s) (fields_in bytes)) → IsRecord k bytes
+  with_test : (s : Step) → Some s ≡ named_step (fields_in bytes) → (test : Bool) → test ≡ (has_record k s && equal (fields_of s) (fields_in bytes)) →
+      IsRecord k bytes
   with_test s e true t =
       let parts = and_parts (has_record k s) (equal (fields_of s) (fields_in bytes)) (sym t) in
       inl (s, parts.0, sym (field_bytes-fields_in bytes size small) ∙ ap field_bytes (sym (equal_same (fields_of s) (fields_in bytes) parts.1)))
@@ -76,7 +78,8 @@ module _ (k : ℕ) (bytes : List ℕ) (size : length bytes ≡ 12) (small : Smal
       inr (no_record k bytes (λ step has same.
       let found = only_named k (fields_in bytes) (Some s) step e has same in
       let one : s ≡ step = cc in
-      let passes = and_from (has_record k s) (equal (fields_of s) (fields_in bytes)) (ap (has_record k) one ∙ has) (same_fields (fields_of s) (fields_in bytes) (ap fields_of one ∙ same)) in
+      let passes = and_from (has_record k s) (equal (fields_of s) (fields_in bytes)) (ap (has_record k) one ∙ has)
+      (same_fields (fields_of s) (fields_in bytes) (ap fields_of one ∙ same)) in
       cc))
 
   with_named : (named : Option Step) → named ≡ named_step (fields_in bytes) → IsRecord k bytes
@@ -94,7 +97,8 @@ in_range h = nat_le h.k 6 && (nat_le 2 h.c && (nat_le h.c 16 && (nat_le h.b 16 &
 range_true : (h : Header) → IsHeader h → in_range h ≡ true
 range_true h is =
     and_from _ _ (le-leb h.k 6 is.stages)
-    (and_from _ _ (le-leb 2 h.c is.some_capacity) (and_from _ _ (le-leb h.c 16 is.capacity) (and_from _ _ (le-leb h.b 16 is.records) (le-leb h.count 4194304 is.count))))
+    (and_from _ _ (le-leb 2 h.c is.some_capacity)
+    (and_from _ _ (le-leb h.c 16 is.capacity) (and_from _ _ (le-leb h.b 16 is.records) (le-leb h.count 4194304 is.count))))
 
 range_holds : (h : Header) → in_range h ≡ true → IsHeader h
 range_holds h t =
@@ -102,7 +106,13 @@ range_holds h t =
     let q = and_parts (nat_le 2 h.c) _ p.1 in
     let r = and_parts (nat_le h.c 16) _ q.1 in
     let s = and_parts (nat_le h.b 16) _ r.1 in
-    record { stages = leb-true h.k 6 p.0; some_capacity = leb-true 2 h.c q.0; capacity = leb-true h.c 16 r.0; records = leb-true h.b 16 s.0; count = leb-true h.count 4194304 s.1 }
+    record {
+      stages = leb-true h.k 6 p.0;
+      some_capacity = leb-true 2 h.c q.0;
+      capacity = leb-true h.c 16 r.0;
+      records = leb-true h.b 16 s.0;
+      count = leb-true h.count 4194304 s.1;
+    }
 
 abbrev magic : List ℕ
 magic = 0x55 ∷ 0x4C ∷ 0x54 ∷ 0x52 ∷ 1 ∷ []
@@ -110,7 +120,8 @@ magic = 0x55 ∷ 0x4C ∷ 0x54 ∷ 0x52 ∷ 1 ∷ []
 abbrev IsHeaded : List ℕ → Type 0
 IsHeaded bytes = ((h : Header) × IsHeader h × (bytes ≡ header_bytes h)) ⊎ ((h : Header) → IsHeader h → bytes ≢ header_bytes h)
 
-with_tests : (bytes : List ℕ) → length bytes ≡ 12 → Small bytes → (test : Bool) → test ≡ (starts_with nat_eq bytes magic && in_range (header_in bytes)) → IsHeaded bytes
+with_tests : (bytes : List ℕ) → length bytes ≡ 12 → Small bytes → (test : Bool) → test ≡ (starts_with nat_eq bytes magic && in_range (header_in bytes)) →
+    IsHeaded bytes
 with_tests bytes size small true t =
     let parts = and_parts (starts_with nat_eq bytes magic) (in_range (header_in bytes)) (sym t) in
     inl (header_in bytes, range_holds (header_in bytes) parts.1, sym (header_bytes-header_in bytes size small parts.0))
@@ -134,7 +145,8 @@ record Body (k count : ℕ) (bytes : List ℕ) : Type 0 where
   spelled : bytes ≡ records_bytes steps ++ rest
   state : (length steps ≡ count) ⊎ ((length steps < count) × ((fault : TraceError) × RecordFault k rest fault))
 
-body_more : (k n : ℕ) (bytes : List ℕ) (step : Step) → HasRecord k step → 12 ≤ length bytes → take 12 bytes ≡ record_bytes step → Body k n (drop 12 bytes) → Body k (suc n) bytes
+body_more : (k n : ℕ) (bytes : List ℕ) (step : Step) → HasRecord k step → 12 ≤ length bytes → take 12 bytes ≡ record_bytes step → Body k n (drop 12 bytes) →
+    Body k (suc n) bytes
 body_more k n bytes step has long same body = record {
   steps = step ∷ body.steps;
   rest = body.rest;
@@ -155,19 +167,34 @@ body_of k (suc n) bytes small =
       | inl short ↦ record { steps = []; rest = bytes; records = All-nil (HasRecord k); spelled = refl; state = inr (omega arith, (error.Truncated, short)) }
       | inr long ↦ elim (record_or_none k (take 12 bytes) (length-take-le 12 bytes long) (small_take 12 bytes long small)) [
         | inl x ↦ body_more k n bytes x.0 x.1 long x.2 more
-        | inr none ↦ record { steps = []; rest = bytes; records = All-nil (HasRecord k); spelled = refl; state = inr (omega arith, (error.Record, (long, none))) }
+        | inr none ↦ record {
+          steps = [];
+          rest = bytes;
+          records = All-nil (HasRecord k);
+          spelled = refl;
+          state = inr (omega arith, (error.Record, (long, none)));
+        }
       ]
     ]
 
 -- ---- all
 
 module _ (bytes : List ℕ) (h : Header) (is : IsHeader h) (steps : List Step) (records : HaveRecords h.k steps) where
-  ended : (rest : List ℕ) → length steps ≡ h.count → bytes ≡ header_bytes h ++ (records_bytes steps ++ rest) → ((t : TraceContents) × Spells bytes t) ⊎ HasFault bytes
+  ended : (rest : List ℕ) → length steps ≡ h.count → bytes ≡ header_bytes h ++ (records_bytes steps ++ rest) →
+      ((t : TraceContents) × Spells bytes t) ⊎ HasFault bytes
   ended [] whole spelled =
-      let same : header_of (record { k = h.k; c = h.c; b = h.b; steps = steps }) ≡ h = ap (λ (n : ℕ). let x : Header = record { k = h.k; c = h.c; b = h.b; count = n } in x) whole in
+      let same : header_of (record { k = h.k; c = h.c; b = h.b; steps = steps }) ≡ h =
+      ap (λ (n : ℕ). let x : Header = record { k = h.k; c = h.c; b = h.b; count = n } in x) whole in
       let t : TraceContents = record { k = h.k; c = h.c; b = h.b; steps = steps } in
       let is_trace : IsTrace t = record { header = subst IsHeader (sym same) is; records = records } in
-      inl (t, (is_trace, ap (λ (x : Header). header_bytes x ++ records_bytes steps) same ∙ ap (λ (x : List ℕ). header_bytes h ++ x) (sym (append-nil (records_bytes steps))) ∙ sym spelled))
+      inl (
+        t,
+        (
+          is_trace,
+          ap (λ (x : Header). header_bytes x ++ records_bytes steps) same
+              ∙ ap (λ (x : List ℕ). header_bytes h ++ x) (sym (append-nil (records_bytes steps))) ∙ sym spelled,
+        ),
+      )
   ended (b ∷ rest) whole spelled =
       let begins : BeginsWith h steps (b ∷ rest) bytes = record { header = is; records = records; few = omega arith; spelled = spelled } in
       inr (12 + 12 * length steps, error.Trailing, inr (h, steps, b ∷ rest, begins, refl, inr (whole, omega arith, refl)))
@@ -187,7 +214,8 @@ spelled_or_faulty bytes are =
             elim body.state [
               | inl whole ↦ ended bytes h x.1 body.steps body.records body.rest whole spelled
               | inr y ↦
-                  let begins : BeginsWith h body.steps body.rest bytes = record { header = x.1; records = body.records; few = omega (arith, y.0); spelled = spelled } in
+                  let begins : BeginsWith h body.steps body.rest bytes =
+                  record { header = x.1; records = body.records; few = omega (arith, y.0); spelled = spelled } in
                   inr (12 + 12 * length body.steps, y.1.0, inr (h, body.steps, body.rest, begins, refl, inl (y.0, y.1.1)))
             ]
       ]

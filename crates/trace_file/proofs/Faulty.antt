@@ -1,5 +1,6 @@
 -- Bytes have one fault at most, and none where they spell a trace; what follows a fault does not mend it.
-use Rattle.std.proofs.Common.{◌≡◌, ◌≢◌, ◌⊎◌, ℕ, ◌+◌, ◌*◌, ◌<◌, ◌≤◌, List, [], ◌∷◌, ◌++◌, length, take, sym, ap, subst, refl, ◌∙◌, arith, inl, inr, append_assoc, append-nil, length-append}
+use Rattle.std.proofs.Common.{◌≡◌, ◌≢◌, ◌⊎◌, ℕ, ◌+◌, ◌*◌, ◌<◌, ◌≤◌, List, [], ◌∷◌, ◌++◌, length, take, sym, ap, subst, refl, ◌∙◌, arith, inl, inr}
+use Rattle.std.proofs.Common.{append_assoc, append-nil, length-append}
 use Rattle.std.proofs.lemmas.List.{take_at, take-append-le}
 use Rattle.std.proofs.lemmas.List.Elements.{All-head, All-tail}
 use Rattle.steps.specs.declared.step.Step.{Step}
@@ -15,7 +16,8 @@ use Rattle.trace_file.proofs.Uniqueness.{same_parts, same_header, same_first, sa
 
 -- ---- each fault by itself
 
-header_kind : (bytes : List ℕ) (f : TraceError) → HeaderFault bytes f → ((f ≡ error.Truncated) × (length bytes < 12)) ⊎ ((f ≡ error.Header) × (12 ≤ length bytes))
+header_kind : (bytes : List ℕ) (f : TraceError) → HeaderFault bytes f →
+    ((f ≡ error.Truncated) × (length bytes < 12)) ⊎ ((f ≡ error.Header) × (12 ≤ length bytes))
 header_kind bytes error.Truncated h = inl (refl, h)
 header_kind bytes error.Header h = inr (refl, h.0)
 header_kind bytes error.Record h = absurd h
@@ -29,7 +31,8 @@ header_once bytes f g p q = elim (header_kind bytes f p) [
   | inr a ↦ elim (header_kind bytes g q) [ inl b ↦ absurd (omega (arith, a.1, b.1)) | inr b ↦ a.0 ∙ sym b.0 ]
 ]
 
-record_kind : (k : ℕ) (rest : List ℕ) (f : TraceError) → RecordFault k rest f → ((f ≡ error.Truncated) × (length rest < 12)) ⊎ ((f ≡ error.Record) × (12 ≤ length rest))
+record_kind : (k : ℕ) (rest : List ℕ) (f : TraceError) → RecordFault k rest f →
+    ((f ≡ error.Truncated) × (length rest < 12)) ⊎ ((f ≡ error.Record) × (12 ≤ length rest))
 record_kind k rest error.Truncated h = inl (refl, h)
 record_kind k rest error.Record h = inr (refl, h.0)
 record_kind k rest error.Header h = absurd h
@@ -55,7 +58,8 @@ no_first k rest behind step error.Link has e h = h
 no_first k rest behind step error.Memory has e h = h
 
 -- no steps go past a record that is wrong
-no_more : (k : ℕ) (ss ts : List Step) (us vs : List ℕ) (f : TraceError) → HaveRecords k ss → HaveRecords k ts → records_bytes ss ++ us ≡ records_bytes ts ++ vs → RecordFault k us f → length ts ≤ length ss
+no_more : (k : ℕ) (ss ts : List Step) (us vs : List ℕ) (f : TraceError) → HaveRecords k ss → HaveRecords k ts →
+    records_bytes ss ++ us ≡ records_bytes ts ++ vs → RecordFault k us f → length ts ≤ length ss
 no_more k [] [] us vs f p q e h = omega arith
 no_more k [] (t ∷ ts) us vs f p q e h =
     absurd (no_first k us (records_bytes ts ++ vs) t f (All-head (HasRecord k) t ts q) (e ∙ append_assoc (record_bytes t) (records_bytes ts) vs) h)
@@ -69,8 +73,11 @@ no_more k (s ∷ ss) (t ∷ ts) us vs f p q e h =
 
 begins_header : (h : Header) (steps : List Step) (rest bytes : List ℕ) → BeginsWith h steps rest bytes → (12 ≤ length bytes) × (take 12 bytes ≡ header_bytes h)
 begins_header h steps rest bytes b =
-    let size = length-header_bytes h in
-    (omega (arith, ap length b.spelled, length-append (header_bytes h) (records_bytes steps ++ rest)), ap (take 12) b.spelled ∙ take_at (header_bytes h) (records_bytes steps ++ rest) 12 size)
+    let size = length-header_bytes h in (
+      omega (arith, ap length b.spelled, length-append (header_bytes h) (records_bytes steps ++ rest)),
+      ap (take 12) b.spelled
+          ∙ take_at (header_bytes h) (records_bytes steps ++ rest) 12 size,
+    )
 
 no_header_fault : (h : Header) (steps : List Step) (rest bytes : List ℕ) (f : TraceError) → BeginsWith h steps rest bytes → HeaderFault bytes f → ⊥
 no_header_fault h steps rest bytes error.Truncated b fault = omega (arith, (begins_header h steps rest bytes b).0)
@@ -80,12 +87,15 @@ no_header_fault h steps rest bytes error.Trailing b fault = fault
 no_header_fault h steps rest bytes error.Link b fault = fault
 no_header_fault h steps rest bytes error.Memory b fault = fault
 
-same_beginning : (h g : Header) (ss ts : List Step) (us vs bytes : List ℕ) → BeginsWith h ss us bytes → BeginsWith g ts vs bytes → (h ≡ g) × (records_bytes ss ++ us ≡ records_bytes ts ++ vs)
+same_beginning : (h g : Header) (ss ts : List Step) (us vs bytes : List ℕ) → BeginsWith h ss us bytes → BeginsWith g ts vs bytes →
+    (h ≡ g) × (records_bytes ss ++ us ≡ records_bytes ts ++ vs)
 same_beginning h g ss ts us vs bytes a b =
-    let parts = same_parts 12 (header_bytes h) (records_bytes ss ++ us) (header_bytes g) (records_bytes ts ++ vs) (length-header_bytes h) (length-header_bytes g) (sym a.spelled ∙ b.spelled) in
+    let parts = same_parts 12 (header_bytes h) (records_bytes ss ++ us) (header_bytes g) (records_bytes ts ++ vs) (length-header_bytes h)
+    (length-header_bytes g) (sym a.spelled ∙ b.spelled) in
     (same_header h g a.header b.header parts.0, parts.1)
 
-body_once : (h : Header) (ss ts : List Step) (us vs : List ℕ) (f g : TraceError) → HaveRecords h.k ss → HaveRecords h.k ts → records_bytes ss ++ us ≡ records_bytes ts ++ vs → BodyFault h ss us f → BodyFault h ts vs g →
+body_once : (h : Header) (ss ts : List Step) (us vs : List ℕ) (f g : TraceError) → HaveRecords h.k ss → HaveRecords h.k ts →
+    records_bytes ss ++ us ≡ records_bytes ts ++ vs → BodyFault h ss us f → BodyFault h ts vs g →
     (length ss ≡ length ts) × (f ≡ g)
 body_once h ss ts us vs f g p q e a b = elim a [
   | inl x ↦ elim b [
@@ -131,7 +141,8 @@ trace_begins bytes t s = record {
   spelled = sym s.1 ∙ ap (λ (x : List ℕ). header_bytes (header_of t) ++ x) (sym (append-nil (records_bytes t.steps)));
 }
 
-no_body_fault : (h : Header) (ss ts : List Step) (us : List ℕ) (f : TraceError) → HaveRecords h.k ss → HaveRecords h.k ts → length ts ≡ h.count → records_bytes ss ++ us ≡ records_bytes ts ++ [] → BodyFault h ss us f → ⊥
+no_body_fault : (h : Header) (ss ts : List Step) (us : List ℕ) (f : TraceError) → HaveRecords h.k ss → HaveRecords h.k ts → length ts ≡ h.count →
+    records_bytes ss ++ us ≡ records_bytes ts ++ [] → BodyFault h ss us f → ⊥
 no_body_fault h ss ts us f p q whole e fault = elim fault [
   | inl x ↦ omega (arith, no_more h.k ss ts us [] f p q e x.1, x.0)
   | inr x ↦ omega (arith, ap length (same_steps h.k ss ts us [] p q (x.0 ∙ sym whole) e).1, x.1)
@@ -183,7 +194,8 @@ begins_stays h steps rest bytes more b = record {
       ∙ ap (λ (x : List ℕ). header_bytes h ++ x) (append_assoc (records_bytes steps) rest more);
 }
 
-body_stays : (h : Header) (steps : List Step) (rest more : List ℕ) (f : TraceError) → f ≢ error.Truncated → BodyFault h steps rest f → BodyFault h steps (rest ++ more) f
+body_stays : (h : Header) (steps : List Step) (rest more : List ℕ) (f : TraceError) → f ≢ error.Truncated → BodyFault h steps rest f →
+    BodyFault h steps (rest ++ more) f
 body_stays h steps rest more f other body = elim body [
   | inl x ↦ inl (x.0, record_stays h.k rest more f other x.1)
   | inr x ↦ inr (x.0, omega (arith, length-append rest more, x.1), x.2)

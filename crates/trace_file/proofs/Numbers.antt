@@ -12,7 +12,8 @@ use Rattle.trace_file.specs.Records.{field_bytes}
 use Rattle.trace_file.specs.Traces.{header_bytes}
 use Rattle.trace_file.specs.Reading.{word_in, fields_in}
 
-twelve : (xs : List ℕ) → length xs ≡ 12 → xs ≡ slice_index xs 0 ∷ slice_index xs 1 ∷ slice_index xs 2 ∷ slice_index xs 3 ∷ slice_index xs 4 ∷ slice_index xs 5 ∷ slice_index xs 6 ∷ slice_index xs 7 ∷ slice_index xs 8 ∷ slice_index xs 9 ∷ slice_index xs 10 ∷ slice_index xs 11 ∷ []
+twelve : (xs : List ℕ) → length xs ≡ 12 → xs ≡ slice_index xs 0 ∷ slice_index xs 1 ∷ slice_index xs 2 ∷ slice_index xs 3 ∷ slice_index xs 4 ∷ slice_index xs 5
+    ∷ slice_index xs 6 ∷ slice_index xs 7 ∷ slice_index xs 8 ∷ slice_index xs 9 ∷ slice_index xs 10 ∷ slice_index xs 11 ∷ []
 twelve [] long = absurd (omega arith)
 twelve (a ∷ []) long = absurd (omega arith)
 twelve (a ∷ b ∷ []) long = absurd (omega arith)
@@ -47,14 +48,23 @@ field_bytes-fields_in xs e h =
     let first = word_back xs 4 5 6 7 _ h refl in
     let second = word_back xs 8 9 10 11 _ h refl in
     ap (λ (ys : List ℕ). slice_index xs 0 ∷ slice_index xs 1 ∷ slice_index xs 2 ∷ slice_index xs 3 ∷ (ys ++ to_le_bytes w32 (word_in xs 8 9 10 11))) first
-    ∙ ap (λ (ys : List ℕ). slice_index xs 0 ∷ slice_index xs 1 ∷ slice_index xs 2 ∷ slice_index xs 3 ∷ slice_index xs 4 ∷ slice_index xs 5 ∷ slice_index xs 6 ∷ slice_index xs 7 ∷ ys) second
+    ∙ ap (λ (ys : List ℕ). slice_index xs 0 ∷ slice_index xs 1 ∷ slice_index xs 2 ∷ slice_index xs 3 ∷ slice_index xs 4 ∷ slice_index xs 5 ∷ slice_index xs 6
+    ∷ slice_index xs 7 ∷ ys) second
     ∙ sym (twelve xs e)
 
 pub fields_in-field_bytes : (f : Fields) → f.address < 2 ^ 32 → f.value < 2 ^ 32 → fields_in (field_bytes f) ≡ f
 unfolding field_bytes fields_in
 fields_in-field_bytes f p q =
-    ap (λ (n : ℕ). let x : Fields = record { kind = f.kind; a = f.a; b = f.b; unused = f.unused; address = n; value = from_le_bytes w32 (to_le_bytes w32 f.value) } in x) (from_le_bytes-to_le_bytes_4 f.address p)
-    ∙ ap (λ (n : ℕ). let x : Fields = record { kind = f.kind; a = f.a; b = f.b; unused = f.unused; address = f.address; value = n } in x) (from_le_bytes-to_le_bytes_4 f.value q)
+    ap (λ (n : ℕ). let x : Fields = record {
+      kind = f.kind;
+      a = f.a;
+      b = f.b;
+      unused = f.unused;
+      address = n;
+      value = from_le_bytes w32 (to_le_bytes w32 f.value);
+    } in x) (from_le_bytes-to_le_bytes_4 f.address p)
+    ∙ ap (λ (n : ℕ). let x : Fields = record { kind = f.kind; a = f.a; b = f.b; unused = f.unused; address = f.address; value = n } in
+    x) (from_le_bytes-to_le_bytes_4 f.value q)
 
 -- the numbers of a header of twelve bytes
 unfoldable pub header_in : List ℕ → Header
@@ -67,14 +77,16 @@ header_in-header_bytes h p =
 
 -- ---- the first bytes of a header
 
-pub header_bytes-header_in : (xs : List ℕ) → length xs ≡ 12 → ((p : ℕ) → slice_index xs p < 256) → starts_with nat_eq xs (0x55 ∷ 0x4C ∷ 0x54 ∷ 0x52 ∷ 1 ∷ []) ≡ true → header_bytes (header_in xs) ≡ xs
+pub header_bytes-header_in : (xs : List ℕ) → length xs ≡ 12 → ((p : ℕ) → slice_index xs p < 256) →
+    starts_with nat_eq xs (0x55 ∷ 0x4C ∷ 0x54 ∷ 0x52 ∷ 1 ∷ []) ≡ true → header_bytes (header_in xs) ≡ xs
 unfolding header_bytes header_in
 header_bytes-header_in xs e h starts =
     let parts = twelve xs e in
     let first = same_text (0x55 ∷ 0x4C ∷ 0x54 ∷ 0x52 ∷ 1 ∷ []) (take 5 xs) (sym starts) ∙ ap (take 5) parts in
     let word = word_back xs 8 9 10 11 _ h refl in
     ap (λ (ys : List ℕ). 0x55 ∷ 0x4C ∷ 0x54 ∷ 0x52 ∷ 1 ∷ slice_index xs 5 ∷ slice_index xs 6 ∷ slice_index xs 7 ∷ ys) word
-    ∙ ap (λ (ys : List ℕ). ys ++ (slice_index xs 5 ∷ slice_index xs 6 ∷ slice_index xs 7 ∷ slice_index xs 8 ∷ slice_index xs 9 ∷ slice_index xs 10 ∷ slice_index xs 11 ∷ [])) first
+    ∙ ap (λ (ys : List ℕ). ys ++ (slice_index xs 5 ∷ slice_index xs 6 ∷ slice_index xs 7 ∷ slice_index xs 8 ∷ slice_index xs 9 ∷ slice_index xs 10
+    ∷ slice_index xs 11 ∷ [])) first
     ∙ sym parts
 
 pub header_bytes-starts : (h : Header) → starts_with nat_eq (header_bytes h) (0x55 ∷ 0x4C ∷ 0x54 ∷ 0x52 ∷ 1 ∷ []) ≡ true
@@ -83,7 +95,8 @@ header_bytes-starts h = refl
 
 -- equal fields pass the test for equality
 pub same_fields : (f g : Fields) → f ≡ g →
-    (nat_eq f.kind g.kind && (nat_eq f.a g.a && (nat_eq f.b g.b && (nat_eq f.unused g.unused && (nat_eq f.address g.address && nat_eq f.value g.value))))) ≡ true
+    (nat_eq f.kind g.kind && (nat_eq f.a g.a && (nat_eq f.b g.b && (nat_eq f.unused g.unused && (nat_eq f.address g.address && nat_eq f.value g.value)))))
+    ≡ true
 same_fields f g e =
     and_from _ _ (eq-eqb _ _ (ap (λ (x : Fields). x.kind) e))
     (and_from _ _ (eq-eqb _ _ (ap (λ (x : Fields). x.a) e))

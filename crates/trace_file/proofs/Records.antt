@@ -27,7 +27,8 @@ pub records_bytes-append : (xs ys : List Step) → records_bytes (xs ++ ys) ≡ 
 records_bytes-append xs ys = flat_map-append record_bytes xs ys
 
 -- a record that stands behind others
-pub records_bytes-more : (xs : List Step) (step : Step) (rest : List ℕ) → records_bytes (xs ++ step ∷ []) ++ rest ≡ records_bytes xs ++ (record_bytes step ++ rest)
+pub records_bytes-more : (xs : List Step) (step : Step) (rest : List ℕ) →
+    records_bytes (xs ++ step ∷ []) ++ rest ≡ records_bytes xs ++ (record_bytes step ++ rest)
 records_bytes-more xs step rest =
     ap (λ (z : List ℕ). z ++ rest) (records_bytes-append xs (step ∷ []))
     ∙ append_assoc (records_bytes xs) (record_bytes step ++ []) rest

@@ -32,15 +32,18 @@ same_header h g p q e =
     sym (header_in-header_bytes h (omega arith)) ∙ ap header_in e ∙ header_in-header_bytes g (omega arith)
 
 -- one step more of two lists
-pub same_first : (k : ℕ) (s t : Step) (ss ts : List Step) (us vs : List ℕ) → HaveRecords k (s ∷ ss) → HaveRecords k (t ∷ ts) → records_bytes (s ∷ ss) ++ us ≡ records_bytes (t ∷ ts) ++ vs →
+pub same_first : (k : ℕ) (s t : Step) (ss ts : List Step) (us vs : List ℕ) → HaveRecords k (s ∷ ss) → HaveRecords k (t ∷ ts) →
+    records_bytes (s ∷ ss) ++ us ≡ records_bytes (t ∷ ts) ++ vs →
     (s ≡ t) × (records_bytes ss ++ us ≡ records_bytes ts ++ vs)
 same_first k s t ss ts us vs p q e =
     let whole = sym (append_assoc (record_bytes s) (records_bytes ss) us) ∙ e ∙ append_assoc (record_bytes t) (records_bytes ts) vs in
-    let parts = same_parts 12 (record_bytes s) (records_bytes ss ++ us) (record_bytes t) (records_bytes ts ++ vs) (length-field_bytes (fields_of s)) (length-field_bytes (fields_of t)) whole in
+    let parts = same_parts 12 (record_bytes s) (records_bytes ss ++ us) (record_bytes t) (records_bytes ts ++ vs) (length-field_bytes (fields_of s))
+    (length-field_bytes (fields_of t)) whole in
     (same_step k s t (All-head (HasRecord k) s ss p) (All-head (HasRecord k) t ts q) parts.0, parts.1)
 
 -- as many records are the same, if what begins with them is the same
-pub same_steps : (k : ℕ) (ss ts : List Step) (us vs : List ℕ) → HaveRecords k ss → HaveRecords k ts → length ss ≡ length ts → records_bytes ss ++ us ≡ records_bytes ts ++ vs → (ss ≡ ts) × (us ≡ vs)
+pub same_steps : (k : ℕ) (ss ts : List Step) (us vs : List ℕ) → HaveRecords k ss → HaveRecords k ts → length ss ≡ length ts →
+    records_bytes ss ++ us ≡ records_bytes ts ++ vs → (ss ≡ ts) × (us ≡ vs)
 same_steps k [] [] us vs p q n e = (refl, e)
 same_steps k [] (t ∷ ts) us vs p q n e = absurd (omega arith)
 same_steps k (s ∷ ss) [] us vs p q n e = absurd (omega arith)
@@ -55,11 +58,13 @@ contents k c b steps = record { k = k; c = c; b = b; steps = steps }
 same_contents : (t u : TraceContents) → t.k ≡ u.k → t.c ≡ u.c → t.b ≡ u.b → t.steps ≡ u.steps → t ≡ u
 unfolding contents
 same_contents t u k c b steps =
-    ap (λ (x : ℕ). contents x t.c t.b t.steps) k ∙ ap (λ (x : ℕ). contents u.k x t.b t.steps) c ∙ ap (λ (x : ℕ). contents u.k u.c x t.steps) b ∙ ap (contents u.k u.c u.b) steps
+    ap (λ (x : ℕ). contents x t.c t.b t.steps) k ∙ ap (λ (x : ℕ). contents u.k x t.b t.steps) c ∙ ap (λ (x : ℕ). contents u.k u.c x t.steps) b
+    ∙ ap (contents u.k u.c u.b) steps
 
 pub one_trace : (t u : TraceContents) → IsTrace t → IsTrace u → trace_bytes t ≡ trace_bytes u → t ≡ u
 one_trace t u p q e =
-    let parts = same_parts 12 (header_bytes (header_of t)) (records_bytes t.steps) (header_bytes (header_of u)) (records_bytes u.steps) (length-header_bytes (header_of t)) (length-header_bytes (header_of u)) e in
+    let parts = same_parts 12 (header_bytes (header_of t)) (records_bytes t.steps) (header_bytes (header_of u)) (records_bytes u.steps)
+    (length-header_bytes (header_of t)) (length-header_bytes (header_of u)) e in
     let header = same_header (header_of t) (header_of u) p.header q.header parts.0 in
     let k : t.k ≡ u.k = ap (λ (h : Header). h.k) header in
     let records = subst (λ (n : ℕ). HaveRecords n u.steps) (sym k) q.records in

@@ -21,7 +21,8 @@ on_none None P p = p
 on_none (Some x) P p = tt
 
 -- a piece of the steps whose records were written, and what is left
-pub written_parts : (steps written rest : List Step) (n : ℕ) → steps ≡ written ++ rest → (records_bytes written ++ records_bytes (take n rest)) ++ records_bytes (drop n rest) ≡ records_bytes steps
+pub written_parts : (steps written rest : List Step) (n : ℕ) → steps ≡ written ++ rest →
+    (records_bytes written ++ records_bytes (take n rest)) ++ records_bytes (drop n rest) ≡ records_bytes steps
 written_parts steps written rest n whole =
     append_assoc (records_bytes written) (records_bytes (take n rest)) (records_bytes (drop n rest))
     ∙ ap (λ (x : List ℕ). records_bytes written ++ x) (sym (records_bytes-append (take n rest) (drop n rest)) ∙ ap records_bytes (take-append-drop n rest))
@@ -29,4 +30,5 @@ written_parts steps written rest n whole =
     ∙ ap records_bytes (sym whole)
 
 pub steps_parts : (steps written rest : List Step) (n : ℕ) → steps ≡ written ++ rest → steps ≡ (written ++ take n rest) ++ drop n rest
-steps_parts steps written rest n whole = whole ∙ ap (λ (x : List Step). written ++ x) (sym (take-append-drop n rest)) ∙ sym (append_assoc written (take n rest) (drop n rest))
+steps_parts steps written rest n whole =
+    whole ∙ ap (λ (x : List Step). written ++ x) (sym (take-append-drop n rest)) ∙ sym (append_assoc written (take n rest) (drop n rest))

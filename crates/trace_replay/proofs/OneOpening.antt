@@ -34,11 +34,14 @@ module _ (c : Config) (image : ImageContents) (first second : MachineLists) (one
   machine_is : (shown : ℕ → List Event) → machine_of first shown ≡ machine_of second shown
   machine_is shown = one.machine shown ∙ sym (two.machine shown)
 
-  pub alike : (steps : List Step) (shown : ℕ → List Event) → all_after first.config first.code (machine_of first shown) steps ≡ all_after second.config second.code (machine_of second shown) steps
+  pub alike : (steps : List Step) (shown : ℕ → List Event) →
+      all_after first.config first.code (machine_of first shown) steps ≡ all_after second.config second.code (machine_of second shown) steps
   alike steps shown i = all_after (config_is i) (code_is i) (machine_is shown i) steps
 
-  moves : (steps : List Step) → NoneStalls first.config first.code (machine_of first (λ p. [])) steps → NoneStalls second.config second.code (machine_of second (λ p. [])) steps
-  moves steps moved = subst (λ (m : Config × List ℕ × theory.Machine Told). NoneStalls m.0 m.1 m.2 steps) (λ i. (config_is i, code_is i, machine_is (λ p. []) i)) moved
+  moves : (steps : List Step) → NoneStalls first.config first.code (machine_of first (λ p. [])) steps →
+      NoneStalls second.config second.code (machine_of second (λ p. [])) steps
+  moves steps moved =
+      subst (λ (m : Config × List ℕ × theory.Machine Told). NoneStalls m.0 m.1 m.2 steps) (λ i. (config_is i, code_is i, machine_is (λ p. []) i)) moved
 
   pub none_stalls : (steps : List Step) (last : MachineLists) → IsReplay first steps last → (place : ℕ) (m : MachineLists) → StallsAt second steps place m → ⊥
   none_stalls steps last replay place m stalled =

@@ -11,7 +11,8 @@ use Rattle.machine_runs.specs.Runs.{IsReplay}
 use Rattle.machine_runs.proofs.Lemmas.{replay_kept}
 use Rattle.trace_replay.specs.Replays.{StallsAt}
 
-pub stops : (old m new : MachineLists) (steps : List Step) (place : ℕ) (o : Outcome) → IsReplay old (take place steps) m → IsStep m (slice_index_or steps place (step.Turn 0)) o new → o ≡ Stalled →
+pub stops : (old m new : MachineLists) (steps : List Step) (place : ℕ) (o : Outcome) → IsReplay old (take place steps) m →
+    IsStep m (slice_index_or steps place (step.Turn 0)) o new → o ≡ Stalled →
     ((shown : ℕ → List Event) → machine_of new shown ≡ machine_of m shown) → place < length steps → StallsAt old steps place new
 stops old m new steps place o r st stalls same inside =
     let s : Step = slice_index_or steps place (step.Turn 0) in
@@ -19,5 +20,6 @@ stops old m new steps place o r st stalls same inside =
       inside = inside;
       before = replay_kept old m new (take place steps) s o r st same;
       stalls =
-          ap (λ M. outcome_of new.config new.code M s) (same (λ p. [])) ∙ ap₂ (λ c code. outcome_of c code (machine_of m (λ p. [])) s) st.config st.code ∙ sym st.step.outcome ∙ stalls;
+          ap (λ M. outcome_of new.config new.code M s) (same (λ p. [])) ∙ ap₂ (λ c code. outcome_of c code (machine_of m (λ p. [])) s) st.config st.code
+          ∙ sym st.step.outcome ∙ stalls;
     }

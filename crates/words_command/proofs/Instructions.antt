@@ -1,5 +1,6 @@
 -- Runs in turns of processor 0, one instruction more.
-use Rattle.std.proofs.Common.{◌≡◌, ℕ, zero, suc, ◌+◌, ◌^◌, ◌<◌, Bool, true, false, cond, List, [], ◌∷◌, ◌++◌, length, Option, Some, None, refl, sym, ap, subst, ◌∙◌, arith, append_assoc, get_or-set_same}
+use Rattle.std.proofs.Common.{◌≡◌, ℕ, zero, suc, ◌+◌, ◌^◌, ◌<◌, Bool, true, false, cond, List, [], ◌∷◌, ◌++◌, length, Option, Some, None, refl, sym, ap, subst}
+use Rattle.std.proofs.Common.{◌∙◌, arith, append_assoc, get_or-set_same}
 use Rattle.std.specs.Prelude.{count_by, slice_get, slice_index_or, if◌then◌else◌}
 use Rattle.std.proofs.lemmas.Bool.{true≢false}
 use Rattle.std.proofs.lemmas.List.{append-nil}
@@ -33,20 +34,23 @@ state_more m zero = refl
 state_more m (suc n) = state_more (flat_step m (entry.Processor 0)) n
 
 events_more : (m : FlatState) (n : ℕ) →
-    flat_events m (turns_of_zero (suc n)) ≡ flat_events m (turns_of_zero n) ++ with_processor_number (entry.Processor 0) (flat_event (flat_run m (turns_of_zero n)) (entry.Processor 0))
+    flat_events m (turns_of_zero (suc n)) ≡ flat_events m (turns_of_zero n)
+    ++ with_processor_number (entry.Processor 0) (flat_event (flat_run m (turns_of_zero n)) (entry.Processor 0))
 events_more m zero = append-nil (with_processor_number (entry.Processor 0) (flat_event m (entry.Processor 0)))
 events_more m (suc n) =
     let first = with_processor_number (entry.Processor 0) (flat_event m (entry.Processor 0)) in
     let after = flat_step m (entry.Processor 0) in
     ap (λ rest. first ++ rest) (events_more after n)
-    ∙ sym (append_assoc first (flat_events after (turns_of_zero n)) (with_processor_number (entry.Processor 0) (flat_event (flat_run after (turns_of_zero n)) (entry.Processor 0))))
+    ∙ sym (append_assoc first (flat_events after (turns_of_zero n))
+    (with_processor_number (entry.Processor 0) (flat_event (flat_run after (turns_of_zero n)) (entry.Processor 0))))
 
 -- 1 for a retirement
 abbrev pub worth : Option Event → ℕ
 worth None = 0
 worth (Some event) = cond (is_retirement event) 1 0
 
-run_more : (a b c : FlatState) (retired : ℕ) (shown : Option Event) → HasRunAlone a b retired → c ≡ flat_step b (entry.Processor 0) → shown ≡ flat_event b (entry.Processor 0) → HasRunAlone a c (retired + worth shown)
+run_more : (a b c : FlatState) (retired : ℕ) (shown : Option Event) → HasRunAlone a b retired → c ≡ flat_step b (entry.Processor 0) →
+    shown ≡ flat_event b (entry.Processor 0) → HasRunAlone a c (retired + worth shown)
 run_more a b c retired shown run is told =
     let n : ℕ = run.turns in
     let there : flat_event (flat_run a (turns_of_zero n)) (entry.Processor 0) ≡ shown = ap (λ f. flat_event f (entry.Processor 0)) (sym run.state) ∙ sym told in
@@ -56,7 +60,8 @@ run_more a b c retired shown run is told =
       turns = suc n;
       state = is ∙ ap (λ f. flat_step f (entry.Processor 0)) run.state ∙ sym (state_more a n);
       count =
-          ap retirements all ∙ count_append (λ (e : ℕ × Event). is_retirement e.1) (flat_events a (turns_of_zero n)) (with_processor_number (entry.Processor 0) shown)
+          ap retirements all ∙ count_append (λ (e : ℕ × Event). is_retirement e.1) (flat_events a (turns_of_zero n))
+          (with_processor_number (entry.Processor 0) shown)
           ∙ ap (λ k. k + retirements (with_processor_number (entry.Processor 0) shown)) run.count ∙ ap (λ k. retired + k) (counts_as shown);
     }
   where
@@ -87,11 +92,14 @@ worth_else (outcome.Answered to) e = refl
 worth_else outcome.Poked e = refl
 worth_else outcome.Stalled e = refl
 
-pub run_retired : (a : FlatState) (old new : MachineLists) (o : Outcome) (retired : ℕ) → HasRunAlone a (flat_state old) retired → IsOne old 0 o new → is_retired o ≡ true → HasRunAlone a (flat_state new) (retired + 1)
+pub run_retired : (a : FlatState) (old new : MachineLists) (o : Outcome) (retired : ℕ) → HasRunAlone a (flat_state old) retired → IsOne old 0 o new →
+    is_retired o ≡ true → HasRunAlone a (flat_state new) (retired + 1)
 run_retired a old new o retired run one e =
-    subst (λ n. HasRunAlone a (flat_state new) (retired + n)) (worth_retired o e) (run_more a (flat_state old) (flat_state new) retired (event_of o) run one.flat one.event)
+    subst (λ n. HasRunAlone a (flat_state new) (retired + n)) (worth_retired o e)
+    (run_more a (flat_state old) (flat_state new) retired (event_of o) run one.flat one.event)
 
-pub run_stopped : (a : FlatState) (old new : MachineLists) (o : Outcome) (retired : ℕ) → HasRunAlone a (flat_state old) retired → IsOne old 0 o new → is_retired o ≡ false → HasRunAlone a (flat_state new) retired
+pub run_stopped : (a : FlatState) (old new : MachineLists) (o : Outcome) (retired : ℕ) → HasRunAlone a (flat_state old) retired → IsOne old 0 o new →
+    is_retired o ≡ false → HasRunAlone a (flat_state new) retired
 run_stopped a old new o retired run one e =
     let same : retired + worth (event_of o) ≡ retired = (let none = worth_else o e in omega (arith, none)) in
     subst (HasRunAlone a (flat_state new)) same (run_more a (flat_state old) (flat_state new) retired (event_of o) run one.flat one.event)
@@ -111,7 +119,8 @@ taken_stops p shared (Reaches word change after) why e = absurd (cc)
 taken_stops p shared (Stops c) why e = stopped_is c
 
 -- a stop is that of a processor, which does not run then
-turn_stops : (F : FlatState) (o : Option Processor) → slice_get F.processors 0 ≡ o → (why : Cause) → turn_event F 0 o ≡ Some (Stopped why) → is_running (first (turned F 0 o)).status ≡ false
+turn_stops : (F : FlatState) (o : Option Processor) → slice_get F.processors 0 ≡ o → (why : Cause) → turn_event F 0 o ≡ Some (Stopped why) →
+    is_running (first (turned F 0 o)).status ≡ false
 turn_stops F None at why e = absurd (cc)
 turn_stops F (Some p) at why e = by (is_running p.status) refl e
   where
@@ -136,7 +145,8 @@ turn_shows F (Some p) at runs e =
     let some : Some (step_of F 0 p).2 ≡ None = ap (λ b. if b then Some (step_of F 0 p).2 else None) (sym same) ∙ e in
     cc
 
-step_stops : (F : FlatState) (why : Cause) → flat_event F (entry.Processor 0) ≡ Some (Stopped why) → is_running (first (flat_step F (entry.Processor 0))).status ≡ false
+step_stops : (F : FlatState) (why : Cause) → flat_event F (entry.Processor 0) ≡ Some (Stopped why) →
+    is_running (first (flat_step F (entry.Processor 0))).status ≡ false
 unfolding flat_step flat_event
 step_stops F why e = turn_stops F (slice_get F.processors 0) refl why e
 
@@ -152,7 +162,8 @@ module _ (old new : MachineLists) (is : IsMachine old) (is' : IsMachine new) (ru
   pub one_stops : (o : Outcome) → IsOne old 0 o new → is_retired o ≡ false → is_running (processor_of new).status ≡ false
   one_stops (outcome.Retired r) one e = absurd (true≢false e)
   one_stops (outcome.Stopped why) one e =
-      ap (λ (s : Processor). is_running s.status) (sym (state_at new is' 0)) ∙ ap (λ F. is_running (first F).status) one.flat ∙ step_stops (flat_state old) why (sym one.event)
+      ap (λ (s : Processor). is_running s.status) (sym (state_at new is' 0)) ∙ ap (λ F. is_running (first F).status) one.flat
+      ∙ step_stops (flat_state old) why (sym one.event)
   one_stops outcome.Issued one e = absurd (shows (sym one.event))
   one_stops outcome.Moved one e = absurd (shows (sym one.event))
   one_stops (outcome.Combined x y) one e = absurd (shows (sym one.event))

@@ -1,5 +1,6 @@
 -- The first line of a text, and the lines behind it.
-use Rattle.std.proofs.Common.{◌≡◌, ℕ, zero, suc, ◌+◌, ◌-◌, ◌<◌, Bool, true, false, cond, eqb, List, [], ◌∷◌, ◌++◌, length, take, drop, get_or, Some, None, Result, Ok, Err, refl, sym, ap, arith, append_assoc}
+use Rattle.std.proofs.Common.{◌≡◌, ℕ, zero, suc, ◌+◌, ◌-◌, ◌<◌, Bool, true, false, cond, eqb, List, [], ◌∷◌, ◌++◌, length, take, drop, get_or, Some, None}
+use Rattle.std.proofs.Common.{Result, Ok, Err, refl, sym, ap, arith, append_assoc}
 use Rattle.std.specs.Prelude.{position, nat_lt, not}
 use Rattle.std.specs.List.{position_or_len}
 use Rattle.std.proofs.lemmas.Bool.{eq-eqb, ltb-false, ne_eqb, not-true}
@@ -11,7 +12,8 @@ use Rattle.words_command.specs.HexText.{lines_of, before_lines, word_of_line, wo
 abbrev pub is_lf : ℕ → Bool
 is_lf byte = eqb byte 10
 
-pub lines_cut : (text : List ℕ) (i : ℕ) → i < length text → is_lf (get_or text i 0) ≡ true → ((k : ℕ) → k < i → is_lf (get_or text k 0) ≡ false) → lines_of text ≡ take i text ∷ lines_of (drop (suc i) text)
+pub lines_cut : (text : List ℕ) (i : ℕ) → i < length text → is_lf (get_or text i 0) ≡ true → ((k : ℕ) → k < i → is_lf (get_or text k 0) ≡ false) →
+    lines_of text ≡ take i text ∷ lines_of (drop (suc i) text)
 lines_cut [] i inside at before = absurd (omega arith)
 lines_cut (byte ∷ text) zero inside at before = rw at refl
 lines_cut (byte ∷ text) (suc i) inside at before =
@@ -38,7 +40,8 @@ no_lf text e = by_place (nat_lt place (length text)) refl e
 
     by_place : (b : Bool) → nat_lt place (length text) ≡ b → cond b (Some place) None ≡ None → (k : ℕ) → k < length text → is_lf (get_or text k 0) ≡ false
     by_place true inside none k h = absurd (cc)
-    by_place false outside none k h = not-true (is_lf (get_or text k 0)) (prefix_len_passes (λ byte. not (is_lf byte)) text k 0 (omega (arith, ltb-false place (length text) outside)))
+    by_place false outside none k h =
+        not-true (is_lf (get_or text k 0)) (prefix_len_passes (λ byte. not (is_lf byte)) text k 0 (omega (arith, ltb-false place (length text) outside)))
 
 pub line_last : (text : List ℕ) → position is_lf text ≡ None → 0 < length text → lines_of text ≡ text ∷ []
 line_last text e some = lines_whole text (no_lf text e) some
@@ -58,9 +61,11 @@ prepended front (Ok words) = Ok (front ++ words)
 prepended front (Err bad) = Err bad
 
 pub past_the_last : (front line : List ℕ) (lines : List (List ℕ)) (n : ℕ) → n ≡ 16384 → prepended front (words_of_lines n (line ∷ lines)) ≡ Err (n + 1)
-past_the_last front line lines n full = let test : eqb n 16384 ≡ true = eq-eqb n 16384 full in let number : 16385 ≡ n + 1 = omega arith in rw test (ap Err number)
+past_the_last front line lines n full = let test : eqb n 16384 ≡ true = eq-eqb n 16384 full in let number : 16385 ≡ n + 1 =
+    omega arith in rw test (ap Err number)
 
-pub bad_line : (front line : List ℕ) (lines : List (List ℕ)) (n : ℕ) → (n ≡ 16384 → ⊥) → word_of_line line ≡ None → prepended front (words_of_lines n (line ∷ lines)) ≡ Err (n + 1)
+pub bad_line : (front line : List ℕ) (lines : List (List ℕ)) (n : ℕ) → (n ≡ 16384 → ⊥) → word_of_line line ≡ None →
+    prepended front (words_of_lines n (line ∷ lines)) ≡ Err (n + 1)
 bad_line front line lines n room bad = let test : eqb n 16384 ≡ false = ne_eqb n 16384 room in rw (test, bad) refl
 
 pub next_word : (front line : List ℕ) (lines : List (List ℕ)) (n word : ℕ) → (n ≡ 16384 → ⊥) → word_of_line line ≡ Some word →

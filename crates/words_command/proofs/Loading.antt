@@ -1,5 +1,6 @@
 -- Words as code: their layout fits, the file of it is short, and a machine that opens on it is that of the words.
-use Rattle.std.proofs.Common.{◌≡◌, ℕ, zero, suc, ◌+◌, ◌*◌, ◌^◌, ◌<◌, ◌≤◌, List, [], ◌∷◌, ◌++◌, length, take, get_or, map, refl, sym, ap, ap₂, ◌∙◌, Option, Some, None, subst, arith, append_assoc, append-nil, length-append}
+use Rattle.std.proofs.Common.{◌≡◌, ℕ, zero, suc, ◌+◌, ◌*◌, ◌^◌, ◌<◌, ◌≤◌, List, [], ◌∷◌, ◌++◌, length, take, get_or, map, refl, sym, ap, ap₂, ◌∙◌, Option}
+use Rattle.std.proofs.Common.{Some, None, subst, arith, append_assoc, append-nil, length-append}
 use Rattle.std.specs.Int.{w32, to_le_bytes}
 use Rattle.std.specs.Prelude.{replicate}
 use Rattle.std.specs.List.{range_with_len}
@@ -27,7 +28,8 @@ bytes_append [] ys = refl
 bytes_append (x ∷ xs) ys =
     ap (λ rest. to_le_bytes w32 x ++ rest) (bytes_append xs ys) ∙ sym (append_assoc (to_le_bytes w32 x) (bytes_of_words xs) (bytes_of_words ys))
 
-pub one_word_more : (words : List ℕ) (i : ℕ) → i < length words → bytes_of_words (take (i + 1) words) ≡ bytes_of_words (take i words) ++ to_le_bytes w32 (get_or words i 0)
+pub one_word_more : (words : List ℕ) (i : ℕ) → i < length words →
+    bytes_of_words (take (i + 1) words) ≡ bytes_of_words (take i words) ++ to_le_bytes w32 (get_or words i 0)
 one_word_more words i inside =
     let one : i + 1 ≡ suc i = omega arith in
     ap (λ n. bytes_of_words (take n words)) one ∙ ap bytes_of_words (take-suc words i 0 inside) ∙ bytes_append (take i words) (get_or words i 0 ∷ [])
@@ -109,11 +111,13 @@ open_on words = ap (λ (shared : List ℕ). with_shared shared) (zeros 0 1024)
       code = region_of_bytes (bytes_of_words words);
     }
 
-pub words_open : (words : List ℕ) (layout : Layout) (image : ImageContents) (m : FlatState) → layout ≡ layout_of_words words → image ≡ record { layout = layout; shared_words = 1024 } →
+pub words_open : (words : List ℕ) (layout : Layout) (image : ImageContents) (m : FlatState) → layout ≡ layout_of_words words →
+    image ≡ record { layout = layout; shared_words = 1024 } →
     m ≡ opening size image.layout → m ≡ flat_of_words words
 words_open words layout image m is read opens = opens ∙ ap (λ (i : ImageContents). opening size i.layout) read ∙ ap (opening size) is ∙ open_on words
 
-pub made_for : (layout : Layout) (image : ImageContents) → image ≡ record { layout = layout; shared_words = 1024 } → IsWithinLimits size × (image.shared_words ≡ size.shared_words)
+pub made_for : (layout : Layout) (image : ImageContents) → image ≡ record { layout = layout; shared_words = 1024 } →
+    IsWithinLimits size × (image.shared_words ≡ size.shared_words)
 made_for layout image read = (
   record { stages = omega arith; some_capacity = omega arith; capacity = omega arith; records = omega arith; some_words = omega arith; words = omega arith },
   ap (λ (i : ImageContents). i.shared_words) read,
@@ -137,7 +141,8 @@ read_back layout new image one_layout spelled given =
     λ i. record { layout = same i; shared_words = given.4 i }
 
 -- what is not refused is not refused for a cause
-unlike : (file : List ℕ) (new : Option (List ℕ)) (error : ImageError) → refusal_of 1024 file ≡ None → (bytes : List ℕ) × ConsumesAll (Some file) new bytes × (refusal_of 1024 bytes ≡ Some error) → ⊥
+unlike : (file : List ℕ) (new : Option (List ℕ)) (error : ImageError) → refusal_of 1024 file ≡ None →
+    (bytes : List ℕ) × ConsumesAll (Some file) new bytes × (refusal_of 1024 bytes ≡ Some error) → ⊥
 unlike file new error none refused =
     let is = whole file refused.0 new refused.1 in
     let there : refusal_of 1024 file ≡ Some error = ap (refusal_of 1024) (sym is) ∙ refused.2 in
@@ -145,7 +150,8 @@ unlike file new error none refused =
     cc
 
 -- the file that is accepted is refused for no other cause than want of memory
-pub none_refused : (file : List ℕ) (new : Option (List ℕ)) (error : ImageError) → length file ≤ 1048576 → refusal_of 1024 file ≡ None → IsRefused 1024 (Some file) new error →
+pub none_refused : (file : List ℕ) (new : Option (List ℕ)) (error : ImageError) → length file ≤ 1048576 → refusal_of 1024 file ≡ None →
+    IsRefused 1024 (Some file) new error →
     IsWantOfMemory error
 none_refused file new because.Link short none refused = tt
 none_refused file new because.Memory short none refused = tt

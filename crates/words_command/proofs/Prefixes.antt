@@ -1,6 +1,7 @@
 -- The bytes that are read of a file tell what all of it spells: a line that spells a word has eight bytes and its LF, and
 -- the line behind the 16,384th is refused whatever it is.
-use Rattle.std.proofs.Common.{◌≡◌, ℕ, zero, suc, ◌+◌, ◌-◌, ◌*◌, ◌<◌, ◌≤◌, Bool, true, false, eqb, List, [], ◌∷◌, length, take, drop, get_or, get_or-take, take_all, take-take, length-take-le, Option, Some, None, Err, ◌⊎◌, inl, inr, refl, sym, ap, ap₂, ◌∙◌, subst, arith}
+use Rattle.std.proofs.Common.{◌≡◌, ℕ, zero, suc, ◌+◌, ◌-◌, ◌*◌, ◌<◌, ◌≤◌, Bool, true, false, eqb, List, [], ◌∷◌, length, take, drop, get_or, get_or-take}
+use Rattle.std.proofs.Common.{take_all, take-take, length-take-le, Option, Some, None, Err, ◌⊎◌, inl, inr, refl, sym, ap, ap₂, ◌∙◌, subst, arith}
 use Rattle.std.specs.Prelude.{position, ◌%◌, ◌/◌, if◌then◌else◌, ◌==◌}
 use Rattle.std.proofs.lemmas.Bool.{cases_lt, eq-eqb, ne_eqb}
 use Rattle.std.proofs.lemmas.List.{drop-take}
@@ -24,7 +25,8 @@ bad_first : (n : ℕ) (line : List ℕ) (lines : List (List ℕ)) → (n ≡ 163
 bad_first n line lines room bad = let test : eqb n 16384 ≡ false = ne_eqb n 16384 room in rw (test, bad) refl
 
 -- a text whose first line has more than eight bytes
-long_text_is_bad : (n : ℕ) (text : List ℕ) → (n ≡ 16384 → ⊥) → 8 < length text → ((k : ℕ) → k < 9 → is_lf (get_or text k 0) ≡ false) → words_of_lines n (lines_of text) ≡ Err (n + 1)
+long_text_is_bad : (n : ℕ) (text : List ℕ) → (n ≡ 16384 → ⊥) → 8 < length text → ((k : ℕ) → k < 9 → is_lf (get_or text k 0) ≡ false) →
+    words_of_lines n (lines_of text) ≡ Err (n + 1)
 long_text_is_bad n text room long none = by_end (position is_lf text) refl
   where
     far : (i : ℕ) → is_lf (get_or text i 0) ≡ true → (i < 9) ⊎ (9 ≤ i) → 9 ≤ i
@@ -58,7 +60,8 @@ past_all n (byte ∷ text) full some = by_byte (is_lf byte) refl
     by_byte true e = rw (e, test) refl
     by_byte false e = rw e (by_rest (lines_of text))
 
-same_front : (n : ℕ) (line : List ℕ) (lines lines' : List (List ℕ)) → words_of_lines (n + 1) lines ≡ words_of_lines (n + 1) lines' → words_of_lines n (line ∷ lines) ≡ words_of_lines n (line ∷ lines')
+same_front : (n : ℕ) (line : List ℕ) (lines lines' : List (List ℕ)) → words_of_lines (n + 1) lines ≡ words_of_lines (n + 1) lines' →
+    words_of_lines n (line ∷ lines) ≡ words_of_lines n (line ∷ lines')
 same_front n line lines lines' e = ap (λ rest. if n == 16384 then Err 16385 else in_front (word_of_line line) (n + 1) rest) e
 
 -- what the lines behind the first are told by, where `m` more may follow
@@ -80,26 +83,31 @@ tells_one_more m further n size text sum enough = by_length (cases_lt size (leng
     room : n ≡ 16384 → ⊥
     room full = omega arith
 
-    both_long : size < length text → ((k : ℕ) → k < 9 → is_lf (get_or text k 0) ≡ false) → words_of_lines n (lines_of (take size text)) ≡ words_of_lines n (lines_of text)
+    both_long : size < length text → ((k : ℕ) → k < 9 → is_lf (get_or text k 0) ≡ false) →
+        words_of_lines n (lines_of (take size text)) ≡ words_of_lines n (lines_of text)
     both_long more none =
         let long : 8 < length (take size text) = subst (λ n. 8 < n) (sym (length-take-le size text (omega arith))) (omega arith) in
         long_text_is_bad n (take size text) room long (λ k h. ap is_lf (get_or-take size text k 0 (omega arith)) ∙ none k h)
         ∙ sym (long_text_is_bad n text room (omega arith) none)
 
-    first_line : (i : ℕ) → size < length text → i < 9 → position is_lf text ≡ Some i → words_of_lines n (lines_of (take size text)) ≡ words_of_lines n (lines_of text)
+    first_line : (i : ℕ) → size < length text → i < 9 → position is_lf text ≡ Some i →
+        words_of_lines n (lines_of (take size text)) ≡ words_of_lines n (lines_of text)
     first_line i more near e =
         let at = position-Some is_lf text i 0 e in
         let rest : List ℕ = drop (suc i) text in
         let left : ℕ = size - suc i in
         let within : i < length (take size text) = subst (λ n. i < n) (sym (length-take-le size text (omega arith))) (omega arith) in
-        let cut = lines_cut (take size text) i within (ap is_lf (get_or-take size text i 0 (omega arith)) ∙ at.1) (λ k h. ap is_lf (get_or-take size text k 0 (omega arith)) ∙ at.2 k h) in
+        let cut = lines_cut (take size text) i within (ap is_lf (get_or-take size text i 0 (omega arith)) ∙ at.1)
+        (λ k h. ap is_lf (get_or-take size text k 0 (omega arith)) ∙ at.2 k h) in
         let front : take i (take size text) ≡ take i text = take-take i size text (omega arith) in
-        let behind : drop (suc i) (take size text) ≡ take left rest = (let sum : size ≡ suc i + left = omega arith in ap (λ j. drop (suc i) (take j text)) sum ∙ drop-take (suc i) left text) in
+        let behind : drop (suc i) (take size text) ≡ take left rest =
+        (let sum : size ≡ suc i + left = omega arith in ap (λ j. drop (suc i) (take j text)) sum ∙ drop-take (suc i) left text) in
         ap (words_of_lines n) (cut ∙ ap₂ (λ line more. line ∷ lines_of more) front behind)
         ∙ same_front n (take i text) (lines_of (take left rest)) (lines_of rest) (further (n + 1) left rest (omega arith) (omega arith))
         ∙ sym (ap (words_of_lines n) (line_found text i e))
 
-    by_place : (i : ℕ) → size < length text → position is_lf text ≡ Some i → (i < 9) ⊎ (9 ≤ i) → words_of_lines n (lines_of (take size text)) ≡ words_of_lines n (lines_of text)
+    by_place : (i : ℕ) → size < length text → position is_lf text ≡ Some i → (i < 9) ⊎ (9 ≤ i) →
+        words_of_lines n (lines_of (take size text)) ≡ words_of_lines n (lines_of text)
     by_place i more e (inl near) = first_line i more near e
     by_place i more e (inr far) = let at = position-Some is_lf text i 0 e in both_long more (λ k h. at.2 k (omega arith))
 

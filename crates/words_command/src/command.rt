@@ -65,7 +65,8 @@ pub fn words_command<R: Read + Drop, W: LinkWrite, E: Write>(
 ) -> u8
     requires works { W.has_failed out.old ≡ false }
     ensures reported { result ≤ 1 → IsPrinted (IsWordsReport (R.remaining file) result) (W.contents out.old) (W.contents out.new) }
-    ensures told { 2 ≤ result → IsTold W.has_failed Fault.Link ⊤ (IsNoWordsReport (R.remaining file) (W.contents out.old) (W.contents out.new)) out.old out.new result }
+    ensures told { 2 ≤ result → IsTold W.has_failed Fault.Link ⊤
+        (IsNoWordsReport (R.remaining file) (W.contents out.old) (W.contents out.new)) out.old out.new result }
     ensures failed { W.has_failed out.new ≡ true → result ≡ 3 }
 {
     match carried_out(alloc, file, out) {

@@ -43,8 +43,11 @@ pub fn words_run(log: &mut Logged) -> Result<(), WordsEnd>
     ensures idle { IsIdle log.new.machine }
     ensures ran { (retired : ℕ) × (retired ≤ BUDGET) × HasRunAlone (flat_state log.old.machine) (flat_state log.new.machine) retired }
     ensures stopped { OnOk result (is_running (processor_of log.new.machine).status ≡ false) }
-    ensures budget { result ≡ Err WordsEnd.Budget → HasRunAlone (flat_state log.old.machine) (flat_state log.new.machine) BUDGET × (is_running (processor_of log.new.machine).status ≡ true) }
-    ensures memory { result ≡ Err WordsEnd.Memory → (retired : ℕ) × (retired < BUDGET) × HasRunAlone (flat_state log.old.machine) (flat_state log.new.machine) retired × (is_running (processor_of log.new.machine).status ≡ true) }
+    ensures budget { result ≡ Err WordsEnd.Budget →
+        HasRunAlone (flat_state log.old.machine) (flat_state log.new.machine) BUDGET × (is_running (processor_of log.new.machine).status ≡ true) }
+    ensures memory { result ≡ Err WordsEnd.Memory →
+        (retired : ℕ) × (retired < BUDGET) × HasRunAlone (flat_state log.old.machine) (flat_state log.new.machine) retired
+        × (is_running (processor_of log.new.machine).status ≡ true) }
     ensures alone { HasProcessor (flat_state log.new.machine) (processor_of log.new.machine) }
     ensures one { log.new.machine.config.k ≡ 0 }
 {

@@ -5,4 +5,5 @@ use Rattle.asm_lines.proofs.line.words_in.Given as goal
 
 -- the values so far, and those of the rest, are the values of all
 abbrev pub invariant-loop-operand : goal.invariant-loop-operand
-invariant-loop-operand l = with_front (map val_of l.values.items) (each word_in (map (λ operand. operand.now) (drop l.operand-index l.operands))) ≡ each word_in (map (λ operand. operand.now) l.operands)
+invariant-loop-operand l = with_front (map val_of l.values.items) (each word_in (map (λ operand. operand.now) (drop l.operand-index l.operands)))
+    ≡ each word_in (map (λ operand. operand.now) l.operands)

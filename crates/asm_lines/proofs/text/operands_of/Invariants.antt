@@ -5,7 +5,8 @@ use Rattle.asm_lines.proofs.text.operands_of.Given as goal
 
 -- the parts so far, and those of the rest, are all
 abbrev pub invariant-loop-part : goal.invariant-loop-part
-invariant-loop-part l = map (λ part. part.now) l.parts.items ++ map trimmed (slice_split (λ b. eqb b 44) l.rest) ≡ map trimmed (slice_split (λ b. eqb b 44) l.bytes)
+invariant-loop-part l =
+    map (λ part. part.now) l.parts.items ++ map trimmed (slice_split (λ b. eqb b 44) l.rest) ≡ map trimmed (slice_split (λ b. eqb b 44) l.bytes)
 
 abbrev pub decreases-loop-part : goal.decreases-loop-part
 decreases-loop-part l = length l.rest

@@ -4,7 +4,8 @@ use Rattle.asm_lines.proofs.text.parts_at.Given as goal
 
 -- the parts so far, and those of the rest, are all
 abbrev pub invariant-loop-part : goal.invariant-loop-part
-invariant-loop-part l = map (λ part. part.now) l.parts.items ++ map (λ x. x) (slice_split (λ b. eqb b l.mark) l.rest) ≡ map (λ x. x) (slice_split (λ b. eqb b l.mark) l.bytes)
+invariant-loop-part l =
+    map (λ part. part.now) l.parts.items ++ map (λ x. x) (slice_split (λ b. eqb b l.mark) l.rest) ≡ map (λ x. x) (slice_split (λ b. eqb b l.mark) l.bytes)
 
 abbrev pub decreases-loop-part : goal.decreases-loop-part
 decreases-loop-part l = length l.rest

@@ -9,11 +9,14 @@ nothing = record { section = Code; address = 0; line = record { ref_ptr = (0, 0)
 
 pub returns-in-Err-clause-err : goal.returns-in-Err-clause-err
 unfolding nothing
-returns-in-Err-clause-err c = λ not_memory. (omega arith, emitted_fault _ c.args.placed.now c.loop-at.at nothing _ (omega arith) (c.in-Err.ensures.err not_memory))
+returns-in-Err-clause-err c =
+    λ not_memory. (omega arith, emitted_fault _ c.args.placed.now c.loop-at.at nothing _ (omega arith) (c.in-Err.ensures.err not_memory))
 
 pub loop-at-preserved : goal.loop-at-preserved
 unfolding nothing
-loop-at-preserved c = let h = c.in_default.ensures in emitted_next _ c.args.placed.now c.loop-at.at nothing c.args.entry c.loop-at.layout _ (omega arith) c.loop-at.invariant h.ok h.code h.local h.shared h.entry
+loop-at-preserved c = let h = c.in_default.ensures in
+    emitted_next _ c.args.placed.now c.loop-at.at nothing c.args.entry c.loop-at.layout _ (omega arith) c.loop-at.invariant h.ok h.code h.local h.shared
+    h.entry
 
 pub returns-clause-faultless : goal.returns-clause-faultless
 returns-clause-faultless c = (emitted_all _ c.args.placed.now c.loop-at.at c.args.entry c.loop-at.layout (omega arith) c.loop-at.invariant).0

@@ -24,11 +24,15 @@ returns c = λ config text layout m in_code fits_words.
     let short : length (spelling layout) ≤ 1048576 = omega (arith, c.spelling_is_headers_and_bytes.ensures layout, fits.code, fits.local, fits.shared) in
     let spelled = c.spelling_means_its_layout.ensures config.shared_words layout placed short in
     let opens : (other : Layout) → IsMeant config.shared_words (spelling layout) other → IsTextOpening text config (opening config other) =
-    λ other n. subst (λ x. IsTextOpening text config (opening config x)) (c.input_means_one_layout.ensures config.shared_words (spelling layout) layout other spelled.1 n) (opens_on_the_text c.machine_opens_on_the_layout.ensures config text layout m fits) in
+    λ other n. subst (λ x. IsTextOpening text config (opening config x))
+    (c.input_means_one_layout.ensures config.shared_words (spelling layout) layout other spelled.1 n)
+    (opens_on_the_text c.machine_opens_on_the_layout.ensures config text layout m fits) in
     record {
       accepted = spelled.0;
       meant = (layout, spelled.1);
       opens = opens;
-      given = λ rest image h. opens image.layout (subst (λ file. IsMeant config.shared_words file image.layout) (sym (all_read (spelling layout) rest h.0 h.1)) h.3);
-      refused = λ rest e h. refused_by_link_or_memory config.shared_words (spelling layout) rest e short ((c.not_refused_is_accepted.ensures config.shared_words (spelling layout)).1 spelled.0) h;
+      given = λ rest image h. opens image.layout (subst (λ file. IsMeant config.shared_words file image.layout)
+          (sym (all_read (spelling layout) rest h.0 h.1)) h.3);
+      refused = λ rest e h. refused_by_link_or_memory config.shared_words (spelling layout) rest e short
+          ((c.not_refused_is_accepted.ensures config.shared_words (spelling layout)).1 spelled.0) h;
     }

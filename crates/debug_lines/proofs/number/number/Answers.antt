@@ -8,7 +8,8 @@ overflow_mul-value c =
 
 pub overflow_add-value : goal.overflow_add-value
 overflow_add-value c =
-    let h : 16 ^ c.loop-byte.byte-index ≤ 16 ^ 8 = pow-le-pow_right {n = 16} (lit< tt) {i = c.loop-byte.byte-index} {j = 8} (omega arith) in omega (arith, c.in_ok-digit.ensures.small)
+    let h : 16 ^ c.loop-byte.byte-index ≤ 16 ^ 8 =
+    pow-le-pow_right {n = 16} (lit< tt) {i = c.loop-byte.byte-index} {j = 8} (omega arith) in omega (arith, c.in_ok-digit.ensures.small)
 
 pub overflow_cast-result : goal.overflow_cast-result
 overflow_cast-result c =

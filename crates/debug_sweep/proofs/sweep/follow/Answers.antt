@@ -7,7 +7,8 @@ pub loop-retired-init : goal.loop-retired-init
 loop-retired-init c = record {
   config = refl;
   places = refl;
-  under_way = begins c.args.breaks.now c.args.limit c.args.log.now.log c.none_retired-retired.result c.machine.ensures.replay c.requires.few (λ p within. c.none_retired-retired.ensures p);
+  under_way = begins c.args.breaks.now c.args.limit c.args.log.now.log c.none_retired-retired.result c.machine.ensures.replay c.requires.few
+      (λ p within. c.none_retired-retired.ensures p);
 }
 
 pub returns-then-not-any_runs-clause-swept : goal.returns-then-not-any_runs-clause-swept

@@ -10,5 +10,12 @@ returns-clause-ran c =
     let middle = c.follow.new.log.log in
     let swept = subst (λ xs. HasSwept c.args.breaks.now (length xs + c.args.budget) old middle) c.steps.ensures.steps c.follow.ensures.swept in
     let continued : HasContinued c.args.breaks.now c.args.budget old new =
-    record { middle = middle; swept = swept; opening = c.drain.ensures.opening ∙ swept.opening; steps = c.drain.ensures.entered; idle = c.drain.ensures.drained.idle } in
-    has_run c.replays_are_cut.ensures.cut c.sweeps_write_nothing.ensures.drains c.args.breaks.now c.args.budget old new continued c.machine.ensures.replay c.machine-2.ensures.replay
+    record {
+      middle = middle;
+      swept = swept;
+      opening = c.drain.ensures.opening ∙ swept.opening;
+      steps = c.drain.ensures.entered;
+      idle = c.drain.ensures.drained.idle;
+    } in
+    has_run c.replays_are_cut.ensures.cut c.sweeps_write_nothing.ensures.drains c.args.breaks.now c.args.budget old new continued c.machine.ensures.replay
+    c.machine-2.ensures.replay

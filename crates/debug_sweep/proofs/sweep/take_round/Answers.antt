@@ -16,24 +16,28 @@ returns-in_default-clause-some c e =
     let l = c.loop-round.log.log in
     let rest =
     subst (λ k. AreQuiet l.machine c.loop-round.round.place (length (round k))) i.size
-    (subst (λ (m : MachineLists). AreQuiet m c.loop-round.round.place (length (round c.loop-round.round.k))) c.machine-in-loop-round.ensures.machine (c.next.ensures.over c.in_default.is)) in
+    (subst (λ (m : MachineLists). AreQuiet m c.loop-round.round.place (length (round c.loop-round.round.k))) c.machine-in-loop-round.ensures.machine
+    (c.next.ensures.over c.in_default.is)) in
     some_moved (length c.args.log.now.log.steps) c.loop-round.round.place l c.rounds_go_on.ensures c.machine-in-loop-round.ensures.kept.sound rest i.moved
 
 pub returns-then-meets_break-clause-over : goal.returns-then-meets_break-clause-over
 returns-then-meets_break-clause-over c e first before =
     let l = c.loop-round.log.log in
     ends_at_break c.args.breaks.now c.args.limit first l c.loop-round.retired (c.loop-round.invariant.under_way first before) c.in-Some.step
-    (subst (λ m. MeetsBreak m c.args.breaks.now c.loop-round.retired c.in-Some.step) c.machine-in-loop-round-2.ensures.machine (c.if-meets_break.ensures.0 refl))
+    (subst (λ m. MeetsBreak m c.args.breaks.now c.loop-round.retired c.in-Some.step) c.machine-in-loop-round-2.ensures.machine
+    (c.if-meets_break.ensures.0 refl))
 
 pub returns-then-is_fault-clause-over : goal.returns-then-is_fault-clause-over
 returns-then-is_fault-clause-over c e first before =
     let l = c.loop-round.log.log in
     let step = c.in-Some.step in
     let n = subst (λ m. IsNext m c.loop-round.round.place step c.next.new.self.place) c.machine-in-loop-round.ensures.machine c.in-Some.ensures.next in
-    ends_by_fault c.args.breaks.now c.args.limit first l c.step-outcome.new.self.log c.loop-round.retired (c.loop-round.invariant.under_way first before) step c.step-outcome.result c.step-outcome.ensures.taken c.step-outcome.ensures.answer
+    ends_by_fault c.args.breaks.now c.args.limit first l c.step-outcome.new.self.log c.loop-round.retired
+    (c.loop-round.invariant.under_way first before) step c.step-outcome.result c.step-outcome.ensures.taken c.step-outcome.ensures.answer
     (c.sweeps_write_nothing.ensures.rounds l.machine.config.k n.place step n.there)
     c.machine-in-loop-round-3.ensures.replay
-    (λ meets. true≢false (sym (c.if-meets_break.ensures.1 (subst (λ m. MeetsBreak m c.args.breaks.now c.loop-round.retired step) (sym c.machine-in-loop-round-2.ensures.machine) meets))))
+    (λ meets. true≢false (sym (c.if-meets_break.ensures.1
+    (subst (λ m. MeetsBreak m c.args.breaks.now c.loop-round.retired step) (sym c.machine-in-loop-round-2.ensures.machine) meets))))
     (let there = ap length c.steps.ensures.steps in omega (arith, there, c.loop-round-test.true))
     (c.if-is_fault.ensures.0 refl)
 
@@ -60,7 +64,8 @@ loop-round-preserved c =
           goes_on c.args.breaks.now c.args.limit first l new c.loop-round.retired u step c.step-outcome.result taken c.step-outcome.ensures.answer
           (c.sweeps_write_nothing.ensures.rounds l.machine.config.k n.place step n.there)
           c.machine-in-loop-round-3.ensures.replay
-          (λ meets. true≢false (sym (c.if-meets_break.ensures.1 (subst (λ m. MeetsBreak m c.args.breaks.now c.loop-round.retired step) (sym c.machine-in-loop-round-2.ensures.machine) meets))))
+          (λ meets. true≢false (sym (c.if-meets_break.ensures.1
+          (subst (λ m. MeetsBreak m c.args.breaks.now c.loop-round.retired step) (sym c.machine-in-loop-round-2.ensures.machine) meets))))
           room
           c.note.new.retired
           (λ p within. c.note.ensures p (below_64 first.opening.config.k p stages within))

@@ -8,7 +8,9 @@ pub returns-clause-meaning : goal.returns-clause-meaning
 returns-clause-meaning c =
     let i = c.args.insn.now in
     let h = c.fields_again.ensures in
-    let known : AreRead = record { lower = h.lower; upper = h.upper; branch = h.branch; branch_in_range = h.branch_in_range; jump = h.jump; jump_in_range = h.jump_in_range } in
+    let known : AreRead =
+    record { lower = h.lower; upper = h.upper; branch = h.branch; branch_in_range = h.branch_in_range; jump = h.jump; jump_in_range = h.jump_in_range } in
     let range = c.encode.ensures.in_range in
-    let meant = means_its_word (text_of i) (as_said i) i (c.written_again.ensures.one_line i range) (c.written_again.ensures.read i range) (λ labels at. insn_again known labels at i range) in
+    let meant = means_its_word (text_of i) (as_said i) i (c.written_again.ensures.one_line i range) (c.written_again.ensures.read i range)
+    (λ labels at. insn_again known labels at i range) in
     subst (λ w. IsMeaning (text_of i) (record { entry = 65536; code = word_bytes w; local = []; shared = [] })) (sym c.encode.ensures.value) meant

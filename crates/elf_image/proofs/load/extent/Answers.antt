@@ -17,7 +17,8 @@ loop-segment-preserved c =
     let at = slice_get-get_or ps n blank c.loop-segment-test.true in
     elim c.if-sets_in.branch [
       | then-sets_in v ↦
-          let is : v.max-extent.result ≡ max old (p.p_vaddr + p.p_memsz - region_start r) = grind (arith, common_steps, v.max-extent.ensures, v.end.ensures, v.start.ensures) in
+          let is : v.max-extent.result ≡ max old (p.p_vaddr + p.p_memsz - region_start r) =
+          grind (arith, common_steps, v.max-extent.ensures, v.end.ensures, v.start.ensures) in
           extent_next ps w r n p at old c.if-sets_in.extent (sym c.sets_in.ensures ∙ v.if-sets_in.true) (v.extent-is ∙ is) c.loop-segment.invariant
       | else-sets_in v ↦ rw v.extent-is (extent_skip ps w r n p at old (sym c.sets_in.ensures ∙ v.if-sets_in.false) c.loop-segment.invariant)
     ]

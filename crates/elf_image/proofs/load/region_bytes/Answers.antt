@@ -13,7 +13,8 @@ use Rattle.elf_image.proofs.load.region_bytes.Goals.{then-sets_in, else-sets_in}
 
 -- the segment at an index is there, and was checked
 here : (ps : List ProgramHeader) (bytes w n : ℕ) → n < length ps → first_of (segment_refusals bytes w ps) ≡ None → Checked bytes w (get_or ps n blank)
-here ps bytes w n h none = checked bytes w (get_or ps n blank) (each_none (segment_refusal bytes w) ps n (get_or ps n blank) none (slice_get-get_or ps n blank h))
+here ps bytes w n h none =
+    checked bytes w (get_or ps n blank) (each_none (segment_refusal bytes w) ps n (get_or ps n blank) none (slice_get-get_or ps n blank h))
 
 pub copy_segment-requires-clause-room : goal.copy_segment-requires-clause-room
 copy_segment-requires-clause-room c =
@@ -21,7 +22,8 @@ copy_segment-requires-clause-room c =
     let n = c.loop-segment.segment-index in
     let check = here ps (length c.args.file.now) c.args.shared_words n c.loop-segment-test.true c.requires.checked in
     let at = slice_get-get_or ps n blank c.loop-segment-test.true in
-    let end = c.loop-segment.invariant.extent.reached n (get_or ps n blank) c.loop-segment-test.true (record { at = at; sets = sym c.sets_in.ensures ∙ c.if-sets_in.true }) in
+    let end = c.loop-segment.invariant.extent.reached n (get_or ps n blank) c.loop-segment-test.true
+    (record { at = at; sets = sym c.sets_in.ensures ∙ c.if-sets_in.true }) in
     omega (arith, check.room, end, c.start-start.ensures, ap length c.deref_mut.ensures.value)
 
 pub copy_segment-requires-clause-there : goal.copy_segment-requires-clause-there
@@ -43,13 +45,18 @@ loop-segment-preserved c =
     elim c.if-sets_in.branch [
       | then-sets_in v ↦
           let new = v.copy_segment.new.bytes in
-          let joined : c.if-sets_in.bytes.items ≡ new = ap (λ b. b.items) v.bytes-is ∙ with_items_is c.loop-segment.bytes new (v.copy_segment.ensures.count ∙ v.deref_mut.ensures.len) in
-          let from_start : CopiesSegment file p (region_start r) v.deref_mut.result.now new = subst (λ x. CopiesSegment file p x v.deref_mut.result.now new) c.start-start.ensures v.copy_segment.ensures in
-          let from_old : CopiesSegment file p (region_start r) old new = subst (λ x. CopiesSegment file p (region_start r) x new) v.deref_mut.ensures.value from_start in
-          let copies : CopiesSegment file p (region_start r) old c.if-sets_in.bytes.items = subst (λ x. CopiesSegment file p (region_start r) old x) (sym joined) from_old in
+          let joined : c.if-sets_in.bytes.items ≡ new =
+          ap (λ b. b.items) v.bytes-is ∙ with_items_is c.loop-segment.bytes new (v.copy_segment.ensures.count ∙ v.deref_mut.ensures.len) in
+          let from_start : CopiesSegment file p (region_start r) v.deref_mut.result.now new =
+          subst (λ x. CopiesSegment file p x v.deref_mut.result.now new) c.start-start.ensures v.copy_segment.ensures in
+          let from_old : CopiesSegment file p (region_start r) old new =
+          subst (λ x. CopiesSegment file p (region_start r) x new) v.deref_mut.ensures.value from_start in
+          let copies : CopiesSegment file p (region_start r) old c.if-sets_in.bytes.items =
+          subst (λ x. CopiesSegment file p (region_start r) old x) (sym joined) from_old in
           record {
             extent = rw copies.count inv.extent;
-            loaded = loaded_next ps w r n p at file old c.if-sets_in.bytes.items (sym c.sets_in.ensures ∙ v.if-sets_in.true) check.room (λ k q a h there s t. apart ps k n q p a c.requires.apart h there at s t) copies inv.loaded;
+            loaded = loaded_next ps w r n p at file old c.if-sets_in.bytes.items (sym c.sets_in.ensures ∙ v.if-sets_in.true) check.room
+                (λ k q a h there s t. apart ps k n q p a c.requires.apart h there at s t) copies inv.loaded;
           }
       | else-sets_in v ↦
           let same : c.if-sets_in.bytes.items ≡ old = ap (λ b. b.items) v.bytes-is in

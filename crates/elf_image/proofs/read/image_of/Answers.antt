@@ -13,7 +13,8 @@ use Rattle.elf_image.proofs.Causes.{cause_headers, cause_segments, cause_overlap
 use Rattle.elf_image.proofs.read.image_of.Goals as goal
 
 passed_by : (w : ℕ) (file : List ℕ) (header : FileHeader) (ps qs : List ProgramHeader) → header ≡ file_header file → ps ≡ segments file → qs ≡ segments file →
-    length file ≤ 1048576 → header_refusal file ≡ None → first_of (segment_refusals (length file) w ps) ≡ None → have_overlap qs ≡ false → is_entry header.e_entry ≡ true →
+    length file ≤ 1048576 → header_refusal file ≡ None → first_of (segment_refusals (length file) w ps) ≡ None → have_overlap qs ≡ false →
+    is_entry header.e_entry ≡ true →
     Passed w file
 passed_by w file header ps qs same there again short headers filed disjoint enters = record {
   short = short;
@@ -23,14 +24,18 @@ passed_by w file header ps qs same there again short headers filed disjoint ente
   enters = ap (λ (h : FileHeader). is_entry h.e_entry) (sym same) ∙ enters;
 }
 
-checked_there : (w : ℕ) (file : List ℕ) (ps : List ProgramHeader) → ps ≡ segments file → first_of (segment_refusals (length file) w ps) ≡ None → first_of (segment_refusals (length file) w (segments file)) ≡ None
+checked_there : (w : ℕ) (file : List ℕ) (ps : List ProgramHeader) → ps ≡ segments file → first_of (segment_refusals (length file) w ps) ≡ None →
+    first_of (segment_refusals (length file) w (segments file)) ≡ None
 checked_there w file ps e h = ap (λ qs. first_of (segment_refusals (length file) w qs)) (sym e) ∙ h
 
 loaded_there : (w : ℕ) (file : List ℕ) (ps : List ProgramHeader) → ps ≡ segments file → (layout : Layout) →
     IsLoaded file ps w Code layout.code → IsLoaded file ps w Local layout.local → IsLoaded file ps w Shared layout.shared →
     IsLoaded file (segments file) w Code layout.code × IsLoaded file (segments file) w Local layout.local × IsLoaded file (segments file) w Shared layout.shared
-loaded_there w file ps e layout a b c =
-    (subst (λ qs. IsLoaded file qs w Code layout.code) e a, subst (λ qs. IsLoaded file qs w Local layout.local) e b, subst (λ qs. IsLoaded file qs w Shared layout.shared) e c)
+loaded_there w file ps e layout a b c = (
+  subst (λ qs. IsLoaded file qs w Code layout.code) e a,
+  subst (λ qs. IsLoaded file qs w Local layout.local) e b,
+  subst (λ qs. IsLoaded file qs w Shared layout.shared) e c,
+)
 
 pub new-requires : goal.new-requires
 new-requires c =
@@ -39,22 +44,27 @@ new-requires c =
     let ps = c.segments_of-segments.ensures in
     let header = c.in_ok-header.ensures.value in
     let layout = c.in_ok-layout.layout in
-    let loads = loaded_there w file _ (c.as_slice-3.ensures.value ∙ ps) layout c.in_ok-layout.ensures.code c.in_ok-layout.ensures.local c.in_ok-layout.ensures.shared in
+    let loads = loaded_there w file _ (c.as_slice-3.ensures.value ∙ ps) layout c.in_ok-layout.ensures.code c.in_ok-layout.ensures.local
+    c.in_ok-layout.ensures.shared in
     let passed =
-    passed_by w file _ _ _ c.in_ok-header.ensures.value (c.as_slice.ensures.value ∙ ps) (c.as_slice-2.ensures.value ∙ ps) c.requires c.in_ok-header.ensures.ok c.in_ok-check_each.ensures.ok
+    passed_by w file _ _ _ c.in_ok-header.ensures.value (c.as_slice.ensures.value ∙ ps)
+    (c.as_slice-2.ensures.value ∙ ps) c.requires c.in_ok-header.ensures.ok c.in_ok-check_each.ensures.ok
     (sym c.have_overlap.ensures ∙ c.if-have_overlap.false) (sym c.has_entry.ensures ∙ c.if-not-has_entry.false) in
     placed w file passed layout (meant w file passed layout (c.in_ok-layout.ensures.entry ∙ ap (λ h. h.e_entry) header) loads.0 loads.1 loads.2)
 
 pub returns-in_err-header-clause-refused : goal.returns-in_err-header-clause-refused
 returns-in_err-header-clause-refused c =
-    if_err c.from_residual.result c.in_err-header.field-0.0 (IsCause c.args.shared_words c.args.file.now) c.from_residual.ensures.1 (cause_headers c.args.shared_words c.args.file.now c.requires _ c.in_err-header.ensures.refused)
+    if_err c.from_residual.result c.in_err-header.field-0.0 (IsCause c.args.shared_words c.args.file.now) c.from_residual.ensures.1
+    (cause_headers c.args.shared_words c.args.file.now c.requires _ c.in_err-header.ensures.refused)
 
 pub returns-in_err-check_each-clause-refused : goal.returns-in_err-check_each-clause-refused
 returns-in_err-check_each-clause-refused c =
     let file = c.args.file.now in
     let w = c.args.shared_words in
-    let there = ap (λ qs. first_of (segment_refusals (length file) w qs)) (sym (c.as_slice.ensures.value ∙ c.segments_of-segments.ensures)) ∙ c.in_err-check_each.ensures.refused in
-    if_err c.from_residual-in_err-check_each.result c.in_err-check_each.field-0.0 (IsCause w file) c.from_residual-in_err-check_each.ensures.1 (cause_segments w file c.requires _ c.in_ok-header.ensures.ok there)
+    let there = ap (λ qs. first_of (segment_refusals (length file) w qs)) (sym (c.as_slice.ensures.value ∙ c.segments_of-segments.ensures))
+    ∙ c.in_err-check_each.ensures.refused in
+    if_err c.from_residual-in_err-check_each.result c.in_err-check_each.field-0.0 (IsCause w file) c.from_residual-in_err-check_each.ensures.1
+    (cause_segments w file c.requires _ c.in_ok-header.ensures.ok there)
 
 pub returns-then-have_overlap-clause-refused : goal.returns-then-have_overlap-clause-refused
 returns-then-have_overlap-clause-refused c =
@@ -79,7 +89,8 @@ returns-clause-accepted c =
     let w = c.args.shared_words in
     let ps = c.segments_of-segments.ensures in
     let passed =
-    passed_by w file _ _ _ c.in_ok-header.ensures.value (c.as_slice.ensures.value ∙ ps) (c.as_slice-2.ensures.value ∙ ps) c.requires c.in_ok-header.ensures.ok c.in_ok-check_each.ensures.ok
+    passed_by w file _ _ _ c.in_ok-header.ensures.value (c.as_slice.ensures.value ∙ ps)
+    (c.as_slice-2.ensures.value ∙ ps) c.requires c.in_ok-header.ensures.ok c.in_ok-check_each.ensures.ok
     (sym c.have_overlap.ensures ∙ c.if-have_overlap.false) (sym c.has_entry.ensures ∙ c.if-not-has_entry.false) in
     accepted w file passed
 
@@ -90,8 +101,10 @@ returns-clause-meant c =
     let ps = c.segments_of-segments.ensures in
     let header = c.in_ok-header.ensures.value in
     let layout = c.in_ok-layout.layout in
-    let loads = loaded_there w file _ (c.as_slice-3.ensures.value ∙ ps) layout c.in_ok-layout.ensures.code c.in_ok-layout.ensures.local c.in_ok-layout.ensures.shared in
+    let loads = loaded_there w file _ (c.as_slice-3.ensures.value ∙ ps) layout c.in_ok-layout.ensures.code c.in_ok-layout.ensures.local
+    c.in_ok-layout.ensures.shared in
     let passed =
-    passed_by w file _ _ _ c.in_ok-header.ensures.value (c.as_slice.ensures.value ∙ ps) (c.as_slice-2.ensures.value ∙ ps) c.requires c.in_ok-header.ensures.ok c.in_ok-check_each.ensures.ok
+    passed_by w file _ _ _ c.in_ok-header.ensures.value (c.as_slice.ensures.value ∙ ps)
+    (c.as_slice-2.ensures.value ∙ ps) c.requires c.in_ok-header.ensures.ok c.in_ok-check_each.ensures.ok
     (sym c.have_overlap.ensures ∙ c.if-have_overlap.false) (sym c.has_entry.ensures ∙ c.if-not-has_entry.false) in
     rw c.new.ensures (meant w file passed layout (c.in_ok-layout.ensures.entry ∙ ap (λ h. h.e_entry) header) loads.0 loads.1 loads.2)

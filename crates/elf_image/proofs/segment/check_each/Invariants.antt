@@ -5,4 +5,5 @@ use Rattle.elf_image.proofs.segment.check_each.Given as goal
 -- the first refusal of all is that of the rest
 abbrev pub invariant-loop-segment : goal.invariant-loop-segment
 invariant-loop-segment l =
-    first_of (segment_refusals l.file_bytes l.shared_words (drop l.segment-index l.segments)) ≡ first_of (segment_refusals l.file_bytes l.shared_words l.segments)
+    first_of (segment_refusals l.file_bytes l.shared_words (drop l.segment-index l.segments))
+    ≡ first_of (segment_refusals l.file_bytes l.shared_words l.segments)

@@ -17,7 +17,8 @@ loop-number-preserved c =
     let inv = c.loop-number.invariant in
     elim c.if-entry-eq-PT_LOAD.branch [
       | then-entry-eq-PT_LOAD w ↦ (
-        load_more f n old c.if-entry-eq-PT_LOAD.segments.items entry inv.0 is (eq-eqb entry.p_type 1 w.if-entry-eq-PT_LOAD.true) (ap (λ s. s.items) w.segments-is ∙ w.push.ensures.items),
+        load_more f n old c.if-entry-eq-PT_LOAD.segments.items entry inv.0 is (eq-eqb entry.p_type 1 w.if-entry-eq-PT_LOAD.true)
+            (ap (λ s. s.items) w.segments-is ∙ w.push.ensures.items),
         omega (arith, ap array_vec_len w.segments-is, w.push.ensures.len, inv.1),
       )
       | else-entry-eq-PT_LOAD w ↦

@@ -14,7 +14,8 @@ returns-in_err-write_whole-clause-err g c =
     let b = g.W.Write.contents c.write_whole.new.writer in
     let l = c.args.layout.now in
     let head = c.as_slice.ensures.value ∙ c.head_of-head.ensures in
-    on_err c.from_residual.result _ (part_front a b _ l.shared (part_front a b _ l.local (part_front a b _ l.code (subst (AppendsPart a b) head c.in_err-write_whole.ensures.err))))
+    on_err c.from_residual.result _ (part_front a b _ l.shared
+    (part_front a b _ l.local (part_front a b _ l.code (subst (AppendsPart a b) head c.in_err-write_whole.ensures.err))))
 
 pub returns-in_err-write_whole-2-clause-err : goal.returns-in_err-write_whole-2-clause-err
 unfolding spelling
@@ -27,7 +28,8 @@ returns-in_err-write_whole-2-clause-err g c =
     let l = c.args.layout.now in
     let head = subst (Appends a b) (c.as_slice.ensures.value ∙ c.head_of-head.ensures) c.in_ok-write_whole.ensures.ok in
     let code = subst (AppendsPart b d) c.as_slice-2.ensures c.in_err-write_whole-2.ensures.err in
-    on_err c.from_residual-in_err-write_whole-2.result _ (part_front a d _ l.shared (part_front a d _ l.local (part_behind a b d (head_bytes l) l.code head code)))
+    on_err c.from_residual-in_err-write_whole-2.result
+    _ (part_front a d _ l.shared (part_front a d _ l.local (part_behind a b d (head_bytes l) l.code head code)))
 
 pub returns-in_err-write_whole-3-clause-err : goal.returns-in_err-write_whole-3-clause-err
 unfolding spelling
@@ -42,7 +44,8 @@ returns-in_err-write_whole-3-clause-err g c =
     let head = subst (Appends a b) (c.as_slice.ensures.value ∙ c.head_of-head.ensures) c.in_ok-write_whole.ensures.ok in
     let code = subst (Appends b d) c.as_slice-2.ensures c.in_ok-write_whole-2.ensures.ok in
     let local = subst (AppendsPart d e) c.as_slice-3.ensures c.in_err-write_whole-3.ensures.err in
-    on_err c.from_residual-in_err-write_whole-3.result _ (part_front a e _ l.shared (part_behind a d e (head_bytes l ++ l.code) l.local (Appends-trans a b d _ _ head code) local))
+    on_err c.from_residual-in_err-write_whole-3.result
+    _ (part_front a e _ l.shared (part_behind a d e (head_bytes l ++ l.code) l.local (Appends-trans a b d _ _ head code) local))
 
 pub returns-in_err-write_whole-4-clause-err : goal.returns-in_err-write_whole-4-clause-err
 unfolding spelling
@@ -58,7 +61,8 @@ returns-in_err-write_whole-4-clause-err g c =
     let code = subst (Appends b d) c.as_slice-2.ensures c.in_ok-write_whole-2.ensures.ok in
     let local = subst (Appends d e) c.as_slice-3.ensures c.in_ok-write_whole-3.ensures.ok in
     let shared = subst (AppendsPart e f) c.as_slice-4.ensures c.in_err-write_whole-4.ensures.err in
-    on_err c.from_residual-in_err-write_whole-4.result _ (part_behind a e f ((head_bytes l ++ l.code) ++ l.local) l.shared (Appends-trans a d e _ _ (Appends-trans a b d _ _ head code) local) shared)
+    on_err c.from_residual-in_err-write_whole-4.result
+    _ (part_behind a e f ((head_bytes l ++ l.code) ++ l.local) l.shared (Appends-trans a d e _ _ (Appends-trans a b d _ _ head code) local) shared)
 
 pub returns-clause-ok : goal.returns-clause-ok
 unfolding spelling

@@ -9,5 +9,8 @@ loop-count-preserved g c =
     let at = c.loop-count.count in
     let more = c.in_ok-more.more in
     let old = c.loop-count.buf in
-    let rest = c.receive.new.buf in
-    (c.in_ok-more.ensures.failed, write-fits at (length old - at) more old rest inv.1 c.in_ok-more.ensures.bound, rw (take-write at (length old - at) more old rest inv.1 c.in_ok-more.ensures.bound) (Consumes-trans _ _ _ _ _ inv.2 c.in_ok-more.ensures.bytes.0))
+    let rest = c.receive.new.buf in (
+      c.in_ok-more.ensures.failed,
+      write-fits at (length old - at) more old rest inv.1 c.in_ok-more.ensures.bound,
+      rw (take-write at (length old - at) more old rest inv.1 c.in_ok-more.ensures.bound) (Consumes-trans _ _ _ _ _ inv.2 c.in_ok-more.ensures.bytes.0),
+    )

@@ -11,7 +11,8 @@ returns-in_default c =
     let old = c.args.machine.now in
     let steps = c.args.steps.now.items in
     let l = c.loop-moves in
-    let ended = entering_stops old steps l.moves l.machine l.steps.items l.last l.invariant.home (sym c.drain_step.ensures.next ∙ c.in_default.is) (c.drain_step.ensures.none.0 c.in_default.is) in
+    let ended = entering_stops old steps l.moves l.machine l.steps.items l.last l.invariant.home (sym c.drain_step.ensures.next ∙ c.in_default.is)
+    (c.drain_step.ensures.none.0 c.in_default.is) in
     record {
       drained = ended.1;
       home = ended.2;
@@ -35,7 +36,8 @@ loop-moves-preserved c =
     let few = c.requires.few in
     record {
       home =
-          entering_goes_on c.args.machine.now c.args.steps.now.items c.loop-moves.moves c.loop-moves.machine c.loop-moves.steps.items c.loop-moves.last i.home c.in-Some.step c.enter-last.result c.enter-last.new.machine c.enter-last.new.steps.items
+          entering_goes_on c.args.machine.now c.args.steps.now.items c.loop-moves.moves c.loop-moves.machine c.loop-moves.steps.items c.loop-moves.last i.home
+          c.in-Some.step c.enter-last.result c.enter-last.new.machine c.enter-last.new.steps.items
           (omega (arith, few, c.loop-moves-test.true)) (sym c.drain_step.ensures.next ∙ c.in-Some.is) c.in-Some.ensures.goes_on e.step e.steps e.entered;
       capacity = e.capacity ∙ i.capacity;
     }

@@ -8,7 +8,8 @@ returns-then-not-is_stalled-clause-entered c =
     let a = c.apply-outcome.ensures in
     let o = c.apply-outcome.result in
     subst (IsEntered c.args.machine.now c.args.steps.now.items 1 c.apply-outcome.new.self)
-    (entered_moving c.args.steps.now.items c.args.step o (moving_is o (sym c.is_stalled.ensures ∙ c.if-not-is_stalled.true)) ∙ sym c.push_reserved.ensures.items)
+    (entered_moving c.args.steps.now.items c.args.step o (moving_is o (sym c.is_stalled.ensures ∙ c.if-not-is_stalled.true))
+    ∙ sym c.push_reserved.ensures.items)
     (entered_one c.args.machine.now c.apply-outcome.new.self c.args.steps.now.items c.args.step o a.sound a.step a.stalled)
 
 pub returns-else-not-is_stalled-clause-entered : goal.returns-else-not-is_stalled-clause-entered

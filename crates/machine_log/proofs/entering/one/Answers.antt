@@ -11,9 +11,12 @@ pub returns-in_default : goal.returns-in_default
 returns-in_default c =
     let e = c.enter-outcome.ensures in
     record {
-      whole = turn_whole c.args.machine.now c.args.p c.is_idle.ensures.sound c.requires.idle c.enter-outcome.result c.enter-outcome.new.machine e.step e.entered.sound c.in_default.not-Issued;
-      steps = e.steps ∙ one_entered c.args.machine.now c.args.p c.args.steps.now.items c.enter-outcome.result c.enter-outcome.new.machine e.step c.in_default.not-Issued;
-      entered = entered_most c.args.machine.now c.enter-outcome.new.machine c.args.steps.now.items c.enter-outcome.new.steps.items 1 (2 * c.args.machine.now.config.k + 3) e.entered (omega arith);
+      whole = turn_whole c.args.machine.now c.args.p c.is_idle.ensures.sound c.requires.idle c.enter-outcome.result c.enter-outcome.new.machine e.step
+          e.entered.sound c.in_default.not-Issued;
+      steps = e.steps ∙ one_entered c.args.machine.now c.args.p c.args.steps.now.items c.enter-outcome.result c.enter-outcome.new.machine e.step
+          c.in_default.not-Issued;
+      entered = entered_most c.args.machine.now c.enter-outcome.new.machine c.args.steps.now.items c.enter-outcome.new.steps.items 1
+          (2 * c.args.machine.now.config.k + 3) e.entered (omega arith);
       capacity = e.capacity;
     }
 
@@ -40,7 +43,8 @@ returns-in-Issued-clause-steps c =
     let e = c.enter-outcome.ensures in
     let m = c.args.machine.now in
     let turn = subst (λ o. IsStep m (step.Turn c.args.p) o c.enter-outcome.new.machine) c.in-Issued.is e.step in
-    sent_entered m c.args.p c.args.steps.now.items c.enter-outcome.new.steps.items c.bring_home.new.steps.items c.enter-outcome.result c.enter-outcome.new.machine
+    sent_entered m c.args.p c.args.steps.now.items c.enter-outcome.new.steps.items c.bring_home.new.steps.items c.enter-outcome.result
+    c.enter-outcome.new.machine
     (record { machine = c.is_idle.ensures.sound; idle = c.requires.idle; turn = turn }) c.in-Issued.is e.steps c.bring_home.ensures.steps
 
 pub returns-in-Issued-clause-entered : goal.returns-in-Issued-clause-entered
@@ -49,5 +53,6 @@ returns-in-Issued-clause-entered c =
     let m = c.args.machine.now in
     let sent = c.enter-outcome.new.machine in
     let here = ap (λ (f : Config). f.k) c.config.ensures.config in
-    entered_join m sent c.bring_home.new.machine c.args.steps.now.items c.enter-outcome.new.steps.items c.bring_home.new.steps.items 1 (2 * c.from.result + 2) (2 * m.config.k + 3) e.entered c.bring_home.ensures.entered
+    entered_join m sent c.bring_home.new.machine c.args.steps.now.items c.enter-outcome.new.steps.items c.bring_home.new.steps.items 1 (2 * c.from.result + 2)
+    (2 * m.config.k + 3) e.entered c.bring_home.ensures.entered
     (omega (arith, here, c.from.ensures))

@@ -29,8 +29,10 @@ loop-poke-preserved c =
     let q = slice_index_or pokes i (poke.Register 0 0 0) in
     record {
       poked =
-          subst (λ done. ArePoked c.args.machine.now c.args.steps.now.items done c.enter.new.machine c.enter.new.steps.items) (sym (take_more pokes i (poke.Register 0 0 0) c.loop-poke-test.true))
-          (poked_more c.args.machine.now c.loop-poke.machine c.enter.new.machine c.args.steps.now.items c.loop-poke.steps.items c.enter.new.steps.items (take i pokes) q c.enter.result w.poked
+          subst (λ done. ArePoked c.args.machine.now c.args.steps.now.items done c.enter.new.machine c.enter.new.steps.items)
+          (sym (take_more pokes i (poke.Register 0 0 0) c.loop-poke-test.true))
+          (poked_more c.args.machine.now c.loop-poke.machine c.enter.new.machine c.args.steps.now.items c.loop-poke.steps.items c.enter.new.steps.items
+          (take i pokes) q c.enter.result w.poked
           (c.requires.lawful i (poke.Register 0 0 0) c.loop-poke-test.true) e.step (e.poked w.poked.idle q refl) e.steps e.entered);
       capacity = e.capacity ∙ w.capacity;
     }
@@ -40,6 +42,7 @@ returns c =
     let w = c.loop-poke.invariant in
     record {
       poked =
-          subst (λ done. ArePoked c.args.machine.now c.args.steps.now.items done c.loop-poke.machine c.loop-poke.steps.items) (take_all c.loop-poke.poke-index c.args.pokes.now c.loop-poke-test.false) w.poked;
+          subst (λ done. ArePoked c.args.machine.now c.args.steps.now.items done c.loop-poke.machine c.loop-poke.steps.items)
+          (take_all c.loop-poke.poke-index c.args.pokes.now c.loop-poke-test.false) w.poked;
       capacity = w.capacity;
     }

@@ -11,7 +11,8 @@ pub returns-in_default : goal.returns-in_default
 returns-in_default c =
     let w = c.loop-moves.invariant in
     let ended =
-    home_now c.args.machine.now w.0 c.loop-moves.moves c.loop-moves.machine c.loop-moves.last w.1 (sym c.drain_step.ensures.next ∙ c.in_default.is) (c.drain_step.ensures.none.0 c.in_default.is) in
+    home_now c.args.machine.now w.0 c.loop-moves.moves c.loop-moves.machine c.loop-moves.last w.1 (sym c.drain_step.ensures.next ∙ c.in_default.is)
+    (c.drain_step.ensures.none.0 c.in_default.is) in
     record { drained = ended.1; home = ended.2 }
 
 pub loop-moves-preserved : goal.loop-moves-preserved

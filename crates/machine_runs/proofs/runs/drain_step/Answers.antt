@@ -13,5 +13,8 @@ returns-clause-goes_on c =
 
 pub returns-clause-none : goal.returns-clause-none
 returns-clause-none c =
-    let next = c.next_step.ensures ∙ ap network_step c.network.ensures ∙ step_is c.args.machine.now c.machine_is_sound.ensures in
-    (λ none. none_idle c.args.machine.now c.machine_is_sound.ensures (sym next ∙ none), λ idle. next ∙ idle_none c.args.machine.now c.machine_is_sound.ensures idle)
+    let next = c.next_step.ensures ∙ ap network_step c.network.ensures ∙ step_is c.args.machine.now c.machine_is_sound.ensures in (
+      λ none. none_idle c.args.machine.now c.machine_is_sound.ensures (sym next ∙ none),
+      λ idle. next
+          ∙ idle_none c.args.machine.now c.machine_is_sound.ensures idle,
+    )

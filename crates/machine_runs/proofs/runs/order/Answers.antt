@@ -25,7 +25,9 @@ enter-requires-clause-few c =
     let s = slice_index_or steps i (step.Turn 0) in
     let groups = c.loop-step.order.groups.items in
     subst (λ b. (p : ℕ) → length (group_after (group_in groups) (told_by s b c.apply-outcome.result) p) ≤ 64) (sym c.is_open_at-was_open.ensures)
-    (few_after c.args.machine.now c.loop-step.machine (take i steps) groups c.loop-step.order.entries.items c.loop-step.invariant.ordered s c.apply-outcome.result c.apply-outcome.new.self c.apply-outcome.ensures.step
+    (few_after c.args.machine.now c.loop-step.machine
+    (take i steps) groups c.loop-step.order.entries.items c.loop-step.invariant.ordered s c.apply-outcome.result c.apply-outcome.new.self
+    c.apply-outcome.ensures.step
     c.machine_is_sound.ensures c.requires.idle)
 
 pub enter-requires-clause-room : goal.enter-requires-clause-room
@@ -40,11 +42,15 @@ loop-step-preserved c =
     let entries = c.loop-step.order.entries.items in
     let groups_after = c.enter.new.self.groups.items in
     let entries_after = c.enter.new.self.entries.items in
-    let entered = subst (λ b. IsEntered groups entries (told_by s b c.apply-outcome.result) groups_after entries_after) c.is_open_at-was_open.ensures c.enter.ensures.entered in
+    let entered = subst (λ b. IsEntered groups entries (told_by s b c.apply-outcome.result) groups_after entries_after) c.is_open_at-was_open.ensures
+    c.enter.ensures.entered in
     record {
       ordered =
-          subst (λ done. IsOrdered c.args.machine.now done c.apply-outcome.new.self groups_after entries_after) (sym (take_more steps i (step.Turn 0) c.loop-step-test.true))
-          (order_goes_on c.args.machine.now c.loop-step.machine (take i steps) groups entries c.loop-step.invariant.ordered s c.apply-outcome.result c.apply-outcome.new.self c.apply-outcome.ensures.step groups_after entries_after entered);
+          subst (λ done. IsOrdered c.args.machine.now done c.apply-outcome.new.self groups_after entries_after)
+          (sym (take_more steps i (step.Turn 0) c.loop-step-test.true))
+          (order_goes_on c.args.machine.now c.loop-step.machine
+          (take i steps) groups entries c.loop-step.invariant.ordered s c.apply-outcome.result c.apply-outcome.new.self c.apply-outcome.ensures.step
+          groups_after entries_after entered);
       room = subst (λ n. length steps ≤ n) (sym c.enter.ensures.capacity) c.loop-step.invariant.room;
       count = (let more = entered.count in let before = c.loop-step.invariant.count in omega (arith, more, before));
     }
@@ -52,17 +58,20 @@ loop-step-preserved c =
 pub returns-clause-order : goal.returns-clause-order
 returns-clause-order c =
     let steps = c.args.steps.now in
-    let d = subst (λ done. IsOrdered c.args.machine.now done c.loop-step.machine c.loop-step.order.groups.items c.loop-step.order.entries.items) (take_all c.loop-step.step-index steps c.loop-step-test.false) c.loop-step.invariant.ordered in
+    let d = subst (λ done. IsOrdered c.args.machine.now done c.loop-step.machine c.loop-step.order.groups.items c.loop-step.order.entries.items)
+    (take_all c.loop-step.step-index steps c.loop-step-test.false) c.loop-step.invariant.ordered in
     subst (λ entries. entries.items ≡ (passed c.args.machine.now steps).order) (sym c.into_entries.ensures) d.order
 
 pub returns-clause-run : goal.returns-clause-run
 returns-clause-run c =
     let steps = c.args.steps.now in
-    let d = subst (λ done. IsOrdered c.args.machine.now done c.loop-step.machine c.loop-step.order.groups.items c.loop-step.order.entries.items) (take_all c.loop-step.step-index steps c.loop-step-test.false) c.loop-step.invariant.ordered in
+    let d = subst (λ done. IsOrdered c.args.machine.now done c.loop-step.machine c.loop-step.order.groups.items c.loop-step.order.entries.items)
+    (take_all c.loop-step.step-index steps c.loop-step-test.false) c.loop-step.invariant.ordered in
     d.run
 
 pub returns-clause-serialized : goal.returns-clause-serialized
 returns-clause-serialized c =
     let steps = c.args.steps.now in
-    let d = subst (λ done. IsOrdered c.args.machine.now done c.loop-step.machine c.loop-step.order.groups.items c.loop-step.order.entries.items) (take_all c.loop-step.step-index steps c.loop-step-test.false) c.loop-step.invariant.ordered in
+    let d = subst (λ done. IsOrdered c.args.machine.now done c.loop-step.machine c.loop-step.order.groups.items c.loop-step.order.entries.items)
+    (take_all c.loop-step.step-index steps c.loop-step-test.false) c.loop-step.invariant.ordered in
     serialized c.args.machine.now steps c.loop-step.machine c.machine_is_sound.ensures c.requires.idle c.machine_is_sound-2.ensures d.run

@@ -5,4 +5,5 @@ use Rattle.machine_runs.proofs.Draining.{up_at}
 use Rattle.machine_runs.proofs.searching.next_up.Given as goal
 
 abbrev pub invariant-loop-passed : goal.invariant-loop-passed
-invariant-loop-passed l = greatest (up_at (sizes_of l.network) (net_of l.network)) l.network.k ≡ greatest (up_at (sizes_of l.network) (net_of l.network)) (l.k - l.passed)
+invariant-loop-passed l =
+    greatest (up_at (sizes_of l.network) (net_of l.network)) l.network.k ≡ greatest (up_at (sizes_of l.network) (net_of l.network)) (l.k - l.passed)

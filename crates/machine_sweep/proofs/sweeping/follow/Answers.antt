@@ -19,7 +19,9 @@ loop-log-init c =
     record {
       config = refl;
       room = refl;
-      following = following_begins c.args.limit log c.requires.few c.machine.ensures.replay (subst HasRunning c.machine.ensures.machine (c.any_runs.ensures.0 (let other = c.if-not-any_runs.false in let is = c.if-not-any_runs.ensures in cc)));
+      following = following_begins c.args.limit log c.requires.few c.machine.ensures.replay
+          (subst HasRunning c.machine.ensures.machine (c.any_runs.ensures.0 (let other = c.if-not-any_runs.false in let is = c.if-not-any_runs.ensures in
+          cc)));
     }
 
 pub take_round-requires-clause-running : goal.take_round-requires-clause-running
@@ -29,7 +31,8 @@ pub returns-then-take_round-clause-followed : goal.returns-then-take_round-claus
 returns-then-take_round-clause-followed c =
     let i = c.loop-log.invariant in
     let room : length c.loop-log.log.log.steps < c.args.limit = (let there = ap length c.steps.ensures.steps in omega (arith, there, c.loop-log-test.true)) in
-    following_over c.args.limit c.args.log.now.log c.loop-log.log.log c.take_round.new.log.log i.following (ap (λ (d : Config). d.k) i.config) room true c.if-take_round.ensures.round refl
+    following_over c.args.limit c.args.log.now.log c.loop-log.log.log c.take_round.new.log.log i.following
+    (ap (λ (d : Config). d.k) i.config) room true c.if-take_round.ensures.round refl
 
 pub loop-log-preserved : goal.loop-log-preserved
 loop-log-preserved c =
@@ -38,9 +41,11 @@ loop-log-preserved c =
     record {
       config = c.take_round.ensures.config ∙ i.config;
       room = c.take_round.ensures.room ∙ i.room;
-      following = following_more c.args.limit c.args.log.now.log c.loop-log.log.log c.take_round.new.log.log i.following (ap (λ (d : Config). d.k) i.config) room false c.if-take_round.ensures.round refl;
+      following = following_more c.args.limit c.args.log.now.log c.loop-log.log.log c.take_round.new.log.log i.following
+          (ap (λ (d : Config). d.k) i.config) room false c.if-take_round.ensures.round refl;
     }
 
 pub returns-clause-followed : goal.returns-clause-followed
 returns-clause-followed c =
-    budget_used c.args.limit c.args.log.now.log c.loop-log.log.log c.loop-log.invariant.following (let there = ap length c.steps.ensures.steps in omega (arith, there, c.loop-log-test.false))
+    budget_used c.args.limit c.args.log.now.log c.loop-log.log.log c.loop-log.invariant.following (let there = ap length c.steps.ensures.steps in
+    omega (arith, there, c.loop-log-test.false))

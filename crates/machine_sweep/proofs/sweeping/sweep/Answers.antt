@@ -10,5 +10,11 @@ returns-clause-records c =
     let middle = c.follow-end.new.log.log in
     let followed = subst (λ xs. HasFollowed (length xs + c.args.most) old c.follow-end.result middle) c.steps.ensures.steps c.follow-end.ensures.followed in
     let swept : IsSwept c.args.most old c.follow-end.result new =
-    record { middle = middle; followed = followed; opening = c.drain.ensures.opening ∙ followed.opening; steps = c.drain.ensures.entered; idle = c.drain.ensures.drained.idle } in
+    record {
+      middle = middle;
+      followed = followed;
+      opening = c.drain.ensures.opening ∙ followed.opening;
+      steps = c.drain.ensures.entered;
+      idle = c.drain.ensures.drained.idle;
+    } in
     swept_has_records c.args.most old c.follow-end.result new swept c.machine-2.ensures.replay c.machine.ensures.replay.run.config

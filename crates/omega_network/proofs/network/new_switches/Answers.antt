@@ -25,7 +25,8 @@ loop-init c = record {
 pub loop-stage-init : goal.loop-stage-init
 loop-stage-init c =
     let e : 0 ≡ 0 * half c.args.k = omega arith in
-    subst (SoFar c.args.k c.args.c c.args.b (0 * half c.args.k)) (sym c.new-switches.ensures.items) (subst (λ n. SoFar c.args.k c.args.c c.args.b n []) e (none_yet c.args.k c.args.c c.args.b))
+    subst (SoFar c.args.k c.args.c c.args.b (0 * half c.args.k)) (sym c.new-switches.ensures.items)
+    (subst (λ n. SoFar c.args.k c.args.c c.args.b n []) e (none_yet c.args.k c.args.c c.args.b))
 
 pub loop-stage-preserved : goal.loop-stage-preserved
 loop-stage-preserved c =
@@ -37,4 +38,5 @@ loop-stage-preserved c =
 pub returns : goal.returns
 returns c =
     let all : c.loop-stage.stage ≡ c.args.k = omega arith in
-    all_done c.args.k c.args.c c.args.b (c.loop-stage.stage * half c.args.k) c.loop-stage.switches.items (ap (λ s. s * half c.args.k) all) c.loop-stage.invariant
+    all_done c.args.k c.args.c c.args.b (c.loop-stage.stage * half c.args.k) c.loop-stage.switches.items
+    (ap (λ s. s * half c.args.k) all) c.loop-stage.invariant

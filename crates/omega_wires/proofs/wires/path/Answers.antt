@@ -12,8 +12,10 @@ overflow_add-result c =
 
 pub returns-clause-exact : goal.returns-clause-exact
 returns-clause-exact c =
-    rw c.low_bits.ensures (path_by_shifts c.args.k c.args.processor c.args.to_module c.args.stage c.requires.stages c.requires.by_a_stage c.requires.a_processor c.requires.a_module)
+    rw c.low_bits.ensures (path_by_shifts c.args.k c.args.processor c.args.to_module c.args.stage c.requires.stages c.requires.by_a_stage
+    c.requires.a_processor c.requires.a_module)
 
 pub returns-clause-small : goal.returns-clause-small
 returns-clause-small c =
-    rw c.low_bits.ensures (path_below c.args.k c.args.processor c.args.to_module c.args.stage c.requires.stages c.requires.by_a_stage c.requires.a_processor c.requires.a_module)
+    rw c.low_bits.ensures (path_below c.args.k c.args.processor c.args.to_module c.args.stage c.requires.stages c.requires.by_a_stage c.requires.a_processor
+    c.requires.a_module)

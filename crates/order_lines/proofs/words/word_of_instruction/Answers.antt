@@ -9,7 +9,8 @@ returns-in-Load c = λ s code p words same.
     let registers = c.args.registers.now in
     let a = c.in-Load in
     turn_word s code p i registers c.word_at.result same
-    (load_word s p.pc registers i a.op a.rd a.rs1 a.imm (bytes_of c.load_size.result) c.address.result a.is c.load_size.ensures c.address.ensures ∙ c.word_at.ensures s false words)
+    (load_word s p.pc registers i a.op a.rd a.rs1 a.imm (bytes_of c.load_size.result) c.address.result a.is c.load_size.ensures c.address.ensures
+    ∙ c.word_at.ensures s false words)
 
 pub returns-in-Store : goal.returns-in-Store
 returns-in-Store c = λ s code p words same.
@@ -17,7 +18,9 @@ returns-in-Store c = λ s code p words same.
     let registers = c.args.registers.now in
     let a = c.in-Store in
     turn_word s code p i registers c.word_at-in-Store.result same
-    (store_word s p.pc registers i a.op a.rs1 a.rs2 a.imm (bytes_of c.store_size.result) c.address-in-Store.result a.is c.store_size.ensures c.address-in-Store.ensures ∙ c.word_at-in-Store.ensures s true words)
+    (store_word s p.pc registers i a.op a.rs1 a.rs2 a.imm
+    (bytes_of c.store_size.result) c.address-in-Store.result a.is c.store_size.ensures c.address-in-Store.ensures
+    ∙ c.word_at-in-Store.ensures s true words)
 
 pub returns-in-Amo : goal.returns-in-Amo
 returns-in-Amo c = λ s code p words same.

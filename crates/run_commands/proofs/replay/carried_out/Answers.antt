@@ -16,7 +16,8 @@ returns-clause-replayed g c =
         meant = search rules;
         report = search rules;
       };
-      printed = subst (λ bytes. Appends (g.W.Write.contents c.args.out.now) (g.W.Write.contents c.print.new.out) bytes) c.as_str.ensures.value c.in_ok-print.ensures.printed;
+      printed = subst (λ bytes. Appends (g.W.Write.contents c.args.out.now) (g.W.Write.contents c.print.new.out) bytes) c.as_str.ensures.value
+          c.in_ok-print.ensures.printed;
     }
 
 pub returns-in_err-print-clause-told : goal.returns-in_err-print-clause-told

@@ -14,9 +14,11 @@ returns-clause-report c =
     let steps = c.args.steps.now ++ drain_steps before in
     let new = c.drained.new.machine in
     let all = c.in_ok-drained.ensures.taken opening c.args.steps.now taken in
-    let serialized = c.runs_are_serialized.ensures.each opening steps new c.is_idle.ensures.sound opens.idle (subst IsMachine c.machine-2.view_is c.machine-2.invariant) all.replay.run in
+    let serialized = c.runs_are_serialized.ensures.each opening steps new c.is_idle.ensures.sound opens.idle
+    (subst IsMachine c.machine-2.view_is c.machine-2.invariant) all.replay.run in
     record {
       before = before;
       stands = record { opening = opening; opens = opens; replay = taken.replay };
-      report = report_is_of c.args.config c.args.image steps opening new c.drained.new.tally opens all c.in_ok-drained.ensures.idle serialized (string_bytes c.in_ok-text.text) c.exit_status.result c.in_ok-text.ensures c.exit_status.ensures;
+      report = report_is_of c.args.config c.args.image steps opening new c.drained.new.tally opens all c.in_ok-drained.ensures.idle serialized
+          (string_bytes c.in_ok-text.text) c.exit_status.result c.in_ok-text.ensures c.exit_status.ensures;
     }

@@ -26,15 +26,18 @@ returns-clause-reported g c =
     let text = string_bytes c.in_ok-text.text in
     let report =
     subst (λ size. IsReportOf size ran.over.image log.steps text c.in_ok-text.status) (log_config c.args.config c.args.budget known Over log ran.over)
-    (subst (λ image. IsReportOf log.machine.config image log.steps text c.in_ok-text.status) (log_image c.args.config c.args.budget known Over log ran.over) c.in_ok-text.ensures.report) in
+    (subst (λ image. IsReportOf log.machine.config image log.steps text c.in_ok-text.status)
+    (log_image c.args.config c.args.budget known Over log ran.over) c.in_ok-text.ensures.report) in
     record {
       text = text;
       meant = record {
         steps = log.steps;
         run = record { log = log; ran = ran; entered = refl; report = report };
-        saved = subst (λ steps. IsSaved {T = g.row.T.Denot} g.T.Write.contents c.args.trace.now c.save.new.trace (trace_bytes (trace_of c.args.config steps))) c.steps.ensures.steps c.in_ok-save.ensures.saved;
+        saved = subst (λ steps. IsSaved {T = g.row.T.Denot} g.T.Write.contents c.args.trace.now c.save.new.trace (trace_bytes (trace_of c.args.config steps)))
+            c.steps.ensures.steps c.in_ok-save.ensures.saved;
       };
-      printed = subst (λ bytes. Appends (g.W.Write.contents c.args.out.now) (g.W.Write.contents c.print.new.out) bytes) c.as_str.ensures.value c.in_ok-print.ensures.printed;
+      printed = subst (λ bytes. Appends (g.W.Write.contents c.args.out.now) (g.W.Write.contents c.print.new.out) bytes) c.as_str.ensures.value
+          c.in_ok-print.ensures.printed;
     }
 
 pub returns-in_err-save-clause-told : goal.returns-in_err-save-clause-told
@@ -46,7 +49,8 @@ returns-in_err-save-clause-told g c =
       record {
         log = c.in_ok-log.log;
         ran = c.in_ok-log.ensures.ran;
-        part = subst (λ steps. IsPartSaved {T = g.row.T.Denot} g.T.Write.contents c.args.trace.now c.save.new.trace (trace_bytes (trace_of c.args.config steps))) c.steps.ensures.steps f.1;
+        part = subst (λ steps. IsPartSaved {T = g.row.T.Denot} g.T.Write.contents c.args.trace.now c.save.new.trace
+            (trace_bytes (trace_of c.args.config steps))) c.steps.ensures.steps f.1;
       },
     )
 
@@ -60,7 +64,8 @@ returns-in_err-print-clause-told g c =
     let f = c.in_err-print.ensures.begun in
     let report =
     subst (λ size. IsReportOf size ran.over.image log.steps text c.in_ok-text.status) (log_config c.args.config c.args.budget known Over log ran.over)
-    (subst (λ image. IsReportOf log.machine.config image log.steps text c.in_ok-text.status) (log_image c.args.config c.args.budget known Over log ran.over) c.in_ok-text.ensures.report) in
+    (subst (λ image. IsReportOf log.machine.config image log.steps text c.in_ok-text.status)
+    (log_image c.args.config c.args.budget known Over log ran.over) c.in_ok-text.ensures.report) in
     rw (p.1, p.2, f.0)
     (record {
       text = text;
@@ -69,7 +74,8 @@ returns-in_err-print-clause-told g c =
         record {
           steps = log.steps;
           run = record { log = log; ran = ran; entered = refl; report = report };
-          saved = subst (λ steps. IsSaved {T = g.row.T.Denot} g.T.Write.contents c.args.trace.now c.save.new.trace (trace_bytes (trace_of c.args.config steps))) c.steps.ensures.steps c.in_ok-save.ensures.saved;
+          saved = subst (λ steps. IsSaved {T = g.row.T.Denot} g.T.Write.contents c.args.trace.now c.save.new.trace
+              (trace_bytes (trace_of c.args.config steps))) c.steps.ensures.steps c.in_ok-save.ensures.saved;
         },
       );
       part = subst (λ bytes. AppendsPart (g.W.Write.contents c.args.out.now) (g.W.Write.contents c.print.new.out) bytes) c.as_str.ensures.value f.1;

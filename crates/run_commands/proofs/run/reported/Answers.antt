@@ -18,7 +18,8 @@ returns-in_err-tally-clause-refused c =
     let size = c.config-config.ensures.config ∙ ap (λ (m : MachineLists). m.config) c.machine.ensures.machine in
     let image = c.in_ok-image.ensures.ok ∙ c.image.ensures ∙ ap (λ (m : MachineLists). m.image) c.machine-2.ensures.machine in
     rw (p.1, p.2)
-    (not_stalled log c.config-config.result c.in_ok-image.image c.steps.result.now c.in_ok-machine.machine c.retaken.new.machine c.requires.opens c.machine.ensures.replay size image c.steps.ensures.steps c.in_ok-machine.ensures.opening c.in_err-tally.field-0.0
+    (not_stalled log c.config-config.result c.in_ok-image.image c.steps.result.now c.in_ok-machine.machine c.retaken.new.machine c.requires.opens
+    c.machine.ensures.replay size image c.steps.ensures.steps c.in_ok-machine.ensures.opening c.in_err-tally.field-0.0
     c.in_err-tally.ensures.refused)
 
 pub returns-clause-report : goal.returns-clause-report
@@ -33,8 +34,12 @@ returns-clause-report c =
     let steps = c.steps.ensures.steps in
     let here = subst (λ (x : Config × ImageContents). IsOpening x.0 x.1 opening) (λ i. (size i, image i)) opens in
     let replay = subst (λ (xs : List Step). IsReplay opening xs new) steps taken.replay in
-    let idle = idle_alike log.machine.config log.machine.image log.steps log.opening opening log.machine new c.requires.opens here c.machine.ensures.replay replay c.requires.idle in
-    let serialized = c.runs_are_serialized.ensures.each opening c.steps.result.now new c.is_idle.ensures.sound opens.idle (subst IsMachine c.machine-3.view_is c.machine-3.invariant) taken.replay.run in
+    let idle = idle_alike log.machine.config log.machine.image log.steps log.opening opening log.machine new c.requires.opens here c.machine.ensures.replay
+    replay c.requires.idle in
+    let serialized = c.runs_are_serialized.ensures.each opening c.steps.result.now new c.is_idle.ensures.sound opens.idle
+    (subst IsMachine c.machine-3.view_is c.machine-3.invariant) taken.replay.run in
     let report =
-    report_is_of c.config-config.result c.in_ok-image.image c.steps.result.now opening new c.in_ok-tally.tally opens taken idle serialized (string_bytes c.in_ok-text.text) c.exit_status.result c.in_ok-text.ensures c.exit_status.ensures in
-    subst (λ (x : Config × ImageContents × List Step). IsReportOf x.0 x.1 x.2 (string_bytes c.in_ok-text.text) c.exit_status.result) (λ i. (size i, image i, steps i)) report
+    report_is_of c.config-config.result c.in_ok-image.image c.steps.result.now opening new c.in_ok-tally.tally opens taken idle serialized
+    (string_bytes c.in_ok-text.text) c.exit_status.result c.in_ok-text.ensures c.exit_status.ensures in
+    subst (λ (x : Config × ImageContents × List Step). IsReportOf x.0 x.1 x.2 (string_bytes c.in_ok-text.text) c.exit_status.result)
+    (λ i. (size i, image i, steps i)) report

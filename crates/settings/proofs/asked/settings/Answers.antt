@@ -1,5 +1,6 @@
 use Rattle.settings.proofs.Complete.{complete}
-use Rattle.settings.proofs.Plain.{asm_asked, asm_short, dis_asked, dis_short, explain_asked, explain_short, replay_asked, replay_short, run_asked, run_short, words_asked, words_short}
+use Rattle.settings.proofs.Plain.{asm_asked, asm_short, dis_asked, dis_short, explain_asked, explain_short, replay_asked, replay_short, run_asked, run_short}
+use Rattle.settings.proofs.Plain.{words_asked, words_short}
 use Rattle.settings.proofs.asked.settings.Goals as goal
 
 pub chosen-requires : goal.chosen-requires

@@ -16,11 +16,13 @@ returns-then-filled-room-clause-refused g c =
     let bytes = take c.in_ok-filled.filled c.fill.new.buf in
     let n = length c.args.room.now in
     let added = c.in_ok-add_steps.ensures.ok in
-    piece_short c.args.k _ _ _ _ bytes added.0 n (omega (arith, length-take c.in_ok-filled.filled c.fill.new.buf)) c.requires.whole added.1 added.2 c.in_ok-filled.ensures.bytes (c.in_ok-filled.ensures.short (omega arith))
+    piece_short c.args.k _ _ _ _ bytes added.0 n (omega (arith, length-take c.in_ok-filled.filled c.fill.new.buf)) c.requires.whole added.1 added.2
+    c.in_ok-filled.ensures.bytes (c.in_ok-filled.ensures.short (omega arith))
 
 pub returns-clause-ok : goal.returns-clause-ok
 returns-clause-ok g c =
     let bytes = take c.in_ok-filled.filled c.fill.new.buf in
     let n = length c.args.room.now in
     let added = c.in_ok-add_steps.ensures.ok in
-    piece_whole c.args.k _ _ _ _ bytes added.0 n (omega (arith, length-take c.in_ok-filled.filled c.fill.new.buf, c.in_ok-filled.ensures.bound)) c.requires.whole added.1 added.2 c.in_ok-filled.ensures.bytes
+    piece_whole c.args.k _ _ _ _ bytes added.0 n (omega (arith, length-take c.in_ok-filled.filled c.fill.new.buf, c.in_ok-filled.ensures.bound))
+    c.requires.whole added.1 added.2 c.in_ok-filled.ensures.bytes

@@ -18,7 +18,8 @@ returns-in_err-write_whole-clause-err g c =
     let rest = c.loop-rest.rest.now in
     let piece = c.as_slice.ensures.value ∙ c.records_of.ensures ∙ ap records_bytes c.split_at.ensures.front in
     let part = part_behind a b d (records_bytes inv.0) _ inv.2 (subst (AppendsPart b d) piece c.in_err-write_whole.ensures.err) in
-    on_err c.from_residual.result _ (subst (AppendsPart a d) (written_parts c.args.steps.now inv.0 rest c.min.result inv.1) (part_front a d _ (records_bytes (drop c.min.result rest)) part))
+    on_err c.from_residual.result _ (subst (AppendsPart a d) (written_parts c.args.steps.now inv.0 rest c.min.result inv.1)
+    (part_front a d _ (records_bytes (drop c.min.result rest)) part))
 
 pub loop-rest-preserved : goal.loop-rest-preserved
 loop-rest-preserved g c =

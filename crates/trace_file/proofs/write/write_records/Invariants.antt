@@ -7,7 +7,8 @@ use Rattle.trace_file.proofs.write.write_records.Given as goal
 -- the steps whose records were written, and those that are left
 abbrev pub invariant-loop-rest : goal.invariant-loop-rest
 invariant-loop-rest g l =
-    (g.W.Link.has_failed l.writer ≡ false) × ((written : List Step) × (l.steps ≡ written ++ l.rest) × Appends (g.W.Write.contents l.fn.writer) (g.W.Write.contents l.writer) (records_bytes written))
+    (g.W.Link.has_failed l.writer ≡ false) × ((written : List Step) × (l.steps ≡ written ++ l.rest)
+    × Appends (g.W.Write.contents l.fn.writer) (g.W.Write.contents l.writer) (records_bytes written))
 
 abbrev pub decreases-loop-rest : goal.decreases-loop-rest
 decreases-loop-rest g l = length l.rest

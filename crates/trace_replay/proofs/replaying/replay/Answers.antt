@@ -18,7 +18,8 @@ loop-place-preserved c =
     record {
       replay =
           subst (λ done. IsReplay c.args.machine.now done c.apply.new.self) (sym (take_more steps place (step.Turn 0) c.loop-place-test.true))
-          (replay_more c.args.machine.now c.loop-place.machine c.apply.new.self (take place steps) (slice_index_or steps place (step.Turn 0)) c.apply.result c.loop-place.invariant.replay a.step
+          (replay_more c.args.machine.now c.loop-place.machine c.apply.new.self (take place steps)
+          (slice_index_or steps place (step.Turn 0)) c.apply.result c.loop-place.invariant.replay a.step
           (λ e. true≢false (sym (ap is_stalled e) ∙ sym c.is_stalled.ensures ∙ c.if-is_stalled.false)));
       sound = a.sound;
     }
@@ -26,5 +27,6 @@ loop-place-preserved c =
 pub returns-clause-serialized : goal.returns-clause-serialized
 returns-clause-serialized c idle =
     let i = c.loop-place.invariant in
-    let replay = subst (λ done. IsReplay c.args.machine.now done c.loop-place.machine) (take_all c.loop-place.place c.args.steps.now c.loop-place-test.false) i.replay in
+    let replay = subst (λ done. IsReplay c.args.machine.now done c.loop-place.machine)
+    (take_all c.loop-place.place c.args.steps.now c.loop-place-test.false) i.replay in
     serialized c.args.machine.now c.args.steps.now c.loop-place.machine c.is_idle.ensures.sound idle i.sound replay.run

@@ -24,7 +24,8 @@ ended running.Budget text words old new first last spelled is ran =
 ended running.Memory text words old new first last spelled is ran = tt
 
 -- a report that is not printed is told as what kept it
-unprinted : (error : PrintError) (text : List ℕ) (old new : Option (List ℕ)) → (error ≡ printing.Link → IsPartPrinted (IsSomeReport text) old new) → IsNoReportOf (fault_of_printing error) text old new
+unprinted : (error : PrintError) (text : List ℕ) (old new : Option (List ℕ)) → (error ≡ printing.Link → IsPartPrinted (IsSomeReport text) old new) →
+    IsNoReportOf (fault_of_printing error) text old new
 unprinted printing.Link text old new part = part refl
 unprinted printing.Memory text old new part = tt
 

@@ -7,4 +7,5 @@ image_of-requires-clause-placed c = words_are_placed c.args.words.now c.in_ok-la
 
 pub returns-in-Ok-new-clause-flat : goal.returns-in-Ok-new-clause-flat
 returns-in-Ok-new-clause-flat c =
-    words_open c.args.words.now c.in_ok-layout.layout c.in-Ok.image (flat_state c.in-Ok-new.machine) c.in_ok-layout.ensures c.in-Ok.ensures.ok c.in-Ok-new.ensures.opening.flat
+    words_open c.args.words.now c.in_ok-layout.layout c.in-Ok.image
+    (flat_state c.in-Ok-new.machine) c.in_ok-layout.ensures c.in-Ok.ensures.ok c.in-Ok-new.ensures.opening.flat

@@ -1,4 +1,5 @@
-use Rattle.std.proofs.Common.{◌≡◌, ℕ, ◌+◌, ◌%◌, ◌^◌, ◌<◌, Bool, true, false, cond, List, [], ◌∷◌, ◌++◌, length, take, get_or, map, refl, sym, ap, ◌∙◌, arith, eq-eqb, append-nil}
+use Rattle.std.proofs.Common.{◌≡◌, ℕ, ◌+◌, ◌%◌, ◌^◌, ◌<◌, Bool, true, false, cond, List, [], ◌∷◌, ◌++◌, length, take, get_or, map, refl, sym, ap, ◌∙◌, arith}
+use Rattle.std.proofs.Common.{eq-eqb, append-nil}
 use Rattle.std.proofs.lemmas.Bool.{ne_eqb}
 use Rattle.std.proofs.lemmas.List.{take_more, map-append}
 use Rattle.std.proofs.lemmas.List.Elements.{filter-append}
@@ -17,19 +18,22 @@ one_more x es e b is =
     ap (λ (rs : List Record). answers rs x) (filter-append (λ (r : Record). r.leader == x.leader) es (e ∷ []))
     ∙ ap (λ c. answers (records_of x.leader es ++ cond c (e ∷ []) []) x) is
     ∙ ap (λ ys. x ∷ ys) (map-append (reply_of x.value) (records_of x.leader es) (cond b (e ∷ []) []))
-    ∙ ap (λ ys. answers (records_of x.leader es) x ++ ys) (elim b as (λ c. map (reply_of x.value) (cond c (e ∷ []) []) ≡ cond c (reply_of x.value e ∷ []) []) [ true ↦ refl | false ↦ refl ])
+    ∙ ap (λ ys. answers (records_of x.leader es) x ++ ys)
+    (elim b as (λ c. map (reply_of x.value) (cond c (e ∷ []) []) ≡ cond c (reply_of x.value e ∷ []) []) [ true ↦ refl | false ↦ refl ])
 
 in_range : (e : Record) (y : ℕ) → y < 2 ^ 32 → apply e.phi y ≡ applied e.phi y
 unfolding applied
 in_range e y small = let same : y % 2 ^ 32 ≡ y = omega arith in ap (apply e.phi) (sym same)
 
 -- the invariant's equation after one more record, whose test came out as b
-next : (x : Reply) (records : List Record) (i : ℕ) (e : Record) (b : Bool) (before after : List Reply) → i < length records → e ≡ get_or records i e → (e.leader == x.leader) ≡ b
+next : (x : Reply) (records : List Record) (i : ℕ) (e : Record) (b : Bool) (before after : List Reply) → i < length records → e ≡ get_or records i e →
+    (e.leader == x.leader) ≡ b
     → before ≡ answers (records_of x.leader (take i records)) x → after ≡ before ++ cond b (reply_of x.value e ∷ []) []
     → after ≡ answers (records_of x.leader (take (i + 1) records)) x
 next x records i e b before after inside at is so_far gained =
     let now : take (i + 1) records ≡ take i records ++ e ∷ [] = take_more records i e inside ∙ ap (λ (r : Record). take i records ++ r ∷ []) (sym at) in
-    gained ∙ ap (λ ys. ys ++ cond b (reply_of x.value e ∷ []) []) so_far ∙ sym (one_more x (take i records) e b is) ∙ ap (λ es. answers (records_of x.leader es) x) (sym now)
+    gained ∙ ap (λ ys. ys ++ cond b (reply_of x.value e ∷ []) []) so_far ∙ sym (one_more x (take i records) e b is)
+    ∙ ap (λ es. answers (records_of x.leader es) x) (sym now)
 
 pub loop-record-preserved : goal.loop-record-preserved
 loop-record-preserved c =

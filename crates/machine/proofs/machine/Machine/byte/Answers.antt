@@ -9,4 +9,5 @@ use Rattle.machine.proofs.machine.Machine.byte.Goals as goal
 pub returns : goal.returns
 returns c =
     c.ok.ensures.value ∙ ap result_ok c.byte.ensures
-    ∙ byte_of_core (nat_lt c.args.processor (2 ^ c.args.self.now.config.k)) (in_local c.args.address) (port_at c.args.self.now.ports c.args.processor).core c.in_ok-core.field-0.now c.args.address c.in_ok-core.ensures
+    ∙ byte_of_core (nat_lt c.args.processor (2 ^ c.args.self.now.config.k)) (in_local c.args.address)
+    (port_at c.args.self.now.ports c.args.processor).core c.in_ok-core.field-0.now c.args.address c.in_ok-core.ensures

@@ -12,10 +12,22 @@ returns-then-address-lt-SHARED_START c =
 
 pub returns-then-word-self : goal.returns-then-word-self
 returns-then-word-self c =
-    same_by c.self.view_is (shared_unnamed _ c.self.invariant (subst (λ (m : MachineLists). IsIdle m) (sym c.self.view_is) c.requires) c.args.address c.args.value (beyond c.args.address _ c.if-address-lt-SHARED_START.false c.if-word-self.true))
+    same_by c.self.view_is (shared_unnamed _ c.self.invariant
+    (subst (λ (m : MachineLists). IsIdle m) (sym c.self.view_is) c.requires) c.args.address c.args.value
+    (beyond c.args.address _ c.if-address-lt-SHARED_START.false c.if-word-self.true))
 
 pub invariant_of-self : goal.invariant_of-self
-invariant_of-self c = (shared_there _ c.self.invariant c.module_of.result c.from-place.result c.from-place.ensures c.module_of.ensures.small c.index_mut.result.now c.index_mut.ensures.value c.args.address c.args.value c.store_byte-byte.result c.serve.new.self (subst (λ (m : MachineLists). IsIdle m) (sym c.self.view_is) c.requires) c.ranges.value.fits c.if-address-lt-SHARED_START.false c.if-word-self.false c.module_of.ensures.exact (subst (λ v. (x : ℕ) → x < 2 ^ 32 → apply c.store_byte-byte.result x ≡ with_part 1 (c.args.address % 4) x v) c.from.ensures c.store_byte-byte.ensures.meaning) c.serve.ensures.new_word c.serve.ensures.in_range).1
+invariant_of-self c = (shared_there _ c.self.invariant c.module_of.result c.from-place.result c.from-place.ensures c.module_of.ensures.small
+    c.index_mut.result.now c.index_mut.ensures.value c.args.address c.args.value c.store_byte-byte.result c.serve.new.self
+    (subst (λ (m : MachineLists). IsIdle m) (sym c.self.view_is) c.requires) c.ranges.value.fits c.if-address-lt-SHARED_START.false c.if-word-self.false
+    c.module_of.ensures.exact (subst (λ v. (x : ℕ) → x < 2 ^ 32 →
+    apply c.store_byte-byte.result x ≡ with_part 1 (c.args.address % 4) x v) c.from.ensures c.store_byte-byte.ensures.meaning) c.serve.ensures.new_word
+    c.serve.ensures.in_range).1
 
 pub returns : goal.returns
-returns c = step_by c.self.view_is refl (shared_there _ c.self.invariant c.module_of.result c.from-place.result c.from-place.ensures c.module_of.ensures.small c.index_mut.result.now c.index_mut.ensures.value c.args.address c.args.value c.store_byte-byte.result c.serve.new.self (subst (λ (m : MachineLists). IsIdle m) (sym c.self.view_is) c.requires) c.ranges.value.fits c.if-address-lt-SHARED_START.false c.if-word-self.false c.module_of.ensures.exact (subst (λ v. (x : ℕ) → x < 2 ^ 32 → apply c.store_byte-byte.result x ≡ with_part 1 (c.args.address % 4) x v) c.from.ensures c.store_byte-byte.ensures.meaning) c.serve.ensures.new_word c.serve.ensures.in_range).0
+returns c = step_by c.self.view_is refl (shared_there _ c.self.invariant c.module_of.result c.from-place.result c.from-place.ensures c.module_of.ensures.small
+    c.index_mut.result.now c.index_mut.ensures.value c.args.address c.args.value c.store_byte-byte.result c.serve.new.self
+    (subst (λ (m : MachineLists). IsIdle m) (sym c.self.view_is) c.requires) c.ranges.value.fits c.if-address-lt-SHARED_START.false c.if-word-self.false
+    c.module_of.ensures.exact (subst (λ v. (x : ℕ) → x < 2 ^ 32 →
+    apply c.store_byte-byte.result x ≡ with_part 1 (c.args.address % 4) x v) c.from.ensures c.store_byte-byte.ensures.meaning) c.serve.ensures.new_word
+    c.serve.ensures.in_range).0

@@ -6,7 +6,8 @@ use Rattle.machine.proofs.Handling.{same_by, found, turn_unnamed, turn_rests}
 use Rattle.machine.proofs.machine.Machine.turn.Goals as goal
 
 pub returns-then-place-len : goal.returns-then-place-len
-returns-then-place-len c = same_by c.self.view_is (turn_unnamed _ c.self.invariant c.args.p (omega (arith, c.if-place-len.true, c.from-place.ensures, c.len.ensures)))
+returns-then-place-len c =
+    same_by c.self.view_is (turn_unnamed _ c.self.invariant c.args.p (omega (arith, c.if-place-len.true, c.from-place.ensures, c.len.ensures)))
 
 pub returns-then-not-is_running : goal.returns-then-not-is_running
 returns-then-not-is_running c =

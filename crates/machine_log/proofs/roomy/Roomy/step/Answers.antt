@@ -16,4 +16,5 @@ returns-clause-answer c =
 
 pub returns-clause-poked : goal.returns-clause-poked
 returns-clause-poked c =
-    subst (λ (l : RoomyLog). IsIdle l.log.machine → (poke : Poke) → c.args.step ≡ step.Poke poke → IsPoked l.log.machine poke c.enter.result c.enter.new.machine) c.self.view_is c.enter.ensures.poked
+    subst (λ (l : RoomyLog). IsIdle l.log.machine → (poke : Poke) → c.args.step ≡ step.Poke poke →
+    IsPoked l.log.machine poke c.enter.result c.enter.new.machine) c.self.view_is c.enter.ensures.poked

@@ -21,7 +21,8 @@ loop-pass-preserved g c =
     subst (λ (y : List Row × Held). slice_get y.0 y.1.processor ≡ Some y.1.row) (λ n. (ap (λ s. s.rows) i.0 n, (sym same ∙ sym v) n)) m.agrees in (
       m.same.1 ∙ i.0,
       set_back c.loop-pass.pass-items at x c.meet.new.pass (let s = c.loop-pass.auto.pass-items in omega arith) m.same.0 ∙ i.1,
-      λ k h lt e. below_more (λ k. (h : Held) → slice_get items k ≡ Some h → slice_get c.into_inner-desk.result.rows h.processor ≡ Some h.row) at (λ k lt h e. i.2 k h lt e) here k lt h e,
+      λ k h lt e. below_more (λ k. (h : Held) → slice_get items k ≡ Some h →
+          slice_get c.into_inner-desk.result.rows h.processor ≡ Some h.row) at (λ k lt h e. i.2 k h lt e) here k lt h e,
     )
 
 pub returns-clause-fits : goal.returns-clause-fits
@@ -38,7 +39,9 @@ returns-clause-fits g c =
     let less = slice_get_within items k h e in
     let same = ap length value in
     subst (λ (n : ℕ). slice_get c.into_inner-desk.result.rows n ≡ Some h.row) own (i.2 k h (omega arith) e')) in
-    subst (λ (x : List Step × List Row). Fits g.N.Run.opening g.N.Run.first g.N.Run.count x.0 x.1) (λ n. (sym (ap (λ l. l.steps) c.into_logged.ensures.log) n, (rows ∙ are) n)) f.fits
+    subst (λ (x : List Step × List Row). Fits g.N.Run.opening g.N.Run.first g.N.Run.count x.0 x.1)
+    (λ n. (sym (ap (λ l. l.steps) c.into_logged.ensures.log) n, (rows ∙ are) n)) f.fits
 
 pub returns-clause-totals : goal.returns-clause-totals
-returns-clause-totals g c = totals_agree g.N.Run.opening g.N.Run.first g.N.Run.count c.into_logged.result.steps c.args.passes.items c.requires (returns-clause-fits g c)
+returns-clause-totals g c =
+    totals_agree g.N.Run.opening g.N.Run.first g.N.Run.count c.into_logged.result.steps c.args.passes.items c.requires (returns-clause-fits g c)

@@ -10,18 +10,21 @@ pub invariant_of-new : goal.invariant_of-new
 invariant_of-new g c =
     let e : c.loop-p.p ≡ c.processors-count.result = (let a = c.loop-p.auto.p-end in let b = c.loop-p-test.false in omega arith) in
     let config = c.machine.ensures.replay.run.config ∙ ap (λ m. m.config) c.requires.opening in
-    let n = e ∙ c.processors-count.ensures ∙ ap (λ x. 2 ^ x.k) (c.config.ensures.config ∙ ap (λ m. m.config) c.machine.ensures.machine ∙ config) ∙ sym c.requires.count in
+    let n = e ∙ c.processors-count.ensures ∙ ap (λ x. 2 ^ x.k) (c.config.ensures.config ∙ ap (λ m. m.config) c.machine.ensures.machine ∙ config)
+    ∙ sym c.requires.count in
     record {
       opening = c.requires.opening;
       config = config;
       count = c.requires.count;
       fits = subst (λ (x : List Step × List Row). Fits g.N.Run.opening g.N.Run.first g.N.Run.count x.0 x.1)
-          (λ i. (sym c.requires.first i, sym (c.loop-p.invariant.0 ∙ ap (λ k. rows_of (new_passes k)) n) i)) (starts g.N.Run.opening g.N.Run.first g.N.Run.count);
+          (λ i. (sym c.requires.first i, sym (c.loop-p.invariant.0 ∙ ap (λ k. rows_of (new_passes k)) n) i))
+          (starts g.N.Run.opening g.N.Run.first g.N.Run.count);
     }
 
 pub returns-clause-whole : goal.returns-clause-whole
 returns-clause-whole g c =
     let e : c.loop-p.p ≡ c.processors-count.result = (let a = c.loop-p.auto.p-end in let b = c.loop-p-test.false in omega arith) in
     let config = c.machine.ensures.replay.run.config ∙ ap (λ m. m.config) c.requires.opening in
-    let n = e ∙ c.processors-count.ensures ∙ ap (λ x. 2 ^ x.k) (c.config.ensures.config ∙ ap (λ m. m.config) c.machine.ensures.machine ∙ config) ∙ sym c.requires.count in
+    let n = e ∙ c.processors-count.ensures ∙ ap (λ x. 2 ^ x.k) (c.config.ensures.config ∙ ap (λ m. m.config) c.machine.ensures.machine ∙ config)
+    ∙ sym c.requires.count in
     subst (IsWhole g.N.Run.count) (sym (c.loop-p.invariant.1 ∙ ap new_passes n)) (whole-new g.N.Run.count)

@@ -4,4 +4,5 @@ use Rattle.machine_theorem.specs.Order.{group_after}
 use Rattle.machine_runs.proofs.serial_order.SerialOrder.enter_move.Goals as goal
 
 pub join-requires-clause-few : goal.join-requires-clause-few
-join-requires-clause-few c = subst (λ o. (p : ℕ) → length (group_after (group_in c.args.self.now.groups.items) (move_tells o) p) ≤ 64) c.in-Combined.is c.requires.few
+join-requires-clause-few c =
+    subst (λ o. (p : ℕ) → length (group_after (group_in c.args.self.now.groups.items) (move_tells o) p) ≤ 64) c.in-Combined.is c.requires.few

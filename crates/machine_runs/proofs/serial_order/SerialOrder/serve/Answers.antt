@@ -18,13 +18,15 @@ push_reserved-requires c =
     let members = c.as_slice-p-items.result.now in
     let i = c.loop-p.p-index in
     let group : members ≡ group_in groups c.from.result =
-    c.as_slice-p-items.ensures.value ∙ ap (λ v. v.items) c.replace-group.ensures.value ∙ group_at groups c.from.result c.index_mut.result.now there c.index_mut.ensures.value in
+    c.as_slice-p-items.ensures.value ∙ ap (λ v. v.items) c.replace-group.ensures.value
+    ∙ group_at groups c.from.result c.index_mut.result.now there c.index_mut.ensures.value in
     let all : length members ≡ length (group_in groups c.from.result) = ap length group in
     let waiting = group_counts groups c.from.result in
     let inside = c.loop-p-test.true in
     let taken : length (take i members) ≡ i = length-take-le i members (omega (arith, inside)) in
     let so_far : length c.loop-p.self.entries.items ≡ length old + length (take i members) =
-    ap length c.loop-p.invariant.entries ∙ length-append old (map entry.Processor (take i members)) ∙ ap (λ n. length old + n) (length-map (take i members) entry.Processor) in
+    ap length c.loop-p.invariant.entries ∙ length-append old (map entry.Processor (take i members))
+    ∙ ap (λ n. length old + n) (length-map (take i members) entry.Processor) in
     let entries = c.loop-p.self.entries in
     let count : entries.len ≡ length entries.items = entries.ok.0 in
     let capacity = c.loop-p.invariant.capacity in
@@ -38,7 +40,8 @@ returns-clause-entered c =
     let there : c.from.result < length groups = omega (arith, c.from.ensures, c.ranges.leader.fits, c.requires.leaders) in
     let members = c.as_slice-p-items.result.now in
     let group : members ≡ group_in groups c.from.result =
-    c.as_slice-p-items.ensures.value ∙ ap (λ v. v.items) c.replace-group.ensures.value ∙ group_at groups c.from.result c.index_mut.result.now there c.index_mut.ensures.value in
+    c.as_slice-p-items.ensures.value ∙ ap (λ v. v.items) c.replace-group.ensures.value
+    ∙ group_at groups c.from.result c.index_mut.result.now there c.index_mut.ensures.value in
     let none = ap (λ v. v.items) c.replace-group.ensures.after ∙ c.new.ensures in
     let entries = c.loop-p.self.entries.items in
     let order : entries ≡ old ++ map entry.Processor (group_in groups c.from.result) =

@@ -11,12 +11,14 @@ invariant_of-self c =
 
 pub returns-clause-answer : goal.returns-clause-answer
 returns-clause-answer c =
-    (answer_net c.rotations_are_inverse.ensures.inverse c.rotations_are_inverse.ensures.small _ c.args.self.now c.args.stage c.args.wire c.place_behind-place.result c.index_mut.result.now
+    (answer_net c.rotations_are_inverse.ensures.inverse c.rotations_are_inverse.ensures.small _ c.args.self.now c.args.stage c.args.wire
+    c.place_behind-place.result c.index_mut.result.now
     (found_behind c.self.view_is c.self.invariant c.requires.stage c.requires.wire c.place_behind-place.ensures.exact c.index_mut.ensures.value)
     c.requires.wire c.args.reply c.answer.new.self c.answer.result c.answer.ensures.answer c.answer.ensures.after).0
 
 pub returns-clause-after : goal.returns-clause-after
 returns-clause-after c =
-    (answer_net c.rotations_are_inverse.ensures.inverse c.rotations_are_inverse.ensures.small _ c.args.self.now c.args.stage c.args.wire c.place_behind-place.result c.index_mut.result.now
+    (answer_net c.rotations_are_inverse.ensures.inverse c.rotations_are_inverse.ensures.small _ c.args.self.now c.args.stage c.args.wire
+    c.place_behind-place.result c.index_mut.result.now
     (found_behind c.self.view_is c.self.invariant c.requires.stage c.requires.wire c.place_behind-place.ensures.exact c.index_mut.ensures.value)
     c.requires.wire c.args.reply c.answer.new.self c.answer.result c.answer.ensures.answer c.answer.ensures.after).1

@@ -4,4 +4,5 @@ use Rattle.omega_network.proofs.Slots.{module_reply_net}
 use Rattle.omega_network.proofs.network.Network.module_reply.Goals as goal
 
 pub returns-clause-after : goal.returns-clause-after
-returns-clause-after c = c.put_module_slot.ensures.after ∙ module_reply_net (sizes_of c.args.self.now) (net_of c.args.self.now) c.args.m c.args.reply c.requires.free
+returns-clause-after c =
+    c.put_module_slot.ensures.after ∙ module_reply_net (sizes_of c.args.self.now) (net_of c.args.self.now) c.args.m c.args.reply c.requires.free

@@ -10,7 +10,8 @@ use Rattle.omega_network.proofs.network.Network.reply_before.Goals as goal
 pub returns-then-stage-self : goal.returns-then-stage-self
 returns-then-stage-self c =
     let at_end : c.args.stage ≡ c.args.self.now.k = c.if-stage-self.true ∙ ap (λ (m : NetworkLists). m.k) c.self.view_is in
-    module_slot_first _ c.args.self.now c.self.view_is c.self.invariant c.args.wire c.requires.wire c.from.result c.index.result.now c.from.ensures c.index.ensures
+    module_slot_first _ c.args.self.now c.self.view_is c.self.invariant c.args.wire c.requires.wire c.from.result c.index.result.now c.from.ensures
+    c.index.ensures
     ∙ ap (λ d. slice_get (replies_before c.args.self.now d c.args.wire) 0) (sym at_end)
 
 pub returns-else-stage-self : goal.returns-else-stage-self
@@ -19,12 +20,14 @@ returns-else-stage-self c =
     let stage : c.args.stage < c.args.self.now.k = omega arith in
     c.reply_front.ensures
     ∙ ap (λ v. slice_get (replies_at c.index-else-stage-self.result.now.inputs v) 0) (c.input_port.ensures.exact ∙ ap (λ h. input_port h c.args.wire) k)
-    ∙ ap (λ q. slice_get q 0) (reply_front_net c.rotations_are_inverse.ensures.inverse c.rotations_are_inverse.ensures.small _ c.args.self.now c.args.stage c.args.wire c.place_before-place.result c.index-else-stage-self.result.now
+    ∙ ap (λ q. slice_get q 0) (reply_front_net c.rotations_are_inverse.ensures.inverse c.rotations_are_inverse.ensures.small _ c.args.self.now c.args.stage
+    c.args.wire c.place_before-place.result c.index-else-stage-self.result.now
     (record {
       view = c.self.view_is;
       is = c.self.invariant;
       stage = stage;
-      number = half_of_wire c.args.self.now.k c.args.stage (rotated_left c.args.self.now.k c.args.wire) stage ((c.rotations_are_inverse.ensures.small c.args.self.now.k c.args.wire c.requires.wire).0);
+      number = half_of_wire c.args.self.now.k c.args.stage (rotated_left c.args.self.now.k c.args.wire) stage
+          ((c.rotations_are_inverse.ensures.small c.args.self.now.k c.args.wire c.requires.wire).0);
       exact = c.place_before-place.ensures.exact;
       at = c.index-else-stage-self.ensures;
     }) c.requires.wire)

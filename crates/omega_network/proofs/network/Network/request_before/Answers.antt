@@ -15,7 +15,8 @@ returns-else-stage-eq0 c =
     let stage : c.args.stage - 1 < c.args.self.now.k = omega arith in
     let back : suc (c.args.stage - 1) ≡ c.args.stage = omega arith in
     c.front.ensures
-    ∙ ap (λ q. slice_get q 0) (front_net c.rotations_are_inverse.ensures.inverse c.rotations_are_inverse.ensures.small _ c.args.self.now (c.args.stage - 1) c.args.wire c.place_behind-place.result c.index-else-stage-eq0.result.now
+    ∙ ap (λ q. slice_get q 0) (front_net c.rotations_are_inverse.ensures.inverse c.rotations_are_inverse.ensures.small _ c.args.self.now
+    (c.args.stage - 1) c.args.wire c.place_behind-place.result c.index-else-stage-eq0.result.now
     (record {
       view = c.self.view_is;
       is = c.self.invariant;

@@ -12,6 +12,7 @@ invariant_of-self c =
 
 pub returns-clause-taken : goal.returns-clause-taken
 returns-clause-taken c =
-    take_net c.rotations_are_inverse.ensures.inverse c.rotations_are_inverse.ensures.small _ c.args.self.now c.args.stage c.args.wire c.place_behind-place.result c.index_mut.result.now
+    take_net c.rotations_are_inverse.ensures.inverse c.rotations_are_inverse.ensures.small _ c.args.self.now c.args.stage c.args.wire
+    c.place_behind-place.result c.index_mut.result.now
     (found_behind c.self.view_is c.self.invariant c.requires.stage c.requires.wire c.place_behind-place.ensures.exact c.index_mut.ensures.value)
     c.requires.wire c.take.new.self c.take.ensures.after

@@ -6,4 +6,5 @@ use Rattle.omega_network.proofs.network.Network.take_request.Goals as goal
 
 pub returns-then-stage-eq0-clause-taken : goal.returns-then-stage-eq0-clause-taken
 returns-then-stage-eq0-clause-taken c =
-    c.put_slot.ensures.after ∙ slot_taken c.args.self.now c.args.wire ∙ ap (λ d. first_request_taken (net_of c.args.self.now) d c.args.wire) (sym c.if-stage-eq0.true)
+    c.put_slot.ensures.after ∙ slot_taken c.args.self.now c.args.wire
+    ∙ ap (λ d. first_request_taken (net_of c.args.self.now) d c.args.wire) (sym c.if-stage-eq0.true)

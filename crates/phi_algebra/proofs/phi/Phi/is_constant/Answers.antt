@@ -8,7 +8,8 @@ returns-in-Add-clause-exact c = constant_by c.args.self.now _ (rw c.in-Add.is (�
 
 pub returns-in-Bits-clause-exact : goal.returns-in-Bits-clause-exact
 returns-in-Bits-clause-exact c =
-    constant_by c.args.self.now _ (rw c.in-Bits.is (λ h. (Decides-eqb c.in-Bits.and 0).1 (bits_clear c.in-Bits.and c.in-Bits.xor (search rules) h))) (search rules)
+    constant_by c.args.self.now _ (rw c.in-Bits.is (λ h. (Decides-eqb c.in-Bits.and 0).1 (bits_clear c.in-Bits.and c.in-Bits.xor (search rules) h)))
+    (search rules)
 
 pub returns-in-Clamp-clause-exact : goal.returns-in-Clamp-clause-exact
 returns-in-Clamp-clause-exact c = constant_by c.args.self.now _ (constant_back _ (rw c.in-Clamp.is (search rules))) (search rules)

@@ -5,4 +5,5 @@ use Rattle.wire_sets.proofs.Changes.{member_went}
 use Rattle.wire_sets.proofs.wire_set.WireSet.remove.Goals as goal
 
 pub returns : goal.returns
-returns c w = member_went c.self.inside.bits c.args.wire c.requires c.self.invariant w ∙ ap (λ s. if w == c.args.wire then false else members s w) c.self.view_is
+returns c w =
+    member_went c.self.inside.bits c.args.wire c.requires c.self.invariant w ∙ ap (λ s. if w == c.args.wire then false else members s w) c.self.view_is
