@@ -6,9 +6,10 @@ use Rattle.flat_machine.specs.declared.poke.Entry.TheVariants as entry
 use Rattle.flat_machine.specs.State.{FlatState, Processor, is_running}
 use Rattle.flat_machine.specs.Turns.{Turn, Retires, Reaches, Stops, turn_of}
 use Rattle.flat_machine.specs.Flat.{flat_step, flat_run, flat_events}
+use Rattle.flat_machine.proofs.Lemmas.{set_other}
 use Rattle.alone.specs.Stations.{consoles_after, turns, Station, behind, stopped_by, alone_by, alone_once, alone, IsReference, IsSettled}
 use Rattle.alone.specs.Closing.{IsForgetful, Standing, IsMove, IsWay, station_of, Settles, IsKeptOf, AreSettled}
-use Rattle.alone.proofs.Settling.{settled_stays, one_events, set_there, set_other, found_within, found_there, some_inj, consoles_more}
+use Rattle.alone.proofs.Settling.{settled_stays, one_events, set_there, found_within, found_there, some_inj, consoles_more}
 use Rattle.alone.proofs.Covering.{retiring_turn, stopping_turn, reaching_turn, becomes, printed, settled_kept}
 
 -- ---- some turns later

@@ -10,6 +10,7 @@ use Rattle.flat_machine.specs.declared.poke.Entry.TheVariants as entry
 use Rattle.flat_machine.specs.State.{FlatState, Processor, is_running, setting_of}
 use Rattle.flat_machine.specs.Turns.{Turn, Retires, Reaches, Stops, turn_of}
 use Rattle.flat_machine.specs.Flat.{taken, with_taken, turned, turn_event, flat_step, flat_event, with_processor_number}
+use Rattle.flat_machine.proofs.Lemmas.{set_other}
 use Rattle.alone.specs.Stations.{printed_after, console_after, consoles_after, Station, behind, stopped_by, alone_by, alone_once, alone, IsReference, IsSettled}
 use Rattle.alone.specs.Closing.{IsAlike, IsForgetful, Standing, gone, station_of, Settles}
 
@@ -53,13 +54,6 @@ pub set_there : {X : Type 0} (xs : List X) (k : ℕ) (x y : X) → slice_get xs 
 set_there [] k x y e = absurd (cc)
 set_there (z ∷ zs) zero x y e = refl
 set_there (z ∷ zs) (suc k) x y e = set_there zs k x y e
-
-pub set_other : {X : Type 0} (xs : List X) (k other : ℕ) (x : X) → other ≢ k → slice_get (slice_set xs k x) other ≡ slice_get xs other
-set_other [] k other x ne = refl
-set_other (y ∷ ys) zero zero x ne = absurd (ne refl)
-set_other (y ∷ ys) zero (suc other) x ne = refl
-set_other (y ∷ ys) (suc k) zero x ne = refl
-set_other (y ∷ ys) (suc k) (suc other) x ne = set_other ys k other x (λ e. ne (ap suc e))
 
 pub found_within : {X : Type 0} (xs : List X) (k : ℕ) (x : X) → slice_get xs k ≡ Some x → k < length xs
 found_within [] k x e = absurd (cc)

@@ -1,5 +1,5 @@
 -- What an output does with a request, by whether some entry combines with it and by room.
-use Rattle.std.proofs.Common.{◌≡◌, ◌↔◌, ◌⊎◌, inl, inr, ℕ, zero, suc, ◌<◌, ◌≤◌, List, [], ◌∷◌, ◌++◌, length, Option, Some, None, refl, sym, ap, ◌∙◌, arith}
+use Rattle.std.proofs.Common.{◌≡◌, ◌⊎◌, inl, inr, ℕ, zero, suc, ◌<◌, ◌≤◌, List, [], ◌∷◌, ◌++◌, length, Option, Some, None, refl, sym, ap, ◌∙◌, arith}
 use Rattle.std.proofs.Common.{Bool, true, false, ◌&&◌, nat_lt, ltb-true, eqb-true, eq-eqb}
 use Rattle.std.specs.Prelude.{slice_set, ◌==◌, if◌then◌else◌}
 use Rattle.std.proofs.lemmas.Bool.{lt-ltb, ltb-false, le-ltb}
@@ -11,7 +11,7 @@ use Rattle.messages.specs.Queues.{Combination, combination, combined_in, joint, 
 use Rattle.combining_switch.specs.declared.answers.Accepted.{Accepted}
 use Rattle.combining_switch.specs.declared.answers.Accepted.TheVariants.{Queued, Combined, Full}
 use Rattle.combining_switch.specs.Outputs.{OutputLists, accepted, accepted_as, most_marks}
-use Rattle.combining_switch.specs.Accepting.{CombinesAt, CanCombine, NoneInFront}
+use Rattle.combining_switch.specs.Accepting.{CombinesAt, CanCombine, NoneInFront, CombinesWhereItCan, CombinesWithTheFirst, QueuesWhereThereIsRoom, RefusesWhereThereIsNone}
 use Rattle.combining_switch.proofs.Combinations.{NoneBefore, combined_at, combined_nowhere}
 
 -- ---- one entry
@@ -112,17 +112,7 @@ with_a_record o x free = ap (λ b. if b then combined_in most_marks x o.requests
 without_a_record : (o : OutputLists) (x : Request) → o.b ≤ length o.records → combination o.b most_marks x o.requests o.records ≡ None
 without_a_record o x full = ap (λ b. if b then combined_in most_marks x o.requests else None) (le-ltb (length o.records) o.b full)
 
-pub with_the_first : (o : OutputLists) (x : Request) (i : ℕ) (e : Request) (phi : Phi) → length o.records < o.b → CombinesAt o.requests x i e phi →
-    NoneInFront o.requests x i
-    → accepted o x ≡ (
-      Combined e.leader,
-      record {
-        c = o.c;
-        b = o.b;
-        requests = slice_set o.requests i (record { leader = e.leader; word = e.word; phi = phi; marks = 1 });
-        records = o.records ++ record { leader = e.leader; phi = e.phi; second = x.leader } ∷ [];
-      },
-    )
+pub with_the_first : CombinesWithTheFirst
 with_the_first o x i e phi free at none =
     let joins : joint most_marks x e ≡ Some phi = joint_is x e phi at.fresh at.same_word at.composes in
     let with_marks : ℕ → Accepted × OutputLists = λ n. (
@@ -172,7 +162,7 @@ refused_without o x is none = accepted_is o x None is ∙ ap (λ b. if b then (Q
 
 -- ---- the laws
 
-pub combines_where_it_can : (o : OutputLists) (x : Request) → ((leader : ℕ) × ((accepted o x).0 ≡ Combined leader)) ↔ CanCombine o x
+pub combines_where_it_can : CombinesWhereItCan
 combines_where_it_can o x = (
   (λ made. elim (decided o x) [
     | can free first ↦ can_combine o x free first
@@ -212,15 +202,7 @@ no_combination o x none = elim (decided o x) [
   | cannot other is ↦ is
 ]
 
-pub queues_where_there_is_room : (o : OutputLists) (x : Request) → (accepted o x ≡ (
-  Queued,
-  record {
-    c = o.c;
-    b = o.b;
-    requests = o.requests ++ record { leader = x.leader; word = x.word; phi = x.phi; marks = 0 } ∷ [];
-    records = o.records;
-  },
-)) ↔ ((CanCombine o x → ⊥) × (length o.requests < o.c))
+pub queues_where_there_is_room : QueuesWhereThereIsRoom
 queues_where_there_is_room o x = (
   (λ is.
       let answer : (accepted o x).0 ≡ Queued = ap (λ (r : Accepted × OutputLists). r.0) is in
@@ -236,7 +218,7 @@ queues_where_there_is_room o x = (
         let other : Full ≡ Queued = sym (ap (λ (r : Accepted × OutputLists). r.0) (refused_without o x none (ltb-false (length o.requests) o.c f))) ∙ answer in
         absurd (cc)
 
-pub refuses_where_there_is_none : (o : OutputLists) (x : Request) → (accepted o x ≡ (Full, o)) ↔ ((CanCombine o x → ⊥) × (o.c ≤ length o.requests))
+pub refuses_where_there_is_none : RefusesWhereThereIsNone
 refuses_where_there_is_none o x = (
   (λ is.
       let answer : (accepted o x).0 ≡ Full = ap (λ (r : Accepted × OutputLists). r.0) is in

@@ -6,5 +6,7 @@ pub use Rattle.flat_machine.proofs.Accesses.{number_small, shared_region, store_
 pub use Rattle.flat_machine.proofs.InRange.{byte_words, register_words, step_in_range, turn_words}
 -- Facts of processors that a whole run keeps.
 pub use Rattle.flat_machine.proofs.Kept.{all_get}
+-- Steps of other processors, and lists with one place written.
+pub use Rattle.flat_machine.proofs.Steps.{set_other}
 -- What instructions compute of words are words.
 pub use Rattle.flat_machine.proofs.Values.{register_small}

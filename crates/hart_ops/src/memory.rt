@@ -1,6 +1,7 @@
-//! Rows that reach memory: the size of the access, and what comes of the number there.
+//! Rows that reach memory: the size of the access, where it may stand, and what comes of the number there.
 
 ghost use Rattle.std.specs.Prelude.{◌≡◌, ◌<◌, ◌^◌, ◌*◌};
+ghost use Rattle.flat_machine.specs.Memory.{is_aligned};
 ghost use Rattle.flat_machine.specs.Operations.{amo_value, load_size, loaded, store_size};
 ghost use Rattle.flat_machine.specs.Sizes.{bytes_of};
 
@@ -26,6 +27,17 @@ pub fn store_size(op: StoreOp) -> Size
         StoreOp::Sb => Size::Byte,
         StoreOp::Sh => Size::Half,
         StoreOp::Sw => Size::Word,
+    }
+}
+
+/// Whether an address is divisible by a size.
+pub fn is_aligned(size: Size, address: u32) -> bool
+    ensures { result ≡ is_aligned (bytes_of size) address }
+{
+    match size {
+        Size::Byte => true,
+        Size::Half => address % 2 == 0,
+        Size::Word => address % 4 == 0,
     }
 }
 

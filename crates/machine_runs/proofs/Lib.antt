@@ -1,5 +1,6 @@
 pub mod Flattening
 pub mod Running
+mod Retelling
 pub mod Replaying
 pub mod Draining
 pub mod Drained

@@ -2,7 +2,7 @@
 
 ghost use Rattle.std.specs.Prelude.{◌≡◌, ◌≤◌, ◌%◌, ◌^◌, ℕ, List, Bool};
 ghost use Rattle.flat_machine.specs.Effects.{effect_of, register_of};
-ghost use Rattle.flat_machine.specs.Memory.{is_aligned, region_of};
+ghost use Rattle.flat_machine.specs.Memory.{region_of};
 ghost use Rattle.flat_machine.specs.Sizes.{bytes_of};
 ghost use Rattle.flat_machine.specs.State.{Processor};
 ghost use Rattle.flat_machine.specs.Turns.{performed};
@@ -11,7 +11,7 @@ ghost use Rattle.flat_machine.specs.declared.setting.Setting.{Setting};
 ghost use Rattle.order_lines.specs.References as references;
 
 use flat_machine::{Poke, SHARED_START, Size};
-use hart_ops::{immediate_word, load_size, store_size, sum};
+use hart_ops::{immediate_word, is_aligned, load_size, store_size, sum};
 use rv_table::{Immediate, Insn, Register};
 
 /// The shared word that an instruction acts on, in a processor with these registers, of a machine with so
@@ -46,17 +46,6 @@ fn word_at(size: Size, address: u32, shared_words: u32) -> Option<u32>
         Some((address - SHARED_START) / 4)
     } else {
         None
-    }
-}
-
-/// Whether an address is divisible by a size.
-fn is_aligned(size: Size, address: u32) -> bool
-    ensures { result ≡ is_aligned (bytes_of size) address }
-{
-    match size {
-        Size::Byte => true,
-        Size::Half => address % 2 == 0,
-        Size::Word => address % 4 == 0,
     }
 }
 

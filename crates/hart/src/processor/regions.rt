@@ -1,12 +1,13 @@
 //! Where an access of memory goes.
 
 ghost use Rattle.std.specs.Prelude.{◌≡◌, IfOk, IsTrue};
-ghost use Rattle.flat_machine.specs.Memory.{is_aligned, region_of};
+ghost use Rattle.flat_machine.specs.Memory.{region_of};
 ghost use Rattle.flat_machine.specs.Sizes.{bytes_of};
 ghost use Rattle.hart.specs.Deciding.{IsInside, IsThere, IsWritable};
 
 use super::Core;
 use flat_machine::{CODE_START, Fault, LOCAL_START, REGION_BYTES, Region, SHARED_START, Size};
+use hart_ops::is_aligned;
 
 impl Core {
     /// Where an access goes: to a shared word, or to a place of local memory or of code.
@@ -38,16 +39,5 @@ impl Core {
             CODE_START => Ok(Region::Code { place }),
             _ => Err(Fault::NoRegion),
         }
-    }
-}
-
-/// Whether an address is divisible by a size.
-fn is_aligned(size: Size, address: u32) -> bool
-    ensures { result ≡ is_aligned (bytes_of size) address }
-{
-    match size {
-        Size::Byte => true,
-        Size::Half => address % 2 == 0,
-        Size::Word => address % 4 == 0,
     }
 }

@@ -2,7 +2,8 @@ use Rattle.std.proofs.Common.{[], ◌∙◌, sym, ap}
 use Rattle.machine_program.specs.Steps.{outcome_of}
 use Rattle.machine.specs.Machines.{machine_of}
 use Rattle.machine_runs.specs.Laws.{AnswersForgetEvents, AnswersAreOfTheSteps}
-use Rattle.machine_runs.proofs.Replaying.{outcome_same, outcome_there}
+use Rattle.machine_runs.proofs.Replaying.{outcome_there}
+use Rattle.machine_runs.proofs.Retelling.{outcome_same}
 use Rattle.machine.proofs.Lemmas.{retold}
 use Rattle.machine_runs.proofs.laws.answers_are_of_the_steps.Goals as goal
 
