@@ -4,6 +4,7 @@
 mod breaks;
 mod digits;
 mod error;
+mod faults;
 mod reading;
 mod showing;
 mod stopping;
@@ -12,5 +13,6 @@ mod tests;
 
 pub use breaks::Breaks;
 pub use error::{Error, error_of};
+pub use faults::Faults;
 pub use showing::show;
-pub use stopping::show_stop;
+pub use stopping::{is_running, named_stop, show_stop};

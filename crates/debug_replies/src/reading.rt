@@ -12,7 +12,7 @@ use machine_runs::flat_states_are_read;
 /// How many processors there are.
 pub(crate) fn processors(machine: &Machine) -> u32
     ensures count { result ≡ length (flat_state machine.now).processors }
-    ensures few { result < 2 ^ 8 }
+    ensures few { result ≤ 64 }
 {
     machine_is_sound(machine);
     flat_states_are_read();

@@ -1,13 +1,16 @@
 //! Stop replies.
 
-ghost use Rattle.std.specs.Prelude.{◌≡◌, ◌≤◌, ◌<◌, ◌++◌, false, length};
+ghost use Rattle.std.specs.Prelude.{◌≡◌, ◌≤◌, ◌<◌, ◌++◌, ◌&&◌, not, false, length};
 ghost use Rattle.std.specs.Fmt.{digit_glyph, digits};
 ghost use Rattle.arrayvec.specs.ArrayVec.{array_vec_len};
 ghost use Rattle.machine.specs.Openings.{flat_state};
-ghost use Rattle.debug_replies.specs.Stops.{are_halted, is_halted, is_halted_at, name_text, stop_text};
+ghost use Rattle.flat_machine.specs.State.{is_running};
+ghost use Rattle.debug_replies.specs.Stops.{are_halted, has_break_at, is_at_break, is_flagged, is_halted, is_halted_at, is_newly_faulted, is_running_at, name_text, named_stop, smallest, stop_text};
 
+use crate::breaks::Breaks;
 use crate::digits::push;
-use crate::reading::{processors, status};
+use crate::faults::{Faults, is_faulted};
+use crate::reading::{pc, processors, status};
 use arrayvec::ArrayVec;
 use flat_machine::Status;
 use machine::Machine;
@@ -91,4 +94,74 @@ fn has_halted(status: Status) -> bool
     ensures { result ≡ is_halted status }
 {
     matches!(status, Status::Halted(_))
+}
+
+/// The processor that the stop reply of `cont` names: the smallest that runs and stands at a break; else the smallest that a
+/// fault has stopped, where none had stopped it before; else none.
+#[tactic(auto, unfolding(crate::specs::Stops::named_stop))]
+pub fn named_stop(machine: &Machine, breaks: &Breaks, before: &Faults) -> Option<u8>
+    ensures { result ≡ named_stop (is_flagged before.now) (flat_state machine.now) breaks.now }
+{
+    match first_at_break(machine, breaks) {
+        Some(processor) => Some(processor),
+        None => first_faulted(machine, before),
+    }
+}
+
+/// The smallest processor that stands at a break.
+fn first_at_break(machine: &Machine, breaks: &Breaks) -> Option<u8>
+    ensures { result ≡ smallest (is_at_break breaks.now (flat_state machine.now)) (length (flat_state machine.now).processors) }
+{
+    for processor in 0..processors(machine) {
+        if is_at_break(machine, breaks, processor) {
+            return Some(processor as u8);
+        }
+    }
+    None
+}
+
+/// The smallest processor that a fault has stopped, and none before.
+fn first_faulted(machine: &Machine, before: &Faults) -> Option<u8>
+    ensures { result ≡ smallest (is_newly_faulted (is_flagged before.now) (flat_state machine.now)) (length (flat_state machine.now).processors) }
+{
+    for processor in 0..processors(machine) {
+        if is_faulted(machine, processor) && !before.contains(processor) {
+            return Some(processor as u8);
+        }
+    }
+    None
+}
+
+/// Whether a processor stands at a break: it runs, and its next instruction is at one.
+fn is_at_break(machine: &Machine, breaks: &Breaks, processor: u32) -> bool
+    ensures { result ≡ is_at_break breaks.now (flat_state machine.now) processor }
+{
+    is_running(machine, processor) && has_break(machine, breaks, processor)
+}
+
+/// Whether a processor's next instruction is at a break.
+fn has_break(machine: &Machine, breaks: &Breaks, processor: u32) -> bool
+    ensures { result ≡ has_break_at breaks.now (flat_state machine.now) processor }
+{
+    match pc(machine, processor) {
+        Some(pc) => breaks.contains(pc),
+        None => false,
+    }
+}
+
+/// Whether a processor is there and runs.
+pub fn is_running(machine: &Machine, processor: u32) -> bool
+    ensures { result ≡ is_running_at (flat_state machine.now) processor }
+{
+    match status(machine, processor) {
+        Some(status) => runs(status),
+        None => false,
+    }
+}
+
+/// Whether a status is that of a processor that runs.
+fn runs(status: Status) -> bool
+    ensures { result ≡ is_running status }
+{
+    matches!(status, Status::Running)
 }

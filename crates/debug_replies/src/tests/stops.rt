@@ -1,7 +1,7 @@
 //! Stop replies.
 
 use super::{poke, two};
-use crate::show_stop;
+use crate::{Breaks, Faults, named_stop, show_stop};
 use arrayvec::ArrayVec;
 use flat_machine::{PC, Poke};
 use machine::Machine;
@@ -69,5 +69,27 @@ fn halts(rt: HostRuntime) -> Result<(), Fail> {
         );
         assert_eq!(rt; stop(&machine, None).as_slice(), b"at -".as_slice());
     }
+    Ok(())
+}
+
+/// A processor that runs at a break is named before one that a fault has stopped, the smallest of either, and one that
+/// a fault had stopped before is not named.
+#[test]
+fn named_after_a_run(rt: HostRuntime) -> Result<(), Fail> {
+    let mut machine = two(&rt)?;
+    let mut breaks = Breaks::new();
+    let none = Faults::of(&machine);
+    assert_eq!(rt; named_stop(&machine, &breaks, &none), None);
+    assert!(rt; breaks.set(0x0001_0000));
+    assert_eq!(rt; named_stop(&machine, &breaks, &none), Some(0));
+    assert!(rt; matches!(machine.apply(Step::Turn(0)), Outcome::Stopped { .. }));
+    assert_eq!(rt; named_stop(&machine, &breaks, &none), Some(1));
+    assert!(rt; breaks.clear(0x0001_0000));
+    assert_eq!(rt; named_stop(&machine, &breaks, &none), Some(0));
+    let one = Faults::of(&machine);
+    assert_eq!(rt; named_stop(&machine, &breaks, &one), None);
+    assert!(rt; matches!(machine.apply(Step::Turn(1)), Outcome::Stopped { .. }));
+    assert_eq!(rt; named_stop(&machine, &breaks, &one), Some(1));
+    assert_eq!(rt; named_stop(&machine, &breaks, &none), Some(0));
     Ok(())
 }
