@@ -82,16 +82,22 @@ pub record IsUnopened (trace out out' : Option (List ℕ)) : Type 0 where
   pub read : IsTraceOf trace steps
   pub nothing : out' ≡ out
 
--- Why a replay is not reported: the trace is refused; the image is; the machine's size is out of its limits; a step stalls; the
--- image's file cannot be opened, or the report cannot be written. Of want of memory nothing is said.
+-- Why what is to be printed of a replay is not: the trace is refused; the image is; the machine's size is out of its limits; a
+-- step stalls; the image's file cannot be opened, or what is to be printed cannot be written. Of want of memory nothing is said.
+abbrev pub IsNotPrinted : (is_to_be_printed : List ℕ → Type 0) → (shared_words : ℕ) → (trace known : Option (List ℕ)) → (out out' : Option (List ℕ)) →
+    Fault → Type 0
+IsNotPrinted is_to_be_printed shared_words trace known out out' (fault.Trace e) = IsTraceRefusal trace e
+IsNotPrinted is_to_be_printed shared_words trace known out out' (fault.Image e) = ((steps : TraceContents) × IsTraceOf trace steps)
+    × IsImageRefusal shared_words known e
+IsNotPrinted is_to_be_printed shared_words trace known out out' fault.Size = IsOutOfLimits shared_words trace known
+IsNotPrinted is_to_be_printed shared_words trace known out out' (fault.Stalled place) = IsStalledReplay shared_words trace known place
+IsNotPrinted is_to_be_printed shared_words trace known out out' fault.Link = IsUnopened trace out out' ⊎ IsPartPrinted is_to_be_printed out out'
+IsNotPrinted is_to_be_printed shared_words trace known out out' fault.Memory = Unit {0}
+IsNotPrinted is_to_be_printed shared_words trace known out out' other = ⊥
+
+-- why a replay is not reported
 abbrev pub IsNoReplay : (shared_words : ℕ) → (trace known : Option (List ℕ)) → (out out' : Option (List ℕ)) → Fault → Type 0
-IsNoReplay shared_words trace known out out' (fault.Trace e) = IsTraceRefusal trace e
-IsNoReplay shared_words trace known out out' (fault.Image e) = ((steps : TraceContents) × IsTraceOf trace steps) × IsImageRefusal shared_words known e
-IsNoReplay shared_words trace known out out' fault.Size = IsOutOfLimits shared_words trace known
-IsNoReplay shared_words trace known out out' (fault.Stalled place) = IsStalledReplay shared_words trace known place
-IsNoReplay shared_words trace known out out' fault.Link = IsUnopened trace out out' ⊎ IsPartPrinted (IsSomeReplayReport shared_words trace known) out out'
-IsNoReplay shared_words trace known out out' fault.Memory = Unit {0}
-IsNoReplay shared_words trace known out out' other = ⊥
+IsNoReplay shared_words trace known out out' f = IsNotPrinted (IsSomeReplayReport shared_words trace known) shared_words trace known out out' f
 
 -- ---- the parts
 

@@ -15,7 +15,11 @@ use std::io::Read;
 use trace_file::{Trace, read_trace};
 
 /// The trace that a file is.
-pub(crate) fn trace_of<R: Read + Drop>(alloc: Global, file: R) -> Result<Trace, Fault>
+///
+/// # Errors
+///
+/// [`Fault::Trace`] where the file is refused or cannot be read, and [`Fault::Memory`].
+pub fn trace_of<R: Read + Drop>(alloc: Global, file: R) -> Result<Trace, Fault>
     ensures trace { IfOk result (IsTraceOf (R.remaining file)) }
     ensures refused { IfErr result (IsFaultOfTrace (R.remaining file)) }
 {
@@ -23,7 +27,11 @@ pub(crate) fn trace_of<R: Read + Drop>(alloc: Global, file: R) -> Result<Trace, 
 }
 
 /// The machine that opens on an image, which was read for as many shared words.
-pub(crate) fn machine_of(alloc: Global, image: Image, config: Config) -> Result<Machine, Fault>
+///
+/// # Errors
+///
+/// [`Fault::Size`] where the size is out of its limits, and [`Fault::Memory`].
+pub fn machine_of(alloc: Global, image: Image, config: Config) -> Result<Machine, Fault>
     requires { image.shared_words ≡ config.shared_words }
     ensures opening { IfOk result (IsOpening config image) }
     ensures refused { IfErr result (IsFaultOfSize config) }

@@ -6,8 +6,9 @@ use command_io::{DONE, STOPPED_BY_FAULT};
 use machine_runs::Machine;
 use machine_sweep::any_is_faulted;
 
-/// The exit status of a machine that is reported.
-pub(crate) fn exit_status(machine: &Machine) -> u8
+/// The exit status of a machine that is reported: [`STOPPED_BY_FAULT`] where a fault has stopped a processor of it,
+/// else [`DONE`].
+pub fn exit_status(machine: &Machine) -> u8
     ensures { IsExitOf machine.now result }
 {
     if any_is_faulted(machine) {
