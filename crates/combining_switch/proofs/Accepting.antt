@@ -11,7 +11,8 @@ use Rattle.messages.specs.Queues.{Combination, combination, combined_in, joint, 
 use Rattle.combining_switch.specs.declared.answers.Accepted.{Accepted}
 use Rattle.combining_switch.specs.declared.answers.Accepted.TheVariants.{Queued, Combined, Full}
 use Rattle.combining_switch.specs.Outputs.{OutputLists, accepted, accepted_as, most_marks}
-use Rattle.combining_switch.specs.Accepting.{CombinesAt, CanCombine, NoneInFront, CombinesWhereItCan, CombinesWithTheFirst, QueuesWhereThereIsRoom, RefusesWhereThereIsNone}
+use Rattle.combining_switch.specs.Accepting.{CombinesAt, CanCombine, NoneInFront, CombinesWhereItCan, CombinesWithTheFirst, QueuesWhereThereIsRoom}
+use Rattle.combining_switch.specs.Accepting.{RefusesWhereThereIsNone}
 use Rattle.combining_switch.proofs.Combinations.{NoneBefore, combined_at, combined_nowhere}
 
 -- ---- one entry

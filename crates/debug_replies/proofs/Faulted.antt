@@ -22,7 +22,8 @@ told_more flags i b test within is told p below = by (cases_eq p i)
     by (inr other) = get_or-set_other flags i p b false other ∙ told p (omega arith)
 
 -- no other is changed
-pub rest_more : (flags : List Bool) (i : ℕ) (b : Bool) → ((p : ℕ) → i ≤ p → is_flagged flags p ≡ false) → (p : ℕ) → i < p → is_flagged (slice_set flags i b) p ≡ false
+pub rest_more : (flags : List Bool) (i : ℕ) (b : Bool) → ((p : ℕ) → i ≤ p → is_flagged flags p ≡ false) → (p : ℕ) → i < p →
+    is_flagged (slice_set flags i b) p ≡ false
 rest_more flags i b rest p behind = get_or-set_other flags i p b false (λ same. absurd (omega arith)) ∙ rest p (omega arith)
 
 -- the flags of all processors, and none behind them

@@ -5,7 +5,8 @@ ghost use Rattle.std.specs.Fmt.{digit_glyph, digits};
 ghost use Rattle.arrayvec.specs.ArrayVec.{array_vec_len};
 ghost use Rattle.machine.specs.Openings.{flat_state};
 ghost use Rattle.flat_machine.specs.State.{is_running};
-ghost use Rattle.debug_replies.specs.Stops.{are_halted, has_break_at, is_at_break, is_flagged, is_halted, is_halted_at, is_newly_faulted, is_running_at, name_text, named_stop, smallest, stop_text};
+ghost use Rattle.debug_replies.specs.Stops.{are_halted, has_break_at, is_at_break, is_flagged, is_halted, is_halted_at, is_newly_faulted, is_running_at};
+ghost use Rattle.debug_replies.specs.Stops.{name_text, named_stop, smallest, stop_text};
 
 use crate::breaks::Breaks;
 use crate::digits::push;

@@ -16,7 +16,8 @@ loop-processor-preserved c =
     let within : processor < length flags = omega (arith, i.size, c.loop-processor-test.true, c.processors-processor-end.ensures.few) in
     record {
       size = length-set flags processor c.is_faulted.result ∙ i.size;
-      told = λ p below. told_more flags processor c.is_faulted.result (is_faulted_at (flat_state c.args.machine.now)) within c.is_faulted.ensures i.told p (omega arith);
+      told = λ p below. told_more flags processor c.is_faulted.result (is_faulted_at (flat_state c.args.machine.now)) within c.is_faulted.ensures i.told p
+          (omega arith);
       rest = λ p from. rest_more flags processor c.is_faulted.result i.rest p (omega arith);
     }
 
