@@ -1,7 +1,7 @@
 -- What a getter of clap's matches gives, over plain values.
 use Rattle.std.proofs.Common.{◌≡◌, ◌∙◌, ◌==◌, ◌<◌, ◌≤◌, ◌^◌, ℕ, Bool, cond, ap, sym, arith, true≢false, [], ◌∷◌, drop, Option, Some, None, Result, Ok, true}
 use Rattle.std.proofs.Common.{false, option_map, is_some, refl, pos, codes}
-use Rattle.std.specs.Prelude.{IfSome, IsSome, MatchOption, unwrap_or}
+use Rattle.std.specs.Prelude.{IfSome, IsSome, IsSomeAnd, MatchOption, unwrap_or}
 use Rattle.std.specs.Borrow.{Bor}
 use Rattle.std.specs.Str.{bytes_eq}
 use Rattle.std.specs.Str.Parse.{IsNumeral, ParsesUnsigned, digits_value, signed_digits_value, starts_with_minus, without_leading_plus}
@@ -69,16 +69,25 @@ spelled low high t n passed is = go (starts_with_minus t) refl (is ∙ ap (λ u.
         rw (digits, minus, none) refl
     go false minus e = let digits : n ≡ digits_value 10 (without_leading_plus t) = rw minus at e in rw (minus, digits) refl
 
--- the number that a getter of numbers gives, or the default
-pub number_given : {E : Type 0} (G : Text → Result ℕ E → Type 0) (default low high : ℕ) (first one : Option Text) (r : Option ℕ)
-    → one ≡ option_map without_minus first → IfSome first (IsSignedIn (pos low) (pos high)) → (one ≡ None → r ≡ None) →
-    ((t : Text) → one ≡ Some t → ReadsOne G t r)
-    → ((u : Text) (x : Result ℕ E) → G u x → ParsesUnsigned 32 10 u x) → high < 2 ^ 32 → low ≤ default → default ≤ high
+module _ {E : Type 0} (G : Text → Result ℕ E → Type 0) (only : (u : Text) (x : Result ℕ E) → G u x → ParsesUnsigned 32 10 u x) where
+  -- the number that a getter of numbers gives, or none
+  pub choice_given : (low high : ℕ) (first one : Option Text) (r : Option ℕ)
+      → one ≡ option_map without_minus first → IfSome first (IsSignedIn (pos low) (pos high)) → (one ≡ None → r ≡ None)
+      → ((t : Text) → one ≡ Some t → ReadsOne G t r) → high < 2 ^ 32
+      → MatchOption first (r ≡ None) (λ text. IsSomeAnd r (λ n. (pos n ≡ signed_digits_value 10 text) × (low ≤ n) × (n ≤ high)))
+  choice_given low high None one r same passed none some fits = none same
+  choice_given low high (Some t) one r same passed none some fits =
+      let read = some (without_minus t) same in
+      let got = signed_reads E G 32 low high t r read only fits passed in
+      let value : G (without_minus t) (Ok got.0) = rw got.1 at read in
+      rw got.1 (spelled low high t got.0 passed (only (without_minus t) (Ok got.0) value).1, got.2, got.3)
+
+-- the same where a default stands for none
+pub or_default : (default low high : ℕ) (first : Option Text) (r : Option ℕ)
+    → MatchOption first (r ≡ None) (λ text. IsSomeAnd r (λ n. (pos n ≡ signed_digits_value 10 text) × (low ≤ n) × (n ≤ high)))
+    → low ≤ default → default ≤ high
     → MatchOption first (unwrap_or r default ≡ default) (λ text. pos (unwrap_or r default) ≡ signed_digits_value 10 text) × (low ≤ unwrap_or r default)
     × (unwrap_or r default ≤ high)
-number_given {E} G default low high None one r same passed none some only fits least most = rw (none same) (refl, least, most)
-number_given {E} G default low high (Some t) one r same passed none some only fits least most =
-    let read = some (without_minus t) same in
-    let got = signed_reads E G 32 low high t r read only fits passed in
-    let value : G (without_minus t) (Ok got.0) = rw got.1 at read in
-    rw got.1 (spelled low high t got.0 passed (only (without_minus t) (Ok got.0) value).1, got.2, got.3)
+or_default default low high None r given least most = rw given (refl, least, most)
+or_default default low high (Some t) (Some n) given least most = given
+or_default default low high (Some t) None given least most = absurd given

@@ -27,7 +27,7 @@ use Rattle.clap.specs.declared.builder.value_parser.ValueParser.TheVariants as v
 use Rattle.clap.specs.declared.error.kind.ErrorKind.TheVariants as kind
 use Rattle.clap.specs.declared.parser.matches.ValueSource.{ValueSource}
 use Rattle.clap.specs.declared.parser.matches.ValueSource.TheVariants.{DefaultValue, CommandLine}
-use Rattle.settings.specs.Lines.{HasNumber, Ranged}
+use Rattle.settings.specs.Lines.{Bounds, HasNumber}
 use Rattle.settings.proofs.Walks.{neither, rows_kept}
 
 -- ---- rows
@@ -216,7 +216,7 @@ read_without_minus low high r is first = (ap (λ (how : Reading). option_map (re
     go None h = tt
     go (Some v) h = accepts-Accepts false (vp.Signed (pos low) (pos high)) v h
 
-number_of_rows : (o : Ranged) (rows : List Row) → AllFit o.name o.low o.high rows → HasNumber o rows
+number_of_rows : (o : Bounds) (rows : List Row) → AllFit o.name o.low o.high rows → HasNumber o rows
 number_of_rows o [] h = (refl, tt)
 number_of_rows o (r ∷ rs) h = go (bytes_eq r.id o.name) refl (number_of_rows o rs h.1)
   where
@@ -230,7 +230,7 @@ number_of_rows o (r ∷ rs) h = go (bytes_eq r.id o.name) refl (number_of_rows o
     go false is rest = rest
 
 -- the option's text, where it has one, spells a number in the range
-pub number_there : (s : Shape) (o : Ranged) (words : List Text) → list_all (is_apart_or_number o.name o.low o.high) s.rules ≡ true
+pub number_there : (s : Shape) (o : Bounds) (words : List Text) → list_all (is_apart_or_number o.name o.low o.high) s.rules ≡ true
     → level_fault s [] nothing_held words false [] ≡ [] → HasNumber o (rows_after s.rules [] words)
 number_there s o words all e =
     let good = is_apart_or_number o.name o.low o.high in

@@ -3,7 +3,7 @@ use Rattle.std.specs.Prelude.{◌≡◌, ◌≢◌, ◌≤◌, ◌⊎◌, ◌↔
 use Rattle.std.specs.Prelude.{IfSome, IsSomeAnd, MatchOption}
 use Rattle.std.specs.Str.Parse.{signed_digits_value}
 use Rattle.clap.specs.Words.{App, IsSignedIn, Row, Rule, Text, first_of, new_app, new_rule, one_of, with_rule, with_subcommand, without_minus, subcommand_of}
-use Rattle.clap.specs.Simple.{on_top}
+use Rattle.clap.specs.Simple.{Shape, on_top}
 use Rattle.clap.specs.declared.builder.action.ArgAction.TheVariants.{SetTrue}
 use Rattle.clap.specs.declared.builder.value_parser.ValueParser.TheVariants as vp
 use Rattle.settings.specs.declared.choice.Settings.{Settings}
@@ -14,39 +14,52 @@ use Rattle.settings.specs.declared.choice.Dis.{Dis}
 use Rattle.settings.specs.declared.choice.Run.{Run}
 use Rattle.settings.specs.declared.choice.Replay.{Replay}
 use Rattle.settings.specs.declared.choice.Explain.{Explain}
+use Rattle.settings.specs.declared.choice.Order.{Order}
 
 -- ---- the options with a number
 
--- its name, the number that stands where the option is not given, and the least and the most that it takes
-pub record Ranged : Type 0 where
+-- its name, and the least and the most that it takes
+pub record Bounds : Type 0 where
   pub name : Text
-  pub default : ℕ
   pub low : ℕ
   pub high : ℕ
 
+-- with the number that stands where the option is not given
+pub record Ranged : Type 0 where
+  pub bounds : Bounds
+  pub default : ℕ
+
 -- how many stages of switches the machine has
 abbrev pub stages : Ranged
-stages = record { name = codes "k"; default = 2; low = 0; high = 6 }
+stages = record { bounds = record { name = codes "k"; low = 0; high = 6 }; default = 2 }
 
 -- how many messages a queue of a switch holds
 abbrev pub queue : Ranged
-queue = record { name = codes "c"; default = 4; low = 2; high = 16 }
+queue = record { bounds = record { name = codes "c"; low = 2; high = 16 }; default = 4 }
 
 -- how many records a wait buffer of a switch holds
 abbrev pub records : Ranged
-records = record { name = codes "b"; default = 4; low = 0; high = 16 }
+records = record { bounds = record { name = codes "b"; low = 0; high = 16 }; default = 4 }
 
 -- how many shared words the machine has
 abbrev pub shared_words : Ranged
-shared_words = record { name = codes "words"; default = 1024; low = 1; high = 262144 }
+shared_words = record { bounds = record { name = codes "words"; low = 1; high = 262144 }; default = 1024 }
 
 -- how long a run may take
 abbrev pub budget : Ranged
-budget = record { name = codes "budget"; default = 10000000; low = 1; high = 4294967295 }
+budget = record { bounds = record { name = codes "budget"; low = 1; high = 4294967295 }; default = 10000000 }
 
 -- where the choices of a run's schedule begin
 abbrev pub start : Ranged
-start = record { name = codes "start"; default = 1; low = 0; high = 4294967295 }
+start = record { bounds = record { name = codes "start"; low = 0; high = 4294967295 }; default = 1 }
+
+-- the processor whose entries are asked for
+abbrev pub processor : Bounds
+processor = record { name = codes "processor"; low = 0; high = 63 }
+
+-- the shared word on which the entries act that are asked for
+abbrev pub shared_word : Bounds
+shared_word = record { name = codes "word"; low = 0; high = 262143 }
 
 -- ---- the command
 
@@ -59,7 +72,7 @@ abbrev pub option : Text → Rule
 option name = record (new_rule name) { long = Some name; value_names = 1 }
 
 -- `--NAME NUMBER`, in its range
-abbrev pub number : Ranged → Rule
+abbrev pub number : Bounds → Rule
 number o = record (option o.name) { parser = Some (vp.Signed (pos o.low) (pos o.high)) }
 
 -- `--NAME`
@@ -70,7 +83,7 @@ abbrev pub with_file : App → App
 with_file a = with_rule a (path (codes "FILE"))
 
 abbrev pub with_number : Ranged → App → App
-with_number o a = with_rule a (number o)
+with_number o a = with_rule a (number o.bounds)
 
 unfoldable pub words_command : App
 words_command = with_file (new_app (codes "words"))
@@ -90,21 +103,38 @@ run_command =
     with_number start (with_number budget (with_sizes
     (with_rule (with_rule (with_file (new_app (codes "run"))) (option (codes "trace"))) (flag (codes "sweep")))))
 
+-- a trace and the image of its run
+abbrev pub replaying : Text → App
+replaying name = with_number shared_words (with_file (with_rule (new_app name) (path (codes "TRACE"))))
+
 unfoldable pub replay_command : App
-replay_command = with_number shared_words (with_file (with_rule (new_app (codes "replay")) (path (codes "TRACE"))))
+replay_command = replaying (codes "replay")
 
 unfoldable pub explain_command : App
 explain_command = with_rule (new_app (codes "explain")) (new_rule (codes "CODE"))
+
+unfoldable pub order_command : App
+order_command = with_rule (with_rule (replaying (codes "order")) (number processor)) (number shared_word)
 
 -- the program, which has a version and is told what to do
 abbrev pub program : App
 program = on_top (λ s. record s { has_version = true; subcommand_required = true }) (new_app (codes "ultra"))
 
+abbrev pub with_subcommands : List Shape → App → App
+with_subcommands [] a = a
+with_subcommands (s ∷ ss) a = with_subcommands ss (with_subcommand a s)
+
 -- each subcommand is a leaf of its own
 unfoldable pub ultra_command : App
-ultra_command =
-    with_subcommand (with_subcommand (with_subcommand (with_subcommand (with_subcommand (with_subcommand program
-    words_command.top) asm_command.top) dis_command.top) run_command.top) replay_command.top) explain_command.top
+ultra_command = with_subcommands (
+    words_command.top
+    ∷ asm_command.top
+    ∷ dis_command.top
+    ∷ run_command.top
+    ∷ replay_command.top
+    ∷ explain_command.top
+    ∷ order_command.top
+    ∷ []) program
 
 -- ---- the settings
 
@@ -121,7 +151,17 @@ IsFlag id rows is_set = (is_set ≡ true) ↔ (first_of id rows ≡ Some (codes 
 
 -- the number that the option's text spells, or the default where it has none, in its range
 abbrev pub IsNumber : Ranged → List Row → ℕ → Type 0
-IsNumber o rows n = MatchOption (first_of o.name rows) (n ≡ o.default) (λ text. pos n ≡ signed_digits_value 10 text) × (o.low ≤ n) × (n ≤ o.high)
+IsNumber o rows n = MatchOption (first_of o.bounds.name rows) (n ≡ o.default) (λ text. pos n ≡ signed_digits_value 10 text) × (o.bounds.low ≤ n)
+    × (n ≤ o.bounds.high)
+
+-- the number that the option's text spells, in its range, or none where it has none
+abbrev pub IsChoice : Bounds → List Row → Option ℕ → Type 0
+IsChoice o rows n = MatchOption (first_of o.name rows) (n ≡ None)
+    (λ text. IsSomeAnd n (λ m. (pos m ≡ signed_digits_value 10 text) × (o.low ≤ m) × (m ≤ o.high)))
+
+-- a machine's sizes
+abbrev pub AreSizes : List Row → (k c b words : ℕ) → Type 0
+AreSizes rows k c b words = IsNumber stages rows k × IsNumber queue rows c × IsNumber records rows b × IsNumber shared_words rows words
 
 abbrev pub IsWords : List Row → Words → Type 0
 IsWords rows w = IsPath (codes "FILE") rows w.file.now
@@ -134,14 +174,17 @@ IsDis rows d = IsPath (codes "FILE") rows d.file.now × IsNumber shared_words ro
 
 abbrev pub IsRun : List Row → Run → Type 0
 IsRun rows r = IsPath (codes "FILE") rows r.file.now × IsOption (codes "trace") rows (option_map (λ t. t.now) r.trace) × IsFlag (codes "sweep") rows r.sweep
-    × IsNumber stages rows r.k × IsNumber queue rows r.c × IsNumber records rows r.b × IsNumber shared_words rows r.words
-    × IsNumber budget rows r.budget × IsNumber start rows r.start
+    × AreSizes rows r.k r.c r.b r.words × IsNumber budget rows r.budget × IsNumber start rows r.start
 
 abbrev pub IsReplay : List Row → Replay → Type 0
 IsReplay rows r = IsPath (codes "TRACE") rows r.trace.now × IsPath (codes "FILE") rows r.file.now × IsNumber shared_words rows r.words
 
 abbrev pub IsExplain : List Row → Explain → Type 0
 IsExplain rows e = IsOption (codes "CODE") rows (option_map (λ c. c.now) e.code)
+
+abbrev pub IsOrder : List Row → Order → Type 0
+IsOrder rows o = IsPath (codes "TRACE") rows o.trace.now × IsPath (codes "FILE") rows o.file.now × IsNumber shared_words rows o.words
+    × IsChoice processor rows o.processor × IsChoice shared_word rows o.word
 
 -- the subcommand is this one, with these rows
 abbrev pub Named : Option (Text × List Row) → Text → (List Row → Type 0) → Type 0
@@ -155,6 +198,7 @@ IsChosen stop (asked.Dis d) = Named stop (codes "dis") (λ rows. IsDis rows d)
 IsChosen stop (asked.Run r) = Named stop (codes "run") (λ rows. IsRun rows r)
 IsChosen stop (asked.Replay r) = Named stop (codes "replay") (λ rows. IsReplay rows r)
 IsChosen stop (asked.Explain e) = Named stop (codes "explain") (λ rows. IsExplain rows e)
+IsChosen stop (asked.Order x) = Named stop (codes "order") (λ rows. IsOrder rows x)
 
 -- the settings are those of the words
 abbrev pub IsAsked : List Text → Settings → Type 0
@@ -166,50 +210,46 @@ IsAsked words = IsChosen (subcommand_of ultra_command words)
 abbrev pub IsPlain : Text → Type 0
 IsPlain word = IfSome (slice_get word 0) (λ b. b ≢ 45)
 
--- the words are the program's name, `words` and the file
-abbrev pub NameWordsOf : Text → List Text → Type 0
-NameWordsOf file words = (program : Text) × (words ≡ program ∷ codes "words" ∷ file ∷ []) × IsPlain file
+-- the words are the program's name, the command and a file
+abbrev pub NamesFile : (command file : Text) → List Text → Type 0
+NamesFile command file words = (program : Text) × (words ≡ program ∷ command ∷ file ∷ []) × IsPlain file
+
+-- the words are the program's name, the command and two files
+abbrev pub NamesFiles : (command one other : Text) → List Text → Type 0
+NamesFiles command one other words = (program : Text) × (words ≡ program ∷ command ∷ one ∷ other ∷ []) × IsPlain one × IsPlain other
 
 -- the settings are those of `words FILE`
 abbrev pub AreWordsOf : Text → Settings → Type 0
 AreWordsOf file (asked.Words w) = w.file.now ≡ file
 AreWordsOf file other = ⊥
 
--- the words are the program's name, `asm`, the file and where the image goes
-abbrev pub NameAsmOf : (file out : Text) → List Text → Type 0
-NameAsmOf file out words = (program : Text) × (words ≡ program ∷ codes "asm" ∷ file ∷ out ∷ []) × IsPlain file × IsPlain out
-
 -- the settings are those of `asm FILE OUT`
 abbrev pub AreAsmOf : (file out : Text) → Settings → Type 0
 AreAsmOf file out (asked.Asm a) = (a.file.now ≡ file) × (a.out.now ≡ out)
 AreAsmOf file out other = ⊥
-
--- the words are the program's name, `dis` and the file
-abbrev pub NameDisOf : Text → List Text → Type 0
-NameDisOf file words = (program : Text) × (words ≡ program ∷ codes "dis" ∷ file ∷ []) × IsPlain file
 
 -- the settings are those of `dis FILE`, for a machine of 1,024 words
 abbrev pub AreDisOf : Text → Settings → Type 0
 AreDisOf file (asked.Dis d) = (d.file.now ≡ file) × (d.words ≡ 1024)
 AreDisOf file other = ⊥
 
--- the words are the program's name, `run` and the file
-abbrev pub NameRunOf : Text → List Text → Type 0
-NameRunOf file words = (program : Text) × (words ≡ program ∷ codes "run" ∷ file ∷ []) × IsPlain file
+-- a machine's sizes where none is given
+abbrev pub AreUsual : (k c b words : ℕ) → Type 0
+AreUsual k c b words = (k ≡ 2) × (c ≡ 4) × (b ≡ 4) × (words ≡ 1024)
 
 -- the settings are those of `run FILE`: no trace, no flag, each number its default
 abbrev pub AreRunOf : Text → Settings → Type 0
-AreRunOf file (asked.Run r) = (r.file.now ≡ file) × (r.trace ≡ None) × (r.sweep ≡ false) × (r.k ≡ 2) × (r.c ≡ 4) × (r.b ≡ 4)
-    × (r.words ≡ 1024) × (r.budget ≡ 10000000) × (r.start ≡ 1)
+AreRunOf file (asked.Run r) = (r.file.now ≡ file) × (r.trace ≡ None) × (r.sweep ≡ false) × AreUsual r.k r.c r.b r.words
+    × (r.budget ≡ 10000000) × (r.start ≡ 1)
 AreRunOf file other = ⊥
 
--- the words are the program's name, `replay`, the trace and the file
-abbrev pub NameReplayOf : (trace file : Text) → List Text → Type 0
-NameReplayOf trace file words = (program : Text) × (words ≡ program ∷ codes "replay" ∷ trace ∷ file ∷ []) × IsPlain trace × IsPlain file
+-- the trace and the image are these, for a machine of 1,024 words
+abbrev pub IsReplayOf : (trace file : Text) → Replay → Type 0
+IsReplayOf trace file r = (r.trace.now ≡ trace) × (r.file.now ≡ file) × (r.words ≡ 1024)
 
--- the settings are those of `replay TRACE FILE`, for a machine of 1,024 words
+-- the settings are those of `replay TRACE FILE`
 abbrev pub AreReplayOf : (trace file : Text) → Settings → Type 0
-AreReplayOf trace file (asked.Replay r) = (r.trace.now ≡ trace) × (r.file.now ≡ file) × (r.words ≡ 1024)
+AreReplayOf trace file (asked.Replay r) = IsReplayOf trace file r
 AreReplayOf trace file other = ⊥
 
 -- the words are the program's name, `explain` and the code, where there is one
@@ -222,13 +262,18 @@ abbrev pub AreExplainOf : Option Text → Settings → Type 0
 AreExplainOf code (asked.Explain e) = option_map (λ c. c.now) e.code ≡ code
 AreExplainOf code other = ⊥
 
+-- the settings are those of `order TRACE FILE`, for a machine of 1,024 words: all entries are asked for
+abbrev pub AreOrderOf : (trace file : Text) → Settings → Type 0
+AreOrderOf trace file (asked.Order o) = (o.trace.now ≡ trace) × (o.file.now ≡ file) × (o.words ≡ 1024) × (o.processor ≡ None) × (o.word ≡ None)
+AreOrderOf trace file other = ⊥
+
 -- ---- what has to be given
 
 abbrev pub HasPath : Text → List Row → Type 0
 HasPath id rows = is_some (first_of id rows) ≡ true
 
 -- the option's text, where it has one, spells a number in the range; clap reads it without a minus, which 0 may have
-abbrev pub HasNumber : Ranged → List Row → Type 0
+abbrev pub HasNumber : Bounds → List Row → Type 0
 HasNumber o rows =
     (one_of o.name rows ≡ option_map without_minus (first_of o.name rows)) × IfSome (first_of o.name rows) (IsSignedIn (pos o.low) (pos o.high))
 
@@ -236,24 +281,37 @@ abbrev pub HasAsm : List Row → Type 0
 HasAsm rows = HasPath (codes "FILE") rows × HasPath (codes "OUT") rows
 
 abbrev pub HasDis : List Row → Type 0
-HasDis rows = HasPath (codes "FILE") rows × HasNumber shared_words rows
+HasDis rows = HasPath (codes "FILE") rows × HasNumber shared_words.bounds rows
+
+abbrev pub HasSizes : List Row → Type 0
+HasSizes rows = HasNumber stages.bounds rows × HasNumber queue.bounds rows × HasNumber records.bounds rows × HasNumber shared_words.bounds rows
 
 abbrev pub HasRun : List Row → Type 0
-HasRun rows = HasPath (codes "FILE") rows × HasNumber stages rows × HasNumber queue rows × HasNumber records rows × HasNumber shared_words rows
-    × HasNumber budget rows × HasNumber start rows
+HasRun rows = HasPath (codes "FILE") rows × HasSizes rows × HasNumber budget.bounds rows × HasNumber start.bounds rows
 
 abbrev pub HasReplay : List Row → Type 0
-HasReplay rows = HasPath (codes "TRACE") rows × HasPath (codes "FILE") rows × HasNumber shared_words rows
+HasReplay rows = HasPath (codes "TRACE") rows × HasPath (codes "FILE") rows × HasNumber shared_words.bounds rows
+
+abbrev pub HasOrder : List Row → Type 0
+HasOrder rows = HasReplay rows × HasNumber processor rows × HasNumber shared_word rows
+
+-- the subcommands of the program
+abbrev pub command_names : List Text
+command_names = codes "words" ∷ codes "asm" ∷ codes "dis" ∷ codes "run" ∷ codes "replay" ∷ codes "explain" ∷ codes "order" ∷ []
+
+abbrev pub IsOneOf : Text → List Text → Type 0
+IsOneOf name [] = ⊥
+IsOneOf name (x ∷ xs) = (name ≡ x) ⊎ IsOneOf name xs
 
 -- the name and the rows are of a subcommand of the program's, with all that has to be given
 pub record IsWhole (name : Text) (rows : List Row) : Type 0 where
-  pub known : (name ≡ codes "words") ⊎ ((name ≡ codes "asm")
-      ⊎ ((name ≡ codes "dis") ⊎ ((name ≡ codes "run") ⊎ ((name ≡ codes "replay") ⊎ (name ≡ codes "explain")))))
+  pub known : IsOneOf name command_names
   pub words : name ≡ codes "words" → HasPath (codes "FILE") rows
   pub asm : name ≡ codes "asm" → HasAsm rows
   pub dis : name ≡ codes "dis" → HasDis rows
   pub run : name ≡ codes "run" → HasRun rows
   pub replay : name ≡ codes "replay" → HasReplay rows
+  pub order : name ≡ codes "order" → HasOrder rows
 
 -- there is such a subcommand
 abbrev pub IsComplete : Option (Text × List Row) → Type 0

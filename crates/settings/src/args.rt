@@ -3,9 +3,9 @@ ghost use Rattle.std.specs.Prelude.{◌≡◌, false, IfOk};
 ghost use Rattle.clap.specs.Words.{app_of, new_rule, rule_of, with_rule};
 ghost use Rattle.clap.specs.declared.builder.command.Command.TheViews.{out-Command};
 ghost use Rattle.settings.specs.Lines.{path, option, number, flag, with_file, with_number};
-ghost use Rattle.settings.specs.Options.{ranged};
+ghost use Rattle.settings.specs.Options.{bounded, ranged};
 
-use crate::ranges::NumberOption;
+use crate::ranges::{ChoiceOption, NumberOption};
 use clap::{Arg, ArgAction, Command};
 use std::alloc::{AllocError, Global};
 
@@ -49,7 +49,20 @@ pub(crate) fn flag_arg<'a>(alloc: Global, name: &'a str, help: &'a str) -> Arg<'
 
 /// An option whose value is a number in a range.
 fn number_arg<'a>(alloc: Global, option: NumberOption) -> Arg<'a>
-    ensures rule { rule_of result ≡ number (ranged option) }
+    ensures rule { rule_of result ≡ number (ranged option).bounds }
+    ensures global { result.global ≡ false }
+{
+    let range = i64::from(option.low)..=i64::from(option.high);
+    Arg::new(alloc, option.name)
+        .long(option.name)
+        .value_name("NUMBER")
+        .value_parser(clap::value_parser!(u32).range(range))
+        .help(option.help)
+}
+
+/// An option whose value is a number in a range, and which has no default.
+pub(crate) fn choice_arg<'a>(alloc: Global, option: ChoiceOption) -> Arg<'a>
+    ensures rule { rule_of result ≡ number (bounded option) }
     ensures global { result.global ≡ false }
 {
     let range = i64::from(option.low)..=i64::from(option.high);

@@ -1,8 +1,8 @@
 //! The words of the command line, as settings.
-ghost use Rattle.std.specs.Prelude.{◌≡◌, ◌≢◌, ℕ, List, Option, IfOk, MatchResult, map};
+ghost use Rattle.std.specs.Prelude.{◌≡◌, ◌≢◌, ℕ, List, Option, IfOk, MatchResult, codes, map};
 ghost use Rattle.clap.specs.Words.{FailsBy, fault_of, kind_of, subcommand_of, subcommand_rows_of};
-ghost use Rattle.settings.specs.Lines.{AreAsmOf, AreDisOf, AreExplainOf, AreReplayOf, AreRunOf, AreWordsOf, IsAsked, NameAsmOf, NameDisOf, NameExplainOf};
-ghost use Rattle.settings.specs.Lines.{NameReplayOf, NameRunOf, NameWordsOf, ultra_command};
+ghost use Rattle.settings.specs.Lines.{AreAsmOf, AreDisOf, AreExplainOf, AreReplayOf, AreRunOf, AreWordsOf, IsAsked, NameExplainOf, NamesFile, NamesFiles};
+ghost use Rattle.settings.specs.Lines.{AreOrderOf, ultra_command};
 
 use crate::choice::Settings;
 use crate::command::ultra_shape;
@@ -19,6 +19,15 @@ fn matched<'a>(alloc: Global, words: &'a [&'a str]) -> Result<ArgMatches<'a>, Er
     ultra_shape(alloc)?.try_get_matches_from(words)
 }
 
+/// What the words ask for, as `settings` says.
+fn read<'a>(alloc: Global, words: &'a [&'a str]) -> Result<Settings<'a>, Error>
+    ensures asked { IfOk result (IsAsked (map (λ w. w.now) words.entry.now)) }
+    ensures kinds { FailsBy (fault_of ultra_command (map (λ w. w.now) words.entry.now)) result }
+{
+    let matches = matched(alloc, words)?;
+    Ok(chosen(&matches))
+}
+
 /// What the words ask for, of which the first is the program's name. An `Err` is a mistake in the words, a request for
 /// help or the version, or a lack of memory, and its `Display` is the text for the user.
 pub fn settings<'a>(alloc: Global, words: &'a [&'a str]) -> Result<Settings<'a>, Error>
@@ -29,23 +38,24 @@ pub fn settings<'a>(alloc: Global, words: &'a [&'a str]) -> Result<Settings<'a>,
     // memory. A request for help or the version is a fault too.
     ensures kinds { FailsBy (fault_of ultra_command (map (λ w. w.now) words.entry.now)) result }
 
-    // So `words FILE`, `dis FILE` and `run FILE` give the file, `asm FILE OUT` and `replay TRACE FILE` both files,
-    // `explain CODE` the code and `explain` none, and all else is as it is where nothing is said of it.
-    ensures words_file { (file : List ℕ) → NameWordsOf file (map (λ w. w.now) words.entry.now)
+    // So words that are a command and its files alone, or `explain` and at most a code, give these files and that code,
+    // and all else is as it is where nothing is said of it.
+    ensures words_file { (file : List ℕ) → NamesFile (codes "words") file (map (λ w. w.now) words.entry.now)
         → MatchResult result (AreWordsOf file) (λ e. kind_of e ≡ ErrorKind.OutOfMemory) }
-    ensures asm_files { (file out : List ℕ) → NameAsmOf file out (map (λ w. w.now) words.entry.now)
+    ensures asm_files { (file out : List ℕ) → NamesFiles (codes "asm") file out (map (λ w. w.now) words.entry.now)
         → MatchResult result (AreAsmOf file out) (λ e. kind_of e ≡ ErrorKind.OutOfMemory) }
-    ensures dis_file { (file : List ℕ) → NameDisOf file (map (λ w. w.now) words.entry.now)
+    ensures dis_file { (file : List ℕ) → NamesFile (codes "dis") file (map (λ w. w.now) words.entry.now)
         → MatchResult result (AreDisOf file) (λ e. kind_of e ≡ ErrorKind.OutOfMemory) }
-    ensures run_file { (file : List ℕ) → NameRunOf file (map (λ w. w.now) words.entry.now)
+    ensures run_file { (file : List ℕ) → NamesFile (codes "run") file (map (λ w. w.now) words.entry.now)
         → MatchResult result (AreRunOf file) (λ e. kind_of e ≡ ErrorKind.OutOfMemory) }
-    ensures replay_files { (trace file : List ℕ) → NameReplayOf trace file (map (λ w. w.now) words.entry.now)
+    ensures replay_files { (trace file : List ℕ) → NamesFiles (codes "replay") trace file (map (λ w. w.now) words.entry.now)
         → MatchResult result (AreReplayOf trace file) (λ e. kind_of e ≡ ErrorKind.OutOfMemory) }
     ensures explain_code { (code : Option (List ℕ)) → NameExplainOf code (map (λ w. w.now) words.entry.now)
         → MatchResult result (AreExplainOf code) (λ e. kind_of e ≡ ErrorKind.OutOfMemory) }
+    ensures order_files { (trace file : List ℕ) → NamesFiles (codes "order") trace file (map (λ w. w.now) words.entry.now)
+        → MatchResult result (AreOrderOf trace file) (λ e. kind_of e ≡ ErrorKind.OutOfMemory) }
 {
-    let matches = matched(alloc, words)?;
-    Ok(chosen(&matches))
+    read(alloc, words)
 }
 
 /// The exit status of a command line that gives no settings.

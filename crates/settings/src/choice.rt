@@ -9,6 +9,7 @@ pub enum Settings<'a> {
     Run(Run<'a>),
     Replay(Replay<'a>),
     Explain(Explain<'a>),
+    Order(Order<'a>),
 }
 
 /// `words FILE`.
@@ -74,4 +75,19 @@ pub struct Replay<'a> {
 pub struct Explain<'a> {
     /// The word to explain, if one is given.
     pub code: Option<&'a str>,
+}
+
+/// `order TRACE FILE`, and which of its lines are asked for.
+#[derive(Debug, PartialEq, Eq, Drop)]
+pub struct Order<'a> {
+    /// The trace, which has the other sizes of its machine.
+    pub trace: &'a str,
+    /// The image.
+    pub file: &'a str,
+    /// How many shared words the machine has, from 1 to 262,144.
+    pub words: u32,
+    /// The processor whose entries are asked for, at most 63, or none for those of all.
+    pub processor: Option<u8>,
+    /// The number of the shared word on which the entries act that are asked for, at most 262,143, or none for all entries.
+    pub word: Option<u32>,
 }

@@ -2,12 +2,14 @@
 ghost use Rattle.std.specs.Prelude.{◌≡◌, false, IfOk};
 ghost use Rattle.clap.specs.Words.{app_of, new_app, with_subcommand};
 ghost use Rattle.clap.specs.declared.builder.command.Command.TheViews.{out-Command};
-ghost use Rattle.settings.specs.Lines.{program, with_sizes, words_command, asm_command, dis_command, run_command, replay_command, explain_command};
-ghost use Rattle.settings.specs.Lines.{ultra_command};
+ghost use Rattle.settings.specs.Lines.{program, replaying, with_sizes, words_command, asm_command, dis_command, run_command, replay_command, explain_command};
+ghost use Rattle.settings.specs.Lines.{ultra_command, order_command};
 
-use crate::args::{flag_arg, option_arg, path_arg, with, with_file, with_number, word_arg};
-use crate::help::{ASM_ENDS, DIS_ENDS, EXPLAIN_ENDS, REPLAY_ENDS, RUN_ENDS};
-use crate::ranges::{BUDGET, QUEUE, RECORDS, SHARED_WORDS, STAGES, START};
+use crate::args::{
+    choice_arg, flag_arg, option_arg, path_arg, with, with_file, with_number, word_arg,
+};
+use crate::help::{ASM_ENDS, DIS_ENDS, EXPLAIN_ENDS, ORDER_ENDS, REPLAY_ENDS, RUN_ENDS};
+use crate::ranges::{BUDGET, PROCESSOR, QUEUE, RECORDS, SHARED_WORD, SHARED_WORDS, STAGES, START};
 use clap::Command;
 use std::alloc::{AllocError, Global};
 
@@ -134,17 +136,17 @@ fn run_shape<'a>(alloc: Global) -> Result<Command<'a>, AllocError>
     with_number(alloc, command, START)
 }
 
-#[tactic(auto, unfolding(crate::specs::Lines::replay_command))]
-fn replay_shape<'a>(alloc: Global) -> Result<Command<'a>, AllocError>
-    ensures shape { IfOk result (λ c. app_of c ≡ replay_command) }
+// A command that takes a trace and the image of its run, with what its help says first and last.
+fn replaying<'a>(
+    alloc: Global,
+    name: &'a str,
+    about: &'a str,
+    ends: &'a str,
+) -> Result<Command<'a>, AllocError>
+    ensures shape { IfOk result (λ c. app_of c ≡ replaying name.entry.now) }
     ensures globals { IfOk result (λ c. (out-Command c).has_globals ≡ false) }
 {
-    let command = described(
-        alloc,
-        "replay",
-        "Take the steps of a trace on a machine that opens on an image, and print its report",
-        REPLAY_ENDS,
-    );
+    let command = described(alloc, name, about, ends);
     let command = with(
         command,
         path_arg(alloc, "TRACE", "A trace, as `ultra run --trace` writes it"),
@@ -155,6 +157,19 @@ fn replay_shape<'a>(alloc: Global) -> Result<Command<'a>, AllocError>
         "The image of that run, as `ultra asm` writes it",
     )?;
     with_number(alloc, command, SHARED_WORDS)
+}
+
+#[tactic(auto, unfolding(crate::specs::Lines::replay_command))]
+fn replay_shape<'a>(alloc: Global) -> Result<Command<'a>, AllocError>
+    ensures shape { IfOk result (λ c. app_of c ≡ replay_command) }
+    ensures globals { IfOk result (λ c. (out-Command c).has_globals ≡ false) }
+{
+    replaying(
+        alloc,
+        "replay",
+        "Take the steps of a trace on a machine that opens on an image, and print its report",
+        REPLAY_ENDS,
+    )
 }
 
 #[tactic(auto, unfolding(crate::specs::Lines::explain_command))]
@@ -178,6 +193,21 @@ fn explain_shape<'a>(alloc: Global) -> Result<Command<'a>, AllocError>
     )
 }
 
+#[tactic(auto, unfolding(crate::specs::Lines::order_command))]
+fn order_shape<'a>(alloc: Global) -> Result<Command<'a>, AllocError>
+    ensures shape { IfOk result (λ c. app_of c ≡ order_command) }
+    ensures globals { IfOk result (λ c. (out-Command c).has_globals ≡ false) }
+{
+    let command = replaying(
+        alloc,
+        "order",
+        "Print the serial order of whole instructions that explains the run of a trace",
+        ORDER_ENDS,
+    )?;
+    let command = with(command, choice_arg(alloc, PROCESSOR))?;
+    with(command, choice_arg(alloc, SHARED_WORD))
+}
+
 /// The program, as yet with no subcommand.
 fn program_shape<'a>(alloc: Global) -> Command<'a>
     ensures shape { app_of result ≡ program }
@@ -199,5 +229,7 @@ pub(crate) fn ultra_shape<'a>(alloc: Global) -> Result<Command<'a>, AllocError>
     let command = above(command, dis_shape(alloc)?)?;
     let command = above(command, run_shape(alloc)?)?;
     let command = above(command, replay_shape(alloc)?)?;
-    above(command, explain_shape(alloc)?)
+    let command = above(command, explain_shape(alloc)?)?;
+    let command = above(command, order_shape(alloc)?)?;
+    Ok(command)
 }

@@ -63,3 +63,21 @@ program, and `memory-map`, the addresses that it sees. Letters may be of either 
 
 Exit status: 0 done, 2 nothing has that name, or a refused command line, 3 standard output cannot be
 written (`link`), 4 no memory.";
+
+/// What `order` prints, and its exit statuses.
+pub(crate) const ORDER_ENDS: &str = "\
+The steps are taken as by `ultra replay`. Then the run is told as if whole instructions had been taken
+one after another, with no network between processors and memory. The order of references to a shared
+word is that of its module; references that were combined stand one behind another.
+
+A line is `N P ADDRESS INSTRUCTION`: its number from 0, the processor, where the instruction stands
+and its text. Behind it there may be ` = V`, the value that its register got, ` console HH`, the byte
+for the console, and ` word I BEFORE AFTER`, the shared word that it acted on. Of a processor that
+stops the line ends with `halt HH` or `fault N`; a write from outside is `N P poke PLACE VALUE`, with
+`-` for P where it is to shared memory. Lines keep their numbers where --processor or --word leaves
+others out.
+
+Faults are told on standard error as by `ultra replay`, and then nothing is printed.
+
+Exit status: 0 done, 1 a processor stopped by a fault, 2 a refused trace, image or command line, 3 a
+file or standard output failed, 4 no memory.";

@@ -10,7 +10,7 @@ mod ranges;
 mod reads;
 
 pub use asked::{settings, status_of};
-pub use choice::{Asm, Dis, Explain, Replay, Run, Settings, Words};
+pub use choice::{Asm, Dis, Explain, Order, Replay, Run, Settings, Words};
 
 #[cfg(test)]
 mod tests;

@@ -66,3 +66,30 @@ pub(crate) const START: NumberOption = NumberOption {
     high: u32::MAX,
     help: "Where the choices of a schedule begin, 0 to 4294967295; the sweep makes none [default: 1]",
 };
+
+/// An option that takes a number, and need not be given.
+#[derive(Clone, Copy, Drop)]
+pub(crate) struct ChoiceOption {
+    pub(crate) name: &'static str,
+    /// The least number that it takes.
+    pub(crate) low: u32,
+    /// The greatest number that it takes.
+    pub(crate) high: u32,
+    pub(crate) help: &'static str,
+}
+
+/// The processor whose entries are asked for.
+pub(crate) const PROCESSOR: ChoiceOption = ChoiceOption {
+    name: "processor",
+    low: 0,
+    high: 63,
+    help: "Print the lines of this processor alone, 0 to 63",
+};
+
+/// The shared word on which the entries act that are asked for.
+pub(crate) const SHARED_WORD: ChoiceOption = ChoiceOption {
+    name: "word",
+    low: 0,
+    high: 262_143,
+    help: "Print the lines that act on this shared word alone, 0 to 262143",
+};

@@ -2,11 +2,14 @@
 ghost use Rattle.std.specs.Prelude.{◌≡◌, ◌≤◌, ◌<◌, ◌^◌, codes, option_map};
 ghost use Rattle.clap.specs.Words.{found_of, rows_of, subcommand_rows_of};
 ghost use Rattle.settings.specs.Lines.{IsPath, IsOption, IsFlag, IsNumber, IsWords, IsAsm, IsDis, IsRun, IsReplay, IsExplain, IsChosen, HasPath, HasNumber};
-ghost use Rattle.settings.specs.Lines.{HasAsm, HasDis, HasRun, HasReplay, IsComplete};
-ghost use Rattle.settings.specs.Options.{ranged, ranged_as};
+ghost use Rattle.settings.specs.Lines.{HasAsm, HasDis, HasRun, HasReplay, IsComplete, HasOrder, IsOrder, IsChoice};
+ghost use Rattle.settings.specs.Options.{bounded, bounds_as, ranged, ranged_as};
 
-use crate::choice::{Asm, Dis, Explain, Replay, Run, Settings, Words};
-use crate::ranges::{BUDGET, NumberOption, QUEUE, RECORDS, SHARED_WORDS, STAGES, START};
+use crate::choice::{Asm, Dis, Explain, Order, Replay, Run, Settings, Words};
+use crate::ranges::{
+    BUDGET, ChoiceOption, NumberOption, PROCESSOR, QUEUE, RECORDS, SHARED_WORD, SHARED_WORDS,
+    STAGES, START,
+};
 use clap::ArgMatches;
 
 /// A file that has to be given.
@@ -34,19 +37,47 @@ fn flag(matches: &ArgMatches<'_>, id: &str) -> bool
     }
 }
 
+/// The number of the option of a name, if it is given.
+fn choice_of(matches: &ArgMatches<'_>, id: &str, low: u32, high: u32) -> Option<u32>
+    requires { HasNumber (bounds_as id.now low high) (rows_of (found_of matches.now)) }
+    ensures { IsChoice (bounds_as id.now low high) (rows_of (found_of matches.now)) result }
+{
+    matches.get_one::<u32>(id)
+}
+
+/// The number of an option, if it is given.
+fn choice(matches: &ArgMatches<'_>, option: ChoiceOption) -> Option<u32>
+    requires { HasNumber (bounded option) (rows_of (found_of matches.now)) }
+    ensures { IsChoice (bounded option) (rows_of (found_of matches.now)) result }
+{
+    choice_of(matches, option.name, option.low, option.high)
+}
+
+/// The same, of an option whose numbers are bytes.
+fn byte_choice(matches: &ArgMatches<'_>, option: ChoiceOption) -> Option<u8>
+    requires text { HasNumber (bounded option) (rows_of (found_of matches.now)) }
+    requires byte { option.high < 2 ^ 8 }
+    ensures { IsChoice (bounded option) (rows_of (found_of matches.now)) result }
+{
+    match choice(matches, option) {
+        Some(number) => Some(number as u8),
+        None => None,
+    }
+}
+
 /// The number of the option of a name, or its default.
 fn number_of(matches: &ArgMatches<'_>, id: &str, default: u32, low: u32, high: u32) -> u32
-    requires text { HasNumber (ranged_as id.now default low high) (rows_of (found_of matches.now)) }
+    requires text { HasNumber (bounds_as id.now low high) (rows_of (found_of matches.now)) }
     requires least { low ≤ default }
     requires most { default ≤ high }
     ensures { IsNumber (ranged_as id.now default low high) (rows_of (found_of matches.now)) result }
 {
-    matches.get_one::<u32>(id).unwrap_or(default)
+    choice_of(matches, id, low, high).unwrap_or(default)
 }
 
 /// The number of an option, or its default.
 fn number(matches: &ArgMatches<'_>, option: NumberOption) -> u32
-    requires text { HasNumber (ranged option) (rows_of (found_of matches.now)) }
+    requires text { HasNumber (ranged option).bounds (rows_of (found_of matches.now)) }
     requires least { option.low ≤ option.default }
     requires most { option.default ≤ option.high }
     ensures { IsNumber (ranged option) (rows_of (found_of matches.now)) result }
@@ -62,7 +93,7 @@ fn number(matches: &ArgMatches<'_>, option: NumberOption) -> u32
 
 /// The same, of an option whose numbers are bytes.
 fn byte(matches: &ArgMatches<'_>, option: NumberOption) -> u8
-    requires text { HasNumber (ranged option) (rows_of (found_of matches.now)) }
+    requires text { HasNumber (ranged option).bounds (rows_of (found_of matches.now)) }
     requires least { option.low ≤ option.default }
     requires most { option.default ≤ option.high }
     requires byte { option.high < 2 ^ 8 }
@@ -136,6 +167,19 @@ fn explain<'a>(matches: &ArgMatches<'a>) -> Explain<'a>
     }
 }
 
+fn order<'a>(matches: &ArgMatches<'a>) -> Order<'a>
+    requires { HasOrder (rows_of (found_of matches.now)) }
+    ensures { IsOrder (rows_of (found_of matches.now)) result }
+{
+    Order {
+        trace: path(matches, "TRACE"),
+        file: path(matches, "FILE"),
+        words: number(matches, SHARED_WORDS),
+        processor: byte_choice(matches, PROCESSOR),
+        word: choice(matches, SHARED_WORD),
+    }
+}
+
 /// The settings of the subcommand that was met.
 pub(crate) fn chosen<'a>(matches: &ArgMatches<'a>) -> Settings<'a>
     requires { IsComplete (subcommand_rows_of matches.now) }
@@ -149,6 +193,7 @@ pub(crate) fn chosen<'a>(matches: &ArgMatches<'a>) -> Settings<'a>
         "run" => Settings::Run(run(inner)),
         "replay" => Settings::Replay(replay(inner)),
         "explain" => Settings::Explain(explain(inner)),
+        "order" => Settings::Order(order(inner)),
         _ => unreachable!(),
     }
 }

@@ -5,6 +5,7 @@
 //! kind of the error and a part of its text. A part that ends within a line ends with `\`.
 
 mod explain;
+mod order;
 mod replay;
 mod run;
 
@@ -43,7 +44,7 @@ const REFUSED: &str = "\
 $ ultra
 MissingSubcommand
 error: 'ultra' requires a subcommand but one was not provided
-  [subcommands: words, asm, dis, run, replay, explain, help]
+  [subcommands: words, asm, dis, run, replay, explain, order, help]
 
 Usage: ultra <COMMAND>
 $ ultra frob
@@ -113,7 +114,7 @@ DisplayVersion
 ultra 0.1.0
 ";
 
-static CASES: [&str; 11] = [
+static CASES: [&str; 14] = [
     TAKEN,
     REFUSED,
     run::TAKEN,
@@ -125,6 +126,9 @@ static CASES: [&str; 11] = [
     explain::TAKEN,
     explain::REFUSED,
     explain::HELP,
+    order::TAKEN,
+    order::REFUSED,
+    order::HELP,
 ];
 
 /// The error is the one that stands there. An `Err` is a lack of memory.

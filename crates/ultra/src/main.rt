@@ -10,8 +10,10 @@ use dis_command::dis_command;
 use explain_command::{all_topics, explain_command};
 use flat_machine::Config;
 use link::{LinkWrite, Meter};
+use order_command::order_command;
+use order_lines::Choice;
 use run_commands::{replay_command, run_command};
-use settings::{Asm, Replay, Run, Settings, settings, status_of};
+use settings::{Asm, Order, Replay, Run, Settings, settings, status_of};
 use std::alloc::{AllocError, Global};
 use std::io::{self, ErrorKind, Write};
 use std::os::unix::fs::MetadataExt;
@@ -58,6 +60,7 @@ fn carry_out<R: Env + Files + AllocGlobal, W: LinkWrite, E: Write>(
         },
         Ok(Settings::Run(run)) => run_file(rt, &run, out, err),
         Ok(Settings::Replay(replay)) => replay_file(rt, &replay, out, err),
+        Ok(Settings::Order(order)) => order_file(rt, &order, out, err),
         Ok(Settings::Explain(explain)) => explain_command(
             alloc,
             &all_topics(),
@@ -132,6 +135,26 @@ fn replay_file<R: Files + AllocGlobal, W: LinkWrite, E: Write>(
     };
     let file = fs::open(rt, replay.file);
     replay_command(rt.alloc(), trace, file, replay.words, out, err)
+}
+
+/// Does what `order TRACE FILE` asks for.
+fn order_file<R: Files + AllocGlobal, W: LinkWrite, E: Write>(
+    rt: &R,
+    order: &Order<'_>,
+    out: &mut W,
+    err: &mut E,
+) -> u8
+    requires works { W.has_failed out.old ≡ false }
+{
+    let Ok(trace) = fs::open(rt, order.trace) else {
+        return tell(Fault::Link, err);
+    };
+    let file = fs::open(rt, order.file);
+    let choice = Choice {
+        processor: order.processor,
+        word: order.word,
+    };
+    order_command(rt.alloc(), trace, file, order.words, choice, out, err)
 }
 
 /// Whether two paths name one regular file, so that a write to one would lose what is read at the other.

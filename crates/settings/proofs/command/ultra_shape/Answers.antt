@@ -1,5 +1,4 @@
 use Rattle.std.proofs.Common.{◌∙◌, ap, ap₂}
-use Rattle.std.proofs.lemmas.Result.{IfOk-weaker}
 use Rattle.clap.specs.Words.{App, with_subcommand}
 use Rattle.settings.specs.Lines.{ultra_command}
 use Rattle.settings.proofs.command.ultra_shape.Goals as goal
@@ -13,4 +12,6 @@ returns c =
     let dis = c.in_ok-command-3.ensures.shape ∙ ap₂ with_subcommand asm (ap top c.in_ok-dis_shape.ensures.shape) in
     let run = c.in_ok-command-4.ensures.shape ∙ ap₂ with_subcommand dis (ap top c.in_ok-run_shape.ensures.shape) in
     let replay = c.in_ok-command-5.ensures.shape ∙ ap₂ with_subcommand run (ap top c.in_ok-replay_shape.ensures.shape) in
-    IfOk-weaker c.above-6.result _ _ (λ r e. e ∙ ap₂ with_subcommand replay (ap top c.in_ok-explain_shape.ensures.shape)) c.above-6.ensures.shape
+    let explain = c.in_ok-command-6.ensures.shape ∙ ap₂ with_subcommand replay (ap top c.in_ok-explain_shape.ensures.shape) in
+    let order = c.in_ok-command-7.ensures.shape ∙ ap₂ with_subcommand explain (ap top c.in_ok-order_shape.ensures.shape) in
+    order

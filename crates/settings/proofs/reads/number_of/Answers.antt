@@ -1,17 +1,10 @@
-use Rattle.std.proofs.Common.{◌∙◌, ◌<◌, ◌^◌}
-use Rattle.std.specs.Str.Parse.{ParsesUnsigned, ExplainsUnsignedError, HasUnsignedDigitsIfOk}
-use Rattle.clap.specs.Words.{first_of, found_of, one_of, rows_of}
-use Rattle.clap.proofs.WalkLemmas.{one_text-rows}
-use Rattle.settings.proofs.Getters.{number_given}
+use Rattle.clap.specs.Words.{first_of, found_of, rows_of}
+use Rattle.settings.proofs.Getters.{or_default}
 use Rattle.settings.proofs.reads.number_of.Goals as goal
 
 pub returns : goal.returns
 returns c =
     let m = found_of c.args.matches.now in
-    let same = one_text-rows m c.args.id.now in
-    let text = c.requires.text in
-    let small : c.args.high < 2 ^ 32 = c.ranges.high.fits in
     rw c.unwrap_or.ensures
-    (number_given (λ bs r. ParsesUnsigned 32 10 bs r × ExplainsUnsignedError 10 bs r × HasUnsignedDigitsIfOk bs r) c.args.default c.args.low c.args.high
-    (first_of c.args.id.now (rows_of m)) (one_of c.args.id.now (rows_of m)) c.get_one.result text.0 text.1
-    (λ e. c.get_one.ensures.none (same ∙ e)) (λ t e. c.get_one.ensures.value t (same ∙ e)) (λ u x g. g.0) small c.requires.least c.requires.most)
+    (or_default c.args.default c.args.low c.args.high (first_of c.args.id.now (rows_of m)) c.choice_of.result c.choice_of.ensures
+    c.requires.least c.requires.most)

@@ -1,0 +1,5 @@
+pub mod Homing
+pub mod Answering
+pub mod Words
+pub mod Telling
+pub mod Orders

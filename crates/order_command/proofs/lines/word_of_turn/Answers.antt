@@ -1,0 +1,12 @@
+use Rattle.std.proofs.Common.{refl, sym, ◌∙◌}
+use Rattle.std.specs.Prelude.{slice_get}
+use Rattle.machine_runs.specs.Runs.{flat_state}
+use Rattle.order_command.proofs.Words.{read_word}
+use Rattle.order_command.proofs.lines.word_of_turn.Goals as goal
+
+pub returns-in-Some : goal.returns-in-Some
+returns-in-Some c =
+    let m = flat_state c.args.before.now in
+    let laws = c.turns_have_lines.ensures in
+    read_word m c.args.p laws.retired laws.stopped c.shared_words.result c.in-Some.registers.now (slice_get m.processors c.args.p) c.in-Retired.retired
+    c.word_of_instruction.result refl c.in-Some.ensures c.shared_words.ensures.count (sym c.in-Retired.is ∙ c.requires.told) c.word_of_instruction.ensures

@@ -1,0 +1,64 @@
+-- What the command prints: from the bytes of files to the lines of a serial order.
+use Rattle.std.specs.Prelude.{◌≡◌, ℕ, List, ◌++◌, Option}
+use Rattle.flat_machine.specs.declared.config.Config.{Config}
+use Rattle.flat_machine.specs.declared.poke.Entry.{Entry}
+use Rattle.flat_machine.specs.Flat.{flat_run}
+use Rattle.flat_machine.specs.State.{FlatState}
+use Rattle.elf_image.specs.Files.{IsImageOf}
+use Rattle.elf_image.specs.Images.{ImageContents}
+use Rattle.elf_image.specs.Openings.{opening as flat_opening}
+use Rattle.steps.specs.declared.step.Step.{Step}
+use Rattle.trace_file.specs.Traces.{TraceContents, config_of}
+use Rattle.machine_runs.specs.Machines.{MachineLists, IsIdle}
+use Rattle.machine_runs.specs.Runs.{IsOpening, IsReplay, IsSerialized, passed}
+use Rattle.machine_runs.specs.Draining.{drain_steps}
+use Rattle.order_lines.specs.declared.choice.Choice.{Choice}
+use Rattle.order_lines.specs.Lines.{lines_of}
+use Rattle.run_commands.specs.Commands.{IsTraceOf, StandsAfter}
+use Rattle.run_commands.specs.Reports.{HasFlatFaulted}
+
+-- A run of the machine of this size that opens on the image: it has taken these steps, each of which did something, no reference
+-- is open behind them, and one serial order of whole instructions explains them.
+pub record IsExplainedRun (c : Config) (image : ImageContents) (steps : List Step) : Type 0 where
+  pub opening : MachineLists
+  pub opens : IsOpening c image opening
+  pub machine : MachineLists
+  pub replay : IsReplay opening steps machine
+  pub idle : IsIdle machine
+  pub serialized : IsSerialized opening steps machine
+
+-- the serial order of such a run
+abbrev pub order_of : {c : Config} {image : ImageContents} {steps : List Step} → IsExplainedRun c image steps → List Entry
+order_of {steps = steps} run = (passed run.opening steps).order
+
+-- Behind the steps stand those of a drain.
+pub record IsBroughtHome (c : Config) (image : ImageContents) (steps all : List Step) : Type 0 where
+  pub before : MachineLists
+  pub stands : StandsAfter c image steps before
+  pub is : all ≡ steps ++ drain_steps before
+  pub run : IsExplainedRun c image all
+
+-- These are the chosen lines of the flat machine of this size that takes the entries, one after another, and the exit status
+-- tells whether a fault has stopped a processor of it.
+pub record AreFlatLines (c : Config) (opening : FlatState) (order : List Entry) (choice : Choice) (text : List ℕ) (status : ℕ) : Type 0 where
+  pub are : text ≡ lines_of choice opening order
+  pub faulted : HasFlatFaulted c (flat_run opening order) → status ≡ 1
+  pub sound : (HasFlatFaulted c (flat_run opening order) → ⊥) → status ≡ 0
+
+-- These are the chosen lines of the serial order that explains the steps of a trace and those of a drain.
+pub record AreOrderLines (c : Config) (image : ImageContents) (steps : List Step) (choice : Choice) (text : List ℕ) (status : ℕ) : Type 0 where
+  pub all : List Step
+  pub home : IsBroughtHome c image steps all
+  pub flat : AreFlatLines c (flat_opening c image.layout) (order_of home.run) choice text status
+
+-- These are the lines of the order of a trace that is replayed, and then drained, on the image that a file means.
+pub record IsOrder (shared_words : ℕ) (choice : Choice) (trace known : Option (List ℕ)) (status : ℕ) (text : List ℕ) : Type 0 where
+  pub steps : TraceContents
+  pub read : IsTraceOf trace steps
+  pub image : ImageContents
+  pub meant : IsImageOf shared_words known image
+  pub lines : AreOrderLines (config_of steps shared_words) image steps.steps choice text status
+
+-- the lines, with whatever exit status
+abbrev pub IsSomeOrder : (shared_words : ℕ) → Choice → (trace known : Option (List ℕ)) → (text : List ℕ) → Type 0
+IsSomeOrder shared_words choice trace known text = (status : ℕ) × IsOrder shared_words choice trace known status text

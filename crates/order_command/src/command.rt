@@ -1,0 +1,103 @@
+//! `ultra order`: from the bytes of a trace and of an image to the lines of a serial order.
+
+ghost use Rattle.std.specs.Prelude.{◌≡◌, ◌≤◌, ◌⊎◌, true, false, IfOk, IfErr, IsErr, IsErrOf, OnErr, string_bytes};
+ghost use Rattle.command_io.specs.Printing.{IsPrinted, IsTold};
+ghost use Rattle.run_commands.specs.Causes.{IsNotPrinted, IsNotTaken};
+ghost use Rattle.run_commands.specs.Commands.{known_of};
+ghost use Rattle.order_command.specs.Orders.{AreOrderLines, IsOrder, IsSomeOrder};
+
+use crate::lines::order_text;
+use crate::machines::{brought_home, entries_of, opened};
+use command_io::{Fault, image_of, print, tell};
+use elf_image::Image;
+use flat_machine::Config;
+use link::LinkWrite;
+use order_lines::Choice;
+use run_commands::{exit_status, trace_of};
+use std::alloc::Global;
+use std::io;
+use std::io::{Read, Write};
+use steps::Step;
+
+/// Takes the steps of the trace that a file is, on the machine of the trace's size, and of so many shared
+/// words, that opens on the image that another file is; then takes steps until no reference is open, and
+/// prints the serial order of whole instructions that explains all of these steps: of each entry that is
+/// chosen the line of what it does in the flat machine that has taken those before it. That the image's file
+/// cannot be opened is told where the trace has no fault.
+///
+/// Answers the exit status: 0 where the lines are printed, 1 where they are and a processor is faulted, else
+/// that of the fault that is told on standard error. A fault is told in this order: of the trace, of the
+/// image, of the machine's size, of a step that stalls, of standard output.
+pub fn order_command<T: Read + Drop, R: Read + Drop, W: LinkWrite, E: Write>(
+    alloc: Global,
+    trace: T,
+    file: io::Result<R>,
+    shared_words: u32,
+    choice: Choice,
+    out: &mut W,
+    err: &mut E,
+) -> u8
+    requires { W.has_failed out.old ≡ false }
+    ensures printed { result ≤ 1 → IsPrinted (IsOrder shared_words choice (T.remaining trace) (known_of R.remaining file) result) (W.contents out.old)
+        (W.contents out.new) }
+    ensures told { 2 ≤ result → IsTold W.has_failed Fault.Link (IsErr file)
+        (IsNotPrinted (IsSomeOrder shared_words choice (T.remaining trace) (known_of R.remaining file)) shared_words (T.remaining trace)
+        (known_of R.remaining file) (W.contents out.old) (W.contents out.new)) out.old out.new result }
+    ensures failed { W.has_failed out.new ≡ true → result ≡ 3 }
+{
+    match carried_out(alloc, trace, file, shared_words, choice, out) {
+        Ok(status) => status,
+        Err(fault) => tell(fault, err),
+    }
+}
+
+/// Carries the command out.
+fn carried_out<T: Read + Drop, R: Read + Drop, W: LinkWrite>(
+    alloc: Global,
+    trace: T,
+    file: io::Result<R>,
+    shared_words: u32,
+    choice: Choice,
+    out: &mut W,
+) -> Result<u8, Fault>
+    requires { W.has_failed out.old ≡ false }
+    ensures failed { W.has_failed out.new ≡ true → IsErrOf result Fault.Link }
+    ensures link { IsErrOf result Fault.Link → IsErr file ⊎ (W.has_failed out.new ≡ true) }
+    ensures printed { IfOk result (λ status. IsPrinted (IsOrder shared_words choice (T.remaining trace) (known_of R.remaining file) status)
+        (W.contents out.old) (W.contents out.new)) }
+    ensures low { IfOk result (λ status. status ≤ 1) }
+    ensures told { IfErr result (IsNotPrinted (IsSomeOrder shared_words choice (T.remaining trace) (known_of R.remaining file)) shared_words
+        (T.remaining trace) (known_of R.remaining file) (W.contents out.old) (W.contents out.new)) }
+    ensures silent { OnErr result (W.has_failed out.new ≡ false → out.new ≡ out.old) }
+{
+    let trace = trace_of(alloc, trace)?;
+    let config = trace.config(shared_words);
+    let Ok(file) = file else {
+        return Err(Fault::Link);
+    };
+    let image = image_of(alloc, file, &config)?;
+    let (text, status) = ordered(alloc, &image, config, trace.steps(), choice)?;
+    print(out, text.as_str())?;
+    Ok(status)
+}
+
+/// The chosen lines of the order of these steps and a drain, and the exit status.
+fn ordered(
+    alloc: Global,
+    image: &Image,
+    config: Config,
+    steps: &[Step],
+    choice: Choice,
+) -> Result<(String, u8), Fault>
+    requires words { image.now.shared_words ≡ config.shared_words }
+    ensures lines { IfOk result (λ done. AreOrderLines config image.now steps.now choice (string_bytes done.0) done.1) }
+    ensures low { IfOk result (λ done. done.1 ≤ 1) }
+    ensures refused { IfErr result (IsNotTaken config image.now steps.now) }
+{
+    let all = brought_home(alloc, image, config, steps)?;
+    let entries = entries_of(alloc, image, config, all.as_slice())?;
+    let mut before = opened(alloc, image, config)?;
+    let mut after = opened(alloc, image, config)?;
+    let text = order_text(alloc, &mut before, &mut after, entries.as_slice(), choice)?;
+    Ok((text, exit_status(&before)))
+}

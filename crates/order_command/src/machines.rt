@@ -1,0 +1,93 @@
+//! The steps of a whole run, and the serial order that they give.
+
+ghost use Rattle.std.specs.Prelude.{◌≡◌, ◌++◌, IfOk, IfErr, OnOk};
+ghost use Rattle.machine_runs.specs.Machines.{MachineLists, IsIdle};
+ghost use Rattle.machine_runs.specs.Draining.{drain_steps};
+ghost use Rattle.machine_runs.specs.Runs.{IsOpening, IsReplay, passed};
+ghost use Rattle.run_commands.specs.Causes.{IsFaultOfSize, IsNotTaken};
+ghost use Rattle.order_command.specs.Orders.{IsBroughtHome};
+
+use command_io::Fault;
+use elf_image::Image;
+use flat_machine::{Config, Entry};
+use machine_runs::{Machine, drain_step, most_moves, order, runs_are_serialized};
+use run_commands::machine_of;
+use std::alloc::{AllocError, Global};
+use steps::Step;
+use trace_replay::replay;
+
+/// The steps of a trace, and behind them those of a drain, on the machine of this size that opens on the image. The image
+/// was read for as many shared words.
+///
+/// # Errors
+///
+/// [`Fault::Size`] where the size is out of its limits, [`Fault::Stalled`] at the first step of the trace that stalls,
+/// and [`Fault::Memory`].
+pub fn brought_home(
+    alloc: Global,
+    image: &Image,
+    config: Config,
+    steps: &[Step],
+) -> Result<Vec<Step>, Fault>
+    requires words { image.now.shared_words ≡ config.shared_words }
+    ensures home { IfOk result (λ all. IsBroughtHome config image.now steps.now all.items) }
+    ensures refused { IfErr result (IsNotTaken config image.now steps.now) }
+{
+    let mut machine = opened(alloc, image, config)?;
+    // The proof needs that the machine is one.
+    let _ = machine.is_idle();
+    if let Err(stalled) = replay(&mut machine, steps) {
+        return Err(Fault::Stalled(stalled.place));
+    }
+    let mut all = Vec::from_slice(alloc, steps)?;
+    push_drain(&mut machine, &mut all)?;
+    runs_are_serialized();
+    Ok(all)
+}
+
+/// Takes steps until no reference is open, as [`machine_runs::drain`] does, and appends them.
+fn push_drain(machine: &mut Machine, steps: &mut Vec<Step>) -> Result<(), AllocError>
+    ensures idle { OnOk result (IsIdle machine.new) }
+    ensures steps { OnOk result (steps.new.items ≡ steps.old.items ++ drain_steps machine.old) }
+    ensures replay { OnOk result ((opening : MachineLists) → IsReplay opening steps.old.items machine.old → IsReplay opening steps.new.items machine.new) }
+{
+    // The proof needs that the machine is one.
+    let _ = machine.is_idle();
+    for _ in 0..most_moves(machine) {
+        let Some(step) = drain_step(machine) else {
+            return Ok(());
+        };
+        machine.apply(step);
+        steps.push(step)?;
+    }
+    Ok(())
+}
+
+/// The serial order that these steps give, on a machine of this size that opens on the image. The image was read for as
+/// many shared words.
+///
+/// # Errors
+///
+/// [`Fault::Size`] where the size is out of its limits, and [`Fault::Memory`].
+pub fn entries_of(
+    alloc: Global,
+    image: &Image,
+    config: Config,
+    steps: &[Step],
+) -> Result<Vec<Entry>, Fault>
+    requires words { image.now.shared_words ≡ config.shared_words }
+    ensures order { IfOk result (λ entries. (opening : MachineLists) → IsOpening config image.now opening → entries.items ≡ (passed opening steps.now).order) }
+    ensures refused { IfErr result (IsFaultOfSize config) }
+{
+    let mut machine = opened(alloc, image, config)?;
+    Ok(order(&mut machine, alloc, steps)?)
+}
+
+/// A machine of this size that opens on a copy of the image, which was read for as many shared words.
+pub(crate) fn opened(alloc: Global, image: &Image, config: Config) -> Result<Machine, Fault>
+    requires words { image.now.shared_words ≡ config.shared_words }
+    ensures opening { IfOk result (IsOpening config image.now) }
+    ensures refused { IfErr result (IsFaultOfSize config) }
+{
+    machine_of(alloc, image.copy(alloc)?, config)
+}

@@ -1,0 +1,34 @@
+//! Entries of a serial order, taken one at a time.
+
+ghost use Rattle.std.specs.Prelude.{◌≡◌};
+ghost use Rattle.flat_machine.specs.Flat.{is_lawful};
+ghost use Rattle.machine_program.specs.Processors.{is_lawful_poke};
+ghost use Rattle.machine_runs.specs.Machines.{IsIdle};
+ghost use Rattle.machine_runs.specs.Runs.{flat_state};
+ghost use Rattle.order_command.specs.Taking.{HasTaken};
+
+use flat_machine::{Entry, Poke};
+use machine_runs::{Machine, flat_states_are_read, machine_is_sound, one};
+use steps::{Outcome, Step};
+
+/// Takes an entry: a processor's next instruction, whole, or a poke. No reference is open.
+pub(crate) fn carried_out(machine: &mut Machine, entry: Entry) -> Outcome
+    requires { IsIdle machine.old }
+    ensures { HasTaken machine.old entry result machine.new }
+{
+    match entry {
+        Entry::Processor(p) => one(machine, p),
+        Entry::Poke(poke) => {
+            lawful_alike(machine, poke);
+            machine.apply(Step::Poke(poke))
+        }
+    }
+}
+
+/// A poke is lawful for a machine where it is for the flat machine: the proof of [`carried_out`] needs it said.
+fn lawful_alike(machine: &Machine, poke: Poke)
+    ensures { is_lawful_poke machine.now.config poke ≡ is_lawful (flat_state machine.now) poke }
+{
+    machine_is_sound(machine);
+    flat_states_are_read();
+}

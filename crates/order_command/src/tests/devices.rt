@@ -1,0 +1,73 @@
+//! A write that fails, at each call; and each allocation of a test is to be refused in turn.
+
+use super::{ALL, ONE_TURN};
+use crate::order_command;
+use link::Meter;
+use std::test::Fail;
+use test_devices::{Deaf, EBREAK, Sink, Source};
+
+/// The line of an image of `ebreak` on one processor.
+const STOPPED: &[u8] = b"0 0 00010000 fault 8\n";
+
+/// A beginning of the lines is printed, and standard output comes before the processor's fault.
+#[test]
+fn lines_that_cannot_be_printed(rt: HostRuntime) {
+    let alloc = rt.alloc();
+    for fails_at in 0..24 {
+        let mut out = Meter::new(Sink::new(Vec::new(alloc), fails_at));
+        let mut err = Sink::new(Vec::new(alloc), 0);
+        let trace = ONE_TURN.as_slice();
+        let file = Ok(EBREAK.as_slice());
+        let status = order_command(alloc, trace, file, 1, ALL, &mut out, &mut err);
+        if 1 <= fails_at && fails_at <= 21 {
+            assert_eq!(rt;
+                Some(out.device.bytes.as_slice()),
+                STOPPED.get(..fails_at - 1)
+            );
+            assert_eq!(rt; err.bytes.as_slice(), b"ultra: link\n".as_slice());
+            assert_eq!(rt; status, 3, "call {fails_at}");
+        } else {
+            assert_eq!(rt; out.device.bytes.as_slice(), STOPPED);
+            assert_eq!(rt; status, 1, "call {fails_at}");
+        }
+    }
+}
+
+/// A trace and an image that cannot be read. Where standard error fails too, the exit status alone tells the fault.
+#[test]
+fn files_that_cannot_be_read(rt: HostRuntime) {
+    let alloc = rt.alloc();
+    let mut out = Meter::new(Sink::new(Vec::new(alloc), 0));
+    let mut err = Sink::new(Vec::new(alloc), 0);
+    let trace = Source::new(&ONE_TURN, 5);
+    let file = Ok(EBREAK.as_slice());
+    let status = order_command(alloc, trace, file, 1, ALL, &mut out, &mut err);
+    assert_eq!(rt; err.bytes.as_slice(), b"ultra: X5\n".as_slice());
+    assert_eq!(rt; out.device.bytes.len(), 0);
+    assert_eq!(rt; status, 3);
+    let mut out = Meter::new(Sink::new(Vec::new(alloc), 0));
+    let trace = ONE_TURN.as_slice();
+    let file = Ok(Source::new(&EBREAK, 5));
+    let status = order_command(alloc, trace, file, 1, ALL, &mut out, &mut Deaf);
+    assert_eq!(rt; out.device.bytes.len(), 0);
+    assert_eq!(rt; status, 3);
+}
+
+#[test]
+fn short_of_memory(rt: HostRuntime) -> Result<(), Fail> {
+    let alloc = rt.alloc();
+    let mut out = Meter::new(Sink::new(Vec::with_capacity(alloc, 64)?, 0));
+    let mut err = Sink::new(Vec::with_capacity(alloc, 64)?, 0);
+    let trace = ONE_TURN.as_slice();
+    let file = Ok(EBREAK.as_slice());
+    let status = order_command(alloc, trace, file, 1, ALL, &mut out, &mut err);
+    if status == 1 {
+        assert_eq!(rt; out.device.bytes.as_slice(), STOPPED);
+        assert_eq!(rt; err.bytes.len(), 0);
+    } else {
+        assert_eq!(rt; status, 4);
+        assert_eq!(rt; out.device.bytes.len(), 0);
+        assert_eq!(rt; err.bytes.as_slice(), b"ultra: memory\n".as_slice());
+    }
+    Ok(())
+}
