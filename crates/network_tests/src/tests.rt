@@ -2,9 +2,12 @@
 
 ghost use Rattle.std.specs.Prelude.{◌≡◌};
 
+mod both;
 mod buffers;
+mod cells;
 mod indexed;
 mod plain;
+mod pooled;
 mod random;
 mod runs;
 mod switches;

@@ -9,13 +9,18 @@ use std::test::Fail;
 
 /// Random numbers, by xorshift.
 #[derive(Clone, Copy, Drop)]
-struct Random {
+pub struct Random {
     state: u32,
 }
 
 impl Random {
+    /// Those that begin with a number, which is not 0.
+    pub fn new(state: u32) -> Self {
+        Random { state }
+    }
+
     /// The next number, below `end` where that is not 0.
-    fn below(&mut self, end: u32) -> u32 {
+    pub fn below(&mut self, end: u32) -> u32 {
         self.state ^= self.state << 13;
         self.state ^= self.state >> 17;
         self.state ^= self.state << 5;
@@ -24,7 +29,7 @@ impl Random {
 }
 
 /// A function of one of four kinds.
-fn phi_of(kind: u32, value: u32) -> Phi {
+pub fn phi_of(kind: u32, value: u32) -> Phi {
     match kind {
         0 => Phi::Bits {
             and: u32::MAX,
@@ -182,7 +187,7 @@ fn shows_same_messages(network: &Network, plain: &mut Plain) -> Option<bool> {
 
 #[test]
 fn moves_as_a_plain_network_does(rt: HostRuntime) -> Result<(), Fail> {
-    let mut random = Random { state: 0x9E37_79B9 };
+    let mut random = Random::new(0x9E37_79B9);
     for k in 0..7_u8 {
         for (c, b) in [(2_u8, 0_u8), (2, 1), (3, 2), (4, 4), (16, 16)] {
             assert!(rt; k <= 6 && c >= 2 && c <= 16 && b <= 16);

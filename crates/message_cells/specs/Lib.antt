@@ -1,0 +1,4 @@
+pub mod Links
+pub mod Walks
+pub mod Pools
+pub mod Cells

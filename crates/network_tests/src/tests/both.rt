@@ -1,0 +1,201 @@
+//! Long random runs of the network with rings and of the network with a pool, side by side.
+
+use super::random::{Random, phi_of};
+use super::request;
+use messages::Reply;
+use omega_network::Network;
+use pooled_network::Network as Pooled;
+use std::test::Fail;
+
+/// The two networks, with the words of their modules and which processors wait for a reply.
+#[derive(Drop)]
+struct Both {
+    rings: Network,
+    pooled: Pooled,
+    random: Random,
+    words: [u32; 256],
+    is_open: [bool; 64],
+}
+
+impl Both {
+    /// A number of a wire.
+    fn wire(&mut self) -> u8 {
+        let wires = u32::from(self.rings.wires());
+        (self.random.below(wires) & 63) as u8
+    }
+
+    /// A processor that waits for nothing puts a request into its slot. Most are for word 0.
+    fn inject(&mut self) -> bool {
+        let p = self.wire();
+        if self.is_open[usize::from(p & 63)] {
+            return true;
+        }
+        let word = match self.random.below(4) {
+            0 => self.random.below(4),
+            1 => u32::from(self.rings.wires()),
+            _ => 0,
+        };
+        let (kind, value) = (self.random.below(5), self.random.below(100));
+        self.is_open[usize::from(p & 63)] = true;
+        self.inject_into_both(p, word, kind, value)
+    }
+
+    /// Puts a request into its leader's slot. Nothing names who waits for nothing.
+    fn inject_into_both(&mut self, p: u8, word: u32, kind: u32, value: u32) -> bool {
+        if p >= self.rings.wires()
+            || p >= self.pooled.wires()
+            || !self.rings.slot_is_free(p)
+            || !self.pooled.slot_is_free(p)
+            || self.pooled.names(p)
+        {
+            return false;
+        }
+        self.rings.inject(p, request(p, word, phi_of(kind, value)));
+        self.pooled.inject(p, request(p, word, phi_of(kind, value)));
+        true
+    }
+
+    /// One move, up or down.
+    fn moved(&mut self) -> bool {
+        let wire = self.wire();
+        let stages = self.rings.stages();
+        if stages == 0 {
+            return true;
+        }
+        let stage = (self.random.below(u32::from(stages)) & 7) as u8;
+        if stage >= stages
+            || stage >= self.pooled.stages()
+            || wire >= self.rings.wires()
+            || wire >= self.pooled.wires()
+        {
+            return false;
+        }
+        if self.random.below(2) == 0 {
+            self.rings.up(stage, wire) == self.pooled.up(stage, wire)
+        } else {
+            self.rings.down(stage, wire) == self.pooled.down(stage, wire)
+        }
+    }
+
+    /// A module serves a request, if it has one and its slot is free.
+    fn serve(&mut self) -> bool {
+        let m = self.wire();
+        if m >= self.rings.wires() || m >= self.pooled.wires() {
+            return false;
+        }
+        if !self.rings.module_is_free(m) || !self.pooled.module_is_free(m) {
+            return self.rings.module_is_free(m) == self.pooled.module_is_free(m);
+        }
+        let shown = self.pooled.module_front(m);
+        let taken = self.rings.module_take(m);
+        if self.pooled.module_take(m) != taken || shown != taken {
+            return false;
+        }
+        let Some(request) = taken else {
+            return true;
+        };
+        let word = &mut self.words[(request.word & 255) as usize];
+        let reply = Reply {
+            leader: request.leader,
+            value: *word,
+        };
+        *word = request.phi.apply(*word);
+        self.reply_to_both(m, reply)
+    }
+
+    /// Puts a reply into a module's slot.
+    fn reply_to_both(&mut self, m: u8, reply: Reply) -> bool {
+        if m >= self.rings.wires()
+            || m >= self.pooled.wires()
+            || !self.rings.module_is_free(m)
+            || !self.pooled.module_is_free(m)
+            || reply.leader >= self.pooled.wires()
+            || !self.pooled.may_reply(reply.leader)
+        {
+            return false;
+        }
+        self.rings.module_reply(m, reply);
+        self.pooled.module_reply(m, reply);
+        true
+    }
+
+    /// A processor takes the reply on its wire, if there is one.
+    fn take(&mut self) -> bool {
+        let p = self.wire();
+        if p >= self.rings.wires() || p >= self.pooled.wires() {
+            return false;
+        }
+        let shown = self.pooled.port_reply(p);
+        let taken = self.rings.port_take(p);
+        if let Some(reply) = taken {
+            self.is_open[usize::from(reply.leader & 63)] = false;
+        }
+        self.pooled.port_take(p) == taken && shown == taken
+    }
+
+    /// Whether both answer the same.
+    fn step(&mut self, injects: bool) -> bool {
+        (!injects || self.inject()) && self.moved() && self.serve() && self.take()
+    }
+
+    /// Whether messages stand on the same wires in both, before each stage and at the modules, and just those who wait
+    /// are named.
+    fn is_same(&self) -> bool {
+        for stage in 0..=self.rings.stages() {
+            for wire in 0..self.rings.wires() {
+                if stage > self.pooled.stages()
+                    || wire >= self.pooled.wires()
+                    || self.rings.has_request(stage, wire) != self.pooled.has_request(stage, wire)
+                    || self.rings.has_reply(stage, wire) != self.pooled.has_reply(stage, wire)
+                {
+                    return false;
+                }
+            }
+        }
+        for p in 0..self.rings.wires() {
+            let is_open = self.is_open[usize::from(p & 63)];
+            if self.pooled.names(p) != is_open || self.pooled.may_reply(p) == is_open {
+                return false;
+            }
+        }
+        self.rings.is_empty() == self.pooled.is_empty()
+    }
+}
+
+/// The room of the queues and of the wait buffers, by the number of stages.
+static SIZES: [(u8, u8); 7] = [(2, 1), (2, 1), (2, 0), (2, 1), (3, 2), (16, 16), (4, 4)];
+
+#[test]
+fn rings_and_a_pool_move_alike(rt: HostRuntime) -> Result<(), Fail> {
+    let mut random = Random::new(0x9E37_79B9);
+    for k in 0..7_u8 {
+        let (c, b) = SIZES[usize::from(k)];
+        assert!(rt; k <= 6 && c >= 2 && c <= 16 && b <= 16);
+        let mut both = Both {
+            rings: Network::new(rt.alloc(), k, c, b)?,
+            pooled: Pooled::new(rt.alloc(), k, c, b)?,
+            random,
+            words: [0; 256],
+            is_open: [false; 64],
+        };
+        assert!(rt; both.pooled.is_empty());
+        for i in 0..10_000 {
+            assert!(rt; both.step(true), "step {i} with k {k}");
+            if i % 500 == 0 {
+                assert!(rt; both.is_same(), "after {i} with k {k}");
+            }
+        }
+        for i in 0..100_000 {
+            assert!(rt; both.step(false), "the end with k {k}");
+            if i % 500 == 0 {
+                assert!(rt; both.is_same(), "the end with k {k}");
+                if both.pooled.is_empty() {
+                    break;
+                }
+            }
+        }
+        assert!(rt; both.pooled.is_empty(), "with k {k}");
+        random = both.random;
+    }
+    Ok(())
+}

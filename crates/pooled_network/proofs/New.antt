@@ -1,0 +1,111 @@
+-- The switches of a new network, and that nothing stands in it.
+use Rattle.std.proofs.Common.{◌≡◌, ℕ, zero, suc, ◌+◌, ◌*◌, ◌/◌, ◌%◌, ◌^◌, ◌<◌, ◌≤◌, List, [], ◌∷◌, ◌++◌, length, get_or, Some, ◌⊎◌, inl, inr, refl, sym, ap}
+use Rattle.std.proofs.Common.{◌∙◌, subst}
+use Rattle.std.proofs.Common.{arith, length-append}
+use Rattle.std.specs.Prelude.{All, replicate, slice_get}
+use Rattle.std.proofs.lemmas.Bool.{cases_lt}
+use Rattle.std.proofs.lemmas.List.{get_or-replicate, get_or_past, length-replicate}
+use Rattle.std.proofs.lemmas.Nat.{div-mul-add, mod-mul-add}
+use Rattle.std.proofs.lemmas.Option.{get_or_from_slice_get}
+use Rattle.messages.specs.declared.message.Record.{Record}
+use Rattle.messages.specs.declared.message.Reply.{Reply}
+use Rattle.messages.specs.declared.message.Request.{Request}
+use Rattle.messages.specs.Places.{ApartBy, In}
+use Rattle.messages.specs.Network.{IsEmptyNet}
+use Rattle.message_cells.specs.Pools.{PoolLists, empty_pool, replies_at, requests_at}
+use Rattle.pooled_switch.specs.Switches.{SwitchState, records_at}
+use Rattle.pooled_network.specs.Networks.{AreNew, HasNoMessage, HasNoRecord, IsNetwork, NetworkLists, half, net_of, no_switch, records_behind, second_of}
+use Rattle.pooled_network.specs.Networks.{switch_at, the_switch}
+use Rattle.pooled_network.proofs.Empty.{empty_net}
+use Rattle.pooled_network.proofs.Switches.{place_within}
+
+-- the first switches of a new network
+pub record SoFar (k c b count : ℕ) (switches : List SwitchState) : Type 0 where
+  pub all : length switches ≡ count
+  pub each : (i : ℕ) → i < length switches → slice_get switches i ≡ Some (the_switch k c b (i / half k) (i % half k) [] [])
+
+get_left : {X : Type 0} (xs ys : List X) (i : ℕ) → i < length xs → slice_get (xs ++ ys) i ≡ slice_get xs i
+get_left [] ys i l = absurd (omega arith)
+get_left (x ∷ xs) ys zero l = refl
+get_left (x ∷ xs) ys (suc i) l = get_left xs ys i (omega arith)
+
+get_last : {X : Type 0} (xs : List X) (x : X) → slice_get (xs ++ x ∷ []) (length xs) ≡ Some x
+get_last [] x = refl
+get_last (y ∷ ys) x = get_last ys x
+
+pub none_yet : (k c b : ℕ) → SoFar k c b 0 []
+none_yet k c b = record { all = refl; each = λ i l. absurd (omega arith) }
+
+pub one_more : (k c b stage number : ℕ) (switches : List SwitchState) → number < half k → SoFar k c b (stage * half k + number) switches
+    → SoFar k c b (stage * half k + (number + 1)) (switches ++ the_switch k c b stage number [] [] ∷ [])
+one_more k c b stage number switches within so_far = record {
+  all = length-append switches (the_switch k c b stage number [] [] ∷ []) ∙ (let all = so_far.all in omega arith);
+  each = λ i l. go i l (cases_lt i (length switches));
+}
+  where
+    last : (stage * half k + number) / half k ≡ stage
+    last = div-mul-add stage (half k) number within
+
+    rest : (stage * half k + number) % half k ≡ number
+    rest = mod-mul-add stage (half k) number within
+
+    go : (i : ℕ) → i < length (switches ++ the_switch k c b stage number [] [] ∷ []) → (i < length switches) ⊎ (length switches ≤ i)
+        → slice_get (switches ++ the_switch k c b stage number [] [] ∷ []) i ≡ Some (the_switch k c b (i / half k) (i % half k) [] [])
+    go i l (inl before) = get_left switches (the_switch k c b stage number [] [] ∷ []) i before ∙ so_far.each i before
+    go i l (inr past) =
+        let longer = length-append switches (the_switch k c b stage number [] [] ∷ []) in
+        let here : i ≡ length switches = omega arith in
+        let stage_is : i / half k ≡ stage = ap (λ p. p / half k) (here ∙ so_far.all) ∙ last in
+        let number_is : i % half k ≡ number = ap (λ p. p % half k) (here ∙ so_far.all) ∙ rest in
+        ap (slice_get (switches ++ the_switch k c b stage number [] [] ∷ [])) here ∙ get_last switches (the_switch k c b stage number [] [])
+        ∙ (λ j. Some (the_switch k c b (sym stage_is j) (sym number_is j) [] []))
+
+pub stage_done : (k c b stage : ℕ) (switches : List SwitchState) → SoFar k c b (stage * half k + half k) switches → SoFar k c b ((stage + 1) * half k) switches
+stage_done k c b stage switches so_far = record { all = so_far.all ∙ omega arith; each = so_far.each }
+
+pub all_done : (k c b count : ℕ) (switches : List SwitchState) → count ≡ k * half k → SoFar k c b count switches → AreNew k c b switches
+all_done k c b count switches e so_far = record { all = so_far.all ∙ e; each = so_far.each }
+
+-- ---- a network of them
+
+empty_at : {X : Type 0} (n q : ℕ) → get_or {A = List X} (replicate n []) q [] ≡ []
+empty_at {X} n q = go (cases_lt q n)
+  where
+    go : (q < n) ⊎ (n ≤ q) → get_or {A = List X} (replicate n []) q [] ≡ []
+    go (inl l) = get_or-replicate n q [] [] l
+    go (inr past) = get_or_past (replicate n []) q [] (let all = length-replicate {A = List X} n [] in omega arith)
+
+module _ (n : NetworkLists) (new : AreNew n.k n.c n.b n.switches) (cells queues : ℕ) (pool : n.pool ≡ empty_pool cells queues queues) where
+  no_message : HasNoMessage n.pool
+  no_message q = subst (λ (p : PoolLists). (requests_at p q ≡ []) × (replies_at p q ≡ [])) (sym pool) (empty_at queues q, empty_at queues q)
+
+  no_record : All HasNoRecord n.switches
+  no_record i d l = subst HasNoRecord (sym (get_or_from_slice_get n.switches i _ d (new.each i l))) (refl, refl)
+
+  pub new_empty : IsEmptyNet (net_of n)
+  new_empty = empty_net n no_message no_record
+
+  is_new : (s i : ℕ) → s < n.k → i < half n.k → switch_at n s i ≡ the_switch n.k n.c n.b s i [] []
+  is_new s i l m =
+      get_or_from_slice_get n.switches (s * half n.k + i) _ no_switch
+      (new.each (s * half n.k + i) (place_within n.k s i (length n.switches) l m new.all))
+      ∙ (λ j. the_switch n.k n.c n.b (div-mul-add s (half n.k) i m j) (mod-mul-add s (half n.k) i m j) [] [])
+
+  pub new_network : n.k ≤ 6 → cells ≡ 2 ^ n.k → queues ≡ suc n.k * 2 ^ n.k → IsNetwork n
+  new_network few cells_is queues_is = record {
+    few = few;
+    all_cells = ap (λ (p : PoolLists). p.cells) pool ∙ cells_is;
+    all_requests = ap (λ (p : PoolLists). length p.requests) pool ∙ length-replicate {A = List Request} queues [] ∙ queues_is;
+    all_replies = ap (λ (p : PoolLists). length p.replies) pool ∙ length-replicate {A = List Reply} queues [] ∙ queues_is;
+    all_switches = new.all;
+    each_switch = λ s i l m. subst (λ (t : SwitchState). t ≡ the_switch n.k n.c n.b s i (records_at t 0) (records_at t 1)) (sym (is_new s i l m)) refl;
+    seconds = record {
+      cells = λ s w e m. absurd (none s w e m);
+      free = λ s w e m. absurd (none s w e m);
+      apart = λ s w. subst (ApartBy second_of) (sym ((new_empty s w).1)) tt;
+      once = λ s w s' w' e f m o same. absurd (none s w e m);
+    };
+  }
+    where
+      none : (s w : ℕ) (e : Record) → In e (records_behind n s w) → ⊥
+      none s w e m = subst (In e) ((new_empty s w).1) m

@@ -1,0 +1,13 @@
+use Rattle.std.proofs.Common.{◌≡◌}
+use Rattle.std.specs.Prelude.{slice_get}
+use Rattle.message_cells.specs.Pools.{requests_at}
+use Rattle.pooled_switch.specs.Outputs.{most_marks}
+use Rattle.pooled_switch.proofs.Combinations.{NoneBefore}
+use Rattle.pooled_switch.proofs.output.first_partner.Given as goal
+
+-- the next entry is at hand, and none before it combines with the request
+abbrev pub invariant-loop-place : goal.invariant-loop-place
+invariant-loop-place l = record {
+  here : l.next ≡ slice_get (requests_at l.pool l.queue) l.place;
+  none : NoneBefore most_marks l.request (requests_at l.pool l.queue) l.place;
+}

@@ -1,0 +1,65 @@
+-- What an output does with a request that comes, case by case.
+use Rattle.std.specs.Prelude.{◌≡◌, ◌↔◌, ◌<◌, ◌≤◌, ℕ, List, [], ◌∷◌, ◌++◌, length, slice_get, slice_set, Some}
+use Rattle.phi_algebra.specs.declared.phi.Phi.{Phi}
+use Rattle.phi_algebra.specs.Composition.{composed}
+use Rattle.messages.specs.declared.message.Request.{Request}
+use Rattle.pooled_switch.specs.Outputs.{OutputLists, accepted}
+use Rattle.pooled_switch.specs.declared.answers.Accepted.TheVariants.{Queued, Combined, Full}
+
+-- A request combines with this entry of a queue: the entry was not yet combined in it, has the request's word, and its
+-- function, followed by the request's, is phi.
+pub record CombinesAt (queue : List Request) (x : Request) (place : ℕ) (entry : Request) (phi : Phi) : Type 0 where
+  pub there : slice_get queue place ≡ Some entry
+  pub fresh : entry.marks ≡ 0
+  pub same_word : entry.word ≡ x.word
+  pub composes : composed entry.phi x.phi ≡ Some phi
+
+-- a record is free, and some entry combines with the request
+pub record CanCombine (o : OutputLists) (x : Request) : Type 0 where
+  pub free : length o.records < o.b
+  pub place : ℕ
+  pub entry : Request
+  pub phi : Phi
+  pub combines : CombinesAt o.requests x place entry phi
+
+-- no entry in front of this place does
+abbrev pub NoneInFront : List Request → Request → ℕ → Type 0
+NoneInFront queue x place = (i : ℕ) (e : Request) (phi : Phi) → i < place → CombinesAt queue x i e phi → ⊥
+
+-- A request is combined exactly where a record is free and some entry combines with it,
+abbrev pub CombinesWhereItCan : Type 0
+CombinesWhereItCan = (o : OutputLists) (x : Request) →
+    ((leader : ℕ) × ((accepted o x).0 ≡ Combined leader)) ↔ CanCombine o x
+
+-- and with the first such entry, which leads both, has the function of both, and is marked. The record has the function
+-- that the entry had, and who came second.
+abbrev pub CombinesWithTheFirst : Type 0
+CombinesWithTheFirst = (o : OutputLists) (x : Request) (i : ℕ) (e : Request) (phi : Phi) →
+    length o.records < o.b → CombinesAt o.requests x i e phi → NoneInFront o.requests x i →
+    accepted o x ≡ (
+      Combined e.leader,
+      record {
+        c = o.c;
+        b = o.b;
+        requests = slice_set o.requests i (record { leader = e.leader; word = e.word; phi = phi; marks = 1 });
+        records = o.records ++ record { leader = e.leader; phi = e.phi; second = x.leader } ∷ [];
+      },
+    )
+
+-- Else it goes behind the others of the queue, not marked, exactly where there is room,
+abbrev pub QueuesWhereThereIsRoom : Type 0
+QueuesWhereThereIsRoom = (o : OutputLists) (x : Request) →
+    (accepted o x ≡ (
+      Queued,
+      record {
+        c = o.c;
+        b = o.b;
+        requests = o.requests ++ record { leader = x.leader; word = x.word; phi = x.phi; marks = 0 } ∷ [];
+        records = o.records;
+      },
+    )) ↔ ((CanCombine o x → ⊥) × (length o.requests < o.c))
+
+-- and is refused exactly where there is none, and then nothing changes.
+abbrev pub RefusesWhereThereIsNone : Type 0
+RefusesWhereThereIsNone = (o : OutputLists) (x : Request) →
+    (accepted o x ≡ (Full, o)) ↔ ((CanCombine o x → ⊥) × (o.c ≤ length o.requests))

@@ -1,0 +1,5 @@
+pub mod Outputs
+pub mod Accepting
+pub mod Partners
+pub mod Switches
+pub mod Waiting

@@ -1,0 +1,15 @@
+-- Entries of a queue with which a request combines.
+use Rattle.std.specs.Prelude.{◌≡◌, ◌<◌, List, Some, slice_get, slice_set}
+use Rattle.messages.specs.declared.message.Request.{Request}
+use Rattle.messages.specs.Queues.{Combination, merged, record_of}
+use Rattle.pooled_switch.specs.Outputs.{most_marks}
+use Rattle.pooled_switch.specs.declared.output.Partner.{Partner}
+
+-- the combination of a request with an entry
+abbrev pub partnership : List Request → (request : Request) → Partner → Combination
+partnership queue x p = record { queue = slice_set queue p.place (merged p.entry p.joint); made = record_of x p.entry }
+
+-- the entry stands at its place in the queue, and may be combined
+pub record IsPartner (queue : List Request) (p : Partner) : Type 0 where
+  pub there : slice_get queue p.place ≡ Some p.entry
+  pub fewer : p.entry.marks < most_marks

@@ -1,0 +1,14 @@
+//! What holds of every output of a switch. Each is the contract of a function that does nothing.
+
+ghost use Rattle.pooled_switch.specs.Accepting.{CombinesWhereItCan, CombinesWithTheFirst, QueuesWhereThereIsRoom, RefusesWhereThereIsNone};
+
+/// A request that comes to an output is combined exactly where a record is free and some entry that is
+/// not yet combined has its word and a function that composes with its own; it is the first such entry,
+/// from the front. Else the request is queued exactly where there is room, else it is refused, and
+/// nothing changes.
+pub fn accepting_is_combining_queueing_or_refusing()
+    ensures combined { CombinesWhereItCan }
+    ensures first { CombinesWithTheFirst }
+    ensures queued { QueuesWhereThereIsRoom }
+    ensures refused { RefusesWhereThereIsNone }
+{}

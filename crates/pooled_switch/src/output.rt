@@ -1,0 +1,225 @@
+//! One output of a switch.
+
+ghost use Rattle.std.specs.Prelude.{◌≡◌, ◌↔◌, ◌+◌, ◌<◌, ◌≤◌, [], drop, length, slice_get, slice_index_or, IfSome, IsTrue, OnSome, option_map};
+ghost use Rattle.messages.specs.Queues.{answers, combination, combined_in, joint, records_of, records_but};
+ghost use Rattle.message_cells.specs.Pools.{IsFree, requests_at, with_requests};
+ghost use Rattle.pooled_switch.specs.declared.answers.Accepted.TheVariants.{Full};
+ghost use Rattle.pooled_switch.specs.Outputs.{accepted, combined, most_marks, output_in, output_with, queued};
+ghost use Rattle.pooled_switch.specs.Partners.{IsPartner, partnership};
+
+use crate::answers::Accepted;
+use crate::wait_buffer::{Replies, WaitBuffer};
+use message_cells::Pool;
+use messages::{Record, Reply, Request};
+use phi_algebra::{Phi, compose};
+use std::marker::Model;
+
+/// How often an entry of a queue is combined.
+const MOST_MARKS: u8 = 1;
+
+/// The number of a queue of requests in the pool, and the records of those that were combined in it.
+#[derive(Drop)]
+pub struct Output {
+    queue: u16,
+    capacity: u8,
+    waiting: WaitBuffer,
+}
+
+impl Model for Output {
+    ghost use Rattle.pooled_switch.specs.Outputs.{OutputState};
+
+    ghost Value = { OutputState };
+
+    ghost view = { λ o. record { c = o.capacity; b = o.waiting.limit; queue = o.queue; records = o.waiting.records } };
+}
+
+/// An entry of a queue with which a request combines.
+#[derive(Clone, Copy, Drop)]
+struct Partner {
+    place: usize,
+    entry: Request,
+    joint: Phi,
+}
+
+impl Output {
+    /// An output with the queue of this number, of up to `c` requests, and an empty wait buffer of up to `b` records.
+    pub fn new(c: u8, b: u8, queue: u16) -> Self
+        requires { b ≤ 16 }
+        ensures { result ≡ record { c = c; b = b; queue = queue; records = [] } }
+    {
+        Output {
+            queue,
+            capacity: c,
+            waiting: WaitBuffer::new(b),
+        }
+    }
+
+    /// Whether a request would be combined or queued.
+    pub fn would_take(&self, pool: &Pool, request: &Request) -> bool
+        requires { self.now.queue < length pool.now.requests }
+        ensures { IsTrue result ↔ ((accepted (output_in pool.now self.now) request.now).0 ≡ Full → ⊥) }
+    {
+        self.has_place(pool) || self.partner(pool, request).is_some()
+    }
+
+    /// Whether one more request can be queued.
+    fn has_place(&self, pool: &Pool) -> bool
+        requires { self.now.queue < length pool.now.requests }
+        ensures { IsTrue result ↔ length (requests_at pool.now self.now.queue) < self.now.c }
+    {
+        pool.request_count(usize::from(self.queue)) < self.capacity
+    }
+
+    /// Combines or queues a request, or refuses it.
+    pub fn accept(&mut self, pool: &mut Pool, request: Request) -> Accepted
+        requires queue { self.old.queue < length pool.old.requests }
+        requires cell { request.leader < pool.old.cells }
+        requires free { IsFree pool.old request.leader }
+        ensures answer { result ≡ (accepted (output_in pool.old self.old) request).0 }
+        ensures records { self.new ≡ output_with self.old (accepted (output_in pool.old self.old) request).1.records }
+        ensures requests { pool.new ≡ with_requests pool.old self.old.queue (accepted (output_in pool.old self.old) request).1.requests }
+    {
+        match self.partner(pool, &request) {
+            Some(partner) => self.combine(pool, partner, &request),
+            None => self.enqueue(pool, request),
+        }
+    }
+
+    /// The entry with which a request is combined, if a record is free for it.
+    fn partner(&self, pool: &Pool, request: &Request) -> Option<Partner>
+        requires { self.now.queue < length pool.now.requests }
+        ensures first { option_map (partnership (requests_at pool.now self.now.queue) request.now) result
+            ≡ combination self.now.b most_marks request.now (requests_at pool.now self.now.queue) self.now.records }
+        ensures partner { IfSome result (IsPartner (requests_at pool.now self.now.queue)) }
+        ensures room { OnSome result (length self.now.records < self.now.b) }
+    {
+        if self.waiting.has_room() {
+            first_partner(pool, usize::from(self.queue), request)
+        } else {
+            None
+        }
+    }
+
+    /// Puts a request behind the others, if there is room.
+    fn enqueue(&self, pool: &mut Pool, request: Request) -> Accepted
+        requires queue { self.now.queue < length pool.old.requests }
+        requires cell { request.leader < pool.old.cells }
+        requires free { IsFree pool.old request.leader }
+        ensures answer { result ≡ (queued (output_in pool.old self.now) request).0 }
+        ensures records { (queued (output_in pool.old self.now) request).1.records ≡ self.now.records }
+        ensures requests { pool.new ≡ with_requests pool.old self.now.queue (queued (output_in pool.old self.now) request).1.requests }
+    {
+        if !self.has_place(pool) {
+            return Accepted::Full;
+        }
+        let unmarked = Request {
+            marks: 0,
+            ..request
+        };
+        pool.push_request(usize::from(self.queue), unmarked);
+        Accepted::Queued
+    }
+
+    /// Puts the entry that stands for both into its partner's place, and keeps the record.
+    fn combine(&mut self, pool: &mut Pool, partner: Partner, request: &Request) -> Accepted
+        requires queue { self.old.queue < length pool.old.requests }
+        requires partner { IsPartner (requests_at pool.old self.old.queue) partner }
+        requires room { length self.old.records < self.old.b }
+        ensures answer { result ≡ (combined (output_in pool.old self.old) (partnership (requests_at pool.old self.old.queue) request.now partner)).0 }
+        ensures records { self.new ≡ output_with self.old
+            (combined (output_in pool.old self.old) (partnership (requests_at pool.old self.old.queue) request.now partner)).1.records }
+        ensures requests { pool.new ≡ with_requests pool.old self.old.queue
+            (combined (output_in pool.old self.old) (partnership (requests_at pool.old self.old.queue) request.now partner)).1.requests }
+    {
+        let Partner {
+            place,
+            entry,
+            joint,
+        } = partner;
+        let both = Request {
+            phi: joint,
+            marks: entry.marks + 1,
+            ..entry
+        };
+        pool.replace(usize::from(self.queue), place, both);
+        self.waiting.push(Record {
+            leader: entry.leader,
+            phi: entry.phi,
+            second: request.leader,
+        });
+        Accepted::Combined {
+            first: entry.leader,
+        }
+    }
+
+    /// The records of the wait buffer.
+    pub fn records(&self) -> &[Record]
+        ensures { result.now ≡ self.now.records }
+    {
+        self.waiting.records()
+    }
+
+    /// The first request of the queue.
+    pub fn front(&self, pool: &Pool) -> Option<Request>
+        requires { self.now.queue < length pool.now.requests }
+        ensures { result ≡ slice_get (requests_at pool.now self.now.queue) 0 }
+    {
+        pool.front_request(usize::from(self.queue))
+    }
+
+    /// Takes the first request of the queue.
+    pub fn take(&self, pool: &mut Pool) -> Option<Request>
+        requires { self.now.queue < length pool.old.requests }
+        ensures first { result ≡ slice_get (requests_at pool.old self.now.queue) 0 }
+        ensures after { pool.new ≡ with_requests pool.old self.now.queue (drop 1 (requests_at pool.old self.now.queue)) }
+    {
+        pool.pop_request(usize::from(self.queue))
+    }
+
+    /// The replies for a reply that comes back.
+    pub fn answers(&self, reply: Reply) -> Replies
+        ensures { result.items ≡ answers (records_of reply.leader self.now.records) reply }
+    {
+        self.waiting.answers(reply)
+    }
+
+    /// Drops all records of a leader.
+    pub fn forget(&mut self, leader: u8)
+        ensures { self.new ≡ output_with self.old (records_but leader self.old.records) }
+    {
+        self.waiting.forget(leader);
+    }
+}
+
+/// The first entry of a queue, from the front, with which a request combines.
+fn first_partner(pool: &Pool, queue: usize, request: &Request) -> Option<Partner>
+    requires { queue < length pool.now.requests }
+    ensures first { option_map (partnership (requests_at pool.now queue) request.now) result ≡ combined_in most_marks request.now (requests_at pool.now queue) }
+    ensures partner { IfSome result (IsPartner (requests_at pool.now queue)) }
+{
+    let mut next = pool.front_request(queue);
+    for place in 0..usize::from(pool.request_count(queue)) {
+        let entry = next?;
+        if let Some(joint) = joint(&entry, request) {
+            return Some(Partner {
+                place,
+                entry,
+                joint,
+            });
+        }
+        next = pool.request_behind(queue, place, entry.leader);
+    }
+    None
+}
+
+/// The function of an entry and a request together, where the two combine.
+#[tactic(auto, unfolding(messages::specs::Queues::joint))]
+fn joint(entry: &Request, request: &Request) -> Option<Phi>
+    ensures { result ≡ joint most_marks request.now entry.now }
+{
+    if entry.marks < MOST_MARKS && entry.word == request.word {
+        compose(&entry.phi, &request.phi)
+    } else {
+        None
+    }
+}
