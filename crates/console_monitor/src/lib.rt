@@ -8,8 +8,6 @@
 mod ends;
 mod monitor;
 mod queue;
-#[cfg(test)]
-mod tests;
 
 pub use monitor::{End, Monitor, console};
 pub use queue::{CAPACITY, Sender};

@@ -18,11 +18,11 @@ use Rattle.steps.specs.declared.step.Outcome.TheVariants.{Retired, Issued, Stopp
 use Rattle.steps.specs.Answers.{is_stalled}
 use Rattle.machine_runs.specs.Machines.{MachineLists, machine_of}
 use Rattle.machine_runs.specs.Runs.{all_after, answer_after}
-use Rattle.machine_log.specs.Logs.{entered}
+use Rattle.machine_log.specs.Logs.{entered, is_named}
 use Rattle.machine_passes.specs.declared.row.Notice.{Notice}
 use Rattle.machine_passes.specs.declared.row.Answer.{Answer}
 use Rattle.machine_passes.specs.declared.row.Row.{Row}
-use Rattle.machine_passes.specs.Lists.{notices_of, given_to, shown_at, is_poke, is_turn_of, is_turn_below, no_poke, no_turn, turns_below}
+use Rattle.machine_passes.specs.Lists.{notices_of, given_to, shown_at, is_poke, is_turn_of, is_turn_below, all_named, no_poke, no_turn, turns_below}
 use Rattle.machine_passes.specs.Passes.{Held, held, rows_of, IsWhole, new_passes}
 use Rattle.machine_passes.specs.Rows.{new_row, told, counted, behind, machine_after, notices_since, LastFits, RowFits, Fits, Follows, steps_of}
 use Rattle.machine_passes.proofs.Lists.{all_after-append, notices_pushed, all-push, get-front, get-last, get-set, get-set_else, length-slice_set}
@@ -139,10 +139,11 @@ module _ (opening : MachineLists) (first : List Step) where
       }
 
   answered_at : (count : ℕ) (steps : List Step) (rows : List Row) (p : ℕ) (r : Row) (s : Step) (o : Outcome) (b : Bool) → is_stalled o ≡ b
-      → Fits opening first count steps rows → slice_get rows p ≡ Some r → is_poke s ≡ false → ((q : ℕ) → is_turn_of q s ≡ true → q ≡ p) →
+      → Fits opening first count steps rows → slice_get rows p ≡ Some r → is_poke s ≡ false → is_named opening.config s ≡ true →
+      ((q : ℕ) → is_turn_of q s ≡ true → q ≡ p) →
       o ≡ answer_after opening steps s
       → Fits opening first count (if b then steps else steps ++ s ∷ []) (slice_set rows p (told p r s o (length steps)))
-  answered_at count steps rows p r s o true is h at may own out =
+  answered_at count steps rows p r s o true is h at may name own out =
       let n = long count steps rows h in
       let new = told p r s o (length steps) in
       let none : counted o ≡ 0 = ap (λ (b : Bool). if b then 0 else 1) is in
@@ -153,6 +154,7 @@ module _ (opening : MachineLists) (first : List Step) where
         begins = h.begins;
         no_pokes = h.no_pokes;
         turns = h.turns;
+        named = h.named;
         many = length-slice_set rows p new ∙ h.many;
         each = λ q x e. dite (ℕ_discrete q p)
             (λ same.
@@ -172,7 +174,7 @@ module _ (opening : MachineLists) (first : List Step) where
             (λ other. h.each q x (get-set_else rows p q new x other e));
         total = omega arith;
       }
-  answered_at count steps rows p r s o false is h at may own out =
+  answered_at count steps rows p r s o false is h at may name own out =
       let n = long count steps rows h in
       let new = told p r s o (length steps) in
       let one : counted o ≡ 1 = ap (λ (b : Bool). if b then 0 else 1) is in
@@ -189,6 +191,7 @@ module _ (opening : MachineLists) (first : List Step) where
         begins = ap (λ t. t ++ s ∷ []) h.begins ∙ append_assoc first rest (s ∷ []) ∙ ap (λ t. first ++ t) (sym dr);
         no_pokes = subst (λ t. no_poke t ≡ true) (sym dr) (all-push (λ t. not (is_poke t)) rest s h.no_pokes (ap not may));
         turns = subst (λ t. turns_below count t ≡ true) (sym dr) (all-push (is_turn_below count) rest s h.turns (own_turn s p count (omega arith) own));
+        named = subst (λ t. all_named opening.config t ≡ true) (sym dr) (all-push (is_named opening.config) rest s h.named name);
         many = length-slice_set rows p new ∙ h.many;
         each = λ q x e. dite (ℕ_discrete q p)
             (λ same.
@@ -210,7 +213,8 @@ module _ (opening : MachineLists) (first : List Step) where
       }
 
   pub answered : (count : ℕ) (steps : List Step) (rows : List Row) (p : ℕ) (r : Row) (s : Step) (o : Outcome)
-      → Fits opening first count steps rows → slice_get rows p ≡ Some r → is_poke s ≡ false → ((q : ℕ) → is_turn_of q s ≡ true → q ≡ p) →
+      → Fits opening first count steps rows → slice_get rows p ≡ Some r → is_poke s ≡ false → is_named opening.config s ≡ true →
+      ((q : ℕ) → is_turn_of q s ≡ true → q ≡ p) →
       o ≡ answer_after opening steps s
       → Fits opening first count (entered steps s o) (slice_set rows p (told p r s o (length steps)))
   answered count steps rows p r s o = answered_at count steps rows p r s o (is_stalled o) refl
@@ -279,6 +283,7 @@ starts opening first count =
       begins = sym (append-nil first) ∙ ap (λ t. first ++ t) (sym none);
       no_pokes = ap no_poke none;
       turns = ap (turns_below count) none;
+      named = ap (all_named opening.config) none;
       many = length-rows_of (new_passes count) ∙ length-new_passes count;
       each = λ p r e.
           let g = get-rows_of (new_passes count) p r e in

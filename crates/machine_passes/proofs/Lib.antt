@@ -4,3 +4,5 @@ pub mod Listing
 pub mod Totals
 pub mod Fitting
 pub mod Crosses
+pub mod Lemmas
+pub mod Stopping

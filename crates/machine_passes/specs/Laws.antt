@@ -1,12 +1,15 @@
 -- Laws of the lists that steps give.
-use Rattle.std.specs.Prelude.{◌≡◌, ℕ, ◌+◌, List, [], ◌++◌, length, map}
+use Rattle.std.specs.Prelude.{◌≡◌, ℕ, ◌+◌, true, false, List, [], ◌∷◌, ◌++◌, length, map}
+use Rattle.flat_machine.specs.declared.event.Cause.{Cause}
+use Rattle.flat_machine.specs.declared.event.Event.TheVariants.{Stopped}
 use Rattle.flat_machine.specs.declared.config.Config.{Config}
 use Rattle.machine_program.specs.Theory as theory
 use Rattle.machine_program.specs.Processors.{Told}
 use Rattle.steps.specs.declared.step.Step.{Step}
 use Rattle.machine_runs.specs.Runs.{all_after}
 use Rattle.machine_runs.specs.Laws.{told_after}
-use Rattle.machine_passes.specs.Lists.{notices_of, IsRising}
+use Rattle.machine_passes.specs.declared.row.Notice.{Notice}
+use Rattle.machine_passes.specs.Lists.{no_poke, notices_of, IsRising}
 
 -- The places rise along the list of each processor, from the place of the first step on.
 abbrev pub PlacesRise : Type 0
@@ -22,3 +25,9 @@ ListsAreJoined = (c : Config) (code : List ℕ) (p place : ℕ) (M : theory.Mach
 abbrev pub EventsAreListed : Type 0
 EventsAreListed = (c : Config) (code : List ℕ) (p place : ℕ) (M : theory.Machine Told) (steps : List Step) →
     map (λ n. n.event) (notices_of c code p place M steps) ≡ told_after c code M steps (λ q. []) p
+
+-- A processor whose list ends with its stop has no reference open behind the steps, where no poke is among them.
+abbrev pub StoppedAreShut : Type 0
+StoppedAreShut = (c : Config) (code : List ℕ) (p place : ℕ) (M : theory.Machine Told) (steps : List Step) (before : List Notice) (at : ℕ) (why : Cause) →
+    no_poke steps ≡ true → notices_of c code p place M steps ≡ before ++ record { event = Stopped why; place = at } ∷ [] →
+    (all_after c code M steps).is_open p ≡ false

@@ -58,6 +58,10 @@ no_turn p steps = list_all (λ s. not (is_turn_of p s)) steps
 abbrev pub turns_below : ℕ → List Step → Bool
 turns_below count steps = list_all (is_turn_below count) steps
 
+-- steps that a machine of this size has
+abbrev pub all_named : Config → List Step → Bool
+all_named c steps = list_all (is_named c) steps
+
 -- ---- what a turn gives
 
 -- the retirement or the stop that a turn at this place answered, if it answered one

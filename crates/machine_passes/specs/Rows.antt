@@ -10,7 +10,7 @@ use Rattle.machine_runs.specs.Runs.{all_after, answer_after}
 use Rattle.machine_passes.specs.declared.row.Notice.{Notice}
 use Rattle.machine_passes.specs.declared.row.Answer.{Answer}
 use Rattle.machine_passes.specs.declared.row.Row.{Row}
-use Rattle.machine_passes.specs.Lists.{notices_of, all_notices, given_to, no_poke, no_turn, turns_below}
+use Rattle.machine_passes.specs.Lists.{notices_of, all_notices, given_to, all_named, no_poke, no_turn, turns_below}
 
 -- ---- a row
 
@@ -76,11 +76,13 @@ abbrev pub steps_of : List Row → ℕ
 steps_of [] = 0
 steps_of (r ∷ rs) = r.steps + steps_of rs
 
--- The steps go on from the first ones without a poke, by turns of these processors, and the rows are what they gave.
+-- The steps go on from the first ones without a poke, by turns of these processors, name no place that the machine has not, and the rows
+-- are what they gave.
 pub record Fits (opening : MachineLists) (first : List Step) (count : ℕ) (steps : List Step) (rows : List Row) : Type 0 where
   pub begins : steps ≡ first ++ drop (length first) steps
   pub no_pokes : no_poke (drop (length first) steps) ≡ true
   pub turns : turns_below count (drop (length first) steps) ≡ true
+  pub named : all_named opening.config (drop (length first) steps) ≡ true
   pub many : length rows ≡ count
   pub each : (p : ℕ) (r : Row) → slice_get rows p ≡ Some r → RowFits opening first steps p r
   pub total : length first + steps_of rows ≡ length steps

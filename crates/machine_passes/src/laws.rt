@@ -1,6 +1,6 @@
 //! Laws of the lists that steps give. Each is the contract of a function that does nothing.
 
-ghost use Rattle.machine_passes.specs.Laws.{EventsAreListed, ListsAreJoined, PlacesRise};
+ghost use Rattle.machine_passes.specs.Laws.{EventsAreListed, ListsAreJoined, PlacesRise, StoppedAreShut};
 
 /// Places rise along the list of each processor.
 #[tactic(auto, using(crate::proofs::Rising::places_rise))]
@@ -19,4 +19,10 @@ pub fn lists_are_joined()
 #[tactic(auto, using(crate::proofs::Listing::events_are_listed))]
 pub fn events_are_listed()
     ensures listed { EventsAreListed }
+{}
+
+/// A processor whose list ends with its stop has no reference open.
+#[tactic(auto, using(crate::proofs::Stopping::stopped_are_shut))]
+pub fn stopped_are_shut()
+    ensures shut { StoppedAreShut }
 {}

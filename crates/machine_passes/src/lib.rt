@@ -16,7 +16,7 @@ mod shared;
 mod stored;
 
 pub use desk::Desk;
-pub use laws::{events_are_listed, lists_are_joined, places_rise};
+pub use laws::{events_are_listed, lists_are_joined, places_rise, stopped_are_shut};
 pub use pass::Pass;
 pub use row::{Answer, Notice, Row};
 pub use run::Run;

@@ -142,13 +142,24 @@ module _ (k : ℕ) where
   are_all (Turn p) h = absurd h
   are_all (Poke poke) h = absurd h
 
+-- a number counted round and round is a place of the list
+pub in_the_list : (k j x : ℕ) → j ≡ k → k ≤ 6 → x % (2 * j * (1 * 2 ^ k % 4294967296) + 1 * 2 ^ k % 4294967296) < 2 * k * 2 ^ k + 2 ^ k
+in_the_list zero j x is few = omega arith
+in_the_list (suc zero) j x is few = omega arith
+in_the_list (suc (suc zero)) j x is few = omega arith
+in_the_list (suc (suc (suc zero))) j x is few = omega arith
+in_the_list (suc (suc (suc (suc zero)))) j x is few = omega arith
+in_the_list (suc (suc (suc (suc (suc zero))))) j x is few = omega arith
+in_the_list (suc (suc (suc (suc (suc (suc zero)))))) j x is few = omega arith
+in_the_list (suc (suc (suc (suc (suc (suc (suc n))))))) j x is few = absurd (omega arith)
+
 -- a place of the list is of one of its rows
-pub in_a_row : (k j x : ℕ) → j ≡ k → k ≤ 6 → x % (2 * j * (1 * 2 ^ k % 4294967296) + 1 * 2 ^ k % 4294967296) / (1 * 2 ^ k % 4294967296) < 2 * k + 1
-in_a_row zero j x is few = omega arith
-in_a_row (suc zero) j x is few = omega arith
-in_a_row (suc (suc zero)) j x is few = omega arith
-in_a_row (suc (suc (suc zero))) j x is few = omega arith
-in_a_row (suc (suc (suc (suc zero)))) j x is few = omega arith
-in_a_row (suc (suc (suc (suc (suc zero))))) j x is few = omega arith
-in_a_row (suc (suc (suc (suc (suc (suc zero)))))) j x is few = omega arith
-in_a_row (suc (suc (suc (suc (suc (suc (suc n))))))) j x is few = absurd (omega arith)
+pub in_a_row : (k x : ℕ) → k ≤ 6 → x < 2 * k * 2 ^ k + 2 ^ k → x / (1 * 2 ^ k % 4294967296) < 2 * k + 1
+in_a_row zero x few inside = omega arith
+in_a_row (suc zero) x few inside = omega arith
+in_a_row (suc (suc zero)) x few inside = omega arith
+in_a_row (suc (suc (suc zero))) x few inside = omega arith
+in_a_row (suc (suc (suc (suc zero)))) x few inside = omega arith
+in_a_row (suc (suc (suc (suc (suc zero))))) x few inside = omega arith
+in_a_row (suc (suc (suc (suc (suc (suc zero)))))) x few inside = omega arith
+in_a_row (suc (suc (suc (suc (suc (suc (suc n))))))) x few inside = absurd (omega arith)

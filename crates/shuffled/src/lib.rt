@@ -6,11 +6,12 @@
 
 mod arbiter;
 mod choice;
+mod generator;
 mod laws;
 mod shuffled;
-#[cfg(test)]
-mod tests;
 
 pub use arbiter::Arbiter;
+pub use choice::choice_at;
+pub use generator::{first_state, next_state};
 pub use laws::choices_are_of_the_network;
 pub use shuffled::Shuffled;

@@ -5,6 +5,7 @@ ghost use Rattle.shuffled.specs.Choices.{choices, first_state, next_state};
 
 use crate::arbiter::Arbiter;
 use crate::choice::choice_at;
+use crate::generator::{first_state, next_state};
 use std::marker::Model;
 use steps::Step;
 
@@ -27,11 +28,9 @@ impl Shuffled {
     pub fn new(start: u32, p: u8) -> Self
         ensures { result ≡ first_state start p }
     {
-        let state = match start.wrapping_add(u32::from(p)) {
-            0 => 1,
-            sum => sum,
-        };
-        Shuffled { state }
+        Shuffled {
+            state: first_state(start, p),
+        }
     }
 }
 
@@ -42,20 +41,8 @@ impl Arbiter for Shuffled {
         ensures state { self.new ≡ next_state self.old }
         ensures step { slice_get (choices k) (self.new % (2 * k * 2 ^ k + 2 ^ k)) ≡ Some result }
     {
-        self.state = stir(self.state);
+        self.state = next_state(self.state);
         let wires = 1_u32 << k;
-        let place = self.state % (2 * u32::from(k) * wires + wires);
-        choice_at(k, (place / wires) as u8, (place % wires) as u8)
+        choice_at(k, self.state % (2 * u32::from(k) * wires + wires))
     }
-}
-
-/// The state after this one.
-fn stir(state: u32) -> u32
-    ensures { result ≡ next_state state }
-{
-    let mut x = state;
-    x ^= x << 13;
-    x ^= x >> 17;
-    x ^= x << 5;
-    x
 }

@@ -20,7 +20,9 @@ invariant_of-self-2 g c =
     let new = c.tell.ensures ∙ (λ k. told p.processor (c.make_room.ensures.kept k) c.args.step o (length (st k))) in
     let keeper = w.keeper ∙ ap (slice_set c.self.inside.keeper p.processor) new in
     let out = c.in_ok-outcome.ensures.answer ∙ ap (λ m. answer_after m l.steps c.args.step) i.opening in
-    let all = answered g.N.Run.opening g.N.Run.first g.N.Run.count l.steps c.self.inside.keeper p.processor r c.args.step o i.fits w.agreed c.requires.poke
+    let all =
+    answered g.N.Run.opening g.N.Run.first g.N.Run.count l.steps c.self.inside.keeper p.processor r c.args.step o i.fits
+    w.agreed c.requires.poke c.requires.named
     (λ q h. c.requires.turn q h ∙ sym (ap (λ h. h.processor) c.pass.view_is)) out in
     record {
       opening = t.opening ∙ i.opening;

@@ -1,6 +1,6 @@
 //! Bytes through the queues.
 
-use crate::console;
+use console_monitor::console;
 use std::test::*;
 
 /// Bytes come in order, each from its own sender.

@@ -1,0 +1,3 @@
+pub mod Consoles
+pub mod Faults
+pub mod Endings

@@ -1,0 +1,59 @@
+//! What holds for all threads of a run.
+
+ghost use Rattle.std.specs.Prelude.{◌≡◌, ◌≤◌};
+
+use std::sync::atomic::{AtomicU64, Ordering};
+
+/// What holds for all threads of a run, and what they tell each other.
+#[derive(Drop)]
+pub(crate) struct Terms {
+    /// The stages of the machine's network.
+    pub(crate) stages: u8,
+    /// How many rounds a thread has.
+    pub(crate) budget: u32,
+    /// The thread that could not be started at last. What it was to do is called all the same, to give back what it was given.
+    unstarted: AtomicU64,
+    /// Not 0 once the threads of all processors have ended.
+    ended: AtomicU64,
+    ghost few: { stages ≤ 6 },
+}
+
+/// The number of the thread that listens, which is no processor's.
+pub(crate) const LISTENER: u8 = 254;
+
+/// The number of no thread.
+const NONE: u64 = 255;
+
+impl Terms {
+    /// The terms of a run before it begins.
+    pub(crate) fn new(stages: u8, budget: u32) -> Self
+        requires { stages ≤ 6 }
+    {
+        Terms {
+            stages,
+            budget,
+            unstarted: AtomicU64::new(NONE),
+            ended: AtomicU64::new(0),
+        }
+    }
+
+    /// The thread of this number could not be started.
+    pub(crate) fn tell_unstarted(&self, thread: u8) {
+        self.unstarted.store(u64::from(thread), Ordering::SeqCst);
+    }
+
+    /// Whether the thread of this number could not be started.
+    pub(crate) fn is_unstarted(&self, thread: u8) -> bool {
+        self.unstarted.load(Ordering::SeqCst) == u64::from(thread)
+    }
+
+    /// The threads of all processors have ended.
+    pub(crate) fn tell_end(&self) {
+        self.ended.store(1, Ordering::SeqCst);
+    }
+
+    /// Whether they have.
+    pub(crate) fn have_ended(&self) -> bool {
+        self.ended.load(Ordering::SeqCst) != 0
+    }
+}

@@ -1,0 +1,5 @@
+//! From single bytes to the reports of runs.
+
+mod consoles;
+mod rounds;
+mod runs;

@@ -1,0 +1,217 @@
+//! Programs on threads. Images are those of texts that are assembled; what is expected is worked out by hand.
+
+ghost use Rattle.std.specs.Prelude.{◌≡◌, ◌^◌, IfOk, vec_len};
+
+use agreed_rows::Room;
+use assembler::assemble;
+use elf_image::read_image;
+use flat_machine::{Config, Event, Status};
+use link::Meter;
+use machine_log::Logged;
+use machine_passes::{Pass, Row, Run};
+use machine_runs::Machine;
+use processor_threads::{Gate, Open, RunFault, run_threads};
+use shuffled::Shuffled;
+use std::alloc::Global;
+use std::marker::Brand;
+use std::process::Abort;
+use std::sync::Wait;
+use std::sync::atomic::{AtomicU64, Ordering};
+use std::test::Fail;
+use std::thread;
+use std::thread::Threads;
+use std::time::{Clock, Duration};
+use test_devices::HUNDRED_ADDS;
+
+/// The log of a machine of `k` stages that opens on the image of a text.
+fn log_of(rt: &impl Abort, alloc: Global, text: &str, k: u8) -> Result<Logged, Fail> {
+    let size = Config {
+        k,
+        c: 4,
+        b: 4,
+        shared_words: 1024,
+    };
+    let file = assemble(alloc, text)?.to_elf(alloc)?;
+    let image = read_image(alloc, &mut Meter::new(file.as_slice()), &size)?;
+    let machine = Machine::new(alloc, image, size)?;
+    assert!(rt; machine.is_idle());
+    Ok(Logged::new(alloc, machine))
+}
+
+/// The arbiters of a log's processors, in a run that begins with 1.
+fn arbiters(alloc: Global, logged: &Logged) -> Result<Vec<Shuffled>, Fail>
+    ensures { IfOk result (λ arbiters. vec_len arbiters ≡ 2 ^ logged.now.opening.config.k) }
+{
+    let mut arbiters = Vec::new(alloc);
+    for p in 0..logged.machine().config().processors() {
+        arbiters.push(Shuffled::new(1, p))?;
+    }
+    Ok(arbiters)
+}
+
+/// What tests look at once a run has ended.
+#[derive(Drop)]
+struct Seen {
+    logged: Logged,
+    fault: Option<RunFault>,
+    consoles: Vec<Vec<u8>>,
+    /// How many instructions each processor has retired, as its pass has them.
+    retired: Vec<usize>,
+}
+
+/// Runs a log on threads.
+fn run<N: Run + Send + Sync, G: Gate + Sync, R: Threads + Wait + Sync>(
+    rt: &R,
+    alloc: Global,
+    room: Room<Row>,
+    logged: Logged,
+    arbiters: Vec<Shuffled>,
+    gate: &G,
+    budget: u32,
+) -> Result<Seen, Fail>
+    requires room { room ≡ N.table }
+    requires opening { logged.opening ≡ N.opening }
+    requires first { logged.steps ≡ N.first }
+    requires count { N.count ≡ 2 ^ N.opening.config.k }
+    requires arbiters { vec_len arbiters ≡ N.count }
+{
+    let ended = run_threads::<N, Shuffled, G, R>(rt, alloc, room, logged, arbiters, gate, budget);
+    let mut retired = Vec::new(alloc);
+    for pass in &ended.passes {
+        retired.push(retired_by(pass))?;
+    }
+    Ok(Seen {
+        logged: ended.logged,
+        fault: ended.fault,
+        consoles: ended.consoles,
+        retired,
+    })
+}
+
+/// How many instructions a processor has retired, as its pass has them.
+fn retired_by<N: Run>(pass: &Pass<N>) -> usize {
+    let notices = pass.notices();
+    notices
+        .iter()
+        .filter(|notice| matches!(notice.event, Event::Retired(_)))
+        .count()
+}
+
+/// Runs the image of a text.
+fn run_text<G: Gate + Sync, R: Threads + Wait + Abort + Sync>(
+    rt: &R,
+    alloc: Global,
+    text: &str,
+    k: u8,
+    gate: &G,
+    budget: u32,
+) -> Result<Seen, Fail> {
+    let logged = log_of(rt, alloc, text, k)?;
+    let room = Room::new(alloc)?;
+    let arbiters = arbiters(alloc, &logged)?;
+    run::<Brand, G, R>(rt, alloc, room, logged, arbiters, gate, budget)
+}
+
+/// A budget that no program here uses up, unless a thread cannot go on.
+const AMPLE: u32 = 10_000_000;
+
+/// Each of two processors retires its 311 instructions, reads at least its own sum and prints its `A`; the word has all adds.
+#[test]
+fn a_hundred_adds_each(rt: HostRuntime) -> Result<(), Fail> {
+    let seen = run_text(&rt, rt.alloc(), HUNDRED_ADDS, 1, &Open, AMPLE)?;
+    assert_eq!(rt; seen.fault, None);
+    assert_eq!(rt; seen.retired.as_slice(), [311, 311].as_slice());
+    assert_eq!(rt; seen.consoles.len(), 2);
+    assert!(rt;
+        seen.consoles
+            .iter()
+            .all(|bytes| bytes.as_slice() == b"A".as_slice())
+    );
+    let machine = seen.logged.machine();
+    assert_eq!(rt; machine.status(0), Some(Status::Halted(0)));
+    assert_eq!(rt; machine.pc(1), Some(0x0001_0038));
+    assert_eq!(rt; machine.word(0), Some(200));
+    Ok(())
+}
+
+/// A processor that sends 300 bytes, more than its queue holds: none is lost.
+#[test]
+fn more_bytes_than_a_queue_holds(rt: HostRuntime) -> Result<(), Fail> {
+    let text = "
+ addi x17, x0, 1
+ addi x10, x0, 65
+ addi x6, x0, 300
+loop: ecall
+ addi x6, x6, -1
+ bne x6, x0, loop
+ addi x17, x0, 0
+ addi x10, x0, 0
+ ecall
+";
+    let seen = run_text(&rt, rt.alloc(), text, 0, &Open, AMPLE)?;
+    assert_eq!(rt; seen.fault, None);
+    assert_eq!(rt; seen.retired.as_slice(), [905].as_slice());
+    assert_eq!(rt; seen.consoles.len(), 1);
+    for bytes in &seen.consoles {
+        assert_eq!(rt; bytes.as_slice(), [b'A'; 300].as_slice());
+    }
+    assert_eq!(rt; seen.logged.machine().pc(0), Some(0x0001_0020));
+    Ok(())
+}
+
+/// Holds the first turn of processor 1 back until that of processor 0 is about to be taken, and this one until processor 1 is about to
+/// take its second. So no thread can take all turns, one after another, and none can come to the gate with the lock in its hand.
+#[derive(Drop)]
+struct Turnstile<'a, C: Clock> {
+    clock: &'a C,
+    /// Not 0 once processor 0 is about to take its first turn.
+    begun: AtomicU64,
+    /// Not 0 once processor 1 is about to take its second turn, with its first behind it.
+    answered: AtomicU64,
+    /// Not 0 once a wait was too long.
+    gave_up: AtomicU64,
+}
+
+impl<C: Clock> Turnstile<'_, C> {
+    /// Waits until the flag is up, for ten seconds at most.
+    fn wait_for(&self, flag: &AtomicU64) {
+        for _ in 0..10_000 {
+            if flag.load(Ordering::SeqCst) != 0 {
+                return;
+            }
+            thread::sleep(self.clock, Duration::from_millis(1));
+        }
+        self.gave_up.store(1, Ordering::SeqCst);
+    }
+}
+
+impl<C: Clock> Gate for Turnstile<'_, C> {
+    fn before(&self, p: u8, turn: u64) {
+        match (p, turn) {
+            (0, 0) => {
+                self.begun.store(1, Ordering::SeqCst);
+                self.wait_for(&self.answered);
+            }
+            (1, 0) => self.wait_for(&self.begun),
+            (1, 1) => self.answered.store(1, Ordering::SeqCst),
+            _ => {}
+        }
+    }
+}
+
+/// Two threads run side by side: neither order in which one thread would run both processors gets through the gate.
+#[test]
+fn side_by_side(rt: HostRuntime) -> Result<(), Fail> {
+    let gate = Turnstile {
+        clock: &rt,
+        begun: AtomicU64::new(0),
+        answered: AtomicU64::new(0),
+        gave_up: AtomicU64::new(0),
+    };
+    let seen = run_text(&rt, rt.alloc(), HUNDRED_ADDS, 1, &gate, AMPLE)?;
+    assert_eq!(rt; gate.gave_up.load(Ordering::SeqCst), 0);
+    assert_eq!(rt; seen.fault, None);
+    assert_eq!(rt; seen.retired.as_slice(), [311, 311].as_slice());
+    assert_eq!(rt; seen.logged.machine().word(0), Some(200));
+    Ok(())
+}

@@ -1,0 +1,82 @@
+//! Runs on threads, from the bytes of files to the bytes of a report. Images are those of texts that are assembled; what is expected is
+//! worked out by hand, and is the same whatever the threads do.
+
+mod ends;
+mod reports;
+
+use assembler::assemble;
+use flat_machine::Config;
+use link::Meter;
+use run_commands::replay_command;
+use std::alloc::Global;
+use std::sync::Wait;
+use std::test::Fail;
+use std::thread::Threads;
+use threaded_run::threaded_run_command;
+
+/// A machine with queues of four and four records.
+const fn size(k: u8) -> Config {
+    Config {
+        k,
+        c: 4,
+        b: 4,
+        shared_words: 1024,
+    }
+}
+
+/// A budget that no program here uses up, unless a thread cannot go on.
+const AMPLE: u32 = 10_000_000;
+
+/// The image of a text.
+fn image_of(alloc: Global, text: &str) -> Result<Vec<u8>, Fail> {
+    Ok(assemble(alloc, text)?.to_elf(alloc)?)
+}
+
+/// What a command comes to.
+#[derive(Drop)]
+struct Ran {
+    status: u8,
+    out: Vec<u8>,
+    err: Vec<u8>,
+    /// The trace, where one was asked for.
+    trace: Vec<u8>,
+}
+
+/// Runs an image, with a trace.
+fn run<R: Threads + Wait + Sync>(
+    rt: &R,
+    alloc: Global,
+    image: &[u8],
+    config: Config,
+    budget: u32,
+) -> Ran {
+    let mut out = Meter::new(Vec::new(alloc));
+    let mut err = Vec::new(alloc);
+    let mut trace = Some(Meter::new(Vec::new(alloc)));
+    let status = threaded_run_command(
+        rt, alloc, image, config, 1, budget, &mut trace, &mut out, &mut err,
+    );
+    let trace = match trace {
+        Some(trace) => trace.device,
+        None => Vec::new(alloc),
+    };
+    Ran {
+        status,
+        out: out.device,
+        err,
+        trace,
+    }
+}
+
+/// Replays a trace on an image.
+fn replay(alloc: Global, trace: &[u8], image: &[u8]) -> Ran {
+    let mut out = Meter::new(Vec::new(alloc));
+    let mut err = Vec::new(alloc);
+    let status = replay_command(alloc, trace, Ok(image), 1024, &mut out, &mut err);
+    Ran {
+        status,
+        out: out.device,
+        err,
+        trace: Vec::new(alloc),
+    }
+}

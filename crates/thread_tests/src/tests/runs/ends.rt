@@ -1,0 +1,124 @@
+//! How runs end of which there is no report.
+
+ghost use Rattle.std.specs.Prelude.{◌≡◌, false};
+
+use super::{AMPLE, Ran, image_of, run, size};
+use flat_machine::Config;
+use link::{Link, Meter};
+use std::alloc::Global;
+use std::process::Abort;
+use std::test::Fail;
+use test_devices::{EBREAK, Sink};
+use threaded_run::threaded_run_command;
+
+/// Nothing is printed and no trace is written, and this is told.
+fn assert_told(rt: &impl Abort, ran: &Ran, told: &str, status: u8) {
+    assert_eq!(rt; ran.err.as_slice(), told.as_bytes());
+    assert_eq!(rt; ran.out.len(), 0, "at {told}");
+    assert_eq!(rt; ran.trace.len(), 0, "at {told}");
+    assert_eq!(rt; ran.status, status, "at {told}");
+}
+
+/// Two instructions take two rounds.
+#[test]
+fn budget_that_is_just_enough(rt: HostRuntime) -> Result<(), Fail> {
+    let image = image_of(rt.alloc(), "addi x1, x0, 1\necall")?;
+    let ran = run(&rt, rt.alloc(), image.as_slice(), size(0), 1);
+    assert_told(&rt, &ran, "ultra: budget\n", 4);
+    let ran = run(&rt, rt.alloc(), image.as_slice(), size(0), 2);
+    assert_eq!(rt;
+        ran.out.as_slice(),
+        b"processor 0 pc 00010004 halt 00 retired 1 console -\n".as_slice()
+    );
+    assert_eq!(rt; ran.status, 0);
+    Ok(())
+}
+
+/// A jump to itself.
+#[test]
+fn run_without_end(rt: HostRuntime) -> Result<(), Fail> {
+    let image = image_of(rt.alloc(), "jal x0, 0")?;
+    let ran = run(&rt, rt.alloc(), image.as_slice(), size(1), 1000);
+    assert_told(&rt, &ran, "ultra: budget\n", 4);
+    Ok(())
+}
+
+#[test]
+fn refuses_an_image_and_a_size(rt: HostRuntime) {
+    let alloc = rt.alloc();
+    let ran = run(&rt, alloc, &EBREAK[..51], size(0), AMPLE);
+    assert_told(&rt, &ran, "ultra: I1\n", 2);
+    let config = Config { c: 1, ..size(0) };
+    let ran = run(&rt, alloc, &EBREAK, config, AMPLE);
+    assert_told(&rt, &ran, "ultra: K1\n", 2);
+}
+
+/// A link that fails at a call.
+fn failing_link(alloc: Global, fails_at: usize) -> Meter<Sink>
+    ensures { ⟦<Meter<Sink> as Link>⟧.has_failed result ≡ false }
+{
+    Meter::new(Sink::new(Vec::new(alloc), fails_at))
+}
+
+/// A trace that cannot be written is told before the report. That is the second to be written.
+#[test]
+fn tells_what_cannot_be_written(rt: HostRuntime) {
+    let alloc = rt.alloc();
+    for (of_trace, of_report, told, written) in [
+        (1, 1, "ultra: X5\n", 0),
+        (24, 0, "ultra: X5\n", 0),
+        (0, 1, "ultra: link\n", 0),
+        (0, 52, "ultra: link\n", 51),
+    ] {
+        let mut out = failing_link(alloc, of_report);
+        let mut trace = Some(failing_link(alloc, of_trace));
+        let mut err = Vec::new(alloc);
+        let status = threaded_run_command(
+            &rt,
+            alloc,
+            EBREAK.as_slice(),
+            size(0),
+            1,
+            AMPLE,
+            &mut trace,
+            &mut out,
+            &mut err,
+        );
+        assert_eq!(rt; err.as_slice(), told.as_bytes());
+        assert_eq!(rt; out.device.bytes.len(), written, "{told}");
+        assert_eq!(rt; status, 3, "{told}");
+    }
+}
+
+/// Each allocation of this test is to be refused in turn. Then the answer is that of ample memory, or that there is none.
+#[test]
+fn is_short_of_memory(rt: HostRuntime) -> Result<(), Fail> {
+    let alloc = rt.alloc();
+    let mut trace = Some(Meter::new(Sink::new(Vec::with_capacity(alloc, 24)?, 0)));
+    let mut out = Meter::new(Sink::new(Vec::with_capacity(alloc, 64)?, 0));
+    let mut err = Vec::with_capacity(alloc, 64)?;
+    let file = EBREAK.as_slice();
+    let status = threaded_run_command(
+        &rt,
+        alloc,
+        file,
+        size(0),
+        1,
+        AMPLE,
+        &mut trace,
+        &mut out,
+        &mut err,
+    );
+    if status == 1 {
+        let report = b"processor 0 pc 00010000 fault 8 retired 0 console -\n";
+        assert_eq!(rt; out.device.bytes.as_slice(), report.as_slice());
+        assert_eq!(rt; err.len(), 0);
+    } else {
+        assert_eq!(rt; status, 4);
+        assert_eq!(rt; out.device.bytes.len(), 0);
+        assert!(rt;
+            [b"ultra: memory\n".as_slice(), b"ultra: Start\n".as_slice()].contains(&err.as_slice())
+        );
+    }
+    Ok(())
+}

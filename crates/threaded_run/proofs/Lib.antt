@@ -1,0 +1,3 @@
+pub mod Consoles
+pub mod Records
+pub mod Logging

@@ -1,0 +1,20 @@
+-- The faults of runs on threads, as they are told.
+use Rattle.command_io.specs.declared.fault.Fault.{Fault}
+use Rattle.command_io.specs.declared.fault.Fault.TheVariants as fault
+use Rattle.processor_threads.specs.declared.fault.RunFault.{RunFault}
+use Rattle.processor_threads.specs.declared.fault.RunFault.TheVariants as run
+
+abbrev pub fault_of : RunFault → Fault
+fault_of run.Memory = fault.Memory
+fault_of run.Console = fault.Memory
+fault_of run.Full = fault.Full
+fault_of run.Budget = fault.Budget
+fault_of run.Start = fault.Start
+
+-- It is a fault that a run ends with.
+abbrev pub IsOfRun : Fault → Type 0
+IsOfRun fault.Memory = Unit {0}
+IsOfRun fault.Full = Unit {0}
+IsOfRun fault.Budget = Unit {0}
+IsOfRun fault.Start = Unit {0}
+IsOfRun other = ⊥
