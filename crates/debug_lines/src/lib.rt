@@ -9,8 +9,6 @@ mod command;
 mod laws;
 mod number;
 mod reader;
-#[cfg(test)]
-mod tests;
 mod word;
 mod written;
 

@@ -8,8 +8,6 @@ mod faults;
 mod reading;
 mod showing;
 mod stopping;
-#[cfg(test)]
-mod tests;
 
 pub use breaks::Breaks;
 pub use error::{Error, error_of};

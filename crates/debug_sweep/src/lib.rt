@@ -7,8 +7,6 @@
 mod laws;
 mod runner;
 mod sweep;
-#[cfg(test)]
-mod tests;
 
 pub use laws::runs_are_in_order;
 pub use runner::Runner;

@@ -13,8 +13,8 @@ ghost use Rattle.debug_sweep.specs.Sweeps.{HasContinued, HasSwept, IsUnderWay};
 use crate::runner::Runner;
 use debug_replies::Breaks;
 use flat_machine::{Cause, Status};
-use machine_log::{LogRefusal, Logged, Roomy};
-use machine_runs::{Machine, most_moves, replays_are_cut};
+use machine_log::{LogRefusal, Logged, Roomy, roomy_is_kept};
+use machine_runs::{Machine, machine_is_sound, most_moves, replays_are_cut};
 use machine_sweep::{Round, any_runs, rounds_go_on, sweeps_write_nothing};
 use steps::{Outcome, Step};
 
@@ -56,14 +56,13 @@ fn sweep_and_drain(log: &mut Roomy, breaks: &Breaks, budget: u32)
     ensures ran { HasRun log.old.log log.new.log }
     ensures continued { HasContinued breaks.now budget log.old.log log.new.log }
 {
-    // The proof needs that the machine is the replay of the steps, before and after.
     replays_are_cut();
     sweeps_write_nothing();
-    let _ = log.machine();
+    roomy_is_kept(log);
     let limit = log.steps().len() + budget as usize;
     follow(log, breaks, limit);
     log.drain();
-    let _ = log.machine();
+    roomy_is_kept(log);
 }
 
 /// Follows the sweep until it ends, or the log has so many steps.
@@ -74,8 +73,7 @@ fn follow(log: &mut Roomy, breaks: &Breaks, limit: usize)
     ensures config { log.new.log.machine.config ≡ log.old.log.machine.config }
     ensures places { KeepsPlaces log.old log.new }
 {
-    // The proof needs that the machine is the replay of the steps.
-    let _ = log.machine();
+    roomy_is_kept(log);
     let mut retired = none_retired();
     // While a processor runs, a round enters a step, or ends the sweep.
     while log.steps().len() < limit {
@@ -125,8 +123,7 @@ fn take_round(
         }
         let outcome = log.step(step);
         note(retired, &step, &outcome);
-        // The proof needs that the machine is the replay of the steps.
-        let _ = log.machine();
+        roomy_is_kept(log);
         if is_fault(&outcome) {
             return true;
         }
@@ -153,8 +150,7 @@ fn meets_break(
 fn is_at_break(p: u8, machine: &Machine, breaks: &Breaks, retired: &[bool; MOST_PROCESSORS]) -> bool
     ensures { IsTrue result ↔ IsAtBreak machine.now breaks.now retired.now p }
 {
-    // A machine has 64 processors at most.
-    let _ = machine.config();
+    machine_is_sound(machine);
     let Some(pc) = machine.pc(p) else {
         return false;
     };

@@ -7,7 +7,7 @@ pub loop-retired-init : goal.loop-retired-init
 loop-retired-init c = record {
   config = refl;
   places = refl;
-  under_way = begins c.args.breaks.now c.args.limit c.args.log.now.log c.none_retired-retired.result c.machine.ensures.replay c.requires.few
+  under_way = begins c.args.breaks.now c.args.limit c.args.log.now.log c.none_retired-retired.result c.roomy_is_kept.ensures.replay c.requires.few
       (λ p within. c.none_retired-retired.ensures p);
 }
 
@@ -15,7 +15,7 @@ pub returns-then-not-any_runs-clause-swept : goal.returns-then-not-any_runs-clau
 returns-then-not-any_runs-clause-swept c =
     ends_where_none_runs c.args.breaks.now c.args.limit c.args.log.now.log c.loop-retired.log.log c.loop-retired.retired c.loop-retired.invariant.under_way
     (λ runs.
-    let there = subst HasRunning (sym c.machine-in-loop-retired.ensures.machine) runs in
+    let there = subst HasRunning (sym c.machine.ensures.machine) runs in
     let yes = c.any_runs.ensures.1 there in let other = c.if-not-any_runs.true in let is = c.if-not-any_runs.ensures in cc)
 
 pub returns-then-take_round-clause-swept : goal.returns-then-take_round-clause-swept

@@ -1,5 +1,4 @@
-use Rattle.std.proofs.Common.{◌<◌, ◌≤◌, ◌^◌, ◌∙◌, sym, subst, arith}
-use Rattle.flat_machine.specs.declared.config.Config.{Config}
+use Rattle.std.proofs.Common.{◌<◌, ◌≤◌, ◌^◌, ◌∙◌, sym, arith}
 use Rattle.machine_program.specs.Processors.{port_at}
 use Rattle.debug_sweep.proofs.Few.{below_64, is_there}
 use Rattle.debug_sweep.proofs.sweep.is_at_break.Goals as goal
@@ -9,5 +8,5 @@ bounds-retired-from c =
     let m = c.args.machine.now in
     let there : c.args.p < 2 ^ m.config.k =
     is_there c.args.p (2 ^ m.config.k) (port_at m.ports c.args.p).core.state.pc c.in-Some.pc (sym c.pc.ensures ∙ c.in-Some.is) in
-    let within = below_64 m.config.k c.args.p (subst (λ (d : Config). d.k ≤ 6) c.config.ensures.config c.config.ensures.limits.stages) there in
+    let within = below_64 m.config.k c.args.p c.machine_is_sound.ensures.limits.stages there in
     let same = c.from.ensures in omega (arith, within, same)

@@ -35,7 +35,7 @@ returns-then-is_fault-clause-over c e first before =
     ends_by_fault c.args.breaks.now c.args.limit first l c.step-outcome.new.self.log c.loop-round.retired
     (c.loop-round.invariant.under_way first before) step c.step-outcome.result c.step-outcome.ensures.taken c.step-outcome.ensures.answer
     (c.sweeps_write_nothing.ensures.rounds l.machine.config.k n.place step n.there)
-    c.machine-in-loop-round-3.ensures.replay
+    c.roomy_is_kept.ensures.replay
     (λ meets. true≢false (sym (c.if-meets_break.ensures.1
     (subst (λ m. MeetsBreak m c.args.breaks.now c.loop-round.retired step) (sym c.machine-in-loop-round-2.ensures.machine) meets))))
     (let there = ap length c.steps.ensures.steps in omega (arith, there, c.loop-round-test.true))
@@ -63,7 +63,7 @@ loop-round-preserved c =
           let stages = subst (λ (d : Config). d.k ≤ 6) (kept.replay.run.config ∙ ap (λ (m : MachineLists). m.config) u.opening) kept.sound.limits.stages in
           goes_on c.args.breaks.now c.args.limit first l new c.loop-round.retired u step c.step-outcome.result taken c.step-outcome.ensures.answer
           (c.sweeps_write_nothing.ensures.rounds l.machine.config.k n.place step n.there)
-          c.machine-in-loop-round-3.ensures.replay
+          c.roomy_is_kept.ensures.replay
           (λ meets. true≢false (sym (c.if-meets_break.ensures.1
           (subst (λ m. MeetsBreak m c.args.breaks.now c.loop-round.retired step) (sym c.machine-in-loop-round-2.ensures.machine) meets))))
           room

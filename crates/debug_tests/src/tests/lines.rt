@@ -2,8 +2,8 @@
 
 ghost use Rattle.std.specs.Prelude.{◌<◌};
 
-use crate::{Command, Event, LineReader, MAX_LINE, pack};
 use arrayvec::ArrayVec;
+use debug_lines::{Command, Event, LineReader, MAX_LINE, pack};
 use std::alloc::{AllocError, Global};
 use std::test::Fail;
 

@@ -1,5 +1,5 @@
 use Rattle.std.proofs.Common.{length}
-use Rattle.debug_lines.proofs.tests.told.Given as goal
+use Rattle.debug_tests.proofs.tests.lines.told.Given as goal
 
 abbrev pub invariant-loop-rest : goal.invariant-loop-rest
 invariant-loop-rest l = Unit {0}

@@ -1,8 +1,8 @@
 //! Stop replies.
 
 use super::{poke, two};
-use crate::{Breaks, Faults, named_stop, show_stop};
 use arrayvec::ArrayVec;
+use debug_replies::{Breaks, Faults, named_stop, show_stop};
 use flat_machine::{PC, Poke};
 use machine::Machine;
 use std::test::Fail;

@@ -1,9 +1,9 @@
 //! What commands show.
 
 use super::{poke, two};
-use crate::show;
 use arrayvec::ArrayVec;
 use debug_lines::Command;
+use debug_replies::show;
 use flat_machine::{LOCAL_START, PC, Poke, SHARED_START};
 use machine::Machine;
 use std::process::Abort;

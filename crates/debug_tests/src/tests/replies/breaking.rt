@@ -1,6 +1,6 @@
 //! Breaks at the limits of code.
 
-use crate::Breaks;
+use debug_replies::Breaks;
 
 /// A code word is in code and divisible by 4. A break is set and cleared also where it is there and where it is not.
 #[test]

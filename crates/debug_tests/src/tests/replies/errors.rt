@@ -1,8 +1,8 @@
 //! The error of each command, the smallest number first.
 
 use super::two;
-use crate::{Error, error_of};
 use debug_lines::Command;
+use debug_replies::{Error, error_of};
 use std::test::Fail;
 
 /// Each line, and the error that it has on a machine of two processors with two shared words.

@@ -1,8 +1,8 @@
 //! Sweeps with breaks, by hand.
 
-use crate::{Runner, Sweep};
 use assembler::assemble;
 use debug_replies::Breaks;
+use debug_sweep::{Runner, Sweep};
 use elf_image::read_image;
 use flat_machine::{Config, Status};
 use link::Meter;

@@ -1,0 +1,4 @@
+pub mod GoingOn
+pub mod Sound
+pub mod Talking
+pub mod Writing

@@ -1,0 +1,15 @@
+use Rattle.std.proofs.Common.{◌≡◌, ℕ, List, ◌++◌, length, false}
+use Rattle.machine_runs.specs.Machines.{IsIdle}
+use Rattle.debug_session.specs.Conversations.{Goes}
+use Rattle.debug_session.proofs.serving.serve_piece.Given as goal
+
+-- what was fed was answered whole
+abbrev pub invariant-loop-rest : goal.invariant-loop-rest
+invariant-loop-rest g l =
+    (g.W.Link.has_failed l.writer ≡ false) × IsIdle l.log.machine
+    × ((input : List ℕ) × (l.piece ≡ input ++ l.rest)
+    × Goes l.fn.lines (record { log = l.fn.log; breaks = l.fn.breaks }) (g.W.Write.contents l.fn.writer) input
+    l.lines (record { log = l.log; breaks = l.breaks }) (g.W.Write.contents l.writer))
+
+abbrev pub decreases-loop-rest : goal.decreases-loop-rest
+decreases-loop-rest g l = length l.rest

@@ -1,0 +1,124 @@
+-- A whole session, between its reader, its writer and its log.
+use Rattle.std.specs.Prelude.{◌≡◌, ℕ, ◌<◌, Bool, true, false, List, [], ◌∷◌, ◌++◌, length, Option}
+use Rattle.std.specs.Io.KnownBytes.{Appends, Consumes, IsAtEnd}
+use Rattle.debug_lines.specs.declared.reader.Event.{Event}
+use Rattle.debug_lines.specs.Lines.{Held, IsAfter, joined}
+use Rattle.debug_replies.specs.Breaking.{is_break}
+use Rattle.machine_runs.specs.Draining.{drain_steps, IsDrained}
+use Rattle.machine_runs.specs.Machines.{IsIdle}
+use Rattle.machine_log.specs.Logs.{Log}
+use Rattle.debug_session.specs.Answers.{Session}
+use Rattle.debug_session.specs.Dialogues.{Dialogue, NoneQuits, is_quit}
+use Rattle.debug_session.specs.declared.session_end.SessionEnd.{SessionEnd}
+use Rattle.debug_session.specs.declared.session_end.SessionEnd.TheVariants.{Quit, EndOfInput, ReadFailed, WriteFailed, Memory, TraceFull}
+
+-- The events are these and a last one, and none but the last ends the session.
+pub record EndsWith (events : List Event) (ends : Event → Type 0) : Type 0 where
+  pub before : List Event
+  pub last : Event
+  pub all : events ≡ before ++ last ∷ []
+  pub none : NoneQuits before
+  pub end : ends last
+
+-- What is missing is the end of the last reply's line, and not empty.
+pub record IsCutShort (replies : List (List ℕ)) (missing : List ℕ) : Type 0 where
+  pub before : List (List ℕ)
+  pub last : List ℕ
+  pub all : replies ≡ before ++ last ∷ []
+  pub part : List ℕ
+  pub cut : last ++ 10 ∷ [] ≡ part ++ missing
+  pub some : 0 < length missing
+
+-- What the ways to end say of the events and their replies, of the bytes that were taken and not read, of the text that was not
+-- written, and of what the reader has left.
+abbrev pub IsEnd : SessionEnd → List Event → (replies : List (List ℕ)) → (unread missing : List ℕ) → (left : Option (List ℕ)) → Type 0
+IsEnd Quit events replies unread missing left = (missing ≡ []) × EndsWith events (λ event. is_quit event ≡ true)
+IsEnd EndOfInput events replies unread missing left = (missing ≡ []) × NoneQuits events × (unread ≡ []) × IsAtEnd left
+IsEnd ReadFailed events replies unread missing left = (missing ≡ []) × NoneQuits events × (unread ≡ [])
+IsEnd WriteFailed events replies unread missing left = IsCutShort replies missing × EndsWith events (λ _. Unit {0})
+IsEnd Memory events replies unread missing left = ⊥
+IsEnd TraceFull events replies unread missing left = ⊥
+
+-- What a session takes from its reader, writes and leaves, begun with no byte held.
+pub record Conversation (reader reader' writer writer' : Option (List ℕ)) (old new : Session) (end : SessionEnd) : Type 0 where
+  -- the bytes that were read, and those of the last piece that were not
+  pub input : List ℕ
+  pub unread : List ℕ
+  pub took : Consumes reader reader' (input ++ unread)
+  -- the events that they stand for, and what is kept of their rest
+  pub events : List Event
+  pub held : Held
+  pub lines : IsAfter input events held
+  -- the replies, each with its line feed, and how much of them was written
+  pub replies : List (List ℕ)
+  pub dialogue : Dialogue old events replies new
+  pub written : List ℕ
+  pub missing : List ℕ
+  pub cut : joined replies ≡ written ++ missing
+  pub wrote : Appends writer writer' written
+  pub ending : IsEnd end events replies unread missing reader'
+
+-- The log has taken the steps of a drain.
+pub record HasDrained (old new : Log) : Type 0 where
+  pub opening : new.opening ≡ old.opening
+  pub steps : new.steps ≡ old.steps ++ drain_steps old.machine
+  pub count : ℕ
+  pub drained : IsDrained old.machine count new.machine
+
+-- A session drains its machine, and then holds a conversation, begun with no break. No reference is open behind it.
+pub record HasServed (reader reader' writer writer' : Option (List ℕ)) (old new : Log) (end : SessionEnd) : Type 0 where
+  pub drained : Log
+  pub drain : HasDrained old drained
+  pub breaks : List Bool
+  pub no_break : (a : ℕ) → is_break breaks a ≡ false
+  pub breaks' : List Bool
+  pub conversation : Conversation reader reader' writer writer' (record { log = drained; breaks = breaks }) (record { log = new; breaks = breaks' }) end
+  pub idle : IsIdle new.machine
+
+-- ---- on the way
+
+-- what a reader of lines was given
+abbrev pub Reads : (held : Held) → (input : List ℕ) → List Event → (kept : Held) → Type 0
+Reads held input events kept =
+    (bytes : List ℕ) (before : List Event) → IsAfter bytes before held → IsAfter (bytes ++ input) (before ++ events) kept
+
+-- Some events were read, none of which ends the session, and answered whole.
+pub record Goes (held : Held) (old : Session) (writer : Option (List ℕ)) (input : List ℕ) (kept : Held) (new : Session) (writer' : Option (List ℕ))
+    : Type 0 where
+  pub events : List Event
+  pub replies : List (List ℕ)
+  pub lines : Reads held input events kept
+  pub dialogue : Dialogue old events replies new
+  pub wrote : Appends writer writer' (joined replies)
+  pub none : NoneQuits events
+
+-- how a session may end while it answers
+abbrev pub IsStop : SessionEnd → List Event → (replies : List (List ℕ)) → (missing : List ℕ) → Type 0
+IsStop Quit events replies missing = (missing ≡ []) × EndsWith events (λ event. is_quit event ≡ true)
+IsStop WriteFailed events replies missing = IsCutShort replies missing × EndsWith events (λ _. Unit {0})
+IsStop EndOfInput events replies missing = ⊥
+IsStop ReadFailed events replies missing = ⊥
+IsStop Memory events replies missing = ⊥
+IsStop TraceFull events replies missing = ⊥
+
+-- The same, up to an event that ended the session, or whose reply could not be written.
+pub record Stops (held : Held) (old : Session) (writer : Option (List ℕ)) (input : List ℕ) (kept : Held) (new : Session) (writer' : Option (List ℕ))
+    (end : SessionEnd) : Type 0 where
+  pub events : List Event
+  pub replies : List (List ℕ)
+  pub lines : Reads held input events kept
+  pub dialogue : Dialogue old events replies new
+  pub written : List ℕ
+  pub missing : List ℕ
+  pub cut : joined replies ≡ written ++ missing
+  pub wrote : Appends writer writer' written
+  pub stop : IsStop end events replies missing
+
+-- whether the session was begun: the second fact is for the refusals of the first drain
+abbrev pub IsServed : SessionEnd → (served refused : Type 0) → Type 0
+IsServed Quit served refused = served
+IsServed EndOfInput served refused = served
+IsServed ReadFailed served refused = served
+IsServed WriteFailed served refused = served
+IsServed Memory served refused = refused
+IsServed TraceFull served refused = refused

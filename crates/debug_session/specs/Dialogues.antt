@@ -1,0 +1,44 @@
+-- The dialogue of a session: all events of a stream with their replies.
+use Rattle.std.specs.Prelude.{◌≡◌, ℕ, Bool, true, false, List, [], ◌∷◌, ◌++◌}
+use Rattle.debug_lines.specs.declared.command.Command.{Command}
+use Rattle.debug_lines.specs.declared.command.Command.TheVariants.{State, Registers, Register, Set, Memory, Write, Break, Clear, Step, Continue, Quit}
+use Rattle.debug_lines.specs.declared.command.Command.TheVariants.{Malformed}
+use Rattle.debug_lines.specs.declared.reader.Event.{Event}
+use Rattle.debug_lines.specs.declared.reader.Event.TheVariants.{Line, TooLong}
+use Rattle.debug_lines.specs.Commands.{command_of}
+use Rattle.debug_session.specs.Answers.{Session, Answers}
+
+-- the command that an event asks for: a line that is too long is none
+abbrev pub asked : Event → Command
+asked (Line line) = command_of line
+asked TooLong = Malformed
+
+-- From the old session on, each of the events has one of these replies, in turn, and the last leaves the new session.
+abbrev pub Dialogue : (old : Session) → List Event → (replies : List (List ℕ)) → (new : Session) → Type 0
+Dialogue old [] [] new = new ≡ old
+Dialogue old (event ∷ events) (reply ∷ replies) new = (mid : Session) × Answers old (asked event) reply mid × Dialogue mid events replies new
+Dialogue old [] (reply ∷ replies) new = ⊥
+Dialogue old (event ∷ events) [] new = ⊥
+
+abbrev pub is_quit_command : Command → Bool
+is_quit_command (State p) = false
+is_quit_command (Registers p) = false
+is_quit_command (Register p r) = false
+is_quit_command (Set p r value) = false
+is_quit_command (Memory p address n) = false
+is_quit_command (Write p address bytes) = false
+is_quit_command (Break address) = false
+is_quit_command (Clear address) = false
+is_quit_command (Step p) = false
+is_quit_command Continue = false
+is_quit_command Quit = true
+is_quit_command Malformed = false
+
+-- whether an event ends a session
+abbrev pub is_quit : Event → Bool
+is_quit event = is_quit_command (asked event)
+
+-- no event ends the session
+abbrev pub NoneQuits : List Event → Type 0
+NoneQuits [] = Unit {0}
+NoneQuits (event ∷ events) = (is_quit event ≡ false) × NoneQuits events

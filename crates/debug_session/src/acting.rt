@@ -1,0 +1,125 @@
+//! What commands do that take steps. None of them has an error that a look at the machine shows.
+
+ghost use Rattle.std.specs.Prelude.{◌≡◌, None};
+ghost use Rattle.debug_replies.specs.Errors.{error_of};
+ghost use Rattle.machine_runs.specs.Machines.{IsIdle};
+ghost use Rattle.machine_runs.specs.Runs.{flat_state};
+ghost use Rattle.debug_session.specs.Answers.{ending_of, poke_of, GoesOn, Sets, StepsOnce, Writes};
+
+use debug_lines::{Command, Written};
+use debug_replies::{Breaks, Error, is_running};
+use debug_sweep::{Runner, runs_are_in_order};
+use flat_machine::{Poke, SHARED_START};
+use machine_log::{LogRefusal, Logged, log_is_kept};
+use machine_runs::flat_states_are_read;
+
+/// The most bytes that a line writes.
+const MOST_BYTES: usize = 512;
+
+/// Writes a register: none for register 0.
+pub(crate) fn set(log: &mut Logged, processor: u32, register: u32, value: u32) -> Result<(), Error>
+    requires idle { IsIdle log.old.machine }
+    requires sound { error_of (flat_state log.old.machine) (Command.Set processor register value) ≡ None }
+    ensures sets { Sets log.old processor register value result log.new }
+    ensures idle { IsIdle log.new.machine }
+{
+    if register == 0 {
+        return Ok(());
+    }
+    log_is_kept(log);
+    flat_states_are_read();
+    told(log.pokes(&[Poke::Register {
+        processor: processor as u8,
+        register: register as u8,
+        value,
+    }]))
+}
+
+/// Writes bytes, as a processor sees them.
+pub(crate) fn write(
+    log: &mut Logged,
+    processor: u32,
+    address: u32,
+    bytes: &Written,
+) -> Result<(), Error>
+    requires idle { IsIdle log.old.machine }
+    requires sound { error_of (flat_state log.old.machine) (Command.Write processor address bytes.now) ≡ None }
+    ensures writes { Writes log.old processor address bytes.now result log.new }
+    ensures idle { IsIdle log.new.machine }
+{
+    log_is_kept(log);
+    flat_states_are_read();
+    let mut pokes = [Poke::Shared {
+        address: 0,
+        value: 0,
+    }; MOST_BYTES];
+    let values = bytes.bytes();
+    for (i, value) in values.iter().enumerate() {
+        pokes[i] = poke_of(processor as u8, address + i as u32, *value);
+    }
+    told(log.pokes(&pokes[..values.len()]))
+}
+
+/// The write of one byte: an address from 2^31 on is one of shared memory, each other one of the
+/// processor's own.
+fn poke_of(processor: u8, address: u32, value: u8) -> Poke
+    ensures { result ≡ poke_of processor address value }
+{
+    if address >= SHARED_START {
+        Poke::Shared { address, value }
+    } else {
+        Poke::Local {
+            processor,
+            address,
+            value,
+        }
+    }
+}
+
+/// Takes one whole instruction of a processor: none where it is stopped.
+pub(crate) fn step(log: &mut Logged, processor: u32) -> Result<(), Error>
+    requires idle { IsIdle log.old.machine }
+    requires sound { error_of (flat_state log.old.machine) (Command.Step processor) ≡ None }
+    ensures steps { StepsOnce log.old processor result log.new }
+    ensures idle { IsIdle log.new.machine }
+{
+    log_is_kept(log);
+    flat_states_are_read();
+    if !is_running(log.machine(), processor) {
+        return Ok(());
+    }
+    match log.one(processor as u8) {
+        Ok(_) => Ok(()),
+        Err(refusal) => told(Err(refusal)),
+    }
+}
+
+/// Goes on by a runner.
+pub(crate) fn go_on(
+    log: &mut Logged,
+    breaks: &Breaks,
+    runner: &mut impl Runner,
+    budget: u32,
+) -> Result<(), Error>
+    requires idle { IsIdle log.old.machine }
+    ensures goes_on { GoesOn log.old result log.new }
+    ensures idle { IsIdle log.new.machine }
+{
+    runs_are_in_order();
+    log_is_kept(log);
+    let ran = runner.run(log, breaks, budget);
+    log_is_kept(log);
+    told(ran)
+}
+
+/// How a log's answer is told.
+fn told(answer: Result<(), LogRefusal>) -> Result<(), Error>
+    ensures { result ≡ ending_of answer }
+{
+    match answer {
+        Ok(()) => Ok(()),
+        Err(LogRefusal::Memory) => Err(Error::Memory),
+        Err(LogRefusal::Full) => Err(Error::Room),
+        Err(LogRefusal::Unnamed) => Err(Error::Processor),
+    }
+}

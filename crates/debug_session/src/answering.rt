@@ -1,0 +1,110 @@
+//! What is answered to a command, once it is carried out.
+
+ghost use Rattle.std.specs.Prelude.{◌≡◌, ◌<◌, ℕ};
+ghost use Rattle.debug_replies.specs.Errors.{error_of, error_text};
+ghost use Rattle.debug_replies.specs.Stops.{is_faulted_at, is_flagged};
+ghost use Rattle.machine_runs.specs.Machines.{IsIdle};
+ghost use Rattle.machine_runs.specs.Runs.{flat_state};
+ghost use Rattle.debug_session.specs.Answers.{done_text, ActsUnless, Answers};
+
+use crate::acting::{go_on, set, step, write};
+use arrayvec::ArrayVec;
+use debug_lines::Command;
+use debug_replies::{Breaks, Error, Faults, error_of, named_stop, show, show_stop};
+use debug_sweep::Runner;
+use machine_log::Logged;
+use machine_runs::flat_states_are_read;
+
+/// Carries a command out, and puts the reply to it into the text, in place of what it had.
+pub(crate) fn answer(
+    command: &Command,
+    log: &mut Logged,
+    breaks: &mut Breaks,
+    runner: &mut impl Runner,
+    budget: u32,
+    text: &mut ArrayVec<u8, 1024>,
+)
+    requires idle { IsIdle log.old.machine }
+    ensures answers { Answers (record { log = log.old; breaks = breaks.old }) command.now text.new.items (record { log = log.new; breaks = breaks.new }) }
+    ensures idle { IsIdle log.new.machine }
+{
+    flat_states_are_read();
+    let before = Faults::of(log.machine());
+    match carry_out(command, log, breaks, runner, budget) {
+        Ok(()) => reply(command, log, breaks, &before, text),
+        Err(error) => refuse(error, text),
+    }
+}
+
+/// Carries a command out.
+///
+/// # Errors
+///
+/// That which the command has on the machine ([`error_of`]); else [`Error::Room`] and [`Error::Memory`], where the log has no room
+/// for the steps of the command, or there is no memory for them. Each leaves all as it was.
+fn carry_out(
+    command: &Command,
+    log: &mut Logged,
+    breaks: &mut Breaks,
+    runner: &mut impl Runner,
+    budget: u32,
+) -> Result<(), Error>
+    requires idle { IsIdle log.old.machine }
+    ensures acts { ActsUnless (error_of (flat_state log.old.machine) command.now) (record { log = log.old; breaks = breaks.old }) command.now result
+        (record { log = log.new; breaks = breaks.new }) }
+    ensures idle { IsIdle log.new.machine }
+{
+    if let Some(error) = error_of(log.machine(), command) {
+        return Err(error);
+    }
+    match command {
+        Command::Set {
+            processor,
+            register,
+            value,
+        } => set(log, *processor, *register, *value),
+        Command::Write {
+            processor,
+            address,
+            bytes,
+        } => write(log, *processor, *address, bytes),
+        Command::Break { address } => {
+            breaks.set(*address);
+            Ok(())
+        }
+        Command::Clear { address } => {
+            breaks.clear(*address);
+            Ok(())
+        }
+        Command::Step { processor } => step(log, *processor),
+        Command::Continue => go_on(log, breaks, runner, budget),
+        _ => Ok(()),
+    }
+}
+
+/// Puts the reply to a command that was carried out into the text.
+fn reply(
+    command: &Command,
+    log: &Logged,
+    breaks: &Breaks,
+    before: &Faults,
+    text: &mut ArrayVec<u8, 1024>,
+)
+    requires named { (p : ℕ) → command.now ≡ Command.Step p → p < 256 }
+    ensures { text.new.items ≡ done_text (is_flagged before.now) (flat_state log.now.machine) breaks.now command.now }
+{
+    let machine = log.machine();
+    match command {
+        Command::Step { processor } => show_stop(machine, Some(*processor as u8), text),
+        Command::Continue => show_stop(machine, named_stop(machine, breaks, before), text),
+        _ => show(machine, command, text),
+    }
+}
+
+/// Puts the reply to a command that was refused into the text.
+fn refuse(error: Error, text: &mut ArrayVec<u8, 1024>)
+    ensures { text.new.items ≡ error_text error }
+{
+    text.clear();
+    let _ = text.try_extend_from_slice(error.text().as_bytes());
+}

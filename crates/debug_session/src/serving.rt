@@ -1,0 +1,154 @@
+//! A session's own loops.
+
+ghost use Rattle.std.specs.Prelude.{◌≡◌, ◌↔◌, ◌<◌, ◌+◌, [], ◌∷◌, ◌++◌, ℕ, List, true, false, length, is_err, MatchResult, IfSome, IfNone};
+ghost use Rattle.std.specs.Io.KnownBytes.{Appends};
+ghost use Rattle.link.specs.Transfer.{AppendsPart};
+ghost use Rattle.machine_runs.specs.Draining.{drain_bound};
+ghost use Rattle.machine_runs.specs.Machines.{IsIdle};
+ghost use Rattle.debug_session.specs.Answers.{Answers};
+ghost use Rattle.debug_session.specs.Dialogues.{asked, is_quit};
+ghost use Rattle.debug_session.specs.Conversations.{Goes, HasServed, IsServed, Stops};
+
+use crate::answering::answer;
+use crate::session_end::SessionEnd;
+use arrayvec::ArrayVec;
+use debug_lines::{Command, Event, LineReader, pack};
+use debug_replies::Breaks;
+use debug_sweep::Runner;
+use link::{Failed, LinkRead, LinkWrite, write_whole};
+use machine_log::{LogRefusal, Logged};
+use std::sync::Wait;
+
+/// The most bytes that are read at once.
+const PIECE_BYTES: usize = 256;
+
+/// Serves a session. It takes steps until no reference is open; then it reads lines, at most 256 bytes at once. A line that
+/// is whole is carried out, and then its reply is written. It ends at `quit`, at the end of the input, or where the reader or
+/// the writer fails.
+///
+/// So at each end but those of the first steps, the machine stands after the commands that were read, the last of them
+/// possibly unanswered. Bytes behind the last line feed do nothing. A session waits for its reader, so nothing is said of
+/// whether it returns.
+pub fn serve<R: LinkRead, W: LinkWrite>(
+    rt: &impl Wait,
+    reader: &mut R,
+    writer: &mut W,
+    log: &mut Logged,
+    runner: &mut impl Runner,
+    budget: u32,
+) -> SessionEnd
+    requires reads { R.has_failed reader.old ≡ false }
+    requires writes { W.has_failed writer.old ≡ false }
+
+    // The link's faults are answered exactly where the link failed.
+    ensures read_failed { (result ≡ SessionEnd.ReadFailed) ↔ (R.has_failed reader.new ≡ true) }
+    ensures write_failed { (result ≡ SessionEnd.WriteFailed) ↔ (W.has_failed writer.new ≡ true) }
+
+    // The refusals of the first steps.
+    ensures full { (result ≡ SessionEnd.TraceFull) ↔ (4194304 < length log.old.steps + drain_bound log.old.machine.config) }
+    ensures refused { IsServed result (Unit {0}) ((reader.new ≡ reader.old) × (writer.new ≡ writer.old) × (log.new ≡ log.old)) }
+
+    // All else is the dialogue of the events that were read.
+    ensures served { IsServed result (HasServed (R.remaining reader.old) (R.remaining reader.new) (W.contents writer.old) (W.contents writer.new)
+        log.old log.new result) (Unit {0}) }
+{
+    match log.drain() {
+        Ok(_) => {}
+        Err(LogRefusal::Full) => return SessionEnd::TraceFull,
+        Err(_) => return SessionEnd::Memory,
+    }
+    let mut breaks = Breaks::new();
+    let mut lines = LineReader::new();
+    let mut piece = [0u8; PIECE_BYTES];
+    for _ in rt.forever() {
+        let count = match reader.receive(&mut piece) {
+            Ok(0) => return SessionEnd::EndOfInput,
+            Ok(count) => count,
+            Err(Failed) => return SessionEnd::ReadFailed,
+        };
+        if let Some(end) = serve_piece(
+            &piece[..count],
+            &mut lines,
+            writer,
+            log,
+            &mut breaks,
+            runner,
+            budget,
+        ) {
+            return end;
+        }
+    }
+    unreachable!()
+}
+
+/// Answers the events that end in a piece.
+fn serve_piece<W: LinkWrite>(
+    piece: &[u8],
+    lines: &mut LineReader,
+    writer: &mut W,
+    log: &mut Logged,
+    breaks: &mut Breaks,
+    runner: &mut impl Runner,
+    budget: u32,
+) -> Option<SessionEnd>
+    requires writes { W.has_failed writer.old ≡ false }
+    requires idle { IsIdle log.old.machine }
+    ensures failed { (result ≡ Some SessionEnd.WriteFailed) ↔ (W.has_failed writer.new ≡ true) }
+    ensures idle { IsIdle log.new.machine }
+    ensures goes { IfNone result (Goes lines.old (record { log = log.old; breaks = breaks.old }) (W.contents writer.old) piece.now
+        lines.new (record { log = log.new; breaks = breaks.new }) (W.contents writer.new)) }
+    ensures stops { IfSome result (λ end. (input : List ℕ) × (unread : List ℕ) × (piece.now ≡ input ++ unread)
+        × Stops lines.old (record { log = log.old; breaks = breaks.old }) (W.contents writer.old) input
+        lines.new (record { log = log.new; breaks = breaks.new }) (W.contents writer.new) end) }
+{
+    let mut rest = piece;
+    while !rest.is_empty() {
+        let (count, event) = lines.feed(rest);
+        rest = &rest[count..];
+        if let Some(event) = event {
+            match serve_event(&event, writer, log, breaks, runner, budget) {
+                Ok(false) => {}
+                Ok(true) => return Some(SessionEnd::Quit),
+                Err(Failed) => return Some(SessionEnd::WriteFailed),
+            }
+        }
+    }
+    None
+}
+
+/// Carries an event out, and then writes the reply to it. Says whether it ends the session.
+fn serve_event<W: LinkWrite>(
+    event: &Event,
+    writer: &mut W,
+    log: &mut Logged,
+    breaks: &mut Breaks,
+    runner: &mut impl Runner,
+    budget: u32,
+) -> Result<bool, Failed>
+    requires writes { W.has_failed writer.old ≡ false }
+    requires idle { IsIdle log.old.machine }
+    ensures failed { W.has_failed writer.new ≡ is_err result }
+    ensures idle { IsIdle log.new.machine }
+    ensures answered { (text : List ℕ)
+        × Answers (record { log = log.old; breaks = breaks.old }) (asked event.now) text (record { log = log.new; breaks = breaks.new })
+        × MatchResult result (λ quits. (quits ≡ is_quit event.now) × Appends (W.contents writer.old) (W.contents writer.new) (text ++ 10 ∷ []))
+        (λ _. AppendsPart (W.contents writer.old) (W.contents writer.new) (text ++ 10 ∷ [])) }
+{
+    let command = asked(event);
+    let mut text = ArrayVec::new();
+    answer(&command, log, breaks, runner, budget, &mut text);
+    let mut packed = ArrayVec::new();
+    pack(text.as_slice(), &mut packed);
+    write_whole(writer, packed.as_slice())?;
+    Ok(matches!(command, Command::Quit))
+}
+
+/// The command that an event asks for: a line that is too long is none.
+fn asked(event: &Event) -> Command
+    ensures { result ≡ asked event.now }
+{
+    match event {
+        Event::Line(line) => Command::read(line.bytes()),
+        Event::TooLong => Command::Malformed,
+    }
+}

@@ -1,0 +1,118 @@
+//! Sessions over memory, and over devices that fall short or fail. Expected replies are worked out by hand.
+
+ghost use Rattle.std.specs.Prelude.{◌≡◌, false};
+
+mod cutting;
+mod failing;
+mod limits;
+mod replies;
+
+use assembler::assemble;
+use debug_session::{SessionEnd, serve};
+use debug_sweep::Sweep;
+use elf_image::read_image;
+use flat_machine::{Config, Poke, SHARED_START};
+use link::{LinkRead, Meter};
+use machine_log::Logged;
+use machine_runs::Machine;
+use std::alloc::AllocGlobal;
+use std::process::Abort;
+use std::sync::Wait;
+use std::test::Fail;
+use steps::{Outcome, Step};
+use test_devices::Sink;
+
+/// Instructions that refer to the shared word at `a2`, at 0x10000 to 0x10010.
+const ROW: &str = "
+ amoadd.w x10, x11, (x12)
+ amoswap.w x10, x11, (x12)
+ amomin.w x10, x11, (x12)
+ sb x11, 0(x12)
+ sb x11, 3(x12)
+";
+
+/// Two instructions that take no reference, and a halt, at 0x10000, 0x10004 and 0x10008.
+const THREE: &str = "addi x1, x0, 1\naddi x2, x0, 2\necall";
+
+/// Steps that a `cont` enters at most.
+const BUDGET: u32 = 1000;
+
+/// The log of a machine of `2^k` processors that opens on the image of a text.
+fn log_of(rt: &(impl Abort + AllocGlobal), text: &str, k: u8) -> Result<Logged, Fail> {
+    let alloc = rt.alloc();
+    let size = Config {
+        k,
+        c: 4,
+        b: 4,
+        shared_words: 1024,
+    };
+    let file = assemble(alloc, text)?.to_elf(alloc)?;
+    let image = read_image(alloc, &mut Meter::new(file.as_slice()), &size)?;
+    let machine = Machine::new(alloc, image, size)?;
+    assert!(rt; machine.is_idle());
+    Ok(Logged::new(alloc, machine))
+}
+
+/// Takes a step, which is told so.
+fn take(rt: &impl Abort, log: &mut Logged, step: Step, told: Outcome) -> Result<(), Fail> {
+    assert_eq!(rt; log.step(step)?, told, "{step:?}");
+    Ok(())
+}
+
+/// Writes a register of a processor.
+fn put(
+    rt: &impl Abort,
+    log: &mut Logged,
+    processor: u8,
+    register: u8,
+    value: u32,
+) -> Result<(), Fail> {
+    let poke = Poke::Register {
+        processor,
+        register,
+        value,
+    };
+    take(rt, log, Step::Poke(poke), Outcome::Poked)
+}
+
+/// The log of four processors that are to add 1, 2, 4 and 8 to word 0, which is 10.
+fn adders(rt: &(impl Abort + AllocGlobal)) -> Result<Logged, Fail> {
+    let mut log = log_of(rt, ROW, 2)?;
+    for processor in 0..4 {
+        put(rt, &mut log, processor, 11, 1 << processor)?;
+        put(rt, &mut log, processor, 12, SHARED_START)?;
+    }
+    let poke = Poke::Shared {
+        address: SHARED_START,
+        value: 10,
+    };
+    take(rt, &mut log, Step::Poke(poke), Outcome::Poked)?;
+    Ok(log)
+}
+
+/// How a session ends that reads from this link, and what it writes.
+fn talk<R: LinkRead>(
+    rt: &(impl Wait + AllocGlobal),
+    log: &mut Logged,
+    reader: &mut R,
+) -> (SessionEnd, Vec<u8>)
+    requires { R.has_failed reader.old ≡ false }
+{
+    let mut writer = Meter::new(Sink::new(Vec::new(rt.alloc()), 0));
+    let end = serve(rt, reader, &mut writer, log, &mut Sweep, BUDGET);
+    (end, writer.device.bytes)
+}
+
+/// A session of these lines has these replies, and ends so. No reference is open then.
+fn replies_are(
+    rt: &(impl Wait + Abort + AllocGlobal),
+    log: &mut Logged,
+    input: &[u8],
+    output: &[u8],
+    ends: SessionEnd,
+) {
+    let (end, text) = talk(rt, log, &mut Meter::new(input));
+    assert_eq!(rt; text.as_slice(), output);
+    assert_eq!(rt; end, ends);
+    assert!(rt; log.machine().is_idle());
+}

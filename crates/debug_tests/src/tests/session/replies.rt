@@ -1,0 +1,168 @@
+//! Sessions of small machines.
+
+use super::{ROW, THREE, adders, log_of, replies_are, take};
+use debug_session::SessionEnd;
+use std::test::Fail;
+use steps::{Outcome, Step};
+
+/// A session on a new machine of four processors, or of one, with its replies.
+const FOUR: &[(&str, &str)] = &[
+    // The reference is at address 0, where there is no memory.
+    (
+        "step 0\nstate 0\nstate 3\nstate 4\n",
+        "at 0\nfault 5\nrun\nE03\n",
+    ),
+    // A processor that is stopped takes no instruction.
+    (
+        "step 1\nstep 1\nregs 4\nstate 1\n",
+        "at 1\nat 1\nE03\nfault 5\n",
+    ),
+    ("mem 0 80000000 0\n", "E01\n"),
+    ("reg 8 1\n", "E03\n"),
+    ("reg 0 21\n", "E04\n"),
+    ("set 0 20 10002\n", "E02\n"),
+    ("set 0 1 7\nreg 0 1\nreg 1 1\n", "ok\n00000007\n00000000\n"),
+    // Nothing is written to register 0, and `pc` is register 32.
+    (
+        "set 0 0 7\nreg 0 0\nset 3 20 10004\nreg 3 20\n",
+        "ok\n00000000\nok\n00010004\n",
+    ),
+    // Two shared words, which all see, and local memory, which its processor sees alone.
+    (
+        "write 0 80000002 01020304\nmem 3 80000000 8\nwrite 1 20000 Ab\nmem 1 20000 2\nmem 0 20000 2\n",
+        "ok\n0000010203040000\nok\nab00\n0000\n",
+    ),
+    // Shared memory has 1,024 words. Code is not written.
+    (
+        "write 0 80000ffe 010203\nwrite 0 80000ffe 0102\nmem 0 80000ffe 2\nwrite 0 1fffe 010203\nmem 0 10000 4\n",
+        "E02\nok\n0102\nE02\n2f25b600\n",
+    ),
+    // The smallest number is told: an address before a processor.
+    (
+        "mem 4 0 1\nset 4 21 1\nset 3 21 1\nbreak 10002\nclear 20000\n",
+        "E02\nE03\nE04\nE02\nE02\n",
+    ),
+    // A line that is no command, in the cases of words and numbers.
+    (
+        "state 0\r\nSTATE 0\nstate  0\n\nreg 0 1F\n",
+        "E01\nE01\nE01\nE01\n00000000\n",
+    ),
+    // Bytes behind the last line feed do nothing.
+    ("set 0 1 7\nset 0 1 8", "ok\n"),
+];
+
+#[test]
+fn replies_of_four(rt: HostRuntime) -> Result<(), Fail> {
+    for (input, output) in FOUR {
+        let mut log = log_of(&rt, ROW, 2)?;
+        replies_are(
+            &rt,
+            &mut log,
+            input.as_bytes(),
+            output.as_bytes(),
+            SessionEnd::EndOfInput,
+        );
+    }
+    Ok(())
+}
+
+/// Breaks that are set and cleared, and where `cont` stops.
+const ONE: &[(&str, &str)] = &[
+    (
+        "break 10004\ncont\nreg 0 20\ncont\nstate 0\n",
+        "ok\nat 0\n00010004\nhalted\nhalt 00\n",
+    ),
+    // Two breaks, of which one is set twice and cleared.
+    (
+        "break 10004\nbreak 10008\nbreak 10004\nclear 10004\nclear 10000\ncont\nreg 0 20\nreg 0 2\ncont\n",
+        "ok\nok\nok\nok\nok\nat 0\n00010008\n00000002\nhalted\n",
+    ),
+    (
+        "step 0\nreg 0 1\nstep 0\nstep 0\nstep 0\n",
+        "at 0\n00000001\nat 0\nhalted\nhalted\n",
+    ),
+    // The processor that a fault stops is named; where `cont` begins none runs.
+    (
+        "set 0 20 20000\ncont\ncont\nstate 0\n",
+        "ok\nat 0\nat -\nfault 2\n",
+    ),
+    ("quit\nstate 0\n", "ok\n"),
+];
+
+#[test]
+fn replies_of_one(rt: HostRuntime) -> Result<(), Fail> {
+    for (input, output) in ONE {
+        let mut log = log_of(&rt, THREE, 0)?;
+        let end = if input.starts_with("quit") {
+            SessionEnd::Quit
+        } else {
+            SessionEnd::EndOfInput
+        };
+        replies_are(&rt, &mut log, input.as_bytes(), output.as_bytes(), end);
+    }
+    Ok(())
+}
+
+/// With the budget used up no processor is named.
+#[test]
+fn used_up_budget(rt: HostRuntime) -> Result<(), Fail> {
+    let mut log = log_of(&rt, "again: jal x0, again", 1)?;
+    replies_are(&rt, &mut log, b"cont\n", b"at -\n", SessionEnd::EndOfInput);
+    assert_eq!(rt; log.steps().len(), 1000);
+    Ok(())
+}
+
+/// A reference that is open when a session begins is brought to its end before a line is answered: six steps.
+#[test]
+fn answers_behind_the_drain(rt: HostRuntime) -> Result<(), Fail> {
+    let mut log = adders(&rt)?;
+    take(&rt, &mut log, Step::Turn(0), Outcome::Issued)?;
+    let before = log.steps().len();
+    let mut expected = Vec::new(rt.alloc());
+    for register in 0..33u8 {
+        expected.extend_from_slice(match register {
+            10 => b"0000000a",
+            11 => b"00000001",
+            12 => b"80000000",
+            32 => b"00010004",
+            _ => b"00000000",
+        })?;
+    }
+    expected.push(b'\n')?;
+    replies_are(
+        &rt,
+        &mut log,
+        b"regs 0\n",
+        expected.as_slice(),
+        SessionEnd::EndOfInput,
+    );
+    assert_eq!(rt; log.steps().len(), before + 6);
+    Ok(())
+}
+
+/// A line of 1,025 bytes is none, whatever it says; one of 1,024 may be: 504 bytes in digits behind 16 bytes.
+#[test]
+fn longest_lines(rt: HostRuntime) -> Result<(), Fail> {
+    for (start, byte, count, output, steps) in [
+        ("", b'm', 1025, b"E01\n".as_slice(), 0),
+        ("write 0 0020000 ", b'5', 1008, b"ok\n", 504),
+        ("write 0 00020000 ", b'5', 1008, b"E01\n", 0),
+    ] {
+        let mut log = log_of(&rt, THREE, 0)?;
+        let mut line = Vec::new(rt.alloc());
+        line.extend_from_slice(start.as_bytes())?;
+        for _ in 0..count {
+            line.push(byte)?;
+        }
+        line.push(b'\n')?;
+        replies_are(
+            &rt,
+            &mut log,
+            line.as_slice(),
+            output,
+            SessionEnd::EndOfInput,
+        );
+        assert_eq!(rt; log.steps().len(), steps);
+    }
+    Ok(())
+}
