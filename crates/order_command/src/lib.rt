@@ -11,8 +11,6 @@ mod lines;
 mod machines;
 mod reading;
 mod taking;
-#[cfg(test)]
-mod tests;
 
 pub use command::order_command;
 pub use lines::order_text;

@@ -10,7 +10,7 @@ ghost use Rattle.order_command.specs.Orders.{IsBroughtHome};
 use command_io::Fault;
 use elf_image::Image;
 use flat_machine::{Config, Entry};
-use machine_runs::{Machine, drain_step, most_moves, order, runs_are_serialized};
+use machine_runs::{Machine, drain_step, machine_is_sound, most_moves, order, runs_are_serialized};
 use run_commands::machine_of;
 use std::alloc::{AllocError, Global};
 use steps::Step;
@@ -34,8 +34,7 @@ pub fn brought_home(
     ensures refused { IfErr result (IsNotTaken config image.now steps.now) }
 {
     let mut machine = opened(alloc, image, config)?;
-    // The proof needs that the machine is one.
-    let _ = machine.is_idle();
+    machine_is_sound(&machine);
     if let Err(stalled) = replay(&mut machine, steps) {
         return Err(Fault::Stalled(stalled.place));
     }
@@ -51,8 +50,7 @@ fn push_drain(machine: &mut Machine, steps: &mut Vec<Step>) -> Result<(), AllocE
     ensures steps { OnOk result (steps.new.items ≡ steps.old.items ++ drain_steps machine.old) }
     ensures replay { OnOk result ((opening : MachineLists) → IsReplay opening steps.old.items machine.old → IsReplay opening steps.new.items machine.new) }
 {
-    // The proof needs that the machine is one.
-    let _ = machine.is_idle();
+    machine_is_sound(machine);
     for _ in 0..most_moves(machine) {
         let Some(step) = drain_step(machine) else {
             return Ok(());

@@ -8,13 +8,11 @@
 mod choice;
 mod laws;
 mod reference;
-#[cfg(test)]
-mod tests;
 mod texts;
 mod words;
 
 pub use choice::Choice;
 pub use laws::{lines_go_on, turns_have_lines};
 pub use reference::Reference;
-pub use texts::{push_poke, push_turn};
+pub use texts::{push_event, push_poke, push_register, push_turn};
 pub use words::{processor_of_poke, word_of_instruction, word_of_poke};

@@ -40,8 +40,12 @@ pub fn push_turn(
     text.push('\n')
 }
 
-/// Appends what a turn shows.
-fn push_event(alloc: Global, text: &mut String, event: &Event) -> Result<(), AllocError>
+/// Appends what a turn shows: the instruction and what it gave, or how the processor stopped.
+///
+/// # Errors
+///
+/// [`AllocError`] where there is no memory for it.
+pub fn push_event(alloc: Global, text: &mut String, event: &Event) -> Result<(), AllocError>
     ensures { OnOk result (string_bytes text.new ≡ string_bytes text.old ++ event_text event.now) }
 {
     match event {
@@ -166,7 +170,11 @@ fn push_written(alloc: Global, text: &mut String, poke: &Poke) -> Result<(), All
 }
 
 /// Appends a register's name, or `pc`.
-fn push_register(text: &mut String, register: u8) -> Result<(), AllocError>
+///
+/// # Errors
+///
+/// [`AllocError`] where there is no memory for it.
+pub fn push_register(text: &mut String, register: u8) -> Result<(), AllocError>
     ensures { OnOk result (string_bytes text.new ≡ string_bytes text.old ++ register_text register) }
 {
     if register == PC {

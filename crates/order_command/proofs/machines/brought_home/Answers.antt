@@ -26,7 +26,7 @@ returns-clause-home c =
         machine = new;
         replay = replay;
         idle = c.in_ok-push_drain.ensures.idle;
-        serialized = c.runs_are_serialized.ensures.each opening all new c.is_idle.ensures.sound opens.idle
+        serialized = c.runs_are_serialized.ensures.each opening all new c.machine_is_sound.ensures opens.idle
             (subst IsMachine c.machine-2.view_is c.machine-2.invariant) replay.run;
       };
     }

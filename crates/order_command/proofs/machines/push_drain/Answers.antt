@@ -25,17 +25,17 @@ loop-preserved c =
 pub returns-clause-idle : goal.returns-clause-idle
 returns-clause-idle c =
     let over : c.loop.counter ≡ c.most_moves-end.result = omega (arith, c.loop-test.false, c.loop.auto.counter-end) in
-    (bound_is_taken c.args.machine.now c.args.steps.now.items c.loop.counter c.loop.machine c.loop.steps.items c.loop.invariant c.is_idle.ensures.sound
+    (bound_is_taken c.args.machine.now c.args.steps.now.items c.loop.counter c.loop.machine c.loop.steps.items c.loop.invariant c.machine_is_sound.ensures
     (over ∙ c.most_moves-end.ensures)).0
 
 pub returns-clause-steps : goal.returns-clause-steps
 returns-clause-steps c =
     let over : c.loop.counter ≡ c.most_moves-end.result = omega (arith, c.loop-test.false, c.loop.auto.counter-end) in
-    (bound_is_taken c.args.machine.now c.args.steps.now.items c.loop.counter c.loop.machine c.loop.steps.items c.loop.invariant c.is_idle.ensures.sound
+    (bound_is_taken c.args.machine.now c.args.steps.now.items c.loop.counter c.loop.machine c.loop.steps.items c.loop.invariant c.machine_is_sound.ensures
     (over ∙ c.most_moves-end.ensures)).1.0
 
 pub returns-clause-replay : goal.returns-clause-replay
 returns-clause-replay c =
     let over : c.loop.counter ≡ c.most_moves-end.result = omega (arith, c.loop-test.false, c.loop.auto.counter-end) in
-    (bound_is_taken c.args.machine.now c.args.steps.now.items c.loop.counter c.loop.machine c.loop.steps.items c.loop.invariant c.is_idle.ensures.sound
+    (bound_is_taken c.args.machine.now c.args.steps.now.items c.loop.counter c.loop.machine c.loop.steps.items c.loop.invariant c.machine_is_sound.ensures
     (over ∙ c.most_moves-end.ensures)).1.1

@@ -1,0 +1,75 @@
+-- What a count is: how often, in a list of what steps did, a key names its place.
+use Rattle.std.specs.Prelude.{◌≡◌, ℕ, ◌+◌, ◌<◌, ◌≤◌, ◌^◌, ◌==◌, All, List, [], ◌∷◌, ◌++◌, Option, Some, None, length, slice_index, slice_set, if◌then◌else◌}
+use Rattle.steps.specs.declared.step.Step.{Step}
+use Rattle.steps.specs.declared.step.Outcome.{Outcome}
+use Rattle.steps.specs.declared.step.Outcome.TheVariants.{Served}
+use Rattle.told_steps.specs.Answers.{Answer}
+use Rattle.told_steps.specs.Groups.{group_in, groups_after, groups_of, no_groups}
+
+-- a step with what it did, and for how many processors a module has served
+pub record Noted : Type 0 where
+  pub step : Step
+  pub outcome : Outcome
+  pub size : ℕ
+
+abbrev pub note : Step → Outcome → (size : ℕ) → Noted
+note s o size = record { step = s; outcome = o; size = size }
+
+-- for how many a reference was served, with the groups before it
+abbrev pub size_of : List (List ℕ) → Outcome → ℕ
+size_of groups (Served leader) = length (group_in groups leader)
+size_of groups _ = 0
+
+abbrev pub noted_from : List (List ℕ) → List Answer → List Noted
+noted_from groups [] = []
+noted_from groups (a ∷ told) = note a.step a.outcome (size_of groups a.outcome) ∷ noted_from (groups_after groups a.step a.outcome) told
+
+-- what the steps of a run did
+unfoldable pub noted_of : List Answer → List Noted
+noted_of answers = noted_from no_groups answers
+
+-- ---- counts
+
+-- 1 where the place is named
+abbrev pub hit : Option ℕ → (place : ℕ) → ℕ
+hit None place = 0
+hit (Some named) place = if named == place then 1 else 0
+
+-- how often the place is named
+abbrev pub times : (key : Noted → Option ℕ) → (place : ℕ) → List Noted → ℕ
+times key place [] = 0
+times key place (x ∷ xs) = hit (key x) place + times key place xs
+
+-- These are so many counts, each of how often its place is named.
+pub record AreTimes (key : Noted → Option ℕ) (places : ℕ) (noted : List Noted) (counts : List ℕ) : Type 0 where
+  pub all : length counts ≡ places
+  pub each : (place : ℕ) → place < places → slice_index counts place ≡ times key place noted
+
+-- ---- counts that go up
+
+pub record CountersState : Type 0 where
+  pub counts : List ℕ
+  pub noted : ℕ
+
+-- no count is above the number of steps
+abbrev pub AreFew : CountersState → Type 0
+AreFew c = All (λ (n : ℕ). n ≤ c.noted) c.counts
+
+-- there is room for one more at each
+abbrev pub AreBelow : CountersState → Type 0
+AreBelow c = All (λ (n : ℕ). n < c.noted) c.counts × (c.noted < 2 ^ 64)
+
+abbrev pub bumped_at : List ℕ → (place : ℕ) → List ℕ
+bumped_at counts place = slice_set counts place (slice_index counts place + 1)
+
+abbrev pub bumped : List ℕ → Option ℕ → List ℕ
+bumped counts None = counts
+bumped counts (Some place) = bumped_at counts place
+
+-- ---- a law
+
+-- One answer more is one step more, with the groups behind the others.
+pub record NotesGoOn : Type 0 where
+  pub none : noted_of [] ≡ []
+  pub more : (told : List Answer) (a : Answer) →
+      noted_of (told ++ a ∷ []) ≡ noted_of told ++ note a.step a.outcome (size_of (groups_of told) a.outcome) ∷ []

@@ -1,0 +1,66 @@
+-- All counts of a run.
+use Rattle.std.specs.Prelude.{◌≡◌, ℕ, ◌+◌, List, [], ◌∷◌, ◌++◌, length, replicate}
+use Rattle.run_counts.specs.Counting.{AreTimes, Noted, bumped}
+use Rattle.run_counts.specs.Keys as key
+
+pub record CountsState : Type 0 where
+  pub kinds : List ℕ
+  pub turns : List ℕ
+  pub retired : List ℕ
+  pub moved : List ℕ
+  pub combined : List ℕ
+  pub returned : List ℕ
+  pub split : List ℕ
+  pub served : List ℕ
+  pub groups : List ℕ
+  pub noted : ℕ
+
+-- the most stages, the most processors, and as many modules with groups of 0 to 64 processors
+abbrev pub no_counts : CountsState
+no_counts = record {
+  kinds = replicate 5 0;
+  turns = replicate 64 0;
+  retired = replicate 64 0;
+  moved = replicate 6 0;
+  combined = replicate 6 0;
+  returned = replicate 6 0;
+  split = replicate 6 0;
+  served = replicate 64 0;
+  groups = replicate 4160 0;
+  noted = 0;
+}
+
+-- one step more
+abbrev pub counts_after : CountsState → Noted → CountsState
+counts_after t x = record {
+  kinds = bumped t.kinds (key.kind x.step);
+  turns = bumped t.turns (key.turn x.step);
+  retired = bumped t.retired (key.retired x.step x.outcome);
+  moved = bumped t.moved (key.moved x.step x.outcome);
+  combined = bumped t.combined (key.combined x.step x.outcome);
+  returned = bumped t.returned (key.returned x.step x.outcome);
+  split = bumped t.split (key.split x.step x.outcome);
+  served = bumped t.served (key.service x.step);
+  groups = bumped t.groups (key.group x.step x.outcome x.size);
+  noted = t.noted + 1;
+}
+
+-- There were so many steps, and each count is of how often what it counts was done.
+pub record AreCounts (noted : List Noted) (t : CountsState) : Type 0 where
+  pub all : t.noted ≡ length noted
+  pub kinds : AreTimes (λ x. key.kind x.step) 5 noted t.kinds
+  pub turns : AreTimes (λ x. key.turn x.step) 64 noted t.turns
+  pub retired : AreTimes (λ x. key.retired x.step x.outcome) 64 noted t.retired
+  pub moved : AreTimes (λ x. key.moved x.step x.outcome) 6 noted t.moved
+  pub combined : AreTimes (λ x. key.combined x.step x.outcome) 6 noted t.combined
+  pub returned : AreTimes (λ x. key.returned x.step x.outcome) 6 noted t.returned
+  pub split : AreTimes (λ x. key.split x.step x.outcome) 6 noted t.split
+  pub served : AreTimes (λ x. key.service x.step) 64 noted t.served
+  pub groups : AreTimes (λ x. key.group x.step x.outcome x.size) 4160 noted t.groups
+
+-- ---- a law
+
+-- Counts of no step are 0, and go on with each step.
+pub record CountsGoOn : Type 0 where
+  pub none : AreCounts [] no_counts
+  pub more : (noted : List Noted) (t : CountsState) (x : Noted) → AreCounts noted t → AreCounts (noted ++ x ∷ []) (counts_after t x)

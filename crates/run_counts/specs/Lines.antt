@@ -1,0 +1,56 @@
+-- The lines of the counts.
+use Rattle.std.specs.Prelude.{ℕ, zero, suc, ◌+◌, ◌*◌, ◌^◌, ◌==◌, List, [], ◌∷◌, ◌++◌, codes, slice_index, if◌then◌else◌}
+use Rattle.std.specs.Fmt.{decimal}
+use Rattle.run_counts.specs.Counts.{CountsState}
+
+-- the end of a line
+abbrev pub line_feed : List ℕ
+line_feed = 10 ∷ []
+
+-- ` WORD N`
+abbrev pub count_text : (word : List ℕ) → List ℕ → (place : ℕ) → List ℕ
+count_text word counts place = word ++ decimal (slice_index counts place)
+
+-- ` serve N down N poke N`
+unfoldable pub rest_of_total : CountsState → List ℕ
+rest_of_total t = count_text (codes " serve ") t.kinds 2 ++ count_text (codes " down ") t.kinds 3 ++ count_text (codes " poke ") t.kinds 4 ++ line_feed
+
+-- `steps N turns N up N serve N down N poke N`
+unfoldable pub total_line : CountsState → List ℕ
+total_line t = codes "steps " ++ decimal t.noted ++ count_text (codes " turns ") t.kinds 0 ++ count_text (codes " up ") t.kinds 1 ++ rest_of_total t
+
+-- `stage S up N combined N down N split N`
+unfoldable pub stage_line : CountsState → (stage : ℕ) → List ℕ
+stage_line t s =
+    codes "stage " ++ decimal s ++ count_text (codes " up ") t.moved s ++ count_text (codes " combined ") t.combined s
+    ++ count_text (codes " down ") t.returned s ++ count_text (codes " split ") t.split s ++ line_feed
+
+-- ` SIZExCOUNT` where groups of this size were served
+abbrev pub size_text : (size count : ℕ) → List ℕ
+size_text size count = if count == 0 then [] else codes " " ++ decimal size ++ codes "x" ++ decimal count
+
+-- the groups at a module of less than so many processors, the smallest first
+unfoldable pub sizes_text : List ℕ → (at_module sizes : ℕ) → List ℕ
+sizes_text groups m zero = []
+sizes_text groups m (suc size) = sizes_text groups m size ++ size_text size (slice_index groups (m * 65 + size))
+
+-- all groups at a module
+unfoldable pub module_sizes : List ℕ → (at_module : ℕ) → List ℕ
+module_sizes groups m = sizes_text groups m 65
+
+-- `module M serves N SIZExCOUNT ..`
+unfoldable pub module_line : CountsState → (at_module : ℕ) → List ℕ
+module_line t m = codes "module " ++ decimal m ++ count_text (codes " serves ") t.served m ++ module_sizes t.groups m ++ line_feed
+
+-- `processor P turns N retired N`
+unfoldable pub processor_line : CountsState → (processor : ℕ) → List ℕ
+processor_line t p = codes "processor " ++ decimal p ++ count_text (codes " turns ") t.turns p ++ count_text (codes " retired ") t.retired p ++ line_feed
+
+-- the lines of the first so many
+abbrev pub first_lines : (line : ℕ → List ℕ) → (count : ℕ) → List ℕ
+first_lines line zero = []
+first_lines line (suc n) = first_lines line n ++ line n
+
+-- all lines, of a machine of `2^k` processors
+unfoldable pub lines_of : (k : ℕ) → CountsState → List ℕ
+lines_of k t = total_line t ++ first_lines (stage_line t) k ++ first_lines (module_line t) (2 ^ k) ++ first_lines (processor_line t) (2 ^ k)

@@ -1,0 +1,82 @@
+//! Counts, each at a place.
+
+ghost use Rattle.std.specs.Prelude.{◌≡◌, ◌+◌, ◌<◌, ◌^◌, IfOk, replicate, slice_index};
+ghost use Rattle.run_counts.specs.Counting.{AreBelow, bumped, bumped_at};
+
+use std::alloc::{AllocError, Global};
+use std::marker::Model;
+
+/// So many counts, each at a place from 0 on.
+#[derive(Debug, Drop)]
+pub(crate) struct Counters {
+    counts: Vec<u64>,
+    /// How many steps are noted.
+    noted: u64,
+}
+
+impl Model for Counters {
+    ghost use Rattle.run_counts.specs.Counting.{CountersState, AreFew};
+
+    ghost Value = { CountersState };
+
+    ghost view = { λ c. record { counts = c.counts.items; noted = c.noted } };
+
+    ghost invariant = { λ c. AreFew (record { counts = c.counts.items; noted = c.noted }) };
+}
+
+impl Counters {
+    /// So many counts, which are 0.
+    ///
+    /// # Errors
+    ///
+    /// [`AllocError`] where there is no memory for them.
+    pub fn new(alloc: Global, places: u16) -> Result<Self, AllocError>
+        ensures { IfOk result (λ c. c ≡ record { counts = replicate places 0; noted = 0 }) }
+    {
+        let mut counts = Vec::new(alloc);
+        for _ in 0..places {
+            counts.push(0)?;
+        }
+        Ok(Counters { counts, noted: 0 })
+    }
+
+    /// Notes a step, by which the count at this place goes up, if at any.
+    pub fn note(&mut self, place: Option<u16>)
+        requires { self.old.noted + 1 < 2 ^ 64 }
+        ensures counts { self.new.counts ≡ bumped self.old.counts place }
+        ensures noted { self.new.noted ≡ self.old.noted + 1 }
+    {
+        self.noted += 1;
+        if let Some(place) = place {
+            self.bump(usize::from(place));
+        }
+    }
+
+    /// The count at this place goes up, if there is one.
+    fn bump(&mut self, place: usize)
+        requires { AreBelow self.old }
+        ensures counts { self.new.counts ≡ bumped_at self.old.counts place }
+        ensures noted { self.new.noted ≡ self.old.noted }
+    {
+        if place < self.counts.len() {
+            self.counts[place] += 1;
+        }
+    }
+
+    /// The count at a place, and 0 where there is none.
+    pub fn at(&self, place: u16) -> u64
+        ensures { result ≡ slice_index self.now.counts place }
+    {
+        match self.counts.get(usize::from(place)) {
+            Some(count) => *count,
+            None => 0,
+        }
+    }
+
+    /// How many steps are noted.
+    pub fn noted(&self) -> u64
+        ensures { result ≡ self.now.noted }
+    {
+        self.noted
+    }
+}

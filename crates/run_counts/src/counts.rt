@@ -1,0 +1,96 @@
+//! All counts of a run.
+
+ghost use Rattle.std.specs.Prelude.{◌≡◌, ◌+◌, ◌<◌, ◌^◌, IfOk, length, slice_index};
+ghost use Rattle.run_counts.specs.Counting.{note};
+ghost use Rattle.run_counts.specs.Counts.{counts_after, no_counts};
+
+use crate::counters::Counters;
+use crate::keys;
+use std::alloc::{AllocError, Global};
+use std::marker::Model;
+use steps::{Outcome, Step};
+
+/// What the steps that are noted did: how many there were of each kind, of moves by stage, of services by module, and of turns
+/// by processor.
+#[derive(Debug, Drop)]
+pub struct Counts {
+    pub(crate) kinds: Counters,
+    pub(crate) turns: Counters,
+    pub(crate) retired: Counters,
+    pub(crate) moved: Counters,
+    pub(crate) combined: Counters,
+    pub(crate) returned: Counters,
+    pub(crate) split: Counters,
+    pub(crate) served: Counters,
+    pub(crate) groups: Counters,
+}
+
+impl Model for Counts {
+    ghost use Rattle.std.specs.Prelude.{◌≡◌};
+    ghost use Rattle.run_counts.specs.Counts.{CountsState};
+
+    ghost Value = { CountsState };
+
+    ghost view = { λ c. record {
+      kinds = c.kinds.counts;
+      turns = c.turns.counts;
+      retired = c.retired.counts;
+      moved = c.moved.counts;
+      combined = c.combined.counts;
+      returned = c.returned.counts;
+      split = c.split.counts;
+      served = c.served.counts;
+      groups = c.groups.counts;
+      noted = c.kinds.noted;
+    } };
+
+    ghost invariant = { λ c. (c.turns.noted ≡ c.kinds.noted) × (c.retired.noted ≡ c.kinds.noted) × (c.moved.noted ≡ c.kinds.noted)
+        × (c.combined.noted ≡ c.kinds.noted) × (c.returned.noted ≡ c.kinds.noted) × (c.split.noted ≡ c.kinds.noted)
+        × (c.served.noted ≡ c.kinds.noted) × (c.groups.noted ≡ c.kinds.noted) };
+}
+
+impl Counts {
+    /// No step is noted.
+    ///
+    /// # Errors
+    ///
+    /// [`AllocError`] where there is no memory for the counts.
+    pub fn new(alloc: Global) -> Result<Self, AllocError>
+        ensures { IfOk result (λ c. c ≡ no_counts) }
+    {
+        Ok(Counts {
+            kinds: Counters::new(alloc, 5)?,
+            turns: Counters::new(alloc, 64)?,
+            retired: Counters::new(alloc, 64)?,
+            moved: Counters::new(alloc, 6)?,
+            combined: Counters::new(alloc, 6)?,
+            returned: Counters::new(alloc, 6)?,
+            split: Counters::new(alloc, 6)?,
+            served: Counters::new(alloc, 64)?,
+            groups: Counters::new(alloc, 4160)?,
+        })
+    }
+
+    /// Notes what a step did, and for how many processors a module has served.
+    pub fn note(&mut self, step: &Step, outcome: &Outcome, size: usize)
+        requires { self.old.noted + 1 < 2 ^ 64 }
+        ensures { self.new ≡ counts_after self.old (note step.now outcome.now size) }
+    {
+        self.kinds.note(keys::kind(step));
+        self.turns.note(keys::turn(step));
+        self.retired.note(keys::retired(step, outcome));
+        self.moved.note(keys::moved(step, outcome));
+        self.combined.note(keys::combined(step, outcome));
+        self.returned.note(keys::returned(step, outcome));
+        self.split.note(keys::split(step, outcome));
+        self.served.note(keys::service(step));
+        self.groups.note(keys::group(step, outcome, size));
+    }
+
+    /// How many steps are noted.
+    pub fn noted(&self) -> u64
+        ensures { result ≡ self.now.noted }
+    {
+        self.kinds.noted()
+    }
+}

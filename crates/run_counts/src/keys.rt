@@ -1,0 +1,132 @@
+//! By which step which count goes up.
+
+ghost use Rattle.std.specs.Prelude.{◌≡◌};
+ghost use Rattle.run_counts.specs.Keys as keys;
+
+use steps::{Outcome, Step};
+
+/// One more than the most processors in a group.
+const SIZES: u16 = 65;
+
+/// The place of a step's kind: turns, moves of requests, services, moves of replies and writes from outside.
+pub(crate) fn kind(step: &Step) -> Option<u16>
+    ensures { result ≡ keys.kind step.now }
+{
+    match *step {
+        Step::Turn(_) => Some(0),
+        Step::Up { .. } => Some(1),
+        Step::Serve(_) => Some(2),
+        Step::Down { .. } => Some(3),
+        Step::Poke(_) => Some(4),
+    }
+}
+
+/// Of a turn its processor.
+pub(crate) fn turn(step: &Step) -> Option<u16>
+    ensures { result ≡ keys.turn step.now }
+{
+    match *step {
+        Step::Turn(p) => Some(u16::from(p)),
+        _ => None,
+    }
+}
+
+/// Of a move of a request its stage.
+fn rise(step: &Step) -> Option<u16>
+    ensures { result ≡ keys.rise step.now }
+{
+    match *step {
+        Step::Up { stage, .. } => Some(u16::from(stage)),
+        _ => None,
+    }
+}
+
+/// Of a service its module.
+pub(crate) fn service(step: &Step) -> Option<u16>
+    ensures { result ≡ keys.service step.now }
+{
+    match *step {
+        Step::Serve(m) => Some(u16::from(m)),
+        _ => None,
+    }
+}
+
+/// Of a move of a reply its stage.
+fn return_of(step: &Step) -> Option<u16>
+    ensures { result ≡ keys.return step.now }
+{
+    match *step {
+        Step::Down { stage, .. } => Some(u16::from(stage)),
+        _ => None,
+    }
+}
+
+/// The processor whose instruction has retired.
+pub(crate) fn retired(step: &Step, outcome: &Outcome) -> Option<u16>
+    ensures { result ≡ keys.retired step.now outcome.now }
+{
+    match *outcome {
+        Outcome::Retired(_) => turn(step),
+        _ => None,
+    }
+}
+
+/// The stage at which a request went on alone.
+pub(crate) fn moved(step: &Step, outcome: &Outcome) -> Option<u16>
+    ensures { result ≡ keys.moved step.now outcome.now }
+{
+    match *outcome {
+        Outcome::Moved => rise(step),
+        _ => None,
+    }
+}
+
+/// The stage at which a request was combined into another.
+pub(crate) fn combined(step: &Step, outcome: &Outcome) -> Option<u16>
+    ensures { result ≡ keys.combined step.now outcome.now }
+{
+    match *outcome {
+        Outcome::Combined { .. } => rise(step),
+        _ => None,
+    }
+}
+
+/// The stage at which a reply went on as one.
+pub(crate) fn returned(step: &Step, outcome: &Outcome) -> Option<u16>
+    ensures { result ≡ keys.returned step.now outcome.now }
+{
+    match *outcome {
+        Outcome::Moved => return_of(step),
+        _ => None,
+    }
+}
+
+/// The stage at which a reply was split.
+pub(crate) fn split(step: &Step, outcome: &Outcome) -> Option<u16>
+    ensures { result ≡ keys.split step.now outcome.now }
+{
+    match *outcome {
+        Outcome::Answered { .. } => return_of(step),
+        _ => None,
+    }
+}
+
+/// Where the table of all modules and sizes has a module that has served a group of this size.
+pub(crate) fn group(step: &Step, outcome: &Outcome, size: usize) -> Option<u16>
+    ensures { result ≡ keys.group step.now outcome.now size }
+{
+    match *outcome {
+        Outcome::Served { .. } => place_of(size, step),
+        _ => None,
+    }
+}
+
+/// The place of a group of this size at the module of a service.
+fn place_of(size: usize, step: &Step) -> Option<u16>
+    ensures { result ≡ keys.place_of size (keys.service step.now) }
+{
+    match *step {
+        Step::Serve(m) if size < 65 => Some(u16::from(m) * SIZES + size as u16),
+        _ => None,
+    }
+}

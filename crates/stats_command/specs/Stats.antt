@@ -1,0 +1,46 @@
+-- What the command prints: from the bytes of files to counts of what the steps of a run did.
+use Rattle.std.specs.Prelude.{◌≡◌, ℕ, List, Option}
+use Rattle.flat_machine.specs.declared.config.Config.{Config}
+use Rattle.elf_image.specs.Files.{IsImageOf}
+use Rattle.elf_image.specs.Images.{ImageContents}
+use Rattle.steps.specs.declared.step.Step.{Step}
+use Rattle.trace_file.specs.Traces.{TraceContents, config_of}
+use Rattle.machine_runs.specs.Machines.{MachineLists}
+use Rattle.machine_runs.specs.Runs.{IsOpening, IsRun}
+use Rattle.step_answers.specs.Answers.{answers_of}
+use Rattle.run_counts.specs.Counting.{noted_of}
+use Rattle.run_counts.specs.Counts.{AreCounts, CountsState}
+use Rattle.run_counts.specs.Lines.{lines_of}
+use Rattle.run_commands.specs.Commands.{IsTraceOf}
+use Rattle.run_commands.specs.Reports.{IsExitOf}
+use Rattle.order_command.specs.Orders.{IsBroughtHome}
+
+-- These are the lines of the counts of what the machine of this size answers to the steps that opens on the image. The exit status is
+-- that of the machine behind the steps.
+pub record AreCountedSteps (c : Config) (image : ImageContents) (steps : List Step) (text : List ℕ) (status : ℕ) : Type 0 where
+  pub opening : MachineLists
+  pub opens : IsOpening c image opening
+  pub machine : MachineLists
+  pub run : IsRun opening steps machine
+  pub counts : CountsState
+  pub are : AreCounts (noted_of (answers_of opening steps)) counts
+  pub lines : text ≡ lines_of c.k counts
+  pub exit : IsExitOf machine status
+
+-- These are the lines of the counts of a trace's steps and a drain's.
+pub record AreStatsLines (c : Config) (image : ImageContents) (steps : List Step) (text : List ℕ) (status : ℕ) : Type 0 where
+  pub all : List Step
+  pub home : IsBroughtHome c image steps all
+  pub counted : AreCountedSteps c image all text status
+
+-- These are the counts of a trace that is replayed, and then drained, on the image that a file means.
+pub record AreStats (shared_words : ℕ) (trace known : Option (List ℕ)) (status : ℕ) (text : List ℕ) : Type 0 where
+  pub steps : TraceContents
+  pub read : IsTraceOf trace steps
+  pub image : ImageContents
+  pub meant : IsImageOf shared_words known image
+  pub lines : AreStatsLines (config_of steps shared_words) image steps.steps text status
+
+-- the counts, with whatever exit status
+abbrev pub AreSomeStats : (shared_words : ℕ) → (trace known : Option (List ℕ)) → (text : List ℕ) → Type 0
+AreSomeStats shared_words trace known text = (status : ℕ) × AreStats shared_words trace known status text

@@ -1,0 +1,69 @@
+-- The lemmas that crates above may cite: answers begin with none, and go on with the outcome of each
+-- step that is taken next.
+use Rattle.std.proofs.Common.{◌≡◌, ℕ, suc, List, [], ◌∷◌, ◌++◌, length, refl, sym, ap, ap₂, ◌∙◌}
+use Rattle.flat_machine.specs.declared.config.Config.{Config}
+use Rattle.flat_machine.specs.declared.event.Event.{Event}
+use Rattle.omega_network.specs.Networks.{net_of}
+use Rattle.machine_program.specs.Theory as theory
+use Rattle.steps.specs.declared.step.Step.{Step}
+use Rattle.steps.specs.declared.step.Outcome.{Outcome}
+use Rattle.machine_program.specs.Processors.{Told}
+use Rattle.machine_program.specs.Steps.{outcome_of, after, with_shown, machine_of_parts}
+use Rattle.machine_runs.specs.Machines.{MachineLists, machine_of, IsStep}
+use Rattle.machine_runs.specs.Runs.{all_after, events_of, IsRun}
+use Rattle.machine_runs.proofs.Lemmas.{all_after_more, outcome_there, replay_begins, shown_is}
+use Rattle.told_steps.specs.Answers.{Answer, answer}
+use Rattle.step_answers.specs.Answers.{answers_from, answers_of}
+
+answers_none : (m : MachineLists) → answers_of m [] ≡ []
+unfolding answers_of answers_from
+answers_none m = refl
+
+pub answers_begin : (m : MachineLists) → IsRun m [] m × (answers_of m [] ≡ [])
+answers_begin m = ((replay_begins m).run, answers_none m)
+
+-- what a step does that is taken next
+answered_more : (c : Config) (code : List ℕ) (M : theory.Machine Told) (done : List Step) (s : Step) →
+    answers_from c code M (done ++ s ∷ []) ≡ answers_from c code M done ++ answer s (outcome_of c code (all_after c code M done) s) ∷ []
+unfolding answers_from all_after
+answered_more c code M [] s = refl
+answered_more c code M (x ∷ done) s = ap (λ xs. answer x (outcome_of c code M x) ∷ xs) (answered_more c code (after c code M x) done s)
+
+module _ (old m new : MachineLists) (done : List Step) (s : Step) (o : Outcome) (r : IsRun old done m) (is : IsStep m s o new) where
+  run_more : IsRun old (done ++ s ∷ []) new
+  run_more = record {
+    config = is.config ∙ r.config;
+    image = is.image ∙ r.image;
+    code = is.code ∙ r.code;
+    after = λ shown.
+        let M : theory.Machine Told = all_after old.config old.code (machine_of old shown) done in
+        let told : ℕ → List Event = with_shown (events_of M) s o in
+        let there : machine_of new told ≡ after old.config old.code M s =
+        ap (λ c. machine_of_parts c (net_of new.network) new.ports new.modules told) is.config
+        ∙ is.step.after (events_of M)
+        ∙ ap₂ (λ c code. after c code (machine_of m (events_of M)) s) r.config r.code
+        ∙ ap (λ M. after old.config old.code M s) (r.after shown) in
+        let all = there ∙ sym (all_after_more old.config old.code (machine_of old shown) done s) in
+        let events : told ≡ events_of (all_after old.config old.code (machine_of old shown) (done ++ s ∷ [])) = sym (shown_is new told) ∙ ap events_of all in
+        ap (machine_of new) (sym events) ∙ all;
+  }
+
+  told_more : answers_of old (done ++ s ∷ []) ≡ answers_of old done ++ answer s o ∷ []
+  unfolding answers_of
+  told_more =
+      answered_more old.config old.code (machine_of old (λ p. [])) done s
+      ∙ ap (λ o. answers_from old.config old.code (machine_of old (λ p. [])) done ++ answer s o ∷ [])
+      (outcome_there old m done r s ∙ sym is.step.outcome)
+
+pub answers_more : (opening mid new : MachineLists) (done : List Step) (s : Step) (o : Outcome) → IsRun opening done mid → IsStep mid s o new →
+    IsRun opening (done ++ s ∷ []) new × (answers_of opening (done ++ s ∷ []) ≡ answers_of opening done ++ answer s o ∷ [])
+answers_more opening mid new done s o r is = (run_more opening mid new done s o r is, told_more opening mid new done s o r is)
+
+counted_from : (c : Config) (code : List ℕ) (M : theory.Machine Told) (steps : List Step) → length (answers_from c code M steps) ≡ length steps
+unfolding answers_from
+counted_from c code M [] = refl
+counted_from c code M (s ∷ steps) = ap suc (counted_from c code (after c code M s) steps)
+
+pub answers_counted : (m : MachineLists) (steps : List Step) → length (answers_of m steps) ≡ length steps
+unfolding answers_of
+answers_counted m steps = counted_from m.config m.code (machine_of m (λ p. [])) steps

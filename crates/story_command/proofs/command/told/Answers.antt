@@ -1,0 +1,23 @@
+use Rattle.std.proofs.Common.{List, ◌∙◌, ap, subst}
+use Rattle.std.specs.Prelude.{string_bytes}
+use Rattle.steps.specs.declared.step.Step.{Step}
+use Rattle.machine_runs.specs.Runs.{IsRun}
+use Rattle.step_answers.specs.Answers.{answers_of}
+use Rattle.story_lines.specs.Lines.{story_of}
+use Rattle.story_command.proofs.command.told.Goals as goal
+
+pub returns-clause-lines : goal.returns-clause-lines
+returns-clause-lines c =
+    let opening = c.in_ok-machine.machine in
+    record {
+      all = c.in_ok-all.all.items;
+      home = c.in_ok-all.ensures.home;
+      told = record {
+        opening = opening;
+        opens = c.in_ok-machine.ensures.opening;
+        machine = c.story_text.new.machine;
+        run = subst (λ (steps : List Step). IsRun opening steps c.story_text.new.machine) c.as_slice.ensures.value c.in_ok-text.ensures.run;
+        are = c.in_ok-text.ensures.story ∙ ap (λ (steps : List Step). story_of (answers_of opening steps)) c.as_slice.ensures.value;
+        exit = c.exit_status.ensures;
+      };
+    }

@@ -1,0 +1,102 @@
+//! `ultra story`: from the bytes of a trace and of an image to the lines of the steps.
+
+ghost use Rattle.std.specs.Prelude.{◌≡◌, ◌≤◌, ◌⊎◌, true, false, IfOk, IfErr, IsErr, IsErrOf, OnErr, string_bytes};
+ghost use Rattle.command_io.specs.Printing.{IsPrinted, IsTold};
+ghost use Rattle.machine_runs.specs.Runs.{IsOpening};
+ghost use Rattle.run_commands.specs.Causes.{IsFaultOfSize, IsNotPrinted, IsNotTaken};
+ghost use Rattle.run_commands.specs.Commands.{known_of};
+ghost use Rattle.story_command.specs.Stories.{AreStoryLines, IsSomeStory, IsStory};
+
+use crate::telling::story_text;
+use command_io::{Fault, image_of, print, tell};
+use elf_image::Image;
+use flat_machine::Config;
+use link::LinkWrite;
+use machine_runs::Machine;
+use order_command::brought_home;
+use run_commands::{exit_status, machine_of, trace_of};
+use std::alloc::Global;
+use std::io;
+use std::io::{Read, Write};
+use steps::Step;
+
+/// Takes the steps of the trace that a file is, on the machine of the trace's size, and of so many shared
+/// words, that opens on the image that another file is; then takes steps until no reference is open, and
+/// prints a line for each of these steps, of what the machine did by it. That the image's file cannot be
+/// opened is told where the trace has no fault.
+///
+/// Answers the exit status: 0 where the lines are printed, 1 where they are and a processor is faulted, else
+/// that of the fault that is told on standard error. A fault is told in this order: of the trace, of the
+/// image, of the machine's size, of a step that stalls, of standard output.
+pub fn story_command<T: Read + Drop, R: Read + Drop, W: LinkWrite, E: Write>(
+    alloc: Global,
+    trace: T,
+    file: io::Result<R>,
+    shared_words: u32,
+    out: &mut W,
+    err: &mut E,
+) -> u8
+    requires { W.has_failed out.old ≡ false }
+    ensures printed { result ≤ 1 → IsPrinted (IsStory shared_words (T.remaining trace) (known_of R.remaining file) result) (W.contents out.old)
+        (W.contents out.new) }
+    ensures told { 2 ≤ result → IsTold W.has_failed Fault.Link (IsErr file)
+        (IsNotPrinted (IsSomeStory shared_words (T.remaining trace) (known_of R.remaining file)) shared_words (T.remaining trace)
+        (known_of R.remaining file) (W.contents out.old) (W.contents out.new)) out.old out.new result }
+    ensures failed { W.has_failed out.new ≡ true → result ≡ 3 }
+{
+    match carried_out(alloc, trace, file, shared_words, out) {
+        Ok(status) => status,
+        Err(fault) => tell(fault, err),
+    }
+}
+
+/// Carries the command out.
+fn carried_out<T: Read + Drop, R: Read + Drop, W: LinkWrite>(
+    alloc: Global,
+    trace: T,
+    file: io::Result<R>,
+    shared_words: u32,
+    out: &mut W,
+) -> Result<u8, Fault>
+    requires { W.has_failed out.old ≡ false }
+    ensures failed { W.has_failed out.new ≡ true → IsErrOf result Fault.Link }
+    ensures link { IsErrOf result Fault.Link → IsErr file ⊎ (W.has_failed out.new ≡ true) }
+    ensures printed { IfOk result (λ status. IsPrinted (IsStory shared_words (T.remaining trace) (known_of R.remaining file) status)
+        (W.contents out.old) (W.contents out.new)) }
+    ensures low { IfOk result (λ status. status ≤ 1) }
+    ensures told { IfErr result (IsNotPrinted (IsSomeStory shared_words (T.remaining trace) (known_of R.remaining file)) shared_words
+        (T.remaining trace) (known_of R.remaining file) (W.contents out.old) (W.contents out.new)) }
+    ensures silent { OnErr result (W.has_failed out.new ≡ false → out.new ≡ out.old) }
+{
+    let trace = trace_of(alloc, trace)?;
+    let config = trace.config(shared_words);
+    let Ok(file) = file else {
+        return Err(Fault::Link);
+    };
+    let image = image_of(alloc, file, &config)?;
+    let (text, status) = told(alloc, &image, config, trace.steps())?;
+    print(out, text.as_str())?;
+    Ok(status)
+}
+
+/// The lines of these steps and of a drain's, and the exit status.
+fn told(alloc: Global, image: &Image, config: Config, steps: &[Step]) -> Result<(String, u8), Fault>
+    requires words { image.now.shared_words ≡ config.shared_words }
+    ensures lines { IfOk result (λ done. AreStoryLines config image.now steps.now (string_bytes done.0) done.1) }
+    ensures low { IfOk result (λ done. done.1 ≤ 1) }
+    ensures refused { IfErr result (IsNotTaken config image.now steps.now) }
+{
+    let all = brought_home(alloc, image, config, steps)?;
+    let mut machine = opened(alloc, image, config)?;
+    let text = story_text(alloc, &mut machine, all.as_slice())?;
+    Ok((text, exit_status(&machine)))
+}
+
+/// A machine of this size that opens on a copy of the image, which was read for as many shared words.
+fn opened(alloc: Global, image: &Image, config: Config) -> Result<Machine, Fault>
+    requires words { image.now.shared_words ≡ config.shared_words }
+    ensures opening { IfOk result (IsOpening config image.now) }
+    ensures refused { IfErr result (IsFaultOfSize config) }
+{
+    machine_of(alloc, image.copy(alloc)?, config)
+}

@@ -1,0 +1,11 @@
+-- Steps with what they did.
+use Rattle.steps.specs.declared.step.Step.{Step}
+use Rattle.steps.specs.declared.step.Outcome.{Outcome}
+
+-- a step, and what it did
+pub record Answer : Type 0 where
+  pub step : Step
+  pub outcome : Outcome
+
+abbrev pub answer : Step → Outcome → Answer
+answer s o = record { step = s; outcome = o }
