@@ -66,28 +66,3 @@ impl Outcome {
         matches!(self, Outcome::Stalled)
     }
 }
-
-#[cfg(test)]
-mod tests {
-    use super::*;
-
-    /// Of all outcomes one is that of a step that did nothing.
-    #[test]
-    fn one_outcome_is_stalled(rt: HostRuntime) {
-        assert!(rt; Outcome::Stalled.is_stalled());
-        for outcome in [
-            Outcome::Issued,
-            Outcome::Stopped(Cause::Halt(0)),
-            Outcome::Moved,
-            Outcome::Combined {
-                first: 0,
-                second: 2,
-            },
-            Outcome::Served { leader: 0 },
-            Outcome::Answered { to: 1 },
-            Outcome::Poked,
-        ] {
-            assert!(rt; !outcome.is_stalled(), "{outcome:?}");
-        }
-    }
-}

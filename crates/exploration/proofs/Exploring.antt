@@ -1,0 +1,136 @@
+-- The results of the rows that a search has found are those of the machine.
+use Rattle.std.proofs.Common.{◌≡◌, ℕ, ◌<◌, ◌≤◌, ◌^◌, zero, suc, Bool, true, false, cond, List, [], Some, None, All, length, map, refl, sym, ap, subst}
+use Rattle.std.proofs.Common.{◌∙◌, arith}
+use Rattle.std.specs.Prelude.{Contains, slice_get, slice_index_or}
+use Rattle.std.specs.List.{range_with_len}
+use Rattle.std.proofs.lemmas.List.{length-map}
+use Rattle.std.proofs.lemmas.List.FromFn.{length-map-range_with_len, fill_by_all}
+use Rattle.flat_machine.specs.declared.event.Event.{Event}
+use Rattle.flat_machine.specs.State.{FlatState, Processor, is_running}
+use Rattle.flat_machine.specs.Flat.{flat_run, flat_events}
+use Rattle.hart.specs.State.{CoreState}
+use Rattle.machine_ports.specs.Ports.{PortState}
+use Rattle.machine_program.specs.Processors.{no_processor, no_port, port_at, word_at}
+use Rattle.machine.specs.Machines.{MachineLists, IsMachine, IsIdle}
+use Rattle.machine.specs.Openings.{flat_state}
+use Rattle.alone.specs.Stations.{Station, consoles_after, turns}
+use Rattle.alone.specs.Closing.{if_running, station_of, Standing, Settles, IsKeptOf, HasStopped}
+use Rattle.results.specs.Laws.{ResultsAreThoseOfTheFlatMachine}
+use Rattle.results.specs.Results.{ProcessorResult, FinalResult, result_with, result_of, IsFlatResult, IsMachineResult}
+use Rattle.station_search.specs.declared.tables.Extent.{Extent}
+use Rattle.station_search.specs.Tables.{TableLists, setting_at}
+use Rattle.station_search.specs.Opening.{AreOfExtent, flat_of}
+use Rattle.station_search.specs.Search.{state_at}
+use Rattle.station_search.specs.Ends.{HaveAllEnds, AreTurns}
+use Rattle.station_search.proofs.Lemmas.{there, found_at, mapped_at, listed_there, listed_is}
+use Rattle.exploration.specs.Endings.{HaveStopped, IsEnding, result_at, station_result}
+use Rattle.exploration.proofs.Endings.{kept_result, kept_stands}
+
+-- ---- what is kept of a machine has its result
+
+module _ (n : FlatState) (consoles : ℕ → List ℕ) (s : Standing) (h : IsKeptOf if_running n consoles s) where
+  pub stopped_so : HaveStopped s → HasStopped n
+  stopped_so stopped k p found = sym (kept_stands (station_of p (consoles k))) ∙ stopped k (if_running (station_of p (consoles k))) (h.each k p found)
+
+  pub so_stopped : HasStopped n → HaveStopped s
+  so_stopped stopped k a found =
+      let within : k < length n.processors = subst (λ m. k < m) h.all (found_at s.stations k a a found).0 in
+      let here = there n.processors k no_processor within in
+      let both : Some (if_running (station_of (slice_index_or n.processors k no_processor) (consoles k))) ≡ Some a =
+      sym (h.each k (slice_index_or n.processors k no_processor) here) ∙ found in
+      let is : if_running (station_of (slice_index_or n.processors k no_processor) (consoles k)) ≡ a = cc in
+      ap (λ (b : Station). is_running b.processor.status) (sym is)
+      ∙ (kept_stands (station_of (slice_index_or n.processors k no_processor) (consoles k)) ∙ stopped k (slice_index_or n.processors k no_processor) here)
+
+  abbrev shown : ℕ → ProcessorResult
+  shown k = result_with (slice_index_or n.processors k no_processor) (consoles k)
+
+  pub processors_kept : map shown (range_with_len 0 (length n.processors)) ≡ map station_result s.stations
+  processors_kept = sym (fill_by_all shown (map station_result s.stations) (length n.processors) (shown 0)
+      (length-map s.stations station_result ∙ h.all)
+      (λ k l. mapped_at station_result s.stations k (if_running (station_of (slice_index_or n.processors k no_processor) (consoles k))) (shown 0)
+      (h.each k (slice_index_or n.processors k no_processor) (there n.processors k no_processor l))
+      ∙ kept_result (station_of (slice_index_or n.processors k no_processor) (consoles k))))
+
+result_kept : (n : FlatState) (events : List (ℕ × Event)) (s : Standing) → IsKeptOf if_running n (consoles_after (λ j. []) events) s →
+    result_of n events ≡ result_at s
+result_kept n events s h =
+    let processors = processors_kept n (consoles_after (λ j. []) events) s h in
+    λ i. record { processors = processors i; words = sym h.shared i }
+
+module _ (e : Extent) (code : List ℕ) (t : TableLists) (rows : List (List ℕ)) (first : Standing) (m : FlatState)
+    (settles : Settles (setting_at e) code if_running m (λ k. []) first) where
+  pub flat_sound : AreTurns e code t rows first → (r : FinalResult) → IsEnding e t rows r → IsFlatResult m r
+  flat_sound all r h =
+      let x = all m (λ k. []) h.place settles h.within in (
+        x.0,
+        stopped_so (flat_run m (turns x.0)) (consoles_after (λ j. []) (flat_events m (turns x.0))) (state_at e t rows h.place) x.1 h.stopped,
+        h.is ∙ sym (result_kept (flat_run m (turns x.0)) (flat_events m (turns x.0)) (state_at e t rows h.place) x.1),
+      )
+
+  pub flat_complete : HaveAllEnds e code t rows first → (r : FinalResult) → IsFlatResult m r → IsEnding e t rows r
+  flat_complete all r h =
+      let x = all m (λ k. []) h.0 settles h.1 in
+      record {
+        place = x.0;
+        within = x.1;
+        stopped = so_stopped (flat_run m (turns h.0)) (consoles_after (λ j. []) (flat_events m (turns h.0))) (state_at e t rows x.0) x.2 h.1;
+        is = h.2 ∙ result_kept (flat_run m (turns h.0)) (flat_events m (turns h.0)) (state_at e t rows x.0) x.2;
+      }
+
+-- ---- the machine
+
+pub few_processors : (k : ℕ) → k ≤ 3 → 2 ^ k ≤ 8
+few_processors zero l = omega arith
+few_processors (suc zero) l = omega arith
+few_processors (suc (suc zero)) l = omega arith
+few_processors (suc (suc (suc zero))) l = omega arith
+few_processors (suc (suc (suc (suc k)))) l = absurd (omega (arith, l))
+
+module _ (m : MachineLists) (sound : IsMachine m) (e : Extent) (processors : e.processors ≡ 2 ^ m.config.k) (words : e.shared_words ≡ m.config.shared_words)
+    (cores : List CoreState) (cores_are : cores ≡ map (λ p. (port_at m.ports p).core) (range_with_len 0 (2 ^ m.config.k)))
+    (list : List ℕ) (list_is : list ≡ map (word_at m.config.k m.modules) (range_with_len 0 m.config.shared_words)) where
+  abbrev core : ℕ → CoreState
+  core p = (port_at m.ports p).core
+
+  pub of_extent : AreOfExtent e cores
+  of_extent = record {
+    all = ap length cores_are ∙ (length-map-range_with_len core 0 (2 ^ m.config.k) ∙ sym processors);
+    settings = λ p c found. by p c (listed_is core (2 ^ m.config.k) p c (ap (λ xs. slice_get xs p) (sym cores_are) ∙ found));
+  }
+    where
+      by : (p : ℕ) (c : CoreState) → (p < 2 ^ m.config.k) × (core p ≡ c) → c.setting ≡ setting_at e p
+      by p c x =
+          ap (λ (d : CoreState). d.setting) (sym x.1)
+          ∙ (sound.ports.settings p x.0 ∙ (λ i. record { number = p; processors = sym processors i; shared_words = sym words i }))
+
+  pub wide : length list ≡ e.shared_words
+  wide = ap length list_is ∙ (length-map-range_with_len (word_at m.config.k m.modules) 0 m.config.shared_words ∙ sym words)
+
+  abbrev state : ℕ → Processor
+  state p = (port_at m.ports p).core.state
+
+  left : map (λ (c : CoreState). c.state) cores ≡ map state (range_with_len 0 (2 ^ m.config.k))
+  left =
+      ap (map (λ (c : CoreState). c.state)) cores_are
+      ∙ fill_by_all state (map (λ (c : CoreState). c.state) (map core (range_with_len 0 (2 ^ m.config.k)))) (2 ^ m.config.k) no_processor
+      (length-map (map core (range_with_len 0 (2 ^ m.config.k))) (λ (c : CoreState). c.state) ∙ length-map-range_with_len core 0 (2 ^ m.config.k))
+      (λ k l. mapped_at (λ (c : CoreState). c.state) (map core (range_with_len 0 (2 ^ m.config.k))) k (core k) no_processor
+      (listed_there core (2 ^ m.config.k) k l))
+
+  right : map (λ (p : PortState). p.core.state) m.ports ≡ map state (range_with_len 0 (2 ^ m.config.k))
+  right = fill_by_all state (map (λ (p : PortState). p.core.state) m.ports) (2 ^ m.config.k) no_processor
+      (length-map m.ports (λ (p : PortState). p.core.state) ∙ sound.ports.all)
+      (λ k l. mapped_at (λ (p : PortState). p.core.state) m.ports k (port_at m.ports k) no_processor
+      (there m.ports k no_port (subst (λ n. k < n) (sym sound.ports.all) l)))
+
+  both : map (λ (c : CoreState). c.state) cores ≡ map (λ (p : PortState). p.core.state) m.ports
+  both = left ∙ sym right
+
+  pub flat_is : flat_of m.code cores list ≡ flat_state m
+  flat_is = λ i. record { processors = both i; shared = list_is i; code = m.code }
+
+-- what is there is what the test picked
+pub picked : {X : Type 0} (b : Bool) (x y : X) → Some x ≡ cond b (Some y) None → x ≡ y
+picked true x y e = cc
+picked false x y e = absurd (cc)

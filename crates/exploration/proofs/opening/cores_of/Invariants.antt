@@ -1,0 +1,7 @@
+use Rattle.std.proofs.Common.{◌≡◌, map}
+use Rattle.std.specs.List.{range_with_len}
+use Rattle.machine_program.specs.Processors.{port_at}
+use Rattle.exploration.proofs.opening.cores_of.Given as goal
+
+abbrev pub invariant-loop-p : goal.invariant-loop-p
+invariant-loop-p l = l.cores.items ≡ map (λ q. (port_at l.machine.ports q).core) (range_with_len 0 l.p)

@@ -1,0 +1,38 @@
+//! What a machine opens on.
+
+ghost use Rattle.std.specs.Prelude.{◌≡◌, ◌≤◌, ◌^◌, map, IfOk};
+ghost use Rattle.std.specs.List.{range_with_len};
+ghost use Rattle.machine_program.specs.Processors.{port_at, word_at};
+
+use hart::Core;
+use machine::Machine;
+use std::alloc::{AllocError, Global};
+
+/// The cores of all processors.
+pub fn cores_of(alloc: Global, machine: &Machine) -> Result<Vec<Core>, AllocError>
+    ensures { IfOk result (λ cores. cores.items ≡ map (λ p. (port_at machine.now.ports p).core) (range_with_len 0 (2 ^ machine.now.config.k))) }
+{
+    let mut cores = Vec::new(alloc);
+    for p in 0..machine.config().processors() {
+        match machine.core(p) {
+            Some(core) => cores.push(core.copy()?)?,
+            None => unreachable!(),
+        }
+    }
+    Ok(cores)
+}
+
+/// All shared words.
+pub fn words_of(alloc: Global, machine: &Machine) -> Result<Vec<u32>, AllocError>
+    ensures { IfOk result (λ words. words.items
+        ≡ map (word_at machine.now.config.k machine.now.modules) (range_with_len 0 machine.now.config.shared_words)) }
+{
+    let mut words = Vec::new(alloc);
+    for number in 0..machine.config().shared_words {
+        match machine.word(number) {
+            Some(word) => words.push(word)?,
+            None => unreachable!(),
+        }
+    }
+    Ok(words)
+}

@@ -1,0 +1,83 @@
+//! The search of a machine.
+
+ghost use Rattle.std.specs.Prelude.{◌≡◌, ◌≤◌, ◌^◌, All, Contains, length, IfOk};
+ghost use Rattle.machine.specs.Machines.{IsIdle};
+ghost use Rattle.results.specs.Results.{FinalResult, IsFlatResult, IsMachineResult};
+ghost use Rattle.station_search.specs.Opening.{AreOfExtent, flat_of};
+
+use crate::ending::results_of;
+use crate::opening::{cores_of, words_of};
+use crate::outcome::Explored;
+use hart::Core;
+use local_memory::Code;
+use machine::{Machine, machine_is_sound};
+use results::results_are_those_of_the_flat_machine;
+use station_search::{Extent, Refusal, Tables, search};
+use std::alloc::Global;
+
+/// All final results that a machine of up to 8 processors can have: each in which some steps without
+/// writes from outside end, after which no processor runs.
+///
+/// # Errors
+///
+/// [`Refusal::States`] where there are more than `limit` states between references, [`Refusal::Alone`]
+/// where a processor goes on for 1,000,000 instructions without a reference, and [`Refusal::Memory`].
+pub fn explore(alloc: Global, machine: &Machine, limit: u32) -> Result<Explored, Refusal>
+    requires idle { IsIdle machine.now }
+    requires few { machine.now.config.k ≤ 3 }
+    ensures sound { IfOk result (λ e. All (IsMachineResult machine.now) e.results.items) }
+    ensures complete { IfOk result (λ e. (r : FinalResult) → IsMachineResult machine.now r → Contains e.results.items r) }
+{
+    machine_is_sound(machine);
+    results_are_those_of_the_flat_machine();
+    let extent = extent_of(machine);
+    let Ok(cores) = cores_of(alloc, machine) else {
+        return Err(Refusal::Memory);
+    };
+    let Ok(words) = words_of(alloc, machine) else {
+        return Err(Refusal::Memory);
+    };
+    let all = cores.as_slice();
+    let code = machine.code();
+    let explored = explored(alloc, code, extent, all, words, limit)?;
+    Ok(explored)
+}
+
+/// How many processors and words a machine has.
+fn extent_of(machine: &Machine) -> Extent
+    ensures { result ≡ record { processors = 2 ^ machine.now.config.k; shared_words = machine.now.config.shared_words } }
+{
+    let config = machine.config();
+    Extent {
+        processors: config.processors(),
+        shared_words: config.shared_words,
+    }
+}
+
+/// All results of the flat machine of these cores and words.
+fn explored(
+    alloc: Global,
+    code: &Code,
+    extent: Extent,
+    cores: &[Core],
+    words: Vec<u32>,
+    limit: u32,
+) -> Result<Explored, Refusal>
+    requires cores { AreOfExtent extent cores.now }
+    requires room { extent.processors ≤ 8 }
+    requires words { length words.items ≡ extent.shared_words }
+    ensures sound { IfOk result (λ e. All (IsFlatResult (flat_of code.now cores.now words.items)) e.results.items) }
+    ensures complete { IfOk result (λ e. (r : FinalResult) → IsFlatResult (flat_of code.now cores.now words.items) r → Contains e.results.items r) }
+{
+    let mut tables = Tables::new(alloc);
+    let first = tables.open(alloc, code, extent, cores, words)?;
+    let found = search(alloc, &mut tables, code, extent, first, limit)?;
+    let rows = found.as_slice();
+    let Ok(results) = results_of(alloc, &tables, extent, rows) else {
+        return Err(Refusal::Memory);
+    };
+    Ok(Explored {
+        results,
+        states: rows.len(),
+    })
+}

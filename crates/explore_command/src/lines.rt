@@ -1,0 +1,133 @@
+//! Final results as lines.
+
+ghost use Rattle.std.specs.Prelude.{◌≡◌, ◌+◌, ◌++◌, ◌<◌, ◌^◌, codes, length, slice_index, IfOk, OnOk, string_bytes};
+ghost use Rattle.std.specs.Fmt.{decimal};
+ghost use Rattle.explore_command.specs.Lines.{counted, processor_line, processor_lines, result_lines, results_lines, shared_lines};
+
+use command_io::{push_status, push_word};
+use exploration::{FinalResult, ProcessorResult};
+use run_report::{push_console, push_shared_word};
+use std::alloc::{AllocError, Global};
+use std::fmt::Write;
+
+/// The lines of these results, and behind them one with their number and that of the states that were found.
+///
+/// # Errors
+///
+/// [`AllocError`] where there is no memory for them.
+pub fn results_text(
+    alloc: Global,
+    results: &[FinalResult],
+    states: usize,
+) -> Result<String, AllocError>
+    ensures { IfOk result (λ text. string_bytes text ≡ results_lines results.now states) }
+{
+    let mut text = String::new(alloc);
+    for (place, result) in results.iter().enumerate() {
+        push_result(alloc, &mut text, place, result)?;
+    }
+    push_last(&mut text, results.len(), states)?;
+    Ok(text)
+}
+
+/// Appends the last line.
+fn push_last(text: &mut String, results: usize, states: usize) -> Result<(), AllocError>
+    ensures { OnOk result (string_bytes text.new
+        ≡ string_bytes text.old ++ counted results (codes "result") ++ codes ", " ++ counted states (codes "state") ++ codes "\n") }
+{
+    push_count(text, results, "result")?;
+    text.push_str(", ")?;
+    push_count(text, states, "state")?;
+    text.push('\n')
+}
+
+/// Appends how many there are of something.
+fn push_count(text: &mut String, count: usize, noun: &str) -> Result<(), AllocError>
+    ensures { OnOk result (string_bytes text.new ≡ string_bytes text.old ++ counted count noun.now) }
+{
+    write!(text, "{count} {noun}")?;
+    if count != 1 {
+        text.push('s')?;
+    }
+    Ok(())
+}
+
+/// Appends the lines of the result at a place.
+fn push_result(
+    alloc: Global,
+    text: &mut String,
+    place: usize,
+    last: &FinalResult,
+) -> Result<(), AllocError>
+    requires { place + 1 < 2 ^ 64 }
+    ensures { OnOk result (string_bytes text.new ≡ string_bytes text.old ++ result_lines place last.now) }
+{
+    writeln!(text, "result {}", place + 1)?;
+    push_processors(alloc, text, last.processors.as_slice())?;
+    push_words(alloc, text, last)
+}
+
+/// Appends a line for each processor.
+fn push_processors(
+    alloc: Global,
+    text: &mut String,
+    processors: &[ProcessorResult],
+) -> Result<(), AllocError>
+    ensures { OnOk result (string_bytes text.new ≡ string_bytes text.old ++ processor_lines processors.now (length processors.now)) }
+{
+    for (number, processor) in processors.iter().enumerate() {
+        push_processor(alloc, text, number, processor)?;
+    }
+    Ok(())
+}
+
+/// Appends the line of a processor.
+#[tactic(auto, unfolding(crate::specs::Lines::processor_line))]
+fn push_processor(
+    alloc: Global,
+    text: &mut String,
+    number: usize,
+    processor: &ProcessorResult,
+) -> Result<(), AllocError>
+    ensures { OnOk result (string_bytes text.new ≡ string_bytes text.old ++ processor_line number processor.now) }
+{
+    write!(text, "processor {number} pc ")?;
+    push_word(alloc, text, processor.pc)?;
+    text.push(' ')?;
+    push_status(alloc, text, processor.status)?;
+    push_console(alloc, text, processor.console.as_slice())?;
+    text.push('\n')
+}
+
+/// Appends a line for each shared word that is not zero.
+fn push_words(alloc: Global, text: &mut String, last: &FinalResult) -> Result<(), AllocError>
+    ensures { OnOk result (string_bytes text.new ≡ string_bytes text.old ++ shared_lines last.now.words (length last.now.words)) }
+{
+    push_first_words(alloc, text, last.words.as_slice(), last.shared_words)?;
+    Ok(())
+}
+
+/// Appends a line for each of the first so many words that is not zero. Those past the last are zero.
+fn push_first_words(
+    alloc: Global,
+    text: &mut String,
+    words: &[u32],
+    count: u32,
+) -> Result<(), AllocError>
+    ensures { OnOk result (string_bytes text.new ≡ string_bytes text.old ++ shared_lines words.now count) }
+{
+    for number in 0..count {
+        push_shared_word(alloc, text, number, word_at(words, number))?;
+    }
+    Ok(())
+}
+
+/// The word at a place. Those past the last are zero.
+fn word_at(words: &[u32], place: u32) -> u32
+    ensures { result ≡ slice_index words.now place }
+{
+    match words.get(place as usize) {
+        Some(word) => *word,
+        None => 0,
+    }
+}

@@ -1,0 +1,223 @@
+-- The row that a look for a move gives is where a reference leads, and what the processor does alone behind it.
+use Rattle.std.proofs.Common.{◌≡◌, ◌≢◌, ◌⊎◌, inl, inr, ℕ, ◌<◌, ◌≤◌, ◌^◌, Bool, true, false, cond}
+use Rattle.std.proofs.Common.{true≢false, List, [], Option, Some, None, length, refl, sym, ap, subst, ◌∙◌, arith}
+use Rattle.std.specs.Prelude.{slice_get, slice_set, slice_index, slice_index_or}
+use Rattle.std.proofs.lemmas.Bool.{cases_eq}
+use Rattle.std.proofs.lemmas.List.{length-set, get_or-set_same, get_or-set_other}
+use Rattle.phi_algebra.specs.declared.phi.Phi.{Phi}
+use Rattle.phi_algebra.specs.Functions.{apply}
+use Rattle.flat_machine.specs.declared.setting.Setting.{Setting}
+use Rattle.flat_machine.specs.declared.event.Retired.{Retired}
+use Rattle.flat_machine.specs.State.{Processor, is_running}
+use Rattle.flat_machine.specs.Turns.{Turn, Retires, Reaches, Stops, turn_of}
+use Rattle.hart.specs.declared.decision.Shape.{Shape}
+use Rattle.hart.specs.declared.decision.Decision.{Decision}
+use Rattle.hart.specs.declared.decision.Decision.TheVariants.{Local, Refer, Halt, Fault}
+use Rattle.hart.specs.Deciding.{Decides, after_reply}
+use Rattle.alone.specs.Stations.{Station, behind, alone, IsSettled, IsReference}
+use Rattle.alone.specs.Closing.{if_running, Standing, IsMove, gone}
+use Rattle.station_search.specs.declared.tables.Extent.{Extent}
+use Rattle.station_search.specs.Placed.{Placed}
+use Rattle.station_search.specs.Words.{IsWritten}
+use Rattle.station_search.specs.Tables.{TableLists, placed_at, words_at, IsKept, setting_at, means, IsRow, IsBehind}
+use Rattle.station_search.specs.Search.{IsNext, MayMove}
+use Rattle.station_search.proofs.Lemmas.{listed_at, listed_there, listed_is, listed_set}
+use Rattle.station_search.proofs.Growing.{kept_on}
+
+pub running_kept : (a : Station) → is_running a.processor.status ≡ true → if_running a ≡ a
+running_kept a r = rw r refl
+
+-- what a core decides of a turn that refers to a word
+pub record IsReferred (word before value : ℕ) (turn : Turn) : Type 0 where
+  pub change : ℕ → ℕ
+  pub after : ℕ → Processor × Retired
+  pub is : turn ≡ Reaches word change after
+  pub value_is : change before ≡ value
+
+pub referred : (word before : ℕ) (phi : Phi) (shape : Shape) (turn : Turn) → before < 2 ^ 32 → Decides (Refer word phi shape) turn →
+    IsReferred word before (apply phi before) turn
+referred word before phi shape (Retires p r) small d = absurd d
+referred word before phi shape (Reaches w c f) small d =
+    record { change = c; after = f; is = ap (λ v. Reaches v c f) (sym d.0); value_is = sym (d.1 before small) }
+referred word before phi shape (Stops c) small d = absurd d
+
+module _ (e : Extent) (code : List ℕ) (t u v : TableLists) (row next : List ℕ) (p word before value number written : ℕ) where
+  -- all that a look for a move knows of what it has done
+  pub record HasLooked : Type 0 where
+    pub row_is : IsRow e t row
+    pub few : p < e.processors
+    pub room : e.processors ≤ 8
+    pub long : length row ≡ 9
+    pub first_kept : IsKept t u
+    pub then_kept : IsKept u v
+    pub runs : is_running (placed_at t (slice_index row p)).station.processor.status ≡ true
+    pub refers : IsReferred word before value
+        (turn_of (placed_at t (slice_index row p)).setting code (placed_at t (slice_index row p)).station.processor)
+    pub named : word < (placed_at t (slice_index row p)).setting.shared_words
+    pub before_is : slice_index (words_at t (slice_index row 8)) word ≡ before
+    pub behind : IsBehind code before (placed_at t (slice_index row p)) u number
+    pub written_there : written < length v.words
+    pub written_is : IsWritten (words_at u (slice_index row 8)) word value (words_at v written)
+    pub next_is : next ≡ slice_set (slice_set row p number) 8 written
+
+  module _ (h : HasLooked) where
+    abbrev here : Placed
+    here = placed_at t (slice_index row p)
+
+    next_own : slice_index next p ≡ number
+    next_own =
+        ap (λ r. slice_index r p) h.next_is
+        ∙ (get_or-set_other (slice_set row p number) 8 p written 0 (λ same. omega (arith, h.few, h.room))
+        ∙ get_or-set_same row p number 0 (omega (arith, h.few, h.room, h.long)))
+
+    next_words : slice_index next 8 ≡ written
+    next_words =
+        ap (λ r. slice_index r 8) h.next_is
+        ∙ get_or-set_same (slice_set row p number) 8 written 0 (omega (arith, h.long, length-set row p number))
+
+    next_other : (q : ℕ) → q ≢ p → q < e.processors → slice_index next q ≡ slice_index row q
+    next_other q other few =
+        ap (λ r. slice_index r q) h.next_is
+        ∙ (get_or-set_other (slice_set row p number) 8 q written 0 (λ same. omega (arith, few, h.room)) ∙ get_or-set_other row p q number 0 other)
+
+    kept : IsKept t v
+    kept = kept_on t u v h.first_kept h.then_kept
+
+    at_number : placed_at v number ≡ placed_at u number
+    at_number = h.then_kept.same_station number h.behind.there
+
+    at_other : (q : ℕ) → q ≢ p → q < e.processors → placed_at v (slice_index next q) ≡ placed_at t (slice_index row q)
+    at_other q other few = ap (placed_at v) (next_other q other few) ∙ kept.same_station (slice_index row q) (h.row_is.there q few)
+
+    own : here.setting ≡ setting_at e p
+    own = h.row_is.own p h.few
+
+    next_row : IsRow e v next
+    next_row = record {
+      there = λ q few. there_at q few (cases_eq q p);
+      own = λ q few. own_at q few (cases_eq q p);
+      words = subst (λ i. i < length v.words) (sym next_words) h.written_there;
+    }
+      where
+        there_at : (q : ℕ) → q < e.processors → (q ≡ p) ⊎ (q ≡ p → ⊥) → slice_index next q < length v.stations
+        there_at q few (inl same) =
+            let is : slice_index next q ≡ number = ap (slice_index next) same ∙ next_own in
+            omega (arith, is, h.behind.there, h.then_kept.stations)
+        there_at q few (inr other) =
+            let is = next_other q other few in
+            let below = h.row_is.there q few in
+            omega (arith, is, below, kept.stations)
+
+        own_at : (q : ℕ) → q < e.processors → (q ≡ p) ⊎ (q ≡ p → ⊥) → (placed_at v (slice_index next q)).setting ≡ setting_at e q
+        own_at q few (inl same) =
+            ap (λ j. (placed_at v (slice_index next j)).setting) same
+            ∙ (ap (λ i. (placed_at v i).setting) next_own
+            ∙ (ap (λ (a : Placed). a.setting) at_number ∙ (h.behind.setting ∙ (own ∙ ap (setting_at e) (sym same)))))
+        own_at q few (inr other) = ap (λ (a : Placed). a.setting) (at_other q other few) ∙ h.row_is.own q few
+
+    s : Standing
+    s = means e t row
+
+    named : word < e.shared_words
+    named = subst (λ (z : Setting). word < z.shared_words) own h.named
+
+    old_is : slice_index s.shared word ≡ before
+    unfolding s
+    old_is = listed_at (slice_index (words_at t (slice_index row 8))) e.shared_words word 0 named ∙ h.before_is
+
+    replied : after_reply (turn_of here.setting code here.station.processor) before ≡ Some (h.refers.after before)
+    replied = ap (λ turn. after_reply turn before) h.refers.is
+
+    -- the setting and the word before, as the state has them
+    both : (λ (z : Setting × ℕ). z) (here.setting, before) ≡ (setting_at e p, slice_index s.shared word)
+    both = λ i. (own i, sym old_is i)
+
+    abbrev turned : Setting × ℕ → Station
+    turned z = alone h.behind.count z.0 code (behind here.station (h.refers.after z.1))
+
+    settled : IsSettled (setting_at e p) code (turned (setting_at e p, slice_index s.shared word)).processor
+    settled = subst (λ (z : Setting × ℕ). IsSettled z.0 code (turned z).processor) both (h.behind.settled (h.refers.after before) replied)
+
+    here_after : if_running (placed_at v (slice_index next p)).station ≡ if_running (turned (setting_at e p, slice_index s.shared word))
+    here_after =
+        ap (λ i. if_running (placed_at v i).station) next_own
+        ∙ (ap (λ (a : Placed). if_running a.station) at_number
+        ∙ (h.behind.gone (h.refers.after before) replied ∙ ap (λ z. if_running (turned z)) both))
+
+    leaves : means e v next ≡ gone s p (if_running (turned (setting_at e p, slice_index s.shared word))) word (h.refers.change (slice_index s.shared word))
+    unfolding s
+    leaves =
+        let stations = listed_set (λ q. if_running (placed_at t (slice_index row q)).station) e.processors
+        (λ q. if_running (placed_at v (slice_index next q)).station) p
+        (if_running (turned (setting_at e p, slice_index s.shared word))) h.few here_after
+        (λ q other few. ap (λ (a : Placed). if_running a.station) (at_other q other few)) in
+        let lists : words_at u (slice_index row 8) ≡ words_at t (slice_index row 8) = h.first_kept.same_words (slice_index row 8) h.row_is.words in
+        let shared = listed_set (slice_index (words_at t (slice_index row 8))) e.shared_words
+        (slice_index (words_at v (slice_index next 8))) word (h.refers.change (slice_index s.shared word)) named
+        (ap (λ i. slice_index (words_at v i) word) next_words
+        ∙ (h.written_is.here ∙ (sym h.refers.value_is ∙ ap h.refers.change (sym old_is))))
+        (λ i other few. ap (λ j. slice_index (words_at v j) i) next_words
+        ∙ (h.written_is.others i other ∙ ap (λ list. slice_index list i) lists)) in
+        λ i. record { stations = stations i; shared = shared i }
+
+    pub looked : IsNext e code v (means e t row) p (Some next)
+    unfolding s
+    looked = (
+      next_row,
+      record {
+        station = here.station;
+        there = listed_there (λ q. if_running (placed_at t (slice_index row q)).station) e.processors p h.few
+            ∙ ap Some (running_kept here.station h.runs);
+        runs = h.runs;
+        word = word;
+        change = h.refers.change;
+        after = h.refers.after;
+        turn = ap (λ z. turn_of z code here.station.processor) (sym own) ∙ h.refers.is;
+        count = h.behind.count;
+        settled = settled;
+        leaves = leaves;
+      },
+    )
+
+-- ---- no move
+
+pub kept_runs : (a : Station) → is_running (if_running a).processor.status ≡ is_running a.processor.status
+kept_runs a = by (is_running a.processor.status)
+  where
+    forgotten : Station
+    forgotten = record a { processor = record a.processor { registers = []; local = [] } }
+
+    by : (b : Bool) → is_running (cond b a forgotten).processor.status ≡ is_running a.processor.status
+    by true = refl
+    by false = refl
+
+-- A turn that refers to a word is decided to be one that does.
+pub undecided : (d : Decision) (turn : Turn) → Decides d turn → ((w : ℕ) (phi : Phi) (shape : Shape) → d ≡ Refer w phi shape → ⊥) → IsReference turn → ⊥
+undecided (Refer w phi shape) turn h other r = other w phi shape refl
+undecided Local (Retires p q) h other r = r
+undecided Local (Reaches w c f) h other r = h
+undecided Local (Stops c) h other r = h
+undecided (Halt b) (Retires p q) h other r = h
+undecided (Halt b) (Reaches w c f) h other r = h
+undecided (Halt b) (Stops c) h other r = r
+undecided (Fault f) (Retires p q) h other r = h
+undecided (Fault f) (Reaches w c g) h other r = h
+undecided (Fault f) (Stops c) h other r = r
+
+module _ (e : Extent) (code : List ℕ) (t : TableLists) (row : List ℕ) (p : ℕ) (h : IsRow e t row) (few : p < e.processors) where
+  abbrev stands : Placed
+  stands = placed_at t (slice_index row p)
+
+  station_is : (m : MayMove e code (means e t row) p) → if_running stands.station ≡ m.station
+  station_is m = (listed_is (λ q. if_running (placed_at t (slice_index row q)).station) e.processors p m.station m.there).1
+
+  runs : (m : MayMove e code (means e t row) p) → is_running stands.station.processor.status ≡ true
+  runs m = sym (kept_runs stands.station) ∙ (ap (λ (a : Station). is_running a.processor.status) (station_is m) ∙ m.runs)
+
+  pub stopped_has_none : is_running stands.station.processor.status ≡ false → MayMove e code (means e t row) p → ⊥
+  stopped_has_none stopped m = true≢false (sym (runs m) ∙ stopped)
+
+  pub local_has_none : (IsReference (turn_of stands.setting code stands.station.processor) → ⊥) → MayMove e code (means e t row) p → ⊥
+  local_has_none local m =
+      let is : m.station ≡ stands.station = sym (station_is m) ∙ running_kept stands.station (runs m) in
+      local (subst (λ (z : Setting × Station). IsReference (turn_of z.0 code z.1.processor)) (λ i. (sym (h.own p few) i, is i)) m.refers)

@@ -1,0 +1,16 @@
+use Rattle.std.proofs.Common.{◌≡◌, ◌<◌, [], length}
+use Rattle.std.specs.Prelude.{slice_index_or}
+use Rattle.alone.specs.Closing.{Standing}
+use Rattle.station_search.specs.Search.{Searched, Expanded}
+use Rattle.station_search.specs.Tables.{IsKept, IsRow}
+use Rattle.station_search.proofs.finding.expand.Given as goal
+
+abbrev pub invariant-loop-p : goal.invariant-loop-p
+invariant-loop-p l = record {
+  kept : IsKept l.fn.tables l.tables;
+  there : l.at < length l.found.keys;
+  row_is : slice_index_or l.found.keys l.at [] ≡ l.row;
+  is_row : IsRow l.extent l.tables l.row;
+  expanded : (first : Standing) → Searched l.extent l.code l.fn.tables l.fn.found.keys first l.at →
+      Expanded l.extent l.code l.tables l.found.keys first l.at l.p;
+}

@@ -1,0 +1,6 @@
+pub mod Placed
+pub mod Words
+pub mod Tables
+pub mod Search
+pub mod Ends
+pub mod Opening

@@ -1,0 +1,48 @@
+-- Stations with what their processors know of their machine, and what they do.
+use Rattle.std.specs.Prelude.{◌≡◌, ℕ, List, [], Some}
+use Rattle.flat_machine.specs.declared.setting.Setting.{Setting}
+use Rattle.flat_machine.specs.declared.event.Retired.{Retired}
+use Rattle.flat_machine.specs.State.{Processor}
+use Rattle.flat_machine.specs.Turns.{turn_of}
+use Rattle.hart.specs.State.{CoreState}
+use Rattle.hart.specs.Deciding.{after_reply}
+use Rattle.alone.specs.Stations.{Station, behind, with_byte, alone, alone_once, IsSettled}
+use Rattle.alone.specs.Closing.{if_running}
+
+pub record Placed : Type 0 where
+  pub setting : Setting
+  pub station : Station
+
+-- a processor that has printed nothing
+abbrev pub placed_of : CoreState → Placed
+placed_of c = record { setting = c.setting; station = record { processor = c.state; console = [] } }
+
+-- with what an instruction gave to the console
+abbrev pub printing : Placed → Retired → Placed
+printing a retired = record a { station = record a.station { console = with_byte a.station.console retired.out } }
+
+-- They are of one processor, and the same is kept of them.
+pub record IsSame (a b : Placed) : Type 0 where
+  pub setting : a.setting ≡ b.setting
+  pub kept : if_running a.station ≡ if_running b.station
+
+-- A reference to a word that had this value before leads from the old to the new.
+pub record HasRetired (code : List ℕ) (before : ℕ) (old new : Placed) : Type 0 where
+  pub setting : new.setting ≡ old.setting
+  pub retired : (done : Processor × Retired) → after_reply (turn_of old.setting code old.station.processor) before ≡ Some done →
+      new.station ≡ behind old.station done
+
+-- A turn alone leads from the old to the new,
+pub record HasTurned (code : List ℕ) (old new : Placed) : Type 0 where
+  pub setting : new.setting ≡ old.setting
+  pub once : new.station ≡ alone_once old.setting code old.station
+
+-- or some number of turns do.
+pub record HasGone (code : List ℕ) (old new : Placed) : Type 0 where
+  pub setting : new.setting ≡ old.setting
+  pub count : ℕ
+  pub gone : new.station ≡ alone count old.setting code old.station
+
+-- The processor has stopped, or its next turn is a reference.
+abbrev pub IsStill : (code : List ℕ) → Placed → Type 0
+IsStill code a = IsSettled a.setting code a.station.processor

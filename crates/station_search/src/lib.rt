@@ -1,0 +1,20 @@
+//! All states between references that a program can reach, found by search.
+//!
+//! A state has each processor at its next reference to a shared word, or stopped, with what it has
+//! printed, and the shared words: a `Standing` of the crate `alone`. Processors and words stand in
+//! tables that only grow ([`Tables`]), each found in them by its number, and a state is a [`Row`] of
+//! such numbers. [`search`] finds each row that references lead to, from a first one.
+#![tactic(auto)]
+
+mod finding;
+mod moves;
+mod opening;
+mod refusal;
+mod station;
+mod tables;
+mod words;
+
+pub use finding::search;
+pub use refusal::Refusal;
+pub use station::Station;
+pub use tables::{Extent, Row, Tables, WORDS_PLACE};

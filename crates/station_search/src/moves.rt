@@ -1,0 +1,83 @@
+//! Moves: a reference of one processor, and what it does alone behind it.
+
+ghost use Rattle.std.specs.Prelude.{◌≡◌, ◌<◌, ◌≤◌, length, IfOk, OnOk};
+ghost use Rattle.flat_machine.specs.Turns.{turn_of};
+ghost use Rattle.hart.specs.Deciding.{IsReference};
+ghost use Rattle.station_search.specs.Search.{IsNext};
+ghost use Rattle.station_search.specs.Tables.{IsBehind, IsKept, IsRow, means, placed_at, words_at};
+ghost use Rattle.station_search.specs.Words.{IsWritten};
+
+use crate::refusal::Refusal;
+use crate::tables::{Extent, Row, Tables, WORDS_PLACE};
+use crate::words::{with_word, word_of};
+use hart::Decision;
+use local_memory::Code;
+
+impl Tables {
+    /// Where a reference of a processor leads, and what it does alone behind it. None where it has
+    /// stopped.
+    ///
+    /// # Errors
+    ///
+    /// [`Refusal::Memory`] and [`Refusal::Alone`].
+    pub fn next(
+        &mut self,
+        code: &Code,
+        extent: Extent,
+        row: Row,
+        p: u8,
+    ) -> Result<Option<Row>, Refusal>
+        requires row { IsRow extent self.old row }
+        requires there { p < extent.processors }
+        requires room { extent.processors ≤ 8 }
+        ensures kept { OnOk result (IsKept self.old self.new) }
+        ensures next { IfOk result (IsNext extent code.now self.new (means extent self.old row) p) }
+    {
+        let number = row[usize::from(p)];
+        let station = self.station(number);
+        if !station.is_running() {
+            return Ok(None);
+        }
+        let Decision::Refer { word, phi, .. } = station.core().decide(code) else {
+            return Ok(None);
+        };
+        let list = row[WORDS_PLACE];
+        let before = word_of(self.words(list).as_slice(), word);
+        let after = self.moved(code, number, before)?;
+        let written = self.rewritten(list, word, phi.apply(before))?;
+        let mut next = row;
+        next[usize::from(p)] = after;
+        next[WORDS_PLACE] = written;
+        Ok(Some(next))
+    }
+
+    /// The number of the station behind a reference to a word that had this value before.
+    fn moved(&mut self, code: &Code, number: u32, before: u32) -> Result<u32, Refusal>
+        requires there { number < length self.old.stations }
+        requires refers { IsReference (turn_of (placed_at self.old number).setting code.now (placed_at self.old number).station.processor) }
+        ensures kept { OnOk result (IsKept self.old self.new) }
+        ensures behind { IfOk result (IsBehind code.now before (placed_at self.old number) self.new) }
+    {
+        let Ok(mut station) = self.station(number).copy() else {
+            return Err(Refusal::Memory);
+        };
+        let Ok(()) = station.retire(code, before) else {
+            return Err(Refusal::Memory);
+        };
+        station.settle(code)?;
+        self.station_number(station)
+    }
+
+    /// The number of a list of words with one of them written.
+    fn rewritten(&mut self, number: u32, word: u32, value: u32) -> Result<u32, Refusal>
+        requires { number < length self.old.words }
+        ensures kept { OnOk result (IsKept self.old self.new) }
+        ensures there { IfOk result (λ written. written < length self.new.words) }
+        ensures written { IfOk result (λ written. IsWritten (words_at self.old number) word value (words_at self.new written)) }
+    {
+        let Ok(written) = with_word(self.words(number), word, value) else {
+            return Err(Refusal::Memory);
+        };
+        self.words_number(written)
+    }
+}

@@ -1,0 +1,70 @@
+//! The first row: where processors settle that have printed nothing.
+
+ghost use Rattle.std.specs.Prelude.{◌≡◌, ◌<◌, ◌≤◌, [], length, IfOk, OnOk};
+ghost use Rattle.alone.specs.Closing.{if_running, Settles};
+ghost use Rattle.station_search.specs.Opening.{AreOfExtent, IsOpened, flat_of};
+ghost use Rattle.station_search.specs.Tables.{IsKept, IsRow, means, setting_at, words_at};
+ghost use Rattle.station_search.specs.Words.{HasSameWords};
+
+use crate::refusal::Refusal;
+use crate::station::Station;
+use crate::tables::{Extent, Row, Tables, WORDS_PLACE};
+use crate::words::trim;
+use hart::Core;
+use local_memory::Code;
+use std::alloc::Global;
+
+impl Tables {
+    /// The row of the state in which each of these processors, with these shared words, has done what
+    /// it does alone.
+    ///
+    /// # Errors
+    ///
+    /// [`Refusal::Alone`] and [`Refusal::Memory`].
+    pub fn open(
+        &mut self,
+        alloc: Global,
+        code: &Code,
+        extent: Extent,
+        cores: &[Core],
+        words: Vec<u32>,
+    ) -> Result<Row, Refusal>
+        requires cores { AreOfExtent extent cores.now }
+        requires room { extent.processors ≤ 8 }
+        requires words { length words.items ≡ extent.shared_words }
+        ensures kept { OnOk result (IsKept self.old self.new) }
+        ensures row { IfOk result (IsRow extent self.new) }
+        ensures settles { IfOk result (λ row.
+            Settles (setting_at extent) code.now if_running (flat_of code.now cores.now words.items) (λ k. []) (means extent self.new row)) }
+    {
+        let mut row = [0; 9];
+        for (p, core) in cores.iter().enumerate() {
+            row[p] = self.opened(alloc, code, core)?;
+        }
+        row[WORDS_PLACE] = self.trimmed_number(words)?;
+        Ok(row)
+    }
+
+    /// The number of the station at which a processor settles that has printed nothing.
+    fn opened(&mut self, alloc: Global, code: &Code, core: &Core) -> Result<u32, Refusal>
+        ensures kept { OnOk result (IsKept self.old self.new) }
+        ensures opened { IfOk result (IsOpened code.now core.now self.new) }
+    {
+        let Ok(mut station) = Station::new(alloc, core) else {
+            return Err(Refusal::Memory);
+        };
+        station.settle(code)?;
+        self.station_number(station)
+    }
+
+    /// The number of a list of words, of which those at the end that are zero are left out.
+    fn trimmed_number(&mut self, words: Vec<u32>) -> Result<u32, Refusal>
+        ensures kept { OnOk result (IsKept self.old self.new) }
+        ensures there { IfOk result (λ number. number < length self.new.words) }
+        ensures same { IfOk result (λ number. HasSameWords words.items (words_at self.new number)) }
+    {
+        let mut words = words;
+        trim(&mut words);
+        self.words_number(words)
+    }
+}

@@ -1,0 +1,12 @@
+//! Why a search is given up.
+
+/// Why a search is given up.
+#[derive(Clone, Copy, Debug, PartialEq, Eq, Drop)]
+pub enum Refusal {
+    /// There is no memory for what is found.
+    Memory,
+    /// There are more states than the limit.
+    States,
+    /// A processor goes on for 1,000,000 instructions without a reference.
+    Alone,
+}

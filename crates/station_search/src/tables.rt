@@ -1,0 +1,139 @@
+//! Tables of stations and of lists of words, and rows that name them.
+
+ghost use Rattle.std.specs.Prelude.{◌≡◌, ◌<◌, [], length, IfOk, IfSome, OnOk};
+ghost use Rattle.station_search.specs.Placed.{IsSame};
+ghost use Rattle.station_search.specs.Tables.{IsKept, placed_at, words_at};
+
+use crate::refusal::Refusal;
+use crate::station::Station;
+use indexmap::IndexSet;
+use std::alloc::Global;
+use std::marker::Model;
+
+/// How many processors and shared words a machine has.
+#[derive(Clone, Copy, Debug, PartialEq, Eq, Drop)]
+pub struct Extent {
+    /// At most 8.
+    pub processors: u8,
+    pub shared_words: u32,
+}
+
+/// Where a row has the number of its list of words.
+pub const WORDS_PLACE: usize = 8;
+
+/// How many processors a row has room for.
+pub const MAX_PROCESSORS: u8 = 8;
+
+/// A state: the number of the station of each processor, and behind them that of the list of words.
+pub type Row = [u32; 9];
+
+/// Stations and lists of shared words, each with a number. They only grow, so a row means the same in
+/// all that they become.
+#[derive(Drop)]
+pub struct Tables {
+    stations: Vec<Station>,
+    words: IndexSet<Vec<u32>>,
+}
+
+impl Model for Tables {
+    ghost use Rattle.std.specs.Prelude.{map};
+    ghost use Rattle.station_search.specs.Tables.{TableLists};
+
+    ghost Value = { TableLists };
+
+    ghost view = { λ t. record { stations = t.stations.items; words = map (λ list. list.items) t.words.keys } };
+}
+
+impl Tables {
+    /// Tables with nothing in them.
+    pub fn new(alloc: Global) -> Self
+        ensures { result ≡ record { stations = []; words = [] } }
+    {
+        Tables {
+            stations: Vec::new(alloc),
+            words: IndexSet::new(alloc),
+        }
+    }
+
+    /// The station of a number.
+    pub fn station(&self, number: u32) -> &Station
+        requires { number < length self.now.stations }
+        ensures { result.now ≡ placed_at self.now number }
+    {
+        &self.stations[number as usize]
+    }
+
+    /// The list of words of a number. Those past its end are zero.
+    pub fn words(&self, number: u32) -> &Vec<u32>
+        requires { number < length self.now.words }
+        ensures { result.now.items ≡ words_at self.now number }
+    {
+        match self.words.get_index(number as usize) {
+            Some(words) => words,
+            None => unreachable!(),
+        }
+    }
+
+    /// The number of a station, which is added where there is no other that is the same.
+    ///
+    /// # Errors
+    ///
+    /// [`Refusal::Memory`].
+    pub fn station_number(&mut self, station: Station) -> Result<u32, Refusal>
+        ensures kept { OnOk result (IsKept self.old self.new) }
+        ensures there { IfOk result (λ number. number < length self.new.stations) }
+        ensures same { IfOk result (λ number. IsSame (placed_at self.new number) station) }
+    {
+        match self.known(&station) {
+            Some(number) => Ok(number),
+            None => self.add(station),
+        }
+    }
+
+    /// The number of a station that is the same.
+    fn known(&self, station: &Station) -> Option<u32>
+        ensures there { IfSome result (λ number. number < length self.now.stations) }
+        ensures same { IfSome result (λ number. IsSame (placed_at self.now number) station.now) }
+    {
+        for (number, known) in self.stations.iter().enumerate() {
+            if known.is_same(station) {
+                return u32::try_from(number).ok();
+            }
+        }
+        None
+    }
+
+    /// Gives a station the next number.
+    fn add(&mut self, station: Station) -> Result<u32, Refusal>
+        ensures kept { OnOk result (IsKept self.old self.new) }
+        ensures there { IfOk result (λ number. number < length self.new.stations) }
+        ensures same { IfOk result (λ number. placed_at self.new number ≡ station) }
+    {
+        let Ok(number) = u32::try_from(self.stations.len()) else {
+            return Err(Refusal::Memory);
+        };
+        match self.stations.push(station) {
+            Ok(()) => Ok(number),
+            Err(_) => Err(Refusal::Memory),
+        }
+    }
+
+    /// The number of a list of words, which is added where it is not there.
+    ///
+    /// # Errors
+    ///
+    /// [`Refusal::Memory`].
+    pub fn words_number(&mut self, words: Vec<u32>) -> Result<u32, Refusal>
+        ensures kept { OnOk result (IsKept self.old self.new) }
+        ensures there { IfOk result (λ number. number < length self.new.words) }
+        ensures same { IfOk result (λ number. words_at self.new number ≡ words.items) }
+    {
+        let Ok((number, _)) = self.words.insert_full(words) else {
+            return Err(Refusal::Memory);
+        };
+        match u32::try_from(number) {
+            Ok(number) => Ok(number),
+            Err(_) => Err(Refusal::Memory),
+        }
+    }
+}

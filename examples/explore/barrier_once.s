@@ -1,0 +1,24 @@
+# A wrong barrier: the count is never set back, so whoever comes a second time finds all there, and does not wait. Word 0 counts those
+# who have come, word 1 the additions. A processor stops at the ebreak where an addition is not there that was made before the
+# barrier.
+ addi a7, x0, 3                 # call 3: how many processors there are
+ ecall
+ addi s1, a0, 0
+ lui s2, 0x80000                # the address of shared word 0
+ addi s3, x0, 2                 # rounds that are left
+ addi s4, x0, 0                 # how many additions there are when all have added
+ addi s5, x0, 1
+ addi s6, s2, 4
+round: amoadd.w x0, s5, (s6)
+ add s4, s4, s1
+ amoadd.w x0, s5, (s2)
+wait: lw t1, 0(s2)
+ bltu t1, s1, wait
+ lw t1, 0(s6)
+ bltu t1, s4, bad
+ addi s3, s3, -1
+ bne s3, x0, round
+ addi a7, x0, 0                 # call 0: halt
+ addi a0, x0, 0
+ ecall
+bad: ebreak
