@@ -1,0 +1,75 @@
+-- Results, one after another, and what is found in them.
+use Rattle.std.proofs.Common.{◌≡◌, ℕ, zero, suc, ◌+◌, ◌<◌, ◌≤◌, List, [], ◌∷◌, ◌++◌, length, Some, refl, sym, ap, ◌∙◌, subst, arith}
+use Rattle.std.specs.Prelude.{slice_get}
+use Rattle.std.proofs.lemmas.List.{length-append}
+use Rattle.flat_machine.specs.declared.config.Config.{Config}
+use Rattle.elf_image.specs.Images.{ImageContents}
+use Rattle.hunt_command.specs.Findings.{FindingState, FindingsState, noted}
+use Rattle.hunt_command.specs.Hunts.{AreFound, AreResults, IsResultOf, ResultState, found_from, greater, greatest_from, number_at}
+
+found_more : (start place : ℕ) (fs : List FindingState) (rs : List ResultState) (r : ResultState) →
+    found_from start place fs (rs ++ r ∷ []) ≡ noted (found_from start place fs rs) r.text (number_at start (place + length rs))
+found_more start place fs [] r = ap (λ n. noted fs r.text (number_at start n)) (let same : place ≡ place + 0 = omega arith in same)
+found_more start place fs (x ∷ rs) r =
+    found_more start (place + 1) (noted fs x.text (number_at start place)) rs r
+    ∙ ap (λ n. noted (found_from start (place + 1) (noted fs x.text (number_at start place)) rs) r.text (number_at start n))
+    (let same : place + 1 + length rs ≡ place + suc (length rs) = omega arith in same)
+
+greatest_more : (status : ℕ) (rs : List ResultState) (r : ResultState) → greatest_from status (rs ++ r ∷ []) ≡ greater r.status (greatest_from status rs)
+greatest_more status [] r = refl
+greatest_more status (x ∷ rs) r = greatest_more (greater x.status status) rs r
+
+results_more : (c : Config) (image : ImageContents) (most start place : ℕ) (rs : List ResultState) (r : ResultState) →
+    ((i : ℕ) (x : ResultState) → slice_get rs i ≡ Some x → IsResultOf c image most (number_at start (place + i)) x) →
+    IsResultOf c image most (number_at start (place + length rs)) r →
+    (i : ℕ) (x : ResultState) → slice_get (rs ++ r ∷ []) i ≡ Some x → IsResultOf c image most (number_at start (place + i)) x
+results_more c image most start place [] r each one zero x there =
+    let same : r ≡ x = cc in subst (IsResultOf c image most (number_at start (place + 0))) same one
+results_more c image most start place [] r each one (suc i) x there = absurd (cc)
+results_more c image most start place (y ∷ rs) r each one zero x there = each zero x there
+results_more c image most start place (y ∷ rs) r each one (suc i) x there =
+    subst (λ n. IsResultOf c image most (number_at start n) x) (step i)
+    (results_more c image most start (place + 1) rs r
+    (λ j z at. subst (λ n. IsResultOf c image most (number_at start n) z) (sym (step j)) (each (suc j) z at))
+    (subst (λ n. IsResultOf c image most (number_at start n) r) (sym (step (length rs))) one) i x there)
+  where
+    step : (j : ℕ) → place + 1 + j ≡ place + suc j
+    step j = omega arith
+
+pub none_found : (c : Config) (image : ImageContents) (most start : ℕ) → AreFound c image most start 0 [] 0
+none_found c image most start = record {
+  results = [];
+  all = refl;
+  each = λ place r there. absurd (cc);
+  are = refl;
+  exit = refl;
+}
+
+-- one run more
+pub one_found : (c : Config) (image : ImageContents) (most start place : ℕ) (fs : List FindingState) (status number : ℕ) (r : ResultState) →
+    AreFound c image most start place fs status → number ≡ number_at start place → IsResultOf c image most number r →
+    AreFound c image most start (place + 1) (noted fs r.text number) (greater r.status status)
+one_found c image most start place fs status number r f is one = record {
+  results = f.results ++ r ∷ [];
+  all = length-append f.results (r ∷ []) ∙ ap (λ n. n + 1) f.all;
+  each = λ i x there. subst (λ n. IsResultOf c image most (number_at start n) x) (let same : 0 + i ≡ i = omega arith in same)
+      (results_more c image most start 0 f.results r
+      (λ j y at. subst (λ n. IsResultOf c image most (number_at start n) y) (let same : j ≡ 0 + j = omega arith in same) (f.each j y at))
+      (subst (λ n. IsResultOf c image most n r) (is ∙ here) one) i x there);
+  are = ap (λ (xs : List FindingState). noted xs r.text number) f.are ∙ ap (noted (found_from start 0 [] f.results) r.text) (is ∙ here)
+      ∙ sym (found_more start 0 [] f.results r);
+  exit = ap (greater r.status) f.exit ∙ sym (greatest_more 0 f.results r);
+}
+  where
+    here : number_at start place ≡ number_at start (0 + length f.results)
+    here = ap (number_at start) (let all = f.all in let same : place ≡ 0 + length f.results = omega (arith, all) in same)
+
+-- the same, where it is noted
+pub one_noted : (c : Config) (image : ImageContents) (most start place number : ℕ) (old new : FindingsState) (status status' of_run : ℕ) (text : List ℕ) →
+    AreFound c image most start place old.found status → number ≡ number_at start place →
+    IsResultOf c image most number (record { text = text; status = of_run }) →
+    new ≡ record { found = noted old.found text number; noted = old.noted + 1 } → status' ≡ greater of_run status →
+    AreFound c image most start (place + 1) new.found status'
+one_noted c image most start place number old new status status' of_run text f is one next more =
+    subst (λ (x : FindingsState × ℕ). AreFound c image most start (place + 1) x.0.found x.1) (λ i. (sym next i, sym more i))
+    (one_found c image most start place old.found status number (record { text = text; status = of_run }) f is one)

@@ -1,0 +1,57 @@
+-- The log of a run, from its machine's opening on, and its steps on another machine.
+use Rattle.std.proofs.Common.{◌≡◌, ℕ, List, ◌∙◌, ap, refl, sym, subst, arith}
+use Rattle.flat_machine.specs.declared.config.Config.{Config}
+use Rattle.flat_machine.specs.Limits.{IsWithinLimits}
+use Rattle.elf_image.specs.Images.{ImageContents}
+use Rattle.steps.specs.declared.step.Step.{Step}
+use Rattle.trace_file.specs.Traces.{HaveRecords, IsTrace, trace_of}
+use Rattle.trace_replay.proofs.Lemmas.{none_stalls}
+use Rattle.trace_replay.specs.Replays.{StallsAt}
+use Rattle.machine_runs.specs.Machines.{MachineLists}
+use Rattle.machine_runs.specs.Runs.{IsOpening, IsReplay}
+use Rattle.machine_log.specs.Logs.{IsKept, Log}
+use Rattle.machine_sweep.specs.Sweeps.{opened}
+use Rattle.machine_sweep.specs.declared.sweeping.SweepEnd.{SweepEnd}
+use Rattle.command_io.specs.declared.fault.Fault.TheVariants as fault
+use Rattle.run_commands.specs.Faults.{fault_of_retaking}
+use Rattle.run_commands.specs.Retaking.{IsNotRetaken}
+use Rattle.run_commands.specs.declared.taking.RetakeError.{RetakeError}
+use Rattle.run_commands.specs.declared.taking.RetakeError.TheVariants as retake
+use Rattle.random_runs.specs.Runs.{HasRun, IsRandomRun}
+use Rattle.hunt_command.specs.Hunts.{IsLogOf}
+
+module _ (c : Config) (most number : ℕ) (image : ImageContents) (m : MachineLists) (opens : IsOpening c image m) (old log : Log) (starts : old ≡ opened m)
+    (kept : IsKept log) (end : SweepEnd) (ran : HasRun number most old end log)
+    (records : HaveRecords old.machine.config.k old.steps → HaveRecords log.machine.config.k log.steps) where
+  opening_is : log.opening ≡ m
+  opening_is = ran.opening ∙ ap (λ (l : Log). l.opening) starts
+
+  config_is : log.machine.config ≡ c
+  config_is = kept.replay.run.config ∙ ap (λ (n : MachineLists). n.config) opening_is ∙ opens.config
+
+  limits : IsWithinLimits c
+  limits = subst IsWithinLimits config_is kept.sound.limits
+
+  pub log_of : IsLogOf c image most number end log
+  log_of = record {
+    ran = record {
+      opens = subst (IsOpening c image) (sym opening_is) opens;
+      replay = kept.replay;
+      ran = subst (λ (l : Log). HasRun number most l end log) (starts ∙ ap opened (sym opening_is)) ran;
+    };
+    trace = record {
+      header =
+          record { stages = limits.stages; some_capacity = limits.some_capacity; capacity = limits.capacity; records = limits.records; count = kept.room };
+      records = subst (λ (d : Config). HaveRecords d.k log.steps) config_is
+          (records (subst (λ (l : Log). HaveRecords l.machine.config.k l.steps) (sym starts) (λ p d inside. absurd (omega (arith, inside)))));
+    };
+  }
+
+-- the steps of a run do not stall on another machine that opens on the image
+pub not_stalled : (c : Config) (image : ImageContents) (most number : ℕ) (end : SweepEnd) (log : Log) (steps : List Step) (second new : MachineLists) →
+    IsRandomRun c image number most end log → steps ≡ log.steps → IsOpening c image second → (e : RetakeError) → IsNotRetaken second steps new e →
+    fault_of_retaking e ≡ fault.Memory
+not_stalled c image most number end log steps second new ran all two (retake.Stalled place) h =
+    absurd (none_stalls c image log.opening second ran.opens two log.steps log.machine ran.replay place new
+    (subst (λ (xs : List Step). StallsAt second xs place new) all h))
+not_stalled c image most number end log steps second new ran all two retake.Memory h = refl

@@ -1,0 +1,7 @@
+use Rattle.std.proofs.Common.{◌≡◌, take}
+use Rattle.std.specs.Prelude.{string_bytes}
+use Rattle.hunt_command.specs.Findings.{findings_lines}
+use Rattle.hunt_command.proofs.findings.findings_text.Given as goal
+
+abbrev pub invariant-loop-finding : goal.invariant-loop-finding
+invariant-loop-finding l = string_bytes l.text ≡ findings_lines (take l.finding-index l.found)

@@ -1,0 +1,44 @@
+-- Different results, and how often each came.
+use Rattle.std.specs.Prelude.{ℕ, zero, suc, ◌+◌, ◌≤◌, All, List, [], ◌∷◌, ◌++◌, Option, Some, None, bytes_eq, codes, if◌then◌else◌, slice_get, slice_set}
+use Rattle.std.specs.Fmt.{decimal}
+
+-- the text of a result, how many runs came to it, and the number of the first of them
+pub record FindingState : Type 0 where
+  pub text : List ℕ
+  pub runs : ℕ
+  pub first : ℕ
+
+-- what is found in so many results
+pub record FindingsState : Type 0 where
+  pub found : List FindingState
+  pub noted : ℕ
+
+-- no result came more often than results were noted
+abbrev pub AreFew : FindingsState → Type 0
+AreFew f = All (λ (one : FindingState). one.runs ≤ f.noted) f.found
+
+-- the place of a text, or how many there are where it is not found
+abbrev pub place_of : (text : List ℕ) → List FindingState → ℕ
+place_of text [] = 0
+place_of text (f ∷ fs) = if bytes_eq f.text text then 0 else suc (place_of text fs)
+
+-- one run more
+abbrev pub once_more : FindingState → FindingState
+once_more f = record f { runs = f.runs + 1 }
+
+-- what was found at its place is counted once more; where nothing was, it is new
+abbrev pub noted_at : List FindingState → (place : ℕ) → Option FindingState → (text : List ℕ) → (number : ℕ) → List FindingState
+noted_at fs place (Some f) text number = slice_set fs place (once_more f)
+noted_at fs place None text number = fs ++ (record { text = text; runs = 1; first = number }) ∷ []
+
+-- the run of this number came to this text
+abbrev pub noted : List FindingState → (text : List ℕ) → (number : ℕ) → List FindingState
+noted fs text number = noted_at fs (place_of text fs) (slice_get fs (place_of text fs)) text number
+
+-- `runs N first S`, and the result
+unfoldable pub finding_lines : FindingState → List ℕ
+finding_lines f = codes "runs " ++ decimal f.runs ++ codes " first " ++ decimal f.first ++ codes " " ++ f.text
+
+abbrev pub findings_lines : List FindingState → List ℕ
+findings_lines [] = []
+findings_lines (f ∷ fs) = finding_lines f ++ findings_lines fs

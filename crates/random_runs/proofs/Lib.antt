@@ -1,0 +1,4 @@
+pub mod Plans
+pub mod Asking
+pub mod Recorded
+pub mod OneRun
