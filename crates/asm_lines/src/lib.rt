@@ -16,8 +16,6 @@ mod number;
 mod operand;
 mod register;
 mod statement;
-#[cfg(test)]
-mod tests;
 mod text;
 
 pub use fault::{LineError, LineFault};

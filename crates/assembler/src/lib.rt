@@ -54,8 +54,6 @@ mod passes;
 mod place;
 mod program;
 mod symbol;
-#[cfg(test)]
-mod tests;
 mod values;
 
 pub use fault::{AsmError, AsmFault};

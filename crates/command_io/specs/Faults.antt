@@ -10,7 +10,7 @@ use Rattle.trace_file.specs.declared.error.TraceError.TheVariants as trace
 use Rattle.command_io.specs.declared.fault.Fault.{Fault}
 use Rattle.command_io.specs.declared.fault.Fault.TheVariants as fault
 
--- the exit status that tells a fault: 2 for a refused input, 3 for a failed link, 4 for want of memory or of budget
+-- the exit status that tells a fault: 2 for a refused input, 3 for a failed link, 4 for want of memory, or a limit that is used up
 abbrev pub status_of_fault : Fault → ℕ
 status_of_fault (fault.Line number) = 2
 status_of_fault (fault.Text e) = 2
@@ -22,6 +22,10 @@ status_of_fault (fault.Trace refusal) = 2
 status_of_fault fault.Size = 2
 status_of_fault (fault.Stalled place) = 2
 status_of_fault fault.Budget = 4
+status_of_fault fault.Full = 4
+status_of_fault fault.Start = 4
+status_of_fault fault.States = 4
+status_of_fault fault.Alone = 4
 status_of_fault fault.Link = 3
 status_of_fault fault.Memory = 4
 

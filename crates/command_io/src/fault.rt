@@ -39,6 +39,18 @@ pub enum Fault {
     /// The budget is used up, a processor runs, and no fault has stopped one.
     #[error("budget")]
     Budget,
+    /// The log of a run on threads is full: it has 4,194,304 steps.
+    #[error("L2")]
+    Full,
+    /// A thread could not be started.
+    #[error("Start")]
+    Start,
+    /// A program has more states between references than the limit.
+    #[error("states")]
+    States,
+    /// A processor goes on for too long without a reference to a shared word.
+    #[error("alone")]
+    Alone,
     /// A file cannot be opened, a text cannot be read, or standard output cannot be written.
     #[error("link")]
     Link,
@@ -58,7 +70,12 @@ impl Fault {
             Fault::Line(_) | Fault::Text(_) | Fault::Image(_) | Fault::Trace(_) => REFUSED,
             Fault::Size | Fault::Stalled(_) => REFUSED,
             Fault::NotUtf8 | Fault::Link => LINK_FAILED,
-            Fault::Budget | Fault::Memory => SPENT,
+            Fault::Budget
+            | Fault::Full
+            | Fault::Start
+            | Fault::States
+            | Fault::Alone
+            | Fault::Memory => SPENT,
         }
     }
 }

@@ -17,6 +17,3 @@ pub use fault::{Fault, tell};
 pub use input::image_of;
 pub use on_first_write::{CreateAt, OnFirstWrite, Open};
 pub use printing::print;
-
-#[cfg(test)]
-mod tests;

@@ -9,8 +9,6 @@ mod decoder;
 mod encoder;
 mod fields;
 mod operations;
-#[cfg(test)]
-mod tests;
 
 pub use decoder::decode;
 pub use encoder::encode;

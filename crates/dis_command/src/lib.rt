@@ -3,8 +3,6 @@
 
 mod command;
 mod lines;
-#[cfg(test)]
-mod tests;
 
 pub use command::dis_command;
 pub use lines::listing;

@@ -6,8 +6,6 @@
 
 mod disassembly;
 mod laws;
-#[cfg(test)]
-mod tests;
 
 pub use disassembly::disassemble;
 pub use laws::disassembled_again;

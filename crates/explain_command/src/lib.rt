@@ -1,15 +1,14 @@
 //! `ultra explain [CODE]`: what a code that `ultra` prints means, what usually causes it and what to do.
 //!
 //! [`all_topics`] has what there is to explain: what stands behind `ultra: ` on standard error, the numbers of the faults in
-//! a report, and pages of help.
+//! a report, the errors of the debugger, and pages of help.
 #![tactic(auto)]
 
 mod codes;
 mod command;
 mod faults;
 mod pages;
-#[cfg(test)]
-mod tests;
+mod replies;
 mod texts;
 mod topic;
 mod topics;

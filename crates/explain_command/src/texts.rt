@@ -26,6 +26,8 @@ pub(crate) fn list_text(alloc: Global, topics: &Topics) -> Result<String, AllocE
     push_lines(&mut text, topics.codes)?;
     text.push_str("\nNumbers of faults, as `fault 4` in a report\n")?;
     push_lines(&mut text, topics.faults)?;
+    text.push_str("\nErrors of the debugger, as it answers a line\n")?;
+    push_lines(&mut text, topics.replies)?;
     text.push_str("\nPages\n")?;
     push_lines(&mut text, topics.pages)?;
     Ok(text)

@@ -3,7 +3,7 @@
 ghost use Rattle.std.specs.Prelude.{◌≡◌, find, option_map};
 ghost use Rattle.explain_command.specs.Topics.{is_named, topic_named};
 
-/// A code, the number of a fault, or a page of help.
+/// A code, the number of a fault, an error of the debugger, or a page of help.
 #[derive(Clone, Copy, Debug, PartialEq, Eq, Drop)]
 pub struct Topic {
     /// The word that asks for it.
@@ -21,6 +21,8 @@ pub struct Topics {
     pub codes: &'static [Topic],
     /// The numbers of the faults that stop a processor, as a report has them.
     pub faults: &'static [Topic],
+    /// The errors that a debugger's lines are answered by.
+    pub replies: &'static [Topic],
     /// Pages of help.
     pub pages: &'static [Topic],
 }
@@ -34,6 +36,9 @@ impl Topics {
             return Some(topic);
         }
         if let Some(topic) = first_named(self.faults, word) {
+            return Some(topic);
+        }
+        if let Some(topic) = first_named(self.replies, word) {
             return Some(topic);
         }
         first_named(self.pages, word)

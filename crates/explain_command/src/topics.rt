@@ -3,6 +3,7 @@
 use crate::codes::CODES;
 use crate::faults::FAULTS;
 use crate::pages::PAGES;
+use crate::replies::REPLIES;
 use crate::topic::{Topic, Topics};
 
 /// What `ultra` has to explain.
@@ -10,6 +11,7 @@ pub fn all_topics() -> Topics {
     Topics {
         codes: codes(),
         faults: faults(),
+        replies: replies(),
         pages: pages(),
     }
 }
@@ -22,6 +24,10 @@ fn codes() -> &'static [Topic] {
 
 fn faults() -> &'static [Topic] {
     FAULTS
+}
+
+fn replies() -> &'static [Topic] {
+    REPLIES
 }
 
 fn pages() -> &'static [Topic] {

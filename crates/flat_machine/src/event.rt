@@ -54,24 +54,3 @@ pub enum Event {
     Retired(Retired),
     Stopped(Cause),
 }
-
-#[cfg(test)]
-mod tests {
-    use super::*;
-
-    /// A stop leaves the status that tells its cause.
-    #[test]
-    fn status_of_each_cause(rt: HostRuntime) {
-        for (cause, status) in [
-            (Cause::Halt(0), Status::Halted(0)),
-            (Cause::Halt(255), Status::Halted(255)),
-            (Cause::Fault(Fault::NoRow), Status::Faulted(Fault::NoRow)),
-            (
-                Cause::Fault(Fault::Breakpoint),
-                Status::Faulted(Fault::Breakpoint),
-            ),
-        ] {
-            assert_eq!(rt; cause.status(), status);
-        }
-    }
-}

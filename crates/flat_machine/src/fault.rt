@@ -42,25 +42,3 @@ impl Fault {
         }
     }
 }
-
-#[cfg(test)]
-mod tests {
-    use super::*;
-
-    /// The faults in the order of their numbers.
-    #[test]
-    fn numbers(rt: HostRuntime) {
-        for (number, fault) in [
-            (1, Fault::NoRow),
-            (2, Fault::FetchOutsideCode),
-            (3, Fault::TargetNotAligned),
-            (4, Fault::AddressNotAligned),
-            (5, Fault::NoRegion),
-            (6, Fault::StoreToCode),
-            (7, Fault::UnknownCall),
-            (8, Fault::Breakpoint),
-        ] {
-            assert_eq!(rt; fault.number(), number, "{fault:?}");
-        }
-    }
-}

@@ -36,21 +36,3 @@ impl Size {
         }
     }
 }
-
-#[cfg(test)]
-mod tests {
-    use super::*;
-
-    /// Each size, its bytes and the greatest number that they hold.
-    #[test]
-    fn bytes_and_ones(rt: HostRuntime) {
-        for (size, bytes, ones) in [
-            (Size::Byte, 1, 255),
-            (Size::Half, 2, 65_535),
-            (Size::Word, 4, 4_294_967_295),
-        ] {
-            assert_eq!(rt; size.bytes(), bytes, "{size:?}");
-            assert_eq!(rt; size.ones(), ones, "{size:?}");
-        }
-    }
-}

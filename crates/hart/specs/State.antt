@@ -1,5 +1,5 @@
 -- What a core is seen as.
-use Rattle.std.specs.Prelude.{ℕ, List, replicate}
+use Rattle.std.specs.Prelude.{◌≡◌, ℕ, List, replicate}
 use Rattle.flat_machine.specs.declared.setting.Setting.{Setting}
 use Rattle.flat_machine.specs.declared.event.Status.TheVariants.{Running}
 use Rattle.flat_machine.specs.State.{Processor}
@@ -16,3 +16,9 @@ new_core setting pc local = record {
   setting = setting;
   state = record { pc = pc; registers = replicate 32 0; local = region_of_bytes local; status = Running };
 }
+
+-- Two cores know the same of their machine, stand at the same instruction and do the same.
+pub record IsStandingAs (a b : CoreState) : Type 0 where
+  pub setting : a.setting ≡ b.setting
+  pub pc : a.state.pc ≡ b.state.pc
+  pub status : a.state.status ≡ b.state.status

@@ -8,7 +8,7 @@
 //! [`Core::take`] decides and takes in one call.
 //!
 //! What a turn does is the flat machine's definition (`flat_machine`, `specs/Turns.antt`). A core
-//! holds no word of shared memory, and none of these calls takes memory.
+//! holds no word of shared memory, and of all calls only [`Core::new`] and [`Core::copy`] take memory.
 #![tactic(auto)]
 
 mod decision;

@@ -1,11 +1,11 @@
 //! A core, and what can be read of it and written to it from outside.
 
-ghost use Rattle.std.specs.Prelude.{◌≡◌, ◌<◌, ◌≤◌, ◌^◌, ◌%◌, true, length, IfOk};
+ghost use Rattle.std.specs.Prelude.{◌≡◌, ◌↔◌, ◌<◌, ◌≤◌, ◌^◌, ◌%◌, true, length, IfOk, IsTrue};
 ghost use Rattle.flat_machine.specs.Flat.{with_poked_byte, with_poked_register};
 ghost use Rattle.flat_machine.specs.Memory.{in_local};
 ghost use Rattle.flat_machine.specs.State.{status_of};
 ghost use Rattle.local_memory.specs.Accesses.{load_of};
-ghost use Rattle.hart.specs.State.{new_core};
+ghost use Rattle.hart.specs.State.{new_core, IsStandingAs};
 
 mod deciding;
 mod effects;
@@ -58,6 +58,35 @@ impl Core {
             local: Local::new(alloc, local)?,
             status: Status::Running,
         })
+    }
+
+    /// A core that is equal to this one.
+    pub fn copy(&self) -> Result<Self, AllocError>
+        ensures { IfOk result (λ core. core ≡ self.now) }
+    {
+        Ok(Core {
+            setting: self.setting,
+            pc: self.pc,
+            registers: self.registers,
+            local: self.local.copy()?,
+            status: self.status,
+        })
+    }
+
+    /// Whether both are equal.
+    pub fn equals(&self, other: &Self) -> bool
+        ensures { IsTrue result ↔ (self.now ≡ other.now) }
+    {
+        self.stands_as(other)
+            && self.registers == other.registers
+            && self.local.equals(&other.local)
+    }
+
+    /// Whether both know the same of their machine, stand at the same instruction and do the same.
+    pub fn stands_as(&self, other: &Self) -> bool
+        ensures { IsTrue result ↔ IsStandingAs self.now other.now }
+    {
+        self.pc == other.pc && self.setting == other.setting && self.status == other.status
     }
 
     /// The address of the next instruction. It is divisible by 4.

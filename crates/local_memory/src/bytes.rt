@@ -1,6 +1,6 @@
 //! The bytes of one region.
 
-ghost use Rattle.std.specs.Prelude.{◌≡◌, ◌<◌, ◌≤◌, ◌^◌, ◌*◌, ◌+◌, ◌-◌, ◌%◌, length, slice_index, slice_set, IfOk, vec_len};
+ghost use Rattle.std.specs.Prelude.{◌≡◌, ◌↔◌, ◌<◌, ◌≤◌, ◌^◌, ◌*◌, ◌+◌, ◌-◌, ◌%◌, length, slice_index, slice_set, IfOk, IsTrue, vec_len};
 ghost use Rattle.flat_machine.specs.Memory.{number_at, with_number};
 ghost use Rattle.flat_machine.specs.Sizes.{bytes_of};
 ghost use Rattle.local_memory.specs.Accesses.{padded, region_of_bytes};
@@ -37,6 +37,22 @@ impl RegionBytes {
         Ok(RegionBytes {
             bytes: padded(alloc, bytes, REGION_LENGTH)?,
         })
+    }
+
+    /// An equal region.
+    pub fn copy(&self) -> Result<Self, AllocError>
+        ensures { IfOk result (λ r. r ≡ self.now) }
+    {
+        Ok(RegionBytes {
+            bytes: self.bytes.clone()?,
+        })
+    }
+
+    /// Whether both have the same bytes.
+    pub fn equals(&self, other: &Self) -> bool
+        ensures { IsTrue result ↔ (self.now ≡ other.now) }
+    {
+        self.bytes.as_slice() == other.bytes.as_slice()
     }
 
     /// The little-endian number at a place.

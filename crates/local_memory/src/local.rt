@@ -1,6 +1,6 @@
 //! A processor's own memory.
 
-ghost use Rattle.std.specs.Prelude.{◌≡◌, ◌<◌, ◌≤◌, ◌^◌, ◌*◌, ◌+◌, ◌%◌, length, IfOk, OnOk, OnErr};
+ghost use Rattle.std.specs.Prelude.{◌≡◌, ◌↔◌, ◌<◌, ◌≤◌, ◌^◌, ◌*◌, ◌+◌, ◌%◌, length, IfOk, IsTrue, OnOk, OnErr};
 ghost use Rattle.flat_machine.specs.Memory.{in_local, number_at, with_number};
 ghost use Rattle.flat_machine.specs.Sizes.{bytes_of};
 ghost use Rattle.local_memory.specs.Accesses.{access_of, load_of, region_of_bytes};
@@ -33,6 +33,22 @@ impl Local {
         Ok(Local {
             bytes: RegionBytes::new(alloc, bytes)?,
         })
+    }
+
+    /// A memory with the same bytes.
+    pub fn copy(&self) -> Result<Self, AllocError>
+        ensures { IfOk result (λ l. l ≡ self.now) }
+    {
+        Ok(Local {
+            bytes: self.bytes.copy()?,
+        })
+    }
+
+    /// Whether both have the same bytes.
+    pub fn equals(&self, other: &Self) -> bool
+        ensures { IsTrue result ↔ (self.now ≡ other.now) }
+    {
+        self.bytes.equals(&other.bytes)
     }
 
     /// The little-endian number at a place from the region's first address.

@@ -255,8 +255,8 @@ impl Machine {
         self.network.reply_wires(stage)
     }
 
-    /// The core of a processor.
-    fn core(&self, processor: u8) -> Option<&Core>
+    /// The core of a processor. None where the machine has no processor of this number.
+    pub fn core(&self, processor: u8) -> Option<&Core>
         ensures { option_copied result ≡ (if nat_lt processor (2 ^ self.now.config.k) then Some (port_at self.now.ports processor).core else None) }
     {
         match self.ports.get(usize::from(processor)) {

@@ -10,7 +10,7 @@ ghost use Rattle.machine_runs.specs.Whole.{one_steps, IsOne, IsPoked, IsSent};
 ghost use Rattle.machine_log.specs.Logs.{entered, AreLawful, ArePoked, IsEntered};
 
 use flat_machine::Poke;
-use machine_runs::{Machine, drain_step};
+use machine_runs::{Machine, drain_step, machine_is_sound};
 use steps::{Outcome, Step};
 
 /// Takes a step, and enters it unless it stalls. There is room for it.
@@ -42,8 +42,7 @@ pub(crate) fn one(machine: &mut Machine, steps: &mut Vec<Step>, p: u8) -> Outcom
     ensures entered { IsEntered machine.old steps.old.items (2 * machine.old.config.k + 3) machine.new steps.new.items }
     ensures capacity { vec_capacity steps.new ≡ vec_capacity steps.old }
 {
-    // The proof needs that the machine is one.
-    let _ = machine.is_idle();
+    machine_is_sound(machine);
     let bound = 2 * u32::from(machine.config().k) + 2;
     let outcome = enter(machine, steps, Step::Turn(p));
     match outcome {
@@ -65,8 +64,7 @@ pub(crate) fn bring_home(machine: &mut Machine, steps: &mut Vec<Step>, bound: u3
     ensures entered { IsEntered machine.old steps.old.items bound machine.new steps.new.items }
     ensures capacity { vec_capacity steps.new ≡ vec_capacity steps.old }
 {
-    // The proof needs that the machine is one.
-    let _ = machine.is_idle();
+    machine_is_sound(machine);
     let mut last = Outcome::Issued;
     for moves in 0..bound {
         let Some(step) = drain_step(machine) else {
@@ -86,8 +84,7 @@ pub(crate) fn pokes(machine: &mut Machine, steps: &mut Vec<Step>, pokes: &[Poke]
     ensures poked { ArePoked machine.old steps.old.items pokes.now machine.new steps.new.items }
     ensures capacity { vec_capacity steps.new ≡ vec_capacity steps.old }
 {
-    // The proof needs that the machine is one.
-    let _ = machine.is_idle();
+    machine_is_sound(machine);
     for poke in pokes {
         enter(machine, steps, Step::Poke(*poke));
     }

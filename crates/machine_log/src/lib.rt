@@ -13,8 +13,6 @@
 mod entering;
 mod log;
 mod roomy;
-#[cfg(test)]
-mod tests;
 
-pub use log::{LogRefusal, Logged};
-pub use roomy::Roomy;
+pub use log::{LogRefusal, Logged, log_is_kept};
+pub use roomy::{Roomy, roomy_is_kept};

@@ -9,7 +9,7 @@ ghost use Rattle.machine_runs.specs.Whole.{one_steps, IsOne, IsPoked};
 ghost use Rattle.machine_log.specs.Logs.{is_named, AreLawful, HasPoked, HasTaken, IsKept, IsLonger};
 ghost use Rattle.machine_log.specs.Lending.{LendsRoom};
 
-use crate::roomy::Roomy;
+use crate::roomy::{Roomy, roomy_is_kept};
 use flat_machine::Poke;
 use machine_runs::{Machine, most_moves};
 use std::alloc::Global;
@@ -201,4 +201,12 @@ impl Logged {
         self.log.pokes(pokes);
         Ok(())
     }
+}
+
+/// What holds of every log: each proof about one may cite it, at the cost of nothing.
+pub fn log_is_kept(log: &Logged)
+    ensures kept { IsKept log.now }
+    ensures replay { IsReplay log.now.opening log.now.steps log.now.machine }
+{
+    roomy_is_kept(&log.log);
 }

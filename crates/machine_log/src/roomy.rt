@@ -10,7 +10,7 @@ ghost use Rattle.machine_log.specs.Logs.{AreLawful, HasPoked, HasTaken, IsKept, 
 use crate::entering;
 use crate::log::LogRefusal;
 use flat_machine::Poke;
-use machine_runs::{Machine, most_moves};
+use machine_runs::{Machine, machine_is_sound, most_moves};
 use std::alloc::Global;
 use std::marker::Model;
 use std::snapshot::Snapshot;
@@ -45,8 +45,7 @@ impl Roomy {
         requires idle { IsIdle machine }
         ensures { result.log ≡ record { opening = machine; steps = []; machine = machine } }
     {
-        // The proof needs that the machine is one.
-        let _ = machine.is_idle();
+        machine_is_sound(&machine);
         let opening = Snapshot::of(&machine);
         Roomy {
             machine,
@@ -148,4 +147,12 @@ impl Roomy {
     {
         entering::pokes(&mut self.machine, &mut self.steps, pokes);
     }
+}
+
+/// What holds of every log with room: each proof about one may cite it, at the cost of nothing.
+pub fn roomy_is_kept(roomy: &Roomy)
+    ensures kept { IsKept roomy.now.log }
+    ensures replay { IsReplay roomy.now.log.opening roomy.now.log.steps roomy.now.log.machine }
+{
+    let _ = &roomy.steps;
 }

@@ -11,3 +11,4 @@ pub mod Quiet
 pub mod Rows
 pub mod Skipping
 pub mod OneLog
+pub mod Lemmas

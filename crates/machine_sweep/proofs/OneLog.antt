@@ -77,7 +77,7 @@ either_goes_on k w p w' p' = by (cases_lt w w') (cases_eq w w') (cases_lt p p')
     by (inr more) (inl same) (inr less) = inr (one_goes_on k w' p' w p (inr (sym same, less)))
 
 -- what is no longer than before is what was before
-no_longer : (m : MachineLists) (done asked : List Step) → AreOwn asked → length (entered_of m done asked) ≤ length done → entered_of m done asked ≡ done
+pub no_longer : (m : MachineLists) (done asked : List Step) → AreOwn asked → length (entered_of m done asked) ≤ length done → entered_of m done asked ≡ done
 no_longer m done asked own short = by (own_entered m done asked own)
   where
     by : (rest : List Step) × AreOwn rest × (entered_of m done asked ≡ done ++ rest) → entered_of m done asked ≡ done
@@ -90,7 +90,7 @@ module _ (m n : MachineLists) (config : m.config ≡ n.config) (code : m.code �
   same_answer : (done : List Step) (s : Step) → answer_after m done s ≡ answer_after n done s
   same_answer done s i = outcome_of (config i) (code i) (all_after (config i) (code i) (machine i) done) s
 
-  same_entered : (done asked : List Step) → entered_of m done asked ≡ entered_of n done asked
+  pub same_entered : (done asked : List Step) → entered_of m done asked ≡ entered_of n done asked
   unfolding entered_of
   same_entered done [] = refl
   same_entered done (s ∷ ss) = ap (λ o. entered_of m (entered done s o) ss) (same_answer done s) ∙ same_entered (entered done s (answer_after n done s)) ss
@@ -101,18 +101,18 @@ module _ (m n : MachineLists) (config : m.config ≡ n.config) (code : m.code �
   runs_there : (done : List Step) → RunsAfter n done → RunsAfter m done
   runs_there done (p, within, runs) = (p, subst (λ (c : Config). p < 2 ^ c.k) (sym config) within, same_status done p ∙ runs)
 
-  over_there : (start : ℕ) (done : List Step) → IsOver m start done → IsOver n start done
+  pub over_there : (start : ℕ) (done : List Step) → IsOver m start done → IsOver n start done
   over_there start done (inl f) =
       inl (record { before = f.before; last = f.last; is = f.is; behind = f.behind; fault = subst IsFault (same_answer f.before f.last) f.fault })
   over_there start done (inr none) = inr (λ runs. none (runs_there done runs))
 
 -- a machine is what its steps left, whatever its processors have shown
-told_nothing : (m : MachineLists) (shown : ℕ → List Event) → retell (λ p. []) (machine_of m shown) ≡ machine_of m (λ p. [])
+pub told_nothing : (m : MachineLists) (shown : ℕ → List Event) → retell (λ p. []) (machine_of m shown) ≡ machine_of m (λ p. [])
 unfolding machine_of_parts
 told_nothing m shown = refl
 
 -- a drain takes the same steps on machines that are one
-same_drain : (m n : MachineLists) → m.config ≡ n.config → m.code ≡ n.code → machine_of m (λ p. []) ≡ machine_of n (λ p. []) → drain_steps m ≡ drain_steps n
+pub same_drain : (m n : MachineLists) → m.config ≡ n.config → m.code ≡ n.code → machine_of m (λ p. []) ≡ machine_of n (λ p. []) → drain_steps m ≡ drain_steps n
 same_drain m n config code machine i =
     map step_of (draining.drain_steps (sizes_of (config i)) (program (config i) (code i)) (drain_bound (config i)) (machine i))
 

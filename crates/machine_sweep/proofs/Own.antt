@@ -41,7 +41,7 @@ own_at (x ∷ xs) (suc i) s own there = own_at xs i s own.1 there
 
 -- ---- the sweep
 
-own_each : (f : ℕ → Step) → ((w : ℕ) → IsOwn (f w)) → (ws : List ℕ) → AreOwn (map f ws)
+pub own_each : (f : ℕ → Step) → ((w : ℕ) → IsOwn (f w)) → (ws : List ℕ) → AreOwn (map f ws)
 own_each f own [] = tt
 own_each f own (w ∷ ws) = (own w, own_each f own ws)
 

@@ -32,14 +32,14 @@ of_round_has_record k (step.Down s w) within = both s w k (2 ^ k) within.0 withi
 of_round_has_record k (step.Poke q) within = absurd within
 
 -- steps that all do something, and write nothing from outside
-moves_have_records : (c : Config) (code : List ℕ) (M : theory.Machine Told) (steps : List Step) → AreOwn steps → NoneStalls c code M steps →
+pub moves_have_records : (c : Config) (code : List ℕ) (M : theory.Machine Told) (steps : List Step) → AreOwn steps → NoneStalls c code M steps →
     HaveRecords c.k steps
 moves_have_records c code M [] own moves = All-nil (HasRecord c.k)
 moves_have_records c code M (s ∷ ss) own moves =
     All-cons (HasRecord c.k) s ss (of_round_has_record c.k s (of_round c code M s own.0 moves.0))
     (moves_have_records c code (after c code M s) ss own.1 moves.1)
 
-later_moves : (c : Config) (code : List ℕ) (M : theory.Machine Told) (xs ys : List Step) → NoneStalls c code M (xs ++ ys) →
+pub later_moves : (c : Config) (code : List ℕ) (M : theory.Machine Told) (xs ys : List Step) → NoneStalls c code M (xs ++ ys) →
     NoneStalls c code (all_after c code M xs) ys
 unfolding all_after
 later_moves c code M [] ys moves = moves

@@ -11,11 +11,9 @@ mod round;
 mod schedule;
 mod states;
 mod sweeping;
-#[cfg(test)]
-mod tests;
 
 pub use laws::{rounds_go_on, runs_have_one_log, sweeps_write_nothing};
 pub use round::Round;
 pub use schedule::step_at;
 pub use states::{any_is_faulted, any_runs};
-pub use sweeping::{MOST_STEPS, SweepEnd, follow_sweep};
+pub use sweeping::{MOST_STEPS, SweepEnd, follow_sweep, is_over, most_steps};

@@ -9,8 +9,8 @@ ghost use Rattle.machine_sweep.specs.Sweeps.{HasFollowed, IsFault, IsStop, IsSwe
 use crate::round::Round;
 use crate::states::any_runs;
 use flat_machine::Cause;
-use machine_log::{LogRefusal, Logged, Roomy};
-use machine_runs::{Machine, most_moves};
+use machine_log::{LogRefusal, Logged, Roomy, roomy_is_kept};
+use machine_runs::{Machine, machine_is_sound, most_moves};
 use steps::Outcome;
 
 /// The most steps that a sweep enters, whatever its budget. The log of a new machine has room for them, and
@@ -47,12 +47,11 @@ pub fn follow_sweep(log: &mut Logged, budget: u32) -> Result<SweepEnd, LogRefusa
 }
 
 /// How many steps a sweep that enters so many, and its drain, enter at most.
-fn most_steps(machine: &Machine, most: u32) -> u32
+pub fn most_steps(machine: &Machine, most: u32) -> u32
     requires { most ≤ 4000000 }
     ensures { result ≡ most + drain_bound machine.now.config }
 {
-    // The proof needs the limits of the machine's size.
-    let _ = machine.config();
+    machine_is_sound(machine);
     most + most_moves(machine)
 }
 
@@ -63,12 +62,11 @@ fn sweep(log: &mut Roomy, most: u32) -> SweepEnd
     ensures swept { IsSwept most log.old.log result log.new.log }
     ensures records { HaveRecords log.old.log.machine.config.k log.old.log.steps → HaveRecords log.new.log.machine.config.k log.new.log.steps }
 {
-    // The proof needs that the machine is the replay of the steps, before and after.
-    let _ = log.machine();
+    roomy_is_kept(log);
     let limit = log.steps().len() + most as usize;
     let end = follow(log, limit);
     log.drain();
-    let _ = log.machine();
+    roomy_is_kept(log);
     end
 }
 
@@ -102,8 +100,7 @@ fn take_round(log: &mut Roomy, limit: usize) -> bool
     ensures config { log.new.log.machine.config ≡ log.old.log.machine.config }
     ensures room { length log.new.log.steps + log.new.places ≡ length log.old.log.steps + log.old.places }
 {
-    // The proof needs that the machine is one.
-    let _ = log.machine().is_idle();
+    roomy_is_kept(log);
     let mut round = Round::new(log.machine().config().k);
     while log.steps().len() < limit {
         let Some(step) = round.next(log.machine()) else {
@@ -118,7 +115,7 @@ fn take_round(log: &mut Roomy, limit: usize) -> bool
 }
 
 /// Whether a sweep is over behind a step that answered this, on the machine that it left.
-fn is_over(outcome: &Outcome, machine: &Machine) -> bool
+pub fn is_over(outcome: &Outcome, machine: &Machine) -> bool
     ensures over { result ≡ true → IsFault outcome.now ⊎ (HasRunning machine.now → ⊥) }
     ensures not { result ≡ false → (IsFault outcome.now → ⊥) × ((IsStop outcome.now → ⊥) ⊎ HasRunning machine.now) }
 {

@@ -4,3 +4,4 @@ pub mod Logging
 pub mod FlatReports
 pub mod OneReport
 pub mod OneRun
+pub mod Hearing

@@ -1,6 +1,7 @@
 -- The report of a machine: a line for each processor, and a line for each shared word that is not zero. Where no reference is
 -- open it is that of the flat machine.
-use Rattle.std.specs.Prelude.{◌≡◌, ℕ, zero, suc, ◌^◌, ◌<◌, List, [], ◌++◌, slice_index, slice_index_or}
+use Rattle.std.specs.Prelude.{◌≡◌, ℕ, zero, suc, ◌^◌, ◌<◌, List, [], ◌++◌, Vec, map, slice_index, slice_index_or}
+use Rattle.std.specs.Global.{Global}
 use Rattle.flat_machine.specs.declared.config.Config.{Config}
 use Rattle.flat_machine.specs.declared.event.Event.{Event}
 use Rattle.flat_machine.specs.declared.poke.Entry.{Entry}
@@ -13,6 +14,10 @@ use Rattle.machine_sweep.specs.Standing.{HasFaulted, IsFaulted, processor_of}
 use Rattle.run_report.specs.Events.{shown_by}
 use Rattle.run_report.specs.Tallies.{ShownBy, nothing_shown}
 use Rattle.run_report.specs.Lines.{processor_line, word_lines}
+
+-- Lists of bytes that stand in memory are the consoles of processors that have shown this.
+abbrev pub AreHeard : (shown : List ShownBy) → (consoles : List (Vec ℕ Global)) → Type 0
+AreHeard shown consoles = map (λ (v : Vec ℕ Global). v.items) consoles ≡ map (λ (s : ShownBy). s.console) shown
 
 -- the lines of the first processors, which have shown this
 abbrev pub processor_lines : MachineLists → List ShownBy → (count : ℕ) → List ℕ

@@ -15,13 +15,12 @@ mod reporting;
 mod run;
 mod states;
 mod taking;
-#[cfg(test)]
-mod tests;
 
 pub use input::{machine_of, trace_of};
 pub use laws::{runs_have_one_report, steps_have_one_report};
+pub use output::save;
 pub use replay::replay_command;
-pub use reporting::report;
-pub use run::run_command;
+pub use reporting::{push_words, report};
+pub use run::{reported, run_command};
 pub use states::exit_status;
 pub use taking::{RetakeError, drained, retaken};

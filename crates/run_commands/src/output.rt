@@ -11,7 +11,11 @@ use steps::Step;
 use trace_file::{TraceError, write_trace};
 
 /// Writes the trace of a run, where one is asked for.
-pub(crate) fn save<T: LinkWrite>(
+///
+/// # Errors
+///
+/// [`Fault::Trace`] with [`TraceError::Link`] where the writer fails: a beginning of the trace is written then.
+pub fn save<T: LinkWrite>(
     trace: &mut Option<T>,
     config: &Config,
     steps: &[Step],

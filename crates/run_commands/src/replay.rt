@@ -13,7 +13,7 @@ use command_io::{Fault, image_of, print, tell};
 use elf_image::Image;
 use flat_machine::Config;
 use link::LinkWrite;
-use machine_runs::runs_are_serialized;
+use machine_runs::{machine_is_sound, runs_are_serialized};
 use std::alloc::Global;
 use std::io;
 use std::io::{Read, Write};
@@ -90,11 +90,10 @@ fn reported(
     ensures refused { IfErr result (IsNotTaken config image steps.now) }
 {
     let mut machine = machine_of(alloc, image, config)?;
-    // The proof needs that the machine is one.
-    let _ = machine.is_idle();
+    machine_is_sound(&machine);
     let mut tally = retaken(alloc, &mut machine, steps)?;
     drained(&mut machine, &mut tally)?;
     runs_are_serialized();
-    let text = report(alloc, &machine, &tally)?;
+    let text = report(alloc, &machine, &tally, None)?;
     Ok((text, exit_status(&machine)))
 }

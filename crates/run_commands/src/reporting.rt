@@ -1,26 +1,32 @@
 //! The report of a machine: a line for each processor, and a line for each shared word that is not zero.
 
-ghost use Rattle.std.specs.Prelude.{◌≡◌, ◌<◌, ◌^◌, ◌++◌, IfOk, OnOk, length, slice_index_or, string_bytes};
+ghost use Rattle.std.specs.Prelude.{◌≡◌, ◌<◌, ◌^◌, ◌++◌, IfOk, IfSome, OnOk, Some, length, map, slice_get, slice_index_or, string_bytes};
 ghost use Rattle.run_report.specs.Lines.{processor_line};
 ghost use Rattle.run_report.specs.Tallies.{nothing_shown};
 ghost use Rattle.machine_sweep.specs.Standing.{processor_of};
-ghost use Rattle.run_commands.specs.Reports.{processor_lines, report_of, shared_lines};
+ghost use Rattle.run_commands.specs.Reports.{AreHeard, processor_lines, report_of, shared_lines};
 
 use machine_runs::Machine;
-use run_report::{Tally, push_processor, push_shared_word};
+use run_report::{Shown, Tally, push_processor, push_shared_word};
 use std::alloc::{AllocError, Global};
 
-/// The report of a machine whose processors have shown this.
+/// The report of a machine whose processors have shown this. The bytes of their consoles may come from who has heard them.
 ///
 /// # Errors
 ///
 /// [`AllocError`] where there is no memory for it.
-pub fn report(alloc: Global, machine: &Machine, tally: &Tally) -> Result<String, AllocError>
-    requires { length tally.now.shown ≡ 2 ^ machine.now.config.k }
+pub fn report(
+    alloc: Global,
+    machine: &Machine,
+    tally: &Tally,
+    consoles: Option<&[Vec<u8>]>,
+) -> Result<String, AllocError>
+    requires all { length tally.now.shown ≡ 2 ^ machine.now.config.k }
+    requires heard { IfSome consoles (λ cs. AreHeard tally.now.shown cs.now) }
     ensures { IfOk result (λ text. string_bytes text ≡ report_of machine.now tally.now.shown) }
 {
     let mut text = String::new(alloc);
-    push_processors(alloc, &mut text, machine, tally)?;
+    push_processors(alloc, &mut text, machine, tally, consoles)?;
     push_words(alloc, &mut text, machine)?;
     Ok(text)
 }
@@ -31,12 +37,14 @@ fn push_processors(
     text: &mut String,
     machine: &Machine,
     tally: &Tally,
+    consoles: Option<&[Vec<u8>]>,
 ) -> Result<(), AllocError>
-    requires { length tally.now.shown ≡ 2 ^ machine.now.config.k }
+    requires all { length tally.now.shown ≡ 2 ^ machine.now.config.k }
+    requires heard { IfSome consoles (λ cs. AreHeard tally.now.shown cs.now) }
     ensures { OnOk result (string_bytes text.new ≡ string_bytes text.old ++ processor_lines machine.now tally.now.shown (2 ^ machine.now.config.k)) }
 {
     for p in 0..machine.config().processors() {
-        push_line(alloc, text, machine, tally, p)?;
+        push_line(alloc, text, machine, tally, consoles, p)?;
     }
     Ok(())
 }
@@ -48,10 +56,12 @@ fn push_line(
     text: &mut String,
     machine: &Machine,
     tally: &Tally,
+    consoles: Option<&[Vec<u8>]>,
     p: u8,
 ) -> Result<(), AllocError>
     requires there { p < 2 ^ machine.now.config.k }
     requires all { length tally.now.shown ≡ 2 ^ machine.now.config.k }
+    requires heard { IfSome consoles (λ cs. AreHeard tally.now.shown cs.now) }
     ensures { OnOk result (string_bytes text.new ≡ string_bytes text.old
         ++ processor_line p (processor_of machine.now p).pc (processor_of machine.now p).status (slice_index_or tally.now.shown p nothing_shown)) }
 {
@@ -64,11 +74,27 @@ fn push_line(
     let Some(shown) = tally.of(p) else {
         unreachable!()
     };
-    push_processor(alloc, text, p, pc, status, shown)
+    let console = console_of(shown, consoles, p);
+    push_processor(alloc, text, p, pc, status, shown.retired(), console)
+}
+
+/// The bytes that a processor has given to the console: as they were heard, or else as they were counted.
+fn console_of<'a>(shown: &'a Shown, consoles: Option<&'a [Vec<u8>]>, p: u8) -> &'a [u8]
+    requires { IfSome consoles (λ cs. slice_get (map (λ v. v.items) cs.now) p ≡ Some shown.now.console) }
+    ensures { result.now ≡ shown.now.console }
+{
+    match consoles {
+        Some(consoles) => consoles[usize::from(p)].as_slice(),
+        None => shown.console(),
+    }
 }
 
 /// Appends a line for each shared word that is not zero.
-fn push_words(alloc: Global, text: &mut String, machine: &Machine) -> Result<(), AllocError>
+///
+/// # Errors
+///
+/// [`AllocError`] where there is no memory for them.
+pub fn push_words(alloc: Global, text: &mut String, machine: &Machine) -> Result<(), AllocError>
     ensures { OnOk result (string_bytes text.new ≡ string_bytes text.old ++ shared_lines machine.now machine.now.config.shared_words) }
 {
     for number in 0..machine.config().shared_words {

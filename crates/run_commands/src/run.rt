@@ -1,10 +1,11 @@
 //! `ultra run`: from the bytes of an image to the report of its run.
 
-ghost use Rattle.std.specs.Prelude.{◌≡◌, ◌≤◌, ◌↔◌, true, false, IfOk, IfErr, IsErrOf, OnErr, string_bytes};
+ghost use Rattle.std.specs.Prelude.{◌≡◌, ◌≤◌, ◌↔◌, true, false, IfOk, IfErr, IfSome, IsErrOf, OnErr, map, string_bytes};
 ghost use Rattle.machine_runs.specs.Machines.{IsIdle};
 ghost use Rattle.machine_runs.specs.Runs.{IsOpening};
 ghost use Rattle.run_commands.specs.Causes.{IsNoRun, IsNotRun};
 ghost use Rattle.run_commands.specs.Commands.{IsFinishedRun, IsReportOf, IsRunReport, IsWorking};
+ghost use Rattle.run_commands.specs.Retaking.{AreConsoles};
 ghost use Rattle.command_io.specs.Printing.{IsPrinted, IsTold};
 
 use crate::input::machine_of;
@@ -15,8 +16,8 @@ use crate::taking::retaken;
 use command_io::{Fault, image_of, print, tell};
 use flat_machine::Config;
 use link::LinkWrite;
-use machine_log::Logged;
-use machine_runs::runs_are_serialized;
+use machine_log::{Logged, log_is_kept};
+use machine_runs::{machine_is_sound, runs_are_serialized};
 use machine_sweep::{SweepEnd, follow_sweep};
 use std::alloc::Global;
 use std::io::{Read, Write};
@@ -71,7 +72,7 @@ fn carried_out<R: Read + Drop, T: LinkWrite, W: LinkWrite>(
     ensures silent { OnErr result (W.has_failed out.new ≡ false → out.new ≡ out.old) }
 {
     let log = ran(alloc, file, config, budget)?;
-    let (text, status) = reported(alloc, &log)?;
+    let (text, status) = reported(alloc, &log, None)?;
     save(trace, &config, log.steps())?;
     print(out, text.as_str())?;
     Ok(status)
@@ -88,8 +89,7 @@ fn ran<R: Read + Drop>(alloc: Global, file: R, config: Config, budget: u32) -> R
         // A new log has room for the longest run, so memory is all that it can want.
         return Err(Fault::Memory);
     };
-    // The proof needs what always holds of a log.
-    let _ = log.machine();
+    log_is_kept(&log);
     match end {
         SweepEnd::Over => Ok(log),
         SweepEnd::Budget => Err(Fault::Budget),
@@ -97,11 +97,21 @@ fn ran<R: Read + Drop>(alloc: Global, file: R, config: Config, budget: u32) -> R
 }
 
 /// The report of a log, and its exit status. The steps are taken again, on a machine that opens on a copy
-/// of the image; as the log's machine opened on it too, none of them stalls.
-fn reported(alloc: Global, log: &Logged) -> Result<(String, u8), Fault>
+/// of the image; as the log's machine opened on it too, none of them stalls. The bytes of the consoles may come from who has
+/// heard them.
+///
+/// # Errors
+///
+/// [`Fault::Memory`].
+pub fn reported(
+    alloc: Global,
+    log: &Logged,
+    consoles: Option<&[Vec<u8>]>,
+) -> Result<(String, u8), Fault>
     requires opens { IsOpening log.now.machine.config log.now.machine.image log.now.opening }
     requires words { log.now.machine.image.shared_words ≡ log.now.machine.config.shared_words }
     requires idle { IsIdle log.now.machine }
+    requires heard { IfSome consoles (λ cs. AreConsoles log.now.opening log.now.steps (map (λ v. v.items) cs.now)) }
     ensures report { IfOk result (λ done. IsReportOf log.now.machine.config log.now.machine.image log.now.steps (string_bytes done.0) done.1) }
     ensures low { IfOk result (λ done. done.1 ≤ 1) }
     ensures refused { IfErr result (λ fault. fault ≡ Fault.Memory) }
@@ -109,10 +119,9 @@ fn reported(alloc: Global, log: &Logged) -> Result<(String, u8), Fault>
     let config = log.machine().config();
     let image = log.machine().image().copy(alloc)?;
     let mut machine = machine_of(alloc, image, config)?;
-    // The proof needs that the machine is one.
-    let _ = machine.is_idle();
+    machine_is_sound(&machine);
     let tally = retaken(alloc, &mut machine, log.steps())?;
     runs_are_serialized();
-    let text = report(alloc, &machine, &tally)?;
+    let text = report(alloc, &machine, &tally, consoles)?;
     Ok((text, exit_status(&machine)))
 }

@@ -7,7 +7,7 @@ ghost use Rattle.machine_runs.specs.Draining.{drain_steps};
 ghost use Rattle.run_commands.specs.declared.taking.RetakeError.TheVariants.{Memory as NoMemory};
 ghost use Rattle.run_commands.specs.Retaking.{IsRetaken, IsNotRetaken};
 
-use machine_runs::{Machine, drain_step, most_moves};
+use machine_runs::{Machine, drain_step, machine_is_sound, most_moves};
 use run_report::Tally;
 use std::alloc::{AllocError, Global};
 use steps::Step;
@@ -65,8 +65,7 @@ pub fn drained(machine: &mut Machine, tally: &mut Tally) -> Result<(), AllocErro
     ensures taken { OnOk result ((opening : MachineLists) (steps : List Step) → IsRetaken opening steps machine.old tally.old →
         IsRetaken opening (steps ++ drain_steps machine.old) machine.new tally.new) }
 {
-    // The proof needs that the machine is one.
-    let _ = machine.is_idle();
+    machine_is_sound(machine);
     for _ in 0..most_moves(machine) {
         let Some(step) = drain_step(machine) else {
             return Ok(());

@@ -8,9 +8,7 @@
 mod lines;
 mod shown;
 mod tally;
-#[cfg(test)]
-mod tests;
 
-pub use lines::{push_processor, push_shared_word};
+pub use lines::{push_console, push_processor, push_shared_word};
 pub use shown::Shown;
 pub use tally::Tally;

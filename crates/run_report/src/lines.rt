@@ -3,16 +3,14 @@
 ghost use Rattle.std.specs.Prelude.{◌≡◌, ◌∷◌, ◌++◌, [], codes, OnOk, string_bytes};
 ghost use Rattle.std.specs.Fmt.{decimal};
 ghost use Rattle.command_io.specs.Digits.{hex_of_word, status_text, line_feed};
-ghost use Rattle.run_report.specs.Tallies.{ShownBy};
 ghost use Rattle.run_report.specs.Lines.{console_text, processor_line, word_line, word_lines};
 
-use crate::shown::Shown;
 use command_io::{push_bytes, push_status, push_word};
 use flat_machine::Status;
 use std::alloc::{AllocError, Global};
 use std::fmt::Write;
 
-/// Appends the line of a processor.
+/// Appends the line of a processor, of which so many instructions have retired, and which has given these bytes to the console.
 ///
 /// # Errors
 ///
@@ -24,16 +22,18 @@ pub fn push_processor(
     number: u8,
     pc: u32,
     status: Status,
-    shown: &Shown,
+    retired: u32,
+    console: &[u8],
 ) -> Result<(), AllocError>
-    ensures { OnOk result (string_bytes text.new ≡ string_bytes text.old ++ processor_line number pc status shown.now) }
+    ensures { OnOk result (string_bytes text.new ≡ string_bytes text.old
+        ++ processor_line number pc status (record { retired = retired; console = console.now })) }
 {
     write!(text, "processor {number} pc ")?;
     push_word(alloc, text, pc)?;
     text.push(' ')?;
     push_status(alloc, text, status)?;
-    push_retired(text, shown.retired())?;
-    push_console(alloc, text, shown.console())?;
+    push_retired(text, retired)?;
+    push_console(alloc, text, console)?;
     text.push('\n')
 }
 
@@ -44,8 +44,12 @@ fn push_retired(text: &mut String, retired: u32) -> Result<(), AllocError>
     write!(text, " retired {retired}")
 }
 
-/// Appends the bytes of the console, or `-` where there is none.
-fn push_console(alloc: Global, text: &mut String, console: &[u8]) -> Result<(), AllocError>
+/// Appends what a processor gave to the console: ` console ` and its bytes, or `-` where there is none.
+///
+/// # Errors
+///
+/// [`AllocError`] where there is no memory for it.
+pub fn push_console(alloc: Global, text: &mut String, console: &[u8]) -> Result<(), AllocError>
     ensures { OnOk result (string_bytes text.new ≡ string_bytes text.old ++ codes " console " ++ console_text console.now) }
 {
     text.push_str(" console ")?;

@@ -17,6 +17,8 @@ use Rattle.settings.specs.Lines.{Bounds, HasAsm, HasDis, HasPath, HasReplay, Has
 use Rattle.settings.specs.Lines.{asm_command, order_command, dis_command, explain_command, replay_command, run_command, ultra_command}
 use Rattle.settings.specs.Lines.{words_command}
 use Rattle.settings.specs.Lines.{HasOrder, budget, processor, queue, records, shared_word, shared_words, stages, start}
+use Rattle.settings.specs.Lines.{HasDebug, HasExplore, debug_command, explore_command, port, states, stats_command, steps, story_command}
+use Rattle.settings.specs.Lines.{HasHunt, hunt_command, runs}
 use Rattle.settings.proofs.NoHelp.{IsNoHelp, StopsAtNoHelp, walk_stops}
 use Rattle.settings.proofs.Numbers.{is_apart_or_number, number_there}
 use Rattle.settings.proofs.Rows.{required_there}
@@ -24,7 +26,8 @@ use Rattle.settings.proofs.Walks.{neither}
 
 -- what a proof unfolds to compute with the program's command
 unfoldable pub commands : ⊤
-unfolding ultra_command words_command asm_command dis_command run_command replay_command explain_command order_command
+unfolding ultra_command words_command asm_command dis_command run_command replay_command explain_command order_command debug_command story_command
+    stats_command explore_command hunt_command
 commands = tt
 
 -- clap gives its matches as a function of the words
@@ -81,7 +84,12 @@ Has name rows =
     (Where (bytes_eq name (codes "run")) (HasRun rows)
     (Where (bytes_eq name (codes "replay")) (HasReplay rows)
     (Where (bytes_eq name (codes "order")) (HasOrder rows)
-    ⊤)))))
+    (Where (bytes_eq name (codes "debug")) (HasDebug rows)
+    (Where (bytes_eq name (codes "story")) (HasReplay rows)
+    (Where (bytes_eq name (codes "stats")) (HasReplay rows)
+    (Where (bytes_eq name (codes "explore")) (HasExplore rows)
+    (Where (bytes_eq name (codes "hunt")) (HasHunt rows)
+    ⊤))))))))))
 
 is_one_of : (name : Text) (names : List Text) → list_any (λ x. bytes_eq name x) names ≡ true → IsOneOf name names
 is_one_of name [] e = absurd (true≢false (sym e))
@@ -101,6 +109,11 @@ whole name rows known has = record {
   run = λ is. subst (λ n. Has n rows) is has;
   replay = λ is. subst (λ n. Has n rows) is has;
   order = λ is. subst (λ n. Has n rows) is has;
+  debug = λ is. subst (λ n. Has n rows) is has;
+  story = λ is. subst (λ n. Has n rows) is has;
+  stats = λ is. subst (λ n. Has n rows) is has;
+  explore = λ is. subst (λ n. Has n rows) is has;
+  hunt = λ is. subst (λ n. Has n rows) is has;
 }
 
 -- where words are no fault at a subcommand, it has all that has to be given
@@ -182,6 +195,41 @@ order_provided words e = whole (codes "order") _ refl (
   number_there (built_leaf order_command.top) shared_word words refl e,
 )
 
+debug_provided : IsProvided (built_leaf debug_command.top)
+unfolding commands
+debug_provided words e = whole (codes "debug") _ refl (
+  required_there (built_leaf debug_command.top) (codes "FILE") words refl (λ rows. required (is_given (codes "FILE") rows)) e,
+  sizes_there (built_leaf debug_command.top) words refl refl refl refl e,
+  number_there (built_leaf debug_command.top) steps.bounds words refl e,
+  number_there (built_leaf debug_command.top) port.bounds words refl e,
+)
+
+story_provided : IsProvided (built_leaf story_command.top)
+unfolding commands
+story_provided words e = whole (codes "story") _ refl (replaying_there (codes "story") words e)
+
+stats_provided : IsProvided (built_leaf stats_command.top)
+unfolding commands
+stats_provided words e = whole (codes "stats") _ refl (replaying_there (codes "stats") words e)
+
+explore_provided : IsProvided (built_leaf explore_command.top)
+unfolding commands
+explore_provided words e = whole (codes "explore") _ refl (
+  required_there (built_leaf explore_command.top) (codes "FILE") words refl (λ rows. required (is_given (codes "FILE") rows)) e,
+  sizes_there (built_leaf explore_command.top) words refl refl refl refl e,
+  number_there (built_leaf explore_command.top) states.bounds words refl e,
+)
+
+hunt_provided : IsProvided (built_leaf hunt_command.top)
+unfolding commands
+hunt_provided words e = whole (codes "hunt") _ refl (
+  required_there (built_leaf hunt_command.top) (codes "FILE") words refl (λ rows. required (is_given (codes "FILE") rows)) e,
+  sizes_there (built_leaf hunt_command.top) words refl refl refl refl e,
+  number_there (built_leaf hunt_command.top) steps.bounds words refl e,
+  number_there (built_leaf hunt_command.top) runs.bounds words refl e,
+  number_there (built_leaf hunt_command.top) start.bounds words refl e,
+)
+
 -- ---- the subcommand that words name
 
 -- so do all subcommands of a list that answer to a name
@@ -220,7 +268,12 @@ enters : (stop : Option (Text × List Text)) → StopsAtNoHelp stop → entered_
 unfolding built_ultra commands
 enters None unhelped e has = absurd (true≢false (sym has))
 enters (Some p) unhelped e has =
-    let provided : AreProvidedFrom p.0 7 = ((λ is. absurd (helped (bytes_eq (codes "help") p.0) (no_help p.0 unhelped) is)), tt) in
+    let provided : AreProvidedFrom p.0 12 = ((λ is. absurd (helped (bytes_eq (codes "help") p.0) (no_help p.0 unhelped) is)), tt) in
+    let provided : AreProvidedFrom p.0 11 = ((λ is. hunt_provided), provided) in
+    let provided : AreProvidedFrom p.0 10 = ((λ is. explore_provided), provided) in
+    let provided : AreProvidedFrom p.0 9 = ((λ is. stats_provided), provided) in
+    let provided : AreProvidedFrom p.0 8 = ((λ is. story_provided), provided) in
+    let provided : AreProvidedFrom p.0 7 = ((λ is. debug_provided), provided) in
     let provided : AreProvidedFrom p.0 6 = ((λ is. order_provided), provided) in
     let provided : AreProvidedFrom p.0 5 = ((λ is. explain_provided), provided) in
     let provided : AreProvidedFrom p.0 4 = ((λ is. replay_provided), provided) in

@@ -18,6 +18,8 @@ use Rattle.settings.specs.declared.choice.Settings.TheVariants as asked
 use Rattle.clap.proofs.OnLiterals.{clap_on_literals}
 use Rattle.settings.specs.Lines.{AreAsmOf, AreDisOf, AreExplainOf, AreReplayOf, AreRunOf, AreWordsOf, IsAsked, IsAsm, IsChosen, IsDis, IsExplain, IsPlain}
 use Rattle.settings.specs.Lines.{AreOrderOf, IsOrder, IsReplay, IsRun, IsWords, NameExplainOf, Named, NamesFile, NamesFiles, ultra_command}
+use Rattle.settings.specs.Lines.{AreDebugOf, AreExploreOf, AreStatsOf, AreStoryOf, IsExplore, IsReplayOf, IsSession}
+use Rattle.settings.specs.Lines.{AreHuntOf, IsHunt}
 use Rattle.settings.proofs.Complete.{commands}
 
 no_hyphen : (file : Text) → IsPlain file → strip_byte 45 file ≡ None
@@ -51,6 +53,11 @@ name_of (asked.Run r) = codes "run"
 name_of (asked.Replay r) = codes "replay"
 name_of (asked.Explain e) = codes "explain"
 name_of (asked.Order x) = codes "order"
+name_of (asked.Debug d) = codes "debug"
+name_of (asked.Story r) = codes "story"
+name_of (asked.Stats r) = codes "stats"
+name_of (asked.Explore x) = codes "explore"
+name_of (asked.Hunt h) = codes "hunt"
 
 -- the settings are those of the rows
 abbrev AreOf : List Row → Settings → Type 0
@@ -61,6 +68,11 @@ AreOf rows (asked.Run r) = IsRun rows r
 AreOf rows (asked.Replay r) = IsReplay rows r
 AreOf rows (asked.Explain e) = IsExplain rows e
 AreOf rows (asked.Order x) = IsOrder rows x
+AreOf rows (asked.Debug d) = IsSession rows d
+AreOf rows (asked.Story r) = IsReplay rows r
+AreOf rows (asked.Stats r) = IsReplay rows r
+AreOf rows (asked.Explore x) = IsExplore rows x
+AreOf rows (asked.Hunt h) = IsHunt rows h
 
 same_pair : (x y : Text × List Row) → Some x ≡ Some y → x ≡ y
 same_pair x y e = cc
@@ -82,6 +94,11 @@ chosen_as stop name rows (asked.Run r) is chosen = named_as stop name (codes "ru
 chosen_as stop name rows (asked.Replay r) is chosen = named_as stop name (codes "replay") rows (λ them. IsReplay them r) is chosen
 chosen_as stop name rows (asked.Explain x) is chosen = named_as stop name (codes "explain") rows (λ them. IsExplain them x) is chosen
 chosen_as stop name rows (asked.Order x) is chosen = named_as stop name (codes "order") rows (λ them. IsOrder them x) is chosen
+chosen_as stop name rows (asked.Debug x) is chosen = named_as stop name (codes "debug") rows (λ them. IsSession them x) is chosen
+chosen_as stop name rows (asked.Story x) is chosen = named_as stop name (codes "story") rows (λ them. IsReplay them x) is chosen
+chosen_as stop name rows (asked.Stats x) is chosen = named_as stop name (codes "stats") rows (λ them. IsReplay them x) is chosen
+chosen_as stop name rows (asked.Explore x) is chosen = named_as stop name (codes "explore") rows (λ them. IsExplore them x) is chosen
+chosen_as stop name rows (asked.Hunt x) is chosen = named_as stop name (codes "hunt") rows (λ them. IsHunt them x) is chosen
 
 -- one of the program's subcommands is not another
 apart : {P : Type 0} (x y : Text) → bytes_eq x y ≡ false → x ≡ y → P
@@ -263,3 +280,101 @@ pub order_given : (trace file : Text) (words : List Text) → NamesFiles (codes 
 order_given trace file words named =
     give (AreOrderOf trace file) words (codes "order") (trace_rows trace file) (rw named.1 (order_met named.0 trace file named.2 named.3))
     (order_are trace file)
+
+-- ---- `debug FILE`
+
+debug_met : (program file : Text) → IsPlain file → Meets (program ∷ codes "debug" ∷ file ∷ []) (codes "debug") (file_rows file)
+unfolding row file_rows clap_on_literals commands
+debug_met program file h = rw (no_hyphens file h, no_hyphen file h, no_hyphen file h) (refl, refl)
+
+debug_are : (file : Text) (s : Settings) → (name_of s ≡ codes "debug") × AreOf (file_rows file) s → AreDebugOf file s
+unfolding name_of row file_rows
+debug_are file (asked.Debug d) said =
+    let sizes = said.1.1 in
+    let budget = said.1.2 in
+    let port = said.1.3 in
+    (same_text file d.file.now said.1.0, (sizes.0.0, sizes.1.0, sizes.2.0, sizes.3.0), budget.0, port.0)
+debug_are file other said = apart (name_of other) (codes "debug") refl said.0
+
+-- `debug FILE` gives the file, and each number its default
+pub debug_given : (file : Text) (words : List Text) → NamesFile (codes "debug") file words → Give words (AreDebugOf file)
+debug_given file words named =
+    give (AreDebugOf file) words (codes "debug") (file_rows file) (rw named.1 (debug_met named.0 file named.2)) (debug_are file)
+
+-- ---- `story TRACE FILE`
+
+story_met : (program trace file : Text) → IsPlain trace → IsPlain file →
+    Meets (program ∷ codes "story" ∷ trace ∷ file ∷ []) (codes "story") (trace_rows trace file)
+unfolding row trace_rows clap_on_literals commands
+story_met program trace file h k =
+    rw (no_hyphens trace h, no_hyphen trace h, no_hyphen trace h, no_hyphens file k, no_hyphen file k, no_hyphen file k) (refl, refl)
+
+story_are : (trace file : Text) (s : Settings) → (name_of s ≡ codes "story") × AreOf (trace_rows trace file) s → AreStoryOf trace file s
+unfolding name_of row trace_rows
+story_are trace file (asked.Story r) said = (same_text trace r.trace.now said.1.0, same_text file r.file.now said.1.1, said.1.2.0)
+story_are trace file other said = apart (name_of other) (codes "story") refl said.0
+
+-- `story TRACE FILE` gives both files, for 1,024 words
+pub story_given : (trace file : Text) (words : List Text) → NamesFiles (codes "story") trace file words → Give words (AreStoryOf trace file)
+story_given trace file words named =
+    give (AreStoryOf trace file) words (codes "story") (trace_rows trace file) (rw named.1 (story_met named.0 trace file named.2 named.3))
+    (story_are trace file)
+
+-- ---- `stats TRACE FILE`
+
+stats_met : (program trace file : Text) → IsPlain trace → IsPlain file →
+    Meets (program ∷ codes "stats" ∷ trace ∷ file ∷ []) (codes "stats") (trace_rows trace file)
+unfolding row trace_rows clap_on_literals commands
+stats_met program trace file h k =
+    rw (no_hyphens trace h, no_hyphen trace h, no_hyphen trace h, no_hyphens file k, no_hyphen file k, no_hyphen file k) (refl, refl)
+
+stats_are : (trace file : Text) (s : Settings) → (name_of s ≡ codes "stats") × AreOf (trace_rows trace file) s → AreStatsOf trace file s
+unfolding name_of row trace_rows
+stats_are trace file (asked.Stats r) said = (same_text trace r.trace.now said.1.0, same_text file r.file.now said.1.1, said.1.2.0)
+stats_are trace file other said = apart (name_of other) (codes "stats") refl said.0
+
+-- `stats TRACE FILE` gives both files, for 1,024 words
+pub stats_given : (trace file : Text) (words : List Text) → NamesFiles (codes "stats") trace file words → Give words (AreStatsOf trace file)
+stats_given trace file words named =
+    give (AreStatsOf trace file) words (codes "stats") (trace_rows trace file) (rw named.1 (stats_met named.0 trace file named.2 named.3))
+    (stats_are trace file)
+
+-- ---- `explore FILE`
+
+explore_met : (program file : Text) → IsPlain file → Meets (program ∷ codes "explore" ∷ file ∷ []) (codes "explore") (file_rows file)
+unfolding row file_rows clap_on_literals commands
+explore_met program file h = rw (no_hyphens file h, no_hyphen file h, no_hyphen file h) (refl, refl)
+
+explore_are : (file : Text) (s : Settings) → (name_of s ≡ codes "explore") × AreOf (file_rows file) s → AreExploreOf file s
+unfolding name_of row file_rows
+explore_are file (asked.Explore x) said =
+    let sizes = said.1.1 in
+    let states = said.1.2 in
+    (same_text file x.file.now said.1.0, (sizes.0.0, sizes.1.0, sizes.2.0, sizes.3.0), states.0)
+explore_are file other said = apart (name_of other) (codes "explore") refl said.0
+
+-- `explore FILE` gives the file, and each number its default
+pub explore_given : (file : Text) (words : List Text) → NamesFile (codes "explore") file words → Give words (AreExploreOf file)
+explore_given file words named =
+    give (AreExploreOf file) words (codes "explore") (file_rows file) (rw named.1 (explore_met named.0 file named.2)) (explore_are file)
+
+-- ---- `hunt FILE`
+
+hunt_met : (program file : Text) → IsPlain file → Meets (program ∷ codes "hunt" ∷ file ∷ []) (codes "hunt") (file_rows file)
+unfolding row file_rows clap_on_literals commands
+hunt_met program file h = rw (no_hyphens file h, no_hyphen file h, no_hyphen file h) (refl, refl)
+
+hunt_are : (file : Text) (s : Settings) → (name_of s ≡ codes "hunt") × AreOf (file_rows file) s → AreHuntOf file s
+unfolding name_of row file_rows
+hunt_are file (asked.Hunt h) said =
+    let sizes = said.1.2 in
+    let budget = said.1.3 in
+    let runs = said.1.4 in
+    let start = said.1.5 in
+    (same_text file h.file.now said.1.0, no_text h.trace said.1.1, (sizes.0.0, sizes.1.0, sizes.2.0, sizes.3.0), budget.0, runs.0, start.0)
+hunt_are file other said = apart (name_of other) (codes "hunt") refl said.0
+
+-- `hunt FILE` gives the file, no trace, and each number its default
+pub hunt_given : (file : Text) (words : List Text) → NamesFile (codes "hunt") file words → Give words (AreHuntOf file)
+hunt_given file words named =
+    give (AreHuntOf file) words (codes "hunt") (file_rows file) (rw named.1 (hunt_met named.0 file named.2)) (hunt_are file)

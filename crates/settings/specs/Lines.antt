@@ -15,6 +15,10 @@ use Rattle.settings.specs.declared.choice.Run.{Run}
 use Rattle.settings.specs.declared.choice.Replay.{Replay}
 use Rattle.settings.specs.declared.choice.Explain.{Explain}
 use Rattle.settings.specs.declared.choice.Order.{Order}
+use Rattle.settings.specs.declared.choice.Session.{Session}
+use Rattle.settings.specs.declared.choice.Explore.{Explore}
+use Rattle.settings.specs.declared.choice.Sizes.{Sizes}
+use Rattle.settings.specs.declared.choice.Hunt.{Hunt}
 
 -- ---- the options with a number
 
@@ -48,6 +52,22 @@ shared_words = record { bounds = record { name = codes "words"; low = 1; high = 
 -- how long a run may take
 abbrev pub budget : Ranged
 budget = record { bounds = record { name = codes "budget"; low = 1; high = 4294967295 }; default = 10000000 }
+
+-- how many steps one command of a debugger may take, or one run of a hunt
+abbrev pub steps : Ranged
+steps = record { bounds = record { name = codes "budget"; low = 1; high = 4000000 }; default = 100000 }
+
+-- the port at which a debugger is awaited
+abbrev pub port : Ranged
+port = record { bounds = record { name = codes "port"; low = 1; high = 65535 }; default = 3333 }
+
+-- how many states an exploration may look at
+abbrev pub states : Ranged
+states = record { bounds = record { name = codes "states"; low = 1; high = 4294967295 }; default = 1000000 }
+
+-- how many runs a hunt takes
+abbrev pub runs : Ranged
+runs = record { bounds = record { name = codes "runs"; low = 1; high = 1000000 }; default = 1000 }
 
 -- where the choices of a run's schedule begin
 abbrev pub start : Ranged
@@ -116,6 +136,22 @@ explain_command = with_rule (new_app (codes "explain")) (new_rule (codes "CODE")
 unfoldable pub order_command : App
 order_command = with_rule (with_rule (replaying (codes "order")) (number processor)) (number shared_word)
 
+unfoldable pub debug_command : App
+debug_command = with_number port (with_number steps (with_sizes (with_file (new_app (codes "debug")))))
+
+unfoldable pub story_command : App
+story_command = replaying (codes "story")
+
+unfoldable pub stats_command : App
+stats_command = replaying (codes "stats")
+
+unfoldable pub explore_command : App
+explore_command = with_number states (with_sizes (with_file (new_app (codes "explore"))))
+
+unfoldable pub hunt_command : App
+hunt_command =
+    with_number start (with_number runs (with_number steps (with_sizes (with_rule (with_file (new_app (codes "hunt"))) (option (codes "trace"))))))
+
 -- the program, which has a version and is told what to do
 abbrev pub program : App
 program = on_top (λ s. record s { has_version = true; subcommand_required = true }) (new_app (codes "ultra"))
@@ -134,6 +170,11 @@ ultra_command = with_subcommands (
     ∷ replay_command.top
     ∷ explain_command.top
     ∷ order_command.top
+    ∷ debug_command.top
+    ∷ story_command.top
+    ∷ stats_command.top
+    ∷ explore_command.top
+    ∷ hunt_command.top
     ∷ []) program
 
 -- ---- the settings
@@ -160,8 +201,8 @@ IsChoice o rows n = MatchOption (first_of o.name rows) (n ≡ None)
     (λ text. IsSomeAnd n (λ m. (pos m ≡ signed_digits_value 10 text) × (o.low ≤ m) × (m ≤ o.high)))
 
 -- a machine's sizes
-abbrev pub AreSizes : List Row → (k c b words : ℕ) → Type 0
-AreSizes rows k c b words = IsNumber stages rows k × IsNumber queue rows c × IsNumber records rows b × IsNumber shared_words rows words
+abbrev pub AreSizes : List Row → Sizes → Type 0
+AreSizes rows s = IsNumber stages rows s.k × IsNumber queue rows s.c × IsNumber records rows s.b × IsNumber shared_words rows s.words
 
 abbrev pub IsWords : List Row → Words → Type 0
 IsWords rows w = IsPath (codes "FILE") rows w.file.now
@@ -174,7 +215,7 @@ IsDis rows d = IsPath (codes "FILE") rows d.file.now × IsNumber shared_words ro
 
 abbrev pub IsRun : List Row → Run → Type 0
 IsRun rows r = IsPath (codes "FILE") rows r.file.now × IsOption (codes "trace") rows (option_map (λ t. t.now) r.trace) × IsFlag (codes "sweep") rows r.sweep
-    × AreSizes rows r.k r.c r.b r.words × IsNumber budget rows r.budget × IsNumber start rows r.start
+    × AreSizes rows r.sizes × IsNumber budget rows r.budget × IsNumber start rows r.start
 
 abbrev pub IsReplay : List Row → Replay → Type 0
 IsReplay rows r = IsPath (codes "TRACE") rows r.trace.now × IsPath (codes "FILE") rows r.file.now × IsNumber shared_words rows r.words
@@ -185,6 +226,16 @@ IsExplain rows e = IsOption (codes "CODE") rows (option_map (λ c. c.now) e.code
 abbrev pub IsOrder : List Row → Order → Type 0
 IsOrder rows o = IsPath (codes "TRACE") rows o.trace.now × IsPath (codes "FILE") rows o.file.now × IsNumber shared_words rows o.words
     × IsChoice processor rows o.processor × IsChoice shared_word rows o.word
+
+abbrev pub IsSession : List Row → Session → Type 0
+IsSession rows d = IsPath (codes "FILE") rows d.file.now × AreSizes rows d.sizes × IsNumber steps rows d.budget × IsNumber port rows d.port
+
+abbrev pub IsExplore : List Row → Explore → Type 0
+IsExplore rows x = IsPath (codes "FILE") rows x.file.now × AreSizes rows x.sizes × IsNumber states rows x.states
+
+abbrev pub IsHunt : List Row → Hunt → Type 0
+IsHunt rows h = IsPath (codes "FILE") rows h.file.now × IsOption (codes "trace") rows (option_map (λ prefix. prefix.now) h.trace) × AreSizes rows h.sizes
+    × IsNumber steps rows h.budget × IsNumber runs rows h.runs × IsNumber start rows h.start
 
 -- the subcommand is this one, with these rows
 abbrev pub Named : Option (Text × List Row) → Text → (List Row → Type 0) → Type 0
@@ -199,6 +250,11 @@ IsChosen stop (asked.Run r) = Named stop (codes "run") (λ rows. IsRun rows r)
 IsChosen stop (asked.Replay r) = Named stop (codes "replay") (λ rows. IsReplay rows r)
 IsChosen stop (asked.Explain e) = Named stop (codes "explain") (λ rows. IsExplain rows e)
 IsChosen stop (asked.Order x) = Named stop (codes "order") (λ rows. IsOrder rows x)
+IsChosen stop (asked.Debug d) = Named stop (codes "debug") (λ rows. IsSession rows d)
+IsChosen stop (asked.Story r) = Named stop (codes "story") (λ rows. IsReplay rows r)
+IsChosen stop (asked.Stats r) = Named stop (codes "stats") (λ rows. IsReplay rows r)
+IsChosen stop (asked.Explore x) = Named stop (codes "explore") (λ rows. IsExplore rows x)
+IsChosen stop (asked.Hunt h) = Named stop (codes "hunt") (λ rows. IsHunt rows h)
 
 -- the settings are those of the words
 abbrev pub IsAsked : List Text → Settings → Type 0
@@ -234,12 +290,12 @@ AreDisOf file (asked.Dis d) = (d.file.now ≡ file) × (d.words ≡ 1024)
 AreDisOf file other = ⊥
 
 -- a machine's sizes where none is given
-abbrev pub AreUsual : (k c b words : ℕ) → Type 0
-AreUsual k c b words = (k ≡ 2) × (c ≡ 4) × (b ≡ 4) × (words ≡ 1024)
+abbrev pub AreUsual : Sizes → Type 0
+AreUsual s = (s.k ≡ 2) × (s.c ≡ 4) × (s.b ≡ 4) × (s.words ≡ 1024)
 
 -- the settings are those of `run FILE`: no trace, no flag, each number its default
 abbrev pub AreRunOf : Text → Settings → Type 0
-AreRunOf file (asked.Run r) = (r.file.now ≡ file) × (r.trace ≡ None) × (r.sweep ≡ false) × AreUsual r.k r.c r.b r.words
+AreRunOf file (asked.Run r) = (r.file.now ≡ file) × (r.trace ≡ None) × (r.sweep ≡ false) × AreUsual r.sizes
     × (r.budget ≡ 10000000) × (r.start ≡ 1)
 AreRunOf file other = ⊥
 
@@ -266,6 +322,31 @@ AreExplainOf code other = ⊥
 abbrev pub AreOrderOf : (trace file : Text) → Settings → Type 0
 AreOrderOf trace file (asked.Order o) = (o.trace.now ≡ trace) × (o.file.now ≡ file) × (o.words ≡ 1024) × (o.processor ≡ None) × (o.word ≡ None)
 AreOrderOf trace file other = ⊥
+
+-- the settings are those of `debug FILE`: each number its default
+abbrev pub AreDebugOf : Text → Settings → Type 0
+AreDebugOf file (asked.Debug d) = (d.file.now ≡ file) × AreUsual d.sizes × (d.budget ≡ 100000) × (d.port ≡ 3333)
+AreDebugOf file other = ⊥
+
+-- the settings are those of `story TRACE FILE`
+abbrev pub AreStoryOf : (trace file : Text) → Settings → Type 0
+AreStoryOf trace file (asked.Story r) = IsReplayOf trace file r
+AreStoryOf trace file other = ⊥
+
+-- the settings are those of `stats TRACE FILE`
+abbrev pub AreStatsOf : (trace file : Text) → Settings → Type 0
+AreStatsOf trace file (asked.Stats r) = IsReplayOf trace file r
+AreStatsOf trace file other = ⊥
+
+-- the settings are those of `explore FILE`: each number its default
+abbrev pub AreExploreOf : Text → Settings → Type 0
+AreExploreOf file (asked.Explore x) = (x.file.now ≡ file) × AreUsual x.sizes × (x.states ≡ 1000000)
+AreExploreOf file other = ⊥
+
+-- the settings are those of `hunt FILE`: no trace, each number its default
+abbrev pub AreHuntOf : Text → Settings → Type 0
+AreHuntOf file (asked.Hunt h) = (h.file.now ≡ file) × (h.trace ≡ None) × AreUsual h.sizes × (h.budget ≡ 100000) × (h.runs ≡ 1000) × (h.start ≡ 1)
+AreHuntOf file other = ⊥
 
 -- ---- what has to be given
 
@@ -295,9 +376,21 @@ HasReplay rows = HasPath (codes "TRACE") rows × HasPath (codes "FILE") rows × 
 abbrev pub HasOrder : List Row → Type 0
 HasOrder rows = HasReplay rows × HasNumber processor rows × HasNumber shared_word rows
 
+abbrev pub HasDebug : List Row → Type 0
+HasDebug rows = HasPath (codes "FILE") rows × HasSizes rows × HasNumber steps.bounds rows × HasNumber port.bounds rows
+
+abbrev pub HasExplore : List Row → Type 0
+HasExplore rows = HasPath (codes "FILE") rows × HasSizes rows × HasNumber states.bounds rows
+
+abbrev pub HasHunt : List Row → Type 0
+HasHunt rows =
+    HasPath (codes "FILE") rows × HasSizes rows × HasNumber steps.bounds rows × HasNumber runs.bounds rows × HasNumber start.bounds rows
+
 -- the subcommands of the program
 abbrev pub command_names : List Text
-command_names = codes "words" ∷ codes "asm" ∷ codes "dis" ∷ codes "run" ∷ codes "replay" ∷ codes "explain" ∷ codes "order" ∷ []
+command_names =
+    codes "words" ∷ codes "asm" ∷ codes "dis" ∷ codes "run" ∷ codes "replay" ∷ codes "explain" ∷ codes "order"
+    ∷ codes "debug" ∷ codes "story" ∷ codes "stats" ∷ codes "explore" ∷ codes "hunt" ∷ []
 
 abbrev pub IsOneOf : Text → List Text → Type 0
 IsOneOf name [] = ⊥
@@ -312,6 +405,11 @@ pub record IsWhole (name : Text) (rows : List Row) : Type 0 where
   pub run : name ≡ codes "run" → HasRun rows
   pub replay : name ≡ codes "replay" → HasReplay rows
   pub order : name ≡ codes "order" → HasOrder rows
+  pub debug : name ≡ codes "debug" → HasDebug rows
+  pub story : name ≡ codes "story" → HasReplay rows
+  pub stats : name ≡ codes "stats" → HasReplay rows
+  pub explore : name ≡ codes "explore" → HasExplore rows
+  pub hunt : name ≡ codes "hunt" → HasHunt rows
 
 -- there is such a subcommand
 abbrev pub IsComplete : Option (Text × List Row) → Type 0

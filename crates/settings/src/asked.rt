@@ -2,7 +2,7 @@
 ghost use Rattle.std.specs.Prelude.{◌≡◌, ◌≢◌, ℕ, List, Option, IfOk, MatchResult, codes, map};
 ghost use Rattle.clap.specs.Words.{FailsBy, fault_of, kind_of, subcommand_of, subcommand_rows_of};
 ghost use Rattle.settings.specs.Lines.{AreAsmOf, AreDisOf, AreExplainOf, AreReplayOf, AreRunOf, AreWordsOf, IsAsked, NameExplainOf, NamesFile, NamesFiles};
-ghost use Rattle.settings.specs.Lines.{AreOrderOf, ultra_command};
+ghost use Rattle.settings.specs.Lines.{AreDebugOf, AreExploreOf, AreHuntOf, AreOrderOf, AreStatsOf, AreStoryOf, ultra_command};
 
 use crate::choice::Settings;
 use crate::command::ultra_shape;
@@ -54,6 +54,16 @@ pub fn settings<'a>(alloc: Global, words: &'a [&'a str]) -> Result<Settings<'a>,
         → MatchResult result (AreExplainOf code) (λ e. kind_of e ≡ ErrorKind.OutOfMemory) }
     ensures order_files { (trace file : List ℕ) → NamesFiles (codes "order") trace file (map (λ w. w.now) words.entry.now)
         → MatchResult result (AreOrderOf trace file) (λ e. kind_of e ≡ ErrorKind.OutOfMemory) }
+    ensures debug_file { (file : List ℕ) → NamesFile (codes "debug") file (map (λ w. w.now) words.entry.now)
+        → MatchResult result (AreDebugOf file) (λ e. kind_of e ≡ ErrorKind.OutOfMemory) }
+    ensures story_files { (trace file : List ℕ) → NamesFiles (codes "story") trace file (map (λ w. w.now) words.entry.now)
+        → MatchResult result (AreStoryOf trace file) (λ e. kind_of e ≡ ErrorKind.OutOfMemory) }
+    ensures stats_files { (trace file : List ℕ) → NamesFiles (codes "stats") trace file (map (λ w. w.now) words.entry.now)
+        → MatchResult result (AreStatsOf trace file) (λ e. kind_of e ≡ ErrorKind.OutOfMemory) }
+    ensures explore_file { (file : List ℕ) → NamesFile (codes "explore") file (map (λ w. w.now) words.entry.now)
+        → MatchResult result (AreExploreOf file) (λ e. kind_of e ≡ ErrorKind.OutOfMemory) }
+    ensures hunt_file { (file : List ℕ) → NamesFile (codes "hunt") file (map (λ w. w.now) words.entry.now)
+        → MatchResult result (AreHuntOf file) (λ e. kind_of e ≡ ErrorKind.OutOfMemory) }
 {
     read(alloc, words)
 }

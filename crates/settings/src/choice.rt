@@ -10,6 +10,24 @@ pub enum Settings<'a> {
     Replay(Replay<'a>),
     Explain(Explain<'a>),
     Order(Order<'a>),
+    Debug(Session<'a>),
+    Story(Replay<'a>),
+    Stats(Replay<'a>),
+    Explore(Explore<'a>),
+    Hunt(Hunt<'a>),
+}
+
+/// The sizes of a machine.
+#[derive(Clone, Copy, Debug, PartialEq, Eq, Drop)]
+pub struct Sizes {
+    /// How many stages of switches the network has, from 0 to 6, so 2^`k` processors and modules.
+    pub k: u8,
+    /// How many messages a queue of a switch holds, from 2 to 16.
+    pub c: u8,
+    /// How many records a wait buffer of a switch holds, from 0 to 16.
+    pub b: u8,
+    /// How many shared words the machine has, from 1 to 262,144.
+    pub words: u32,
 }
 
 /// `words FILE`.
@@ -36,30 +54,24 @@ pub struct Dis<'a> {
     pub words: u32,
 }
 
-/// `run FILE`, with the sizes of the machine that the image is run on.
+/// `run FILE`.
 #[derive(Debug, PartialEq, Eq, Drop)]
 pub struct Run<'a> {
     /// The image.
     pub file: &'a str,
     /// Where the trace of the run is written, if anywhere.
     pub trace: Option<&'a str>,
-    /// Whether the schedule is to be the sweep.
+    /// Whether the schedule is to be the sweep. Else each processor runs on a thread of its own.
     pub sweep: bool,
-    /// How many stages of switches the network has, from 0 to 6, so 2^`k` processors and modules.
-    pub k: u8,
-    /// How many messages a queue of a switch holds, from 2 to 16.
-    pub c: u8,
-    /// How many records a wait buffer of a switch holds, from 0 to 16.
-    pub b: u8,
-    /// How many shared words the machine has, from 1 to 262,144.
-    pub words: u32,
-    /// How long the run may take, from 1. The schedule says what is counted.
+    /// The sizes of the machine.
+    pub sizes: Sizes,
+    /// How long the run may take, from 1: the rounds of each thread, or the steps of the sweep.
     pub budget: u32,
-    /// Where the choices of the schedule begin: any number. The sweep chooses nothing.
+    /// Where the choices of the threads begin: any number. The sweep chooses nothing.
     pub start: u32,
 }
 
-/// `replay TRACE FILE`.
+/// `replay TRACE FILE`, or `story` or `stats` of the same.
 #[derive(Debug, PartialEq, Eq, Drop)]
 pub struct Replay<'a> {
     /// The trace, which has the other sizes of its machine.
@@ -90,4 +102,45 @@ pub struct Order<'a> {
     pub processor: Option<u8>,
     /// The number of the shared word on which the entries act that are asked for, at most 262,143, or none for all entries.
     pub word: Option<u32>,
+}
+
+/// `debug FILE`.
+#[derive(Debug, PartialEq, Eq, Drop)]
+pub struct Session<'a> {
+    /// The image.
+    pub file: &'a str,
+    /// The sizes of the machine.
+    pub sizes: Sizes,
+    /// How many steps one command of the debugger may take, from 1 to 4,000,000.
+    pub budget: u32,
+    /// The port at which the debugger is awaited, from 1.
+    pub port: u16,
+}
+
+/// `explore FILE`.
+#[derive(Debug, PartialEq, Eq, Drop)]
+pub struct Explore<'a> {
+    /// The image.
+    pub file: &'a str,
+    /// The sizes of the machine.
+    pub sizes: Sizes,
+    /// How many states the search may look at, from 1.
+    pub states: u32,
+}
+
+/// `hunt FILE`.
+#[derive(Debug, PartialEq, Eq, Drop)]
+pub struct Hunt<'a> {
+    /// The image.
+    pub file: &'a str,
+    /// What the names begin with of the traces that are written, if any.
+    pub trace: Option<&'a str>,
+    /// The sizes of the machine.
+    pub sizes: Sizes,
+    /// How many steps a run may take, from 1 to 4,000,000.
+    pub budget: u32,
+    /// How many runs are taken, from 1 to 1,000,000.
+    pub runs: u32,
+    /// Where the choices of the first run begin: any number. Those of each other run begin one further.
+    pub start: u32,
 }

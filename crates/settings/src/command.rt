@@ -3,13 +3,20 @@ ghost use Rattle.std.specs.Prelude.{◌≡◌, false, IfOk};
 ghost use Rattle.clap.specs.Words.{app_of, new_app, with_subcommand};
 ghost use Rattle.clap.specs.declared.builder.command.Command.TheViews.{out-Command};
 ghost use Rattle.settings.specs.Lines.{program, replaying, with_sizes, words_command, asm_command, dis_command, run_command, replay_command, explain_command};
-ghost use Rattle.settings.specs.Lines.{ultra_command, order_command};
+ghost use Rattle.settings.specs.Lines.{ultra_command, order_command, debug_command, story_command, stats_command, explore_command};
+ghost use Rattle.settings.specs.Lines.{hunt_command};
 
 use crate::args::{
     choice_arg, flag_arg, option_arg, path_arg, with, with_file, with_number, word_arg,
 };
-use crate::help::{ASM_ENDS, DIS_ENDS, EXPLAIN_ENDS, ORDER_ENDS, REPLAY_ENDS, RUN_ENDS};
-use crate::ranges::{BUDGET, PROCESSOR, QUEUE, RECORDS, SHARED_WORD, SHARED_WORDS, STAGES, START};
+use crate::help::{
+    ASM_ENDS, DEBUG_ENDS, DIS_ENDS, EXPLAIN_ENDS, EXPLORE_ENDS, HUNT_ENDS, ORDER_ENDS, REPLAY_ENDS,
+    RUN_ENDS, STATS_ENDS, STORY_ENDS,
+};
+use crate::ranges::{
+    BUDGET, FIRST_START, PORT, PROCESSOR, QUEUE, RECORDS, RUN_STEPS, RUNS, SHARED_WORD,
+    SHARED_WORDS, STAGES, START, STATES, STEPS,
+};
 use clap::Command;
 use std::alloc::{AllocError, Global};
 
@@ -128,7 +135,7 @@ fn run_shape<'a>(alloc: Global) -> Result<Command<'a>, AllocError>
         flag_arg(
             alloc,
             "sweep",
-            "Run by the sweep, on one thread; each run does at this stage",
+            "Run by the sweep, on one thread: the same run each time",
         ),
     )?;
     let command = with_sizes(alloc, command)?;
@@ -208,6 +215,92 @@ fn order_shape<'a>(alloc: Global) -> Result<Command<'a>, AllocError>
     with(command, choice_arg(alloc, SHARED_WORD))
 }
 
+#[tactic(auto, unfolding(crate::specs::Lines::debug_command))]
+fn debug_shape<'a>(alloc: Global) -> Result<Command<'a>, AllocError>
+    ensures shape { IfOk result (λ c. app_of c ≡ debug_command) }
+    ensures globals { IfOk result (λ c. (out-Command c).has_globals ≡ false) }
+{
+    let command = described(
+        alloc,
+        "debug",
+        "Wait for a debugger on 127.0.0.1, and carry out its lines on a machine that opens on an image",
+        DEBUG_ENDS,
+    );
+    let command = with_file(alloc, command, IMAGE_HELP)?;
+    let command = with_sizes(alloc, command)?;
+    let command = with_number(alloc, command, STEPS)?;
+    with_number(alloc, command, PORT)
+}
+
+#[tactic(auto, unfolding(crate::specs::Lines::story_command))]
+fn story_shape<'a>(alloc: Global) -> Result<Command<'a>, AllocError>
+    ensures shape { IfOk result (λ c. app_of c ≡ story_command) }
+    ensures globals { IfOk result (λ c. (out-Command c).has_globals ≡ false) }
+{
+    replaying(
+        alloc,
+        "story",
+        "Print what the machine did in each step of a trace",
+        STORY_ENDS,
+    )
+}
+
+#[tactic(auto, unfolding(crate::specs::Lines::stats_command))]
+fn stats_shape<'a>(alloc: Global) -> Result<Command<'a>, AllocError>
+    ensures shape { IfOk result (λ c. app_of c ≡ stats_command) }
+    ensures globals { IfOk result (λ c. (out-Command c).has_globals ≡ false) }
+{
+    replaying(
+        alloc,
+        "stats",
+        "Count what the switches, the modules and the processors did in the steps of a trace",
+        STATS_ENDS,
+    )
+}
+
+#[tactic(auto, unfolding(crate::specs::Lines::explore_command))]
+fn explore_shape<'a>(alloc: Global) -> Result<Command<'a>, AllocError>
+    ensures shape { IfOk result (λ c. app_of c ≡ explore_command) }
+    ensures globals { IfOk result (λ c. (out-Command c).has_globals ≡ false) }
+{
+    let command = described(
+        alloc,
+        "explore",
+        "Print every final result that an image's program can have, on any schedule of the machine's steps",
+        EXPLORE_ENDS,
+    );
+    let command = with_file(alloc, command, IMAGE_HELP)?;
+    let command = with_sizes(alloc, command)?;
+    with_number(alloc, command, STATES)
+}
+
+#[tactic(auto, unfolding(crate::specs::Lines::hunt_command))]
+fn hunt_shape<'a>(alloc: Global) -> Result<Command<'a>, AllocError>
+    ensures shape { IfOk result (λ c. app_of c ≡ hunt_command) }
+    ensures globals { IfOk result (λ c. (out-Command c).has_globals ≡ false) }
+{
+    let command = described(
+        alloc,
+        "hunt",
+        "Run an image many times by random schedules, and print each different result once",
+        HUNT_ENDS,
+    );
+    let command = with_file(alloc, command, IMAGE_HELP)?;
+    let command = with(
+        command,
+        option_arg(
+            alloc,
+            "trace",
+            "PREFIX",
+            "Write a trace for each result, for `ultra replay`, to PREFIX with the run's number and `.trace` behind it",
+        ),
+    )?;
+    let command = with_sizes(alloc, command)?;
+    let command = with_number(alloc, command, RUN_STEPS)?;
+    let command = with_number(alloc, command, RUNS)?;
+    with_number(alloc, command, FIRST_START)
+}
+
 /// The program, as yet with no subcommand.
 fn program_shape<'a>(alloc: Global) -> Command<'a>
     ensures shape { app_of result ≡ program }
@@ -231,5 +324,10 @@ pub(crate) fn ultra_shape<'a>(alloc: Global) -> Result<Command<'a>, AllocError>
     let command = above(command, replay_shape(alloc)?)?;
     let command = above(command, explain_shape(alloc)?)?;
     let command = above(command, order_shape(alloc)?)?;
+    let command = above(command, debug_shape(alloc)?)?;
+    let command = above(command, story_shape(alloc)?)?;
+    let command = above(command, stats_shape(alloc)?)?;
+    let command = above(command, explore_shape(alloc)?)?;
+    let command = above(command, hunt_shape(alloc)?)?;
     Ok(command)
 }

@@ -19,12 +19,19 @@ Exit status: 0 done, 2 a refused image (`ultra: I1` to `I8`) or command line, 3 
 
 /// How `run` goes, what it prints and tells, and its exit statuses.
 pub(crate) const RUN_ENDS: &str = "\
-The schedule is the sweep, whether or not --sweep is given. In each round every processor takes a
-turn, then the requests move on towards the memory modules, each module serves one, and the replies
-move back, so the same run comes out each time. It ends where a fault stops a processor, no processor
-runs, or as many steps did something as --budget says, 4000000 at most (as for its default of
-10000000); then what is still on its way through the network is brought to its end. --start has no
-effect. With --b 0 the sweep is no fair schedule: a processor can starve while the network is full.
+Each processor runs on a thread of its own until it stops. A thread goes through rounds, as many as
+--budget says: it takes a turn of its processor, and then asks for a step of the network, which a
+generator of numbers picks that begins with --start. Which thread comes first is up to this computer,
+so another run may come to another result, and may show what the sweep never does. A trace that is
+saved replays to the same report. One run shows nothing of the others; that each processor gets on is
+not claimed. `ultra hunt` tries many schedules.
+
+With --sweep one thread takes all steps. In each round every processor takes a turn, then the requests
+move on towards the memory modules, each module serves one, and the replies move back, so the same run
+comes out each time. It ends where a fault stops a processor, no processor runs, or as many steps did
+something as --budget says, 4000000 at most (as for its default of 10000000); then what is still on
+its way through the network is brought to its end. --start has no effect. With --b 0 the sweep is no
+fair schedule: a processor can starve while the network is full.
 
 The report has a line for each processor, `processor P pc VVVVVVVV STATUS retired N console HEX`:
 its number, its pc in hex, `run`, `halt HH` (HH is what it halted with, in hex) or `fault N`, how
@@ -32,12 +39,12 @@ many instructions it has retired, and the bytes that it gave to the console in h
 Then `word I VVVVVVVV` is shared word I in hex, for each that is not zero.
 
 Faults are told on standard error, and then there is no report: `ultra: I1` to `I8` a refused image,
-`K1` a size out of the machine's limits, `budget` steps used up while a processor runs and none has
-a fault, `link` FILE cannot be opened or standard output cannot be written, `I9` FILE cannot be
-read, `X5` OUT cannot be written, `memory`.
+`K1` a size out of the machine's limits, `budget` used up while a processor runs, `L2` more than
+4194304 steps on threads, `Start` a thread cannot be started, `link` FILE cannot be opened or standard
+output cannot be written, `I9` FILE cannot be read, `X5` OUT cannot be written, `memory`.
 
 Exit status: 0 done, 1 a processor stopped by a fault, 2 a refused image or command line, 3 a file or
-standard output failed, 4 no memory, or the budget used up.";
+standard output failed, 4 no memory, no room for the steps, no thread, or the budget used up.";
 
 /// How `replay` goes, what it prints and tells, and its exit statuses.
 pub(crate) const REPLAY_ENDS: &str = "\
@@ -58,8 +65,9 @@ file or standard output failed, 4 no memory.";
 /// What `explain` takes and prints, and its exit statuses.
 pub(crate) const EXPLAIN_ENDS: &str = "\
 CODE is what stands behind `ultra: `, without a line or a step, as `A3` of `ultra: A3 line 2`; the
-number of a fault in a report, as `4` of `fault 4`; or a page: `calls`, the environment calls of a
-program, and `memory-map`, the addresses that it sees. Letters may be of either case.
+number of a fault in a report, as `4` of `fault 4`; an error of the debugger, as `E01`; or a page:
+`calls`, the environment calls of a program, and `memory-map`, the addresses that it sees. Letters may
+be of either case.
 
 Exit status: 0 done, 2 nothing has that name, or a refused command line, 3 standard output cannot be
 written (`link`), 4 no memory.";
@@ -80,4 +88,93 @@ others out.
 Faults are told on standard error as by `ultra replay`, and then nothing is printed.
 
 Exit status: 0 done, 1 a processor stopped by a fault, 2 a refused trace, image or command line, 3 a
+file or standard output failed, 4 no memory.";
+
+/// How a session of `debug` goes, and its exit statuses.
+pub(crate) const DEBUG_ENDS: &str = "\
+Prints `listening PORT` once a debugger can connect, and serves one connection. Each line from the
+debugger is a command; what it asks for is done, and then one line answers it. Any program that sends
+lines will do, as `nc 127.0.0.1 3333`. A dialogue, the lines of the debugger behind `>`:
+
+    > break 10004          stop before the instruction at 0x00010004
+    ok
+    > cont                 go on by the sweep
+    at 0
+    > reg 0 20             the pc (20) of processor 0
+    00010004
+    > step 0               one whole instruction of processor 0
+    at 0
+    > mem 0 80000000 4     four bytes, as processor 0 sees them
+    01000000
+    > write 0 80000000 2a  write a byte there
+    ok
+    > quit
+    ok
+
+The commands: `state P`, `regs P`, `reg P R`, `set P R V`, `mem P ADDR LEN`, `write P ADDR DIGITS`, `break
+ADDR`, `clear ADDR`, `step P`, `cont`, `quit`, with one space between words; numbers are hex. A command
+that is refused is answered by its error: `E01` form, `E02` address, `E03` processor, `E04` register,
+`E05` no room in the trace, `E06` no memory.
+
+Exit status: 0 done, 1 a processor stopped by a fault at the end, 2 a refused image or command line,
+3 FILE or the connection failed (`link`), 4 no memory, or no room in the trace (`L2`).";
+
+/// What `story` prints, and its exit statuses.
+pub(crate) const STORY_ENDS: &str = "\
+The steps are taken as by `ultra replay`, and each has a line that says what the machine did: a request
+that was issued, moved from switch to switch or combined with another, a word that a module served, a
+reply on its way back, an instruction that retired, a processor that stopped, a write from outside.
+
+Faults are told on standard error as by `ultra replay`, and then nothing is printed.
+
+Exit status: 0 done, 1 a processor stopped by a fault, 2 a refused trace, image or command line, 3 a
+file or standard output failed, 4 no memory.";
+
+/// What `stats` prints, and its exit statuses.
+pub(crate) const STATS_ENDS: &str = "\
+The steps are taken as by `ultra replay`, and counted: for each stage of the network the requests that
+moved on and those that were combined, for each module the references that it served and for how many
+processors, for each processor its instructions.
+
+Faults are told on standard error as by `ultra replay`, and then nothing is printed.
+
+Exit status: 0 done, 1 a processor stopped by a fault, 2 a refused trace, image or command line, 3 a
+file or standard output failed, 4 no memory.";
+
+/// What `explore` prints, and its exit statuses.
+pub(crate) const EXPLORE_ENDS: &str = "\
+A result is what is left where no processor runs any more: where each stands and why it stopped, what it
+has printed, and the shared words. Every result that steps of the machine can leave is found, and no
+other, so none depends on --c or --b; the machine has 8 processors at most, so --k is 3 at most.
+
+Each result is `result N`, a line `processor P pc VVVVVVVV STATUS console HEX` for each processor, and a
+line `word I VVVVVVVV` for each shared word that is not zero, all as in the report of `ultra run`. The
+last line has the number of results, and that of the states between references to shared words that
+were found.
+
+Faults are told on standard error, and then nothing is printed: `ultra: I1` to `I8` a refused image, `K1`
+a size out of the limits, `states` more states than --states says, `alone` a processor goes on for a
+million instructions without a reference to a shared word, `link` FILE cannot be opened or standard
+output cannot be written, `I9` FILE cannot be read, `memory`.
+
+Exit status: 0 done, 1 in a result a fault has stopped a processor, 2 a refused image or command line, 3 a
+file or standard output failed, 4 no memory, too many states, or a processor alone for too long.";
+
+/// How `hunt` goes, what it prints, and its exit statuses.
+pub(crate) const HUNT_ENDS: &str = "\
+The runs have the numbers from --start on, and each takes its steps by a schedule that is made of its
+number alone: the same number gives the same run. One processor is favoured for some turns and then
+another, and behind about half of the turns the messages in the network move on. Runs whose numbers
+divide by 6 choose a processor for each turn; of the others each chooses half as often as the one
+before. A run ends as that of `ultra run` does, or once as many steps did something, or as many turns
+were asked for, as --budget says; then what is still on its way is brought to its end.
+
+Each different result is printed once, by a line `runs N first S over`, or `budget` for `over`: how
+many runs came to it, and the number of the first. `ultra hunt FILE --runs 1 --start S` gives it again.
+Behind it stand `processor P STATUS console HEX` for each processor, and `word I VVVVVVVV` for each
+shared word that is not zero, as `ultra run` prints them. What is not found may still be there.
+
+Faults are told on standard error as by `ultra run`, and then no result is printed.
+
+Exit status: 0 done, 1 a processor stopped by a fault in a run, 2 a refused image or command line, 3 a
 file or standard output failed, 4 no memory.";

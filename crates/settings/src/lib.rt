@@ -10,7 +10,6 @@ mod ranges;
 mod reads;
 
 pub use asked::{settings, status_of};
-pub use choice::{Asm, Dis, Explain, Order, Replay, Run, Settings, Words};
-
-#[cfg(test)]
-mod tests;
+pub use choice::{
+    Asm, Dis, Explain, Explore, Hunt, Order, Replay, Run, Session, Settings, Sizes, Words,
+};

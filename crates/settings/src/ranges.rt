@@ -55,16 +55,70 @@ pub(crate) const BUDGET: NumberOption = NumberOption {
     default: 10_000_000,
     low: 1,
     high: u32::MAX,
-    help: "Steps that the run may take, 1 to 4294967295 [default: 10000000]",
+    help: "Rounds that each thread may go through, or steps that the sweep may take, 1 to 4294967295 [default: 10000000]",
 };
 
-/// Where the choices of the schedule begin.
+/// How many steps one command of a debugger may take.
+pub(crate) const STEPS: NumberOption = NumberOption {
+    name: "budget",
+    default: 100_000,
+    low: 1,
+    high: 4_000_000,
+    help: "Steps that one `cont` may take, 1 to 4000000 [default: 100000]",
+};
+
+/// The port at which a debugger is awaited.
+pub(crate) const PORT: NumberOption = NumberOption {
+    name: "port",
+    default: 3333,
+    low: 1,
+    high: 65_535,
+    help: "Port of 127.0.0.1 at which a debugger is awaited, 1 to 65535 [default: 3333]",
+};
+
+/// How many steps each run of a hunt may take.
+pub(crate) const RUN_STEPS: NumberOption = NumberOption {
+    name: "budget",
+    default: 100_000,
+    low: 1,
+    high: 4_000_000,
+    help: "Steps that each run may take, 1 to 4000000 [default: 100000]",
+};
+
+/// How many runs a hunt takes.
+pub(crate) const RUNS: NumberOption = NumberOption {
+    name: "runs",
+    default: 1000,
+    low: 1,
+    high: 1_000_000,
+    help: "Runs that are taken, 1 to 1000000 [default: 1000]",
+};
+
+/// How many states an exploration may look at.
+pub(crate) const STATES: NumberOption = NumberOption {
+    name: "states",
+    default: 1_000_000,
+    low: 1,
+    high: u32::MAX,
+    help: "States that the search may look at, 1 to 4294967295 [default: 1000000]",
+};
+
+/// Where the choices of the threads begin.
 pub(crate) const START: NumberOption = NumberOption {
     name: "start",
     default: 1,
     low: 0,
     high: u32::MAX,
-    help: "Where the choices of a schedule begin, 0 to 4294967295; the sweep makes none [default: 1]",
+    help: "Where the choices of the threads begin, 0 to 4294967295; the sweep makes none [default: 1]",
+};
+
+/// Where the choices of a hunt's first run begin.
+pub(crate) const FIRST_START: NumberOption = NumberOption {
+    name: "start",
+    default: 1,
+    low: 0,
+    high: u32::MAX,
+    help: "Where the choices of the first run begin, 0 to 4294967295; those of the next begin at the next number [default: 1]",
 };
 
 /// An option that takes a number, and need not be given.

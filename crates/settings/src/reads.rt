@@ -3,12 +3,15 @@ ghost use Rattle.std.specs.Prelude.{◌≡◌, ◌≤◌, ◌<◌, ◌^◌, code
 ghost use Rattle.clap.specs.Words.{found_of, rows_of, subcommand_rows_of};
 ghost use Rattle.settings.specs.Lines.{IsPath, IsOption, IsFlag, IsNumber, IsWords, IsAsm, IsDis, IsRun, IsReplay, IsExplain, IsChosen, HasPath, HasNumber};
 ghost use Rattle.settings.specs.Lines.{HasAsm, HasDis, HasRun, HasReplay, IsComplete, HasOrder, IsOrder, IsChoice};
+ghost use Rattle.settings.specs.Lines.{AreSizes, HasDebug, HasExplore, HasHunt, HasSizes, IsExplore, IsHunt, IsSession};
 ghost use Rattle.settings.specs.Options.{bounded, bounds_as, ranged, ranged_as};
 
-use crate::choice::{Asm, Dis, Explain, Order, Replay, Run, Settings, Words};
+use crate::choice::{
+    Asm, Dis, Explain, Explore, Hunt, Order, Replay, Run, Session, Settings, Sizes, Words,
+};
 use crate::ranges::{
-    BUDGET, ChoiceOption, NumberOption, PROCESSOR, QUEUE, RECORDS, SHARED_WORD, SHARED_WORDS,
-    STAGES, START,
+    BUDGET, ChoiceOption, FIRST_START, NumberOption, PORT, PROCESSOR, QUEUE, RECORDS, RUN_STEPS,
+    RUNS, SHARED_WORD, SHARED_WORDS, STAGES, START, STATES, STEPS,
 };
 use clap::ArgMatches;
 
@@ -102,6 +105,17 @@ fn byte(matches: &ArgMatches<'_>, option: NumberOption) -> u8
     number(matches, option) as u8
 }
 
+/// The same, of an option whose numbers are those of ports.
+fn short(matches: &ArgMatches<'_>, option: NumberOption) -> u16
+    requires text { HasNumber (ranged option).bounds (rows_of (found_of matches.now)) }
+    requires least { option.low ≤ option.default }
+    requires most { option.default ≤ option.high }
+    requires short { option.high < 2 ^ 16 }
+    ensures { IsNumber (ranged option) (rows_of (found_of matches.now)) result }
+{
+    number(matches, option) as u16
+}
+
 fn words<'a>(matches: &ArgMatches<'a>) -> Words<'a>
     requires { HasPath (codes "FILE") (rows_of (found_of matches.now)) }
     ensures { IsWords (rows_of (found_of matches.now)) result }
@@ -131,6 +145,19 @@ fn dis<'a>(matches: &ArgMatches<'a>) -> Dis<'a>
     }
 }
 
+/// The sizes of a machine.
+fn sizes(matches: &ArgMatches<'_>) -> Sizes
+    requires { HasSizes (rows_of (found_of matches.now)) }
+    ensures { AreSizes (rows_of (found_of matches.now)) result }
+{
+    Sizes {
+        k: byte(matches, STAGES),
+        c: byte(matches, QUEUE),
+        b: byte(matches, RECORDS),
+        words: number(matches, SHARED_WORDS),
+    }
+}
+
 fn run<'a>(matches: &ArgMatches<'a>) -> Run<'a>
     requires { HasRun (rows_of (found_of matches.now)) }
     ensures { IsRun (rows_of (found_of matches.now)) result }
@@ -139,10 +166,7 @@ fn run<'a>(matches: &ArgMatches<'a>) -> Run<'a>
         file: path(matches, "FILE"),
         trace: option(matches, "trace"),
         sweep: flag(matches, "sweep"),
-        k: byte(matches, STAGES),
-        c: byte(matches, QUEUE),
-        b: byte(matches, RECORDS),
-        words: number(matches, SHARED_WORDS),
+        sizes: sizes(matches),
         budget: number(matches, BUDGET),
         start: number(matches, START),
     }
@@ -180,6 +204,43 @@ fn order<'a>(matches: &ArgMatches<'a>) -> Order<'a>
     }
 }
 
+fn session<'a>(matches: &ArgMatches<'a>) -> Session<'a>
+    requires { HasDebug (rows_of (found_of matches.now)) }
+    ensures { IsSession (rows_of (found_of matches.now)) result }
+{
+    Session {
+        file: path(matches, "FILE"),
+        sizes: sizes(matches),
+        budget: number(matches, STEPS),
+        port: short(matches, PORT),
+    }
+}
+
+fn explore<'a>(matches: &ArgMatches<'a>) -> Explore<'a>
+    requires { HasExplore (rows_of (found_of matches.now)) }
+    ensures { IsExplore (rows_of (found_of matches.now)) result }
+{
+    Explore {
+        file: path(matches, "FILE"),
+        sizes: sizes(matches),
+        states: number(matches, STATES),
+    }
+}
+
+fn hunt<'a>(matches: &ArgMatches<'a>) -> Hunt<'a>
+    requires { HasHunt (rows_of (found_of matches.now)) }
+    ensures { IsHunt (rows_of (found_of matches.now)) result }
+{
+    Hunt {
+        file: path(matches, "FILE"),
+        trace: option(matches, "trace"),
+        sizes: sizes(matches),
+        budget: number(matches, RUN_STEPS),
+        runs: number(matches, RUNS),
+        start: number(matches, FIRST_START),
+    }
+}
+
 /// The settings of the subcommand that was met.
 pub(crate) fn chosen<'a>(matches: &ArgMatches<'a>) -> Settings<'a>
     requires { IsComplete (subcommand_rows_of matches.now) }
@@ -194,6 +255,11 @@ pub(crate) fn chosen<'a>(matches: &ArgMatches<'a>) -> Settings<'a>
         "replay" => Settings::Replay(replay(inner)),
         "explain" => Settings::Explain(explain(inner)),
         "order" => Settings::Order(order(inner)),
+        "debug" => Settings::Debug(session(inner)),
+        "story" => Settings::Story(replay(inner)),
+        "stats" => Settings::Stats(replay(inner)),
+        "explore" => Settings::Explore(explore(inner)),
+        "hunt" => Settings::Hunt(hunt(inner)),
         _ => unreachable!(),
     }
 }

@@ -2,7 +2,5 @@
 #![tactic(auto)]
 
 mod replaying;
-#[cfg(test)]
-mod tests;
 
 pub use replaying::{StalledStep, replay};

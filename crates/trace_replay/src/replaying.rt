@@ -5,7 +5,7 @@ ghost use Rattle.machine_runs.specs.Machines.{IsIdle};
 ghost use Rattle.machine_runs.specs.Runs.{IsReplay, IsSerialized};
 ghost use Rattle.trace_replay.specs.Replays.{StallsAt};
 
-use machine_runs::Machine;
+use machine_runs::{Machine, machine_is_sound};
 use steps::Step;
 use thiserror::Error;
 
@@ -27,8 +27,7 @@ pub fn replay(machine: &mut Machine, steps: &[Step]) -> Result<(), StalledStep>
     ensures stalled { IfErr result (λ e. StallsAt machine.old steps.now e.place machine.new) }
     ensures serialized { IsIdle machine.old → OnOk result (IsSerialized machine.old steps.now machine.new) }
 {
-    // The proof needs that the machine is one.
-    let _ = machine.is_idle();
+    machine_is_sound(machine);
     for (place, step) in steps.iter().enumerate() {
         if machine.apply(*step).is_stalled() {
             return Err(StalledStep { place });

@@ -2,24 +2,41 @@
 #![tactic(auto)]
 
 ghost use Rattle.std.specs.Prelude.{◌≡◌, false};
+ghost use Rattle.run_commands.specs.Commands.{IsWorking};
 
+mod door;
+mod traces;
+
+use crate::door::Door;
+use crate::traces::TraceFiles;
 use asm_command::asm_command;
 use clap::Error;
 use command_io::{CreateAt, Fault, OnFirstWrite, REFUSED, tell};
+use debug_command::debug_command;
 use dis_command::dis_command;
 use explain_command::{all_topics, explain_command};
+use explore_command::explore_command;
 use flat_machine::Config;
+use hunt_command::{Hunt as Hunted, hunt_command};
 use link::{LinkWrite, Meter};
 use order_command::order_command;
 use order_lines::Choice;
 use run_commands::{replay_command, run_command};
-use settings::{Asm, Order, Replay, Run, Settings, settings, status_of};
+use settings::{
+    Asm, Explore, Hunt, Order, Replay, Run, Session, Settings, Sizes, settings, status_of,
+};
+use stats_command::stats_command;
 use std::alloc::{AllocError, Global};
-use std::io::{self, ErrorKind, Write};
+use std::io::{self, ErrorKind, Read, Write};
+use std::net::Net;
 use std::os::unix::fs::MetadataExt;
 use std::process::ExitCode;
 use std::rt::{Env, Files};
+use std::sync::Wait;
+use std::thread::Threads;
 use std::{env, fs};
+use story_command::story_command;
+use threaded_run::threaded_run_command;
 use words_command::words_command;
 
 fn main(rt: HostRuntime) -> ExitCode {
@@ -30,7 +47,7 @@ fn main(rt: HostRuntime) -> ExitCode {
 }
 
 /// Does what the command line asks for, and answers the exit status.
-fn carry_out<R: Env + Files + AllocGlobal, W: LinkWrite, E: Write>(
+fn carry_out<R: Env + Files + Net + Threads + Wait + Sync + AllocGlobal, W: LinkWrite, E: Write>(
     rt: &R,
     out: &mut W,
     err: &mut E,
@@ -61,6 +78,11 @@ fn carry_out<R: Env + Files + AllocGlobal, W: LinkWrite, E: Write>(
         Ok(Settings::Run(run)) => run_file(rt, &run, out, err),
         Ok(Settings::Replay(replay)) => replay_file(rt, &replay, out, err),
         Ok(Settings::Order(order)) => order_file(rt, &order, out, err),
+        Ok(Settings::Debug(session)) => debug_file(rt, &session, out, err),
+        Ok(Settings::Story(replay)) => story_file(rt, &replay, out, err),
+        Ok(Settings::Stats(replay)) => stats_file(rt, &replay, out, err),
+        Ok(Settings::Explore(explore)) => explore_file(rt, &explore, out, err),
+        Ok(Settings::Hunt(hunt)) => hunt_file(rt, &hunt, out, err),
         Ok(Settings::Explain(explain)) => explain_command(
             alloc,
             &all_topics(),
@@ -87,8 +109,8 @@ fn assemble_file<R: Files + AllocGlobal, E: Write>(rt: &R, asm: &Asm<'_>, err: &
     asm_command(rt.alloc(), file, &mut out, err)
 }
 
-/// Does what `run FILE` asks for, by the sweep. OUT is opened by the first write to it.
-fn run_file<R: Files + AllocGlobal, W: LinkWrite, E: Write>(
+/// Does what `run FILE` asks for. OUT is opened by the first write to it.
+fn run_file<R: Files + Threads + Wait + Sync + AllocGlobal, W: LinkWrite, E: Write>(
     rt: &R,
     run: &Run<'_>,
     out: &mut W,
@@ -102,22 +124,48 @@ fn run_file<R: Files + AllocGlobal, W: LinkWrite, E: Write>(
     let Ok(file) = fs::open(rt, run.file) else {
         return tell(Fault::Link, err);
     };
-    let config = Config {
-        k: run.k,
-        c: run.c,
-        b: run.b,
-        shared_words: run.words,
-    };
     match run.trace {
         Some(path) => {
             let writer = OnFirstWrite::new(CreateAt { files: rt, path });
             let mut trace = Some(Meter::new(writer));
-            run_command(rt.alloc(), file, config, run.budget, &mut trace, out, err)
+            run_image(rt, file, run, &mut trace, out, err)
         }
         None => {
             let mut trace: Option<Meter<Vec<u8>>> = None;
-            run_command(rt.alloc(), file, config, run.budget, &mut trace, out, err)
+            run_image(rt, file, run, &mut trace, out, err)
         }
+    }
+}
+
+/// Runs an image: on threads, or by the sweep.
+fn run_image<
+    F: Read + Drop,
+    T: LinkWrite,
+    R: Threads + Wait + Sync + AllocGlobal,
+    W: LinkWrite,
+    E: Write,
+>(rt: &R, file: F, run: &Run<'_>, trace: &mut Option<T>, out: &mut W, err: &mut E) -> u8
+    requires saves { IsWorking T.has_failed trace.old }
+    requires works { W.has_failed out.old ≡ false }
+{
+    let alloc = rt.alloc();
+    let config = config_of(&run.sizes);
+    if run.sweep {
+        run_command(alloc, file, config, run.budget, trace, out, err)
+    } else {
+        threaded_run_command(
+            rt, alloc, file, config, run.start, run.budget, trace, out, err,
+        )
+    }
+}
+
+/// The machine's size, of the command line's.
+fn config_of(sizes: &Sizes) -> Config {
+    Config {
+        k: sizes.k,
+        c: sizes.c,
+        b: sizes.b,
+        shared_words: sizes.words,
     }
 }
 
@@ -135,6 +183,54 @@ fn replay_file<R: Files + AllocGlobal, W: LinkWrite, E: Write>(
     };
     let file = fs::open(rt, replay.file);
     replay_command(rt.alloc(), trace, file, replay.words, out, err)
+}
+
+/// Does what `story TRACE FILE` asks for.
+fn story_file<R: Files + AllocGlobal, W: LinkWrite, E: Write>(
+    rt: &R,
+    replay: &Replay<'_>,
+    out: &mut W,
+    err: &mut E,
+) -> u8
+    requires works { W.has_failed out.old ≡ false }
+{
+    let Ok(trace) = fs::open(rt, replay.trace) else {
+        return tell(Fault::Link, err);
+    };
+    let file = fs::open(rt, replay.file);
+    story_command(rt.alloc(), trace, file, replay.words, out, err)
+}
+
+/// Does what `stats TRACE FILE` asks for.
+fn stats_file<R: Files + AllocGlobal, W: LinkWrite, E: Write>(
+    rt: &R,
+    replay: &Replay<'_>,
+    out: &mut W,
+    err: &mut E,
+) -> u8
+    requires works { W.has_failed out.old ≡ false }
+{
+    let Ok(trace) = fs::open(rt, replay.trace) else {
+        return tell(Fault::Link, err);
+    };
+    let file = fs::open(rt, replay.file);
+    stats_command(rt.alloc(), trace, file, replay.words, out, err)
+}
+
+/// Does what `explore FILE` asks for.
+fn explore_file<R: Files + AllocGlobal, W: LinkWrite, E: Write>(
+    rt: &R,
+    explore: &Explore<'_>,
+    out: &mut W,
+    err: &mut E,
+) -> u8
+    requires works { W.has_failed out.old ≡ false }
+{
+    let Ok(file) = fs::open(rt, explore.file) else {
+        return tell(Fault::Link, err);
+    };
+    let config = config_of(&explore.sizes);
+    explore_command(rt.alloc(), file, config, explore.states, out, err)
 }
 
 /// Does what `order TRACE FILE` asks for.
@@ -155,6 +251,62 @@ fn order_file<R: Files + AllocGlobal, W: LinkWrite, E: Write>(
         word: order.word,
     };
     order_command(rt.alloc(), trace, file, order.words, choice, out, err)
+}
+
+/// Does what `hunt FILE` asks for. Each trace is opened by the first write to it.
+fn hunt_file<R: Files + AllocGlobal, W: LinkWrite, E: Write>(
+    rt: &R,
+    hunt: &Hunt<'_>,
+    out: &mut W,
+    err: &mut E,
+) -> u8
+    requires works { W.has_failed out.old ≡ false }
+{
+    let Ok(file) = fs::open(rt, hunt.file) else {
+        return tell(Fault::Link, err);
+    };
+    let runs = Hunted {
+        budget: hunt.budget,
+        runs: hunt.runs,
+        start: hunt.start,
+    };
+    let mut traces = match hunt.trace {
+        Some(prefix) => Some(TraceFiles {
+            alloc: rt.alloc(),
+            files: rt,
+            image: hunt.file,
+            prefix,
+        }),
+        None => None,
+    };
+    hunt_command(
+        rt.alloc(),
+        file,
+        config_of(&hunt.sizes),
+        runs,
+        &mut traces,
+        out,
+        err,
+    )
+}
+
+/// Does what `debug FILE` asks for.
+fn debug_file<R: Files + Net + Wait + AllocGlobal, W: Write, E: Write>(
+    rt: &R,
+    session: &Session<'_>,
+    out: &mut W,
+    err: &mut E,
+) -> u8 {
+    let Ok(file) = fs::open(rt, session.file) else {
+        return tell(Fault::Link, err);
+    };
+    let config = config_of(&session.sizes);
+    let mut door = Door {
+        net: rt,
+        port: session.port,
+        out,
+    };
+    debug_command(rt, rt.alloc(), file, config, session.budget, &mut door, err)
 }
 
 /// Whether two paths name one regular file, so that a write to one would lose what is read at the other.

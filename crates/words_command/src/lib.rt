@@ -7,8 +7,6 @@ mod print;
 mod read;
 mod report;
 mod run;
-#[cfg(test)]
-mod tests;
 
 pub use command::words_command;
 pub use print::{PrintError, words_print};

@@ -9,7 +9,7 @@ ghost use Rattle.words_command.specs.Command.{HasProcessor};
 ghost use Rattle.words_command.specs.Running.{HasRunAlone, is_retired, processor_of};
 
 use flat_machine::Status;
-use machine_log::{LogRefusal, Logged};
+use machine_log::{LogRefusal, Logged, log_is_kept};
 use std::alloc::AllocError;
 use steps::Outcome;
 use thiserror::Error;
@@ -74,8 +74,7 @@ fn runs(log: &Logged) -> bool
     ensures sound { IsMachine log.now.machine }
     ensures alone { HasProcessor (flat_state log.now.machine) (processor_of log.now.machine) }
 {
-    // The proof needs that the machine is one.
-    let _ = log.machine().is_idle();
+    log_is_kept(log);
     log.machine().status(0) == Some(Status::Running)
 }
 
@@ -98,8 +97,7 @@ fn take_instruction(log: &mut Logged) -> Result<Outcome, AllocError>
     ensures refused { IfErr result (λ e. log.new ≡ log.old) }
 {
     let outcome = log.one(0);
-    // The proof needs that the machine is one.
-    let _ = log.machine().is_idle();
+    log_is_kept(log);
     match outcome {
         Ok(outcome) => Ok(outcome),
         Err(LogRefusal::Memory) => Err(AllocError),

@@ -4,7 +4,7 @@ use Rattle.machine_log.proofs.Taking.{entered_length, entered_most, entering_beg
 use Rattle.machine_log.proofs.entering.bring_home.Goals as goal
 
 pub loop-moves-init : goal.loop-moves-init
-loop-moves-init c = record { home = entering_begins c.args.machine.now c.args.steps.now.items c.is_idle.ensures.sound; capacity = refl }
+loop-moves-init c = record { home = entering_begins c.args.machine.now c.args.steps.now.items c.machine_is_sound.ensures; capacity = refl }
 
 pub returns-in_default : goal.returns-in_default
 returns-in_default c =
@@ -49,7 +49,7 @@ returns c =
     let l = c.loop-moves in
     let over : l.moves ≡ c.args.bound = omega (arith, c.loop-moves-test.false, l.auto.moves-end) in
     let enough = c.requires.enough in
-    let ended = entering_is_over old steps l.moves l.machine l.steps.items l.last l.invariant.home c.is_idle.ensures.sound (omega (arith, over, enough)) in
+    let ended = entering_is_over old steps l.moves l.machine l.steps.items l.last l.invariant.home c.machine_is_sound.ensures (omega (arith, over, enough)) in
     record {
       drained = subst (λ n. IsDrained old n l.machine) over ended.1;
       home = ended.2;

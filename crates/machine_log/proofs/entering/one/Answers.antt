@@ -11,7 +11,7 @@ pub returns-in_default : goal.returns-in_default
 returns-in_default c =
     let e = c.enter-outcome.ensures in
     record {
-      whole = turn_whole c.args.machine.now c.args.p c.is_idle.ensures.sound c.requires.idle c.enter-outcome.result c.enter-outcome.new.machine e.step
+      whole = turn_whole c.args.machine.now c.args.p c.machine_is_sound.ensures c.requires.idle c.enter-outcome.result c.enter-outcome.new.machine e.step
           e.entered.sound c.in_default.not-Issued;
       steps = e.steps ∙ one_entered c.args.machine.now c.args.p c.args.steps.now.items c.enter-outcome.result c.enter-outcome.new.machine e.step
           c.in_default.not-Issued;
@@ -28,7 +28,7 @@ bring_home-requires-clause-enough c =
     let here = ap (λ (f : Config). f.k) c.config.ensures.config in
     let there = ap (λ (f : Config). f.k) e.step.config in
     let turn = subst (λ o. IsStep m (step.Turn c.args.p) o sent) c.in-Issued.is e.step in
-    let short = sent_is_short m c.args.p sent (record { machine = c.is_idle.ensures.sound; idle = c.requires.idle; turn = turn }) e.entered.sound in
+    let short = sent_is_short m c.args.p sent (record { machine = c.machine_is_sound.ensures; idle = c.requires.idle; turn = turn }) e.entered.sound in
     omega (arith, short, here, there, c.from.ensures)
 
 pub bring_home-requires-clause-few : goal.bring_home-requires-clause-few
@@ -45,7 +45,7 @@ returns-in-Issued-clause-steps c =
     let turn = subst (λ o. IsStep m (step.Turn c.args.p) o c.enter-outcome.new.machine) c.in-Issued.is e.step in
     sent_entered m c.args.p c.args.steps.now.items c.enter-outcome.new.steps.items c.bring_home.new.steps.items c.enter-outcome.result
     c.enter-outcome.new.machine
-    (record { machine = c.is_idle.ensures.sound; idle = c.requires.idle; turn = turn }) c.in-Issued.is e.steps c.bring_home.ensures.steps
+    (record { machine = c.machine_is_sound.ensures; idle = c.requires.idle; turn = turn }) c.in-Issued.is e.steps c.bring_home.ensures.steps
 
 pub returns-in-Issued-clause-entered : goal.returns-in-Issued-clause-entered
 returns-in-Issued-clause-entered c =

@@ -17,4 +17,4 @@ returns-clause-records c =
       steps = c.drain.ensures.entered;
       idle = c.drain.ensures.drained.idle;
     } in
-    swept_has_records c.args.most old c.follow-end.result new swept c.machine-2.ensures.replay c.machine.ensures.replay.run.config
+    swept_has_records c.args.most old c.follow-end.result new swept c.roomy_is_kept-2.ensures.replay c.roomy_is_kept.ensures.replay.run.config

@@ -1,6 +1,6 @@
 use Rattle.std.proofs.Common.{◌≡◌, ◌≤◌, ◌⊎◌, true, false, ◌∙◌, length, take, refl, sym, ap, subst, arith}
 use Rattle.flat_machine.specs.declared.config.Config.{Config}
-use Rattle.machine_runs.specs.Machines.{IsMachine, MachineLists}
+use Rattle.machine_runs.specs.Machines.{MachineLists}
 use Rattle.machine_sweep.specs.Rounds.{Sweeping, round}
 use Rattle.machine_sweep.specs.Skips.{AreQuiet, IsNext}
 use Rattle.machine_sweep.specs.Standing.{HasRunning}
@@ -17,18 +17,18 @@ loop-round-init c =
     let old = c.args.log.now.log in
     record {
       opening = refl;
-      replay = c.machine.ensures.replay;
+      replay = c.roomy_is_kept.ensures.replay;
       config = refl;
-      stages = (subst IsMachine c.machine.ensures.machine c.is_idle.ensures.sound).limits.stages;
+      stages = c.roomy_is_kept.ensures.kept.sound.limits.stages;
       size = ap (λ (s : Sweeping). s.k) c.new-round.ensures
-          ∙ ap (λ (d : Config). d.k) (c.config.ensures.config ∙ ap (λ (m : MachineLists). m.config) c.machine-2.ensures.machine);
+          ∙ ap (λ (d : Config). d.k) (c.config.ensures.config ∙ ap (λ (m : MachineLists). m.config) c.machine.ensures.machine);
       room = refl;
       entered = subst (λ n. old.steps ≡ entered_of old.opening old.steps (take n (round old.machine.config.k)))
           (sym (ap (λ (s : Sweeping). s.place) c.new-round.ensures)) (none_asked old.opening old.steps);
       few = (let room = c.requires.few in omega (arith, room));
       first = first_begins old.opening (length old.steps) old.steps (omega arith);
       under = record {
-        running = runs_after old.opening old.machine old.steps c.machine.ensures.replay c.requires.running;
+        running = runs_after old.opening old.machine old.steps c.roomy_is_kept.ensures.replay c.requires.running;
         sound = none_faulted old.opening (length old.steps) old.steps (omega arith);
       };
     }
@@ -99,7 +99,7 @@ returns-in_default-clause-round c =
     let rest =
     rest_is_asked old l i.opening (ap (λ (d : Config). d.k) i.config) c.machine-in-loop-round.ensures.replay c.loop-round.round.place quiet i.entered in
     whole_round c.args.limit old l rest.0 i.opening i.replay rest.1 i.few i.first i.under false refl
-    (subst IsMachine c.machine.ensures.machine c.is_idle.ensures.sound) c.requires.running c.machine.ensures.replay rest.2
+    c.roomy_is_kept.ensures.kept.sound c.requires.running c.roomy_is_kept.ensures.replay rest.2
 
 pub returns-clause-round : goal.returns-clause-round
 returns-clause-round c =

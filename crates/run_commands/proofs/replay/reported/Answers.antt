@@ -14,7 +14,7 @@ returns-clause-report c =
     let steps = c.args.steps.now ++ drain_steps before in
     let new = c.drained.new.machine in
     let all = c.in_ok-drained.ensures.taken opening c.args.steps.now taken in
-    let serialized = c.runs_are_serialized.ensures.each opening steps new c.is_idle.ensures.sound opens.idle
+    let serialized = c.runs_are_serialized.ensures.each opening steps new c.machine_is_sound.ensures opens.idle
     (subst IsMachine c.machine-2.view_is c.machine-2.invariant) all.replay.run in
     record {
       before = before;

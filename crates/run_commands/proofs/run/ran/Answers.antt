@@ -14,9 +14,9 @@ returns-in-Over-clause-ran g c =
     let swept = subst (λ end. IsSwept (most_of c.args.budget) old end log) c.in-Over.is c.in-Ok.ensures.swept in
     record {
       over = run_of c.args.config c.args.budget known c.in_ok-image.image meant c.in_ok-machine_of.field-0 opens old log c.new-log.ensures
-          c.machine.ensures.kept Over swept;
+          c.log_is_kept.ensures.kept Over swept;
       trace = trace_is c.args.config c.args.budget known c.in_ok-image.image meant c.in_ok-machine_of.field-0 opens old log c.new-log.ensures
-          c.machine.ensures.kept Over swept c.in-Ok.ensures.records;
+          c.log_is_kept.ensures.kept Over swept c.in-Ok.ensures.records;
     }
 
 pub returns-in-Budget-clause-refused : goal.returns-in-Budget-clause-refused
@@ -27,5 +27,5 @@ returns-in-Budget-clause-refused g c =
     let swept = subst (λ end. IsSwept (most_of c.args.budget) old end log) c.in-Budget.is c.in-Ok.ensures.swept in (
       log,
       run_of c.args.config c.args.budget known c.in_ok-image.image c.in_ok-image.ensures.image c.in_ok-machine_of.field-0
-          c.in_ok-machine_of.ensures.opening old log c.new-log.ensures c.machine.ensures.kept Budget swept,
+          c.in_ok-machine_of.ensures.opening old log c.new-log.ensures c.log_is_kept.ensures.kept Budget swept,
     )

@@ -20,11 +20,11 @@ loop-preserved c =
 pub returns-clause-idle : goal.returns-clause-idle
 returns-clause-idle c =
     let over : c.loop.counter ≡ c.most_moves-end.result = omega (arith, c.loop-test.false, c.loop.auto.counter-end) in
-    (drain_taken_over c.args.machine.now c.args.tally.now c.loop.counter c.loop.machine c.loop.tally c.loop.invariant c.is_idle.ensures.sound
+    (drain_taken_over c.args.machine.now c.args.tally.now c.loop.counter c.loop.machine c.loop.tally c.loop.invariant c.machine_is_sound.ensures
     (over ∙ c.most_moves-end.ensures)).0
 
 pub returns-clause-taken : goal.returns-clause-taken
 returns-clause-taken c =
     let over : c.loop.counter ≡ c.most_moves-end.result = omega (arith, c.loop-test.false, c.loop.auto.counter-end) in
-    (drain_taken_over c.args.machine.now c.args.tally.now c.loop.counter c.loop.machine c.loop.tally c.loop.invariant c.is_idle.ensures.sound
+    (drain_taken_over c.args.machine.now c.args.tally.now c.loop.counter c.loop.machine c.loop.tally c.loop.invariant c.machine_is_sound.ensures
     (over ∙ c.most_moves-end.ensures)).1

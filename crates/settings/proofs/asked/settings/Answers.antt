@@ -1,4 +1,6 @@
-use Rattle.settings.proofs.Plain.{asm_given, dis_given, explain_given, order_given, replay_given, run_given, words_given}
+use Rattle.settings.proofs.Plain.{asm_given, debug_given, dis_given, explain_given, explore_given, order_given, replay_given, run_given}
+use Rattle.settings.proofs.Plain.{hunt_given}
+use Rattle.settings.proofs.Plain.{stats_given, story_given, words_given}
 use Rattle.settings.proofs.asked.settings.Goals as goal
 
 pub returns-clause-words_file : goal.returns-clause-words_file
@@ -21,3 +23,18 @@ returns-clause-explain_code c code named = explain_given code _ named c.read.res
 
 pub returns-clause-order_files : goal.returns-clause-order_files
 returns-clause-order_files c trace file named = order_given trace file _ named c.read.result c.read.ensures.asked c.read.ensures.kinds
+
+pub returns-clause-debug_file : goal.returns-clause-debug_file
+returns-clause-debug_file c file named = debug_given file _ named c.read.result c.read.ensures.asked c.read.ensures.kinds
+
+pub returns-clause-story_files : goal.returns-clause-story_files
+returns-clause-story_files c trace file named = story_given trace file _ named c.read.result c.read.ensures.asked c.read.ensures.kinds
+
+pub returns-clause-stats_files : goal.returns-clause-stats_files
+returns-clause-stats_files c trace file named = stats_given trace file _ named c.read.result c.read.ensures.asked c.read.ensures.kinds
+
+pub returns-clause-explore_file : goal.returns-clause-explore_file
+returns-clause-explore_file c file named = explore_given file _ named c.read.result c.read.ensures.asked c.read.ensures.kinds
+
+pub returns-clause-hunt_file : goal.returns-clause-hunt_file
+returns-clause-hunt_file c file named = hunt_given file _ named c.read.result c.read.ensures.asked c.read.ensures.kinds

@@ -14,4 +14,9 @@ returns c =
     let replay = c.in_ok-command-5.ensures.shape ∙ ap₂ with_subcommand run (ap top c.in_ok-replay_shape.ensures.shape) in
     let explain = c.in_ok-command-6.ensures.shape ∙ ap₂ with_subcommand replay (ap top c.in_ok-explain_shape.ensures.shape) in
     let order = c.in_ok-command-7.ensures.shape ∙ ap₂ with_subcommand explain (ap top c.in_ok-order_shape.ensures.shape) in
-    order
+    let debug = c.in_ok-command-8.ensures.shape ∙ ap₂ with_subcommand order (ap top c.in_ok-debug_shape.ensures.shape) in
+    let story = c.in_ok-command-9.ensures.shape ∙ ap₂ with_subcommand debug (ap top c.in_ok-story_shape.ensures.shape) in
+    let stats = c.in_ok-command-10.ensures.shape ∙ ap₂ with_subcommand story (ap top c.in_ok-stats_shape.ensures.shape) in
+    let explore = c.in_ok-command-11.ensures.shape ∙ ap₂ with_subcommand stats (ap top c.in_ok-explore_shape.ensures.shape) in
+    let hunt = c.in_ok-command-12.ensures.shape ∙ ap₂ with_subcommand explore (ap top c.in_ok-hunt_shape.ensures.shape) in
+    hunt

@@ -8,7 +8,7 @@ use Rattle.machine_runs.proofs.Lemmas.{replay_begins, replay_more, serialized}
 use Rattle.trace_replay.proofs.replaying.replay.Goals as goal
 
 pub loop-place-init : goal.loop-place-init
-loop-place-init c = record { replay = replay_begins c.args.machine.now; sound = c.is_idle.ensures.sound }
+loop-place-init c = record { replay = replay_begins c.args.machine.now; sound = c.machine_is_sound.ensures }
 
 pub loop-place-preserved : goal.loop-place-preserved
 loop-place-preserved c =
@@ -29,4 +29,4 @@ returns-clause-serialized c idle =
     let i = c.loop-place.invariant in
     let replay = subst (λ done. IsReplay c.args.machine.now done c.loop-place.machine)
     (take_all c.loop-place.place c.args.steps.now c.loop-place-test.false) i.replay in
-    serialized c.args.machine.now c.args.steps.now c.loop-place.machine c.is_idle.ensures.sound idle i.sound replay.run
+    serialized c.args.machine.now c.args.steps.now c.loop-place.machine c.machine_is_sound.ensures idle i.sound replay.run

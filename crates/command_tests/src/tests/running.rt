@@ -1,0 +1,76 @@
+//! The commands, from the bytes of files to the bytes of a report. Images are those of texts that are
+//! assembled; what is expected is worked out by hand from the RISC-V manual and the schedule.
+
+mod devices;
+mod ends;
+mod memory;
+mod replays;
+mod reports;
+
+use super::image_of;
+use flat_machine::Config;
+use link::Meter;
+use run_commands::{replay_command, run_command};
+use std::alloc::Global;
+use std::io;
+use std::test::Fail;
+
+/// A machine with queues of four and four records.
+const fn size(k: u8) -> Config {
+    Config {
+        k,
+        c: 4,
+        b: 4,
+        shared_words: 1024,
+    }
+}
+
+/// A budget that no program here uses up, unless it has no end.
+const AMPLE: u32 = 200_000;
+
+/// What a command comes to.
+#[derive(Drop)]
+struct Ran {
+    status: u8,
+    out: Vec<u8>,
+    err: Vec<u8>,
+    /// The trace, where one was asked for.
+    trace: Vec<u8>,
+}
+
+/// Runs an image, with a trace.
+fn run(alloc: Global, image: &[u8], config: Config, budget: u32) -> Ran {
+    let mut out = Meter::new(Vec::new(alloc));
+    let mut err = Vec::new(alloc);
+    let mut trace = Some(Meter::new(Vec::new(alloc)));
+    let status = run_command(alloc, image, config, budget, &mut trace, &mut out, &mut err);
+    let trace = match trace {
+        Some(trace) => trace.device,
+        None => Vec::new(alloc),
+    };
+    Ran {
+        status,
+        out: out.device,
+        err,
+        trace,
+    }
+}
+
+/// Runs the image of a text.
+fn run_text(alloc: Global, text: &str, config: Config, budget: u32) -> Result<Ran, Fail> {
+    let image = image_of(alloc, text)?;
+    Ok(run(alloc, image.as_slice(), config, budget))
+}
+
+/// Replays a trace on an image.
+fn replay(alloc: Global, trace: &[u8], file: io::Result<&[u8]>, shared_words: u32) -> Ran {
+    let mut out = Meter::new(Vec::new(alloc));
+    let mut err = Vec::new(alloc);
+    let status = replay_command(alloc, trace, file, shared_words, &mut out, &mut err);
+    Ran {
+        status,
+        out: out.device,
+        err,
+        trace: Vec::new(alloc),
+    }
+}

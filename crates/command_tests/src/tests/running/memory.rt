@@ -1,0 +1,60 @@
+//! Each allocation of these tests is to be refused in turn. Then the answer is that of ample memory, or
+//! that there is none.
+
+use super::{AMPLE, size};
+use crate::tests::ONE_TURN;
+use link::Meter;
+use run_commands::{replay_command, run_command};
+use std::test::Fail;
+use test_devices::{EBREAK, Sink};
+
+/// The report of an image of `ebreak` on one processor.
+const STOPPED: &[u8] = b"processor 0 pc 00010000 fault 8 retired 0 console -\n";
+
+/// No trace is begun after a refusal.
+#[test]
+fn run_is_short_of_memory(rt: HostRuntime) -> Result<(), Fail> {
+    let alloc = rt.alloc();
+    let mut trace = Some(Meter::new(Sink::new(Vec::with_capacity(alloc, 24)?, 0)));
+    let mut out = Meter::new(Sink::new(Vec::with_capacity(alloc, 64)?, 0));
+    let mut err = Sink::new(Vec::with_capacity(alloc, 64)?, 0);
+    let file = EBREAK.as_slice();
+    let status = run_command(alloc, file, size(0), AMPLE, &mut trace, &mut out, &mut err);
+    let written = trace.as_ref().map(|trace| trace.device.bytes.as_slice());
+    if status == 1 {
+        assert_eq!(rt; written, Some(ONE_TURN.as_slice()));
+        assert_eq!(rt; out.device.bytes.as_slice(), STOPPED);
+        assert_eq!(rt; err.bytes.len(), 0);
+    } else {
+        assert_eq!(rt; status, 4);
+        assert_eq!(rt; written, Some(b"".as_slice()));
+        assert_eq!(rt; out.device.bytes.len(), 0);
+        assert_eq!(rt; err.bytes.as_slice(), b"ultra: memory\n".as_slice());
+    }
+    Ok(())
+}
+
+#[test]
+fn replay_is_short_of_memory(rt: HostRuntime) -> Result<(), Fail> {
+    let alloc = rt.alloc();
+    let mut out = Meter::new(Sink::new(Vec::with_capacity(alloc, 64)?, 0));
+    let mut err = Sink::new(Vec::with_capacity(alloc, 64)?, 0);
+    let trace = ONE_TURN.as_slice();
+    let status = replay_command(
+        alloc,
+        trace,
+        Ok(EBREAK.as_slice()),
+        1024,
+        &mut out,
+        &mut err,
+    );
+    if status == 1 {
+        assert_eq!(rt; out.device.bytes.as_slice(), STOPPED);
+        assert_eq!(rt; err.bytes.len(), 0);
+    } else {
+        assert_eq!(rt; status, 4);
+        assert_eq!(rt; out.device.bytes.len(), 0);
+        assert_eq!(rt; err.bytes.as_slice(), b"ultra: memory\n".as_slice());
+    }
+    Ok(())
+}

@@ -1,0 +1,112 @@
+//! Replays of small traces. Words of instructions and what they do are the RISC-V manual's; all other
+//! values are worked out by hand.
+
+use elf_image::{Bytes, Image, Layout, read_image, write_image};
+use flat_machine::{CODE_START, Config, Poke, SHARED_START};
+use link::Meter;
+use machine_runs::{Machine, run};
+use std::alloc::{AllocError, AllocGlobal, Global};
+use std::process::Abort;
+use std::test::Fail;
+use steps::{Outcome, Step};
+use trace_replay::{StalledStep, replay};
+
+/// A machine of two processors.
+const TWO: Config = Config {
+    k: 1,
+    c: 2,
+    b: 1,
+    shared_words: 4,
+};
+
+/// A layout of one instruction, `amoadd.w a0, a1, (a2)`.
+fn layout_of(alloc: Global) -> Result<Layout, AllocError> {
+    Ok(Layout {
+        entry: CODE_START,
+        code: Bytes::from_vec(Vec::from_slice(alloc, &0x00B6_252F_u32.to_le_bytes())?),
+        local: Bytes::new(alloc),
+        shared: Bytes::new(alloc),
+    })
+}
+
+/// Two processors that are to add 1 and 2 to shared word 0.
+fn two_adds(rt: &(impl Abort + AllocGlobal)) -> Result<Machine, Fail> {
+    let layout = layout_of(rt.alloc())?;
+    assert!(rt; layout.code.len() <= 0x0001_0000);
+    assert!(rt; layout.local.len() <= 0x0001_0000);
+    assert!(rt; layout.shared.len() <= 0x0010_0000);
+    let mut writer = Meter::new(Vec::new(rt.alloc()));
+    assert_eq!(rt; write_image(&mut writer, &layout), Ok(()));
+    let mut reader = Meter::new(writer.device.as_slice());
+    let image: Image = read_image(rt.alloc(), &mut reader, &TWO)?;
+    let mut machine = Machine::new(rt.alloc(), image, TWO)?;
+    for (processor, register, value) in [
+        (0, 11, 1),
+        (0, 12, SHARED_START),
+        (1, 11, 2),
+        (1, 12, SHARED_START),
+    ] {
+        let poke = Poke::Register {
+            processor,
+            register,
+            value,
+        };
+        assert_eq!(rt; machine.apply(Step::Poke(poke)), Outcome::Poked);
+    }
+    Ok(machine)
+}
+
+/// Both requests combine at the stage, and come back. The second finds what the first left.
+const COMBINED: [Step; 8] = [
+    Step::Turn(0),
+    Step::Turn(1),
+    Step::Up { stage: 0, wire: 1 },
+    Step::Up { stage: 0, wire: 0 },
+    Step::Serve(0),
+    Step::Down { stage: 0, wire: 0 },
+    Step::Turn(0),
+    Step::Turn(1),
+];
+
+/// Where both processors stand, what they found, and shared word 0.
+fn look_at(machine: &Machine) -> [Option<u32>; 5] {
+    [
+        machine.pc(0),
+        machine.reg(0, 10),
+        machine.pc(1),
+        machine.reg(1, 10),
+        machine.word(0),
+    ]
+}
+
+/// A trace whose every step does something is taken whole.
+#[test]
+fn replays_a_trace(rt: HostRuntime) -> Result<(), Fail> {
+    let mut machine = two_adds(&rt)?;
+    assert_eq!(rt; replay(&mut machine, &COMBINED), Ok(()));
+    let wanted = [0x0001_0004, 2, 0x0001_0004, 0, 3];
+    assert_eq!(rt; look_at(&machine), wanted.map(Some));
+    assert!(rt; machine.is_idle());
+    assert_eq!(rt; replay(&mut machine, &[]), Ok(()));
+    assert_eq!(rt; look_at(&machine), wanted.map(Some));
+    Ok(())
+}
+
+/// Wherever a step stalls, its place is told, and the machine stands after those before it: a step that
+/// names nothing of the machine, put before each step of the trace and behind the last.
+#[test]
+fn stops_at_a_step_that_stalls(rt: HostRuntime) -> Result<(), Fail> {
+    for place in 0..=COMBINED.len() {
+        let mut steps = Vec::from_slice(rt.alloc(), &COMBINED[..place])?;
+        steps.push(Step::Serve(2))?;
+        steps.extend_from_slice(&COMBINED[place..])?;
+        let mut machine = two_adds(&rt)?;
+        let answer = replay(&mut machine, steps.as_slice());
+        assert_eq!(rt; answer, Err(StalledStep { place }));
+        let mut wanted = two_adds(&rt)?;
+        run(&mut wanted, &COMBINED[..place]);
+        assert_eq!(rt; look_at(&machine), look_at(&wanted), "at {place}");
+        assert_eq!(rt; machine.is_idle(), wanted.is_idle(), "at {place}");
+    }
+    Ok(())
+}

@@ -1,0 +1,212 @@
+//! Runs and rounds by hand, and the sweep beside one that asks for each of its steps.
+
+ghost use Rattle.std.specs.Prelude.{◌≤◌};
+
+mod rounds;
+
+use self::rounds::round_of;
+use assembler::assemble;
+use elf_image::read_image;
+use flat_machine::Config;
+use link::Meter;
+use machine_log::{LogRefusal, Logged};
+use machine_runs::Machine;
+use machine_sweep::{Round, SweepEnd, any_is_faulted, any_runs, follow_sweep};
+use std::alloc::Global;
+use std::process::Abort;
+use std::test::Fail;
+use steps::Step;
+use test_devices::EBREAK;
+
+/// A machine of `k` stages that opens on the image that a file is, with queues of two and a record for each
+/// output of a switch.
+fn machine(alloc: Global, file: &[u8], k: u8) -> Result<Machine, Fail> {
+    let size = Config {
+        k,
+        c: 2,
+        b: 1,
+        shared_words: 1024,
+    };
+    let image = read_image(alloc, &mut Meter::new(file), &size)?;
+    Ok(Machine::new(alloc, image, size)?)
+}
+
+/// The log of a machine that opens on the image of a text.
+fn log_of(rt: &impl Abort, alloc: Global, text: &str, k: u8) -> Result<Logged, Fail> {
+    let file = assemble(alloc, text)?.to_elf(alloc)?;
+    let machine = machine(alloc, file.as_slice(), k)?;
+    assert!(rt; machine.is_idle());
+    Ok(Logged::new(alloc, machine))
+}
+
+/// Each of four processors stops by a fault in its first turn, and each such turn ends a sweep.
+#[test]
+fn ends_at_each_fault(rt: HostRuntime) -> Result<(), Fail> {
+    let alloc = rt.alloc();
+    let machine = machine(alloc, &EBREAK, 2)?;
+    assert!(rt; machine.is_idle());
+    let mut log = Logged::new(alloc, machine);
+    assert_eq!(rt; follow_sweep(&mut log, 0), Ok(SweepEnd::Budget));
+    assert_eq!(rt; log.steps().len(), 0);
+    assert!(rt; !any_is_faulted(log.machine()));
+    for count in 1..5 {
+        assert!(rt; any_runs(log.machine()));
+        assert_eq!(rt; follow_sweep(&mut log, 100), Ok(SweepEnd::Over));
+        assert_eq!(rt; log.steps().len(), count);
+        assert!(rt; any_is_faulted(log.machine()));
+    }
+    assert!(rt; !any_runs(log.machine()));
+    assert_eq!(rt; follow_sweep(&mut log, 0), Ok(SweepEnd::Over));
+    assert_eq!(rt; log.steps().len(), 4);
+    Ok(())
+}
+
+/// Processor 1 stops by a fault in the round in which processor 0 issues its reference, which a drain then
+/// brings to its end: the request up and into module 0, the service, the reply down, and the turn.
+#[test]
+fn drains_behind_a_fault(rt: HostRuntime) -> Result<(), Fail> {
+    let text = "
+ addi x17, x0, 2
+ ecall
+ bne x10, x0, odd
+ lui x5, 0x80000
+ lw x6, 0(x5)
+ ecall
+odd: addi x7, x0, 1
+ ebreak
+";
+    let mut log = log_of(&rt, rt.alloc(), text, 1)?;
+    assert_eq!(rt; follow_sweep(&mut log, 100), Ok(SweepEnd::Over));
+    let turns = [0, 1, 0, 1, 0, 1, 0, 1, 0, 1];
+    let drain = [
+        Step::Up { stage: 0, wire: 0 },
+        Step::Serve(0),
+        Step::Down { stage: 0, wire: 0 },
+        Step::Turn(0),
+    ];
+    assert_eq!(rt; log.steps().len(), turns.len() + drain.len());
+    for (step, processor) in log.steps().iter().zip(turns) {
+        assert_eq!(rt; *step, Step::Turn(processor));
+    }
+    assert_eq!(rt; &log.steps()[turns.len()..], drain.as_slice());
+    assert!(rt; log.machine().is_idle());
+    Ok(())
+}
+
+/// A reference that is open when the budget is used up is brought to its end too.
+#[test]
+fn drains_behind_the_budget(rt: HostRuntime) -> Result<(), Fail> {
+    let mut log = log_of(&rt, rt.alloc(), "lui x5, 0x80000\nlw x6, 0(x5)\necall", 0)?;
+    assert_eq!(rt; follow_sweep(&mut log, 2), Ok(SweepEnd::Budget));
+    assert_eq!(rt;
+        log.steps(),
+        [Step::Turn(0), Step::Turn(0), Step::Serve(0), Step::Turn(0)].as_slice()
+    );
+    assert_eq!(rt; follow_sweep(&mut log, 1), Ok(SweepEnd::Over));
+    assert_eq!(rt; log.steps().len(), 5);
+    Ok(())
+}
+
+/// Room is asked for the steps of the sweep and of its drain, before the first of them is taken.
+#[test]
+fn asks_for_room_first(rt: HostRuntime) -> Result<(), Fail> {
+    let mut log = log_of(&rt, rt.alloc(), "jal x0, 0", 0)?;
+    assert_eq!(rt; follow_sweep(&mut log, 200_000), Ok(SweepEnd::Budget));
+    // With 200,000 steps there is room for 3,994,304 more: those of a sweep, and two for its drain.
+    assert_eq!(rt; follow_sweep(&mut log, 3_994_303), Err(LogRefusal::Full));
+    assert_eq!(rt; log.steps().len(), 200_000);
+    assert_eq!(rt; follow_sweep(&mut log, 3), Ok(SweepEnd::Budget));
+    assert_eq!(rt; log.steps().len(), 200_003);
+    Ok(())
+}
+
+/// Takes a round, whose steps are these.
+fn takes(rt: &impl Abort, machine: &mut Machine, steps: &[Step]) {
+    let mut round = Round::new(machine.config().k);
+    for step in steps {
+        assert_eq!(rt; round.next(machine), Some(*step));
+        machine.apply(*step);
+    }
+    assert_eq!(rt; round.next(machine), None);
+}
+
+/// Both of two processors load word 0 in their second turn. The second request combines with the first at
+/// the one stage, the module serves them, and the reply is split: all in the round in which they are sent,
+/// since each row finds what the row before has left.
+#[test]
+fn rounds_of_two_processors(rt: HostRuntime) -> Result<(), Fail> {
+    let alloc = rt.alloc();
+    let file = assemble(alloc, "lui x5, 0x80000\nlw x6, 0(x5)\necall")?.to_elf(alloc)?;
+    let mut machine = machine(alloc, file.as_slice(), 1)?;
+    let turns = [Step::Turn(0), Step::Turn(1)];
+    takes(&rt, &mut machine, &turns);
+    let all = [
+        Step::Turn(0),
+        Step::Turn(1),
+        Step::Up { stage: 0, wire: 0 },
+        Step::Up { stage: 0, wire: 1 },
+        Step::Serve(0),
+        Step::Down { stage: 0, wire: 0 },
+    ];
+    takes(&rt, &mut machine, &all);
+    assert!(rt; !machine.is_idle());
+    // Both retire, and halt.
+    takes(&rt, &mut machine, &turns);
+    assert!(rt; machine.is_idle());
+    takes(&rt, &mut machine, &turns);
+    assert!(rt; !any_runs(&machine));
+    Ok(())
+}
+
+/// Each processor adds 1 to one word ten times, and then to a word of its own, so that requests combine, find
+/// full queues, and go alone.
+const ADDS: &str = "
+ addi x17, x0, 2
+ ecall
+ slli x10, x10, 2
+ lui x5, 0x80000
+ add x10, x10, x5
+ addi x6, x0, 10
+ addi x7, x0, 1
+again: amoadd.w x8, x7, (x5)
+ addi x6, x6, -1
+ bne x6, x0, again
+ amoadd.w x8, x7, (x10)
+ addi x17, x0, 0
+ ecall
+";
+
+/// Whether the step was taken, or stalled.
+fn is_answered(log: &mut Logged, step: Step) -> bool {
+    log.step(step).is_ok()
+}
+
+/// Asks for each step of the sweep, until no processor runs.
+fn ask_for_all(rt: &impl Abort, alloc: Global, log: &mut Logged, k: u8) -> Result<(), Fail>
+    requires { k ≤ 6 }
+{
+    let round = round_of(alloc, k)?;
+    for _ in 0..100_000 {
+        for step in &round {
+            if !any_runs(log.machine()) {
+                return Ok(());
+            }
+            assert!(rt; is_answered(log, *step));
+        }
+    }
+    Ok(())
+}
+
+/// The log has the steps that it has where each step of the sweep is asked for.
+#[test]
+fn leaves_out_only_what_stalls(rt: HostRuntime) -> Result<(), Fail> {
+    for k in 0..7 {
+        let mut log = log_of(&rt, rt.alloc(), ADDS, k)?;
+        assert_eq!(rt; follow_sweep(&mut log, 100_000), Ok(SweepEnd::Over));
+        let mut plain = log_of(&rt, rt.alloc(), ADDS, k)?;
+        ask_for_all(&rt, rt.alloc(), &mut plain, k)?;
+        assert!(rt; !log.steps().is_empty());
+        assert_eq!(rt; log.steps(), plain.steps(), "of {k} stages");
+    }
+    Ok(())
+}

@@ -1,0 +1,203 @@
+//! What no clause says: the texts of the errors, that right words are taken where there is memory, and what an
+//! allocation that is refused leaves of an error's text.
+//!
+//! The cases are texts, as of a terminal. After `$ ` stand the words, and below them the answer: the settings, or the
+//! kind of the error and a part of its text. A part that ends within a line ends with `\`.
+
+mod debug;
+mod explain;
+mod explore;
+mod hunt;
+mod order;
+mod replay;
+mod run;
+
+use clap::Error;
+use clap::error::ErrorKind;
+use settings::{settings, status_of};
+use std::alloc::{AllocError, AllocGlobal};
+use std::process::Abort;
+use std::test::Fail;
+
+/// Ways to ask for `words`, `asm` and `dis`.
+const TAKEN: &str = r#"$ ultra words a.hex
+Words(Words { file: "a.hex" })
+$ ultra words -- --a
+Words(Words { file: "--a" })
+$ ultra asm a.s a.elf
+Asm(Asm { file: "a.s", out: "a.elf" })
+$ ultra dis a.elf
+Dis(Dis { file: "a.elf", words: 1024 })
+$ ultra dis a.elf --words 1
+Dis(Dis { file: "a.elf", words: 1 })
+$ ultra dis --words 262144 a.elf
+Dis(Dis { file: "a.elf", words: 262144 })
+$ ultra dis --words=1000 a.elf
+Dis(Dis { file: "a.elf", words: 1000 })
+$ ultra dis a.elf --words=+7
+Dis(Dis { file: "a.elf", words: 7 })
+$ ultra dis a.elf --words 00009
+Dis(Dis { file: "a.elf", words: 9 })
+$ ultra dis --words 0001024 -- a.elf
+Dis(Dis { file: "a.elf", words: 1024 })
+"#;
+
+/// What is wrong in other words, and parts of the help.
+const REFUSED: &str = "\
+$ ultra
+MissingSubcommand
+error: 'ultra' requires a subcommand but one was not provided
+  [subcommands: words, asm, dis, run, replay, explain, order, debug, story, stats, explore, hunt, help]
+
+Usage: ultra <COMMAND>
+$ ultra frob
+InvalidSubcommand
+error: unrecognized subcommand 'frob'
+
+Usage: ultra <COMMAND>
+$ ultra words
+MissingRequiredArgument
+error: the following required arguments were not provided:
+  <FILE>
+
+Usage: ultra words <FILE>
+$ ultra words a.hex b.hex
+UnknownArgument
+error: unexpected argument 'b.hex' found
+
+Usage: ultra words <FILE>
+$ ultra words --fast a.hex
+UnknownArgument
+error: unexpected argument '--fast' found
+$ ultra --help
+DisplayHelp
+  words    Run a program of hex words on one processor and print its registers
+$ ultra words --help
+DisplayHelp
+Usage: ultra words <FILE>
+
+Arguments:
+  <FILE>  Lines of eight hex digits, one instruction word a line, the first at address 0x00010000
+$ ultra help words
+DisplayHelp
+Run a program of hex words on one processor and print its registers
+
+Usage: ultra words <FILE>
+$ ultra asm a.s
+MissingRequiredArgument
+error: the following required arguments were not provided:
+  <OUT>
+
+Usage: ultra asm <FILE> <OUT>
+$ ultra asm a.s a.elf b.elf
+UnknownArgument
+error: unexpected argument 'b.elf' found
+
+Usage: ultra asm <FILE> <OUT>
+$ ultra dis --words 0 a.elf
+ValueValidation
+error: invalid value '0' for '--words <NUMBER>': 0 is not in 1..=262144
+$ ultra dis a.elf --words=262145
+ValueValidation
+error: invalid value '262145' for '--words <NUMBER>': 262145 is not in 1..=262144
+$ ultra dis a.elf --words 1k
+ValueValidation
+error: invalid value '1k' for '--words <NUMBER>': invalid digit found in string
+$ ultra dis --words 1 --words 2 a.elf
+ArgumentConflict
+error: the argument '--words <NUMBER>' cannot be used multiple times
+$ ultra asm --help
+DisplayHelp
+Exit status: 0 done, 2 a fault of the text or of the command line,\
+$ ultra dis --help
+DisplayHelp
+--words <NUMBER>  Shared words of four bytes that the machine has, 1 to 262144 [default: 1024]
+$ ultra --version
+DisplayVersion
+ultra 0.1.0
+";
+
+static CASES: [&str; 23] = [
+    TAKEN,
+    REFUSED,
+    run::TAKEN,
+    run::REFUSED,
+    run::HELP,
+    replay::TAKEN,
+    replay::REFUSED,
+    replay::HELP,
+    explain::TAKEN,
+    explain::REFUSED,
+    explain::HELP,
+    order::TAKEN,
+    order::REFUSED,
+    order::HELP,
+    debug::TAKEN,
+    debug::REFUSED,
+    debug::HELP,
+    explore::TAKEN,
+    explore::REFUSED,
+    explore::HELP,
+    hunt::TAKEN,
+    hunt::REFUSED,
+    hunt::HELP,
+];
+
+/// The error is the one that stands there. An `Err` is a lack of memory.
+fn compare_error(
+    rt: &(impl Abort + AllocGlobal),
+    line: &str,
+    error: &Error,
+    answer: &str,
+) -> Result<(), AllocError> {
+    if error.kind() == ErrorKind::OutOfMemory {
+        assert_eq!(rt; status_of(error), 4, "at {line}");
+        return Err(AllocError);
+    }
+    assert_eq!(rt; status_of(error), 2, "at {line}");
+    let (kind, part) = answer.split_once('\n').expect(rt, "a kind");
+    let given = format!(in rt.alloc(); "{:?}", error.kind())?;
+    assert_eq!(rt; given.as_str(), kind, "at {line}");
+    let text = format!(in rt.alloc(); "{error}")?;
+    assert!(rt; text.contains(part), "at {line}: {text}");
+    Ok(())
+}
+
+/// The answer to the words is the one that stands below them. An `Err` is a lack of memory.
+fn compare(rt: &(impl Abort + AllocGlobal), case: &str) -> Result<(), AllocError> {
+    let (line, answer) = case.split_once('\n').expect(rt, "an answer");
+    let words: Vec<&str> = line.split_whitespace().collect(rt.alloc())?;
+    match settings(rt.alloc(), words.as_slice()) {
+        Ok(taken) => {
+            let given = format!(in rt.alloc(); "{taken:?}\n")?;
+            assert_eq!(rt; given.as_str(), answer, "at {line}");
+            Ok(())
+        }
+        Err(error) => compare_error(rt, line, &error, answer),
+    }
+}
+
+/// Compares the answers to all cases of a text. Whether there was memory for each.
+fn compare_all(rt: &(impl Abort + AllocGlobal), cases: &str) -> bool {
+    let mut is_ample = true;
+    for case in cases.split("$ ").skip(1) {
+        is_ample &= compare(rt, case).is_ok();
+    }
+    is_ample
+}
+
+#[test]
+fn words_have_their_answers(rt: HostRuntime) {
+    for cases in &CASES {
+        assert!(rt; compare_all(&rt, cases));
+    }
+}
+
+/// Each allocation of this test is to be refused in turn. Then the answer is the same, its text too, or it is that memory
+/// ran out.
+#[test]
+fn is_short_of_memory(rt: HostRuntime) {
+    for cases in &CASES {
+        compare_all(&rt, cases);
+    }
+}

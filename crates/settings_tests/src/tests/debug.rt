@@ -1,0 +1,54 @@
+//! `debug FILE` and its options.
+
+/// Ways to ask for `debug`.
+pub const TAKEN: &str = r#"$ ultra debug a.elf
+Debug(Session { file: "a.elf", sizes: Sizes { k: 2, c: 4, b: 4, words: 1024 }, budget: 100000, port: 3333 })
+$ ultra debug --port 1 a.elf --budget 4000000
+Debug(Session { file: "a.elf", sizes: Sizes { k: 2, c: 4, b: 4, words: 1024 }, budget: 4000000, port: 1 })
+$ ultra debug a.elf --port=65535 --k 0 --c 16 --b 0 --words 262144 --budget 1
+Debug(Session { file: "a.elf", sizes: Sizes { k: 0, c: 16, b: 0, words: 262144 }, budget: 1, port: 65535 })
+"#;
+
+/// What is wrong in other words.
+pub const REFUSED: &str = "\
+$ ultra debug
+MissingRequiredArgument
+error: the following required arguments were not provided:
+  <FILE>
+
+Usage: ultra debug <FILE>
+$ ultra debug a.elf --port 0
+ValueValidation
+error: invalid value '0' for '--port <NUMBER>': 0 is not in 1..=65535
+$ ultra debug a.elf --port 65536
+ValueValidation
+error: invalid value '65536' for '--port <NUMBER>': 65536 is not in 1..=65535
+$ ultra debug a.elf --budget 0
+ValueValidation
+error: invalid value '0' for '--budget <NUMBER>': 0 is not in 1..=4000000
+$ ultra debug a.elf --budget 4000001
+ValueValidation
+error: invalid value '4000001' for '--budget <NUMBER>': 4000001 is not in 1..=4000000
+$ ultra debug a.elf --k 7
+ValueValidation
+error: invalid value '7' for '--k <NUMBER>': 7 is not in 0..=6
+$ ultra debug a.elf --start 1
+UnknownArgument
+error: unexpected argument '--start' found
+";
+
+/// Parts of the help.
+pub const HELP: &str = "\
+$ ultra debug --help
+DisplayHelp
+Usage: ultra debug [OPTIONS] <FILE>
+$ ultra help debug
+DisplayHelp
+--port <NUMBER>    Port of 127.0.0.1 at which a debugger is awaited, 1 to 65535 [default: 3333]
+$ ultra debug --help
+DisplayHelp
+--budget <NUMBER>  Steps that one `cont` may take, 1 to 4000000 [default: 100000]
+$ ultra debug --help
+DisplayHelp
+Exit status: 0 done, 1 a processor stopped by a fault at the end, 2 a refused image or command line,\
+";

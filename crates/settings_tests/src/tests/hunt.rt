@@ -1,0 +1,53 @@
+//! `hunt FILE` and its options.
+
+/// Ways to ask for `hunt`.
+pub const TAKEN: &str = r#"$ ultra hunt a.elf
+Hunt(Hunt { file: "a.elf", trace: None, sizes: Sizes { k: 2, c: 4, b: 4, words: 1024 }, budget: 100000, runs: 1000, start: 1 })
+$ ultra hunt --runs 1 a.elf --start 0
+Hunt(Hunt { file: "a.elf", trace: None, sizes: Sizes { k: 2, c: 4, b: 4, words: 1024 }, budget: 100000, runs: 1, start: 0 })
+$ ultra hunt a.elf --trace late- --budget 4000000
+Hunt(Hunt { file: "a.elf", trace: Some("late-"), sizes: Sizes { k: 2, c: 4, b: 4, words: 1024 }, budget: 4000000, runs: 1000, start: 1 })
+$ ultra hunt a.elf --runs=1000000 --start=4294967295 --k 1 --c 2 --b 0 --words 7 --budget 1
+Hunt(Hunt { file: "a.elf", trace: None, sizes: Sizes { k: 1, c: 2, b: 0, words: 7 }, budget: 1, runs: 1000000, start: 4294967295 })
+"#;
+
+/// What is wrong in other words.
+pub const REFUSED: &str = "\
+$ ultra hunt
+MissingRequiredArgument
+error: the following required arguments were not provided:
+  <FILE>
+
+Usage: ultra hunt <FILE>
+$ ultra hunt a.elf --runs 0
+ValueValidation
+error: invalid value '0' for '--runs <NUMBER>': 0 is not in 1..=1000000
+$ ultra hunt a.elf --runs 1000001
+ValueValidation
+error: invalid value '1000001' for '--runs <NUMBER>': 1000001 is not in 1..=1000000
+$ ultra hunt a.elf --budget 4000001
+ValueValidation
+error: invalid value '4000001' for '--budget <NUMBER>': 4000001 is not in 1..=4000000
+$ ultra hunt a.elf --start=-1
+ValueValidation
+error: invalid value '-1' for '--start <NUMBER>': -1 is not in 0..=4294967295
+$ ultra hunt a.elf --sweep
+UnknownArgument
+error: unexpected argument '--sweep' found
+";
+
+/// Parts of the help.
+pub const HELP: &str = "\
+$ ultra hunt --help
+DisplayHelp
+Usage: ultra hunt [OPTIONS] <FILE>
+$ ultra help hunt
+DisplayHelp
+--runs <NUMBER>    Runs that are taken, 1 to 1000000 [default: 1000]
+$ ultra hunt --help
+DisplayHelp
+--trace <PREFIX>   Write a trace for each result,\
+$ ultra hunt --help
+DisplayHelp
+Exit status: 0 done, 1 a processor stopped by a fault in a run, 2 a refused image or command line, 3 a\
+";

@@ -1,0 +1,11 @@
+//! Texts and what becomes of them are worked out by hand.
+
+mod asm;
+mod assembling;
+mod dis;
+mod disassembling;
+mod explain;
+mod lines;
+mod order_lines;
+mod printing;
+mod story_lines;

@@ -1,0 +1,155 @@
+//! Texts of numbers, and a writer that is opened by its first write.
+
+ghost use Rattle.std.specs.Prelude.{◌≡◌, [], ⊤, None};
+
+use command_io::{Fault, OnFirstWrite, Open, print, push_bytes, push_status, push_word};
+use flat_machine::{Fault as ProcessorFault, Status};
+use link::{Link, Meter};
+use std::alloc::Global;
+use std::io::{self, ErrorKind, Write};
+use std::test::Fail;
+use test_devices::Sink;
+
+#[test]
+fn digits(rt: HostRuntime) -> Result<(), Fail> {
+    let alloc = rt.alloc();
+    let mut text = String::new(alloc);
+    push_word(alloc, &mut text, 0x00C0_FFEE)?;
+    text.push(' ')?;
+    push_bytes(alloc, &mut text, &[0, 0x7F, 0xA0])?;
+    assert_eq!(rt; text.as_str(), "00c0ffee 007fa0");
+    Ok(())
+}
+
+#[test]
+fn statuses(rt: HostRuntime) -> Result<(), Fail> {
+    let alloc = rt.alloc();
+    for (status, is) in [
+        (Status::Running, "run"),
+        (Status::Halted(0x0A), "halt 0a"),
+        (Status::Faulted(ProcessorFault::Breakpoint), "fault 8"),
+    ] {
+        let mut text = String::new(alloc);
+        push_status(alloc, &mut text, status)?;
+        assert_eq!(rt; text.as_str(), is);
+    }
+    Ok(())
+}
+
+/// Opens a buffer, or fails, and counts the openings.
+#[derive(Drop)]
+struct Door {
+    alloc: Global,
+    is_shut: bool,
+    openings: usize,
+}
+
+impl Open for Door {
+    type Device = Vec<u8>;
+
+    ghost opens = { λ d bytes. bytes.items ≡ [] };
+
+    fn open(&mut self) -> io::Result<Vec<u8>> {
+        self.openings = self.openings.saturating_add(1);
+        if self.is_shut {
+            Err(ErrorKind::PermissionDenied.into())
+        } else {
+            Ok(Vec::new(self.alloc))
+        }
+    }
+}
+
+#[test]
+fn opens_at_the_first_write(rt: HostRuntime) {
+    let alloc = rt.alloc();
+    let mut writer = OnFirstWrite::new(Door {
+        alloc,
+        is_shut: false,
+        openings: 0,
+    });
+    assert!(rt; writer.flush().is_ok());
+    assert_eq!(rt; writer.opener.openings, 0);
+    assert!(rt; writer.device.is_none());
+    assert!(rt; writer.write_all(b"a").is_ok());
+    assert!(rt; writer.write_all(b"b").is_ok());
+    assert!(rt; writer.flush().is_ok());
+    assert_eq!(rt; writer.opener.openings, 1);
+    assert_eq!(rt;
+        writer.device.as_ref().map(|bytes| bytes.as_slice()),
+        Some(b"ab".as_slice())
+    );
+}
+
+#[test]
+fn failed_opening_is_a_failed_write(rt: HostRuntime) {
+    let mut writer = OnFirstWrite::new(Door {
+        alloc: rt.alloc(),
+        is_shut: true,
+        openings: 0,
+    });
+    assert!(rt; writer.write(b"a").is_err());
+    assert!(rt; writer.write(b"a").is_err());
+    assert_eq!(rt; writer.opener.openings, 2);
+    assert!(rt; writer.device.is_none());
+}
+
+/// Opens a device that takes all bytes, and whose flush fails.
+#[derive(Drop)]
+struct Stuck;
+
+impl Open for Stuck {
+    type Device = Stuck;
+
+    ghost opens = { λ s opened. ⊤ };
+
+    fn open(&mut self) -> io::Result<Stuck> {
+        Ok(Stuck)
+    }
+}
+
+impl Write for Stuck {
+    ghost contents = { λ s. None };
+
+    fn write(&mut self, buf: &[u8]) -> io::Result<usize> {
+        Ok(buf.len())
+    }
+
+    fn flush(&mut self) -> io::Result<()> {
+        Err(ErrorKind::StorageFull.into())
+    }
+}
+
+/// A flush is one of the device, once that is open.
+#[test]
+fn flushes_the_open_device(rt: HostRuntime) {
+    let mut writer = OnFirstWrite::new(Stuck);
+    assert!(rt; writer.flush().is_ok());
+    assert!(rt; writer.write_all(b"a").is_ok());
+    assert!(rt; writer.flush().is_err());
+}
+
+/// A text goes out in as many writes as it takes, or a beginning of it does.
+#[test]
+fn prints_the_text_or_a_beginning(rt: HostRuntime) {
+    for (room, text) in [(8, "hello"), (5, "hello"), (4, "hell"), (0, "")] {
+        let mut out = Meter::new(Sink::new(Vec::new(rt.alloc()), room + 1));
+        let printed = print(&mut out, "hello");
+        let fails = room < 5;
+        assert_eq!(rt;
+            printed,
+            if fails { Err(Fault::Link) } else { Ok(()) },
+            "{room}"
+        );
+        assert_eq!(rt; out.failed(), fails, "{room}");
+        assert_eq!(rt; out.device.bytes.as_slice(), text.as_bytes(), "{room}");
+    }
+    assert!(rt; print(&mut Meter::new(Stuck), "hello").is_ok());
+    let mut shut = Meter::new(OnFirstWrite::new(Door {
+        alloc: rt.alloc(),
+        is_shut: true,
+        openings: 0,
+    }));
+    assert!(rt; print(&mut shut, "").is_ok());
+    assert!(rt; print(&mut shut, "hello").is_err());
+    assert_eq!(rt; shut.device.opener.openings, 1);
+}
