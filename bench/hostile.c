@@ -2,9 +2,10 @@
 // It stops after so many tries, or so many seconds where TRIES is 0.
 //
 // An input is one of the files with a few bytes changed, cut out, doubled or taken from another file; or bytes by chance; or lines of
-// words by chance, for the assembler and the reader of hex words. It goes to `words`, `asm`, `dis`, or `replay` as its trace or its
-// image. The program has to end by itself within 20 seconds of its own time and 60 on the clock, in bounded memory, with a status
-// from 0 to 4. Where that is 0 or 1 it says nothing on standard error; else it says one numbered fault there, and prints nothing.
+// words by chance, for the assembler and the reader of hex words. It goes to `words`, `asm`, `dis`, or to a command that takes
+// a trace and an image (`replay`, `order`, `story`, `stats`) as either. The program has to end by itself within 20 seconds of its
+// own time and 60 on the clock, in bounded memory, with a status from 0 to 4. Where that is 0 or 1 it says nothing on standard
+// error; else it says one numbered fault there, and prints nothing.
 //
 // What breaks that is saved in FOLDER, with a line on standard output. The last line is how many tries ended with which status.
 #define _GNU_SOURCE
@@ -238,8 +239,11 @@ int main(int argc, char **argv) {
     path_of(other, other_path);
     static struct bytes input, second;
     while (tries ? tried < tries : time(NULL) < last) {
-        static char *const commands[] = { "words", "asm", "dis", "replay" };
-        char *command = commands[number_below(4)];
+        // From `replay` on they take a trace and an image.
+        enum { REPLAY = 3, COMMANDS = 7 };
+        static char *const commands[COMMANDS] = { "words", "asm", "dis", "replay", "order", "story", "stats" };
+        uint64_t which = number_below(COMMANDS);
+        char *command = commands[which];
         make(&input);
         make(&second);
         write_to(one, &input);
@@ -247,7 +251,7 @@ int main(int argc, char **argv) {
         char *words[] = { program, command, one_path, NULL, NULL };
         if (!strcmp(command, "asm"))
             words[3] = "/dev/null";
-        if (!strcmp(command, "replay"))
+        if (which >= REPLAY)
             words[3] = other_path;
         struct ended ended = run(words, out, err);
         const char *what = wrong(&ended, command, out, err, &fault);
