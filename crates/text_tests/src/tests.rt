@@ -6,6 +6,6 @@ mod dis;
 mod disassembling;
 mod explain;
 mod lines;
-mod order_lines;
+mod order;
 mod printing;
-mod story_lines;
+mod story;
