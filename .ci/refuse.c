@@ -2,11 +2,12 @@
 // writes a byte to descriptor 9, which tells that the program made so many requests.
 #define _GNU_SOURCE
 #include <dlfcn.h>
+#include <stdatomic.h>
 #include <stdlib.h>
 #include <unistd.h>
 
 static int refused(void) {
-    static long count, number;
+    static atomic_long count, number;
     if (number == 0) {
         const char *text = getenv("REFUSE");
         number = text ? atol(text) : -1;

@@ -2,24 +2,30 @@
 // It stops after so many tries, or so many seconds where TRIES is 0.
 //
 // An input is one of the files with a few bytes changed, cut out, doubled or taken from another file; or bytes by chance; or lines of
-// words by chance, for the assembler and the reader of hex words. It goes to `words`, `asm`, `dis`, or to a command that takes
-// a trace and an image (`replay`, `order`, `story`, `stats`) as either. The program has to end by itself within 20 seconds of its
-// own time and 60 on the clock, in bounded memory, with a status from 0 to 4. Where that is 0 or 1 it says nothing on standard
-// error; else it says one numbered fault there, and prints nothing.
+// words by chance, for the assembler and the reader of hex words. It goes to each command of the program that reads a file, or a
+// trace and an image. To `debug` go the lines of a debugger, some of them right ones, cut into pieces by chance; in one session of
+// eight the connection is closed in their midst.
+//
+// The program has to end by itself within 20 seconds of its own time and 60 on the clock, in bounded memory, with a status from 0 to
+// 4. Where that is 0 or 1 it says nothing on standard error; else it says one fault there that has a code, and prints nothing. Each
+// line of a debugger has one reply, up to the first `quit` and where the connection holds, and no reply is other than documented.
 //
 // What breaks that is saved in FOLDER, with a line on standard output. The last line is how many tries ended with which status.
 #define _GNU_SOURCE
 #include <errno.h>
 #include <fcntl.h>
+#include <netinet/in.h>
 #include <poll.h>
 #include <regex.h>
 #include <signal.h>
+#include <stdbool.h>
 #include <stdint.h>
 #include <stdio.h>
 #include <stdlib.h>
 #include <string.h>
 #include <sys/mman.h>
 #include <sys/resource.h>
+#include <sys/socket.h>
 #include <sys/stat.h>
 #include <sys/syscall.h>
 #include <sys/wait.h>
@@ -28,8 +34,28 @@
 
 enum { MOST_BYTES = 1 << 15, MOST_FILES = 256, STATUSES = 5 };
 
-// The most memory that a run may take, in KiB: a log of a million instructions for `words`, little for the others.
-enum { MOST_OF_WORDS = 96 << 10, MOST_OF_OTHERS = 32 << 10 };
+// What a command takes behind its options.
+enum takes { A_FILE, A_FILE_AND_NOWHERE, A_TRACE_AND_AN_IMAGE, LINES };
+
+// A command, its options, and the most memory that it may take, in KiB: a log of a million instructions for `words`.
+static const struct command {
+    const char *name, *options[6];
+    enum takes takes;
+    long kilobytes;
+} commands[] = {
+    { "words", { NULL }, A_FILE, 96 << 10 },
+    { "asm", { NULL }, A_FILE_AND_NOWHERE, 32 << 10 },
+    { "dis", { NULL }, A_FILE, 32 << 10 },
+    { "run", { "--k", "1", "--budget", "2000" }, A_FILE, 32 << 10 },
+    { "run", { "--sweep", "--k", "3", "--budget", "20000" }, A_FILE, 32 << 10 },
+    { "explore", { "--k", "1", "--states", "2000" }, A_FILE, 32 << 10 },
+    { "hunt", { "--k", "1", "--runs", "3", "--budget", "1000" }, A_FILE, 32 << 10 },
+    { "replay", { NULL }, A_TRACE_AND_AN_IMAGE, 32 << 10 },
+    { "order", { NULL }, A_TRACE_AND_AN_IMAGE, 32 << 10 },
+    { "story", { NULL }, A_TRACE_AND_AN_IMAGE, 32 << 10 },
+    { "stats", { NULL }, A_TRACE_AND_AN_IMAGE, 32 << 10 },
+    { "debug", { "--k", "1", "--budget", "1000" }, LINES, 32 << 10 },
+};
 
 struct bytes {
     size_t count;
@@ -85,6 +111,39 @@ static void random_lines(struct bytes *input) {
         const char *space = behind[number_below(6)];
         add(input, word, strlen(word));
         add(input, space, strlen(space));
+    }
+}
+
+// The lines of a debugger: a command with operands, as many as it has but in one of eight, and one line in sixteen is no such thing.
+static void random_session(struct bytes *input) {
+    static const struct { const char *name; unsigned operands; } lines[] = {
+        { "state", 1 }, { "regs", 1 }, { "reg", 2 }, { "set", 3 }, { "mem", 3 }, { "write", 3 }, { "break", 1 }, { "clear", 1 }, { "step", 1 }, { "cont", 0 },
+    };
+    static const char *const operands[] = {
+        "0", "0", "0", "1", "1", "2", "1f", "20", "21", "3f", "40", "200", "201", "2a", "2A00", "10000", "10001", "10004", "10008", "20000", "2fffe",
+        "80000000", "80000ffc", "80001000", "90000000", "ffffffff", "00000001", "000000001", "100000000", "-1", "0x1", "g", "0g", "deadbeefdeadbeef", "",
+    };
+    static const char *const others[] = { "", " ", "quit ", "state 0\r", "STATE 0", "cont 0", "state\t0", "\xff\xfe", " state 0", "state  0", "helo", "quit" };
+    size_t count = number_below(60);
+    input->count = 0;
+    for (size_t i = 0; i < count; i++) {
+        if (number_below(16) == 0) {
+            const char *other = others[number_below(sizeof others / sizeof *others)];
+            add(input, other, strlen(other));
+        } else if (number_below(64) == 0) {
+            for (size_t bytes = 1020 + number_below(10); bytes > 0; bytes--)
+                add(input, "m", 1);
+        } else {
+            size_t line = number_below(sizeof lines / sizeof *lines);
+            unsigned some = number_below(8) ? lines[line].operands : number_below(5);
+            add(input, lines[line].name, strlen(lines[line].name));
+            for (unsigned j = 0; j < some; j++) {
+                const char *operand = operands[number_below(sizeof operands / sizeof *operands)];
+                add(input, " ", 1);
+                add(input, operand, strlen(operand));
+            }
+        }
+        add(input, "\n", number_below(200) ? 1 : 0);
     }
 }
 
@@ -154,10 +213,7 @@ struct ended {
     long kilobytes;
 };
 
-static struct ended run(char *const words[], int out, int err) {
-    struct ended ended = { -1, 0, 0, 0 };
-    struct rusage usage;
-    int status;
+static pid_t start(char *const words[], int out, int err) {
     if (ftruncate(out, 0) || ftruncate(err, 0) || lseek(out, 0, SEEK_SET) || lseek(err, 0, SEEK_SET))
         fail("ftruncate");
     pid_t child = vfork();
@@ -172,6 +228,13 @@ static struct ended run(char *const words[], int out, int err) {
         execv(words[0], words);
         _exit(127);
     }
+    return child;
+}
+
+static struct ended end_of(pid_t child) {
+    struct ended ended = { -1, 0, 0, 0 };
+    struct rusage usage;
+    int status;
     int handle = syscall(SYS_pidfd_open, child, 0);
     struct pollfd end = { handle, POLLIN, 0 };
     if (handle >= 0 && poll(&end, 1, 60000) == 0) {
@@ -190,8 +253,94 @@ static struct ended run(char *const words[], int out, int err) {
     return ended;
 }
 
+// A connection to the port, once the child listens there; or -1, where it has ended.
+static int connection_to(int port, pid_t child) {
+    struct sockaddr_in address = { .sin_family = AF_INET, .sin_port = htons(port), .sin_addr = { htonl(INADDR_LOOPBACK) } };
+    for (int tries = 0; tries < 20000; tries++) {
+        siginfo_t is_over = { 0 };
+        int connection = socket(AF_INET, SOCK_STREAM | SOCK_NONBLOCK, 0);
+        if (connection < 0)
+            fail("socket");
+        // To a port of the same machine a connection stands at once, or not at all.
+        if (connect(connection, (struct sockaddr *)&address, sizeof address) == 0 || errno == EINPROGRESS) {
+            struct pollfd stands = { connection, POLLOUT, 0 };
+            if (poll(&stands, 1, 1000) == 1 && !(stands.revents & (POLLERR | POLLHUP)))
+                return connection;
+        }
+        close(connection);
+        if (waitid(P_PID, child, &is_over, WEXITED | WNOHANG | WNOWAIT) == 0 && is_over.si_pid == child)
+            return -1;
+        usleep(1000);
+    }
+    return -1;
+}
+
+// Sends the lines in pieces, and gives what is answered. Where `is_cut`, the connection is closed behind so many bytes.
+static void converse(int connection, const struct bytes *lines, bool is_cut, struct bytes *replies) {
+    size_t sent = 0, most = is_cut ? number_below(lines->count + 1) : lines->count;
+    bool is_sending = true;
+    replies->count = 0;
+    while (true) {
+        struct pollfd ready = { connection, POLLIN | (is_sending ? POLLOUT : 0), 0 };
+        if (poll(&ready, 1, 60000) < 1)
+            break;
+        if (ready.revents & (POLLIN | POLLHUP | POLLERR)) {
+            static unsigned char some[4096];
+            ssize_t count = read(connection, some, sizeof some);
+            if (count == 0 || (count < 0 && errno != EAGAIN))
+                break;
+            if (count > 0)
+                add(replies, some, count);
+        }
+        if (is_sending && (ready.revents & POLLOUT)) {
+            size_t piece = 1 + number_below(number_below(2) ? 8 : 2000);
+            if (piece > most - sent)
+                piece = most - sent;
+            ssize_t count = send(connection, lines->at + sent, piece, MSG_NOSIGNAL);
+            if (count > 0)
+                sent += count;
+            is_sending = sent < most && (count >= 0 || errno == EAGAIN);
+            if (!is_sending && is_cut)
+                break;
+            if (!is_sending)
+                shutdown(connection, SHUT_WR);
+        }
+    }
+    close(connection);
+}
+
+// How many lines there are, up to the first that is `quit`.
+static size_t lines_of(const struct bytes *lines) {
+    size_t count = 0, from = 0;
+    for (size_t i = 0; i < lines->count; i++)
+        if (lines->at[i] == '\n') {
+            count++;
+            if (i - from == 4 && !memcmp(lines->at + from, "quit", 4))
+                break;
+            from = i + 1;
+        }
+    return count;
+}
+
+// What is wrong with the replies of a session that ended, or NULL.
+static const char *wrong_replies(const struct ended *ended, const struct bytes *lines, bool is_cut, struct bytes *replies, const regex_t *reply) {
+    size_t count = 0, from = 0;
+    for (size_t i = 0; i < replies->count; i++)
+        if (replies->at[i] == '\n') {
+            replies->at[i] = 0;
+            if (regexec(reply, (char *)replies->at + from, 0, NULL, 0))
+                return "a reply";
+            from = i + 1;
+            count++;
+        }
+    // What MOST_BYTES cut off is not looked at.
+    if (is_cut || replies->count == MOST_BYTES || ended->status > 1)
+        return NULL;
+    return count == lines_of(lines) && from == replies->count ? NULL : "how many replies there are";
+}
+
 // What is wrong with how a run ended, or NULL.
-static const char *wrong(const struct ended *ended, const char *command, int out, int err, const regex_t *fault) {
+static const char *wrong(const struct ended *ended, const struct command *command, int out, int err, const regex_t *fault) {
     static char said[4096];
     struct stat printed;
     ssize_t count = pread(err, said, sizeof said - 1, 0);
@@ -204,13 +353,14 @@ static const char *wrong(const struct ended *ended, const char *command, int out
         return "a signal ended it";
     if (ended->status >= STATUSES)
         return "its status";
-    if (ended->kilobytes > (strcmp(command, "words") ? MOST_OF_OTHERS : MOST_OF_WORDS))
+    if (ended->kilobytes > command->kilobytes)
         return "the memory that it takes";
     if (ended->status <= 1)
         return count ? "what it says on standard error" : NULL;
     if (regexec(fault, said, 0, NULL, 0))
         return "the fault that it tells";
-    return printed.st_size ? "what it prints beside a fault" : NULL;
+    // A session may fail once it has said where it listens.
+    return printed.st_size && command->takes != LINES ? "what it prints beside a fault" : NULL;
 }
 
 int main(int argc, char **argv) {
@@ -229,32 +379,54 @@ int main(int argc, char **argv) {
         close(file);
         files[file_count++].count = count;
     }
-    regex_t fault;
-    if (regcomp(&fault, "^ultra: ([A-Z][0-9]+|link|memory|budget)( line [0-9]+| step [0-9]+)?\n$", REG_EXTENDED | REG_NOSUB))
+    regex_t fault, reply;
+    if (regcomp(&reply, "^(ok|E0[1-6]|halted|at (-|[0-9a-f]{1,2})|run|halt [0-9a-f]{2}|fault [1-8]|([0-9a-f]{2})+)$", REG_EXTENDED | REG_NOSUB))
+        fail("regcomp");
+    if (regcomp(&fault, "^ultra: ([A-Z][0-9]+|Start|alone|budget|link|memory|states)( line [0-9]+| step [0-9]+)?\n$", REG_EXTENDED | REG_NOSUB))
         fail("regcomp");
     state = seed * 0x9E3779B97F4A7C15ULL + 1;
     int one = memory_file("one"), other = memory_file("other"), out = memory_file("out"), err = memory_file("err");
     char one_path[32], other_path[32];
     path_of(one, one_path);
     path_of(other, other_path);
-    static struct bytes input, second;
+    static struct bytes input, second, replies;
+    // Each program of its seed has a port of its own.
+    int port = 20000 + seed % 10000;
+    char port_text[8];
+    sprintf(port_text, "%d", port);
     while (tries ? tried < tries : time(NULL) < last) {
-        // From `replay` on they take a trace and an image.
-        enum { REPLAY = 3, COMMANDS = 7 };
-        static char *const commands[COMMANDS] = { "words", "asm", "dis", "replay", "order", "story", "stats" };
-        uint64_t which = number_below(COMMANDS);
-        char *command = commands[which];
+        const struct command *command = &commands[number_below(sizeof commands / sizeof *commands)];
+        bool is_session = command->takes == LINES, is_cut = is_session && number_below(8) == 0;
+        const char *words[16] = { program, command->name };
+        int count = 2;
+        for (int i = 0; i < 6 && command->options[i]; i++)
+            words[count++] = command->options[i];
         make(&input);
+        // Most sessions want an image that stands.
+        if (is_session && number_below(8))
+            input = files[0];
         make(&second);
+        if (is_session)
+            random_session(&second);
         write_to(one, &input);
         write_to(other, &second);
-        char *words[] = { program, command, one_path, NULL, NULL };
-        if (!strcmp(command, "asm"))
-            words[3] = "/dev/null";
-        if (which >= REPLAY)
-            words[3] = other_path;
-        struct ended ended = run(words, out, err);
+        if (is_session) {
+            words[count++] = "--port";
+            words[count++] = port_text;
+        }
+        words[count++] = one_path;
+        if (command->takes == A_FILE_AND_NOWHERE)
+            words[count++] = "/dev/null";
+        if (command->takes == A_TRACE_AND_AN_IMAGE)
+            words[count++] = other_path;
+        pid_t child = start((char *const *)words, out, err);
+        int connection = is_session ? connection_to(port, child) : -1;
+        if (connection >= 0)
+            converse(connection, &second, is_cut, &replies);
+        struct ended ended = end_of(child);
         const char *what = wrong(&ended, command, out, err, &fault);
+        if (!what && connection >= 0)
+            what = wrong_replies(&ended, &second, is_cut, &replies, &reply);
         tried++;
         if (ended.status >= 0 && ended.status < STATUSES)
             ends[ended.status]++;
@@ -262,7 +434,7 @@ int main(int argc, char **argv) {
             char path[4096];
             const struct bytes *inputs[] = { &input, &second };
             for (int i = 0; i < 2; i++) {
-                snprintf(path, sizeof path, "%s/%s-%llu-%llu-%d", argv[5], command, (unsigned long long)seed, (unsigned long long)tried, i);
+                snprintf(path, sizeof path, "%s/%s-%llu-%llu-%d", argv[5], command->name, (unsigned long long)seed, (unsigned long long)tried, i);
                 FILE *kept = fopen(path, "w");
                 if (!kept || fwrite(inputs[i]->at, 1, inputs[i]->count, kept) != inputs[i]->count || fclose(kept))
                     fail(path);
