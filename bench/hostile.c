@@ -309,14 +309,17 @@ static void converse(int connection, const struct bytes *lines, bool is_cut, str
     close(connection);
 }
 
-// How many lines there are, up to the first that is `quit`.
-static size_t lines_of(const struct bytes *lines) {
+// How many lines there are, up to the first that is `quit`, and whether something stands behind that one.
+static size_t lines_of(const struct bytes *lines, bool *is_more) {
     size_t count = 0, from = 0;
+    *is_more = false;
     for (size_t i = 0; i < lines->count; i++)
         if (lines->at[i] == '\n') {
             count++;
-            if (i - from == 4 && !memcmp(lines->at + from, "quit", 4))
+            if (i - from == 4 && !memcmp(lines->at + from, "quit", 4)) {
+                *is_more = i + 1 < lines->count;
                 break;
+            }
             from = i + 1;
         }
     return count;
@@ -336,7 +339,11 @@ static const char *wrong_replies(const struct ended *ended, const struct bytes *
     // What MOST_BYTES cut off is not looked at.
     if (is_cut || replies->count == MOST_BYTES || ended->status > 1)
         return NULL;
-    return count == lines_of(lines) && from == replies->count ? NULL : "how many replies there are";
+    // A connection that is closed with bytes that nobody has read, those behind `quit`, may lose replies on their way.
+    bool is_more;
+    size_t most = lines_of(lines, &is_more);
+    bool is_right = count <= most && (is_more || (count == most && from == replies->count));
+    return is_right ? NULL : "how many replies there are";
 }
 
 // What is wrong with how a run ended, or NULL.
