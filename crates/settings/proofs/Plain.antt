@@ -187,7 +187,8 @@ dis_given file words named = give (AreDisOf file) words (codes "dis") (file_rows
 -- ---- `run FILE`
 
 run_rows : (file : Text) → List Row
-run_rows file = row (codes "FILE") file CommandLine ∷ row (codes "sweep") (codes "false") DefaultValue ∷ []
+run_rows file =
+    row (codes "FILE") file CommandLine ∷ row (codes "sweep") (codes "false") DefaultValue ∷ row (codes "quiet") (codes "false") DefaultValue ∷ []
 
 run_met : (program file : Text) → IsPlain file → Meets (program ∷ codes "run" ∷ file ∷ []) (codes "run") (run_rows file)
 unfolding row run_rows clap_on_literals commands
@@ -204,12 +205,13 @@ unset true f = let bad : Some (codes "false") ≡ Some (codes "true") = f refl i
 run_are : (file : Text) (s : Settings) → (name_of s ≡ codes "run") × AreOf (run_rows file) s → AreRunOf file s
 unfolding name_of row run_rows
 run_are file (asked.Run r) said =
-    let sizes = said.1.3 in
-    let budget = said.1.4 in
-    let start = said.1.5 in (
+    let sizes = said.1.4 in
+    let budget = said.1.5 in
+    let start = said.1.6 in (
       same_text file r.file.now said.1.0,
       no_text r.trace said.1.1,
       unset r.sweep said.1.2.0,
+      unset r.quiet said.1.3.0,
       (sizes.0.0, sizes.1.0, sizes.2.0, sizes.3.0),
       budget.0,
       start.0,

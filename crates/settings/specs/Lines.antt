@@ -121,7 +121,7 @@ with_sizes a = with_number shared_words (with_number records (with_number queue 
 unfoldable pub run_command : App
 run_command =
     with_number start (with_number budget (with_sizes
-    (with_rule (with_rule (with_file (new_app (codes "run"))) (option (codes "trace"))) (flag (codes "sweep")))))
+    (with_rule (with_rule (with_rule (with_file (new_app (codes "run"))) (option (codes "trace"))) (flag (codes "sweep"))) (flag (codes "quiet")))))
 
 -- a trace and the image of its run
 abbrev pub replaying : Text → App
@@ -215,7 +215,7 @@ IsDis rows d = IsPath (codes "FILE") rows d.file.now × IsNumber shared_words ro
 
 abbrev pub IsRun : List Row → Run → Type 0
 IsRun rows r = IsPath (codes "FILE") rows r.file.now × IsOption (codes "trace") rows (option_map (λ t. t.now) r.trace) × IsFlag (codes "sweep") rows r.sweep
-    × AreSizes rows r.sizes × IsNumber budget rows r.budget × IsNumber start rows r.start
+    × IsFlag (codes "quiet") rows r.quiet × AreSizes rows r.sizes × IsNumber budget rows r.budget × IsNumber start rows r.start
 
 abbrev pub IsReplay : List Row → Replay → Type 0
 IsReplay rows r = IsPath (codes "TRACE") rows r.trace.now × IsPath (codes "FILE") rows r.file.now × IsNumber shared_words rows r.words
@@ -295,7 +295,7 @@ AreUsual s = (s.k ≡ 2) × (s.c ≡ 4) × (s.b ≡ 4) × (s.words ≡ 1024)
 
 -- the settings are those of `run FILE`: no trace, no flag, each number its default
 abbrev pub AreRunOf : Text → Settings → Type 0
-AreRunOf file (asked.Run r) = (r.file.now ≡ file) × (r.trace ≡ None) × (r.sweep ≡ false) × AreUsual r.sizes
+AreRunOf file (asked.Run r) = (r.file.now ≡ file) × (r.trace ≡ None) × (r.sweep ≡ false) × (r.quiet ≡ false) × AreUsual r.sizes
     × (r.budget ≡ 10000000) × (r.start ≡ 1)
 AreRunOf file other = ⊥
 

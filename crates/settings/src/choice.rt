@@ -63,6 +63,8 @@ pub struct Run<'a> {
     pub trace: Option<&'a str>,
     /// Whether the schedule is to be the sweep. Else each processor runs on a thread of its own.
     pub sweep: bool,
+    /// Whether nothing is to be told of how far the run is.
+    pub quiet: bool,
     /// The sizes of the machine.
     pub sizes: Sizes,
     /// How long the run may take, from 1: the rounds of each thread, or the steps of the sweep.

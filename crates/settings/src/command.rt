@@ -138,6 +138,14 @@ fn run_shape<'a>(alloc: Global) -> Result<Command<'a>, AllocError>
             "Run by the sweep, on one thread: the same run each time",
         ),
     )?;
+    let command = with(
+        command,
+        flag_arg(
+            alloc,
+            "quiet",
+            "Tell nothing of how far the run is, where standard error is a terminal",
+        ),
+    )?;
     let command = with_sizes(alloc, command)?;
     let command = with_number(alloc, command, BUDGET)?;
     with_number(alloc, command, START)

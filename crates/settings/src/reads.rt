@@ -166,6 +166,7 @@ fn run<'a>(matches: &ArgMatches<'a>) -> Run<'a>
         file: path(matches, "FILE"),
         trace: option(matches, "trace"),
         sweep: flag(matches, "sweep"),
+        quiet: flag(matches, "quiet"),
         sizes: sizes(matches),
         budget: number(matches, BUDGET),
         start: number(matches, START),

@@ -2,57 +2,61 @@
 
 /// Ways to ask for `run`.
 pub const TAKEN: &str = r#"$ ultra run a.elf
-Run(Run { file: "a.elf", trace: None, sweep: false, sizes: Sizes { k: 2, c: 4, b: 4, words: 1024 }, budget: 10000000, start: 1 })
+Run(Run { file: "a.elf", trace: None, sweep: false, quiet: false, sizes: Sizes { k: 2, c: 4, b: 4, words: 1024 }, budget: 10000000, start: 1 })
 $ ultra run --k 0 a.elf
-Run(Run { file: "a.elf", trace: None, sweep: false, sizes: Sizes { k: 0, c: 4, b: 4, words: 1024 }, budget: 10000000, start: 1 })
+Run(Run { file: "a.elf", trace: None, sweep: false, quiet: false, sizes: Sizes { k: 0, c: 4, b: 4, words: 1024 }, budget: 10000000, start: 1 })
 $ ultra run a.elf --k 6
-Run(Run { file: "a.elf", trace: None, sweep: false, sizes: Sizes { k: 6, c: 4, b: 4, words: 1024 }, budget: 10000000, start: 1 })
+Run(Run { file: "a.elf", trace: None, sweep: false, quiet: false, sizes: Sizes { k: 6, c: 4, b: 4, words: 1024 }, budget: 10000000, start: 1 })
 $ ultra run --k=3 a.elf
-Run(Run { file: "a.elf", trace: None, sweep: false, sizes: Sizes { k: 3, c: 4, b: 4, words: 1024 }, budget: 10000000, start: 1 })
+Run(Run { file: "a.elf", trace: None, sweep: false, quiet: false, sizes: Sizes { k: 3, c: 4, b: 4, words: 1024 }, budget: 10000000, start: 1 })
 $ ultra run a.elf --k=+5
-Run(Run { file: "a.elf", trace: None, sweep: false, sizes: Sizes { k: 5, c: 4, b: 4, words: 1024 }, budget: 10000000, start: 1 })
+Run(Run { file: "a.elf", trace: None, sweep: false, quiet: false, sizes: Sizes { k: 5, c: 4, b: 4, words: 1024 }, budget: 10000000, start: 1 })
 $ ultra run a.elf --k=-0
-Run(Run { file: "a.elf", trace: None, sweep: false, sizes: Sizes { k: 0, c: 4, b: 4, words: 1024 }, budget: 10000000, start: 1 })
+Run(Run { file: "a.elf", trace: None, sweep: false, quiet: false, sizes: Sizes { k: 0, c: 4, b: 4, words: 1024 }, budget: 10000000, start: 1 })
 $ ultra run --c 2 a.elf
-Run(Run { file: "a.elf", trace: None, sweep: false, sizes: Sizes { k: 2, c: 2, b: 4, words: 1024 }, budget: 10000000, start: 1 })
+Run(Run { file: "a.elf", trace: None, sweep: false, quiet: false, sizes: Sizes { k: 2, c: 2, b: 4, words: 1024 }, budget: 10000000, start: 1 })
 $ ultra run a.elf --c=16
-Run(Run { file: "a.elf", trace: None, sweep: false, sizes: Sizes { k: 2, c: 16, b: 4, words: 1024 }, budget: 10000000, start: 1 })
+Run(Run { file: "a.elf", trace: None, sweep: false, quiet: false, sizes: Sizes { k: 2, c: 16, b: 4, words: 1024 }, budget: 10000000, start: 1 })
 $ ultra run --b 0 a.elf
-Run(Run { file: "a.elf", trace: None, sweep: false, sizes: Sizes { k: 2, c: 4, b: 0, words: 1024 }, budget: 10000000, start: 1 })
+Run(Run { file: "a.elf", trace: None, sweep: false, quiet: false, sizes: Sizes { k: 2, c: 4, b: 0, words: 1024 }, budget: 10000000, start: 1 })
 $ ultra run a.elf --b 0016
-Run(Run { file: "a.elf", trace: None, sweep: false, sizes: Sizes { k: 2, c: 4, b: 16, words: 1024 }, budget: 10000000, start: 1 })
+Run(Run { file: "a.elf", trace: None, sweep: false, quiet: false, sizes: Sizes { k: 2, c: 4, b: 16, words: 1024 }, budget: 10000000, start: 1 })
 $ ultra run --words 1 a.elf
-Run(Run { file: "a.elf", trace: None, sweep: false, sizes: Sizes { k: 2, c: 4, b: 4, words: 1 }, budget: 10000000, start: 1 })
+Run(Run { file: "a.elf", trace: None, sweep: false, quiet: false, sizes: Sizes { k: 2, c: 4, b: 4, words: 1 }, budget: 10000000, start: 1 })
 $ ultra run a.elf --words 262144
-Run(Run { file: "a.elf", trace: None, sweep: false, sizes: Sizes { k: 2, c: 4, b: 4, words: 262144 }, budget: 10000000, start: 1 })
+Run(Run { file: "a.elf", trace: None, sweep: false, quiet: false, sizes: Sizes { k: 2, c: 4, b: 4, words: 262144 }, budget: 10000000, start: 1 })
 $ ultra run --budget 1 a.elf
-Run(Run { file: "a.elf", trace: None, sweep: false, sizes: Sizes { k: 2, c: 4, b: 4, words: 1024 }, budget: 1, start: 1 })
+Run(Run { file: "a.elf", trace: None, sweep: false, quiet: false, sizes: Sizes { k: 2, c: 4, b: 4, words: 1024 }, budget: 1, start: 1 })
 $ ultra run a.elf --budget=4294967295
-Run(Run { file: "a.elf", trace: None, sweep: false, sizes: Sizes { k: 2, c: 4, b: 4, words: 1024 }, budget: 4294967295, start: 1 })
+Run(Run { file: "a.elf", trace: None, sweep: false, quiet: false, sizes: Sizes { k: 2, c: 4, b: 4, words: 1024 }, budget: 4294967295, start: 1 })
 $ ultra run --start 0 a.elf
-Run(Run { file: "a.elf", trace: None, sweep: false, sizes: Sizes { k: 2, c: 4, b: 4, words: 1024 }, budget: 10000000, start: 0 })
+Run(Run { file: "a.elf", trace: None, sweep: false, quiet: false, sizes: Sizes { k: 2, c: 4, b: 4, words: 1024 }, budget: 10000000, start: 0 })
 $ ultra run a.elf --start 4294967295
-Run(Run { file: "a.elf", trace: None, sweep: false, sizes: Sizes { k: 2, c: 4, b: 4, words: 1024 }, budget: 10000000, start: 4294967295 })
+Run(Run { file: "a.elf", trace: None, sweep: false, quiet: false, sizes: Sizes { k: 2, c: 4, b: 4, words: 1024 }, budget: 10000000, start: 4294967295 })
 $ ultra run --sweep a.elf
-Run(Run { file: "a.elf", trace: None, sweep: true, sizes: Sizes { k: 2, c: 4, b: 4, words: 1024 }, budget: 10000000, start: 1 })
+Run(Run { file: "a.elf", trace: None, sweep: true, quiet: false, sizes: Sizes { k: 2, c: 4, b: 4, words: 1024 }, budget: 10000000, start: 1 })
 $ ultra run a.elf --sweep
-Run(Run { file: "a.elf", trace: None, sweep: true, sizes: Sizes { k: 2, c: 4, b: 4, words: 1024 }, budget: 10000000, start: 1 })
+Run(Run { file: "a.elf", trace: None, sweep: true, quiet: false, sizes: Sizes { k: 2, c: 4, b: 4, words: 1024 }, budget: 10000000, start: 1 })
+$ ultra run --quiet a.elf
+Run(Run { file: "a.elf", trace: None, sweep: false, quiet: true, sizes: Sizes { k: 2, c: 4, b: 4, words: 1024 }, budget: 10000000, start: 1 })
+$ ultra run a.elf --quiet --sweep
+Run(Run { file: "a.elf", trace: None, sweep: true, quiet: true, sizes: Sizes { k: 2, c: 4, b: 4, words: 1024 }, budget: 10000000, start: 1 })
 $ ultra run --trace t a.elf
-Run(Run { file: "a.elf", trace: Some("t"), sweep: false, sizes: Sizes { k: 2, c: 4, b: 4, words: 1024 }, budget: 10000000, start: 1 })
+Run(Run { file: "a.elf", trace: Some("t"), sweep: false, quiet: false, sizes: Sizes { k: 2, c: 4, b: 4, words: 1024 }, budget: 10000000, start: 1 })
 $ ultra run a.elf --trace=t
-Run(Run { file: "a.elf", trace: Some("t"), sweep: false, sizes: Sizes { k: 2, c: 4, b: 4, words: 1024 }, budget: 10000000, start: 1 })
+Run(Run { file: "a.elf", trace: Some("t"), sweep: false, quiet: false, sizes: Sizes { k: 2, c: 4, b: 4, words: 1024 }, budget: 10000000, start: 1 })
 $ ultra run a.elf --trace=--t
-Run(Run { file: "a.elf", trace: Some("--t"), sweep: false, sizes: Sizes { k: 2, c: 4, b: 4, words: 1024 }, budget: 10000000, start: 1 })
+Run(Run { file: "a.elf", trace: Some("--t"), sweep: false, quiet: false, sizes: Sizes { k: 2, c: 4, b: 4, words: 1024 }, budget: 10000000, start: 1 })
 $ ultra run --trace sweep a.elf
-Run(Run { file: "a.elf", trace: Some("sweep"), sweep: false, sizes: Sizes { k: 2, c: 4, b: 4, words: 1024 }, budget: 10000000, start: 1 })
+Run(Run { file: "a.elf", trace: Some("sweep"), sweep: false, quiet: false, sizes: Sizes { k: 2, c: 4, b: 4, words: 1024 }, budget: 10000000, start: 1 })
 $ ultra run --k 3 -- --a
-Run(Run { file: "--a", trace: None, sweep: false, sizes: Sizes { k: 3, c: 4, b: 4, words: 1024 }, budget: 10000000, start: 1 })
+Run(Run { file: "--a", trace: None, sweep: false, quiet: false, sizes: Sizes { k: 3, c: 4, b: 4, words: 1024 }, budget: 10000000, start: 1 })
 $ ultra run -- --sweep
-Run(Run { file: "--sweep", trace: None, sweep: false, sizes: Sizes { k: 2, c: 4, b: 4, words: 1024 }, budget: 10000000, start: 1 })
+Run(Run { file: "--sweep", trace: None, sweep: false, quiet: false, sizes: Sizes { k: 2, c: 4, b: 4, words: 1024 }, budget: 10000000, start: 1 })
 $ ultra run --k 1 --c 2 --b 3 a.elf --words 4 --budget 5 --start 6 --sweep --trace 7
-Run(Run { file: "a.elf", trace: Some("7"), sweep: true, sizes: Sizes { k: 1, c: 2, b: 3, words: 4 }, budget: 5, start: 6 })
+Run(Run { file: "a.elf", trace: Some("7"), sweep: true, quiet: false, sizes: Sizes { k: 1, c: 2, b: 3, words: 4 }, budget: 5, start: 6 })
 $ ultra run --trace 7 --start 6 --budget 5 --words 4 --b 3 --c 2 --k 1 --sweep a.elf
-Run(Run { file: "a.elf", trace: Some("7"), sweep: true, sizes: Sizes { k: 1, c: 2, b: 3, words: 4 }, budget: 5, start: 6 })
+Run(Run { file: "a.elf", trace: Some("7"), sweep: true, quiet: false, sizes: Sizes { k: 1, c: 2, b: 3, words: 4 }, budget: 5, start: 6 })
 "#;
 
 /// What is wrong in other words.
