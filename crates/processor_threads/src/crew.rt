@@ -226,6 +226,7 @@ pub(crate) fn run_crew<
             let listening = start_listener(rt, scope, terms, listener);
             let fault = run_all(rt, scope, shared, terms, gate, &mut crew);
             terms.tell_end();
+            gate.over();
             let listener = match listening {
                 Ok(handle) => handle.join(rt),
                 Err(listener) => listener,

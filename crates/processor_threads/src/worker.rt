@@ -8,9 +8,13 @@ use crate::fault::RunFault;
 use crate::gate::Gate;
 use crate::hand::Hand;
 use crate::terms::Terms;
+use flat_machine::Event;
 use machine_passes::{Run, Shared};
 use shuffled::Arbiter;
 use std::sync::Wait;
+
+/// How many rounds a thread goes through between two times that it tells how far it is.
+const ROUNDS_TOLD: u32 = 1024;
 
 /// What the thread of a processor begins with.
 #[derive(Drop)]
@@ -64,12 +68,32 @@ impl<N: Run, A: Arbiter + Drop> Worker<N, A> {
         ensures processor { self.new.hand.pass.processor ≡ self.old.hand.pass.processor }
         ensures queue { end_queue self.new.hand.end ≡ end_queue self.old.hand.end }
     {
-        for _ in 0..terms.budget {
+        let mut told = 0;
+        for round in 0..terms.budget {
             if self.round(rt, shared, terms, gate)? {
+                self.tell(round % ROUNDS_TOLD + 1, told, gate);
                 return Ok(());
             }
+            if round % ROUNDS_TOLD == ROUNDS_TOLD - 1 {
+                told = self.tell(ROUNDS_TOLD, told, gate);
+            }
         }
+        self.tell(terms.budget % ROUNDS_TOLD, told, gate);
         Err(RunFault::Budget)
+    }
+
+    /// Tells the gate of further rounds, and of the instructions that were retired in them. So many were told before; answers how many
+    /// are told now.
+    fn tell<G: Gate>(&self, rounds: u32, told: u64, gate: &G) -> u64 {
+        let notices = self.hand.pass.notices();
+        // The stop of a processor is its last notice.
+        let stops = match notices.last() {
+            Some(notice) => u64::from(matches!(notice.event, Event::Stopped(_))),
+            None => 0,
+        };
+        let retired = (notices.len() as u64).saturating_sub(stops);
+        gate.gone(u64::from(rounds), retired.saturating_sub(told));
+        retired
     }
 
     /// One round: where a byte is held, it tries to put it, else it passes the gate and takes a turn; then it asks for a step of the

@@ -9,6 +9,7 @@ use crate::run::ran;
 use command_io::{Fault, print, tell};
 use flat_machine::Config;
 use link::LinkWrite;
+use processor_threads::Gate;
 use run_commands::{reported, save};
 use std::alloc::Global;
 use std::io::{Read, Write};
@@ -21,7 +22,8 @@ use std::thread::Threads;
 /// a trace is asked for, that of the run is written before the report.
 ///
 /// Which threads come first is left open, so another run may enter other steps. Those of this one have a serial order, which explains
-/// the report. The console column has the bytes that the threads have sent.
+/// the report. The console column has the bytes that the threads have sent. Threads pass the gate before their turns, and tell
+/// it how far they are; nothing here hangs on what it does.
 ///
 /// Answers the exit status: 0 where the report is printed, 1 where it is and a processor is faulted, else that of the fault that is told
 /// on standard error. A fault is told in this order: of the image, of the machine's size, of the run, of the trace, of the report. A run
@@ -31,6 +33,7 @@ pub fn threaded_run_command<
     T: LinkWrite,
     W: LinkWrite,
     E: Write,
+    G: Gate + Sync,
     R: Threads + Wait + Sync,
 >(
     rt: &R,
@@ -38,6 +41,7 @@ pub fn threaded_run_command<
     file: F,
     config: Config,
     start: u32,
+    gate: &G,
     budget: u32,
     trace: &mut Option<T>,
     out: &mut W,
@@ -51,19 +55,26 @@ pub fn threaded_run_command<
         (IsNoThreadedRun T.contents config (F.remaining file) trace.old trace.new (W.contents out.old) (W.contents out.new)) out.old out.new result }
     ensures failed { W.has_failed out.new ≡ true → result ≡ 3 }
 {
-    match carried_out(rt, alloc, file, config, start, budget, trace, out) {
+    match carried_out(rt, alloc, file, config, start, gate, budget, trace, out) {
         Ok(status) => status,
         Err(fault) => tell(fault, err),
     }
 }
 
 /// Carries the command out.
-fn carried_out<F: Read + Drop, T: LinkWrite, W: LinkWrite, R: Threads + Wait + Sync>(
+fn carried_out<
+    F: Read + Drop,
+    T: LinkWrite,
+    W: LinkWrite,
+    G: Gate + Sync,
+    R: Threads + Wait + Sync,
+>(
     rt: &R,
     alloc: Global,
     file: F,
     config: Config,
     start: u32,
+    gate: &G,
     budget: u32,
     trace: &mut Option<T>,
     out: &mut W,
@@ -77,7 +88,7 @@ fn carried_out<F: Read + Drop, T: LinkWrite, W: LinkWrite, R: Threads + Wait + S
     ensures told { IfErr result (IsNoThreadedRun T.contents config (F.remaining file) trace.old trace.new (W.contents out.old) (W.contents out.new)) }
     ensures silent { OnErr result (W.has_failed out.new ≡ false → out.new ≡ out.old) }
 {
-    let finished = ran(rt, alloc, file, config, start, budget)?;
+    let finished = ran(rt, alloc, file, config, start, gate, budget)?;
     let (text, status) = reported(alloc, &finished.log, Some(finished.consoles.as_slice()))?;
     save(trace, &config, finished.log.steps())?;
     print(out, text.as_str())?;

@@ -6,6 +6,8 @@
 #![tactic(auto)]
 
 mod command;
+mod progress;
 mod run;
 
 pub use command::threaded_run_command;
+pub use progress::Progress;

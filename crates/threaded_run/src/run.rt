@@ -11,7 +11,7 @@ use flat_machine::Config;
 use machine_log::{Logged, log_is_kept};
 use machine_passes::{Row, Run, events_are_listed, stopped_are_shut};
 use machine_runs::runs_are_serialized;
-use processor_threads::{Open, RunFault, run_threads};
+use processor_threads::{Gate, RunFault, run_threads};
 use run_commands::machine_of;
 use shuffled::Shuffled;
 use std::alloc::{AllocError, Global};
@@ -28,18 +28,19 @@ pub(crate) struct Finished {
     pub(crate) consoles: Vec<Vec<u8>>,
 }
 
-/// Runs the image that a file is on a machine of this size, on threads, so many rounds each at most.
+/// Runs the image that a file is on a machine of this size, on threads, so many rounds each at most. They pass the gate.
 ///
 /// # Errors
 ///
 /// [`Fault::Image`] where the file is refused or cannot be read, [`Fault::Size`] where the size is out of its limits, what the run ends
 /// with, and [`Fault::Memory`].
-pub(crate) fn ran<F: Read + Drop, R: Threads + Wait + Sync>(
+pub(crate) fn ran<F: Read + Drop, G: Gate + Sync, R: Threads + Wait + Sync>(
     rt: &R,
     alloc: Global,
     file: F,
     config: Config,
     start: u32,
+    gate: &G,
     budget: u32,
 ) -> Result<Finished, Fault>
     ensures ran { IfOk result (λ f. IsThreaded config (F.remaining file) f.log (map bytes_of f.consoles.items)) }
@@ -49,7 +50,7 @@ pub(crate) fn ran<F: Read + Drop, R: Threads + Wait + Sync>(
     let log = Logged::new(alloc, machine_of(alloc, image, config)?);
     let room = Room::new(alloc)?;
     let arbiters = arbiters(alloc, start, log.machine().config().processors())?;
-    threaded::<Brand, R>(rt, alloc, room, log, arbiters, budget)
+    threaded::<Brand, G, R>(rt, alloc, room, log, arbiters, gate, budget)
 }
 
 /// The arbiters of so many processors, in a run that begins with this number.
@@ -63,13 +64,14 @@ fn arbiters(alloc: Global, start: u32, processors: u8) -> Result<Vec<Shuffled>, 
     Ok(arbiters)
 }
 
-/// Runs a log that has no steps on threads, which no gate holds back.
-fn threaded<N: Run + Send + Sync, R: Threads + Wait + Sync>(
+/// Runs a log that has no steps on threads, which pass the gate.
+fn threaded<N: Run + Send + Sync, G: Gate + Sync, R: Threads + Wait + Sync>(
     rt: &R,
     alloc: Global,
     room: Room<Row>,
     log: Logged,
     arbiters: Vec<Shuffled>,
+    gate: &G,
     budget: u32,
 ) -> Result<Finished, Fault>
     requires room { room ≡ N.table }
@@ -80,7 +82,7 @@ fn threaded<N: Run + Send + Sync, R: Threads + Wait + Sync>(
     ensures ended { IfOk result (λ f. HasEnded N.opening f.log (map bytes_of f.consoles.items)) }
     ensures fault { IfErr result IsOfRun }
 {
-    let ended = run_threads::<N, Shuffled, Open, R>(rt, alloc, room, log, arbiters, &Open, budget);
+    let ended = run_threads::<N, Shuffled, G, R>(rt, alloc, room, log, arbiters, gate, budget);
     log_is_kept(&ended.logged);
     runs_are_serialized();
     events_are_listed();

@@ -21,37 +21,44 @@ use hunt_command::{Hunt as Hunted, hunt_command};
 use link::{LinkWrite, Meter};
 use order_command::order_command;
 use order_lines::Choice;
+use processor_threads::Open;
 use run_commands::{replay_command, run_command};
 use settings::{
     Asm, Explore, Hunt, Order, Replay, Run, Session, Settings, Sizes, settings, status_of,
 };
 use stats_command::stats_command;
 use std::alloc::{AllocError, Global};
-use std::io::{self, ErrorKind, Read, Write};
+use std::io::{self, ErrorKind, IsTerminal, Read, Write};
 use std::net::Net;
 use std::os::unix::fs::MetadataExt;
 use std::process::ExitCode;
 use std::rt::{Env, Files};
 use std::sync::Wait;
 use std::thread::Threads;
+use std::time::Clock;
 use std::{env, fs};
 use story_command::story_command;
-use threaded_run::threaded_run_command;
+use threaded_run::{Progress, threaded_run_command};
 use words_command::words_command;
 
 fn main(rt: HostRuntime) -> ExitCode {
     let (stdout, stderr) = (rt.stdout(), rt.stderr());
     let mut out = Meter::new(io::writer(&stdout));
-    let status = carry_out(&rt, &mut out, &mut io::writer(&stderr));
+    let status = carry_out(
+        &rt,
+        stderr.is_terminal(),
+        &mut out,
+        &mut io::writer(&stderr),
+    );
     ExitCode::from(status)
 }
 
-/// Does what the command line asks for, and answers the exit status.
-fn carry_out<R: Env + Files + Net + Threads + Wait + Sync + AllocGlobal, W: LinkWrite, E: Write>(
-    rt: &R,
-    out: &mut W,
-    err: &mut E,
-) -> u8
+/// Does what the command line asks for, and answers the exit status. Standard error may be a terminal.
+fn carry_out<
+    R: Env + Files + Net + Threads + Wait + Clock + Eprint + Sync + AllocGlobal,
+    W: LinkWrite,
+    E: Write,
+>(rt: &R, terminal: bool, out: &mut W, err: &mut E) -> u8
     requires works { W.has_failed out.old ≡ false }
 {
     let arguments = match env::args(rt) {
@@ -75,7 +82,7 @@ fn carry_out<R: Env + Files + Net + Threads + Wait + Sync + AllocGlobal, W: Link
             Ok(file) => dis_command(alloc, file, dis.words, out, err),
             Err(_) => tell(Fault::Link, err),
         },
-        Ok(Settings::Run(run)) => run_file(rt, &run, out, err),
+        Ok(Settings::Run(run)) => run_file(rt, &run, terminal, out, err),
         Ok(Settings::Replay(replay)) => replay_file(rt, &replay, out, err),
         Ok(Settings::Order(order)) => order_file(rt, &order, out, err),
         Ok(Settings::Debug(session)) => debug_file(rt, &session, out, err),
@@ -110,12 +117,11 @@ fn assemble_file<R: Files + AllocGlobal, E: Write>(rt: &R, asm: &Asm<'_>, err: &
 }
 
 /// Does what `run FILE` asks for. OUT is opened by the first write to it.
-fn run_file<R: Files + Threads + Wait + Sync + AllocGlobal, W: LinkWrite, E: Write>(
-    rt: &R,
-    run: &Run<'_>,
-    out: &mut W,
-    err: &mut E,
-) -> u8
+fn run_file<
+    R: Files + Threads + Wait + Clock + Eprint + Sync + AllocGlobal,
+    W: LinkWrite,
+    E: Write,
+>(rt: &R, run: &Run<'_>, terminal: bool, out: &mut W, err: &mut E) -> u8
     requires works { W.has_failed out.old ≡ false }
 {
     if run.trace.is_some_and(|out| are_one_file(rt, run.file, out)) {
@@ -128,23 +134,31 @@ fn run_file<R: Files + Threads + Wait + Sync + AllocGlobal, W: LinkWrite, E: Wri
         Some(path) => {
             let writer = OnFirstWrite::new(CreateAt { files: rt, path });
             let mut trace = Some(Meter::new(writer));
-            run_image(rt, file, run, &mut trace, out, err)
+            run_image(rt, file, run, terminal, &mut trace, out, err)
         }
         None => {
             let mut trace: Option<Meter<Vec<u8>>> = None;
-            run_image(rt, file, run, &mut trace, out, err)
+            run_image(rt, file, run, terminal, &mut trace, out, err)
         }
     }
 }
 
-/// Runs an image: on threads, or by the sweep.
+/// Runs an image: on threads, or by the sweep. How far the threads are is told on a terminal.
 fn run_image<
     F: Read + Drop,
     T: LinkWrite,
-    R: Threads + Wait + Sync + AllocGlobal,
+    R: Threads + Wait + Clock + Eprint + Sync + AllocGlobal,
     W: LinkWrite,
     E: Write,
->(rt: &R, file: F, run: &Run<'_>, trace: &mut Option<T>, out: &mut W, err: &mut E) -> u8
+>(
+    rt: &R,
+    file: F,
+    run: &Run<'_>,
+    terminal: bool,
+    trace: &mut Option<T>,
+    out: &mut W,
+    err: &mut E,
+) -> u8
     requires saves { IsWorking T.has_failed trace.old }
     requires works { W.has_failed out.old ≡ false }
 {
@@ -152,9 +166,14 @@ fn run_image<
     let config = config_of(&run.sizes);
     if run.sweep {
         run_command(alloc, file, config, run.budget, trace, out, err)
+    } else if terminal && !run.quiet {
+        let gate = Progress::new(rt, rt);
+        threaded_run_command(
+            rt, alloc, file, config, run.start, &gate, run.budget, trace, out, err,
+        )
     } else {
         threaded_run_command(
-            rt, alloc, file, config, run.start, run.budget, trace, out, err,
+            rt, alloc, file, config, run.start, &Open, run.budget, trace, out, err,
         )
     }
 }

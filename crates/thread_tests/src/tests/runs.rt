@@ -7,6 +7,7 @@ mod reports;
 use assembler::assemble;
 use flat_machine::Config;
 use link::Meter;
+use processor_threads::Open;
 use run_commands::replay_command;
 use std::alloc::Global;
 use std::sync::Wait;
@@ -54,7 +55,7 @@ fn run<R: Threads + Wait + Sync>(
     let mut err = Vec::new(alloc);
     let mut trace = Some(Meter::new(Vec::new(alloc)));
     let status = threaded_run_command(
-        rt, alloc, image, config, 1, budget, &mut trace, &mut out, &mut err,
+        rt, alloc, image, config, 1, &Open, budget, &mut trace, &mut out, &mut err,
     );
     let trace = match trace {
         Some(trace) => trace.device,

@@ -5,6 +5,7 @@ ghost use Rattle.std.specs.Prelude.{◌≡◌, false};
 use super::{AMPLE, Ran, image_of, run, size};
 use flat_machine::Config;
 use link::{Link, Meter};
+use processor_threads::Open;
 use std::alloc::Global;
 use std::process::Abort;
 use std::test::Fail;
@@ -79,6 +80,7 @@ fn tells_what_cannot_be_written(rt: HostRuntime) {
             EBREAK.as_slice(),
             size(0),
             1,
+            &Open,
             AMPLE,
             &mut trace,
             &mut out,
@@ -104,6 +106,7 @@ fn is_short_of_memory(rt: HostRuntime) -> Result<(), Fail> {
         file,
         size(0),
         1,
+        &Open,
         AMPLE,
         &mut trace,
         &mut out,
