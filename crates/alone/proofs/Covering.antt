@@ -1,5 +1,5 @@
 -- A closed set of settled states has, for each state of the flat machine, the one that it settles to.
-use Rattle.std.proofs.Common.{◌≡◌, ◌≢◌, ℕ, Bool, true, false, List, [], ◌∷◌, Option, Some, None, refl, sym, ap, subst, ◌∙◌}
+use Rattle.std.proofs.Common.{◌≡◌, ◌≢◌, ℕ, Bool, true, false, suc, List, [], ◌∷◌, Option, Some, None, refl, sym, ap, subst, ◌∙◌}
 use Rattle.std.specs.Prelude.{slice_get}
 use Rattle.flat_machine.specs.declared.setting.Setting.{Setting}
 use Rattle.flat_machine.specs.declared.event.Event.{Event}
@@ -9,29 +9,33 @@ use Rattle.flat_machine.specs.State.{FlatState, Processor, is_running, setting_o
 use Rattle.flat_machine.specs.Turns.{Turn, Retires, Reaches, Stops, turn_of}
 use Rattle.flat_machine.specs.Flat.{taken, with_taken, flat_step, flat_run, flat_events}
 use Rattle.alone.specs.Stations.{printed_after, consoles_after, turns, Station, behind, stopped_by, alone_by, IsReference, IsSettled}
-use Rattle.alone.specs.Closing.{IsAlike, IsForgetful, Standing, IsIn, IsMove, IsClosed, station_of, Settles, IsKeptOf, HasStopped}
+use Rattle.alone.specs.Closing.{IsAlike, IsForgetful, Standing, IsIn, IsMove, IsClosed, MayMove, station_of, Settles, IsKeptOf, HasStopped}
 use Rattle.alone.proofs.Settling.{settled_stays, one_events, stepped, showed, stays, silent, absent, absent_silent, console_here, console_other, consoles_more}
-use Rattle.alone.proofs.Settling.{own_kept, reach_kept}
+use Rattle.alone.proofs.Settling.{SettlesIn, counted, uncounted, put, own_counted, reach_counted}
 
 -- ---- one turn of the flat machine, from a state that settles to s
 
-module _ (at : ℕ → Setting) (code : List ℕ) (kept : Station → Station) (m : FlatState) (consoles : ℕ → List ℕ) (s : Standing) (k : ℕ)
-    (h : Settles at code kept m consoles s) where
+module _ (at : ℕ → Setting) (code : List ℕ) (kept : Station → Station) (m : FlatState) (consoles : ℕ → List ℕ) (counts : ℕ → ℕ) (s : Standing) (k : ℕ)
+    (h : SettlesIn at code kept m consoles counts s) where
   abbrev later : ℕ → List ℕ
   later = consoles_after consoles (one_events m k)
 
-  abbrev SettlesTo : Standing → Type 0
-  SettlesTo t = Settles at code kept (flat_step m (entry.Processor k)) (consoles_after consoles (one_events m k)) t
+  abbrev SettlesTo : (ℕ → ℕ) → Standing → Type 0
+  SettlesTo c t = SettlesIn at code kept (flat_step m (entry.Processor k)) (consoles_after consoles (one_events m k)) c t
 
   -- where it takes no turn
   pub idle_turn : flat_step m (entry.Processor k) ≡ m → one_events m k ≡ [] →
-      Settles at code kept (flat_step m (entry.Processor k)) (consoles_after consoles (one_events m k)) s
+      SettlesIn at code kept (flat_step m (entry.Processor k)) (consoles_after consoles (one_events m k)) counts s
   idle_turn same none =
-      subst (λ (z : FlatState × List (ℕ × Event)). Settles at code kept z.0 (consoles_after consoles z.1) s) (λ i. (sym same i, sym none i)) h
+      subst (λ (z : FlatState × List (ℕ × Event)). SettlesIn at code kept z.0 (consoles_after consoles z.1) counts s) (λ i. (sym same i, sym none i)) h
 
   module _ (p : Processor) (there : slice_get m.processors k ≡ Some p) (runs : is_running p.status ≡ true) where
     abbrev mine : Station
     mine = station_of p (consoles k)
+
+    -- it is settled one turn nearer
+    abbrev Nearer : Type 0
+    Nearer = (n : ℕ) × (counts k ≡ suc n) × SettlesTo (put counts k n) s
 
     turn_is : (x : Turn) → turn_of (at k) code p ≡ x → turn_of (setting_of m k) m.code p ≡ x
     turn_is x e = let same : turn_of (setting_of m k) m.code p ≡ turn_of (at k) code p = λ i. turn_of (h.settings k i) (h.code_is i) p in same ∙ e
@@ -48,23 +52,26 @@ module _ (at : ℕ → Setting) (code : List ℕ) (kept : Station → Station) (
     others : (x : Turn) → turn_of (at k) code p ≡ x → (j : ℕ) → j ≢ k → later j ≡ consoles j
     others x e j ne = ap (λ es. consoles_after consoles es j) (shows x e) ∙ console_other consoles k (taken p m.shared x).2 j ne
 
-    pub retiring_turn : (q : Processor) (r : Retired) → turn_of (at k) code p ≡ Retires q r → SettlesTo s
+    pub retiring_turn : (q : Processor) (r : Retired) → turn_of (at k) code p ≡ Retires q r → Nearer
     retiring_turn q r e =
-        subst (λ n. Settles at code kept n later s) (sym (becomes (Retires q r) e))
-        (own_kept at code kept m consoles s k p later h there (others (Retires q r) e) (behind mine (q, r)) runs (λ w. subst IsReference e w)
-        (ap (alone_by mine) e)
-        (printed (Retires q r) e))
+        let near = own_counted at code kept m consoles s k p later counts h there (others (Retires q r) e) (behind mine (q, r)) runs
+        (λ w. subst IsReference e w) (ap (alone_by mine) e) (printed (Retires q r) e) in
+        (near.0, near.1, subst (λ n. SettlesIn at code kept n later (put counts k near.0) s) (sym (becomes (Retires q r) e)) near.2)
 
-    pub stopping_turn : (c : _) → turn_of (at k) code p ≡ Stops c → SettlesTo s
+    pub stopping_turn : (c : _) → turn_of (at k) code p ≡ Stops c → Nearer
     stopping_turn c e =
-        subst (λ n. Settles at code kept n later s) (sym (becomes (Stops c) e))
-        (own_kept at code kept m consoles s k p later h there (others (Stops c) e) (stopped_by mine c) runs (λ w. subst IsReference e w) (ap (alone_by mine) e)
-        (printed (Stops c) e))
+        let near = own_counted at code kept m consoles s k p later counts h there (others (Stops c) e) (stopped_by mine c) runs
+        (λ w. subst IsReference e w) (ap (alone_by mine) e) (printed (Stops c) e) in
+        (near.0, near.1, subst (λ n. SettlesIn at code kept n later (put counts k near.0) s) (sym (becomes (Stops c) e)) near.2)
+
+    -- the station of a processor that is about to refer to a word
+    pub settled_there : IsSettled (at k) code p → slice_get s.stations k ≡ Some (kept (station_of p (consoles k)))
+    settled_there settled = (h.each k p there).0 ∙ ap (λ z. Some (kept z)) (settled_stays (counts k) (at k) code mine settled)
 
     -- by a move that another station, of which the same is kept, makes
     pub reaching_turn : (f : IsForgetful at code kept) (word : ℕ) (change : ℕ → ℕ) (after : ℕ → Processor × Retired) →
         turn_of (at k) code p ≡ Reaches word change after →
-        (t : Standing) → IsMove at code kept s k t → SettlesTo t
+        (t : Standing) (move : IsMove at code kept s k t) → SettlesTo (put counts k move.count) t
     reaching_turn f word change after e t move =
         by_turn (turn_of (at k) code move.station.processor) refl
         (subst (λ a. IsAlike kept a mine (turn_of (at k) code a.processor) (Reaches word change after)) is
@@ -74,24 +81,39 @@ module _ (at : ℕ → Setting) (code : List ℕ) (kept : Station → Station) (
         settled = λ _. subst IsReference (sym e) tt
 
         is : kept (station_of p (consoles k)) ≡ move.station
-        is =
-            let stood = h.each k p there in
-            let there_s : slice_get s.stations k ≡ Some (kept mine) = stood.1 ∙ ap (λ z. Some (kept z)) (settled_stays stood.0 (at k) code mine settled) in
-            (let same : Some (kept mine) ≡ Some move.station = sym there_s ∙ move.there in cc)
+        is = let same : Some (kept mine) ≡ Some move.station = sym (settled_there settled) ∙ move.there in cc
 
         alike_to : (x : Turn) → x ≡ Reaches move.word move.change move.after → IsAlike kept move.station mine x (Reaches word change after) →
             IsAlike kept move.station mine (Reaches move.word move.change move.after) (Reaches word change after)
         alike_to x same alike = subst (λ y. IsAlike kept move.station mine y (Reaches word change after)) same alike
 
         by_turn : (x : Turn) → turn_of (at k) code move.station.processor ≡ x →
-            IsAlike kept move.station mine (turn_of (at k) code move.station.processor) (Reaches word change after) → SettlesTo t
+            IsAlike kept move.station mine (turn_of (at k) code move.station.processor) (Reaches word change after) → SettlesTo (put counts k move.count) t
         by_turn x _ alike0 =
             let alike = alike_to (turn_of (at k) code move.station.processor) move.turn alike0 in
             let e' : turn_of (at k) code p ≡ Reaches move.word move.change after = e ∙ (λ i. Reaches (sym alike.0 i) (sym alike.1 i) after) in
-            let done = reach_kept at code kept m consoles s k p later h there (others (Reaches move.word move.change after) e') f move.word move.change after
-            (λ x. behind move.station (move.after x)) move.count alike.2 move.settled (printed (Reaches move.word move.change after) e') in
-            subst (λ n. Settles at code kept n later t) (sym (becomes (Reaches move.word move.change after) e'))
-            (subst (λ u. Settles at code kept (with_taken m k (taken p m.shared (Reaches move.word move.change after))) later u) (sym move.leaves) done)
+            let done = reach_counted at code kept m consoles s k p later counts h there (others (Reaches move.word move.change after) e') f move.word
+            move.change after (λ x. behind move.station (move.after x)) move.count alike.2 move.settled
+            (printed (Reaches move.word move.change after) e') in
+            subst (λ n. SettlesIn at code kept n later (put counts k move.count) t) (sym (becomes (Reaches move.word move.change after) e'))
+            (subst (λ u. SettlesIn at code kept (with_taken m k (taken p m.shared (Reaches move.word move.change after))) later (put counts k move.count) u)
+            (sym move.leaves) done)
+
+    -- a settled processor may move
+    pub may_move : (f : IsForgetful at code kept) (word : ℕ) (change : ℕ → ℕ) (after : ℕ → Processor × Retired) →
+        turn_of (at k) code p ≡ Reaches word change after → MayMove at code s k
+    may_move f word change after e = record {
+      station = kept mine;
+      there = settled_there (λ _. subst IsReference (sym e) tt);
+      runs = f.running mine ∙ runs;
+      refers = refers (turn_of (at k) code (kept mine).processor)
+          (subst (IsAlike kept (kept mine) mine (turn_of (at k) code (kept mine).processor)) e (f.turn k mine runs));
+    }
+      where
+        refers : (x : Turn) → IsAlike kept (kept mine) mine x (Reaches word change after) → IsReference x
+        refers (Retires q r) alike = absurd alike
+        refers (Reaches v c i) alike = tt
+        refers (Stops c) alike = absurd alike
 
 -- ---- runs
 
@@ -103,34 +125,45 @@ module _ (at : ℕ → Setting) (code : List ℕ) (kept : Station →
   covered_step : (m : FlatState) (consoles : ℕ → List ℕ) (s : Standing) (k : ℕ) → IsIn states s → Settles at code kept m consoles s →
       Covered (flat_step m (entry.Processor k)) (consoles_after consoles (one_events m k))
   unfolding Covered
-  covered_step m consoles s k inside h = by_processor (slice_get m.processors k) refl
+  covered_step m consoles s k inside settles = by_processor (slice_get m.processors k) refl
     where
+      both : (counts : ℕ → ℕ) × SettlesIn at code kept m consoles counts s
+      both = counted at code kept m consoles s settles
+
+      h : SettlesIn at code kept m consoles both.0 s
+      h = both.1
+
+      stays_in : (t : Standing) → IsIn states t → (c : ℕ → ℕ) →
+          SettlesIn at code kept (flat_step m (entry.Processor k)) (consoles_after consoles (one_events m k)) c t →
+          Covered (flat_step m (entry.Processor k)) (consoles_after consoles (one_events m k))
+      stays_in t within c there = (t, within, uncounted at code kept (flat_step m (entry.Processor k)) (consoles_after consoles (one_events m k)) t c there)
+
       by_turn : (p : Processor) → slice_get m.processors k ≡ Some p → is_running p.status ≡ true → (x : Turn) → turn_of (at k) code p ≡ x →
           Covered (flat_step m (entry.Processor k)) (consoles_after consoles (one_events m k))
-      by_turn p there runs (Retires q r) e = (s, inside, retiring_turn at code kept m consoles s k h p there runs q r e)
-      by_turn p there runs (Stops c) e = (s, inside, stopping_turn at code kept m consoles s k h p there runs c e)
+      by_turn p there runs (Retires q r) e =
+          let near = retiring_turn at code kept m consoles both.0 s k h p there runs q r e in
+          stays_in s inside (put both.0 k near.0) near.2
+      by_turn p there runs (Stops c) e =
+          let near = stopping_turn at code kept m consoles both.0 s k h p there runs c e in
+          stays_in s inside (put both.0 k near.0) near.2
       by_turn p there runs (Reaches word change after) e =
-          let mine = station_of p (consoles k) in
-          let settled : IsSettled (at k) code p = λ _. subst IsReference (sym e) tt in
-          let stood = h.each k p there in
-          let there_s : slice_get s.stations k ≡ Some (kept mine) = stood.1 ∙ ap (λ z. Some (kept z)) (settled_stays stood.0 (at k) code mine settled) in
-          let next = closed s k (kept mine) inside there_s (f.running mine ∙ runs) (refers mine word change after (turn_of (at k) code (kept mine).processor)
-          (subst (IsAlike kept (kept mine) mine (turn_of (at k) code (kept mine).processor)) e (f.turn k mine runs))) in
-          (next.0, next.2, reaching_turn at code kept m consoles s k h p there runs f word change after e next.0 next.1)
-        where
-          refers : (b : Station) (w : ℕ) (d : ℕ → ℕ) (g : ℕ → Processor × Retired) (x : Turn) → IsAlike kept (kept b) b x (Reaches w d g) → IsReference x
-          refers b w d g (Retires q r) alike = absurd alike
-          refers b w d g (Reaches v c i) alike = tt
-          refers b w d g (Stops c) alike = absurd alike
+          let may = may_move at code kept m consoles both.0 s k h p there runs f word change after e in
+          let next = closed s k may.station inside may.there may.runs may.refers in
+          stays_in next.0 next.2 (put both.0 k next.1.count)
+          (reaching_turn at code kept m consoles both.0 s k h p there runs f word change after e next.0 next.1)
 
       by_running : (p : Processor) → slice_get m.processors k ≡ Some p → (b : Bool) → is_running p.status ≡ b →
           Covered (flat_step m (entry.Processor k)) (consoles_after consoles (one_events m k))
       by_running p there true runs = by_turn p there runs (turn_of (at k) code p) refl
-      by_running p there false stopped = (s, inside, idle_turn at code kept m consoles s k h (stays m k p there stopped) (silent m k p there stopped))
+      by_running p there false stopped =
+          stays_in s inside both.0
+          (idle_turn at code kept m consoles both.0 s k h (stays m k p there stopped) (silent m k p there stopped))
 
       by_processor : (o : Option Processor) → slice_get m.processors k ≡ o →
           Covered (flat_step m (entry.Processor k)) (consoles_after consoles (one_events m k))
-      by_processor None none = (s, inside, idle_turn at code kept m consoles s k h (absent m k none) (absent_silent m k none))
+      by_processor None none =
+          stays_in s inside both.0
+          (idle_turn at code kept m consoles both.0 s k h (absent m k none) (absent_silent m k none))
       by_processor (Some p) there = by_running p there (is_running p.status) refl
 
   covered_run : (order : List ℕ) (m : FlatState) (consoles : ℕ → List ℕ) (s : Standing) → IsIn states s → Settles at code kept m consoles s →
@@ -173,3 +206,10 @@ ends_are_in at code kept states m consoles s order f closed inside h stopped =
       settled_kept at code kept (flat_run m (turns order)) (consoles_after consoles (flat_events m (turns order))) last.0 last.2
           (stopped_settled at code (flat_run m (turns order)) stopped),
     )
+
+pub not_left : (at : ℕ → Setting) (code : List ℕ) (kept : Station → Station) (states : List Standing) (m : FlatState) (consoles : ℕ →
+    List ℕ) (s : Standing) (order : List ℕ) →
+    IsForgetful at code kept → IsClosed at code kept states → IsIn states s → Settles at code kept m consoles s →
+    (t : Standing) × IsIn states t × Settles at code kept (flat_run m (turns order)) (consoles_after consoles (flat_events m (turns order))) t
+unfolding Covered
+not_left at code kept states m consoles s order f closed inside h = covered_run at code kept f states closed order m consoles s inside h

@@ -2,3 +2,4 @@ pub mod Settling
 pub mod Covering
 pub mod Reaching
 pub mod Forgetting
+pub mod Bounding

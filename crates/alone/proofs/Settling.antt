@@ -1,5 +1,6 @@
 -- What a turn of one processor leaves of the state to which the flat machine settles.
-use Rattle.std.proofs.Common.{◌≡◌, ◌≢◌, ◌⊎◌, inl, inr, ℕ, ◌<◌, Bool, true, false, cond, zero, suc, List, [], ◌∷◌, ◌++◌, Some, None, length, refl, sym, ap}
+use Rattle.std.proofs.Common.{◌≡◌, ◌≢◌, ◌⊎◌, inl, inr, ℕ, ◌<◌, Bool, true, false, cond, zero, suc, List, [], ◌∷◌, ◌++◌, Option, Some, None, length, refl, sym}
+use Rattle.std.proofs.Common.{ap}
 use Rattle.std.proofs.Common.{subst, ◌∙◌, arith, eqb, eq-eqb, ne_eqb}
 use Rattle.std.specs.Prelude.{slice_get, slice_set, slice_index}
 use Rattle.std.proofs.lemmas.List.{length-set}
@@ -80,6 +81,15 @@ pub showed : (m : FlatState) (k : ℕ) (p : Processor) → slice_get m.processor
 unfolding flat_event
 showed m k p there runs = ap (λ o. with_processor_number (entry.Processor k) (turn_event m k o)) there ∙ rw runs refl
 
+pub one_event : (m : FlatState) (k : ℕ) (p : Processor) → slice_get m.processors k ≡ Some p → is_running p.status ≡ true → length (one_events m k) ≡ 1
+one_event m k p there runs = ap length (showed m k p there runs)
+
+pub one_length : (m : FlatState) (k : ℕ) (p : Processor) → slice_get m.processors k ≡ Some p → is_running p.status ≡ true →
+    length (flat_step m (entry.Processor k)).processors ≡ length m.processors
+one_length m k p there runs =
+    ap (λ (z : FlatState). length z.processors) (stepped m k p there runs)
+    ∙ length-set m.processors k (taken p m.shared (turn_of (setting_of m k) m.code p)).0
+
 pub stays : (m : FlatState) (k : ℕ) (p : Processor) → slice_get m.processors k ≡ Some p → is_running p.status ≡ false → flat_step m (entry.Processor k) ≡ m
 unfolding flat_step
 stays m k p there stopped = ap (turned m k) there ∙ rw stopped refl
@@ -112,6 +122,18 @@ console_more k console ((j, e) ∷ first) second = console_more k (cond (eqb j k
 pub consoles_more : (consoles : ℕ → List ℕ) (first second : List (ℕ × Event)) →
     consoles_after consoles (first ++ second) ≡ consoles_after (consoles_after consoles first) second
 consoles_more consoles first second = λ i k. console_more k (consoles k) first second i
+
+-- ---- numbers of turns
+
+-- the numbers with the one of k put in
+abbrev pub put : (counts : ℕ → ℕ) → (k n : ℕ) → ℕ → ℕ
+put counts k n j = cond (eqb j k) n (counts j)
+
+pub put_here : (counts : ℕ → ℕ) (k n : ℕ) → put counts k n k ≡ n
+put_here counts k n = ap (λ b. cond b n (counts k)) (eq-eqb k k refl)
+
+pub put_other : (counts : ℕ → ℕ) (k n j : ℕ) → j ≢ k → put counts k n j ≡ counts j
+put_other counts k n j ne = ap (λ b. cond b n (counts j)) (ne_eqb j k ne)
 
 -- ---- what is forgotten
 
@@ -195,66 +217,110 @@ module _ (at : ℕ → Setting) (code : List ℕ) (kept : Station → Station) w
       let same : setting_of n k ≡ setting_of m k = λ i. record { number = k; processors = ps i; shared_words = ws i } in
       same ∙ h k
 
-  -- s has at j what the station a becomes alone
-  Stands : Standing → ℕ → Station → Type 0
-  Stands s j a = (n : ℕ) × (slice_get s.stations j ≡ Some (kept (alone n (at j) code a))) × IsSettled (at j) code (alone n (at j) code a).processor
+  -- s has at j what the station a becomes in so many turns alone
+  abbrev pub StandsIn : Standing → (j n : ℕ) → Station → Type 0
+  StandsIn s j n a = (slice_get s.stations j ≡ Some (kept (alone n (at j) code a))) × IsSettled (at j) code (alone n (at j) code a).processor
 
-  stands_same : (s : Standing) (j k : ℕ) (a b : Station) → k ≡ j → b ≡ a → Stands s k b → Stands s j a
-  stands_same s j k a b jk ab x = subst (λ (z : ℕ × Station). Stands s z.0 z.1) (λ i. (jk i, ab i)) x
+  stands_same : (s : Standing) (j i n o : ℕ) (a b : Station) → i ≡ j → o ≡ n → b ≡ a → StandsIn s i o b → StandsIn s j n a
+  stands_same s j i n o a b ij on ab x = subst (λ (z : (ℕ × ℕ) × Station). StandsIn s z.0.0 z.0.1 z.1) (λ d. ((ij d, on d), ab d)) x
+
+  -- The flat machine settles to the state, each processor by so many turns alone.
+  pub record SettlesIn (m : FlatState) (consoles : ℕ → List ℕ) (counts : ℕ → ℕ) (s : Standing) : Type 0 where
+    pub settings : (k : ℕ) → setting_of m k ≡ at k
+    pub code_is : m.code ≡ code
+    pub shared : s.shared ≡ m.shared
+    pub all : length s.stations ≡ length m.processors
+    pub each : (k : ℕ) (p : Processor) → slice_get m.processors k ≡ Some p → StandsIn s k (counts k) (station_of p (consoles k))
+
+  module _ (m : FlatState) (consoles : ℕ → List ℕ) (s : Standing) where
+    pub uncounted : (counts : ℕ → ℕ) → SettlesIn m consoles counts s → Settles at code kept m consoles s
+    uncounted counts h = record {
+      settings = h.settings;
+      code_is = h.code_is;
+      shared = h.shared;
+      all = h.all;
+      each = λ k p e. (counts k, (h.each k p e).0, (h.each k p e).1);
+    }
+
+    pub counted : Settles at code kept m consoles s → (counts : ℕ → ℕ) × SettlesIn m consoles counts s
+    counted h = (
+      λ k. (pick k (slice_get m.processors k) refl).0,
+      record {
+        settings = h.settings;
+        code_is = h.code_is;
+        shared = h.shared;
+        all = h.all;
+        each = λ k p e. (pick k (slice_get m.processors k) refl).1 p e;
+      },
+    )
+      where
+        pick : (k : ℕ) (o : Option Processor) → slice_get m.processors k ≡ o →
+            (n : ℕ) × ((p : Processor) → slice_get m.processors k ≡ Some p →
+            (slice_get s.stations k ≡ Some (kept (alone n (at k) code (station_of p (consoles k)))))
+            × IsSettled (at k) code (alone n (at k) code (station_of p (consoles k))).processor)
+        pick k None none = (zero, λ p e. absurd (cc))
+        pick k (Some q) there =
+            let x = h.each k q there in (
+              x.0,
+              λ p e. subst (λ r. (slice_get s.stations k ≡ Some (kept (alone x.0 (at k) code (station_of r (consoles k)))))
+                  × IsSettled (at k) code (alone x.0 (at k) code (station_of r (consoles k))).processor) (some_inj q p (sym there ∙ e)) (x.1, x.2),
+            )
 
   -- what a turn alone leaves is on its way to where it was before
-  on_its_way : (s : Standing) (k : ℕ) (a b : Station) → is_running a.processor.status ≡ true → (IsReference (turn_of (at k) code a.processor) → ⊥) →
-      alone_by a (turn_of (at k) code a.processor) ≡ b → Stands s k a → Stands s k b
-  unfolding Stands
-  on_its_way s k a b runs own is x = by_count x.0 x.1 x.2
-    where
-      once : alone_once (at k) code a ≡ b
-      once = rw runs is
+  on_its_way : (s : Standing) (k n : ℕ) (a b : Station) → is_running a.processor.status ≡ true → (IsReference (turn_of (at k) code a.processor) → ⊥) →
+      alone_by a (turn_of (at k) code a.processor) ≡ b → StandsIn s k n a → (i : ℕ) × (n ≡ suc i) × StandsIn s k i b
+  on_its_way s k zero a b runs own is x = absurd (own (x.1 runs))
+  on_its_way s k (suc n) a b runs own is x =
+      let once : alone_once (at k) code a ≡ b = rw runs is in
+      (n, refl, (x.0 ∙ ap (λ z. Some (kept (alone n (at k) code z))) once, subst (λ z. IsSettled (at k) code (alone n (at k) code z).processor) once x.1))
 
-      by_count : (n : ℕ) → slice_get s.stations k ≡ Some (kept (alone n (at k) code a)) → IsSettled (at k) code (alone n (at k) code a).processor →
-          (n : ℕ) × (slice_get s.stations k ≡ Some (kept (alone n (at k) code b))) × IsSettled (at k) code (alone n (at k) code b).processor
-      by_count zero there settled = absurd (own (settled runs))
-      by_count (suc n) there settled =
-          (n, there ∙ ap (λ z. Some (kept (alone n (at k) code z))) once, subst (λ z. IsSettled (at k) code (alone n (at k) code z).processor) once settled)
-
-  module _ (m : FlatState) (consoles : ℕ → List ℕ) (s : Standing) (k : ℕ) (p : Processor) (later : ℕ → List ℕ)
-      (h : Settles at code kept m consoles s) (there : slice_get m.processors k ≡ Some p) (others : (j : ℕ) → j ≢ k → later j ≡ consoles j) where
+  module _ (m : FlatState) (consoles : ℕ → List ℕ) (s : Standing) (k : ℕ) (p : Processor) (later : ℕ → List ℕ) (counts : ℕ → ℕ)
+      (h : SettlesIn m consoles counts s) (there : slice_get m.processors k ≡ Some p) (others : (j : ℕ) → j ≢ k → later j ≡ consoles j) where
     abbrev here : Station
     here = station_of p (consoles k)
 
-    pub own_kept : (b : Station) → is_running p.status ≡ true → (IsReference (turn_of (at k) code p) → ⊥) → alone_by here (turn_of (at k) code p) ≡ b →
-        later k ≡ b.console → Settles at code kept (record m { processors = slice_set m.processors k b.processor; shared = m.shared }) later s
-    unfolding Stands
-    own_kept b runs own is printed =
-        let long : length (slice_set m.processors k b.processor) ≡ length m.processors = simp length-set in
-        record {
-          settings = settings_kept m (record m { processors = slice_set m.processors k b.processor; shared = m.shared }) h.settings long refl;
-          code_is = h.code_is;
-          shared = h.shared;
-          all = h.all ∙ sym long;
-          each = λ j y e. by_place j y (set_get m.processors k j b.processor y e);
-        }
+    pub own_counted : (b : Station) → is_running p.status ≡ true → (IsReference (turn_of (at k) code p) → ⊥) → alone_by here (turn_of (at k) code p) ≡ b →
+        later k ≡ b.console →
+        (n : ℕ) × (counts k ≡ suc n)
+        × SettlesIn (record m { processors = slice_set m.processors k b.processor; shared = m.shared }) later (put counts k n) s
+    own_counted b runs own is printed = (
+      went.0,
+      went.1,
+      record {
+        settings = settings_kept m (record m { processors = slice_set m.processors k b.processor; shared = m.shared }) h.settings long refl;
+        code_is = h.code_is;
+        shared = h.shared;
+        all = h.all ∙ sym long;
+        each = λ j y e. by_place j y (set_get m.processors k j b.processor y e);
+      },
+    )
       where
-        by_place : (j : ℕ) (y : Processor) → ((j ≡ k) × (y ≡ b.processor)) ⊎ ((j ≢ k) × (slice_get m.processors j ≡ Some y)) →
-            Stands s j (station_of y (later j))
-        by_place j y (inl x) =
-            stands_same s j k (station_of y (later j)) b (sym x.0) (λ i. station_of (sym x.1 i) ((sym printed ∙ ap later (sym x.0)) i))
-            (on_its_way s k here b runs own is (h.each k p there))
-        by_place j y (inr x) =
-            stands_same s j j (station_of y (later j)) (station_of y (consoles j)) refl (ap (station_of y) (sym (others j x.0))) (h.each j y x.1)
+        long : length (slice_set m.processors k b.processor) ≡ length m.processors
+        long = simp length-set
 
-    pub reach_kept : (f : IsForgetful at code kept) (word : ℕ) (change : ℕ → ℕ) (after : ℕ → Processor × Retired) (other : ℕ → Station) (n : ℕ) →
+        went : (i : ℕ) × (counts k ≡ suc i) × StandsIn s k i b
+        went = on_its_way s k (counts k) here b runs own is (h.each k p there)
+
+        by_place : (j : ℕ) (y : Processor) → ((j ≡ k) × (y ≡ b.processor)) ⊎ ((j ≢ k) × (slice_get m.processors j ≡ Some y)) →
+            StandsIn s j (put counts k went.0 j) (station_of y (later j))
+        by_place j y (inl x) =
+            stands_same s j k (put counts k went.0 j) went.0 (station_of y (later j)) b (sym x.0)
+            (sym (put_here counts k went.0) ∙ ap (put counts k went.0) (sym x.0)) (λ i. station_of (sym x.1 i) ((sym printed ∙ ap later (sym x.0)) i)) went.2
+        by_place j y (inr x) =
+            stands_same s j j (put counts k went.0 j) (counts j) (station_of y (later j)) (station_of y (consoles j)) refl
+            (sym (put_other counts k went.0 j x.0)) (ap (station_of y) (sym (others j x.0))) (h.each j y x.1)
+
+    pub reach_counted : (f : IsForgetful at code kept) (word : ℕ) (change : ℕ → ℕ) (after : ℕ → Processor × Retired) (other : ℕ → Station) (n : ℕ) →
         ((x : ℕ) → kept (other x) ≡ kept (behind here (after x))) →
         IsSettled (at k) code (alone n (at k) code (other (slice_index s.shared word))).processor →
         later k ≡ (behind here (after (slice_index m.shared word))).console →
-        Settles at code kept
+        SettlesIn
         (record m {
           processors = slice_set m.processors k (after (slice_index m.shared word)).0;
           shared = slice_set m.shared word (change (slice_index m.shared word));
-        }) later
+        }) later (put counts k n)
         (gone s k (kept (alone n (at k) code (other (slice_index s.shared word)))) word (change (slice_index s.shared word)))
-    unfolding Stands
-    reach_kept f word change after other n alike settled printed =
+    reach_counted f word change after other n alike settled printed =
         let long : length (slice_set m.processors k (after (slice_index m.shared word)).0) ≡ length m.processors = simp length-set in
         let wide : length (slice_set m.shared word (change (slice_index m.shared word))) ≡ length m.shared = simp length-set in
         let long_s : length (slice_set s.stations k (kept q)) ≡ length s.stations = simp length-set in
@@ -285,17 +351,17 @@ module _ (at : ℕ → Setting) (code : List ℕ) (kept : Station → Station) w
         old_same = ap (λ ws. behind here (after (slice_index ws word))) h.shared
 
         by_place : (j : ℕ) (y : Processor) → ((j ≡ k) × (y ≡ (after (slice_index m.shared word)).0)) ⊎ ((j ≢ k) × (slice_get m.processors j ≡ Some y)) →
-            Stands t j (station_of y (later j))
+            StandsIn t j (put counts k n j) (station_of y (later j))
         by_place j y (inl x) =
             let stood = h.each k p there in
             let is : behind here (after (slice_index m.shared word)) ≡ station_of y (later j) =
             λ i. station_of (sym x.1 i) ((sym printed ∙ ap later (sym x.0)) i) in
-            stands_same t j k (station_of y (later j)) (behind here (after (slice_index s.shared word))) (sym x.0) (old_same ∙ is) (
-              n,
-              set_there s.stations k (kept q) _ stood.1 ∙ ap Some same,
+            stands_same t j k (put counts k n j) n (station_of y (later j)) (behind here (after (slice_index s.shared word))) (sym x.0)
+            (sym (put_here counts k n) ∙ ap (put counts k n) (sym x.0)) (old_same ∙ is) (
+              set_there s.stations k (kept q) _ stood.0 ∙ ap Some same,
               settled_alike f k q (alone n (at k) code (behind here (after (slice_index s.shared word)))) same settled,
             )
         by_place j y (inr x) =
             let stood = h.each j y x.1 in
-            stands_same t j j (station_of y (later j)) (station_of y (consoles j)) refl (ap (station_of y) (sym (others j x.0)))
-            (stood.0, set_other s.stations k j (kept q) x.0 ∙ stood.1, stood.2)
+            stands_same t j j (put counts k n j) (counts j) (station_of y (later j)) (station_of y (consoles j)) refl (sym (put_other counts k n j x.0))
+            (ap (station_of y) (sym (others j x.0))) (set_other s.stations k j (kept q) x.0 ∙ stood.0, stood.1)

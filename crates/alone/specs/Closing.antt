@@ -1,5 +1,5 @@
 -- States between references, moves from one to the next, and sets of states that are closed under moves.
-use Rattle.std.specs.Prelude.{◌≡◌, ℕ, true, false, List, [], ◌∷◌, Some, length, slice_get, slice_set, slice_index, if◌then◌else◌}
+use Rattle.std.specs.Prelude.{◌≡◌, ℕ, zero, suc, true, false, List, [], ◌∷◌, Some, length, slice_get, slice_set, slice_index, if◌then◌else◌}
 use Rattle.flat_machine.specs.declared.setting.Setting.{Setting}
 use Rattle.flat_machine.specs.declared.event.Retired.{Retired}
 use Rattle.flat_machine.specs.declared.event.Cause.{Cause}
@@ -62,6 +62,18 @@ abbrev pub IsClosed : (at : ℕ → Setting) → (code : List ℕ) → (kept : S
 IsClosed at code kept states =
     (s : Standing) (k : ℕ) (a : Station) → IsIn states s → slice_get s.stations k ≡ Some a → is_running a.processor.status ≡ true →
     IsReference (turn_of (at k) code a.processor) → (t : Standing) × IsMove at code kept s k t × IsIn states t
+
+-- The processor runs, and is about to refer to a word.
+pub record MayMove (at : ℕ → Setting) (code : List ℕ) (s : Standing) (k : ℕ) : Type 0 where
+  pub station : Station
+  pub there : slice_get s.stations k ≡ Some station
+  pub runs : is_running station.processor.status ≡ true
+  pub refers : IsReference (turn_of (at k) code station.processor)
+
+-- From there no more moves than so many follow one another.
+abbrev pub IsShort : (at : ℕ → Setting) → (code : List ℕ) → (kept : Station → Station) → (most : ℕ) → Standing → Type 0
+IsShort at code kept zero s = (k : ℕ) → MayMove at code s k → ⊥
+IsShort at code kept (suc n) s = (k : ℕ) → MayMove at code s k → (t : Standing) × IsMove at code kept s k t × IsShort at code kept n t
 
 -- moves, each to a state of the list and by the processor beside it, lead from s to t
 abbrev pub IsWay : (at : ℕ → Setting) → (code : List ℕ) → (kept : Station → Station) → (s : Standing) → List (ℕ × Standing) → (t : Standing) → Type 0

@@ -1,10 +1,11 @@
 -- What the laws of closed sets speak of.
-use Rattle.std.specs.Prelude.{ℕ, List}
+use Rattle.std.specs.Prelude.{ℕ, ◌≤◌, List, length}
 use Rattle.flat_machine.specs.declared.setting.Setting.{Setting}
 use Rattle.flat_machine.specs.State.{FlatState}
 use Rattle.flat_machine.specs.Flat.{flat_run, flat_events}
 use Rattle.alone.specs.Stations.{Station, consoles_after, turns}
-use Rattle.alone.specs.Closing.{IsForgetful, if_running, Standing, IsIn, IsClosed, IsWay, Settles, IsKeptOf, AreSettled, HasStopped}
+use Rattle.alone.specs.Closing.{IsForgetful, if_running, Standing, IsIn, IsClosed, IsShort, IsWay, Settles, IsKeptOf, AreSettled, HasStopped}
+use Rattle.alone.specs.Schedules.{turns_taken, EveryScheduleEnds}
 
 -- A closed set that has the state to which the flat machine settles has, for each order of turns after which all processors
 -- have stopped, what is kept of the flat machine then.
@@ -15,14 +16,28 @@ ClosedSetsHaveAllEnds =
     HasStopped (flat_run m (turns order)) →
     (t : Standing) × IsIn states t × IsKeptOf kept (flat_run m (turns order)) (consoles_after consoles (flat_events m (turns order))) t
 
+-- And no order of turns leaves it: what the flat machine settles to is always in the set.
+abbrev pub ClosedSetsAreNotLeft : Type 0
+ClosedSetsAreNotLeft =
+    (at : ℕ → Setting) (code : List ℕ) (kept : Station → Station) (states : List Standing) (m : FlatState) (consoles : ℕ → List ℕ) (s : Standing)
+    (order : List ℕ) → IsForgetful at code kept → IsClosed at code kept states → IsIn states s → Settles at code kept m consoles s →
+    (t : Standing) × IsIn states t × Settles at code kept (flat_run m (turns order)) (consoles_after consoles (flat_events m (turns order))) t
+
 -- Each state to which moves lead from there is what is kept of the flat machine after some order of turns, where each processor
--- has stopped or is about to refer to a word.
+-- has stopped or is about to refer to a word. At least as many turns are taken as there are moves.
 abbrev pub MovesAreTurns : Type 0
 MovesAreTurns =
     (at : ℕ → Setting) (code : List ℕ) (kept : Station → Station) (m : FlatState) (consoles : ℕ → List ℕ) (s : Standing) (way : List (ℕ × Standing))
     (t : Standing) → IsForgetful at code kept → Settles at code kept m consoles s → IsWay at code kept s way t →
     (order : List ℕ) × IsKeptOf kept (flat_run m (turns order)) (consoles_after consoles (flat_events m (turns order))) t
-    × AreSettled at code (flat_run m (turns order))
+    × AreSettled at code (flat_run m (turns order)) × Settles at code kept (flat_run m (turns order)) (consoles_after consoles (flat_events m (turns order))) t
+    × (length way ≤ turns_taken m order)
+
+-- Where no more moves than so many follow one another, every schedule ends.
+abbrev pub ShortSchedulesEnd : Type 0
+ShortSchedulesEnd =
+    (at : ℕ → Setting) (code : List ℕ) (kept : Station → Station) (m : FlatState) (consoles : ℕ → List ℕ) (s : Standing) (most : ℕ) →
+    IsForgetful at code kept → Settles at code kept m consoles s → IsShort at code kept most s → EveryScheduleEnds m
 
 -- What processors that have stopped hold can be forgotten.
 abbrev pub StoppedAreForgotten : Type 0

@@ -1,3 +1,4 @@
 pub mod Stations
 pub mod Closing
+pub mod Schedules
 pub mod Laws

@@ -8,4 +8,7 @@
 
 mod laws;
 
-pub use laws::{closed_sets_have_all_ends, moves_are_turns, stopped_processors_can_be_forgotten};
+pub use laws::{
+    closed_sets_are_not_left, closed_sets_have_all_ends, moves_are_turns, short_schedules_end,
+    stopped_processors_can_be_forgotten,
+};

@@ -5,20 +5,16 @@ ghost use Rattle.std.specs.Io.KnownBytes.{Appends};
 ghost use Rattle.link.specs.Transfer.{AppendsPart};
 ghost use Rattle.elf_image.specs.Spellings.{spelling};
 ghost use Rattle.assembler.specs.Meaning.{IsMeaning};
-ghost use Rattle.command_io.specs.Files.{IsWhole};
 ghost use Rattle.command_io.specs.Printing.{IsPrinted, IsTold};
-ghost use Rattle.asm_command.specs.Assembling.{IsAssembly, IsNoAssembly, IsTextRefusal, IsUnread};
+ghost use Rattle.asm_command.specs.Assembling.{IsAssembly, IsNoAssembly, IsTextRefusal};
 
+use crate::input::{read_text, text_of};
 use assembler::{Program, assemble};
 use command_io::{DONE, Fault, tell};
 use elf_image::{ImageError, write_image};
-use link::{LinkWrite, Meter, ReadError, read_within};
+use link::LinkWrite;
 use std::alloc::Global;
 use std::io::{Read, Write};
-
-/// How many bytes a text may have. A text that fills every section of an image needs less than half of
-/// them; the limit is so that an input without an end does not take all memory.
-pub const MAX_TEXT_BYTES: usize = 16_777_216;
 
 /// Assembles the text that a file has, and writes the image of what it means. Answers the exit status: 0
 /// where the whole image is written, else that of the fault that is told on standard error. Nothing is
@@ -58,26 +54,12 @@ fn carried_out<R: Read + Drop, W: LinkWrite>(
     write_program(&program, out)
 }
 
-/// The bytes of a file.
-fn read_text<R: Read + Drop>(alloc: Global, file: R) -> Result<Vec<u8>, Fault>
-    ensures read { IfOk result (λ text. IsWhole (R.remaining file) text.items) }
-    ensures unread { IfErr result IsUnread }
-{
-    match read_within(alloc, &mut Meter::new(file), MAX_TEXT_BYTES) {
-        Ok(text) => Ok(text),
-        Err(ReadError::Link) => Err(Fault::Link),
-        Err(ReadError::Memory | ReadError::TooLong) => Err(Fault::Memory),
-    }
-}
-
 /// The program that a text means.
 fn program_of(alloc: Global, bytes: &[u8]) -> Result<Program, Fault>
     ensures meant { IfOk result (λ program. IsMeaning bytes.now program) }
     ensures refused { IfErr result (IsTextRefusal bytes.now) }
 {
-    let Ok(text) = str::from_utf8(bytes) else {
-        return Err(Fault::NotUtf8);
-    };
+    let text = text_of(bytes)?;
     Ok(assemble(alloc, text)?)
 }
 

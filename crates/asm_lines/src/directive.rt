@@ -19,7 +19,8 @@ pub enum Directive {
 }
 
 impl Directive {
-    const ALL: [Directive; 6] = [
+    /// All directives.
+    pub const ALL: [Directive; 6] = [
         Directive::Section(Section::Code),
         Directive::Section(Section::Local),
         Directive::Section(Section::Shared),

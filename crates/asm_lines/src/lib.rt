@@ -18,6 +18,7 @@ mod register;
 mod statement;
 mod text;
 
+pub use directive::Directive;
 pub use fault::{LineError, LineFault};
 pub use laws::{
     blanks_change_nothing, comments_change_nothing, fields_again, numerals_are_read_alike,
@@ -25,7 +26,8 @@ pub use laws::{
 };
 pub use line::read_line;
 pub use mnemonic::{Mnemonic, Order};
-pub use number::low_bits;
-pub use register::x_name;
+pub use number::{low_bits, number_within};
+pub use operand::is_name;
+pub use register::{register as register_named, x_name};
 pub use statement::{Instruction, Line, Section, Statement, Value};
-pub use text::parts_at;
+pub use text::{cut_last, parts_at, trim};

@@ -176,7 +176,8 @@ impl Order {
 }
 
 impl Mnemonic {
-    const ALL: [Mnemonic; 57] = mnemonics!(values);
+    /// All mnemonics, in the order of the table of instructions.
+    pub const ALL: [Mnemonic; 57] = mnemonics!(values);
 
     /// How the mnemonic is written.
     pub fn name(self) -> &'static str

@@ -45,7 +45,7 @@ pub enum Fault {
     /// A thread could not be started.
     #[error("Start")]
     Start,
-    /// A program has more states between references than the limit.
+    /// A program has as many states between references as the limit, or more.
     #[error("states")]
     States,
     /// A processor goes on for too long without a reference to a shared word.

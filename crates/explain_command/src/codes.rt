@@ -348,7 +348,7 @@ processors, by a smaller `--k`. A smaller `--budget` tells a loop without end so
     },
     Topic {
         name: "states",
-        meaning: "a program has more states than may be looked at",
+        meaning: "a program has as many states as `--states` says, or more",
         advice: "\
 `ultra explore` tells it, and prints no result. Exit status 4. A state has each processor at its next
 reference to a shared word, or stopped, and the shared words.

@@ -3,10 +3,10 @@ use Rattle.std.proofs.Common.{◌≡◌, ℕ, List, ◌∙◌, ap, refl, sym, su
 use Rattle.flat_machine.specs.declared.config.Config.{Config}
 use Rattle.flat_machine.specs.Limits.{IsWithinLimits}
 use Rattle.elf_image.specs.Images.{ImageContents}
-use Rattle.steps.specs.declared.step.Step.{Step}
+use Rattle.random_runs.specs.Step.{Step}
 use Rattle.trace_file.specs.Traces.{HaveRecords, IsTrace, trace_of}
-use Rattle.trace_replay.proofs.Lemmas.{none_stalls}
-use Rattle.trace_replay.specs.Replays.{StallsAt}
+use Rattle.run_commands.proofs.Lemmas.{none_stalls}
+use Rattle.run_commands.specs.Replays.{StallsAt}
 use Rattle.machine_runs.specs.Machines.{MachineLists}
 use Rattle.machine_runs.specs.Runs.{IsOpening, IsReplay}
 use Rattle.machine_log.specs.Logs.{IsKept, Log}

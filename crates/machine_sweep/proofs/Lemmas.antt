@@ -7,6 +7,9 @@ pub use Rattle.machine_sweep.proofs.Ending.{IsFirst, IsUnder, first_begins, has_
 pub use Rattle.machine_sweep.proofs.RoundEnds.{step_first, step_over, step_under}
 -- Steps that write nothing from outside, and their records in a trace.
 pub use Rattle.machine_sweep.proofs.Own.{drain_steps_are_own, own_behind, own_both, own_each, own_entered}
-pub use Rattle.machine_sweep.proofs.Recorded.{later_moves, moves_have_records}
+pub use Rattle.machine_sweep.proofs.Recorded.{drained_has_records}
 -- Machines that are one take the same steps.
 pub use Rattle.machine_sweep.proofs.OneLog.{no_longer, over_there, same_drain, same_entered, told_nothing}
+-- Lemmas of lower crates, passed on.
+pub use Rattle.machine.proofs.Lemmas.{retell}
+pub use Rattle.messages.proofs.Lemmas.{put_other, put_same}

@@ -16,7 +16,7 @@ use Rattle.machine_runs.specs.Machines.{machine_of}
 use Rattle.machine_runs.specs.Runs.{IsReplay, NoneStalls, all_after}
 use Rattle.machine_log.specs.Logs.{Log}
 use Rattle.machine_sweep.specs.Rounds.{round}
-use Rattle.machine_sweep.specs.Sweeps.{IsSwept, rounds}
+use Rattle.machine_sweep.specs.Sweeps.{IsSwept, entered_of, rounds}
 use Rattle.machine_sweep.specs.declared.sweeping.SweepEnd.{SweepEnd}
 use Rattle.machine_sweep.proofs.Own.{AreOwn, drain_steps_are_own, own_asked, own_both, own_entered}
 use Rattle.machine_sweep.proofs.Progress.{IsOfRound, of_round}
@@ -45,30 +45,36 @@ unfolding all_after
 later_moves c code M [] ys moves = moves
 later_moves c code M (x ∷ xs) ys moves = later_moves c code (after c code M x) xs ys moves.1
 
-module _ (most : ℕ) (old : Log) (end : SweepEnd) (new : Log) (swept : IsSwept most old end new) (replay : IsReplay new.opening new.steps new.machine)
-    (size : old.machine.config ≡ old.opening.config) where
-  abbrev asked : List Step
-  asked = rounds old.machine.config.k swept.followed.whole ++ take swept.followed.part (round old.machine.config.k)
-
+-- a log that was asked for steps that write nothing from outside, and was drained then
+module _ (old middle new : Log) (asked : List Step) (asked_are_own : AreOwn asked) (entered : middle.steps ≡ entered_of old.opening old.steps asked)
+    (opening : new.opening ≡ old.opening) (drained : new.steps ≡ middle.steps ++ drain_steps middle.machine)
+    (replay : IsReplay new.opening new.steps new.machine) (size : old.machine.config ≡ old.opening.config) where
   -- what the log has more
   more : (rest : List Step) × AreOwn rest × (new.steps ≡ old.steps ++ rest)
   more =
-      let e = own_entered old.opening old.steps asked (own_asked old.machine.config.k swept.followed.whole swept.followed.part) in (
-        e.0 ++ drain_steps swept.middle.machine,
-        own_both e.0 (drain_steps swept.middle.machine) e.1 (drain_steps_are_own swept.middle.machine),
-        swept.steps ∙ ap (λ xs. xs ++ drain_steps swept.middle.machine) (swept.followed.steps ∙ e.2)
-            ∙ append_assoc old.steps e.0 (drain_steps swept.middle.machine),
+      let e = own_entered old.opening old.steps asked asked_are_own in (
+        e.0 ++ drain_steps middle.machine,
+        own_both e.0 (drain_steps middle.machine) e.1 (drain_steps_are_own middle.machine),
+        drained ∙ ap (λ xs. xs ++ drain_steps middle.machine) (entered ∙ e.2) ∙ append_assoc old.steps e.0 (drain_steps middle.machine),
       )
 
   config_is : new.machine.config ≡ old.machine.config
-  config_is = replay.run.config ∙ ap (λ m. m.config) swept.opening ∙ sym size
+  config_is = replay.run.config ∙ ap (λ m. m.config) opening ∙ sym size
 
-  pub swept_has_records : HaveRecords old.machine.config.k old.steps → HaveRecords new.machine.config.k new.steps
-  swept_has_records before =
+  pub drained_has_records : HaveRecords old.machine.config.k old.steps → HaveRecords new.machine.config.k new.steps
+  drained_has_records before =
       let moves = subst (NoneStalls new.opening.config new.opening.code (machine_of new.opening (λ p. []))) more.2 replay.moved in
       let later = moves_have_records new.opening.config new.opening.code
       (all_after new.opening.config new.opening.code (machine_of new.opening (λ p. [])) old.steps) more.0 more.1
       (later_moves new.opening.config new.opening.code (machine_of new.opening (λ p. [])) old.steps more.0 moves) in
-      let here = subst (λ (c : Config). HaveRecords c.k more.0) (ap (λ m. m.config) swept.opening ∙ sym size) later in
+      let here = subst (λ (c : Config). HaveRecords c.k more.0) (ap (λ m. m.config) opening ∙ sym size) later in
       subst (λ (c : Config). HaveRecords c.k new.steps) (sym config_is)
       (subst (HaveRecords old.machine.config.k) (sym more.2) (All-append (HasRecord old.machine.config.k) old.steps more.0 before here))
+
+pub swept_has_records : (most : ℕ) (old : Log) (end : SweepEnd) (new : Log) → IsSwept most old end new → IsReplay new.opening new.steps new.machine →
+    old.machine.config ≡ old.opening.config → HaveRecords old.machine.config.k old.steps → HaveRecords new.machine.config.k new.steps
+swept_has_records most old end new swept replay size =
+    let k = old.machine.config.k in
+    let followed = swept.followed in
+    drained_has_records old swept.middle new (rounds k followed.whole ++ take followed.part (round k)) (own_asked k followed.whole followed.part)
+    followed.steps swept.opening swept.steps replay size

@@ -1,7 +1,7 @@
 -- The text of a line of a serial order.
 use Rattle.std.specs.Prelude.{ℕ, ◌==◌, List, [], ◌++◌, codes, Option, Some, None, if◌then◌else◌}
 use Rattle.std.specs.Fmt.{decimal}
-use Rattle.asm_lines.specs.Written.{text_of}
+use Rattle.disassembler.specs.Written.{text_of}
 use Rattle.flat_machine.specs.declared.event.Event.{Event}
 use Rattle.flat_machine.specs.declared.event.Event.TheVariants.{Retired, Stopped}
 use Rattle.flat_machine.specs.declared.poke.Poke.{Poke}

@@ -2,7 +2,7 @@
 
 ghost use Rattle.std.specs.Prelude.{◌≡◌, ◌∷◌, ◌++◌, [], codes, OnOk, string_bytes};
 ghost use Rattle.std.specs.Fmt.{decimal};
-ghost use Rattle.asm_lines.specs.Written.{text_of};
+ghost use Rattle.disassembler.specs.Written.{text_of};
 ghost use Rattle.command_io.specs.Digits.{hex_of_byte, hex_of_word, line_feed};
 ghost use Rattle.order_lines.specs.Texts.{console_text, event_text, poke_line, poke_text, reference_text, register_text, result_text, turn_line};
 
@@ -185,7 +185,16 @@ pub fn push_register(text: &mut String, register: u8) -> Result<(), AllocError>
 }
 
 /// Appends an address, and a byte that is written there.
-fn push_byte_at(alloc: Global, text: &mut String, address: u32, value: u8) -> Result<(), AllocError>
+///
+/// # Errors
+///
+/// [`AllocError`] where there is no memory for it.
+pub fn push_byte_at(
+    alloc: Global,
+    text: &mut String,
+    address: u32,
+    value: u8,
+) -> Result<(), AllocError>
     ensures { OnOk result (string_bytes text.new ≡ string_bytes text.old ++ hex_of_word address ++ codes " " ++ hex_of_byte value) }
 {
     push_word(alloc, text, address)?;

@@ -2,15 +2,15 @@
 use Rattle.std.proofs.Common.{◌≡◌, ℕ, ◌+◌, ◌<◌, ◌≤◌, ◌⊎◌, inl, inr, List, [], ◌∷◌, ◌++◌, length, take, refl, sym, ap, ap₂, ◌∙◌, subst, arith}
 use Rattle.std.proofs.lemmas.Bool.{cases_lt}
 use Rattle.std.proofs.lemmas.List.{length-append, take_at}
-use Rattle.flat_machine.specs.declared.config.Config.{Config}
-use Rattle.flat_machine.specs.State.{FlatState}
-use Rattle.elf_image.specs.Images.{ImageContents}
-use Rattle.elf_image.specs.Openings.{opening as flat_opening}
+use Rattle.machine_sweep.specs.Config.{Config}
+use Rattle.machine_sweep.specs.State.{FlatState}
+use Rattle.machine_sweep.specs.Images.{ImageContents}
+use Rattle.machine_sweep.specs.Openings.{opening as flat_opening}
 use Rattle.steps.specs.declared.step.Step.{Step}
-use Rattle.machine_runs.specs.Draining.{drain_steps}
-use Rattle.machine_runs.specs.Machines.{MachineLists, machine_of}
-use Rattle.machine_runs.specs.Runs.{IsReplay, all_after, events_of}
-use Rattle.machine.proofs.Lemmas.{retell}
+use Rattle.machine_sweep.specs.Draining.{drain_steps}
+use Rattle.machine_sweep.specs.Machines.{MachineLists, machine_of}
+use Rattle.machine_sweep.specs.Runs.{IsReplay, all_after, events_of}
+use Rattle.machine_sweep.proofs.Lemmas.{retell}
 use Rattle.machine_log.specs.Logs.{Log}
 use Rattle.machine_sweep.specs.Own.{AreOwn}
 use Rattle.machine_sweep.specs.Sweeps.{IsOver, entered_of}

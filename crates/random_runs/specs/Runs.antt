@@ -1,11 +1,11 @@
 -- What a machine's log enters by a schedule, and where a run ends.
 use Rattle.std.specs.Prelude.{◌≡◌, ◌⊎◌, ℕ, ◌+◌, ◌≤◌, ◌<◌, List, [], ◌++◌, length, take}
-use Rattle.flat_machine.specs.declared.config.Config.{Config}
-use Rattle.elf_image.specs.Images.{ImageContents}
+use Rattle.machine_sweep.specs.Config.{Config}
+use Rattle.machine_sweep.specs.Images.{ImageContents}
 use Rattle.steps.specs.declared.step.Step.{Step}
-use Rattle.machine_runs.specs.Draining.{drain_steps}
-use Rattle.machine_runs.specs.Machines.{MachineLists, IsIdle}
-use Rattle.machine_runs.specs.Runs.{IsOpening, IsReplay}
+use Rattle.machine_sweep.specs.Draining.{drain_steps}
+use Rattle.machine_sweep.specs.Machines.{MachineLists, IsIdle}
+use Rattle.machine_sweep.specs.Runs.{IsOpening, IsReplay}
 use Rattle.machine_log.specs.Logs.{Log}
 use Rattle.machine_sweep.specs.Sweeps.{IsOver, entered_of, opened}
 use Rattle.machine_sweep.specs.declared.sweeping.SweepEnd.{SweepEnd}

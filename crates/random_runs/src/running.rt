@@ -1,11 +1,11 @@
 //! Running a machine by a random schedule.
 
 ghost use Rattle.std.specs.Prelude.{◌≡◌, ◌≤◌, ◌<◌, ◌+◌, ◌↔◌, Err, IfOk, OnErr, OnOk, length};
-ghost use Rattle.machine_runs.specs.Draining.{drain_bound};
+ghost use Rattle.machine_sweep.specs.Draining.{drain_bound};
 ghost use Rattle.machine_sweep.specs.Own.{AreOwn};
 ghost use Rattle.machine_sweep.specs.Sweeps.{most_of};
 ghost use Rattle.random_runs.specs.Runs.{HasRun, WasAsked};
-ghost use Rattle.trace_file.specs.Traces.{HaveRecords};
+ghost use Rattle.machine_sweep.specs.Traces.{HaveRecords};
 
 use crate::schedule::Schedule;
 use machine_log::{LogRefusal, Logged, Roomy, roomy_is_kept};

@@ -5,3 +5,4 @@ pub mod FlatReports
 pub mod OneReport
 pub mod OneRun
 pub mod Hearing
+pub mod Lemmas

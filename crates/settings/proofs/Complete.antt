@@ -13,21 +13,21 @@ use Rattle.clap.specs.Simple.{App, Shape, argument_words, built, built_leaf, ent
 use Rattle.clap.specs.Simple.{subcommand_of}
 use Rattle.clap.specs.Takes.{is_given}
 use Rattle.clap.specs.Walk.{Row, Text, answers_to, finished, nothing_held, rows_after, settled, walk, walk_from}
-use Rattle.settings.specs.Lines.{Bounds, HasAsm, HasDis, HasPath, HasReplay, HasRun, HasSizes, IsComplete, IsOneOf, IsWhole, command_names, replaying}
-use Rattle.settings.specs.Lines.{asm_command, order_command, dis_command, explain_command, replay_command, run_command, ultra_command}
-use Rattle.settings.specs.Lines.{words_command}
-use Rattle.settings.specs.Lines.{HasOrder, budget, processor, queue, records, shared_word, shared_words, stages, start}
-use Rattle.settings.specs.Lines.{HasDebug, HasExplore, debug_command, explore_command, port, states, stats_command, steps, story_command}
-use Rattle.settings.specs.Lines.{HasHunt, hunt_command, runs}
+use Rattle.settings.specs.Lines.{Bounds, asm_command, budget, check_command, debug_command, dis_command, explain_command, explore_command, hunt_command}
+use Rattle.settings.specs.Lines.{order_command, port, processor, queue, records, picture_command, replay_command, run_command}
+use Rattle.settings.specs.Lines.{runs, shared_word, shared_words, stages, start, states}
+use Rattle.settings.specs.Lines.{stats_command, step, steps, story_command, ultra_command, words_command}
+use Rattle.settings.specs.Given.{HasAsm, HasDebug, HasDis, HasExplore, HasHunt, HasOrder, HasPath, HasPicture, HasReplay, HasRun, HasSizes, IsComplete, IsOneOf}
+use Rattle.settings.specs.Given.{IsWhole, command_names}
 use Rattle.settings.proofs.NoHelp.{IsNoHelp, StopsAtNoHelp, walk_stops}
 use Rattle.settings.proofs.Numbers.{is_apart_or_number, number_there}
-use Rattle.settings.proofs.Rows.{required_there}
+use Rattle.settings.proofs.Rows.{gives_value, required_there}
 use Rattle.settings.proofs.Walks.{neither}
 
 -- what a proof unfolds to compute with the program's command
 unfoldable pub commands : ⊤
-unfolding ultra_command words_command asm_command dis_command run_command replay_command explain_command order_command debug_command story_command
-    stats_command explore_command hunt_command
+unfolding ultra_command words_command check_command asm_command dis_command run_command hunt_command explore_command replay_command order_command
+    story_command stats_command picture_command debug_command explain_command
 commands = tt
 
 -- clap gives its matches as a function of the words
@@ -79,17 +79,19 @@ Where false has others = others
 abbrev Has : Text → List Row → Type 0
 Has name rows =
     Where (bytes_eq name (codes "words")) (HasPath (codes "FILE") rows)
+    (Where (bytes_eq name (codes "check")) (HasPath (codes "FILE") rows)
     (Where (bytes_eq name (codes "asm")) (HasAsm rows)
     (Where (bytes_eq name (codes "dis")) (HasDis rows)
     (Where (bytes_eq name (codes "run")) (HasRun rows)
+    (Where (bytes_eq name (codes "hunt")) (HasHunt rows)
+    (Where (bytes_eq name (codes "explore")) (HasExplore rows)
     (Where (bytes_eq name (codes "replay")) (HasReplay rows)
     (Where (bytes_eq name (codes "order")) (HasOrder rows)
-    (Where (bytes_eq name (codes "debug")) (HasDebug rows)
     (Where (bytes_eq name (codes "story")) (HasReplay rows)
     (Where (bytes_eq name (codes "stats")) (HasReplay rows)
-    (Where (bytes_eq name (codes "explore")) (HasExplore rows)
-    (Where (bytes_eq name (codes "hunt")) (HasHunt rows)
-    ⊤))))))))))
+    (Where (bytes_eq name (codes "picture")) (HasPicture rows)
+    (Where (bytes_eq name (codes "debug")) (HasDebug rows)
+    ⊤))))))))))))
 
 is_one_of : (name : Text) (names : List Text) → list_any (λ x. bytes_eq name x) names ≡ true → IsOneOf name names
 is_one_of name [] e = absurd (true≢false (sym e))
@@ -104,16 +106,18 @@ whole : (name : Text) (rows : List Row) → list_any (λ x. bytes_eq name x) com
 whole name rows known has = record {
   known = is_one_of name command_names known;
   words = λ is. subst (λ n. Has n rows) is has;
+  check = λ is. subst (λ n. Has n rows) is has;
   asm = λ is. subst (λ n. Has n rows) is has;
   dis = λ is. subst (λ n. Has n rows) is has;
   run = λ is. subst (λ n. Has n rows) is has;
+  hunt = λ is. subst (λ n. Has n rows) is has;
+  explore = λ is. subst (λ n. Has n rows) is has;
   replay = λ is. subst (λ n. Has n rows) is has;
   order = λ is. subst (λ n. Has n rows) is has;
-  debug = λ is. subst (λ n. Has n rows) is has;
   story = λ is. subst (λ n. Has n rows) is has;
   stats = λ is. subst (λ n. Has n rows) is has;
-  explore = λ is. subst (λ n. Has n rows) is has;
-  hunt = λ is. subst (λ n. Has n rows) is has;
+  picture = λ is. subst (λ n. Has n rows) is has;
+  debug = λ is. subst (λ n. Has n rows) is has;
 }
 
 -- where words are no fault at a subcommand, it has all that has to be given
@@ -124,6 +128,11 @@ words_provided : IsProvided (built_leaf words_command.top)
 unfolding commands
 words_provided words e = whole (codes "words") _ refl
     (required_there (built_leaf words_command.top) (codes "FILE") words refl (λ rows. required (is_given (codes "FILE") rows)) e)
+
+check_provided : IsProvided (built_leaf check_command.top)
+unfolding commands
+check_provided words e = whole (codes "check") _ refl
+    (required_there (built_leaf check_command.top) (codes "FILE") words refl (λ rows. required (is_given (codes "FILE") rows)) e)
 
 asm_provided : IsProvided (built_leaf asm_command.top)
 unfolding commands
@@ -163,19 +172,22 @@ run_provided words e = whole (codes "run") _ refl (
   number_there (built_leaf run_command.top) start.bounds words refl e,
 )
 
-replaying_there : (name : Text) (words : List Text) → level_fault (built_leaf (replaying name).top) [] nothing_held words false [] ≡ []
-    → HasReplay (rows_after (built_leaf (replaying name).top).rules [] words)
-replaying_there name words e = (
-  required_there (built_leaf (replaying name).top) (codes "TRACE") words refl
-      (λ rows h. (both_required (is_given (codes "TRACE") rows) (is_given (codes "FILE") rows) h).0) e,
-  required_there (built_leaf (replaying name).top) (codes "FILE") words refl
-      (λ rows h. (both_required (is_given (codes "TRACE") rows) (is_given (codes "FILE") rows) h).1) e,
-  number_there (built_leaf (replaying name).top) shared_words.bounds words refl e,
+-- a trace and the image of its run have to be given
+abbrev WantsFiles : Shape → Type 0
+WantsFiles s = (rows : List Row) → check_fault s rows false ≡ [] → (is_given (codes "TRACE") rows ≡ true) × (is_given (codes "FILE") rows ≡ true)
+
+replay_there : (s : Shape) (words : List Text) → list_all gives_value s.rules ≡ true → WantsFiles s → Takes s shared_words.bounds
+    → level_fault s [] nothing_held words false [] ≡ [] → HasReplay (rows_after s.rules [] words)
+replay_there s words all wants n e = (
+  required_there s (codes "TRACE") words all (λ rows h. (wants rows h).0) e,
+  required_there s (codes "FILE") words all (λ rows h. (wants rows h).1) e,
+  number_there s shared_words.bounds words n e,
 )
 
 replay_provided : IsProvided (built_leaf replay_command.top)
 unfolding commands
-replay_provided words e = whole (codes "replay") _ refl (replaying_there (codes "replay") words e)
+replay_provided words e = whole (codes "replay") _ refl
+    (replay_there (built_leaf replay_command.top) words refl (λ rows. both_required (is_given (codes "TRACE") rows) (is_given (codes "FILE") rows)) refl e)
 
 explain_provided : IsProvided (built_leaf explain_command.top)
 unfolding commands
@@ -184,13 +196,7 @@ explain_provided words e = whole (codes "explain") _ refl tt
 order_provided : IsProvided (built_leaf order_command.top)
 unfolding commands
 order_provided words e = whole (codes "order") _ refl (
-  (
-    required_there (built_leaf order_command.top) (codes "TRACE") words refl
-        (λ rows h. (both_required (is_given (codes "TRACE") rows) (is_given (codes "FILE") rows) h).0) e,
-    required_there (built_leaf order_command.top) (codes "FILE") words refl
-        (λ rows h. (both_required (is_given (codes "TRACE") rows) (is_given (codes "FILE") rows) h).1) e,
-    number_there (built_leaf order_command.top) shared_words.bounds words refl e,
-  ),
+  replay_there (built_leaf order_command.top) words refl (λ rows. both_required (is_given (codes "TRACE") rows) (is_given (codes "FILE") rows)) refl e,
   number_there (built_leaf order_command.top) processor words refl e,
   number_there (built_leaf order_command.top) shared_word words refl e,
 )
@@ -206,11 +212,20 @@ debug_provided words e = whole (codes "debug") _ refl (
 
 story_provided : IsProvided (built_leaf story_command.top)
 unfolding commands
-story_provided words e = whole (codes "story") _ refl (replaying_there (codes "story") words e)
+story_provided words e = whole (codes "story") _ refl
+    (replay_there (built_leaf story_command.top) words refl (λ rows. both_required (is_given (codes "TRACE") rows) (is_given (codes "FILE") rows)) refl e)
 
 stats_provided : IsProvided (built_leaf stats_command.top)
 unfolding commands
-stats_provided words e = whole (codes "stats") _ refl (replaying_there (codes "stats") words e)
+stats_provided words e = whole (codes "stats") _ refl
+    (replay_there (built_leaf stats_command.top) words refl (λ rows. both_required (is_given (codes "TRACE") rows) (is_given (codes "FILE") rows)) refl e)
+
+picture_provided : IsProvided (built_leaf picture_command.top)
+unfolding commands
+picture_provided words e = whole (codes "picture") _ refl (
+  replay_there (built_leaf picture_command.top) words refl (λ rows. both_required (is_given (codes "TRACE") rows) (is_given (codes "FILE") rows)) refl e,
+  number_there (built_leaf picture_command.top) step words refl e,
+)
 
 explore_provided : IsProvided (built_leaf explore_command.top)
 unfolding commands
@@ -268,18 +283,20 @@ enters : (stop : Option (Text × List Text)) → StopsAtNoHelp stop → entered_
 unfolding built_ultra commands
 enters None unhelped e has = absurd (true≢false (sym has))
 enters (Some p) unhelped e has =
-    let provided : AreProvidedFrom p.0 12 = ((λ is. absurd (helped (bytes_eq (codes "help") p.0) (no_help p.0 unhelped) is)), tt) in
-    let provided : AreProvidedFrom p.0 11 = ((λ is. hunt_provided), provided) in
-    let provided : AreProvidedFrom p.0 10 = ((λ is. explore_provided), provided) in
-    let provided : AreProvidedFrom p.0 9 = ((λ is. stats_provided), provided) in
-    let provided : AreProvidedFrom p.0 8 = ((λ is. story_provided), provided) in
-    let provided : AreProvidedFrom p.0 7 = ((λ is. debug_provided), provided) in
-    let provided : AreProvidedFrom p.0 6 = ((λ is. order_provided), provided) in
-    let provided : AreProvidedFrom p.0 5 = ((λ is. explain_provided), provided) in
-    let provided : AreProvidedFrom p.0 4 = ((λ is. replay_provided), provided) in
-    let provided : AreProvidedFrom p.0 3 = ((λ is. run_provided), provided) in
-    let provided : AreProvidedFrom p.0 2 = ((λ is. dis_provided), provided) in
-    let provided : AreProvidedFrom p.0 1 = ((λ is. asm_provided), provided) in
+    let provided : AreProvidedFrom p.0 14 = ((λ is. absurd (helped (bytes_eq (codes "help") p.0) (no_help p.0 unhelped) is)), tt) in
+    let provided : AreProvidedFrom p.0 13 = ((λ is. explain_provided), provided) in
+    let provided : AreProvidedFrom p.0 12 = ((λ is. debug_provided), provided) in
+    let provided : AreProvidedFrom p.0 11 = ((λ is. picture_provided), provided) in
+    let provided : AreProvidedFrom p.0 10 = ((λ is. stats_provided), provided) in
+    let provided : AreProvidedFrom p.0 9 = ((λ is. story_provided), provided) in
+    let provided : AreProvidedFrom p.0 8 = ((λ is. order_provided), provided) in
+    let provided : AreProvidedFrom p.0 7 = ((λ is. replay_provided), provided) in
+    let provided : AreProvidedFrom p.0 6 = ((λ is. explore_provided), provided) in
+    let provided : AreProvidedFrom p.0 5 = ((λ is. hunt_provided), provided) in
+    let provided : AreProvidedFrom p.0 4 = ((λ is. run_provided), provided) in
+    let provided : AreProvidedFrom p.0 3 = ((λ is. dis_provided), provided) in
+    let provided : AreProvidedFrom p.0 2 = ((λ is. asm_provided), provided) in
+    let provided : AreProvidedFrom p.0 1 = ((λ is. check_provided), provided) in
     let provided : AreProvidedFrom p.0 0 = ((λ is. words_provided), provided) in
     found_whole p.0 p.1 built_ultra.subs provided e has
 

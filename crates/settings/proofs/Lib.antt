@@ -1,3 +1,4 @@
+pub mod Adding
 pub mod Complete
 pub mod Getters
 pub mod NoHelp

@@ -16,10 +16,11 @@ use Rattle.clap.specs.declared.error.kind.ErrorKind.TheVariants.{OutOfMemory}
 use Rattle.settings.specs.declared.choice.Settings.{Settings}
 use Rattle.settings.specs.declared.choice.Settings.TheVariants as asked
 use Rattle.clap.proofs.OnLiterals.{clap_on_literals}
-use Rattle.settings.specs.Lines.{AreAsmOf, AreDisOf, AreExplainOf, AreReplayOf, AreRunOf, AreWordsOf, IsAsked, IsAsm, IsChosen, IsDis, IsExplain, IsPlain}
-use Rattle.settings.specs.Lines.{AreOrderOf, IsOrder, IsReplay, IsRun, IsWords, NameExplainOf, Named, NamesFile, NamesFiles, ultra_command}
-use Rattle.settings.specs.Lines.{AreDebugOf, AreExploreOf, AreStatsOf, AreStoryOf, IsExplore, IsReplayOf, IsSession}
-use Rattle.settings.specs.Lines.{AreHuntOf, IsHunt}
+use Rattle.settings.specs.declared.choice.Replay.{Replay}
+use Rattle.settings.specs.Lines.{IsAsked, IsAsm, IsCheck, IsChosen, IsDis, IsExplain, IsExplore, IsHunt, IsOrder, IsPicture, IsReplay, IsRun, IsSession}
+use Rattle.settings.specs.Lines.{IsWords, Named, ultra_command}
+use Rattle.settings.specs.Plain.{AreAsmOf, AreCheckOf, AreDebugOf, AreDisOf, AreExplainOf, AreExploreOf, AreHuntOf, AreOrderOf, ArePictureOf, AreReplayOf}
+use Rattle.settings.specs.Plain.{AreRunOf, AreStatsOf, AreStoryOf, AreWordsOf, IsPlain, IsReplayOf, NameExplainOf, NamesFile, NamesFiles}
 use Rattle.settings.proofs.Complete.{commands}
 
 no_hyphen : (file : Text) → IsPlain file → strip_byte 45 file ≡ None
@@ -47,32 +48,36 @@ row id value source = record { id = id; values = value ∷ []; count = None; sou
 -- the subcommand of the settings
 name_of : Settings → Text
 name_of (asked.Words w) = codes "words"
+name_of (asked.Check c) = codes "check"
 name_of (asked.Asm a) = codes "asm"
 name_of (asked.Dis d) = codes "dis"
 name_of (asked.Run r) = codes "run"
+name_of (asked.Hunt h) = codes "hunt"
+name_of (asked.Explore x) = codes "explore"
 name_of (asked.Replay r) = codes "replay"
-name_of (asked.Explain e) = codes "explain"
-name_of (asked.Order x) = codes "order"
-name_of (asked.Debug d) = codes "debug"
+name_of (asked.Order o) = codes "order"
 name_of (asked.Story r) = codes "story"
 name_of (asked.Stats r) = codes "stats"
-name_of (asked.Explore x) = codes "explore"
-name_of (asked.Hunt h) = codes "hunt"
+name_of (asked.Picture p) = codes "picture"
+name_of (asked.Debug d) = codes "debug"
+name_of (asked.Explain e) = codes "explain"
 
 -- the settings are those of the rows
 abbrev AreOf : List Row → Settings → Type 0
 AreOf rows (asked.Words w) = IsWords rows w
+AreOf rows (asked.Check c) = IsCheck rows c
 AreOf rows (asked.Asm a) = IsAsm rows a
 AreOf rows (asked.Dis d) = IsDis rows d
 AreOf rows (asked.Run r) = IsRun rows r
+AreOf rows (asked.Hunt h) = IsHunt rows h
+AreOf rows (asked.Explore x) = IsExplore rows x
 AreOf rows (asked.Replay r) = IsReplay rows r
-AreOf rows (asked.Explain e) = IsExplain rows e
-AreOf rows (asked.Order x) = IsOrder rows x
-AreOf rows (asked.Debug d) = IsSession rows d
+AreOf rows (asked.Order o) = IsOrder rows o
 AreOf rows (asked.Story r) = IsReplay rows r
 AreOf rows (asked.Stats r) = IsReplay rows r
-AreOf rows (asked.Explore x) = IsExplore rows x
-AreOf rows (asked.Hunt h) = IsHunt rows h
+AreOf rows (asked.Picture p) = IsPicture rows p
+AreOf rows (asked.Debug d) = IsSession rows d
+AreOf rows (asked.Explain e) = IsExplain rows e
 
 same_pair : (x y : Text × List Row) → Some x ≡ Some y → x ≡ y
 same_pair x y e = cc
@@ -88,17 +93,19 @@ chosen_as : (stop : Option (Text × List Row)) (name : Text) (rows : List Row) (
     (name_of s ≡ name) × AreOf rows s
 unfolding name_of
 chosen_as stop name rows (asked.Words w) is chosen = named_as stop name (codes "words") rows (λ them. IsWords them w) is chosen
+chosen_as stop name rows (asked.Check c) is chosen = named_as stop name (codes "check") rows (λ them. IsCheck them c) is chosen
 chosen_as stop name rows (asked.Asm a) is chosen = named_as stop name (codes "asm") rows (λ them. IsAsm them a) is chosen
 chosen_as stop name rows (asked.Dis d) is chosen = named_as stop name (codes "dis") rows (λ them. IsDis them d) is chosen
 chosen_as stop name rows (asked.Run r) is chosen = named_as stop name (codes "run") rows (λ them. IsRun them r) is chosen
-chosen_as stop name rows (asked.Replay r) is chosen = named_as stop name (codes "replay") rows (λ them. IsReplay them r) is chosen
-chosen_as stop name rows (asked.Explain x) is chosen = named_as stop name (codes "explain") rows (λ them. IsExplain them x) is chosen
-chosen_as stop name rows (asked.Order x) is chosen = named_as stop name (codes "order") rows (λ them. IsOrder them x) is chosen
-chosen_as stop name rows (asked.Debug x) is chosen = named_as stop name (codes "debug") rows (λ them. IsSession them x) is chosen
-chosen_as stop name rows (asked.Story x) is chosen = named_as stop name (codes "story") rows (λ them. IsReplay them x) is chosen
-chosen_as stop name rows (asked.Stats x) is chosen = named_as stop name (codes "stats") rows (λ them. IsReplay them x) is chosen
+chosen_as stop name rows (asked.Hunt h) is chosen = named_as stop name (codes "hunt") rows (λ them. IsHunt them h) is chosen
 chosen_as stop name rows (asked.Explore x) is chosen = named_as stop name (codes "explore") rows (λ them. IsExplore them x) is chosen
-chosen_as stop name rows (asked.Hunt x) is chosen = named_as stop name (codes "hunt") rows (λ them. IsHunt them x) is chosen
+chosen_as stop name rows (asked.Replay r) is chosen = named_as stop name (codes "replay") rows (λ them. IsReplay them r) is chosen
+chosen_as stop name rows (asked.Order o) is chosen = named_as stop name (codes "order") rows (λ them. IsOrder them o) is chosen
+chosen_as stop name rows (asked.Story r) is chosen = named_as stop name (codes "story") rows (λ them. IsReplay them r) is chosen
+chosen_as stop name rows (asked.Stats r) is chosen = named_as stop name (codes "stats") rows (λ them. IsReplay them r) is chosen
+chosen_as stop name rows (asked.Picture p) is chosen = named_as stop name (codes "picture") rows (λ them. IsPicture them p) is chosen
+chosen_as stop name rows (asked.Debug d) is chosen = named_as stop name (codes "debug") rows (λ them. IsSession them d) is chosen
+chosen_as stop name rows (asked.Explain e) is chosen = named_as stop name (codes "explain") rows (λ them. IsExplain them e) is chosen
 
 -- one of the program's subcommands is not another
 apart : {P : Type 0} (x y : Text) → bytes_eq x y ≡ false → x ≡ y → P
@@ -133,6 +140,11 @@ trace_rows trace file = row (codes "TRACE") trace CommandLine ∷ row (codes "FI
 same_text : (x y : Text) → Some x ≡ Some y → y ≡ x
 same_text x y e = cc
 
+-- the rows of a trace and an image give both files, for 1,024 words
+replay_is : (trace file : Text) (r : Replay) → IsReplay (trace_rows trace file) r → IsReplayOf trace file r
+unfolding row trace_rows
+replay_is trace file r said = (same_text trace r.trace.now said.0, same_text file r.file.now said.1, said.2.0)
+
 -- ---- `words FILE`
 
 words_met : (program file : Text) → IsPlain file → Meets (program ∷ codes "words" ∷ file ∷ []) (codes "words") (file_rows file)
@@ -148,6 +160,22 @@ words_are file other said = apart (name_of other) (codes "words") refl said.0
 pub words_given : (file : Text) (words : List Text) → NamesFile (codes "words") file words → Give words (AreWordsOf file)
 words_given file words named =
     give (AreWordsOf file) words (codes "words") (file_rows file) (rw named.1 (words_met named.0 file named.2)) (words_are file)
+
+-- ---- `check FILE`
+
+check_met : (program file : Text) → IsPlain file → Meets (program ∷ codes "check" ∷ file ∷ []) (codes "check") (file_rows file)
+unfolding row file_rows clap_on_literals commands
+check_met program file h = rw (no_hyphens file h, no_hyphen file h, no_hyphen file h) (refl, refl)
+
+check_are : (file : Text) (s : Settings) → (name_of s ≡ codes "check") × AreOf (file_rows file) s → AreCheckOf file s
+unfolding name_of row file_rows
+check_are file (asked.Check c) said = same_text file c.file.now said.1
+check_are file other said = apart (name_of other) (codes "check") refl said.0
+
+-- `check FILE` gives the file
+pub check_given : (file : Text) (words : List Text) → NamesFile (codes "check") file words → Give words (AreCheckOf file)
+check_given file words named =
+    give (AreCheckOf file) words (codes "check") (file_rows file) (rw named.1 (check_met named.0 file named.2)) (check_are file)
 
 -- ---- `asm FILE OUT`
 
@@ -231,8 +259,8 @@ replay_met program trace file h k =
     rw (no_hyphens trace h, no_hyphen trace h, no_hyphen trace h, no_hyphens file k, no_hyphen file k, no_hyphen file k) (refl, refl)
 
 replay_are : (trace file : Text) (s : Settings) → (name_of s ≡ codes "replay") × AreOf (trace_rows trace file) s → AreReplayOf trace file s
-unfolding name_of row trace_rows
-replay_are trace file (asked.Replay r) said = (same_text trace r.trace.now said.1.0, same_text file r.file.now said.1.1, said.1.2.0)
+unfolding name_of
+replay_are trace file (asked.Replay r) said = replay_is trace file r said.1
 replay_are trace file other said = apart (name_of other) (codes "replay") refl said.0
 
 -- `replay TRACE FILE` gives both files, for 1,024 words
@@ -273,8 +301,7 @@ order_met program trace file h k =
 
 order_are : (trace file : Text) (s : Settings) → (name_of s ≡ codes "order") × AreOf (trace_rows trace file) s → AreOrderOf trace file s
 unfolding name_of row trace_rows
-order_are trace file (asked.Order o) said =
-    (same_text trace o.trace.now said.1.0, same_text file o.file.now said.1.1, said.1.2.0, said.1.3, said.1.4)
+order_are trace file (asked.Order o) said = (replay_is trace file o.replay said.1.0, said.1.1, said.1.2)
 order_are trace file other said = apart (name_of other) (codes "order") refl said.0
 
 -- `order TRACE FILE` gives both files, for 1,024 words, and chooses nothing
@@ -282,6 +309,25 @@ pub order_given : (trace file : Text) (words : List Text) → NamesFiles (codes 
 order_given trace file words named =
     give (AreOrderOf trace file) words (codes "order") (trace_rows trace file) (rw named.1 (order_met named.0 trace file named.2 named.3))
     (order_are trace file)
+
+-- ---- `picture TRACE FILE`
+
+picture_met : (program trace file : Text) → IsPlain trace → IsPlain file →
+    Meets (program ∷ codes "picture" ∷ trace ∷ file ∷ []) (codes "picture") (trace_rows trace file)
+unfolding row trace_rows clap_on_literals commands
+picture_met program trace file h k =
+    rw (no_hyphens trace h, no_hyphen trace h, no_hyphen trace h, no_hyphens file k, no_hyphen file k, no_hyphen file k) (refl, refl)
+
+picture_are : (trace file : Text) (s : Settings) → (name_of s ≡ codes "picture") × AreOf (trace_rows trace file) s → ArePictureOf trace file s
+unfolding name_of row trace_rows
+picture_are trace file (asked.Picture p) said = (replay_is trace file p.replay said.1.0, said.1.1)
+picture_are trace file other said = apart (name_of other) (codes "picture") refl said.0
+
+-- `picture TRACE FILE` gives both files, for 1,024 words, and no step
+pub picture_given : (trace file : Text) (words : List Text) → NamesFiles (codes "picture") trace file words → Give words (ArePictureOf trace file)
+picture_given trace file words named =
+    give (ArePictureOf trace file) words (codes "picture") (trace_rows trace file) (rw named.1 (picture_met named.0 trace file named.2 named.3))
+    (picture_are trace file)
 
 -- ---- `debug FILE`
 
@@ -312,8 +358,8 @@ story_met program trace file h k =
     rw (no_hyphens trace h, no_hyphen trace h, no_hyphen trace h, no_hyphens file k, no_hyphen file k, no_hyphen file k) (refl, refl)
 
 story_are : (trace file : Text) (s : Settings) → (name_of s ≡ codes "story") × AreOf (trace_rows trace file) s → AreStoryOf trace file s
-unfolding name_of row trace_rows
-story_are trace file (asked.Story r) said = (same_text trace r.trace.now said.1.0, same_text file r.file.now said.1.1, said.1.2.0)
+unfolding name_of
+story_are trace file (asked.Story r) said = replay_is trace file r said.1
 story_are trace file other said = apart (name_of other) (codes "story") refl said.0
 
 -- `story TRACE FILE` gives both files, for 1,024 words
@@ -331,8 +377,8 @@ stats_met program trace file h k =
     rw (no_hyphens trace h, no_hyphen trace h, no_hyphen trace h, no_hyphens file k, no_hyphen file k, no_hyphen file k) (refl, refl)
 
 stats_are : (trace file : Text) (s : Settings) → (name_of s ≡ codes "stats") × AreOf (trace_rows trace file) s → AreStatsOf trace file s
-unfolding name_of row trace_rows
-stats_are trace file (asked.Stats r) said = (same_text trace r.trace.now said.1.0, same_text file r.file.now said.1.1, said.1.2.0)
+unfolding name_of
+stats_are trace file (asked.Stats r) said = replay_is trace file r said.1
 stats_are trace file other said = apart (name_of other) (codes "stats") refl said.0
 
 -- `stats TRACE FILE` gives both files, for 1,024 words

@@ -64,7 +64,7 @@ valued_count id how s n rows h =
     (λ r some. (simp length-append (omega arith), tt)) (omega arith, tt) h
 
 -- an argument that stands for no value itself
-abbrev takes_nothing : ArgAction → Bool
+abbrev pub takes_nothing : ArgAction → Bool
 takes_nothing action.Set = false
 takes_nothing action.Append = false
 takes_nothing action.SetTrue = false
@@ -72,7 +72,7 @@ takes_nothing action.SetFalse = false
 takes_nothing _ = true
 
 -- a use of the argument gives it a value, or is a fault
-abbrev gives_value : Rule → Bool
+abbrev pub gives_value : Rule → Bool
 gives_value a = nat_lt 0 (unwrap_or_range a.range).start_inclusive || (not (is_empty a.missing) || takes_nothing (action_of a))
 
 -- ---- one use of an argument

@@ -1,24 +1,26 @@
 -- The command line: the command that `clap` parses, and what the settings are of the words.
-use Rattle.std.specs.Prelude.{◌≡◌, ◌≢◌, ◌≤◌, ◌⊎◌, ◌↔◌, ℕ, pos, Bool, true, false, List, [], ◌∷◌, codes, Option, Some, None, is_some, option_map, slice_get}
-use Rattle.std.specs.Prelude.{IfSome, IsSomeAnd, MatchOption}
+use Rattle.std.specs.Prelude.{◌≡◌, ◌≤◌, ◌↔◌, ℕ, pos, Bool, true, List, [], ◌∷◌, codes, Option, Some, None, option_map}
+use Rattle.std.specs.Prelude.{IsSomeAnd, MatchOption}
 use Rattle.std.specs.Str.Parse.{signed_digits_value}
-use Rattle.clap.specs.Words.{App, IsSignedIn, Row, Rule, Text, first_of, new_app, new_rule, one_of, with_rule, with_subcommand, without_minus, subcommand_of}
+use Rattle.clap.specs.Words.{App, Row, Rule, Text, first_of, new_app, new_rule, with_rule, with_subcommand, subcommand_of}
 use Rattle.clap.specs.Simple.{Shape, on_top}
 use Rattle.clap.specs.declared.builder.action.ArgAction.TheVariants.{SetTrue}
 use Rattle.clap.specs.declared.builder.value_parser.ValueParser.TheVariants as vp
 use Rattle.settings.specs.declared.choice.Settings.{Settings}
 use Rattle.settings.specs.declared.choice.Settings.TheVariants as asked
 use Rattle.settings.specs.declared.choice.Words.{Words}
+use Rattle.settings.specs.declared.choice.Check.{Check}
 use Rattle.settings.specs.declared.choice.Asm.{Asm}
 use Rattle.settings.specs.declared.choice.Dis.{Dis}
 use Rattle.settings.specs.declared.choice.Run.{Run}
-use Rattle.settings.specs.declared.choice.Replay.{Replay}
-use Rattle.settings.specs.declared.choice.Explain.{Explain}
-use Rattle.settings.specs.declared.choice.Order.{Order}
-use Rattle.settings.specs.declared.choice.Session.{Session}
-use Rattle.settings.specs.declared.choice.Explore.{Explore}
-use Rattle.settings.specs.declared.choice.Sizes.{Sizes}
 use Rattle.settings.specs.declared.choice.Hunt.{Hunt}
+use Rattle.settings.specs.declared.choice.Explore.{Explore}
+use Rattle.settings.specs.declared.choice.Replay.{Replay}
+use Rattle.settings.specs.declared.choice.Order.{Order}
+use Rattle.settings.specs.declared.choice.Picture.{Picture}
+use Rattle.settings.specs.declared.choice.Session.{Session}
+use Rattle.settings.specs.declared.choice.Explain.{Explain}
+use Rattle.settings.specs.declared.choice.Sizes.{Sizes}
 
 -- ---- the options with a number
 
@@ -61,7 +63,7 @@ steps = record { bounds = record { name = codes "budget"; low = 1; high = 400000
 abbrev pub port : Ranged
 port = record { bounds = record { name = codes "port"; low = 1; high = 65535 }; default = 3333 }
 
--- how many states an exploration may look at
+-- with how many states an exploration is given up
 abbrev pub states : Ranged
 states = record { bounds = record { name = codes "states"; low = 1; high = 4294967295 }; default = 1000000 }
 
@@ -80,6 +82,10 @@ processor = record { name = codes "processor"; low = 0; high = 63 }
 -- the shared word on which the entries act that are asked for
 abbrev pub shared_word : Bounds
 shared_word = record { name = codes "word"; low = 0; high = 262143 }
+
+-- how many steps the machine has taken that is drawn
+abbrev pub step : Bounds
+step = record { name = codes "step"; low = 0; high = 4294967295 }
 
 -- ---- the command
 
@@ -107,6 +113,9 @@ with_number o a = with_rule a (number o.bounds)
 
 unfoldable pub words_command : App
 words_command = with_file (new_app (codes "words"))
+
+unfoldable pub check_command : App
+check_command = with_file (new_app (codes "check"))
 
 unfoldable pub asm_command : App
 asm_command = with_rule (with_file (new_app (codes "asm"))) (path (codes "OUT"))
@@ -145,6 +154,9 @@ story_command = replaying (codes "story")
 unfoldable pub stats_command : App
 stats_command = replaying (codes "stats")
 
+unfoldable pub picture_command : App
+picture_command = with_rule (replaying (codes "picture")) (number step)
+
 unfoldable pub explore_command : App
 explore_command = with_number states (with_sizes (with_file (new_app (codes "explore"))))
 
@@ -164,17 +176,19 @@ with_subcommands (s ∷ ss) a = with_subcommands ss (with_subcommand a s)
 unfoldable pub ultra_command : App
 ultra_command = with_subcommands (
     words_command.top
+    ∷ check_command.top
     ∷ asm_command.top
     ∷ dis_command.top
     ∷ run_command.top
+    ∷ hunt_command.top
+    ∷ explore_command.top
     ∷ replay_command.top
-    ∷ explain_command.top
     ∷ order_command.top
-    ∷ debug_command.top
     ∷ story_command.top
     ∷ stats_command.top
-    ∷ explore_command.top
-    ∷ hunt_command.top
+    ∷ picture_command.top
+    ∷ debug_command.top
+    ∷ explain_command.top
     ∷ []) program
 
 -- ---- the settings
@@ -207,6 +221,9 @@ AreSizes rows s = IsNumber stages rows s.k × IsNumber queue rows s.c × IsNumbe
 abbrev pub IsWords : List Row → Words → Type 0
 IsWords rows w = IsPath (codes "FILE") rows w.file.now
 
+abbrev pub IsCheck : List Row → Check → Type 0
+IsCheck rows c = IsPath (codes "FILE") rows c.file.now
+
 abbrev pub IsAsm : List Row → Asm → Type 0
 IsAsm rows a = IsPath (codes "FILE") rows a.file.now × IsPath (codes "OUT") rows a.out.now
 
@@ -224,8 +241,10 @@ abbrev pub IsExplain : List Row → Explain → Type 0
 IsExplain rows e = IsOption (codes "CODE") rows (option_map (λ c. c.now) e.code)
 
 abbrev pub IsOrder : List Row → Order → Type 0
-IsOrder rows o = IsPath (codes "TRACE") rows o.trace.now × IsPath (codes "FILE") rows o.file.now × IsNumber shared_words rows o.words
-    × IsChoice processor rows o.processor × IsChoice shared_word rows o.word
+IsOrder rows o = IsReplay rows o.replay × IsChoice processor rows o.processor × IsChoice shared_word rows o.word
+
+abbrev pub IsPicture : List Row → Picture → Type 0
+IsPicture rows p = IsReplay rows p.replay × IsChoice step rows p.step
 
 abbrev pub IsSession : List Row → Session → Type 0
 IsSession rows d = IsPath (codes "FILE") rows d.file.now × AreSizes rows d.sizes × IsNumber steps rows d.budget × IsNumber port rows d.port
@@ -244,173 +263,20 @@ Named stop name rest = (rows : List Row) × (stop ≡ Some (name, rows)) × rest
 -- the settings are those of the subcommand and its rows
 abbrev pub IsChosen : Option (Text × List Row) → Settings → Type 0
 IsChosen stop (asked.Words w) = Named stop (codes "words") (λ rows. IsWords rows w)
+IsChosen stop (asked.Check c) = Named stop (codes "check") (λ rows. IsCheck rows c)
 IsChosen stop (asked.Asm a) = Named stop (codes "asm") (λ rows. IsAsm rows a)
 IsChosen stop (asked.Dis d) = Named stop (codes "dis") (λ rows. IsDis rows d)
 IsChosen stop (asked.Run r) = Named stop (codes "run") (λ rows. IsRun rows r)
+IsChosen stop (asked.Hunt h) = Named stop (codes "hunt") (λ rows. IsHunt rows h)
+IsChosen stop (asked.Explore x) = Named stop (codes "explore") (λ rows. IsExplore rows x)
 IsChosen stop (asked.Replay r) = Named stop (codes "replay") (λ rows. IsReplay rows r)
-IsChosen stop (asked.Explain e) = Named stop (codes "explain") (λ rows. IsExplain rows e)
-IsChosen stop (asked.Order x) = Named stop (codes "order") (λ rows. IsOrder rows x)
-IsChosen stop (asked.Debug d) = Named stop (codes "debug") (λ rows. IsSession rows d)
+IsChosen stop (asked.Order o) = Named stop (codes "order") (λ rows. IsOrder rows o)
 IsChosen stop (asked.Story r) = Named stop (codes "story") (λ rows. IsReplay rows r)
 IsChosen stop (asked.Stats r) = Named stop (codes "stats") (λ rows. IsReplay rows r)
-IsChosen stop (asked.Explore x) = Named stop (codes "explore") (λ rows. IsExplore rows x)
-IsChosen stop (asked.Hunt h) = Named stop (codes "hunt") (λ rows. IsHunt rows h)
+IsChosen stop (asked.Picture p) = Named stop (codes "picture") (λ rows. IsPicture rows p)
+IsChosen stop (asked.Debug d) = Named stop (codes "debug") (λ rows. IsSession rows d)
+IsChosen stop (asked.Explain e) = Named stop (codes "explain") (λ rows. IsExplain rows e)
 
 -- the settings are those of the words
 abbrev pub IsAsked : List Text → Settings → Type 0
 IsAsked words = IsChosen (subcommand_of ultra_command words)
-
--- ---- the command lines without options, in their own words
-
--- the word does not begin with a hyphen (45), so it is no option
-abbrev pub IsPlain : Text → Type 0
-IsPlain word = IfSome (slice_get word 0) (λ b. b ≢ 45)
-
--- the words are the program's name, the command and a file
-abbrev pub NamesFile : (command file : Text) → List Text → Type 0
-NamesFile command file words = (program : Text) × (words ≡ program ∷ command ∷ file ∷ []) × IsPlain file
-
--- the words are the program's name, the command and two files
-abbrev pub NamesFiles : (command one other : Text) → List Text → Type 0
-NamesFiles command one other words = (program : Text) × (words ≡ program ∷ command ∷ one ∷ other ∷ []) × IsPlain one × IsPlain other
-
--- the settings are those of `words FILE`
-abbrev pub AreWordsOf : Text → Settings → Type 0
-AreWordsOf file (asked.Words w) = w.file.now ≡ file
-AreWordsOf file other = ⊥
-
--- the settings are those of `asm FILE OUT`
-abbrev pub AreAsmOf : (file out : Text) → Settings → Type 0
-AreAsmOf file out (asked.Asm a) = (a.file.now ≡ file) × (a.out.now ≡ out)
-AreAsmOf file out other = ⊥
-
--- the settings are those of `dis FILE`, for a machine of 1,024 words
-abbrev pub AreDisOf : Text → Settings → Type 0
-AreDisOf file (asked.Dis d) = (d.file.now ≡ file) × (d.words ≡ 1024)
-AreDisOf file other = ⊥
-
--- a machine's sizes where none is given
-abbrev pub AreUsual : Sizes → Type 0
-AreUsual s = (s.k ≡ 2) × (s.c ≡ 4) × (s.b ≡ 4) × (s.words ≡ 1024)
-
--- the settings are those of `run FILE`: no trace, no flag, each number its default
-abbrev pub AreRunOf : Text → Settings → Type 0
-AreRunOf file (asked.Run r) = (r.file.now ≡ file) × (r.trace ≡ None) × (r.sweep ≡ false) × (r.quiet ≡ false) × AreUsual r.sizes
-    × (r.budget ≡ 10000000) × (r.start ≡ 1)
-AreRunOf file other = ⊥
-
--- the trace and the image are these, for a machine of 1,024 words
-abbrev pub IsReplayOf : (trace file : Text) → Replay → Type 0
-IsReplayOf trace file r = (r.trace.now ≡ trace) × (r.file.now ≡ file) × (r.words ≡ 1024)
-
--- the settings are those of `replay TRACE FILE`
-abbrev pub AreReplayOf : (trace file : Text) → Settings → Type 0
-AreReplayOf trace file (asked.Replay r) = IsReplayOf trace file r
-AreReplayOf trace file other = ⊥
-
--- the words are the program's name, `explain` and the code, where there is one
-abbrev pub NameExplainOf : Option Text → List Text → Type 0
-NameExplainOf None words = (program : Text) × (words ≡ program ∷ codes "explain" ∷ [])
-NameExplainOf (Some code) words = (program : Text) × (words ≡ program ∷ codes "explain" ∷ code ∷ []) × IsPlain code
-
--- the settings are those of `explain CODE`, or of `explain`
-abbrev pub AreExplainOf : Option Text → Settings → Type 0
-AreExplainOf code (asked.Explain e) = option_map (λ c. c.now) e.code ≡ code
-AreExplainOf code other = ⊥
-
--- the settings are those of `order TRACE FILE`, for a machine of 1,024 words: all entries are asked for
-abbrev pub AreOrderOf : (trace file : Text) → Settings → Type 0
-AreOrderOf trace file (asked.Order o) = (o.trace.now ≡ trace) × (o.file.now ≡ file) × (o.words ≡ 1024) × (o.processor ≡ None) × (o.word ≡ None)
-AreOrderOf trace file other = ⊥
-
--- the settings are those of `debug FILE`: each number its default
-abbrev pub AreDebugOf : Text → Settings → Type 0
-AreDebugOf file (asked.Debug d) = (d.file.now ≡ file) × AreUsual d.sizes × (d.budget ≡ 100000) × (d.port ≡ 3333)
-AreDebugOf file other = ⊥
-
--- the settings are those of `story TRACE FILE`
-abbrev pub AreStoryOf : (trace file : Text) → Settings → Type 0
-AreStoryOf trace file (asked.Story r) = IsReplayOf trace file r
-AreStoryOf trace file other = ⊥
-
--- the settings are those of `stats TRACE FILE`
-abbrev pub AreStatsOf : (trace file : Text) → Settings → Type 0
-AreStatsOf trace file (asked.Stats r) = IsReplayOf trace file r
-AreStatsOf trace file other = ⊥
-
--- the settings are those of `explore FILE`: each number its default
-abbrev pub AreExploreOf : Text → Settings → Type 0
-AreExploreOf file (asked.Explore x) = (x.file.now ≡ file) × AreUsual x.sizes × (x.states ≡ 1000000)
-AreExploreOf file other = ⊥
-
--- the settings are those of `hunt FILE`: no trace, each number its default
-abbrev pub AreHuntOf : Text → Settings → Type 0
-AreHuntOf file (asked.Hunt h) = (h.file.now ≡ file) × (h.trace ≡ None) × AreUsual h.sizes × (h.budget ≡ 100000) × (h.runs ≡ 1000) × (h.start ≡ 1)
-AreHuntOf file other = ⊥
-
--- ---- what has to be given
-
-abbrev pub HasPath : Text → List Row → Type 0
-HasPath id rows = is_some (first_of id rows) ≡ true
-
--- the option's text, where it has one, spells a number in the range; clap reads it without a minus, which 0 may have
-abbrev pub HasNumber : Bounds → List Row → Type 0
-HasNumber o rows =
-    (one_of o.name rows ≡ option_map without_minus (first_of o.name rows)) × IfSome (first_of o.name rows) (IsSignedIn (pos o.low) (pos o.high))
-
-abbrev pub HasAsm : List Row → Type 0
-HasAsm rows = HasPath (codes "FILE") rows × HasPath (codes "OUT") rows
-
-abbrev pub HasDis : List Row → Type 0
-HasDis rows = HasPath (codes "FILE") rows × HasNumber shared_words.bounds rows
-
-abbrev pub HasSizes : List Row → Type 0
-HasSizes rows = HasNumber stages.bounds rows × HasNumber queue.bounds rows × HasNumber records.bounds rows × HasNumber shared_words.bounds rows
-
-abbrev pub HasRun : List Row → Type 0
-HasRun rows = HasPath (codes "FILE") rows × HasSizes rows × HasNumber budget.bounds rows × HasNumber start.bounds rows
-
-abbrev pub HasReplay : List Row → Type 0
-HasReplay rows = HasPath (codes "TRACE") rows × HasPath (codes "FILE") rows × HasNumber shared_words.bounds rows
-
-abbrev pub HasOrder : List Row → Type 0
-HasOrder rows = HasReplay rows × HasNumber processor rows × HasNumber shared_word rows
-
-abbrev pub HasDebug : List Row → Type 0
-HasDebug rows = HasPath (codes "FILE") rows × HasSizes rows × HasNumber steps.bounds rows × HasNumber port.bounds rows
-
-abbrev pub HasExplore : List Row → Type 0
-HasExplore rows = HasPath (codes "FILE") rows × HasSizes rows × HasNumber states.bounds rows
-
-abbrev pub HasHunt : List Row → Type 0
-HasHunt rows =
-    HasPath (codes "FILE") rows × HasSizes rows × HasNumber steps.bounds rows × HasNumber runs.bounds rows × HasNumber start.bounds rows
-
--- the subcommands of the program
-abbrev pub command_names : List Text
-command_names =
-    codes "words" ∷ codes "asm" ∷ codes "dis" ∷ codes "run" ∷ codes "replay" ∷ codes "explain" ∷ codes "order"
-    ∷ codes "debug" ∷ codes "story" ∷ codes "stats" ∷ codes "explore" ∷ codes "hunt" ∷ []
-
-abbrev pub IsOneOf : Text → List Text → Type 0
-IsOneOf name [] = ⊥
-IsOneOf name (x ∷ xs) = (name ≡ x) ⊎ IsOneOf name xs
-
--- the name and the rows are of a subcommand of the program's, with all that has to be given
-pub record IsWhole (name : Text) (rows : List Row) : Type 0 where
-  pub known : IsOneOf name command_names
-  pub words : name ≡ codes "words" → HasPath (codes "FILE") rows
-  pub asm : name ≡ codes "asm" → HasAsm rows
-  pub dis : name ≡ codes "dis" → HasDis rows
-  pub run : name ≡ codes "run" → HasRun rows
-  pub replay : name ≡ codes "replay" → HasReplay rows
-  pub order : name ≡ codes "order" → HasOrder rows
-  pub debug : name ≡ codes "debug" → HasDebug rows
-  pub story : name ≡ codes "story" → HasReplay rows
-  pub stats : name ≡ codes "stats" → HasReplay rows
-  pub explore : name ≡ codes "explore" → HasExplore rows
-  pub hunt : name ≡ codes "hunt" → HasHunt rows
-
--- there is such a subcommand
-abbrev pub IsComplete : Option (Text × List Row) → Type 0
-IsComplete stop = IsSomeAnd stop (λ p. IsWhole p.0 p.1)

@@ -1,8 +1,9 @@
 //! The words of the command line, as settings.
 ghost use Rattle.std.specs.Prelude.{◌≡◌, ◌≢◌, ℕ, List, Option, IfOk, MatchResult, codes, map};
 ghost use Rattle.clap.specs.Words.{FailsBy, fault_of, kind_of, subcommand_of, subcommand_rows_of};
-ghost use Rattle.settings.specs.Lines.{AreAsmOf, AreDisOf, AreExplainOf, AreReplayOf, AreRunOf, AreWordsOf, IsAsked, NameExplainOf, NamesFile, NamesFiles};
-ghost use Rattle.settings.specs.Lines.{AreDebugOf, AreExploreOf, AreHuntOf, AreOrderOf, AreStatsOf, AreStoryOf, ultra_command};
+ghost use Rattle.settings.specs.Lines.{IsAsked, ultra_command};
+ghost use Rattle.settings.specs.Plain.{AreAsmOf, AreCheckOf, AreDebugOf, AreDisOf, AreExplainOf, AreExploreOf, AreHuntOf, AreOrderOf, ArePictureOf};
+ghost use Rattle.settings.specs.Plain.{AreReplayOf, AreRunOf, AreStatsOf, AreStoryOf, AreWordsOf, NameExplainOf, NamesFile, NamesFiles};
 
 use crate::choice::Settings;
 use crate::command::ultra_shape;
@@ -42,28 +43,32 @@ pub fn settings<'a>(alloc: Global, words: &'a [&'a str]) -> Result<Settings<'a>,
     // and all else is as it is where nothing is said of it.
     ensures words_file { (file : List ℕ) → NamesFile (codes "words") file (map (λ w. w.now) words.entry.now)
         → MatchResult result (AreWordsOf file) (λ e. kind_of e ≡ ErrorKind.OutOfMemory) }
+    ensures check_file { (file : List ℕ) → NamesFile (codes "check") file (map (λ w. w.now) words.entry.now)
+        → MatchResult result (AreCheckOf file) (λ e. kind_of e ≡ ErrorKind.OutOfMemory) }
     ensures asm_files { (file out : List ℕ) → NamesFiles (codes "asm") file out (map (λ w. w.now) words.entry.now)
         → MatchResult result (AreAsmOf file out) (λ e. kind_of e ≡ ErrorKind.OutOfMemory) }
     ensures dis_file { (file : List ℕ) → NamesFile (codes "dis") file (map (λ w. w.now) words.entry.now)
         → MatchResult result (AreDisOf file) (λ e. kind_of e ≡ ErrorKind.OutOfMemory) }
     ensures run_file { (file : List ℕ) → NamesFile (codes "run") file (map (λ w. w.now) words.entry.now)
         → MatchResult result (AreRunOf file) (λ e. kind_of e ≡ ErrorKind.OutOfMemory) }
+    ensures hunt_file { (file : List ℕ) → NamesFile (codes "hunt") file (map (λ w. w.now) words.entry.now)
+        → MatchResult result (AreHuntOf file) (λ e. kind_of e ≡ ErrorKind.OutOfMemory) }
+    ensures explore_file { (file : List ℕ) → NamesFile (codes "explore") file (map (λ w. w.now) words.entry.now)
+        → MatchResult result (AreExploreOf file) (λ e. kind_of e ≡ ErrorKind.OutOfMemory) }
     ensures replay_files { (trace file : List ℕ) → NamesFiles (codes "replay") trace file (map (λ w. w.now) words.entry.now)
         → MatchResult result (AreReplayOf trace file) (λ e. kind_of e ≡ ErrorKind.OutOfMemory) }
-    ensures explain_code { (code : Option (List ℕ)) → NameExplainOf code (map (λ w. w.now) words.entry.now)
-        → MatchResult result (AreExplainOf code) (λ e. kind_of e ≡ ErrorKind.OutOfMemory) }
     ensures order_files { (trace file : List ℕ) → NamesFiles (codes "order") trace file (map (λ w. w.now) words.entry.now)
         → MatchResult result (AreOrderOf trace file) (λ e. kind_of e ≡ ErrorKind.OutOfMemory) }
-    ensures debug_file { (file : List ℕ) → NamesFile (codes "debug") file (map (λ w. w.now) words.entry.now)
-        → MatchResult result (AreDebugOf file) (λ e. kind_of e ≡ ErrorKind.OutOfMemory) }
     ensures story_files { (trace file : List ℕ) → NamesFiles (codes "story") trace file (map (λ w. w.now) words.entry.now)
         → MatchResult result (AreStoryOf trace file) (λ e. kind_of e ≡ ErrorKind.OutOfMemory) }
     ensures stats_files { (trace file : List ℕ) → NamesFiles (codes "stats") trace file (map (λ w. w.now) words.entry.now)
         → MatchResult result (AreStatsOf trace file) (λ e. kind_of e ≡ ErrorKind.OutOfMemory) }
-    ensures explore_file { (file : List ℕ) → NamesFile (codes "explore") file (map (λ w. w.now) words.entry.now)
-        → MatchResult result (AreExploreOf file) (λ e. kind_of e ≡ ErrorKind.OutOfMemory) }
-    ensures hunt_file { (file : List ℕ) → NamesFile (codes "hunt") file (map (λ w. w.now) words.entry.now)
-        → MatchResult result (AreHuntOf file) (λ e. kind_of e ≡ ErrorKind.OutOfMemory) }
+    ensures picture_files { (trace file : List ℕ) → NamesFiles (codes "picture") trace file (map (λ w. w.now) words.entry.now)
+        → MatchResult result (ArePictureOf trace file) (λ e. kind_of e ≡ ErrorKind.OutOfMemory) }
+    ensures debug_file { (file : List ℕ) → NamesFile (codes "debug") file (map (λ w. w.now) words.entry.now)
+        → MatchResult result (AreDebugOf file) (λ e. kind_of e ≡ ErrorKind.OutOfMemory) }
+    ensures explain_code { (code : Option (List ℕ)) → NameExplainOf code (map (λ w. w.now) words.entry.now)
+        → MatchResult result (AreExplainOf code) (λ e. kind_of e ≡ ErrorKind.OutOfMemory) }
 {
     read(alloc, words)
 }

@@ -4,17 +4,19 @@
 #[derive(Debug, PartialEq, Eq, Drop)]
 pub enum Settings<'a> {
     Words(Words<'a>),
+    Check(Check<'a>),
     Asm(Asm<'a>),
     Dis(Dis<'a>),
     Run(Run<'a>),
+    Hunt(Hunt<'a>),
+    Explore(Explore<'a>),
     Replay(Replay<'a>),
-    Explain(Explain<'a>),
     Order(Order<'a>),
-    Debug(Session<'a>),
     Story(Replay<'a>),
     Stats(Replay<'a>),
-    Explore(Explore<'a>),
-    Hunt(Hunt<'a>),
+    Picture(Picture<'a>),
+    Debug(Session<'a>),
+    Explain(Explain<'a>),
 }
 
 /// The sizes of a machine.
@@ -33,6 +35,13 @@ pub struct Sizes {
 /// `words FILE`.
 #[derive(Debug, PartialEq, Eq, Drop)]
 pub struct Words<'a> {
+    pub file: &'a str,
+}
+
+/// `check FILE`.
+#[derive(Debug, PartialEq, Eq, Drop)]
+pub struct Check<'a> {
+    /// The text.
     pub file: &'a str,
 }
 
@@ -73,7 +82,7 @@ pub struct Run<'a> {
     pub start: u32,
 }
 
-/// `replay TRACE FILE`, or `story` or `stats` of the same.
+/// `replay TRACE FILE`, or what another command takes of a trace.
 #[derive(Debug, PartialEq, Eq, Drop)]
 pub struct Replay<'a> {
     /// The trace, which has the other sizes of its machine.
@@ -94,16 +103,21 @@ pub struct Explain<'a> {
 /// `order TRACE FILE`, and which of its lines are asked for.
 #[derive(Debug, PartialEq, Eq, Drop)]
 pub struct Order<'a> {
-    /// The trace, which has the other sizes of its machine.
-    pub trace: &'a str,
-    /// The image.
-    pub file: &'a str,
-    /// How many shared words the machine has, from 1 to 262,144.
-    pub words: u32,
+    /// The trace and its machine.
+    pub replay: Replay<'a>,
     /// The processor whose entries are asked for, at most 63, or none for those of all.
     pub processor: Option<u8>,
     /// The number of the shared word on which the entries act that are asked for, at most 262,143, or none for all entries.
     pub word: Option<u32>,
+}
+
+/// `picture TRACE FILE`, and behind which step.
+#[derive(Debug, PartialEq, Eq, Drop)]
+pub struct Picture<'a> {
+    /// The trace and its machine.
+    pub replay: Replay<'a>,
+    /// How many steps the machine has taken that is drawn, or none where it has taken all.
+    pub step: Option<u32>,
 }
 
 /// `debug FILE`.
@@ -126,7 +140,7 @@ pub struct Explore<'a> {
     pub file: &'a str,
     /// The sizes of the machine.
     pub sizes: Sizes,
-    /// How many states the search may look at, from 1.
+    /// With how many states the search is given up, from 1.
     pub states: u32,
 }
 

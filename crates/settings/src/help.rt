@@ -1,10 +1,27 @@
 //! What the help of a command tells after its options.
 
+/// What `words` prints and tells, and its exit statuses.
+pub(crate) const WORDS_ENDS: &str = "\
+Prints `xN VVVVVVVV` for each of the 32 registers, `pc VVVVVVVV`, and how the processor stopped: `halt HH`,
+HH in hex, or `fault N`. `budget` is told where it has retired a million instructions and still runs.
+
+Exit status: 0 done, 1 the processor stopped by a fault, 2 a refused line (`ultra: V1`, with its number) or
+command line, 3 FILE or standard output failed (`link`), 4 no memory, or the budget used up.";
+
+/// What `check` prints, and its exit statuses.
+pub(crate) const CHECK_ENDS: &str = "\
+Every fault of the text is listed, and not the first alone: its line, its column, its code as `ultra asm`
+tells it (A1 to A6), the word that is at fault, and what would be right there. The last line says how many
+there are. Nothing is written.
+
+Exit status: 0 the text has no fault, 1 it has faults, 2 a refused command line, 3 FILE cannot be opened or
+read or is not UTF-8, or standard output cannot be written (`link`), 4 no memory.";
+
 /// What `asm` tells, and its exit statuses.
 pub(crate) const ASM_ENDS: &str = "\
 Faults are told on standard error, as `ultra: A3 line 2`, and then OUT is not opened: A1 unknown
 first word, A2 form, A3 number out of range or place not divisible by 4, A4 label twice, A5 label
-missing, A6 section full, each with its line.
+missing, A6 section full, each with its line. `ultra check FILE` lists all faults of a text.
 
 Exit status: 0 done, 2 a fault of the text or of the command line, 3 FILE cannot be read or is not
 UTF-8 (`link`) or OUT cannot be written (`I9`), 4 no memory.";
@@ -23,8 +40,10 @@ Each processor runs on a thread of its own until it stops. A thread goes through
 --budget says: it takes a turn of its processor, and then asks for a step of the network, which a
 generator of numbers picks that begins with --start. Which thread comes first is up to this computer,
 so another run may come to another result, and may show what the sweep never does. A trace that is
-saved replays to the same report. One run shows nothing of the others; that each processor gets on is
-not claimed. `ultra hunt` tries many schedules.
+saved replays to the same report. That each processor gets on is not claimed.
+
+A run is one schedule of many, by the sweep too. One schedule that a program passes shows nothing of the
+others: `ultra hunt` tries many, and `ultra explore` tells every result of a small program.
 
 With --sweep one thread takes all steps. In each round every processor takes a turn, then the requests
 move on towards the memory modules, each module serves one, and the replies move back, so the same run
@@ -141,6 +160,20 @@ Faults are told on standard error as by `ultra replay`, and then nothing is prin
 Exit status: 0 done, 1 a processor stopped by a fault, 2 a refused trace, image or command line, 3 a
 file or standard output failed, 4 no memory.";
 
+/// What `picture` prints, and its exit statuses.
+pub(crate) const PICTURE_ENDS: &str = "\
+The steps are those of which `ultra story` tells: the trace's, and those that bring home what is then
+still on its way. The machine is drawn behind the first N of them, or behind all where there are no more:
+so `--step N` shows what line N of the story finds. From left to right stand the processors, the stages
+of switches and the modules. A request or a reply is told by its leader and those for which it stands; a
+wait record by the leader that went on and the one that waits. `ultra picture TRACE FILE > FILE.svg`
+writes a file that browsers show.
+
+Faults are told on standard error as by `ultra replay`, and then nothing is printed.
+
+Exit status: 0 done, 1 a fault has stopped a processor of the machine drawn, 2 a refused trace, image or
+command line, 3 a file or standard output failed, 4 no memory.";
+
 /// What `explore` prints, and its exit statuses.
 pub(crate) const EXPLORE_ENDS: &str = "\
 A result is what is left where no processor runs any more: where each stands and why it stopped, what it
@@ -153,9 +186,9 @@ last line has the number of results, and that of the states between references t
 were found.
 
 Faults are told on standard error, and then nothing is printed: `ultra: I1` to `I8` a refused image, `K1`
-a size out of the limits, `states` more states than --states says, `alone` a processor goes on for a
-million instructions without a reference to a shared word, `link` FILE cannot be opened or standard
-output cannot be written, `I9` FILE cannot be read, `memory`.
+a size out of the limits, `states` as many states as --states says are found, or more, `alone` a processor
+goes on for a million instructions without a reference to a shared word, `link` FILE cannot be opened or
+standard output cannot be written, `I9` FILE cannot be read, `memory`.
 
 Exit status: 0 done, 1 in a result a fault has stopped a processor, 2 a refused image or command line, 3 a
 file or standard output failed, 4 no memory, too many states, or a processor alone for too long.";

@@ -5,11 +5,13 @@ mod args;
 mod asked;
 mod choice;
 mod command;
+mod forms;
 mod help;
 mod ranges;
 mod reads;
 
 pub use asked::{settings, status_of};
 pub use choice::{
-    Asm, Dis, Explain, Explore, Hunt, Order, Replay, Run, Session, Settings, Sizes, Words,
+    Asm, Check, Dis, Explain, Explore, Hunt, Order, Picture, Replay, Run, Session, Settings, Sizes,
+    Words,
 };

@@ -94,13 +94,13 @@ pub(crate) const RUNS: NumberOption = NumberOption {
     help: "Runs that are taken, 1 to 1000000 [default: 1000]",
 };
 
-/// How many states an exploration may look at.
+/// With how many states an exploration is given up.
 pub(crate) const STATES: NumberOption = NumberOption {
     name: "states",
     default: 1_000_000,
     low: 1,
     high: u32::MAX,
-    help: "States that the search may look at, 1 to 4294967295 [default: 1000000]",
+    help: "Give up where as many states as this are found, 1 to 4294967295 [default: 1000000]",
 };
 
 /// Where the choices of the threads begin.
@@ -121,7 +121,7 @@ pub(crate) const FIRST_START: NumberOption = NumberOption {
     help: "Where the choices of the first run begin, 0 to 4294967295; those of the next begin at the next number [default: 1]",
 };
 
-/// An option that takes a number, and need not be given.
+/// An option that takes a number, and has no default.
 #[derive(Clone, Copy, Drop)]
 pub(crate) struct ChoiceOption {
     pub(crate) name: &'static str,
@@ -138,6 +138,14 @@ pub(crate) const PROCESSOR: ChoiceOption = ChoiceOption {
     low: 0,
     high: 63,
     help: "Print the lines of this processor alone, 0 to 63",
+};
+
+/// How many steps the machine has taken that is drawn.
+pub(crate) const STEP: ChoiceOption = ChoiceOption {
+    name: "step",
+    low: 0,
+    high: u32::MAX,
+    help: "Draw the machine behind so many steps, 0 to 4294967295 [default: behind all]",
 };
 
 /// The shared word on which the entries act that are asked for.

@@ -1,17 +1,19 @@
 //! What the matches of a subcommand say.
 ghost use Rattle.std.specs.Prelude.{◌≡◌, ◌≤◌, ◌<◌, ◌^◌, codes, option_map};
 ghost use Rattle.clap.specs.Words.{found_of, rows_of, subcommand_rows_of};
-ghost use Rattle.settings.specs.Lines.{IsPath, IsOption, IsFlag, IsNumber, IsWords, IsAsm, IsDis, IsRun, IsReplay, IsExplain, IsChosen, HasPath, HasNumber};
-ghost use Rattle.settings.specs.Lines.{HasAsm, HasDis, HasRun, HasReplay, IsComplete, HasOrder, IsOrder, IsChoice};
-ghost use Rattle.settings.specs.Lines.{AreSizes, HasDebug, HasExplore, HasHunt, HasSizes, IsExplore, IsHunt, IsSession};
-ghost use Rattle.settings.specs.Options.{bounded, bounds_as, ranged, ranged_as};
+ghost use Rattle.settings.specs.Lines.{AreSizes, IsAsm, IsCheck, IsChoice, IsChosen, IsDis, IsExplain, IsExplore, IsFlag, IsHunt, IsNumber, IsOption};
+ghost use Rattle.settings.specs.Lines.{IsOrder, IsPath, IsPicture, IsReplay, IsRun, IsSession, IsWords};
+ghost use Rattle.settings.specs.Given.{HasAsm, HasDebug, HasDis, HasExplore, HasHunt, HasNumber, HasOrder, HasPath, HasPicture, HasReplay, HasRun, HasSizes};
+ghost use Rattle.settings.specs.Given.{IsComplete};
+ghost use Rattle.settings.specs.Forms.{bounded, bounds_as, ranged, ranged_as};
 
 use crate::choice::{
-    Asm, Dis, Explain, Explore, Hunt, Order, Replay, Run, Session, Settings, Sizes, Words,
+    Asm, Check, Dis, Explain, Explore, Hunt, Order, Picture, Replay, Run, Session, Settings, Sizes,
+    Words,
 };
 use crate::ranges::{
     BUDGET, ChoiceOption, FIRST_START, NumberOption, PORT, PROCESSOR, QUEUE, RECORDS, RUN_STEPS,
-    RUNS, SHARED_WORD, SHARED_WORDS, STAGES, START, STATES, STEPS,
+    RUNS, SHARED_WORD, SHARED_WORDS, STAGES, START, STATES, STEP, STEPS,
 };
 use clap::ArgMatches;
 
@@ -125,6 +127,15 @@ fn words<'a>(matches: &ArgMatches<'a>) -> Words<'a>
     }
 }
 
+fn check<'a>(matches: &ArgMatches<'a>) -> Check<'a>
+    requires { HasPath (codes "FILE") (rows_of (found_of matches.now)) }
+    ensures { IsCheck (rows_of (found_of matches.now)) result }
+{
+    Check {
+        file: path(matches, "FILE"),
+    }
+}
+
 fn asm<'a>(matches: &ArgMatches<'a>) -> Asm<'a>
     requires { HasAsm (rows_of (found_of matches.now)) }
     ensures { IsAsm (rows_of (found_of matches.now)) result }
@@ -197,11 +208,19 @@ fn order<'a>(matches: &ArgMatches<'a>) -> Order<'a>
     ensures { IsOrder (rows_of (found_of matches.now)) result }
 {
     Order {
-        trace: path(matches, "TRACE"),
-        file: path(matches, "FILE"),
-        words: number(matches, SHARED_WORDS),
+        replay: replay(matches),
         processor: byte_choice(matches, PROCESSOR),
         word: choice(matches, SHARED_WORD),
+    }
+}
+
+fn picture<'a>(matches: &ArgMatches<'a>) -> Picture<'a>
+    requires { HasPicture (rows_of (found_of matches.now)) }
+    ensures { IsPicture (rows_of (found_of matches.now)) result }
+{
+    Picture {
+        replay: replay(matches),
+        step: choice(matches, STEP),
     }
 }
 
@@ -250,17 +269,19 @@ pub(crate) fn chosen<'a>(matches: &ArgMatches<'a>) -> Settings<'a>
     let (name, inner) = matches.subcommand().unwrap();
     match name {
         "words" => Settings::Words(words(inner)),
+        "check" => Settings::Check(check(inner)),
         "asm" => Settings::Asm(asm(inner)),
         "dis" => Settings::Dis(dis(inner)),
         "run" => Settings::Run(run(inner)),
+        "hunt" => Settings::Hunt(hunt(inner)),
+        "explore" => Settings::Explore(explore(inner)),
         "replay" => Settings::Replay(replay(inner)),
-        "explain" => Settings::Explain(explain(inner)),
         "order" => Settings::Order(order(inner)),
-        "debug" => Settings::Debug(session(inner)),
         "story" => Settings::Story(replay(inner)),
         "stats" => Settings::Stats(replay(inner)),
-        "explore" => Settings::Explore(explore(inner)),
-        "hunt" => Settings::Hunt(hunt(inner)),
+        "picture" => Settings::Picture(picture(inner)),
+        "debug" => Settings::Debug(session(inner)),
+        "explain" => Settings::Explain(explain(inner)),
         _ => unreachable!(),
     }
 }

@@ -4,11 +4,13 @@
 //! The cases are texts, as of a terminal. After `$ ` stand the words, and below them the answer: the settings, or the
 //! kind of the error and a part of its text. A part that ends within a line ends with `\`.
 
+mod check;
 mod debug;
 mod explain;
 mod explore;
 mod hunt;
 mod order;
+mod picture;
 mod replay;
 mod run;
 
@@ -47,7 +49,7 @@ const REFUSED: &str = "\
 $ ultra
 MissingSubcommand
 error: 'ultra' requires a subcommand but one was not provided
-  [subcommands: words, asm, dis, run, replay, explain, order, debug, story, stats, explore, hunt, help]
+  [subcommands: words, check, asm, dis, run, hunt, explore, replay, order, story, stats, picture, debug, explain, help]
 
 Usage: ultra <COMMAND>
 $ ultra frob
@@ -72,6 +74,7 @@ error: unexpected argument '--fast' found
 $ ultra --help
 DisplayHelp
   words    Run a program of hex words on one processor and print its registers
+  check    List every fault of a text, each with its line and column, the word and what would be right
 $ ultra words --help
 DisplayHelp
 Usage: ultra words <FILE>
@@ -117,7 +120,7 @@ DisplayVersion
 ultra 0.1.0
 ";
 
-static CASES: [&str; 23] = [
+static CASES: [&str; 28] = [
     TAKEN,
     REFUSED,
     run::TAKEN,
@@ -141,6 +144,11 @@ static CASES: [&str; 23] = [
     hunt::TAKEN,
     hunt::REFUSED,
     hunt::HELP,
+    check::TAKEN,
+    check::REFUSED,
+    check::HELP,
+    picture::TAKEN,
+    picture::REFUSED,
 ];
 
 /// The error is the one that stands there. An `Err` is a lack of memory.

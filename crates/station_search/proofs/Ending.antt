@@ -1,9 +1,6 @@
 -- The rows that a search has found are closed, so they have all ends; and each is reached.
-use Rattle.std.proofs.Common.{◌≡◌, ℕ, ◌<◌, zero, suc, true, List, [], ◌∷◌, Some, length, map, refl, sym, ap, subst, ◌∙◌, arith}
+use Rattle.std.proofs.Common.{◌≡◌, ℕ, ◌<◌, zero, suc, List, [], ◌∷◌, Some, length, map, refl, sym, ap, subst, ◌∙◌, arith}
 use Rattle.std.specs.Prelude.{slice_get, slice_index_or}
-use Rattle.flat_machine.specs.State.{is_running}
-use Rattle.flat_machine.specs.Turns.{turn_of}
-use Rattle.alone.specs.Stations.{Station, IsReference}
 use Rattle.alone.specs.Closing.{if_running, Standing, IsIn, IsMove, IsClosed}
 use Rattle.alone.specs.Laws.{ClosedSetsHaveAllEnds, MovesAreTurns, StoppedAreForgotten}
 use Rattle.station_search.specs.declared.tables.Extent.{Extent}
@@ -46,4 +43,5 @@ module _ (e : Extent) (code : List ℕ) (t : TableLists) (rows : List (List ℕ)
   pub reached : MovesAreTurns → StoppedAreForgotten → AreTurns e code t rows first
   reached all forgotten m consoles i settles within =
       let way = h.reached i within in
-      all (setting_at e) code if_running m consoles first way.0 (state_at e t rows i) (forgotten (setting_at e) code) settles way.1
+      let x = all (setting_at e) code if_running m consoles first way.0 (state_at e t rows i) (forgotten (setting_at e) code) settles way.1 in
+      (x.0, x.1, x.2)

@@ -1,11 +1,11 @@
 -- Rows mean the same in tables that have grown.
-use Rattle.std.proofs.Common.{◌≡◌, ℕ, ◌<◌, ◌≤◌, List, [], ◌∷◌, ◌++◌, length, refl, sym, ap, subst, ◌∙◌, arith, length-append}
-use Rattle.std.specs.Prelude.{slice_index, slice_index_or}
+use Rattle.std.proofs.Common.{◌≡◌, ℕ, List, [], ◌∷◌, ◌++◌, refl, sym, ap, ◌∙◌, arith, length-append}
+use Rattle.std.specs.Prelude.{slice_index}
 use Rattle.std.proofs.lemmas.List.{get_or_append_left}
-use Rattle.alone.specs.Closing.{if_running, Standing}
+use Rattle.alone.specs.Closing.{if_running}
 use Rattle.station_search.specs.declared.tables.Extent.{Extent}
 use Rattle.station_search.specs.Placed.{Placed}
-use Rattle.station_search.specs.Tables.{TableLists, nowhere, placed_at, words_at, IsKept, setting_at, means, IsRow}
+use Rattle.station_search.specs.Tables.{TableLists, nowhere, placed_at, words_at, IsKept, means, IsRow}
 use Rattle.station_search.proofs.Lemmas.{listed_same}
 
 pub kept_all : (t : TableLists) → IsKept t t

@@ -1,5 +1,5 @@
 -- Lists of what a function gives at each place, and places of lists.
-use Rattle.std.proofs.Common.{◌≡◌, ◌≢◌, ◌⊎◌, inl, inr, ℕ, ◌+◌, ◌<◌, ◌≤◌, zero, suc, List, [], ◌∷◌, ◌++◌, Some, length, map, refl, sym, ap, subst, ◌∙◌, arith}
+use Rattle.std.proofs.Common.{◌≡◌, ◌≢◌, ◌⊎◌, inl, inr, ℕ, ◌<◌, ◌≤◌, zero, suc, List, [], ◌∷◌, Some, None, length, map, refl, sym, ap, subst, ◌∙◌, arith}
 use Rattle.std.specs.Prelude.{slice_get, slice_set, slice_index_or}
 use Rattle.std.specs.List.{range_with_len}
 use Rattle.std.proofs.lemmas.Bool.{cases_eq}
@@ -15,6 +15,11 @@ pub found_at : {X : Type 0} (xs : List X) (k : ℕ) (x d : X) → slice_get xs k
 found_at [] k x d e = absurd (cc)
 found_at (y ∷ ys) zero x d e = (omega arith, (let same : y ≡ x = cc in same))
 found_at (y ∷ ys) (suc k) x d e = let h = found_at ys k x d e in let less = h.0 in (omega (arith, less), h.1)
+
+pub past : {X : Type 0} (xs : List X) (k : ℕ) → slice_get xs k ≡ None → length xs ≤ k
+past [] k e = omega arith
+past (x ∷ xs) zero e = absurd cc
+past (x ∷ xs) (suc k) e = let h = past xs k e in omega (arith, h)
 
 -- what is read where there is something does not depend on what is read elsewhere
 pub any_default : {X : Type 0} (xs : List X) (k : ℕ) (c d : X) → k < length xs → slice_index_or xs k c ≡ slice_index_or xs k d

@@ -2,6 +2,7 @@ pub mod WordLists
 pub mod Still
 pub mod Lemmas
 pub mod Growing
+pub mod Remembering
 pub mod Moving
 pub mod Searching
 pub mod Ending

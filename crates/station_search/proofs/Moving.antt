@@ -1,7 +1,7 @@
 -- The row that a look for a move gives is where a reference leads, and what the processor does alone behind it.
 use Rattle.std.proofs.Common.{◌≡◌, ◌≢◌, ◌⊎◌, inl, inr, ℕ, ◌<◌, ◌≤◌, ◌^◌, Bool, true, false, cond}
-use Rattle.std.proofs.Common.{true≢false, List, [], Option, Some, None, length, refl, sym, ap, subst, ◌∙◌, arith}
-use Rattle.std.specs.Prelude.{slice_get, slice_set, slice_index, slice_index_or}
+use Rattle.std.proofs.Common.{true≢false, List, [], Some, length, refl, sym, ap, subst, ◌∙◌, arith}
+use Rattle.std.specs.Prelude.{slice_set, slice_index}
 use Rattle.std.proofs.lemmas.Bool.{cases_eq}
 use Rattle.std.proofs.lemmas.List.{length-set, get_or-set_same, get_or-set_other}
 use Rattle.phi_algebra.specs.declared.phi.Phi.{Phi}
@@ -15,7 +15,7 @@ use Rattle.hart.specs.declared.decision.Decision.{Decision}
 use Rattle.hart.specs.declared.decision.Decision.TheVariants.{Local, Refer, Halt, Fault}
 use Rattle.hart.specs.Deciding.{Decides, after_reply}
 use Rattle.alone.specs.Stations.{Station, behind, alone, IsSettled, IsReference}
-use Rattle.alone.specs.Closing.{if_running, Standing, IsMove, gone}
+use Rattle.alone.specs.Closing.{if_running, Standing, gone}
 use Rattle.station_search.specs.declared.tables.Extent.{Extent}
 use Rattle.station_search.specs.Placed.{Placed}
 use Rattle.station_search.specs.Words.{IsWritten}

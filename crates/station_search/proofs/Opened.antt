@@ -1,21 +1,20 @@
 -- The first row means the state to which the flat machine settles.
-use Rattle.std.proofs.Common.{◌≡◌, ◌≢◌, ◌⊎◌, inl, inr, ℕ, ◌+◌, ◌<◌, ◌≤◌, zero, suc, List, [], ◌∷◌, Some, length, map, refl, sym, ap, subst, ◌∙◌, arith}
-use Rattle.std.specs.Prelude.{slice_get, slice_set, slice_index, slice_index_or}
-use Rattle.std.specs.List.{range_with_len}
+use Rattle.std.proofs.Common.{◌≡◌, ◌⊎◌, inl, inr, ℕ, ◌+◌, ◌<◌, ◌≤◌, zero, suc, List, [], ◌∷◌, Some, length, map, refl, sym, ap, subst, ◌∙◌, arith}
+use Rattle.std.specs.Prelude.{slice_get, slice_set, slice_index}
 use Rattle.std.proofs.lemmas.Bool.{cases_eq}
 use Rattle.std.proofs.lemmas.List.{length-map, length-set, get_or-set_same, get_or-set_other}
 use Rattle.std.proofs.lemmas.List.FromFn.{length-map-range_with_len, fill_by_all}
 use Rattle.flat_machine.specs.declared.setting.Setting.{Setting}
-use Rattle.flat_machine.specs.State.{FlatState, Processor}
+use Rattle.flat_machine.specs.State.{Processor}
 use Rattle.hart.specs.State.{CoreState}
 use Rattle.alone.specs.Stations.{alone, IsSettled}
-use Rattle.alone.specs.Closing.{if_running, station_of, Standing, Settles}
+use Rattle.alone.specs.Closing.{if_running, station_of, Settles}
 use Rattle.station_search.specs.declared.tables.Extent.{Extent}
-use Rattle.station_search.specs.Placed.{Placed, placed_of}
+use Rattle.station_search.specs.Placed.{Placed}
 use Rattle.station_search.specs.Words.{HasSameWords}
 use Rattle.station_search.specs.Tables.{TableLists, placed_at, words_at, IsKept, setting_at, means, IsRow}
 use Rattle.station_search.specs.Opening.{AreOfExtent, flat_of, IsOpened}
-use Rattle.station_search.proofs.Lemmas.{there, found_at, listed_there}
+use Rattle.station_search.proofs.Lemmas.{found_at, listed_there}
 
 -- what stands in a list behind a function
 unmapped : {X Y : Type 0} (f : X → Y) (xs : List X) (k : ℕ) (y : Y) → slice_get (map f xs) k ≡ Some y → (x : X) × (slice_get xs k ≡ Some x) × (f x ≡ y)

@@ -1,18 +1,18 @@
 -- What is found stays found where tables and rows grow, and the last move that is found completes a state.
-use Rattle.std.proofs.Common.{◌≡◌, ◌≢◌, ◌⊎◌, inl, inr, ℕ, ◌+◌, ◌<◌, ◌≤◌, zero, suc, Bool, true, false, cond}
-use Rattle.std.proofs.Common.{List, [], ◌∷◌, ◌++◌, Option, Some, None, length, refl, sym, ap, subst, ◌∙◌, arith, length-append, get_or-append-add}
-use Rattle.std.specs.Prelude.{Contains, slice_get, slice_index, slice_index_or}
+use Rattle.std.proofs.Common.{◌≡◌, ◌⊎◌, inl, inr, ℕ, ◌+◌, ◌<◌, ◌≤◌, zero, suc, Bool, true, false, cond}
+use Rattle.std.proofs.Common.{List, [], ◌∷◌, ◌++◌, Some, None, length, refl, sym, ap, subst, ◌∙◌, arith, length-append}
+use Rattle.std.specs.Prelude.{slice_index, slice_index_or}
 use Rattle.std.specs.List.{list_any}
-use Rattle.std.proofs.lemmas.Bool.{cases_eq, cases_lt}
+use Rattle.std.proofs.lemmas.Bool.{cases_lt}
 use Rattle.std.proofs.lemmas.List.{get_or_append_left}
 use Rattle.std.proofs.lemmas.Map.Views.{Contains-from_any}
 use Rattle.indexmap.specs.IndexSet.{insert_key}
-use Rattle.alone.specs.Closing.{if_running, Standing, IsMove, IsWay}
+use Rattle.alone.specs.Closing.{if_running, Standing, IsWay}
 use Rattle.station_search.specs.declared.tables.Extent.{Extent}
 use Rattle.station_search.specs.Tables.{TableLists, placed_at, IsKept, setting_at, means, IsRow}
 use Rattle.station_search.specs.Search.{state_at, Moves, IsReached, MayMove, IsNext, HasMove, Searched, Expanded}
 use Rattle.station_search.proofs.Lemmas.{any_default, listed_is}
-use Rattle.station_search.proofs.Growing.{kept_on, row_kept, means_kept}
+use Rattle.station_search.proofs.Growing.{row_kept, means_kept}
 
 -- ---- a list with a row inserted
 

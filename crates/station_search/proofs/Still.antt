@@ -1,5 +1,5 @@
 -- Turns alone, one after another.
-use Rattle.std.proofs.Common.{◌≡◌, ℕ, zero, suc, List, refl, sym, ap, ◌∙◌}
+use Rattle.std.proofs.Common.{◌≡◌, ℕ, zero, suc, List, refl, sym, ◌∙◌}
 use Rattle.flat_machine.specs.declared.setting.Setting.{Setting}
 use Rattle.alone.specs.Stations.{Station, alone, alone_once}
 use Rattle.station_search.specs.Placed.{Placed, HasTurned, HasGone}

@@ -1,5 +1,5 @@
 -- How far a search has come.
-use Rattle.std.specs.Prelude.{◌≡◌, ℕ, ◌<◌, ◌≤◌, true, List, [], ◌∷◌, Option, Some, None, length, slice_get, slice_index_or}
+use Rattle.std.specs.Prelude.{◌≡◌, ℕ, ◌<◌, ◌≤◌, true, List, [], Option, Some, None, length, slice_get, slice_index_or}
 use Rattle.flat_machine.specs.Turns.{turn_of}
 use Rattle.flat_machine.specs.State.{is_running}
 use Rattle.alone.specs.Stations.{Station, IsReference}

@@ -7,7 +7,7 @@ use Rattle.flat_machine.specs.declared.event.Status.TheVariants.{Halted}
 use Rattle.flat_machine.specs.State.{Processor}
 use Rattle.flat_machine.specs.Turns.{turn_of}
 use Rattle.hart.specs.Deciding.{after_reply}
-use Rattle.alone.specs.Stations.{Station, behind, alone, IsSettled}
+use Rattle.alone.specs.Stations.{behind, alone, IsSettled}
 use Rattle.alone.specs.Closing.{if_running, Standing}
 use Rattle.station_search.specs.declared.tables.Extent.{Extent}
 use Rattle.station_search.specs.Placed.{Placed}

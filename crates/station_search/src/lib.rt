@@ -7,6 +7,7 @@
 #![tactic(auto)]
 
 mod finding;
+mod memo;
 mod moves;
 mod opening;
 mod refusal;

@@ -3,10 +3,12 @@
 ghost use Rattle.std.specs.Prelude.{◌≡◌, ◌<◌, ◌≤◌, length, IfOk, OnOk};
 ghost use Rattle.flat_machine.specs.Turns.{turn_of};
 ghost use Rattle.hart.specs.Deciding.{IsReference};
+ghost use Rattle.station_search.specs.Memo.{KnowsLists, KnowsStations};
 ghost use Rattle.station_search.specs.Search.{IsNext};
 ghost use Rattle.station_search.specs.Tables.{IsBehind, IsKept, IsRow, means, placed_at, words_at};
 ghost use Rattle.station_search.specs.Words.{IsWritten};
 
+use crate::memo::{Memo, Memos};
 use crate::refusal::Refusal;
 use crate::tables::{Extent, Row, Tables, WORDS_PLACE};
 use crate::words::{with_word, word_of};
@@ -15,13 +17,14 @@ use local_memory::Code;
 
 impl Tables {
     /// Where a reference of a processor leads, and what it does alone behind it. None where it has
-    /// stopped.
+    /// stopped. What is remembered of such moves is looked up, and noted where it is not there.
     ///
     /// # Errors
     ///
     /// [`Refusal::Memory`] and [`Refusal::Alone`].
     pub fn next(
         &mut self,
+        memos: &mut Memos,
         code: &Code,
         extent: Extent,
         row: Row,
@@ -30,7 +33,11 @@ impl Tables {
         requires row { IsRow extent self.old row }
         requires there { p < extent.processors }
         requires room { extent.processors ≤ 8 }
+        requires stations { KnowsStations code.now self.old memos.old.stations }
+        requires lists { KnowsLists self.old memos.old.lists }
         ensures kept { OnOk result (IsKept self.old self.new) }
+        ensures stations { OnOk result (KnowsStations code.now self.new memos.new.stations) }
+        ensures lists { OnOk result (KnowsLists self.new memos.new.lists) }
         ensures next { IfOk result (IsNext extent code.now self.new (means extent self.old row) p) }
     {
         let number = row[usize::from(p)];
@@ -43,8 +50,8 @@ impl Tables {
         };
         let list = row[WORDS_PLACE];
         let before = word_of(self.words(list).as_slice(), word);
-        let after = self.moved(code, number, before)?;
-        let written = self.rewritten(list, word, phi.apply(before))?;
+        let after = self.moved(&mut memos.stations, code, number, word, before)?;
+        let written = self.rewritten(&mut memos.lists, list, word, phi.apply(before))?;
         let mut next = row;
         next[usize::from(p)] = after;
         next[WORDS_PLACE] = written;
@@ -52,7 +59,31 @@ impl Tables {
     }
 
     /// The number of the station behind a reference to a word that had this value before.
-    fn moved(&mut self, code: &Code, number: u32, before: u32) -> Result<u32, Refusal>
+    fn moved(
+        &mut self,
+        memo: &mut Memo,
+        code: &Code,
+        number: u32,
+        word: u32,
+        before: u32,
+    ) -> Result<u32, Refusal>
+        requires there { number < length self.old.stations }
+        requires refers { IsReference (turn_of (placed_at self.old number).setting code.now (placed_at self.old number).station.processor) }
+        requires known { KnowsStations code.now self.old memo.old }
+        ensures kept { OnOk result (IsKept self.old self.new) }
+        ensures known { OnOk result (KnowsStations code.now self.new memo.new) }
+        ensures behind { IfOk result (IsBehind code.now before (placed_at self.old number) self.new) }
+    {
+        if let Some(behind) = memo.get([number, word, before]) {
+            return Ok(behind);
+        }
+        let behind = self.retired(code, number, before)?;
+        memo.note([number, word, before], behind);
+        Ok(behind)
+    }
+
+    /// Makes the reference, and gives the number of the station behind it.
+    fn retired(&mut self, code: &Code, number: u32, before: u32) -> Result<u32, Refusal>
         requires there { number < length self.old.stations }
         requires refers { IsReference (turn_of (placed_at self.old number).setting code.now (placed_at self.old number).station.processor) }
         ensures kept { OnOk result (IsKept self.old self.new) }
@@ -69,15 +100,38 @@ impl Tables {
     }
 
     /// The number of a list of words with one of them written.
-    fn rewritten(&mut self, number: u32, word: u32, value: u32) -> Result<u32, Refusal>
+    fn rewritten(
+        &mut self,
+        memo: &mut Memo,
+        number: u32,
+        word: u32,
+        value: u32,
+    ) -> Result<u32, Refusal>
+        requires there { number < length self.old.words }
+        requires known { KnowsLists self.old memo.old }
+        ensures kept { OnOk result (IsKept self.old self.new) }
+        ensures known { OnOk result (KnowsLists self.new memo.new) }
+        ensures there { IfOk result (λ written. written < length self.new.words) }
+        ensures written { IfOk result (λ written. IsWritten (words_at self.old number) word value (words_at self.new written)) }
+    {
+        if let Some(written) = memo.get([number, word, value]) {
+            return Ok(written);
+        }
+        let written = self.written(number, word, value)?;
+        memo.note([number, word, value], written);
+        Ok(written)
+    }
+
+    /// Writes the word, and gives the number of the list that has it.
+    fn written(&mut self, number: u32, word: u32, value: u32) -> Result<u32, Refusal>
         requires { number < length self.old.words }
         ensures kept { OnOk result (IsKept self.old self.new) }
         ensures there { IfOk result (λ written. written < length self.new.words) }
         ensures written { IfOk result (λ written. IsWritten (words_at self.old number) word value (words_at self.new written)) }
     {
-        let Ok(written) = with_word(self.words(number), word, value) else {
+        let Ok(list) = with_word(self.words(number), word, value) else {
             return Err(Refusal::Memory);
         };
-        self.words_number(written)
+        self.words_number(list)
     }
 }

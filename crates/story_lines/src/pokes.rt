@@ -1,12 +1,11 @@
 //! The texts of writes from outside.
 
-ghost use Rattle.std.specs.Prelude.{◌≡◌, ◌∷◌, ◌++◌, [], codes, OnOk, string_bytes};
-ghost use Rattle.command_io.specs.Digits.{hex_of_byte, hex_of_word};
+ghost use Rattle.std.specs.Prelude.{◌≡◌, ◌++◌, OnOk, string_bytes};
 ghost use Rattle.story_lines.specs.Texts.{poke_text};
 
-use command_io::{push_bytes, push_word};
+use command_io::push_word;
 use flat_machine::Poke;
-use order_lines::push_register;
+use order_lines::{push_byte_at, push_register};
 use std::alloc::{AllocError, Global};
 use std::fmt::Write;
 
@@ -38,13 +37,4 @@ pub(crate) fn push_poke(alloc: Global, text: &mut String, poke: &Poke) -> Result
             push_byte_at(alloc, text, address, value)
         }
     }
-}
-
-/// Appends an address, and a byte that is written there.
-fn push_byte_at(alloc: Global, text: &mut String, address: u32, value: u8) -> Result<(), AllocError>
-    ensures { OnOk result (string_bytes text.new ≡ string_bytes text.old ++ hex_of_word address ++ codes " " ++ hex_of_byte value) }
-{
-    push_word(alloc, text, address)?;
-    text.push(' ')?;
-    push_bytes(alloc, text, &[value])
 }

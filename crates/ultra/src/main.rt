@@ -5,11 +5,14 @@ ghost use Rattle.std.specs.Prelude.{◌≡◌, false};
 ghost use Rattle.run_commands.specs.Commands.{IsWorking};
 
 mod door;
+mod telling;
 mod traces;
 
 use crate::door::Door;
+use crate::telling::{Telling, tell_steps};
 use crate::traces::TraceFiles;
 use asm_command::asm_command;
+use check_command::check_command;
 use clap::Error;
 use command_io::{CreateAt, Fault, OnFirstWrite, REFUSED, tell};
 use debug_command::debug_command;
@@ -19,14 +22,10 @@ use explore_command::explore_command;
 use flat_machine::Config;
 use hunt_command::{Hunt as Hunted, hunt_command};
 use link::{LinkWrite, Meter};
-use order_command::order_command;
 use order_lines::Choice;
 use processor_threads::Open;
-use run_commands::{replay_command, run_command};
-use settings::{
-    Asm, Explore, Hunt, Order, Replay, Run, Session, Settings, Sizes, settings, status_of,
-};
-use stats_command::stats_command;
+use run_commands::run_command;
+use settings::{Asm, Explore, Hunt, Run, Session, Settings, Sizes, settings, status_of};
 use std::alloc::{AllocError, Global};
 use std::io::{self, ErrorKind, IsTerminal, Read, Write};
 use std::net::Net;
@@ -37,7 +36,6 @@ use std::sync::Wait;
 use std::thread::Threads;
 use std::time::Clock;
 use std::{env, fs};
-use story_command::story_command;
 use threaded_run::{Progress, threaded_run_command};
 use words_command::words_command;
 
@@ -77,19 +75,32 @@ fn carry_out<
             Ok(file) => words_command(alloc, file, out, err),
             Err(_) => tell(Fault::Link, err),
         },
+        Ok(Settings::Check(check)) => match fs::open(rt, check.file) {
+            Ok(file) => check_command(alloc, file, out, err),
+            Err(_) => tell(Fault::Link, err),
+        },
         Ok(Settings::Asm(asm)) => assemble_file(rt, &asm, err),
         Ok(Settings::Dis(dis)) => match fs::open(rt, dis.file) {
             Ok(file) => dis_command(alloc, file, dis.words, out, err),
             Err(_) => tell(Fault::Link, err),
         },
         Ok(Settings::Run(run)) => run_file(rt, &run, terminal, out, err),
-        Ok(Settings::Replay(replay)) => replay_file(rt, &replay, out, err),
-        Ok(Settings::Order(order)) => order_file(rt, &order, out, err),
-        Ok(Settings::Debug(session)) => debug_file(rt, &session, out, err),
-        Ok(Settings::Story(replay)) => story_file(rt, &replay, out, err),
-        Ok(Settings::Stats(replay)) => stats_file(rt, &replay, out, err),
-        Ok(Settings::Explore(explore)) => explore_file(rt, &explore, out, err),
         Ok(Settings::Hunt(hunt)) => hunt_file(rt, &hunt, out, err),
+        Ok(Settings::Explore(explore)) => explore_file(rt, &explore, out, err),
+        Ok(Settings::Replay(replay)) => tell_steps(rt, &replay, Telling::Report, out, err),
+        Ok(Settings::Order(order)) => {
+            let choice = Choice {
+                processor: order.processor,
+                word: order.word,
+            };
+            tell_steps(rt, &order.replay, Telling::Order(choice), out, err)
+        }
+        Ok(Settings::Story(replay)) => tell_steps(rt, &replay, Telling::Story, out, err),
+        Ok(Settings::Stats(replay)) => tell_steps(rt, &replay, Telling::Counts, out, err),
+        Ok(Settings::Picture(asked)) => {
+            tell_steps(rt, &asked.replay, Telling::Picture(asked.step), out, err)
+        }
+        Ok(Settings::Debug(session)) => debug_file(rt, &session, out, err),
         Ok(Settings::Explain(explain)) => explain_command(
             alloc,
             &all_topics(),
@@ -188,54 +199,6 @@ fn config_of(sizes: &Sizes) -> Config {
     }
 }
 
-/// Does what `replay TRACE FILE` asks for.
-fn replay_file<R: Files + AllocGlobal, W: LinkWrite, E: Write>(
-    rt: &R,
-    replay: &Replay<'_>,
-    out: &mut W,
-    err: &mut E,
-) -> u8
-    requires works { W.has_failed out.old ≡ false }
-{
-    let Ok(trace) = fs::open(rt, replay.trace) else {
-        return tell(Fault::Link, err);
-    };
-    let file = fs::open(rt, replay.file);
-    replay_command(rt.alloc(), trace, file, replay.words, out, err)
-}
-
-/// Does what `story TRACE FILE` asks for.
-fn story_file<R: Files + AllocGlobal, W: LinkWrite, E: Write>(
-    rt: &R,
-    replay: &Replay<'_>,
-    out: &mut W,
-    err: &mut E,
-) -> u8
-    requires works { W.has_failed out.old ≡ false }
-{
-    let Ok(trace) = fs::open(rt, replay.trace) else {
-        return tell(Fault::Link, err);
-    };
-    let file = fs::open(rt, replay.file);
-    story_command(rt.alloc(), trace, file, replay.words, out, err)
-}
-
-/// Does what `stats TRACE FILE` asks for.
-fn stats_file<R: Files + AllocGlobal, W: LinkWrite, E: Write>(
-    rt: &R,
-    replay: &Replay<'_>,
-    out: &mut W,
-    err: &mut E,
-) -> u8
-    requires works { W.has_failed out.old ≡ false }
-{
-    let Ok(trace) = fs::open(rt, replay.trace) else {
-        return tell(Fault::Link, err);
-    };
-    let file = fs::open(rt, replay.file);
-    stats_command(rt.alloc(), trace, file, replay.words, out, err)
-}
-
 /// Does what `explore FILE` asks for.
 fn explore_file<R: Files + AllocGlobal, W: LinkWrite, E: Write>(
     rt: &R,
@@ -250,26 +213,6 @@ fn explore_file<R: Files + AllocGlobal, W: LinkWrite, E: Write>(
     };
     let config = config_of(&explore.sizes);
     explore_command(rt.alloc(), file, config, explore.states, out, err)
-}
-
-/// Does what `order TRACE FILE` asks for.
-fn order_file<R: Files + AllocGlobal, W: LinkWrite, E: Write>(
-    rt: &R,
-    order: &Order<'_>,
-    out: &mut W,
-    err: &mut E,
-) -> u8
-    requires works { W.has_failed out.old ≡ false }
-{
-    let Ok(trace) = fs::open(rt, order.trace) else {
-        return tell(Fault::Link, err);
-    };
-    let file = fs::open(rt, order.file);
-    let choice = Choice {
-        processor: order.processor,
-        word: order.word,
-    };
-    order_command(rt.alloc(), trace, file, order.words, choice, out, err)
 }
 
 /// Does what `hunt FILE` asks for. Each trace is opened by the first write to it.

@@ -20,6 +20,12 @@ Usage: ultra explore <FILE>
 $ ultra explore a.elf --states 0
 ValueValidation
 error: invalid value '0' for '--states <NUMBER>': 0 is not in 1..=4294967295
+$ ultra explore a.elf --states 4294967296
+ValueValidation
+error: invalid value '4294967296' for '--states <NUMBER>': 4294967296 is not in 1..=4294967295
+$ ultra explore a.elf --states 1 --states 1
+ArgumentConflict
+error: the argument '--states <NUMBER>' cannot be used multiple times
 $ ultra explore a.elf --k 7
 ValueValidation
 error: invalid value '7' for '--k <NUMBER>': 7 is not in 0..=6
@@ -35,8 +41,8 @@ DisplayHelp
 Usage: ultra explore [OPTIONS] <FILE>
 $ ultra help explore
 DisplayHelp
---states <NUMBER>  States that the search may look at, 1 to 4294967295 [default: 1000000]
+--states <NUMBER>  Give up where as many states as this are found, 1 to 4294967295 [default: 1000000]
 $ ultra explore --help
 DisplayHelp
-Exit status: 0 done, 1 in a result a fault has stopped a processor, 2 a refused image or command line, 3 a\
+Exit status: 0 done, 1 in a result a fault has stopped a processor,\
 ";

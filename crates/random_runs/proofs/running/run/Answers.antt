@@ -1,7 +1,7 @@
 use Rattle.std.proofs.Common.{◌≡◌, ◌+◌, ◌∙◌, List, length, sym, ap, subst}
-use Rattle.flat_machine.specs.declared.config.Config.{Config}
+use Rattle.machine_sweep.specs.Config.{Config}
 use Rattle.steps.specs.declared.step.Step.{Step}
-use Rattle.machine_runs.specs.Machines.{MachineLists}
+use Rattle.machine_sweep.specs.Machines.{MachineLists}
 use Rattle.machine_sweep.specs.Own.{AreOwn}
 use Rattle.random_runs.specs.Runs.{HasRun, WasAsked}
 use Rattle.random_runs.specs.Schedules.{schedule}

@@ -1,4 +1,4 @@
-use Rattle.std.proofs.Common.{◌≡◌, ℕ, ◌+◌, ◌<◌, ◌≤◌, true, nat_eq, List, [], Option, Some, None, length, refl, sym, ap, subst, ◌∙◌, arith}
+use Rattle.std.proofs.Common.{◌≡◌, ℕ, ◌+◌, ◌<◌, true, nat_eq, List, [], Some, None, length, refl, sym, ap, subst, ◌∙◌, arith}
 use Rattle.std.specs.Prelude.{slice_index_or}
 use Rattle.std.proofs.lemmas.Bool.Decides.{Decides-eqb}
 use Rattle.std.proofs.lemmas.Slice.Eq.{slice_eq-Decides}
@@ -25,6 +25,8 @@ loop-p-preserved c =
           subst (IsNext e code u (means e t c.args.row) c.loop-p.p) w.in-Some.is c.in_ok-next.ensures.next in
           record {
             kept = kept_on _ _ _ c.loop-p.invariant.kept kept;
+            stations = c.in_ok-next.ensures.stations;
+            lists = c.in_ok-next.ensures.lists;
             there = omega (arith, c.loop-p.invariant.there, ins.longer);
             row_is = ins.same c.args.at c.loop-p.invariant.there ∙ c.loop-p.invariant.row_is;
             is_row = row_kept e t u c.args.row kept c.loop-p.invariant.is_row;
@@ -37,6 +39,8 @@ loop-p-preserved c =
           subst (IsNext e code u (means e t c.args.row) c.loop-p.p) w.in_default.is c.in_ok-next.ensures.next in
           record {
             kept = kept_on _ _ _ c.loop-p.invariant.kept kept;
+            stations = c.in_ok-next.ensures.stations;
+            lists = c.in_ok-next.ensures.lists;
             there = subst (λ (ks : List (List ℕ)). c.args.at < length ks) keys c.loop-p.invariant.there;
             row_is = ap (λ (ks : List (List ℕ)). slice_index_or ks c.args.at []) (sym keys) ∙ c.loop-p.invariant.row_is;
             is_row = row_kept e t u c.args.row kept c.loop-p.invariant.is_row;

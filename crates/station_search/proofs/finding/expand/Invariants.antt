@@ -2,12 +2,15 @@ use Rattle.std.proofs.Common.{◌≡◌, ◌<◌, [], length}
 use Rattle.std.specs.Prelude.{slice_index_or}
 use Rattle.alone.specs.Closing.{Standing}
 use Rattle.station_search.specs.Search.{Searched, Expanded}
+use Rattle.station_search.specs.Memo.{KnowsLists, KnowsStations}
 use Rattle.station_search.specs.Tables.{IsKept, IsRow}
 use Rattle.station_search.proofs.finding.expand.Given as goal
 
 abbrev pub invariant-loop-p : goal.invariant-loop-p
 invariant-loop-p l = record {
   kept : IsKept l.fn.tables l.tables;
+  stations : KnowsStations l.code l.tables l.memos.stations;
+  lists : KnowsLists l.tables l.memos.lists;
   there : l.at < length l.found.keys;
   row_is : slice_index_or l.found.keys l.at [] ≡ l.row;
   is_row : IsRow l.extent l.tables l.row;

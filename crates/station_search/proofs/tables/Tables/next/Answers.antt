@@ -1,16 +1,15 @@
-use Rattle.std.proofs.Common.{◌≡◌, ℕ, ◌<◌, ◌≤◌, ◌^◌, false, List, length, refl, sym, ap, subst, ◌∙◌, arith, rules}
+use Rattle.std.proofs.Common.{◌≡◌, ◌<◌, false, sym, ap, subst, ◌∙◌, rules}
 use Rattle.std.specs.Prelude.{slice_index, slice_set}
 use Rattle.flat_machine.specs.State.{is_running}
 use Rattle.flat_machine.specs.Turns.{turn_of}
-use Rattle.phi_algebra.specs.Functions.{apply}
 use Rattle.hart.specs.declared.decision.Decision.TheVariants.{Refer}
 use Rattle.hart.specs.State.{CoreState}
 use Rattle.hart.specs.Deciding.{Decides}
 use Rattle.station_search.specs.Placed.{Placed}
-use Rattle.station_search.specs.Words.{IsWritten}
-use Rattle.station_search.specs.Tables.{placed_at, words_at, IsBehind, IsKept}
+use Rattle.station_search.specs.Tables.{placed_at, IsBehind}
 use Rattle.station_search.proofs.Growing.{kept_all}
-use Rattle.station_search.proofs.Moving.{IsReferred, HasLooked, looked, referred, undecided, stopped_has_none, local_has_none}
+use Rattle.station_search.proofs.Moving.{IsReferred, looked, referred, undecided, stopped_has_none, local_has_none}
+use Rattle.station_search.proofs.Remembering.{stations_kept, lists_kept}
 use Rattle.station_search.proofs.tables.Tables.next.Goals as goal
 
 abbrev core_of : Placed → CoreState
@@ -31,6 +30,8 @@ returns-in_default c =
     let core : c.core.result.now ≡ core_of (placed_at c.args.self.now (slice_index c.args.row c.args.p)) = c.core.ensures ∙ ap core_of is in
     record {
       kept = kept_all _;
+      stations = c.requires.stations;
+      lists = c.requires.lists;
       next = local_has_none c.args.extent c.args.code.now c.args.self.now c.args.row c.args.p c.requires.row c.requires.there
           (undecided c.decide.result _
           (subst (λ (k : CoreState). Decides c.decide.result (turn_of k.setting c.args.code.now k.state)) core c.decide.ensures.turn)
@@ -69,3 +70,11 @@ returns-clause-next c =
       written_is = c.in_ok-written.ensures.written;
       next_is = ap (λ i. slice_set (slice_set c.args.row i c.in_ok-after.after) 8 c.in_ok-written.written) c.from-2.ensures;
     })
+
+pub rewritten-requires-clause-known : goal.rewritten-requires-clause-known
+rewritten-requires-clause-known c =
+    lists_kept c.args.self.now c.moved.new.self c.args.memos.now.lists c.in_ok-after.ensures.kept c.requires.lists
+
+pub returns-clause-stations : goal.returns-clause-stations
+returns-clause-stations c =
+    stations_kept c.args.code.now c.moved.new.self c.rewritten.new.self c.moved.new.memo c.in_ok-written.ensures.kept c.in_ok-after.ensures.known

@@ -1,4 +1,4 @@
-use Rattle.std.proofs.Common.{◌≡◌, ℕ, true, nat_eq, List, [], refl, ap, ◌∙◌, sym}
+use Rattle.std.proofs.Common.{◌≡◌, true, nat_eq, [], refl, ap, ◌∙◌, sym}
 use Rattle.std.specs.Prelude.{map, slice_index_or}
 use Rattle.std.proofs.lemmas.Bool.Decides.{Decides-eqb}
 use Rattle.std.proofs.lemmas.Slice.Eq.{slice_eq-Decides}

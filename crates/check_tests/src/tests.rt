@@ -1,0 +1,3 @@
+//! Lists of faults are worked out by hand.
+
+mod listing;

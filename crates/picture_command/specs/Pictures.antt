@@ -1,0 +1,41 @@
+-- What the command prints: a picture of a machine behind steps. What it shows is not said here.
+use Rattle.std.specs.Prelude.{◌≡◌, ℕ, List, Option, Some, None, take}
+use Rattle.flat_machine.specs.declared.config.Config.{Config}
+use Rattle.elf_image.specs.Files.{IsImageOf}
+use Rattle.elf_image.specs.Images.{ImageContents}
+use Rattle.steps.specs.declared.step.Step.{Step}
+use Rattle.trace_file.specs.Traces.{TraceContents, config_of}
+use Rattle.machine_runs.specs.Machines.{MachineLists}
+use Rattle.machine_runs.specs.Runs.{IsOpening, IsRun}
+use Rattle.run_commands.specs.Commands.{IsTraceOf}
+use Rattle.run_commands.specs.Reports.{IsExitOf}
+use Rattle.order_command.specs.Orders.{IsBroughtHome}
+
+-- so many of the steps, or all
+abbrev pub first_of : Option ℕ → List Step → List Step
+first_of None steps = steps
+first_of (Some count) steps = take count steps
+
+-- The machine of this size that opens on the image has taken so many of the steps of a trace and those of a drain. The exit status is
+-- that of the machine then.
+pub record IsDrawnBehind (c : Config) (image : ImageContents) (steps : List Step) (step : Option ℕ) (status : ℕ) : Type 0 where
+  pub all : List Step
+  pub home : IsBroughtHome c image steps all
+  pub opening : MachineLists
+  pub opens : IsOpening c image opening
+  pub machine : MachineLists
+  pub run : IsRun opening (first_of step all) machine
+  pub exit : IsExitOf machine status
+
+-- This is printed for a trace that is replayed on the image that a file means: a picture, of which nothing is said but what was taken
+-- for it.
+pub record IsDrawnFor (shared_words : ℕ) (step : Option ℕ) (trace known : Option (List ℕ)) (status : ℕ) (text : List ℕ) : Type 0 where
+  pub steps : TraceContents
+  pub read : IsTraceOf trace steps
+  pub image : ImageContents
+  pub meant : IsImageOf shared_words known image
+  pub drawn : IsDrawnBehind (config_of steps shared_words) image steps.steps step status
+
+-- so, with whatever exit status
+abbrev pub IsDrawnForSome : (shared_words : ℕ) → Option ℕ → (trace known : Option (List ℕ)) → (text : List ℕ) → Type 0
+IsDrawnForSome shared_words step trace known text = (status : ℕ) × IsDrawnFor shared_words step trace known status text

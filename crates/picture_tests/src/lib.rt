@@ -1,0 +1,5 @@
+//! Tests of pictures of machines.
+#![tactic(auto)]
+
+#[cfg(test)]
+mod tests;

@@ -1,0 +1,41 @@
+-- The commands as the code has them: what their forms are to the parser of the command line.
+use Rattle.std.specs.Prelude.{ℕ, List, [], ◌∷◌}
+use Rattle.clap.specs.Words.{App, Rule, Text, new_app, new_rule, with_rule, with_subcommand}
+use Rattle.settings.specs.Lines.{Bounds, Ranged, flag, number, option, path}
+use Rattle.settings.specs.declared.forms.Argument.{Argument}
+use Rattle.settings.specs.declared.forms.Argument.TheVariants as argument
+use Rattle.settings.specs.declared.forms.CommandForm.{CommandForm}
+use Rattle.settings.specs.declared.ranges.ChoiceOption.{ChoiceOption}
+use Rattle.settings.specs.declared.ranges.NumberOption.{NumberOption}
+
+abbrev pub bounds_as : Text → (low high : ℕ) → Bounds
+bounds_as name low high = record { name = name; low = low; high = high }
+
+abbrev pub ranged_as : Text → (default low high : ℕ) → Ranged
+ranged_as name default low high = record { bounds = bounds_as name low high; default = default }
+
+-- what its help says is left out
+abbrev pub ranged : NumberOption → Ranged
+ranged o = ranged_as o.name.now o.default o.low o.high
+
+abbrev pub bounded : ChoiceOption → Bounds
+bounded o = bounds_as o.name.now o.low o.high
+
+abbrev pub rule_of_argument : Argument → Rule
+rule_of_argument (argument.Path id help) = path id.now
+rule_of_argument (argument.Word id help) = new_rule id.now
+rule_of_argument (argument.Text name value help) = option name.now
+rule_of_argument (argument.Flag name help) = flag name.now
+rule_of_argument (argument.Number o) = number (ranged o).bounds
+rule_of_argument (argument.Choice o) = number (bounded o)
+
+abbrev pub with_arguments : List Argument → App → App
+with_arguments [] a = a
+with_arguments (x ∷ xs) a = with_arguments xs (with_rule a (rule_of_argument x))
+
+abbrev pub app_of_form : CommandForm → App
+app_of_form f = with_arguments f.arguments.now (new_app f.name.now)
+
+abbrev pub with_forms : List CommandForm → App → App
+with_forms [] a = a
+with_forms (f ∷ fs) a = with_forms fs (with_subcommand a (app_of_form f).top)

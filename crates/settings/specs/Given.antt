@@ -1,0 +1,76 @@
+-- What clap finds in words without a fault: all that has to be given to a command.
+use Rattle.std.specs.Prelude.{◌≡◌, ◌⊎◌, pos, true, List, [], ◌∷◌, codes, Option, is_some, option_map}
+use Rattle.std.specs.Prelude.{IfSome, IsSomeAnd}
+use Rattle.clap.specs.Words.{IsSignedIn, Row, Text, first_of, one_of, without_minus}
+use Rattle.settings.specs.Lines.{Bounds, budget, port, processor, queue, records, runs, shared_word, shared_words, stages, start, states}
+use Rattle.settings.specs.Lines.{step, steps}
+
+abbrev pub HasPath : Text → List Row → Type 0
+HasPath id rows = is_some (first_of id rows) ≡ true
+
+-- the option's text, where it has one, spells a number in the range; clap reads it without a minus, which 0 may have
+abbrev pub HasNumber : Bounds → List Row → Type 0
+HasNumber o rows =
+    (one_of o.name rows ≡ option_map without_minus (first_of o.name rows)) × IfSome (first_of o.name rows) (IsSignedIn (pos o.low) (pos o.high))
+
+abbrev pub HasAsm : List Row → Type 0
+HasAsm rows = HasPath (codes "FILE") rows × HasPath (codes "OUT") rows
+
+abbrev pub HasDis : List Row → Type 0
+HasDis rows = HasPath (codes "FILE") rows × HasNumber shared_words.bounds rows
+
+abbrev pub HasSizes : List Row → Type 0
+HasSizes rows = HasNumber stages.bounds rows × HasNumber queue.bounds rows × HasNumber records.bounds rows × HasNumber shared_words.bounds rows
+
+abbrev pub HasRun : List Row → Type 0
+HasRun rows = HasPath (codes "FILE") rows × HasSizes rows × HasNumber budget.bounds rows × HasNumber start.bounds rows
+
+abbrev pub HasReplay : List Row → Type 0
+HasReplay rows = HasPath (codes "TRACE") rows × HasPath (codes "FILE") rows × HasNumber shared_words.bounds rows
+
+abbrev pub HasOrder : List Row → Type 0
+HasOrder rows = HasReplay rows × HasNumber processor rows × HasNumber shared_word rows
+
+abbrev pub HasPicture : List Row → Type 0
+HasPicture rows = HasReplay rows × HasNumber step rows
+
+abbrev pub HasDebug : List Row → Type 0
+HasDebug rows = HasPath (codes "FILE") rows × HasSizes rows × HasNumber steps.bounds rows × HasNumber port.bounds rows
+
+abbrev pub HasExplore : List Row → Type 0
+HasExplore rows = HasPath (codes "FILE") rows × HasSizes rows × HasNumber states.bounds rows
+
+abbrev pub HasHunt : List Row → Type 0
+HasHunt rows =
+    HasPath (codes "FILE") rows × HasSizes rows × HasNumber steps.bounds rows × HasNumber runs.bounds rows × HasNumber start.bounds rows
+
+-- the subcommands of the program
+abbrev pub command_names : List Text
+command_names =
+    codes "words" ∷ codes "check" ∷ codes "asm" ∷ codes "dis" ∷ codes "run" ∷ codes "hunt" ∷ codes "explore"
+    ∷ codes "replay" ∷ codes "order" ∷ codes "story" ∷ codes "stats" ∷ codes "picture" ∷ codes "debug" ∷ codes "explain" ∷ []
+
+abbrev pub IsOneOf : Text → List Text → Type 0
+IsOneOf name [] = ⊥
+IsOneOf name (x ∷ xs) = (name ≡ x) ⊎ IsOneOf name xs
+
+-- the name and the rows are of a subcommand of the program's, with all that has to be given
+pub record IsWhole (name : Text) (rows : List Row) : Type 0 where
+  pub known : IsOneOf name command_names
+  pub words : name ≡ codes "words" → HasPath (codes "FILE") rows
+  pub check : name ≡ codes "check" → HasPath (codes "FILE") rows
+  pub asm : name ≡ codes "asm" → HasAsm rows
+  pub dis : name ≡ codes "dis" → HasDis rows
+  pub run : name ≡ codes "run" → HasRun rows
+  pub hunt : name ≡ codes "hunt" → HasHunt rows
+  pub explore : name ≡ codes "explore" → HasExplore rows
+  pub replay : name ≡ codes "replay" → HasReplay rows
+  pub order : name ≡ codes "order" → HasOrder rows
+  pub story : name ≡ codes "story" → HasReplay rows
+  pub stats : name ≡ codes "stats" → HasReplay rows
+  pub picture : name ≡ codes "picture" → HasPicture rows
+  pub debug : name ≡ codes "debug" → HasDebug rows
+
+-- there is such a subcommand
+abbrev pub IsComplete : Option (Text × List Row) → Type 0
+IsComplete stop = IsSomeAnd stop (λ p. IsWhole p.0 p.1)

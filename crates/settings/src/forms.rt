@@ -1,0 +1,377 @@
+//! The commands of the program, each with its arguments and with what its help says.
+
+ghost use Rattle.std.specs.Prelude.{◌≡◌};
+ghost use Rattle.settings.specs.Forms.{app_of_form, with_forms};
+ghost use Rattle.settings.specs.Lines.{asm_command, check_command, debug_command, dis_command, explain_command, explore_command, hunt_command};
+ghost use Rattle.settings.specs.Lines.{order_command, picture_command, program, replay_command, run_command, stats_command, story_command};
+ghost use Rattle.settings.specs.Lines.{ultra_command, words_command};
+
+use crate::help::{
+    ASM_ENDS, CHECK_ENDS, DEBUG_ENDS, DIS_ENDS, EXPLAIN_ENDS, EXPLORE_ENDS, HUNT_ENDS, ORDER_ENDS,
+    PICTURE_ENDS, REPLAY_ENDS, RUN_ENDS, STATS_ENDS, STORY_ENDS, WORDS_ENDS,
+};
+use crate::ranges::{
+    BUDGET, ChoiceOption, FIRST_START, NumberOption, PORT, PROCESSOR, QUEUE, RECORDS, RUN_STEPS,
+    RUNS, SHARED_WORD, SHARED_WORDS, STAGES, START, STATES, STEP, STEPS,
+};
+
+/// A command of the program.
+#[derive(Clone, Copy, Drop)]
+pub(crate) struct CommandForm {
+    pub(crate) name: &'static str,
+    /// What its help says first.
+    pub(crate) about: &'static str,
+    pub(crate) arguments: &'static [Argument],
+    /// What its help says last.
+    pub(crate) ends: &'static str,
+}
+
+/// An argument of a command.
+#[derive(Clone, Copy, Drop)]
+pub(crate) enum Argument {
+    /// A file that has to be given.
+    Path {
+        id: &'static str,
+        help: &'static str,
+    },
+    /// A word that need not be given.
+    Word {
+        id: &'static str,
+        help: &'static str,
+    },
+    /// `--NAME TEXT`.
+    Text {
+        name: &'static str,
+        value: &'static str,
+        help: &'static str,
+    },
+    /// `--NAME`.
+    Flag {
+        name: &'static str,
+        help: &'static str,
+    },
+    /// `--NAME NUMBER`, with a default.
+    Number(NumberOption),
+    /// `--NAME NUMBER`, with no default.
+    Choice(ChoiceOption),
+}
+
+/// An image, where it is read.
+const IMAGE: Argument = Argument::Path {
+    id: "FILE",
+    help: "An image, as `ultra asm` writes it",
+};
+
+/// A text, where it is read.
+const TEXT: Argument = Argument::Path {
+    id: "FILE",
+    help: "Assembler text in UTF-8, one statement a line, as `amoadd.w a0, a1, (a2)`",
+};
+
+/// A trace, where it is read.
+const TRACE: Argument = Argument::Path {
+    id: "TRACE",
+    help: "A trace, as `ultra run --trace` writes it",
+};
+
+/// The image that goes with a trace.
+const TRACED_IMAGE: Argument = Argument::Path {
+    id: "FILE",
+    help: "The image of that run, as `ultra asm` writes it",
+};
+
+/// What a trace is taken on.
+const REPLAYED: &[Argument] = &[TRACE, TRACED_IMAGE, Argument::Number(SHARED_WORDS)];
+
+const WORDS: CommandForm = CommandForm {
+    name: "words",
+    about: "Run a program of hex words on one processor and print its registers",
+    arguments: &[Argument::Path {
+        id: "FILE",
+        help: "Lines of eight hex digits, one instruction word a line, the first at address 0x00010000",
+    }],
+    ends: WORDS_ENDS,
+};
+
+const CHECK: CommandForm = CommandForm {
+    name: "check",
+    about: "List every fault of a text, each with its line and column, the word and what would be right",
+    arguments: &[TEXT],
+    ends: CHECK_ENDS,
+};
+
+const ASM: CommandForm = CommandForm {
+    name: "asm",
+    about: "Assemble a text to an image, which says what stands at which address when a machine starts",
+    arguments: &[
+        TEXT,
+        Argument::Path {
+            id: "OUT",
+            help: "Where to write the image, an ELF32 file; opened only once the whole text is assembled",
+        },
+    ],
+    ends: ASM_ENDS,
+};
+
+const DIS: CommandForm = CommandForm {
+    name: "dis",
+    about: "Print the code of an image, a line for each word up to the last that is not zero",
+    arguments: &[IMAGE, Argument::Number(SHARED_WORDS)],
+    ends: DIS_ENDS,
+};
+
+const RUN: CommandForm = CommandForm {
+    name: "run",
+    about: "Run an image on a machine of up to 64 processors and print its report",
+    arguments: &[
+        IMAGE,
+        Argument::Text {
+            name: "trace",
+            value: "OUT",
+            help: "Where to write the steps of the run, for `ultra replay`; opened only once the run is over",
+        },
+        Argument::Flag {
+            name: "sweep",
+            help: "Run by the sweep, on one thread: the same run each time",
+        },
+        Argument::Flag {
+            name: "quiet",
+            help: "Tell nothing of how far the run is, where standard error is a terminal",
+        },
+        Argument::Number(STAGES),
+        Argument::Number(QUEUE),
+        Argument::Number(RECORDS),
+        Argument::Number(SHARED_WORDS),
+        Argument::Number(BUDGET),
+        Argument::Number(START),
+    ],
+    ends: RUN_ENDS,
+};
+
+const HUNT: CommandForm = CommandForm {
+    name: "hunt",
+    about: "Run an image many times by random schedules, and print each different result once",
+    arguments: &[
+        IMAGE,
+        Argument::Text {
+            name: "trace",
+            value: "PREFIX",
+            help: "Write a trace for each result, for `ultra replay`, to PREFIX with the run's number and `.trace` behind it",
+        },
+        Argument::Number(STAGES),
+        Argument::Number(QUEUE),
+        Argument::Number(RECORDS),
+        Argument::Number(SHARED_WORDS),
+        Argument::Number(RUN_STEPS),
+        Argument::Number(RUNS),
+        Argument::Number(FIRST_START),
+    ],
+    ends: HUNT_ENDS,
+};
+
+const EXPLORE: CommandForm = CommandForm {
+    name: "explore",
+    about: "Print every final result that an image's program can have, on any schedule of the machine's steps",
+    arguments: &[
+        IMAGE,
+        Argument::Number(STAGES),
+        Argument::Number(QUEUE),
+        Argument::Number(RECORDS),
+        Argument::Number(SHARED_WORDS),
+        Argument::Number(STATES),
+    ],
+    ends: EXPLORE_ENDS,
+};
+
+const REPLAY: CommandForm = CommandForm {
+    name: "replay",
+    about: "Take the steps of a trace on a machine that opens on an image, and print its report",
+    arguments: REPLAYED,
+    ends: REPLAY_ENDS,
+};
+
+const ORDER: CommandForm = CommandForm {
+    name: "order",
+    about: "Print the serial order of whole instructions that explains the run of a trace",
+    arguments: &[
+        TRACE,
+        TRACED_IMAGE,
+        Argument::Number(SHARED_WORDS),
+        Argument::Choice(PROCESSOR),
+        Argument::Choice(SHARED_WORD),
+    ],
+    ends: ORDER_ENDS,
+};
+
+const STORY: CommandForm = CommandForm {
+    name: "story",
+    about: "Print what the machine did in each step of a trace",
+    arguments: REPLAYED,
+    ends: STORY_ENDS,
+};
+
+const STATS: CommandForm = CommandForm {
+    name: "stats",
+    about: "Count what the switches, the modules and the processors did in the steps of a trace",
+    arguments: REPLAYED,
+    ends: STATS_ENDS,
+};
+
+const PICTURE: CommandForm = CommandForm {
+    name: "picture",
+    about: "Draw the machine behind some steps of a trace, as an SVG",
+    arguments: &[
+        TRACE,
+        TRACED_IMAGE,
+        Argument::Number(SHARED_WORDS),
+        Argument::Choice(STEP),
+    ],
+    ends: PICTURE_ENDS,
+};
+
+const DEBUG: CommandForm = CommandForm {
+    name: "debug",
+    about: "Wait for a debugger on 127.0.0.1, and carry out its lines on a machine that opens on an image",
+    arguments: &[
+        IMAGE,
+        Argument::Number(STAGES),
+        Argument::Number(QUEUE),
+        Argument::Number(RECORDS),
+        Argument::Number(SHARED_WORDS),
+        Argument::Number(STEPS),
+        Argument::Number(PORT),
+    ],
+    ends: DEBUG_ENDS,
+};
+
+const EXPLAIN: CommandForm = CommandForm {
+    name: "explain",
+    about: "Tell what a code that ultra prints means, what usually causes it and what to do",
+    arguments: &[Argument::Word {
+        id: "CODE",
+        help: "A code, as `A3`, a fault's number, as `4`, or a page; without it, all of them are listed",
+    }],
+    ends: EXPLAIN_ENDS,
+};
+
+// A function for each command, so that no proof but its own has the texts.
+
+#[tactic(auto, unfolding(crate::specs::Lines::words_command))]
+fn words() -> CommandForm
+    ensures { app_of_form result ≡ words_command }
+{
+    WORDS
+}
+
+#[tactic(auto, unfolding(crate::specs::Lines::check_command))]
+fn check() -> CommandForm
+    ensures { app_of_form result ≡ check_command }
+{
+    CHECK
+}
+
+#[tactic(auto, unfolding(crate::specs::Lines::asm_command))]
+fn asm() -> CommandForm
+    ensures { app_of_form result ≡ asm_command }
+{
+    ASM
+}
+
+#[tactic(auto, unfolding(crate::specs::Lines::dis_command))]
+fn dis() -> CommandForm
+    ensures { app_of_form result ≡ dis_command }
+{
+    DIS
+}
+
+#[tactic(auto, unfolding(crate::specs::Lines::run_command))]
+fn run() -> CommandForm
+    ensures { app_of_form result ≡ run_command }
+{
+    RUN
+}
+
+#[tactic(auto, unfolding(crate::specs::Lines::hunt_command))]
+fn hunt() -> CommandForm
+    ensures { app_of_form result ≡ hunt_command }
+{
+    HUNT
+}
+
+#[tactic(auto, unfolding(crate::specs::Lines::explore_command))]
+fn explore() -> CommandForm
+    ensures { app_of_form result ≡ explore_command }
+{
+    EXPLORE
+}
+
+#[tactic(auto, unfolding(crate::specs::Lines::replay_command))]
+fn replay() -> CommandForm
+    ensures { app_of_form result ≡ replay_command }
+{
+    REPLAY
+}
+
+#[tactic(auto, unfolding(crate::specs::Lines::order_command))]
+fn order() -> CommandForm
+    ensures { app_of_form result ≡ order_command }
+{
+    ORDER
+}
+
+#[tactic(auto, unfolding(crate::specs::Lines::story_command))]
+fn story() -> CommandForm
+    ensures { app_of_form result ≡ story_command }
+{
+    STORY
+}
+
+#[tactic(auto, unfolding(crate::specs::Lines::stats_command))]
+fn stats() -> CommandForm
+    ensures { app_of_form result ≡ stats_command }
+{
+    STATS
+}
+
+#[tactic(auto, unfolding(crate::specs::Lines::picture_command))]
+fn picture() -> CommandForm
+    ensures { app_of_form result ≡ picture_command }
+{
+    PICTURE
+}
+
+#[tactic(auto, unfolding(crate::specs::Lines::debug_command))]
+fn debug() -> CommandForm
+    ensures { app_of_form result ≡ debug_command }
+{
+    DEBUG
+}
+
+#[tactic(auto, unfolding(crate::specs::Lines::explain_command))]
+fn explain() -> CommandForm
+    ensures { app_of_form result ≡ explain_command }
+{
+    EXPLAIN
+}
+
+/// All commands, in the order in which the help lists them.
+pub(crate) fn commands() -> [CommandForm; 14]
+    ensures { with_forms result program ≡ ultra_command }
+{
+    [
+        words(),
+        check(),
+        asm(),
+        dis(),
+        run(),
+        hunt(),
+        explore(),
+        replay(),
+        order(),
+        story(),
+        stats(),
+        picture(),
+        debug(),
+        explain(),
+    ]
+}

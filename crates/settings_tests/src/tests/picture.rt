@@ -1,0 +1,44 @@
+//! `picture TRACE FILE` and its option.
+
+/// Ways to ask for `picture`.
+pub const TAKEN: &str = r#"$ ultra picture a.trace a.elf
+Picture(Picture { replay: Replay { trace: "a.trace", file: "a.elf", words: 1024 }, step: None })
+$ ultra picture a.trace a.elf --step 0
+Picture(Picture { replay: Replay { trace: "a.trace", file: "a.elf", words: 1024 }, step: Some(0) })
+$ ultra picture --step=4294967295 a.trace --words 7 a.elf
+Picture(Picture { replay: Replay { trace: "a.trace", file: "a.elf", words: 7 }, step: Some(4294967295) })
+"#;
+
+/// What is wrong in other words, and parts of the help.
+pub const REFUSED: &str = "\
+$ ultra picture a.trace
+MissingRequiredArgument
+error: the following required arguments were not provided:
+  <FILE>
+
+Usage: ultra picture <TRACE> <FILE>
+$ ultra picture a.trace a.elf --step 4294967296
+ValueValidation
+error: invalid value '4294967296' for '--step <NUMBER>'\
+$ ultra picture a.trace a.elf --step last
+ValueValidation
+error: invalid value 'last' for '--step <NUMBER>': invalid digit found in string
+$ ultra picture a.trace a.elf --step
+InvalidValue
+error: a value is required for '--step <NUMBER>' but none was supplied
+$ ultra picture --step 1 a.trace --step 1 a.elf
+ArgumentConflict
+error: the argument '--step <NUMBER>' cannot be used multiple times
+$ ultra picture --help
+DisplayHelp
+Usage: ultra picture [OPTIONS] <TRACE> <FILE>
+$ ultra help picture
+DisplayHelp
+Draw the machine behind some steps of a trace, as an SVG
+$ ultra picture --help
+DisplayHelp
+--step <NUMBER>   Draw the machine behind so many steps, 0 to 4294967295 [default: behind all]
+$ ultra picture --help
+DisplayHelp
+Exit status: 0 done, 1 a fault has stopped a processor of the machine drawn,\
+";

@@ -1,0 +1,36 @@
+-- One more label, also where the name stood before.
+use Rattle.std.proofs.Common.{◌≡◌, ℕ, List, Option, Some, BTreeMap, Bor, ap, refl, ◌∙◌, cond}
+use Rattle.std.specs.BTreeMap.{UpdatesBy, get_by}
+use Rattle.std.specs.Map.{update}
+use Rattle.std.specs.Option.{option_map}
+use Rattle.std.specs.Str.{bytes_eq}
+use Rattle.std.specs.Cmp.Lexicographic.{slice_cmp}
+use Rattle.std.specs.Ordering.{nat_cmp}
+use Rattle.std.proofs.lemmas.Map.Text.{btree_map_updates_str}
+use Rattle.std.specs.Prelude.{Bool, true, false}
+use Rattle.asm_lines.specs.declared.statement.Section.{Section}
+use Rattle.assembler.specs.Meaning.{Labels, Place, labelled, address}
+use Rattle.text_faults.specs.declared.labels.Label.{Label}
+use Rattle.text_faults.specs.Places.{label_values, symbol_of}
+
+pub one_more : (name : List ℕ) (m n : BTreeMap (Bor (List ℕ)) Label) (l : Label) →
+    UpdatesBy (λ (x y : Bor (List ℕ)). slice_cmp nat_cmp x.now y.now) (λ (k : Bor (List ℕ)). slice_cmp nat_cmp name k.now) m n (Some l)
+    → label_values n ≡ update bytes_eq (label_values m) name (Some (symbol_of l))
+one_more name m n l updates = λ i q.
+    (ap (option_map symbol_of) (btree_map_updates_str name m n (Some l) updates q)
+    ∙ mapped (get_by (λ (k : Bor (List ℕ)). slice_cmp nat_cmp q k.now) m) (bytes_eq name q)) i
+  where
+    mapped : (old : Option Label) (b : Bool) → option_map symbol_of (cond b (Some l) old) ≡ cond b (Some (symbol_of l)) (option_map symbol_of old)
+    mapped old true = refl
+    mapped old false = refl
+
+pub label_added : (s : Section) (code local shared v line : ℕ) (name : List ℕ) (m n : BTreeMap (Bor (List ℕ)) Label)
+    → UpdatesBy (λ (x y : Bor (List ℕ)). slice_cmp nat_cmp x.now y.now) (λ (k : Bor (List ℕ)). slice_cmp nat_cmp name k.now) m n
+    (Some (record { section = s; address = v; line = line }))
+    → v ≡ address (record { section = s; code = code; local = local; shared = shared; labels = label_values m })
+    → ◌≡◌ {A = Place} (record { section = s; code = code; local = local; shared = shared; labels = label_values n })
+    (labelled (Some name) (record { section = s; code = code; local = local; shared = shared; labels = label_values m }))
+label_added s code local shared v line name m n updates is_v =
+    let other = λ (ls : Labels). let p : Place = record { section = s; code = code; local = local; shared = shared; labels = ls } in p in
+    ap other (one_more name m n (record { section = s; address = v; line = line }) updates)
+    ∙ ap (λ (w : ℕ). other (update bytes_eq (label_values m) name (Some (record { section = s; address = w })))) is_v

@@ -1,0 +1,26 @@
+//! How far a word is from a name.
+
+use std::alloc::{AllocError, Global};
+use strsim::generic_levenshtein;
+
+/// Names that are longer than that are near to no word.
+const MAX_NAME_BYTES: usize = 32;
+
+/// How many edits a word of so many bytes may be away from the name that was meant.
+fn most_edits(count: usize) -> usize {
+    match count {
+        0 | 1 => 0,
+        2..=5 => 1,
+        _ => 2,
+    }
+}
+
+/// How many edits lead from a word to a name, where they are few: a byte put in, left out or changed.
+pub fn few_edits(alloc: Global, word: &[u8], name: &[u8]) -> Result<Option<usize>, AllocError> {
+    let most = most_edits(word.len());
+    if name.len() > MAX_NAME_BYTES || word.len().abs_diff(name.len()) > most {
+        return Ok(None);
+    }
+    let edits = generic_levenshtein(alloc, word, name)?;
+    Ok(if edits <= most { Some(edits) } else { None })
+}

@@ -1,0 +1,200 @@
+//! Where the next line of a text stands, whatever the lines before it.
+
+ghost use Rattle.std.specs.Prelude.{◌≡◌, ◌≤◌, ◌+◌, ◌-◌, ◌^◌, min, IfOk, IfErr, OnOk, Ok, Err, Some};
+ghost use Rattle.asm_lines.specs.Statements.{stmt_of, said_of};
+ghost use Rattle.assembler.specs.Meaning.{start, address, base_of, room_of, count_of, size_of, misplaced, place_statement};
+ghost use Rattle.assembler.specs.Meaning.{labelled, after_statement, after_said};
+ghost use Rattle.assembler.specs.Passes.{name_of};
+ghost use Rattle.text_faults.specs.Listing.{said_fault};
+ghost use Rattle.text_faults.specs.Places.{label_values, place_of};
+
+use crate::cursor::Cursor;
+use crate::labels::Label;
+use crate::values::statement_fault;
+use asm_lines::{Line, Section, Statement};
+use assembler::AsmFault;
+use flat_machine::{CODE_START, LOCAL_START, SHARED_START};
+use std::alloc::{AllocError, Global};
+use std::collections::BTreeMap;
+
+/// More bytes than a text that fits into memory gives a section.
+const MOST: u64 = 0x4000_0000_0000_0000;
+
+fn base_of(section: Section) -> u32
+    ensures { result ≡ base_of section }
+{
+    match section {
+        Section::Code => CODE_START,
+        Section::Local => LOCAL_START,
+        Section::Shared => SHARED_START,
+    }
+}
+
+/// How many bytes a section may have.
+pub fn room_of(section: Section) -> u32
+    ensures { result ≡ room_of section }
+{
+    match section {
+        Section::Code | Section::Local => 65_536,
+        Section::Shared => 786_432,
+    }
+}
+
+/// How many bytes a statement places.
+fn size_of(statement: &Statement<'_>) -> u64
+    ensures { result ≡ min (size_of (stmt_of statement.now)) (2 ^ 64 - 1) }
+{
+    match statement {
+        Statement::Section(_) => 0,
+        Statement::Words(values) => (values.len() as u64).saturating_mul(4),
+        Statement::Bytes(bytes) => bytes.len() as u64,
+        Statement::Zeros(count) => u64::from(*count),
+        Statement::Instruction(_) => 4,
+    }
+}
+
+fn misplaced(section: Section, address: u64, statement: &Statement<'_>) -> Option<AsmFault>
+    ensures { result ≡ misplaced section address (stmt_of statement.now) }
+{
+    match (section, statement) {
+        (Section::Local | Section::Shared, Statement::Instruction(_)) => Some(AsmFault::Form),
+        (Section::Code, Statement::Instruction(_)) | (_, Statement::Words(_)) => {
+            if address % 4 == 0 {
+                None
+            } else {
+                Some(AsmFault::Range)
+            }
+        }
+        _ => None,
+    }
+}
+
+/// How many bytes there are with so many more.
+fn more(count: u64, size: u64) -> Result<u64, AllocError>
+    ensures sum { IfOk result (λ sum. sum ≡ count + size) }
+    ensures small { IfOk result (λ sum. sum ≤ 2 ^ 62) }
+{
+    match count.checked_add(size) {
+        Some(sum) if sum <= MOST => Ok(sum),
+        _ => Err(AllocError),
+    }
+}
+
+impl<'a> Cursor<'a> {
+    /// The beginning of a text.
+    pub fn new(alloc: Global) -> Cursor<'a>
+        ensures { place_of result ≡ start }
+    {
+        Cursor {
+            section: Section::Code,
+            code: 0,
+            local: 0,
+            shared: 0,
+            labels: BTreeMap::new(alloc),
+        }
+    }
+
+    /// How many bytes the section has.
+    pub fn count(&self) -> u64
+        ensures exact { result ≡ count_of self.now.section (place_of self.now) }
+        ensures small { result ≤ 2 ^ 62 }
+    {
+        match self.section {
+            Section::Code => self.code,
+            Section::Local => self.local,
+            Section::Shared => self.shared,
+        }
+    }
+
+    /// The address of the section's next byte.
+    pub fn address(&self) -> u64
+        ensures { result ≡ address (place_of self.now) }
+    {
+        u64::from(base_of(self.section)) + self.count()
+    }
+
+    /// The first line of a label that stands on a line before, counted from 1.
+    pub fn line_of(&self, name: &'a [u8]) -> Option<usize> {
+        self.labels.get(&name).map(|label| label.line)
+    }
+
+    /// The address of a statement that may stand here.
+    fn place_statement(&self, statement: &Statement<'_>) -> Result<u32, AsmFault>
+        ensures ok { IfOk result (λ at. place_statement (place_of self.now) (Some (stmt_of statement.now))
+            ≡ Ok (record { section = self.now.section; address = at; statement = Some (stmt_of statement.now) })) }
+        ensures err { IfErr result (λ f. place_statement (place_of self.now) (Some (stmt_of statement.now)) ≡ Err f) }
+    {
+        if let Some(fault) = misplaced(self.section, self.address(), statement) {
+            return Err(fault);
+        }
+        let count = self.count();
+        let room = u64::from(room_of(self.section));
+        if count > room || size_of(statement) > room - count {
+            return Err(AsmFault::SectionFull);
+        }
+        Ok(base_of(self.section) + count as u32)
+    }
+
+    /// The fault of a line that says this here.
+    #[tactic(auto, unfolding(assembler::specs::Meaning::place_said, assembler::specs::Meaning::piece_of))]
+    pub fn fault_of(&self, labels: &BTreeMap<&'a [u8], Label>, said: &Line<'a>) -> Option<AsmFault>
+        ensures { result ≡ said_fault (label_values labels.now) (place_of self.now) (said_of said.now) }
+    {
+        if let Some(name) = said.label
+            && self.labels.contains_key(&name)
+        {
+            return Some(AsmFault::LabelTwice);
+        }
+        let Some(statement) = &said.statement else {
+            return None;
+        };
+        match self.place_statement(statement) {
+            Ok(address) => statement_fault(labels, address, statement),
+            Err(fault) => Some(fault),
+        }
+    }
+
+    /// Takes the label of a line, which has this number.
+    fn add_label(&mut self, name: Option<&'a [u8]>, number: usize) -> Result<(), AllocError>
+        ensures { OnOk result (place_of self.new ≡ labelled (name_of name.entry) (place_of self.old)) }
+    {
+        let Some(name) = name else {
+            return Ok(());
+        };
+        let label = Label {
+            section: self.section,
+            address: self.address(),
+            line: self.line_of(name).unwrap_or(number),
+        };
+        self.labels.insert(name, label)?;
+        Ok(())
+    }
+
+    /// Goes behind a statement.
+    fn pass_statement(&mut self, statement: &Statement<'_>) -> Result<(), AllocError>
+        ensures { OnOk result (place_of self.new ≡ after_statement (place_of self.old) (stmt_of statement.now)) }
+    {
+        let size = size_of(statement);
+        match self.section {
+            Section::Code => self.code = more(self.code, size)?,
+            Section::Local => self.local = more(self.local, size)?,
+            Section::Shared => self.shared = more(self.shared, size)?,
+        }
+        if let Statement::Section(next) = statement {
+            self.section = *next;
+        }
+        Ok(())
+    }
+
+    /// Goes behind a line that says this and has this number.
+    #[tactic(auto, unfolding(assembler::specs::Meaning::after_said))]
+    pub fn pass(&mut self, said: &Line<'a>, number: usize) -> Result<(), AllocError>
+        ensures { OnOk result (place_of self.new ≡ after_said (place_of self.old) (said_of said.now)) }
+    {
+        self.add_label(said.label, number)?;
+        match &said.statement {
+            None => Ok(()),
+            Some(statement) => self.pass_statement(statement),
+        }
+    }
+}

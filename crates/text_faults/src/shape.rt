@@ -1,0 +1,155 @@
+//! What the operands of a statement have to be.
+
+ghost use Rattle.std.specs.Prelude.{◌≤ℤ◌, negsuc, pos, ◌^◌};
+
+use asm_lines::{Directive, Mnemonic};
+
+/// What an operand has to be.
+#[derive(Clone, Copy, Debug, Drop)]
+pub enum Wanted {
+    /// A register.
+    Register,
+    /// A number of 12 bits in two's complement, or `%lo(label)`.
+    Lower,
+    /// The upper 20 bits of a word, or `%hi(label)`.
+    Upper,
+    /// By how many bits is shifted.
+    Shift,
+    /// What a fence orders.
+    Fence,
+    /// The target of a branch: a label, or the distance.
+    Branch,
+    /// The target of a jump: a label, or the distance.
+    Jump,
+    /// A number and a register in brackets.
+    Address,
+    /// A register in brackets.
+    Base,
+    /// The value of a word, or a label.
+    Word,
+    /// The value of a byte.
+    Byte,
+    /// How many bytes are zero.
+    Count,
+}
+
+impl Wanted {
+    /// The least and the most that a number may be here.
+    pub fn range(self) -> (i64, i64)
+        ensures least { negsuc (2 ^ 32) ≤ℤ result.0 }
+        ensures most { result.1 ≤ℤ pos (2 ^ 32) }
+    {
+        match self {
+            Wanted::Register | Wanted::Base => (0, 0),
+            Wanted::Lower | Wanted::Address => (-2048, 2047),
+            Wanted::Upper => (0, 1_048_575),
+            Wanted::Shift => (0, 31),
+            Wanted::Fence => (0, 4095),
+            Wanted::Branch => (-4096, 4094),
+            Wanted::Jump => (-1_048_576, 1_048_574),
+            Wanted::Word => (-2_147_483_648, 4_294_967_295),
+            Wanted::Byte => (-128, 255),
+            Wanted::Count => (0, 1_048_576),
+        }
+    }
+}
+
+/// The operands of a statement by its first word.
+#[derive(Drop)]
+pub struct Shape {
+    /// How they are written.
+    pub form: &'static str,
+    /// What each has to be.
+    pub operands: &'static [Wanted],
+    /// Whether there may be more like the last.
+    pub is_list: bool,
+}
+
+const NONE: Shape = Shape {
+    form: "",
+    operands: &[],
+    is_list: false,
+};
+
+impl Shape {
+    /// The operands behind a first word.
+    pub fn of(word: &[u8]) -> Option<Shape> {
+        if let Some(directive) = Directive::find(word) {
+            return Some(Shape::of_directive(directive));
+        }
+        let (mnemonic, _) = Mnemonic::find(word)?;
+        Some(Shape::of_mnemonic(mnemonic))
+    }
+
+    /// What the operand with this number, from 0, has to be.
+    pub fn wanted(&self, number: usize) -> Option<Wanted> {
+        match self.operands.get(number) {
+            Some(wanted) => Some(*wanted),
+            None if self.is_list => self.operands.last().copied(),
+            None => None,
+        }
+    }
+
+    fn single(form: &'static str, operands: &'static [Wanted]) -> Shape {
+        Shape {
+            form,
+            operands,
+            is_list: false,
+        }
+    }
+
+    fn list(form: &'static str, operands: &'static [Wanted]) -> Shape {
+        Shape {
+            form,
+            operands,
+            is_list: true,
+        }
+    }
+
+    fn of_directive(directive: Directive) -> Shape {
+        match directive {
+            Directive::Section(_) => NONE,
+            Directive::Word => Shape::list("v, ..", &[Wanted::Word]),
+            Directive::Byte => Shape::list("v, ..", &[Wanted::Byte]),
+            Directive::Zero => Shape::single("n", &[Wanted::Count]),
+        }
+    }
+
+    fn of_mnemonic(mnemonic: Mnemonic) -> Shape {
+        match mnemonic {
+            Mnemonic::Op(_) => Shape::single(
+                "rd, rs1, rs2",
+                &[Wanted::Register, Wanted::Register, Wanted::Register],
+            ),
+            Mnemonic::OpImm(_) => Shape::single(
+                "rd, rs1, i",
+                &[Wanted::Register, Wanted::Register, Wanted::Lower],
+            ),
+            Mnemonic::Shift(_) => Shape::single(
+                "rd, rs1, i",
+                &[Wanted::Register, Wanted::Register, Wanted::Shift],
+            ),
+            Mnemonic::Load(_) | Mnemonic::Jalr => {
+                Shape::single("rd, i(rs1)", &[Wanted::Register, Wanted::Address])
+            }
+            Mnemonic::Store(_) => {
+                Shape::single("rs2, i(rs1)", &[Wanted::Register, Wanted::Address])
+            }
+            Mnemonic::Branch(_) => Shape::single(
+                "rs1, rs2, target",
+                &[Wanted::Register, Wanted::Register, Wanted::Branch],
+            ),
+            Mnemonic::Upper(_) => Shape::single("rd, u", &[Wanted::Register, Wanted::Upper]),
+            Mnemonic::Jal => Shape::single("rd, target", &[Wanted::Register, Wanted::Jump]),
+            Mnemonic::Fence => Shape::single(
+                "rd, rs1, v",
+                &[Wanted::Register, Wanted::Register, Wanted::Fence],
+            ),
+            Mnemonic::Amo(_) => Shape::single(
+                "rd, rs2, (rs1)",
+                &[Wanted::Register, Wanted::Register, Wanted::Base],
+            ),
+            Mnemonic::Ecall | Mnemonic::Ebreak => NONE,
+        }
+    }
+}
