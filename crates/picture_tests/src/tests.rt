@@ -2,7 +2,7 @@
 //! where there is no picture.
 
 mod ends;
-mod messages;
+mod travelling;
 
 use assembler::assemble;
 use link::Meter;
