@@ -135,6 +135,13 @@ impl Output {
         self.queue.as_slices()
     }
 
+    /// How many requests the queue has.
+    pub fn request_count(&self) -> usize
+        ensures { result ≡ length self.now.requests }
+    {
+        self.queue.len()
+    }
+
     /// The records of the wait buffer.
     pub fn records(&self) -> &[Record]
         ensures { result.now ≡ self.now.records }

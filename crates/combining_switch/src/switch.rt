@@ -101,6 +101,22 @@ impl Switch {
         self.outputs[usize::from(out)].records()
     }
 
+    /// How many requests an output's queue has.
+    pub fn request_count(&self, out: u8) -> usize
+        requires { out < 2 }
+        ensures { result ≡ length (requests_at self.now out) }
+    {
+        self.outputs[usize::from(out)].request_count()
+    }
+
+    /// How many replies an input's queue has.
+    pub fn reply_count(&self, inp: u8) -> usize
+        requires { inp < 2 }
+        ensures { result ≡ length (replies_at self.now.inputs inp) }
+    {
+        self.inputs[usize::from(inp)].len()
+    }
+
     /// The replies of an input's queue from the first on, in two parts.
     pub fn replies(&self, inp: u8) -> (&[Reply], &[Reply])
         requires { inp < 2 }

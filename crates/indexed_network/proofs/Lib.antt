@@ -1,3 +1,4 @@
 mod Elsewhere
 mod Indexing
+pub mod Lemmas
 mod Looking

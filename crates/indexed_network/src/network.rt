@@ -1,13 +1,14 @@
 //! Networks with an index.
 
-ghost use Rattle.std.specs.Prelude.{◌≡◌, ◌<◌, ◌≤◌, ◌==◌, ◌&&◌, ◌↔◌, ◌^◌, suc, ℕ, [], slice_get, slice_index_or, is_some, false, IfOk, IsTrue, if◌then◌else◌};
+ghost use Rattle.std.specs.Prelude.{◌≡◌, ◌<◌, ◌≤◌, ◌==◌, ◌&&◌, ◌↔◌, ◌^◌, suc, ℕ, [], length, slice_get, slice_index_or, is_some, false};
+ghost use Rattle.std.specs.Prelude.{IfOk, IsTrue, if◌then◌else◌};
 ghost use Rattle.wire_sets.specs.Members.{members};
 ghost use Rattle.messages.specs.Network.{IsEmptyNet, Sizes};
 ghost use Rattle.messages.specs.Moves.{injected, module_replied, module_taken, moved_down, moved_up, port_taken};
 ghost use Rattle.omega_network.specs.Networks.{net_of, sizes_of};
 ghost use Rattle.indexed_network.specs.Index.{IsLookedAt};
 
-use messages::{DownMove, Reply, Request, UpMove, moves_of_nothing_stall};
+use messages::{DownMove, Record, Reply, Request, UpMove, moves_of_nothing_stall};
 use omega_network::Network;
 use omega_wires::{rotate_right, rotations_are_inverse, switch_of};
 use std::alloc::{AllocError, Global};
@@ -246,6 +247,33 @@ impl IndexedNetwork {
         ensures { result ≡ is_some (slice_get ((net_of self.now).replies stage wire) 0) }
     {
         self.reply_wires(stage).contains(wire)
+    }
+
+    /// How many requests stand in the queue at the output of a wire after a stage.
+    pub fn request_count(&self, stage: u8, wire: u8) -> usize
+        requires stage { stage < self.now.k }
+        requires wire { wire < 2 ^ self.now.k }
+        ensures { result ≡ length ((net_of self.now).requests (suc stage) wire) }
+    {
+        self.network.request_count(stage, wire)
+    }
+
+    /// How many replies stand in the queue at the input of a wire before a stage.
+    pub fn reply_count(&self, stage: u8, wire: u8) -> usize
+        requires stage { stage < self.now.k }
+        requires wire { wire < 2 ^ self.now.k }
+        ensures { result ≡ length ((net_of self.now).replies stage wire) }
+    {
+        self.network.reply_count(stage, wire)
+    }
+
+    /// The records of the wait buffer at the output of a wire after a stage, in the order of their combinations.
+    pub fn records(&self, stage: u8, wire: u8) -> &[Record]
+        requires stage { stage < self.now.k }
+        requires wire { wire < 2 ^ self.now.k }
+        ensures { result.now ≡ (net_of self.now).records stage wire }
+    {
+        self.network.records(stage, wire)
     }
 
     /// The wires on which a request stands before a stage, or for stage `k` the modules at which one does.

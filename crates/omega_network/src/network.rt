@@ -11,7 +11,7 @@ ghost use Rattle.omega_network.specs.Changes.{AreNew};
 ghost use Rattle.omega_network.specs.Offers.{accepted_on, answered_on, first_reply_taken, first_request_taken};
 
 use combining_switch::{Accepted, Answered, Switch};
-use messages::{DownMove, Reply, Request, UpMove, moves_of_nothing_stall};
+use messages::{DownMove, Record, Reply, Request, UpMove, moves_of_nothing_stall};
 use omega_wires::{input_port, module_of, rotate_left, rotations_are_inverse, wire_after};
 use phi_algebra::Phi;
 use std::alloc::{AllocError, Global};
@@ -278,6 +278,39 @@ impl Network {
         ensures { result ≡ is_some (slice_get ((net_of self.now).replies stage wire) 0) }
     {
         self.reply_before(stage, wire).is_some()
+    }
+
+    /// How many requests stand in the queue at the output of a wire after a stage.
+    pub fn request_count(&self, stage: u8, wire: u8) -> usize
+        requires stage { stage < self.now.k }
+        requires wire { wire < 2 ^ self.now.k }
+        ensures { result ≡ length ((net_of self.now).requests (suc stage) wire) }
+    {
+        rotations_are_inverse();
+        let switch = self.place_behind(stage, wire);
+        self.switches[switch].request_count(wire % 2)
+    }
+
+    /// How many replies stand in the queue at the input of a wire before a stage.
+    pub fn reply_count(&self, stage: u8, wire: u8) -> usize
+        requires stage { stage < self.now.k }
+        requires wire { wire < 2 ^ self.now.k }
+        ensures { result ≡ length ((net_of self.now).replies stage wire) }
+    {
+        rotations_are_inverse();
+        let switch = self.place_before(stage, wire);
+        self.switches[switch].reply_count(input_port(self.k, wire))
+    }
+
+    /// The records of the wait buffer at the output of a wire after a stage, in the order of their combinations.
+    pub fn records(&self, stage: u8, wire: u8) -> &[Record]
+        requires stage { stage < self.now.k }
+        requires wire { wire < 2 ^ self.now.k }
+        ensures { result.now ≡ (net_of self.now).records stage wire }
+    {
+        rotations_are_inverse();
+        let switch = self.place_behind(stage, wire);
+        self.switches[switch].records(wire % 2)
     }
 
     /// The first request before a stage on a wire, or at a module for stage `k`.

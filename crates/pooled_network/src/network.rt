@@ -283,6 +283,33 @@ impl Network {
         self.reply_before(stage, wire).is_some()
     }
 
+    /// How many requests stand in the queue at the output of a wire after a stage.
+    pub fn request_count(&self, stage: u8, wire: u8) -> usize
+        requires stage { stage < self.now.k }
+        requires wire { wire < 2 ^ self.now.k }
+        ensures { result ≡ length ((net_of self.now).requests (suc stage) wire) }
+    {
+        usize::from(self.pool.request_count(self.place(stage + 1, wire)))
+    }
+
+    /// How many replies stand in the queue at the input of a wire before a stage.
+    pub fn reply_count(&self, stage: u8, wire: u8) -> usize
+        requires stage { stage < self.now.k }
+        requires wire { wire < 2 ^ self.now.k }
+        ensures { result ≡ length ((net_of self.now).replies stage wire) }
+    {
+        usize::from(self.pool.reply_count(self.place(stage, wire)))
+    }
+
+    /// The records of the wait buffer at the output of a wire after a stage, in the order of their combinations.
+    pub fn records(&self, stage: u8, wire: u8) -> &[Record]
+        requires stage { stage < self.now.k }
+        requires wire { wire < 2 ^ self.now.k }
+        ensures { result.now ≡ (net_of self.now).records stage wire }
+    {
+        self.switches[self.switch_behind(stage, wire)].records(wire % 2)
+    }
+
     /// The first request before a stage on a wire, or at a module for stage `k`.
     fn request_before(&self, stage: u8, wire: u8) -> Option<Request>
         requires stage { stage ≤ self.now.k }

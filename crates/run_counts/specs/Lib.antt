@@ -1,4 +1,6 @@
 pub mod Counting
 pub mod Keys
 pub mod Counts
+pub mod Longest
+pub mod Rounds
 pub mod Lines

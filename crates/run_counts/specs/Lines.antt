@@ -2,6 +2,9 @@
 use Rattle.std.specs.Prelude.{ℕ, zero, suc, ◌+◌, ◌*◌, ◌^◌, ◌==◌, List, [], ◌∷◌, ◌++◌, codes, slice_index, if◌then◌else◌}
 use Rattle.std.specs.Fmt.{decimal}
 use Rattle.run_counts.specs.Counts.{CountsState}
+use Rattle.run_counts.specs.Longest.{at_stage}
+use Rattle.run_counts.specs.declared.longest.Held.TheVariants.{Requests, Records, Replies}
+use Rattle.run_counts.specs.declared.longest.Longest.{Longest}
 
 -- the end of a line
 abbrev pub line_feed : List ℕ
@@ -11,19 +14,28 @@ line_feed = 10 ∷ []
 abbrev pub count_text : (word : List ℕ) → List ℕ → (place : ℕ) → List ℕ
 count_text word counts place = word ++ decimal (slice_index counts place)
 
--- ` serve N down N poke N`
-unfoldable pub rest_of_total : CountsState → List ℕ
-rest_of_total t = count_text (codes " serve ") t.kinds 2 ++ count_text (codes " down ") t.kinds 3 ++ count_text (codes " poke ") t.kinds 4 ++ line_feed
+-- ` serve N down N poke N rounds N`
+unfoldable pub rest_of_total : CountsState → (rounds : ℕ) → List ℕ
+rest_of_total t rounds =
+    count_text (codes " serve ") t.kinds 2 ++ count_text (codes " down ") t.kinds 3 ++ count_text (codes " poke ") t.kinds 4
+    ++ codes " rounds " ++ decimal rounds ++ line_feed
 
--- `steps N turns N up N serve N down N poke N`
-unfoldable pub total_line : CountsState → List ℕ
-total_line t = codes "steps " ++ decimal t.noted ++ count_text (codes " turns ") t.kinds 0 ++ count_text (codes " up ") t.kinds 1 ++ rest_of_total t
+-- `steps N turns N up N serve N down N poke N rounds N`
+unfoldable pub total_line : CountsState → (rounds : ℕ) → List ℕ
+total_line t rounds =
+    codes "steps " ++ decimal t.noted ++ count_text (codes " turns ") t.kinds 0 ++ count_text (codes " up ") t.kinds 1 ++ rest_of_total t rounds
 
--- `stage S up N combined N down N split N`
-unfoldable pub stage_line : CountsState → (stage : ℕ) → List ℕ
-stage_line t s =
+-- ` requests N records N replies N`: the most that stood at once in one list of the stage
+unfoldable pub longest_text : Longest → (stage : ℕ) → List ℕ
+longest_text t s =
+    codes " requests " ++ decimal (at_stage t Requests s) ++ codes " records " ++ decimal (at_stage t Records s)
+    ++ codes " replies " ++ decimal (at_stage t Replies s) ++ line_feed
+
+-- `stage S up N combined N down N split N requests N records N replies N`
+unfoldable pub stage_line : CountsState → Longest → (stage : ℕ) → List ℕ
+stage_line t longest s =
     codes "stage " ++ decimal s ++ count_text (codes " up ") t.moved s ++ count_text (codes " combined ") t.combined s
-    ++ count_text (codes " down ") t.returned s ++ count_text (codes " split ") t.split s ++ line_feed
+    ++ count_text (codes " down ") t.returned s ++ count_text (codes " split ") t.split s ++ longest_text longest s
 
 -- ` SIZExCOUNT` where groups of this size were served
 abbrev pub size_text : (size count : ℕ) → List ℕ
@@ -52,5 +64,6 @@ first_lines line zero = []
 first_lines line (suc n) = first_lines line n ++ line n
 
 -- all lines, of a machine of `2^k` processors
-unfoldable pub lines_of : (k : ℕ) → CountsState → List ℕ
-lines_of k t = total_line t ++ first_lines (stage_line t) k ++ first_lines (module_line t) (2 ^ k) ++ first_lines (processor_line t) (2 ^ k)
+unfoldable pub lines_of : (k : ℕ) → CountsState → Longest → (rounds : ℕ) → List ℕ
+lines_of k t longest rounds =
+    total_line t rounds ++ first_lines (stage_line t longest) k ++ first_lines (module_line t) (2 ^ k) ++ first_lines (processor_line t) (2 ^ k)

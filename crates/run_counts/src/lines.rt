@@ -1,69 +1,88 @@
 //! The lines of the counts.
 
 ghost use Rattle.std.specs.Prelude.{◌≡◌, ◌≤◌, ◌+◌, ◌*◌, ◌++◌, IfOk, OnOk, slice_index, string_bytes};
-ghost use Rattle.run_counts.specs.Lines.{first_lines, lines_of, module_line, module_sizes, processor_line};
+ghost use Rattle.run_counts.specs.Lines.{first_lines, lines_of, longest_text, module_line, module_sizes, processor_line};
 ghost use Rattle.run_counts.specs.Lines.{rest_of_total, size_text, sizes_text, stage_line, total_line};
 
 use crate::counts::Counts;
+use crate::longest::{Held, Longest};
 use std::alloc::{AllocError, Global};
 use std::fmt::Write;
 
-/// The lines of the counts of a machine of `2^k` processors.
+/// The lines of the counts of a machine of `2^k` processors, and of its longest queues and of so
+/// many rounds.
 ///
 /// # Errors
 ///
 /// [`AllocError`] where there is no memory for them.
 #[tactic(auto, unfolding(crate::specs::Lines::lines_of))]
-pub fn counts_text(alloc: Global, counts: &Counts, k: u8) -> Result<String, AllocError>
+pub fn counts_text(
+    alloc: Global,
+    counts: &Counts,
+    longest: &Longest,
+    rounds: usize,
+    k: u8,
+) -> Result<String, AllocError>
     requires { k ≤ 6 }
-    ensures { IfOk result (λ text. string_bytes text ≡ lines_of k counts.now) }
+    ensures { IfOk result (λ text. string_bytes text ≡ lines_of k counts.now longest.now rounds) }
 {
     let mut text = String::new(alloc);
-    push_total(&mut text, counts)?;
-    push_stages(&mut text, counts, k)?;
+    push_total(&mut text, counts, rounds)?;
+    push_stages(&mut text, counts, longest, k)?;
     let count = 1_u8 << k;
     push_modules(&mut text, counts, count)?;
     push_processors(&mut text, counts, count)?;
     Ok(text)
 }
 
-/// Appends how many steps there were, and how many of each kind.
+/// Appends how many steps there were, how many of each kind, and in how many rounds.
 #[tactic(auto, unfolding(crate::specs::Lines::total_line))]
-fn push_total(text: &mut String, counts: &Counts) -> Result<(), AllocError>
-    ensures { OnOk result (string_bytes text.new ≡ string_bytes text.old ++ total_line counts.now) }
+fn push_total(text: &mut String, counts: &Counts, rounds: usize) -> Result<(), AllocError>
+    ensures { OnOk result (string_bytes text.new ≡ string_bytes text.old ++ total_line counts.now rounds) }
 {
     let steps = counts.noted();
     let turns = counts.kinds.at(0);
     let up = counts.kinds.at(1);
     write!(text, "steps {steps} turns {turns} up {up}")?;
-    push_rest(text, counts)
+    push_rest(text, counts, rounds)
 }
 
-/// Appends how many services there were, moves of replies and writes from outside.
+/// Appends how many services there were, moves of replies, writes from outside and rounds.
 #[tactic(auto, unfolding(crate::specs::Lines::rest_of_total))]
-fn push_rest(text: &mut String, counts: &Counts) -> Result<(), AllocError>
-    ensures { OnOk result (string_bytes text.new ≡ string_bytes text.old ++ rest_of_total counts.now) }
+fn push_rest(text: &mut String, counts: &Counts, rounds: usize) -> Result<(), AllocError>
+    ensures { OnOk result (string_bytes text.new ≡ string_bytes text.old ++ rest_of_total counts.now rounds) }
 {
     let serve = counts.kinds.at(2);
     let down = counts.kinds.at(3);
     let poke = counts.kinds.at(4);
-    write!(text, " serve {serve} down {down} poke {poke}\n")
+    write!(text, " serve {serve} down {down} poke {poke}")?;
+    write!(text, " rounds {rounds}\n")
 }
 
 /// Appends the lines of the stages.
-fn push_stages(text: &mut String, counts: &Counts, k: u8) -> Result<(), AllocError>
-    ensures { OnOk result (string_bytes text.new ≡ string_bytes text.old ++ first_lines (stage_line counts.now) k) }
+fn push_stages(
+    text: &mut String,
+    counts: &Counts,
+    longest: &Longest,
+    k: u8,
+) -> Result<(), AllocError>
+    ensures { OnOk result (string_bytes text.new ≡ string_bytes text.old ++ first_lines (stage_line counts.now longest.now) k) }
 {
     for stage in 0..k {
-        push_stage(text, counts, stage)?;
+        push_stage(text, counts, longest, stage)?;
     }
     Ok(())
 }
 
-/// Appends how many messages were moved through a stage, and how many were combined there and split.
+/// Appends how many messages were moved through a stage, how many were combined there and split, and how long its queues were.
 #[tactic(auto, unfolding(crate::specs::Lines::stage_line))]
-fn push_stage(text: &mut String, counts: &Counts, stage: u8) -> Result<(), AllocError>
-    ensures { OnOk result (string_bytes text.new ≡ string_bytes text.old ++ stage_line counts.now stage) }
+fn push_stage(
+    text: &mut String,
+    counts: &Counts,
+    longest: &Longest,
+    stage: u8,
+) -> Result<(), AllocError>
+    ensures { OnOk result (string_bytes text.new ≡ string_bytes text.old ++ stage_line counts.now longest.now stage) }
 {
     let place = u16::from(stage);
     let up = counts.moved.at(place);
@@ -72,7 +91,22 @@ fn push_stage(text: &mut String, counts: &Counts, stage: u8) -> Result<(), Alloc
     let split = counts.split.at(place);
     write!(
         text,
-        "stage {stage} up {up} combined {combined} down {down} split {split}\n"
+        "stage {stage} up {up} combined {combined} down {down} split {split}"
+    )?;
+    push_longest(text, longest, stage)
+}
+
+/// Appends the most that stood at once in one list of a stage.
+#[tactic(auto, unfolding(crate::specs::Lines::longest_text))]
+fn push_longest(text: &mut String, longest: &Longest, stage: u8) -> Result<(), AllocError>
+    ensures { OnOk result (string_bytes text.new ≡ string_bytes text.old ++ longest_text longest.now stage) }
+{
+    let requests = longest.at(Held::Requests, stage);
+    let records = longest.at(Held::Records, stage);
+    let replies = longest.at(Held::Replies, stage);
+    write!(
+        text,
+        " requests {requests} records {records} replies {replies}\n"
     )
 }
 

@@ -11,11 +11,15 @@ use Rattle.step_answers.specs.Answers.{answers_of}
 use Rattle.run_counts.specs.Counting.{noted_of}
 use Rattle.run_counts.specs.Counts.{AreCounts, CountsState}
 use Rattle.run_counts.specs.Lines.{lines_of}
+use Rattle.run_counts.specs.Rounds.{rounds_of}
+use Rattle.run_counts.specs.declared.longest.Longest.{Longest}
+use Rattle.stats_command.specs.Longest.{AreLongest}
 use Rattle.run_commands.specs.Commands.{IsTraceOf}
 use Rattle.run_commands.specs.Reports.{IsExitOf}
 use Rattle.order_command.specs.Orders.{IsBroughtHome}
 
--- These are the lines of the counts of what the machine of this size answers to the steps that opens on the image. The exit status is
+-- These are the lines of the counts of what the machine of this size answers to the steps that opens on the image, and of its longest
+-- queues. The exit status is
 -- that of the machine behind the steps.
 pub record AreCountedSteps (c : Config) (image : ImageContents) (steps : List Step) (text : List ℕ) (status : ℕ) : Type 0 where
   pub opening : MachineLists
@@ -24,7 +28,9 @@ pub record AreCountedSteps (c : Config) (image : ImageContents) (steps : List St
   pub run : IsRun opening steps machine
   pub counts : CountsState
   pub are : AreCounts (noted_of (answers_of opening steps)) counts
-  pub lines : text ≡ lines_of c.k counts
+  pub longest : Longest
+  pub most : AreLongest opening steps longest
+  pub lines : text ≡ lines_of c.k counts longest (rounds_of c.k steps)
   pub exit : IsExitOf machine status
 
 -- These are the lines of the counts of a trace's steps and a drain's.

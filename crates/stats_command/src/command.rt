@@ -15,7 +15,7 @@ use link::LinkWrite;
 use machine_runs::Machine;
 use order_command::brought_home;
 use run_commands::{exit_status, machine_of, trace_of};
-use run_counts::counts_text;
+use run_counts::{counts_text, rounds_of};
 use std::alloc::Global;
 use std::io;
 use std::io::{Read, Write};
@@ -94,8 +94,10 @@ fn stats(
 {
     let all = brought_home(alloc, image, config, steps)?;
     let mut machine = opened(alloc, image, config)?;
-    let counts = counted(alloc, &mut machine, all.as_slice())?;
-    let text = counts_text(alloc, &counts, machine.config().k)?;
+    let (counts, longest) = counted(alloc, &mut machine, all.as_slice())?;
+    let k = machine.config().k;
+    let rounds = rounds_of(all.as_slice(), k);
+    let text = counts_text(alloc, &counts, &longest, rounds, k)?;
     Ok((text, exit_status(&machine)))
 }
 

@@ -2,11 +2,12 @@
 //!
 //! The steps of the trace are taken on a machine that opens on the image, and then those of a drain
 //! ([`order_command::brought_home`]). A second machine takes all of them once more, and what it answers is counted
-//! ([`counted`]). The lines are made whole before the first byte is printed.
+//! ([`counted`]), and its network looked at. The lines are made whole before the first byte is printed.
 #![tactic(auto)]
 
 mod command;
 mod counting;
+mod longest;
 
 pub use command::stats_command;
 pub use counting::counted;

@@ -1,6 +1,7 @@
 //! Counts by hand.
 
-use run_counts::{Counts, counts_text};
+use flat_machine::Poke;
+use run_counts::{Counts, Held, Longest, counts_text, rounds_of};
 use std::test::Fail;
 use steps::{Outcome, Step};
 
@@ -33,16 +34,96 @@ fn requests_that_meet(rt: HostRuntime) -> Result<(), Fail> {
         assert!(rt; counts.noted() < 8);
         counts.note(&step, &outcome, size);
     }
-    let text = counts_text(alloc, &counts, 1)?;
+    let mut longest = Longest::none();
+    longest.set(Held::Requests, 0, 3);
+    longest.set(Held::Records, 0, 1);
+    longest.set(Held::Replies, 0, 2);
+    let text = counts_text(alloc, &counts, &longest, 7, 1)?;
     assert_eq!(rt;
         text.as_str(),
-        "steps 8 turns 2 up 2 serve 2 down 2 poke 0
-stage 0 up 1 combined 1 down 1 split 1
+        "steps 8 turns 2 up 2 serve 2 down 2 poke 0 rounds 7
+stage 0 up 1 combined 1 down 1 split 1 requests 3 records 1 replies 2
 module 0 serves 0
 module 1 serves 2 1x1 2x1
 processor 0 turns 1 retired 0
 processor 1 turns 1 retired 0
 "
     );
+    Ok(())
+}
+
+fn turn(processor: u8) -> Step {
+    Step::Turn(processor)
+}
+
+fn up(stage: u8, wire: u8) -> Step {
+    Step::Up { stage, wire }
+}
+
+fn down(stage: u8, wire: u8) -> Step {
+    Step::Down { stage, wire }
+}
+
+/// A round takes the turns, the moves of requests at the last stage first, the services, and the moves of replies at the first stage first.
+#[test]
+fn rounds(rt: HostRuntime) -> Result<(), Fail> {
+    let poke = Step::Poke(Poke::Shared {
+        address: 0x8000_0000,
+        value: 1,
+    });
+    assert_eq!(rt; rounds_of(&[], 2), 0);
+    for (steps, rounds) in [
+        (
+            [
+                turn(0),
+                turn(3),
+                up(1, 0),
+                up(0, 3),
+                Step::Serve(0),
+                down(0, 1),
+                down(1, 0),
+            ],
+            1,
+        ),
+        (
+            [
+                turn(0),
+                turn(0),
+                turn(1),
+                turn(0),
+                turn(2),
+                turn(3),
+                turn(3),
+            ],
+            4,
+        ),
+        (
+            [
+                up(0, 0),
+                up(1, 0),
+                up(0, 1),
+                up(0, 0),
+                up(1, 3),
+                Step::Serve(3),
+                Step::Serve(2),
+            ],
+            5,
+        ),
+        (
+            [
+                down(1, 0),
+                down(0, 0),
+                down(1, 1),
+                down(1, 3),
+                turn(0),
+                up(0, 0),
+                down(0, 0),
+            ],
+            3,
+        ),
+        ([poke, turn(1), poke, turn(2), poke, poke, turn(2)], 2),
+    ] {
+        assert_eq!(rt; rounds_of(&steps, 2), rounds);
+    }
     Ok(())
 }

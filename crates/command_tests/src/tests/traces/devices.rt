@@ -12,7 +12,7 @@ fn stopped(told: Told) -> &'static [u8] {
         Told::Order(_) => b"0 0 00010000 fault 8\n",
         Told::Story => b"0 turn 0: stops fault 8\n",
         Told::Stats => {
-            b"steps 1 turns 1 up 0 serve 0 down 0 poke 0
+            b"steps 1 turns 1 up 0 serve 0 down 0 poke 0 rounds 1
 module 0 serves 0
 processor 0 turns 1 retired 0
 "

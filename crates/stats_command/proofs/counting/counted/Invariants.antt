@@ -3,4 +3,4 @@ use Rattle.stats_command.proofs.Steps.{AreCounted}
 use Rattle.stats_command.proofs.counting.counted.Given as goal
 
 abbrev pub invariant-loop-step : goal.invariant-loop-step
-invariant-loop-step l = AreCounted l.initial.machine (take l.step-index l.steps) l.machine l.counts l.groups
+invariant-loop-step l = AreCounted l.initial.machine (take l.step-index l.steps) l.machine l.counts l.groups l.longest

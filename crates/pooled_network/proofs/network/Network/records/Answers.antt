@@ -1,0 +1,14 @@
+use Rattle.std.proofs.Common.{◌%◌, sym, ap, ◌∙◌}
+use Rattle.pooled_switch.specs.Switches.{SwitchState, records_at}
+use Rattle.pooled_network.specs.Networks.{NetworkLists, records_behind}
+use Rattle.pooled_network.proofs.Changes.{at_output}
+use Rattle.pooled_network.proofs.Offering.{found_is}
+use Rattle.pooled_network.proofs.network.Network.records.Goals as goal
+
+pub returns : goal.returns
+returns c =
+    let found = found_is c.self.view_is c.self.invariant c.requires.stage c.requires.wire c.switch_behind.ensures.exact c.index.ensures in
+    c.records.ensures
+    ∙ ap (λ (u : SwitchState). records_at u (c.args.wire % 2)) found.found
+    ∙ sym (at_output _ c.args.stage c.args.wire found.wire)
+    ∙ ap (λ (l : NetworkLists). records_behind l c.args.stage c.args.wire) c.self.view_is

@@ -1,0 +1,11 @@
+use Rattle.std.proofs.Common.{◌≡◌, ◌+◌, length, suc, ap, ◌∙◌, arith}
+use Rattle.pooled_network.specs.Networks.{place}
+use Rattle.pooled_network.proofs.Taken.{requests_there}
+use Rattle.pooled_network.proofs.network.Network.request_count.Goals as goal
+
+pub returns : goal.returns
+returns c =
+    let next : c.args.stage + 1 ≡ suc c.args.stage = omega arith in
+    c.from.ensures ∙ c.request_count.ensures ∙ ap length
+    (requests_there _ c.args.self.now c.self.view_is c.self.invariant (suc c.args.stage) c.args.wire c.place.result c.requires.stage c.requires.wire
+    (c.place.ensures.exact ∙ ap (λ d. place c.args.self.now.k d c.args.wire) next))
