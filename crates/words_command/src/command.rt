@@ -12,10 +12,10 @@ use crate::read::{MAX_WORDS, WordsError, words_read};
 use crate::run::{WordsEnd, words_run};
 use command_io::{DONE, Fault, STOPPED_BY_FAULT, tell};
 use flat_machine::Status;
-use link::LinkWrite;
+use link::{Link, LinkWrite, Meter};
 use machine_log::Logged;
 use std::alloc::Global;
-use std::io::{ErrorKind, Read, Write};
+use std::io::{Read, Write};
 
 /// How many bytes of a file are read: with one byte more than the lines of all words have, the
 /// first bad line is known.
@@ -99,10 +99,12 @@ fn read_text<R: Read + Drop>(alloc: Global, file: R) -> Result<Vec<u8>, Fault>
     ensures told { IfErr result (λ fault. (fault ≡ Fault.Memory) ⊎ (fault ≡ Fault.Link)) }
 {
     let mut text = Vec::new(alloc);
-    match file.take(MAX_TEXT).read_to_end(&mut text) {
+    // Where a read is interrupted, `read_to_end` tries again: a meter that has failed does not call the file then.
+    let mut reader = Meter::new(file);
+    match (&mut reader).take(MAX_TEXT).read_to_end(&mut text) {
         Ok(_) => Ok(text),
-        Err(error) if error.kind() == ErrorKind::OutOfMemory => Err(Fault::Memory),
-        Err(_) => Err(Fault::Link),
+        Err(_) if reader.failed() => Err(Fault::Link),
+        Err(_) => Err(Fault::Memory),
     }
 }
 
