@@ -45,6 +45,7 @@ static const struct command {
 } commands[] = {
     { "words", { NULL }, A_FILE, 96 << 10 },
     { "asm", { NULL }, A_FILE_AND_NOWHERE, 32 << 10 },
+    { "check", { NULL }, A_FILE, 32 << 10 },
     { "dis", { NULL }, A_FILE, 32 << 10 },
     { "run", { "--k", "1", "--budget", "2000" }, A_FILE, 32 << 10 },
     { "run", { "--sweep", "--k", "3", "--budget", "20000" }, A_FILE, 32 << 10 },
@@ -54,6 +55,7 @@ static const struct command {
     { "order", { NULL }, A_TRACE_AND_AN_IMAGE, 32 << 10 },
     { "story", { NULL }, A_TRACE_AND_AN_IMAGE, 32 << 10 },
     { "stats", { NULL }, A_TRACE_AND_AN_IMAGE, 32 << 10 },
+    { "picture", { NULL }, A_TRACE_AND_AN_IMAGE, 32 << 10 },
     { "debug", { "--k", "1", "--budget", "1000" }, LINES, 32 << 10 },
 };
 

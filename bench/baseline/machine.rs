@@ -3,12 +3,16 @@
 //!
 //! `machine [--k K] [--c C] [--b B] [--words N] [--budget N] [--trace OUT] FILE` prints the report, and how many steps the log has
 //! on standard error.
+//!
+//! `machine [--k K] .. --runs RUNS FILE` only sweeps, and does that RUNS times, on a new machine each time, with no log. It prints
+//! what the first run came to, and how many steps did something, and in which time, as `crates/machine_bench` prints it.
 
 mod instructions;
 
 use instructions::{Amo, Fault, Insn, alu, amo, decode, is_taken, number};
 use std::collections::VecDeque;
 use std::process::ExitCode;
+use std::time::{Duration, Instant};
 use std::{env, fs};
 
 const CODE_START: u32 = 0x0001_0000;
@@ -818,6 +822,73 @@ fn report(machine: &mut Machine, log: &[Step]) -> String {
     text
 }
 
+/// A sweep that keeps no log, and counts the steps that did something and the instructions that retired.
+struct Count {
+    machine: Machine,
+    moved: u64,
+    retired: u64,
+}
+
+impl Count {
+    fn enter(&mut self, step: Step) {
+        match self.machine.apply(step) {
+            Outcome::Stalled => return,
+            Outcome::Retired(_) => self.retired += 1,
+            _ => {}
+        }
+        self.moved += 1;
+    }
+
+    /// The steps of a row, for the wires on which a message stands once their turn comes.
+    fn row(&mut self, set: impl Fn(&Machine) -> u64, step: impl Fn(u8) -> Step) {
+        let mut from = 0;
+        while from < 64 {
+            let left = set(&self.machine) >> from << from;
+            if left == 0 {
+                return;
+            }
+            let wire = left.trailing_zeros() as u8;
+            self.enter(step(wire));
+            from = wire + 1;
+        }
+    }
+
+    /// Rounds until no processor runs.
+    fn run(&mut self) {
+        let k = self.machine.config.k;
+        while self.machine.running > 0 {
+            for p in 0..self.machine.n {
+                self.enter(Step::Turn(p));
+            }
+            for s in (0..k).rev() {
+                self.row(|machine| machine.asking[s as usize], |wire| Step::Up(s, wire));
+            }
+            self.row(|machine| machine.asking[k as usize], Step::Serve);
+            for s in 0..k {
+                self.row(|machine| machine.told[s as usize + 1], |wire| Step::Down(s, wire));
+            }
+        }
+    }
+}
+
+/// Sweeps so many times, and prints what that came to.
+fn time_sweeps(config: Config, layout: &Layout, runs: u32) {
+    let (mut moved, mut time) = (0, Duration::ZERO);
+    for run in 0..runs {
+        let machine = Machine::new(config, layout);
+        let mut count = Count { machine, moved: 0, retired: 0 };
+        let start = Instant::now();
+        count.run();
+        time += start.elapsed();
+        moved += count.moved;
+        if run == 0 {
+            let word = count.machine.shared[0];
+            println!("k {}: {} instructions retire, and word 0 is {word}", config.k, count.retired);
+        }
+    }
+    eprintln!("k {}: {runs} runs, {moved} steps that did something in {} microseconds", config.k, time.as_micros());
+}
+
 fn main() -> ExitCode {
     let mut config = Config {
         k: 2,
@@ -825,7 +896,7 @@ fn main() -> ExitCode {
         b: 4,
         words: 1024,
     };
-    let (mut budget, mut saved, mut file) = (4_000_000, None, None);
+    let (mut budget, mut saved, mut file, mut runs) = (4_000_000, None, None, 0);
     let mut arguments = env::args().skip(1);
     while let Some(argument) = arguments.next() {
         let mut value = || arguments.next().expect("an option has a value");
@@ -835,6 +906,7 @@ fn main() -> ExitCode {
             "--b" => config.b = value().parse().expect("a number"),
             "--words" => config.words = value().parse().expect("a number"),
             "--budget" => budget = value().parse().expect("a number"),
+            "--runs" => runs = value().parse().expect("a number"),
             "--trace" => saved = Some(value()),
             _ => file = Some(argument),
         }
@@ -844,6 +916,10 @@ fn main() -> ExitCode {
         return ExitCode::from(3);
     };
     let layout = layout(&bytes, config.words);
+    if runs > 0 {
+        time_sweeps(config, &layout, runs);
+        return ExitCode::SUCCESS;
+    }
     let mut machine = Machine::new(config, &layout);
     let mut sweep = Sweep {
         machine: &mut machine,

@@ -1,7 +1,7 @@
 -- Distances.
 use Rattle.std.proofs.Common.{◌≡◌, ℕ, zero, suc, ◌+◌, ◌*◌, ◌<◌, ◌≤◌, ◌⊎◌, inl, inr, sym, ap, ◌∙◌, subst, arith}
 use Rattle.std.proofs.lemmas.Bool.{cases_eq}
-use Rattle.messages.specs.Network.{Net}
+use Rattle.placement.specs.messages.Network.{Net}
 use Rattle.placement.specs.Roles.{Role, Idle, Asking, Waiting, Told, Placed}
 use Rattle.abstract_machine.specs.Steadiness.{Distance, asks, tells, waits, Far, idle, asking, told, waiting, total}
 

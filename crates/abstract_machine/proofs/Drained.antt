@@ -2,8 +2,8 @@
 use Rattle.std.proofs.Common.{◌≡◌, ℕ, zero, suc, ◌<◌, ◌≤◌, Bool, false, List, [], ◌∷◌, length, inl, inr, Option, Some, None, is_some, refl, sym, ap, ap₂, ◌∙◌}
 use Rattle.std.proofs.Common.{arith}
 use Rattle.std.proofs.lemmas.Bool.{true≢false}
-use Rattle.messages.specs.Places.{In}
-use Rattle.messages.specs.Network.{Sizes, wires}
+use Rattle.placement.specs.messages.Places.{In}
+use Rattle.placement.specs.messages.Network.{Sizes, wires}
 use Rattle.placement.specs.Roles.{Role, Idle, Asking, Told}
 use Rattle.abstract_machine.specs.Program.{Program}
 use Rattle.abstract_machine.specs.Machine.{Machine, Step, Turn, Up, Serve, Down, step, IsIdle, machine_after}

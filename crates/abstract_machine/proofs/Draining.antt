@@ -4,24 +4,24 @@ use Rattle.std.proofs.Common.{Some, None, is_some, refl, sym, ap, ◌∙◌, sub
 use Rattle.std.specs.Prelude.{if◌then◌else◌}
 use Rattle.std.proofs.lemmas.Bool.{cases_eq, cases_lt, cases_Bool, true≢false}
 use Rattle.std.proofs.lemmas.List.{length-map}
-use Rattle.messages.specs.declared.message.Request.{Request}
-use Rattle.messages.specs.declared.message.Reply.{Reply}
-use Rattle.messages.specs.declared.message.Record.{Record}
-use Rattle.messages.specs.Places.{In}
-use Rattle.messages.specs.Queues.{Combination, combined_in, combination, unmarked, records_of, records_but, reply_of, answers}
-use Rattle.messages.specs.Network.{Sizes, wires, Net, put_requests, put_records, put_replies}
-use Rattle.messages.specs.declared.moves.UpMove.TheVariants as up
-use Rattle.messages.specs.declared.moves.DownMove.TheVariants as down
-use Rattle.messages.specs.Moves.{queued, accepted, up_from, moved_up, push_all, has_room, answered, down_from, moved_down}
-use Rattle.omega_wires.specs.Wires.{wire_after, wire_before}
-use Rattle.omega_wires.proofs.Lemmas.{path_lt, path_zero}
+use Rattle.placement.specs.messages.declared.message.Request.{Request}
+use Rattle.placement.specs.messages.declared.message.Reply.{Reply}
+use Rattle.placement.specs.messages.declared.message.Record.{Record}
+use Rattle.placement.specs.messages.Places.{In}
+use Rattle.placement.specs.messages.Queues.{Combination, combined_in, combination, unmarked, records_of, records_but, reply_of, answers}
+use Rattle.placement.specs.messages.Network.{Sizes, wires, Net, put_requests, put_records, put_replies}
+use Rattle.placement.specs.messages.declared.moves.UpMove.TheVariants as up
+use Rattle.placement.specs.messages.declared.moves.DownMove.TheVariants as down
+use Rattle.placement.specs.messages.Moves.{queued, accepted, up_from, moved_up, push_all, has_room, answered, down_from, moved_down}
+use Rattle.placement.specs.omega_wires.Wires.{wire_after, wire_before}
+use Rattle.placement.proofs.Lemmas.omega_wires.{path_lt, path_zero}
 use Rattle.placement.specs.Roles.{Role, Idle, Asking, Waiting, Told, depth}
 use Rattle.abstract_machine.specs.Program.{Program, word_of, path_of}
 use Rattle.abstract_machine.specs.Machine.{Machine, Step, Turn, Up, Serve, Down, Outcome, Issued, Advanced, Retired, Moved, Combined, Served, Answered, Poked}
 use Rattle.abstract_machine.specs.Machine.{Stalled, stalled, retire_from, turned, went_up, went_down, serve_from, step}
 use Rattle.abstract_machine.specs.Steadiness.{Stands, Steady, Distance, asks, tells, waits, Far, idle, asking, told, waiting, total, Lower, Advances}
 use Rattle.abstract_machine.specs.Draining.{least, greatest, is_any, some_wire, first_wire, or_else, down_step, up_step, drain_step, AreDistances, DrainIs}
-use Rattle.messages.proofs.Lemmas.{at_put2, put2_other}
+use Rattle.placement.proofs.Lemmas.messages.{at_put2, put2_other}
 use Rattle.abstract_machine.proofs.Steadying.{goes_step}
 use Rattle.abstract_machine.proofs.Distances.{far_unique, far_distance, total_lt, total_bound}
 use Rattle.abstract_machine.proofs.Least.{LeastIs, GreatestIs, least_is, greatest_is}

@@ -8,3 +8,7 @@ pub use Rattle.abstract_machine.proofs.Draining.{bound, bound_alone, distances_a
 pub use Rattle.abstract_machine.proofs.Least.{LeastIs, least_is}
 -- Each step keeps what holds of the state, and each move brings its carrier nearer.
 pub use Rattle.abstract_machine.proofs.Steadying.{all_shut_is, goes_step, steady_start}
+-- Lemmas of lower crates, passed on to those above.
+pub use Rattle.placement.proofs.Lemmas.omega_wires as omega_wires
+pub use Rattle.placement.proofs.Lemmas.messages as messages
+pub use Rattle.placement.proofs.Lemmas as placement

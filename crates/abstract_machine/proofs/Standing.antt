@@ -1,16 +1,16 @@
 -- Where each processor stands, after single changes.
 use Rattle.std.proofs.Common.{◌≡◌, ℕ, Bool, true, false, cond, not, List, [], ◌∷◌, ◌++◌, filter, ◌==◌, inl, inr, refl, sym, ap, ◌∙◌, subst}
 use Rattle.std.proofs.lemmas.Bool.{cases_Bool}
-use Rattle.messages.specs.declared.message.Request.{Request}
-use Rattle.messages.specs.declared.message.Reply.{Reply}
-use Rattle.messages.specs.declared.message.Record.{Record}
-use Rattle.messages.specs.Places.{put2, In}
-use Rattle.messages.specs.Queues.{records_of, records_but}
-use Rattle.messages.specs.Network.{Net, put_requests, put_records, put_replies}
-use Rattle.messages.specs.Moves.{push_all}
+use Rattle.placement.specs.messages.declared.message.Request.{Request}
+use Rattle.placement.specs.messages.declared.message.Reply.{Reply}
+use Rattle.placement.specs.messages.declared.message.Record.{Record}
+use Rattle.placement.specs.messages.Places.{put2, In}
+use Rattle.placement.specs.messages.Queues.{records_of, records_but}
+use Rattle.placement.specs.messages.Network.{Net, put_requests, put_records, put_replies}
+use Rattle.placement.specs.messages.Moves.{push_all}
 use Rattle.placement.specs.Roles.{Role, Idle, Asking, Waiting, Told}
 use Rattle.abstract_machine.specs.Steadiness.{Stands}
-use Rattle.messages.proofs.Lemmas.{In-append, In-append_left, In-append_right, at_put2, put2_same}
+use Rattle.placement.proofs.Lemmas.messages.{In-append, In-append_left, In-append_right, at_put2, put2_same}
 
 -- into a place after a put
 pub into_put2 : {X : Type 0} (f : ℕ → ℕ → List X) (d w : ℕ) (xs : List X) (d' w' : ℕ) (y : X) → (In y (f d w) → In y xs) → In y (f d' w')

@@ -1,5 +1,5 @@
 -- Each step keeps what holds of the state, and each move brings its carrier nearer.
-use Rattle.placement.proofs.Lemmas.{Joins, answering_places, answers_led, below_role, combination_joins, combine, from_answers, not_led, others_request}
+use Rattle.placement.proofs.Lemmas.{answering_places, answers_led, below_role, combine, not_led, others_request}
 use Rattle.placement.proofs.Lemmas.{placed_change, placed_nowhere, pop_reply, pop_reply_unnamed, pop_request, pop_request_unnamed, push_reply, push_request}
 use Rattle.placement.proofs.Lemmas.{records_drop_other, records_none, records_other_stage, records_path, records_push_other, records_push_same, small_put}
 use Rattle.placement.proofs.Lemmas.{told_other, unnamed_idle}
@@ -7,24 +7,26 @@ use Rattle.std.proofs.Common.{zero, ◌≡◌, ℕ, suc, ◌+◌, ◌-◌, ◌*�
 use Rattle.std.proofs.Common.{◌⊎◌, inl, inr, ◌↔◌, Option, Some, None, refl, sym, ap, ap₂, ◌∙◌, subst, arith, ltb-true, eqb-true, length-append, drop}
 use Rattle.std.specs.Prelude.{if◌then◌else◌}
 use Rattle.std.proofs.lemmas.Bool.{cases_eq, true≢false, and_parts}
-use Rattle.messages.specs.declared.message.Request.{Request}
-use Rattle.messages.specs.declared.message.Reply.{Reply}
-use Rattle.messages.specs.declared.message.Record.{Record}
-use Rattle.messages.specs.Places.{put, put2, In}
-use Rattle.messages.specs.Queues.{applied, Combination, merged, combination, unmarked, records_of, records_but, answers}
-use Rattle.messages.specs.Network.{Sizes, wires, Net, put_requests, put_records, put_replies, records_on}
-use Rattle.messages.specs.declared.moves.UpMove.TheVariants as up
-use Rattle.messages.specs.declared.moves.DownMove.TheVariants as down
-use Rattle.messages.specs.Moves.{combined, accepted, up_from, moved_up, push_all, has_room, answered, down_from, moved_down, injected, module_taken}
-use Rattle.messages.specs.Moves.{module_replied, port_taken}
-use Rattle.omega_wires.specs.Wires.{path as way, wire_after, wire_before}
-use Rattle.omega_wires.proofs.Lemmas.{before_path, path_suc, path_zero}
-use Rattle.placement.specs.Roles.{Role, Idle, Asking, Waiting, Told, depth, Placed, RecordPlaced, Unnamed, told_all}
+use Rattle.placement.specs.messages.declared.message.Request.{Request}
+use Rattle.placement.specs.messages.declared.message.Reply.{Reply}
+use Rattle.placement.specs.messages.declared.message.Record.{Record}
+use Rattle.placement.specs.messages.Places.{put, put2, In}
+use Rattle.placement.specs.messages.Queues.{applied, Combination, merged, combination, unmarked, records_of, records_but, answers}
+use Rattle.placement.specs.messages.Network.{Sizes, wires, Net, put_requests, put_records, put_replies, records_on}
+use Rattle.placement.specs.messages.declared.moves.UpMove.TheVariants as up
+use Rattle.placement.specs.messages.declared.moves.DownMove.TheVariants as down
+use Rattle.placement.specs.messages.Naming.{Unnamed}
+use Rattle.placement.specs.messages.Moves.{combined, accepted, up_from, moved_up, push_all, has_room, answered, down_from, moved_down, injected, module_taken}
+use Rattle.placement.specs.messages.Moves.{module_replied, port_taken}
+use Rattle.placement.specs.omega_wires.Wires.{path as way, wire_after, wire_before}
+use Rattle.placement.proofs.Lemmas.omega_wires.{before_path, path_suc, path_zero}
+use Rattle.placement.specs.Roles.{Role, Idle, Asking, Waiting, Told, depth, Placed, RecordPlaced, told_all}
 use Rattle.abstract_machine.specs.Program.{Program, Kind, Rests, Alone, Refers, word_of, path_of}
 use Rattle.abstract_machine.specs.Machine.{Machine, Step, Turn, Up, Serve, Down, Poke, stalled, with_net, retire_from, request_of, issue, advance, begin}
 use Rattle.abstract_machine.specs.Machine.{turned, went_up, went_down, serve_from, all_shut, poked, step, new_machine}
 use Rattle.abstract_machine.specs.Steadiness.{Few, Stands, Steady, Far, idle, asking, told, waiting, Lower, MovedOn, GoesOn}
-use Rattle.messages.proofs.Lemmas.{In-append, In-append_left, In-append_right, In-filter, In-put2, filter_none, put2_other, put2_same, put_other, put_same}
+use Rattle.placement.proofs.Lemmas.messages.{In-append, In-append_left, In-append_right, In-filter, In-put2, filter_none, put2_other, put2_same, put_other}
+use Rattle.placement.proofs.Lemmas.messages.{put_same, Joins, combination_joins, from_answers}
 use Rattle.abstract_machine.proofs.Standing.{stands_pop_request, stands_pop_reply, stands_push_request, stands_push_reply, stands_push_record, stands_entry}
 use Rattle.abstract_machine.proofs.Standing.{stands_drop, stands_push_all, stands_pushed}
 use Rattle.abstract_machine.proofs.Distances.{far_asking, far_told, far_waiting, far_lower}

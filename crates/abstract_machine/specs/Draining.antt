@@ -1,6 +1,6 @@
 -- The drain: which step it takes next.
 use Rattle.std.specs.Prelude.{◌≡◌, ℕ, zero, suc, ◌+◌, ◌*◌, ◌<◌, ◌≤◌, Bool, true, false, List, [], ◌∷◌, Option, Some, None, is_some, length, if◌then◌else◌}
-use Rattle.messages.specs.Network.{Sizes, Net, wires}
+use Rattle.placement.specs.messages.Network.{Sizes, Net, wires}
 use Rattle.abstract_machine.specs.Program.{Program}
 use Rattle.placement.specs.Roles.{Role}
 use Rattle.abstract_machine.specs.Machine.{Machine, Step, Turn, Up, Serve, Down, Stalled, step, machine_after, IsIdle}

@@ -1,15 +1,16 @@
 -- The machine and its steps.
 use Rattle.std.specs.Prelude.{◌≡◌, ◌<◌, ℕ, zero, suc, Bool, true, false, ◌&&◌, not, nat_lt, List, [], ◌∷◌, if◌then◌else◌}
-use Rattle.messages.specs.declared.message.Request.{Request}
-use Rattle.messages.specs.declared.message.Reply.{Reply}
-use Rattle.messages.specs.declared.moves.UpMove.{UpMove}
-use Rattle.messages.specs.declared.moves.UpMove.TheVariants as up
-use Rattle.messages.specs.declared.moves.DownMove.{DownMove}
-use Rattle.messages.specs.declared.moves.DownMove.TheVariants as down
-use Rattle.messages.specs.Places.{put}
-use Rattle.messages.specs.Queues.{applied}
-use Rattle.messages.specs.Network.{Sizes, Net, wires, empty_net}
-use Rattle.messages.specs.Moves.{moved_up, moved_down, injected, module_taken, module_replied, port_taken}
+use Rattle.placement.specs.messages.declared.message.Request.{Request}
+use Rattle.placement.specs.messages.declared.message.Reply.{Reply}
+use Rattle.placement.specs.messages.declared.moves.UpMove.{UpMove}
+use Rattle.placement.specs.messages.declared.moves.UpMove.TheVariants as up
+use Rattle.placement.specs.messages.declared.moves.DownMove.{DownMove}
+use Rattle.placement.specs.messages.declared.moves.DownMove.TheVariants as down
+use Rattle.placement.specs.messages.declared.seconds.Seconds.{Seconds}
+use Rattle.placement.specs.messages.Places.{put}
+use Rattle.placement.specs.messages.Queues.{applied}
+use Rattle.placement.specs.messages.Network.{Sizes, Net, wires, empty_net}
+use Rattle.placement.specs.messages.Moves.{moved_up, moved_down, injected, module_taken, module_replied, port_taken}
 use Rattle.abstract_machine.specs.Program.{Program, Kind, Rests, Alone, Refers}
 
 -- There is a processor and a module for each wire.
@@ -38,7 +39,7 @@ pub data Outcome (Pokes : Type 0) : Type 0 where
   Moved : Outcome Pokes
   Combined : (first second : ℕ) → Outcome Pokes
   Served : (leader : ℕ) → Outcome Pokes
-  Answered : (to : ℕ) → Outcome Pokes
+  Answered : (to : Seconds) → Outcome Pokes
   Poked : Pokes → Outcome Pokes
   -- nothing changed
   Stalled : Outcome Pokes

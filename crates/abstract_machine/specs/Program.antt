@@ -1,9 +1,9 @@
 -- What processors do, as far as the network and the memory need to know it.
 use Rattle.std.specs.Prelude.{◌≡◌, ℕ, ◌%◌, ◌<◌, ◌^◌, Bool, true}
-use Rattle.phi_algebra.specs.declared.phi.Phi.{Phi}
-use Rattle.phi_algebra.specs.Functions.{IsInRange}
-use Rattle.omega_wires.specs.Wires as wiring
-use Rattle.messages.specs.Network.{Sizes, wires}
+use Rattle.placement.specs.phi_algebra.declared.phi.Phi.{Phi}
+use Rattle.placement.specs.phi_algebra.Functions.{IsInRange}
+use Rattle.placement.specs.omega_wires.Wires as wiring
+use Rattle.placement.specs.messages.Network.{Sizes, wires}
 
 -- the kind of a processor's next turn
 pub data Kind : Type 0 where

@@ -1,11 +1,11 @@
 -- What holds of a machine at every moment, said of the state alone: the roles are read off the places.
 use Rattle.std.specs.Prelude.{◌≡◌, ℕ, zero, suc, ◌+◌, ◌*◌, ◌<◌, ◌≤◌, true, false, length, ◌⊎◌, ◌↔◌}
-use Rattle.messages.specs.declared.message.Request.{Request}
-use Rattle.messages.specs.declared.message.Reply.{Reply}
-use Rattle.messages.specs.declared.message.Record.{Record}
-use Rattle.messages.specs.Places.{In}
-use Rattle.messages.specs.Queues.{records_of}
-use Rattle.messages.specs.Network.{Sizes, Net, wires, records_on}
+use Rattle.placement.specs.messages.declared.message.Request.{Request}
+use Rattle.placement.specs.messages.declared.message.Reply.{Reply}
+use Rattle.placement.specs.messages.declared.message.Record.{Record}
+use Rattle.placement.specs.messages.Places.{In}
+use Rattle.placement.specs.messages.Queues.{records_of}
+use Rattle.placement.specs.messages.Network.{Sizes, Net, wires, records_on}
 use Rattle.placement.specs.Roles.{Role, Idle, Asking, Waiting, Told, Placed}
 use Rattle.abstract_machine.specs.Program.{Program, Refers, word_of, path_of}
 use Rattle.abstract_machine.specs.Machine.{Machine, Outcome, Stalled, Issued, Advanced, Poked, Result, Step, step, new_machine}

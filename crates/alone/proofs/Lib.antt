@@ -3,3 +3,4 @@ pub mod Covering
 pub mod Reaching
 pub mod Forgetting
 pub mod Bounding
+pub mod Moving

@@ -193,7 +193,7 @@ module _ (at : ℕ → Setting) (code : List ℕ) (kept : Station → Station) w
             let stands_b : is_running b.processor.status ≡ false = sym (run_alike a b e) ∙ stands in
             ap (λ r. kept (cond r (alone_by a (next k a)) a)) stands ∙ (e ∙ sym (ap (λ r. kept (cond r (alone_by b (next k b)) b)) stands_b))
 
-    alone_alike : (n k : ℕ) (a b : Station) → kept a ≡ kept b → kept (alone n (at k) code a) ≡ kept (alone n (at k) code b)
+    pub alone_alike : (n k : ℕ) (a b : Station) → kept a ≡ kept b → kept (alone n (at k) code a) ≡ kept (alone n (at k) code b)
     alone_alike zero k a b e = e
     alone_alike (suc n) k a b e = alone_alike n k (alone_once (at k) code a) (alone_once (at k) code b) (once_alike k a b e)
 
@@ -204,7 +204,7 @@ module _ (at : ℕ → Setting) (code : List ℕ) (kept : Station → Station) w
     reference_alike a b (Reaches w d g) (Stops c) h i = absurd h
     reference_alike a b (Stops c) y h w = absurd w
 
-    settled_alike : (k : ℕ) (a b : Station) → kept a ≡ kept b → IsSettled (at k) code a.processor → IsSettled (at k) code b.processor
+    pub settled_alike : (k : ℕ) (a b : Station) → kept a ≡ kept b → IsSettled (at k) code a.processor → IsSettled (at k) code b.processor
     settled_alike k a b e h runs =
         let runs_a : is_running a.processor.status ≡ true = run_alike a b e ∙ runs in
         reference_alike a b (next k a) (next k b) (turns_alike k a b e runs_a) (h runs_a)

@@ -1,10 +1,12 @@
 -- What the laws of closed sets speak of.
-use Rattle.std.specs.Prelude.{ℕ, ◌≤◌, List, length}
+use Rattle.std.specs.Prelude.{◌≡◌, ℕ, ◌≤◌, true, List, Some, length, slice_get, slice_index}
 use Rattle.flat_machine.specs.declared.setting.Setting.{Setting}
-use Rattle.flat_machine.specs.State.{FlatState}
+use Rattle.flat_machine.specs.declared.event.Retired.{Retired}
+use Rattle.flat_machine.specs.State.{FlatState, Processor, is_running}
+use Rattle.flat_machine.specs.Turns.{Reaches, turn_of}
 use Rattle.flat_machine.specs.Flat.{flat_run, flat_events}
-use Rattle.alone.specs.Stations.{Station, consoles_after, turns}
-use Rattle.alone.specs.Closing.{IsForgetful, if_running, Standing, IsIn, IsClosed, IsShort, IsWay, Settles, IsKeptOf, AreSettled, HasStopped}
+use Rattle.alone.specs.Stations.{Station, behind, alone, IsSettled, consoles_after, turns}
+use Rattle.alone.specs.Closing.{IsForgetful, if_running, Standing, gone, IsIn, IsMove, IsClosed, IsShort, IsWay, Settles, IsKeptOf, AreSettled, HasStopped}
 use Rattle.alone.specs.Schedules.{turns_taken, EveryScheduleEnds}
 
 -- A closed set that has the state to which the flat machine settles has, for each order of turns after which all processors
@@ -32,6 +34,16 @@ MovesAreTurns =
     (order : List ℕ) × IsKeptOf kept (flat_run m (turns order)) (consoles_after consoles (flat_events m (turns order))) t
     × AreSettled at code (flat_run m (turns order)) × Settles at code kept (flat_run m (turns order)) (consoles_after consoles (flat_events m (turns order))) t
     × (length way ≤ turns_taken m order)
+
+-- A move can be made from any station of which the state has what is kept.
+abbrev pub MovesOfWhatIsKept : Type 0
+MovesOfWhatIsKept =
+    (at : ℕ → Setting) (code : List ℕ) (kept : Station → Station) (s : Standing) (k : ℕ) (a : Station) (word : ℕ) (change : ℕ → ℕ)
+    (after : ℕ → Processor × Retired) (count : ℕ) → IsForgetful at code kept → slice_get s.stations k ≡ Some (kept a) →
+    is_running a.processor.status ≡ true → turn_of (at k) code a.processor ≡ Reaches word change after →
+    IsSettled (at k) code (alone count (at k) code (behind a (after (slice_index s.shared word)))).processor →
+    IsMove at code kept s k
+    (gone s k (kept (alone count (at k) code (behind a (after (slice_index s.shared word))))) word (change (slice_index s.shared word)))
 
 -- Where no more moves than so many follow one another, every schedule ends.
 abbrev pub ShortSchedulesEnd : Type 0

@@ -1,6 +1,6 @@
 //! Laws of states between references: each is the contract of a function that does nothing.
 
-ghost use Rattle.alone.specs.Laws.{ClosedSetsAreNotLeft, ClosedSetsHaveAllEnds, MovesAreTurns, ShortSchedulesEnd, StoppedAreForgotten};
+ghost use Rattle.alone.specs.Laws.{ClosedSetsAreNotLeft, ClosedSetsHaveAllEnds, MovesAreTurns, MovesOfWhatIsKept, ShortSchedulesEnd, StoppedAreForgotten};
 
 /// Where a set of states has the one to which a flat machine settles, and with each state those after
 /// a reference of each of its processors, it has each end of that machine: what is kept of each state
@@ -18,6 +18,11 @@ pub fn closed_sets_are_not_left()
 /// after some order of turns.
 pub fn moves_are_turns()
     ensures turns { MovesAreTurns }
+{}
+
+/// A move can be made from any station of which the state has what is kept.
+pub fn moves_are_of_what_is_kept()
+    ensures made { MovesOfWhatIsKept }
 {}
 
 /// The registers and the local memory of a processor that has stopped can be forgotten.

@@ -9,6 +9,6 @@
 mod laws;
 
 pub use laws::{
-    closed_sets_are_not_left, closed_sets_have_all_ends, moves_are_turns, short_schedules_end,
-    stopped_processors_can_be_forgotten,
+    closed_sets_are_not_left, closed_sets_have_all_ends, moves_are_of_what_is_kept,
+    moves_are_turns, short_schedules_end, stopped_processors_can_be_forgotten,
 };

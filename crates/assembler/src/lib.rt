@@ -53,6 +53,7 @@ mod laws;
 mod passes;
 mod place;
 mod program;
+mod sections;
 mod symbol;
 mod values;
 
@@ -63,3 +64,4 @@ pub use laws::{
 };
 pub use passes::assemble;
 pub use program::Program;
+pub use sections::{base_of, misplaced, room_of, size_of};

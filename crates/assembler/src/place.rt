@@ -1,68 +1,21 @@
 //! The first pass: each line at its place, and the labels.
 
-ghost use Rattle.std.specs.Prelude.{◌≡◌, ◌≢◌, ◌≤◌, ◌-◌, ◌^◌, ℕ, min, IfOk, IfErr, OnOk, true, false, ◌<◌, Ok, Err, Some, fold, slice_get, map};
+ghost use Rattle.std.specs.Prelude.{◌≡◌, ◌≢◌, ◌≤◌, ◌-◌, ℕ, IfOk, IfErr, OnOk, true, false, ◌<◌, Ok, Err, Some, fold, slice_get, map};
 ghost use Rattle.std.specs.Option.{option_map};
 ghost use Rattle.asm_lines.specs.Statements.{stmt_of, said_of};
 ghost use Rattle.assembler.specs.declared.fault.AsmFault.TheVariants.{Memory, LabelTwice};
-ghost use Rattle.assembler.specs.Meaning.{Labels, Place, start, address, base_of, room_of, count_of, size_of, misplaced, after_option, labelled, is_taken};
+ghost use Rattle.assembler.specs.Meaning.{Labels, Place, start, address, count_of, after_option, labelled, is_taken};
 ghost use Rattle.assembler.specs.Meaning.{place_statement, place_said, place_line, after_said, after, line_piece, pieces_from};
 ghost use Rattle.assembler.specs.Passes.{name_of, nows, place_of, piece_at};
 
 use crate::cursor::{Cursor, LineAt};
 use crate::fault::{AsmError, AsmFault};
+use crate::sections::{misplaced, room_of, size_of};
 use crate::symbol::Symbol;
 use asm_lines::{Line, LineError, Section, Statement, read_line};
 use flat_machine::{CODE_START, LOCAL_START, SHARED_START};
 use std::alloc::Global;
 use std::collections::BTreeMap;
-
-fn base_of(section: Section) -> u32
-    ensures { result ≡ base_of section }
-{
-    match section {
-        Section::Code => CODE_START,
-        Section::Local => LOCAL_START,
-        Section::Shared => SHARED_START,
-    }
-}
-
-/// How many bytes a section may have.
-fn room_of(section: Section) -> u32
-    ensures { result ≡ room_of section }
-{
-    match section {
-        Section::Code | Section::Local => 65_536,
-        Section::Shared => 786_432,
-    }
-}
-
-fn size_of(statement: &Statement) -> u64
-    ensures { result ≡ min (size_of (stmt_of statement.now)) (2 ^ 64 - 1) }
-{
-    match statement {
-        Statement::Section(_) => 0,
-        Statement::Words(values) => (values.len() as u64).saturating_mul(4),
-        Statement::Bytes(bytes) => bytes.len() as u64,
-        Statement::Zeros(count) => u64::from(*count),
-        Statement::Instruction(_) => 4,
-    }
-}
-
-fn misplaced(section: Section, address: u32, statement: &Statement) -> Option<AsmFault>
-    ensures { result ≡ misplaced section address (stmt_of statement.now) }
-{
-    match (section, statement) {
-        (Section::Local | Section::Shared, Statement::Instruction(_)) => Some(AsmFault::Form),
-        (Section::Code, Statement::Instruction(_)) | (_, Statement::Words(_)) => {
-            if address % 4 == 0 {
-                None
-            } else {
-                Some(AsmFault::Range)
-            }
-        }
-        _ => None,
-    }
-}
 
 impl<'a> Cursor<'a> {
     /// The beginning of a text.
@@ -108,7 +61,7 @@ impl<'a> Cursor<'a> {
         ensures err { IfErr result (λ f. place_statement (place_of self.old) (Some (stmt_of statement.now)) ≡ Err f) }
     {
         let section = self.section;
-        if let Some(fault) = misplaced(section, self.address(), statement) {
+        if let Some(fault) = misplaced(section, u64::from(self.address()), statement) {
             return Err(fault);
         }
         let count = self.count();

@@ -1,3 +1,6 @@
 pub mod Accepting
-pub mod Combinations
 pub mod Rooms
+pub mod Queueing
+pub mod Taking
+pub mod Answering
+pub mod Replying

@@ -1,38 +1,45 @@
 -- What a contract sees of an output of a switch, and what it does with a request.
-use Rattle.std.specs.Prelude.{◌≡◌, ℕ, List, [], ◌∷◌, ◌++◌, length, nat_lt, Option, Some, None, if◌then◌else◌}
+use Rattle.std.specs.Prelude.{ℕ, List, [], ◌∷◌, ◌++◌, length, nat_lt, Option, Some, None, if◌then◌else◌}
 use Rattle.messages.specs.declared.message.Request.{Request}
 use Rattle.messages.specs.declared.message.Record.{Record}
 use Rattle.messages.specs.Queues.{Combination, combination, unmarked}
+use Rattle.message_cells.specs.Pools.{PoolLists, requests_at}
 use Rattle.combining_switch.specs.declared.answers.Accepted.{Accepted}
 use Rattle.combining_switch.specs.declared.answers.Accepted.TheVariants.{Queued, Combined, Full}
 
--- how often an entry of a queue is combined
-abbrev pub most_marks : ℕ
-most_marks = 1
-
--- a queue of up to c requests, and a wait buffer of up to b records
+-- a queue of up to c requests, a wait buffer of up to b records, and up to r combinations for an entry of the queue
 pub record OutputLists : Type 0 where
   pub c : ℕ
   pub b : ℕ
+  pub r : ℕ
   pub requests : List Request
   pub records : List Record
 
-abbrev pub empty_output : (c b : ℕ) → OutputLists
-empty_output c b = record { c = c; b = b; requests = []; records = [] }
+-- what an output has itself: its queue is the one of this number among a pool's queues of requests
+pub record OutputState : Type 0 where
+  pub c : ℕ
+  pub b : ℕ
+  pub r : ℕ
+  pub queue : ℕ
+  pub records : List Record
 
-abbrev pub IsEmptyOutput : OutputLists → Type 0
-IsEmptyOutput o = (o.requests ≡ []) × (o.records ≡ [])
+-- an output's lists, its queue's requests read in the pool
+abbrev pub output_in : PoolLists → OutputState → OutputLists
+output_in pool o = record { c = o.c; b = o.b; r = o.r; requests = requests_at pool o.queue; records = o.records }
+
+abbrev pub output_with : OutputState → List Record → OutputState
+output_with o es = record { c = o.c; b = o.b; r = o.r; queue = o.queue; records = es }
 
 -- the request goes behind those of the queue, if there is room
 abbrev pub queued : OutputLists → Request → Accepted × OutputLists
 queued o x =
     if nat_lt (length o.requests) o.c
-    then (Queued, record { c = o.c; b = o.b; requests = o.requests ++ unmarked x ∷ []; records = o.records })
+    then (Queued, record { c = o.c; b = o.b; r = o.r; requests = o.requests ++ unmarked x ∷ []; records = o.records })
     else (Full, o)
 
 -- the queue has the entry that stands for the two, and the record is the newest
 abbrev pub combined : OutputLists → Combination → Accepted × OutputLists
-combined o j = (Combined j.made.leader, record { c = o.c; b = o.b; requests = j.queue; records = o.records ++ j.made ∷ [] })
+combined o j = (Combined j.made.leader, record { c = o.c; b = o.b; r = o.r; requests = j.queue; records = o.records ++ j.made ∷ [] })
 
 abbrev pub accepted_as : OutputLists → Request → Option Combination → Accepted × OutputLists
 accepted_as o x None = queued o x
@@ -41,4 +48,4 @@ accepted_as o x (Some j) = combined o j
 -- A request that comes to an output is combined where it can be, else queued where there is room, else refused: what is
 -- answered, and the output then.
 unfoldable pub accepted : OutputLists → Request → Accepted × OutputLists
-accepted o x = accepted_as o x (combination o.b most_marks x o.requests o.records)
+accepted o x = accepted_as o x (combination o.b o.r x o.requests o.records)

@@ -1,95 +1,104 @@
--- What a contract sees of a `Switch`, and what it does with a request and with a reply.
-use Rattle.std.specs.Prelude.{◌≡◌, ◌==◌, ℕ, Bool, true, ◌&&◌, filter, nat_le, List, [], ◌∷◌, ◌++◌, length, slice_index_or, slice_set, if◌then◌else◌}
+-- What a contract sees of a `Switch`, and what it does with a reply.
+use Rattle.std.specs.Prelude.{◌≡◌, ◌==◌, ◌<◌, ℕ, Bool, true, ◌&&◌, filter, nat_le, List, [], ◌∷◌, ◌++◌, length, slice_index_or, slice_set, if◌then◌else◌}
 use Rattle.omega_wires.specs.Wires.{bit}
-use Rattle.messages.specs.declared.message.Request.{Request}
 use Rattle.messages.specs.declared.message.Reply.{Reply}
 use Rattle.messages.specs.declared.message.Record.{Record}
+use Rattle.messages.specs.Places.{ApartBy, In}
 use Rattle.messages.specs.Queues.{answers, records_of, records_but}
-use Rattle.combining_switch.specs.Outputs.{IsEmptyOutput, OutputLists, empty_output}
+use Rattle.messages.specs.Seconds.{seconds_told}
+use Rattle.message_cells.specs.Pools.{IsFree, PoolLists, leader_of_reply, replies_at, with_replies}
+use Rattle.combining_switch.specs.Outputs.{OutputState, output_with}
 use Rattle.combining_switch.specs.declared.answers.Answered.{Answered}
-use Rattle.combining_switch.specs.declared.answers.Answered.TheVariants.{One, Two, NoRoom}
+use Rattle.combining_switch.specs.declared.answers.Answered.TheVariants.{One, Many, NoRoom}
 
--- Two outputs, and two inputs with a queue of up to c replies each. A reply goes to the input that a bit of its leader's
--- number names.
-pub record SwitchLists : Type 0 where
+-- Two outputs, and two inputs, each with the number of its queue among a pool's queues of replies, of up to c each. A reply
+-- goes to the input that a bit of its leader's number names.
+pub record SwitchState : Type 0 where
   pub c : ℕ
   pub its_bit : ℕ
-  pub outputs : List OutputLists
-  pub inputs : List (List Reply)
+  pub outputs : List OutputState
+  pub inputs : List ℕ
 
-abbrev pub empty_switch : (c b its_bit : ℕ) → SwitchLists
-empty_switch c b i = record { c = c; its_bit = i; outputs = empty_output c b ∷ empty_output c b ∷ []; inputs = [] ∷ [] ∷ [] }
+-- a switch without records, by the numbers of its outputs' and inputs' queues
+abbrev pub new_switch : (c b r its_bit out_zero out_one in_zero in_one : ℕ) → SwitchState
+new_switch c b r i x y v w = record {
+  c = c;
+  its_bit = i;
+  outputs = record { c = c; b = b; r = r; queue = x; records = [] } ∷ record { c = c; b = b; r = r; queue = y; records = [] } ∷ [];
+  inputs = v ∷ w ∷ [];
+}
 
--- ---- outputs
+abbrev pub no_output : OutputState
+no_output = record { c = 0; b = 0; r = 0; queue = 0; records = [] }
 
-abbrev pub output_of : SwitchLists → (out : ℕ) → OutputLists
-output_of s out = slice_index_or s.outputs out (empty_output 0 0)
+abbrev pub output_of : SwitchState → (out : ℕ) → OutputState
+output_of s out = slice_index_or s.outputs out no_output
 
-abbrev pub with_output : SwitchLists → (out : ℕ) → OutputLists → SwitchLists
-with_output s out o = record { c = s.c; its_bit = s.its_bit; outputs = slice_set s.outputs out o; inputs = s.inputs }
-
-abbrev pub requests_at : SwitchLists → (out : ℕ) → List Request
-requests_at s out = (output_of s out).requests
-
-abbrev pub records_at : SwitchLists → (out : ℕ) → List Record
+abbrev pub records_at : SwitchState → (out : ℕ) → List Record
 records_at s out = (output_of s out).records
 
-abbrev pub with_requests : SwitchLists → (out : ℕ) → List Request → SwitchLists
-with_requests s out xs =
-    let o = output_of s out in
-    with_output s out (record { c = o.c; b = o.b; requests = xs; records = o.records })
+abbrev pub with_records : SwitchState → (out : ℕ) → List Record → SwitchState
+with_records s out es = record { c = s.c; its_bit = s.its_bit; outputs = slice_set s.outputs out (output_with (output_of s out) es); inputs = s.inputs }
 
-abbrev pub with_records : SwitchLists → (out : ℕ) → List Record → SwitchLists
-with_records s out es =
-    let o = output_of s out in
-    with_output s out (record { c = o.c; b = o.b; requests = o.requests; records = es })
+-- the number of an input's queue
+abbrev pub input_of : List ℕ → (inp : ℕ) → ℕ
+input_of inputs inp = slice_index_or inputs inp 0
 
--- ---- inputs
+-- the queues are in the pool, and those of the inputs are two
+pub record StandsIn (s : SwitchState) (pool : PoolLists) : Type 0 where
+  pub outputs : (out : ℕ) → out < 2 → (output_of s out).queue < length pool.requests
+  pub inputs : (inp : ℕ) → inp < 2 → input_of s.inputs inp < length pool.replies
+  pub apart : input_of s.inputs 0 ≡ input_of s.inputs 1 → ⊥
 
-abbrev pub replies_at : List (List Reply) → (inp : ℕ) → List Reply
-replies_at inputs inp = slice_index_or inputs inp []
+-- ---- replies are put to inputs
 
-abbrev pub with_inputs : SwitchLists → List (List Reply) → SwitchLists
-with_inputs s inputs = record { c = s.c; its_bit = s.its_bit; outputs = s.outputs; inputs = inputs }
+-- the number of the queue where a leader's replies go
+abbrev pub input_for : (its_bit : ℕ) → List ℕ → (leader : ℕ) → ℕ
+input_for i inputs p = input_of inputs (bit i p)
 
 -- a reply is put behind those at its leader's input
-abbrev pub put_reply : (its_bit : ℕ) → List (List Reply) → Reply → List (List Reply)
-put_reply i inputs y = slice_set inputs (bit i y.leader) (replies_at inputs (bit i y.leader) ++ y ∷ [])
+abbrev pub put_reply : (its_bit : ℕ) → List ℕ → PoolLists → Reply → PoolLists
+put_reply i inputs pool y = with_replies pool (input_for i inputs y.leader) (replies_at pool (input_for i inputs y.leader) ++ y ∷ [])
 
 -- the replies for an input
 abbrev pub replies_for : (its_bit inp : ℕ) → List Reply → List Reply
 replies_for i inp ys = filter (λ (y : Reply). bit i y.leader == inp) ys
 
+-- the records of a leader with a second whose reply is for an input
+abbrev pub records_for : (its_bit inp leader : ℕ) → List Record → List Record
+records_for i inp p es = filter (λ (e : Record). e.leader == p && bit i e.second == inp) es
+
 -- one after another
-unfoldable pub put_replies : (its_bit : ℕ) → List Reply → List (List Reply) → List (List Reply)
-put_replies i [] inputs = inputs
-put_replies i (y ∷ ys) inputs = put_replies i ys (put_reply i inputs y)
+unfoldable pub put_replies : (its_bit : ℕ) → List ℕ → List Reply → PoolLists → PoolLists
+put_replies i inputs [] pool = pool
+put_replies i inputs (y ∷ ys) pool = put_replies i inputs ys (put_reply i inputs pool y)
 
 -- whether each of these replies, now put, has its place within c
-unfoldable pub has_room : (c its_bit : ℕ) → List (List Reply) → List Reply → Bool
-has_room c i inputs [] = true
-has_room c i inputs (y ∷ ys) = nat_le (length (replies_at inputs (bit i y.leader))) c && has_room c i inputs ys
+unfoldable pub has_room : (c its_bit : ℕ) → List ℕ → PoolLists → List Reply → Bool
+has_room c i inputs pool [] = true
+has_room c i inputs pool (y ∷ ys) = nat_le (length (replies_at pool (input_for i inputs y.leader))) c && has_room c i inputs pool ys
 
--- no request, no record and no reply
-abbrev pub IsEmptySwitch : SwitchLists → Type 0
-IsEmptySwitch s =
-    IsEmptyOutput (output_of s 0) × IsEmptyOutput (output_of s 1) × (replies_at s.inputs 0 ≡ []) × (replies_at s.inputs 1 ≡ [])
+-- the leaders of these replies differ, and their cells are free
+pub record CanBeQueued (pool : PoolLists) (ys : List Reply) : Type 0 where
+  pub cells : (y : Reply) → In y ys → y.leader < pool.cells
+  pub free : (y : Reply) → In y ys → IsFree pool y.leader
+  pub apart : ApartBy leader_of_reply ys
 
 -- ---- a reply comes back
 
 abbrev pub answered_for : List Record → Answered
 answered_for [] = One
-answered_for (e ∷ es) = Two e.second
+answered_for (e ∷ es) = Many (seconds_told e es)
 
 -- The leader's reply and those of its seconds are put, in the order of the combinations, and its records go; or there is no
 -- room for all of them, and nothing changes.
-abbrev pub answered_from : SwitchLists → (out : ℕ) → Reply → List Record → Answered × SwitchLists
-answered_from s out x records =
-    let all = put_replies s.its_bit (answers records x) s.inputs in
-    if has_room s.c s.its_bit all (answers records x)
-    then (answered_for records, with_inputs (with_records s out (records_but x.leader (records_at s out))) all)
-    else (NoRoom, s)
+abbrev pub answered_from : SwitchState → PoolLists → (out : ℕ) → Reply → List Record → Answered × SwitchState × PoolLists
+answered_from s pool out x records =
+    let all = put_replies s.its_bit s.inputs (answers records x) pool in
+    if has_room s.c s.its_bit s.inputs all (answers records x)
+    then (answered_for records, with_records s out (records_but x.leader (records_at s out)), all)
+    else (NoRoom, s, pool)
 
--- what is answered to a reply that comes back to an output, and the switch then
-unfoldable pub answered : SwitchLists → (out : ℕ) → Reply → Answered × SwitchLists
-answered s out x = answered_from s out x (records_of x.leader (records_at s out))
+-- what is answered to a reply that comes back to an output, and the switch and the pool then
+unfoldable pub answered : SwitchState → PoolLists → (out : ℕ) → Reply → Answered × SwitchState × PoolLists
+answered s pool out x = answered_from s pool out x (records_of x.leader (records_at s out))

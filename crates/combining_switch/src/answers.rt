@@ -1,5 +1,11 @@
 //! What a switch answers.
 
+ghost use Rattle.std.specs.Prelude.{List, ◌≡◌, [], ◌∷◌, ◌++◌};
+ghost use Rattle.messages.specs.declared.message.Record.{Record};
+ghost use Rattle.combining_switch.specs.Switches.{answered_for};
+
+use messages::Seconds;
+
 /// What became of a request.
 #[derive(Clone, Copy, Debug, PartialEq, Eq, Drop)]
 pub enum Accepted {
@@ -19,11 +25,32 @@ pub enum Accepted {
 pub enum Answered {
     /// It went on alone.
     One,
-    /// It went on, and so did the reply for the second that was combined with its leader.
-    Two {
-        /// The second.
-        second: u8,
+    /// It went on, and so did the replies for the seconds that were combined with its leader.
+    Many {
+        /// The seconds.
+        seconds: Seconds,
     },
     /// Nothing: there is no room for all replies.
     NoRoom,
+}
+
+impl Answered {
+    /// The same, where one more second is answered: three at most are told.
+    pub(crate) fn and(self, second: u8) -> Self
+        ensures { (records : List Record) (last : Record) → self ≡ answered_for records → second ≡ last.second
+            → result ≡ answered_for (records ++ last ∷ []) }
+    {
+        let Answered::Many { seconds } = self else {
+            return Answered::Many {
+                seconds: Seconds::One(second),
+            };
+        };
+        Answered::Many {
+            seconds: match seconds {
+                Seconds::One(first) => Seconds::Two(first, second),
+                Seconds::Two(first, before) => Seconds::Three(first, before, second),
+                Seconds::Three(..) => seconds,
+            },
+        }
+    }
 }

@@ -5,9 +5,13 @@
 //! entry comes back to the same output, where the record gives the reply of the request that was
 //! combined with it.
 //!
+//! The messages lie in a pool of cells (crate `message_cells`), which is passed to each call. A switch
+//! has the numbers of its queues there, and its records. A message is taken out of its old place before
+//! it is offered to a switch, so its cell is free; whether the switch will take it is asked before.
+//!
 //! `specs/Outputs.antt` and `specs/Switches.antt` say what each call does, by the definitions of the
-//! crate `messages`; `specs/Accepting.antt` says case by case what becomes of a request. Room is made
-//! by [`Switch::new`] alone: no other call takes memory.
+//! crate `messages`; `specs/Accepting.antt` says case by case what becomes of a request. No call takes
+//! memory.
 //!
 //! Source: the combining switch is that of Gottlieb et al., "The NYU Ultracomputer", IEEE
 //! Transactions on Computers C-32(2), 1983.
@@ -22,4 +26,4 @@ mod wait_buffer;
 pub use answers::{Accepted, Answered};
 pub use laws::accepting_is_combining_queueing_or_refusing;
 pub use switch::{MAX_QUEUE, Switch};
-pub use wait_buffer::{MAX_RECORDS, Replies, WaitBuffer};
+pub use wait_buffer::{MAX_RECORDS, WaitBuffer};

@@ -1,35 +1,38 @@
 //! One output of a switch.
 
-ghost use Rattle.std.specs.Prelude.{◌≡◌, ◌↔◌, ◌++◌, ◌<◌, ◌≤◌, drop, length, slice_get, slice_index_or, slice_set, IfOk, IfSome, IsTrue, OnSome, option_map};
-ghost use Rattle.circular_buffer.specs.Buffer.{buffer};
-ghost use Rattle.messages.specs.Queues.{answers, combination, combined_in, joint, records_of, records_but};
-ghost use Rattle.combining_switch.specs.Outputs.{IsEmptyOutput, accepted, combined, empty_output, most_marks, queued};
+ghost use Rattle.std.specs.Prelude.{◌≡◌, ◌↔◌, ◌+◌, ◌<◌, ◌≤◌, [], drop, length, slice_get, slice_index_or, IfSome, IsTrue, OnSome, option_map};
+ghost use Rattle.messages.specs.Queues.{combination, combined_in, joint, records_but};
+ghost use Rattle.message_cells.specs.Pools.{IsFree, requests_at, with_requests};
+ghost use Rattle.combining_switch.specs.declared.answers.Accepted.TheVariants.{Full};
+ghost use Rattle.combining_switch.specs.Outputs.{accepted, combined, output_in, output_with, queued};
 ghost use Rattle.combining_switch.specs.Partners.{IsPartner, partnership};
 
 use crate::answers::Accepted;
-use crate::wait_buffer::{Replies, WaitBuffer};
-use circular_buffer::HeapCircularBuffer;
-use messages::{Record, Reply, Request};
+use crate::wait_buffer::WaitBuffer;
+use message_cells::Pool;
+use messages::{Record, Request};
 use phi_algebra::{Phi, compose};
-use std::alloc::{AllocError, Global};
 use std::marker::Model;
 
-/// How often an entry of a queue is combined.
-const MOST_MARKS: u8 = 1;
-
-/// A queue of requests, and the records of those that were combined in it.
+/// The number of a queue of requests in the pool, and the records of those that were combined in it.
 #[derive(Drop)]
 pub struct Output {
-    queue: HeapCircularBuffer<Request>,
+    queue: u16,
+    capacity: u8,
+    /// How often an entry of the queue is combined.
+    most_marks: u8,
     waiting: WaitBuffer,
 }
 
 impl Model for Output {
-    ghost use Rattle.combining_switch.specs.Outputs.{OutputLists};
+    ghost use Rattle.std.specs.Prelude.{◌≤◌};
+    ghost use Rattle.combining_switch.specs.Outputs.{OutputState};
 
-    ghost Value = { OutputLists };
+    ghost Value = { OutputState };
 
-    ghost view = { λ o. record { c = o.queue.capacity; b = o.waiting.limit; requests = o.queue.items; records = o.waiting.records } };
+    ghost view = { λ o. record { c = o.capacity; b = o.waiting.limit; r = o.most_marks; queue = o.queue; records = o.waiting.records } };
+
+    ghost invariant = { λ o. o.most_marks ≤ 3 };
 }
 
 /// An entry of a queue with which a request combines.
@@ -41,83 +44,110 @@ struct Partner {
 }
 
 impl Output {
-    /// An empty queue of up to `c` requests, and an empty wait buffer of up to `b` records.
-    pub fn new(alloc: Global, c: u8, b: u8) -> Result<Self, AllocError>
-        requires { b ≤ 16 }
-        ensures { IfOk result (λ o. o ≡ empty_output c b) }
+    /// An output with the queue of this number, of up to `c` requests, each of which is combined up to `r` times, and an empty wait
+    /// buffer of up to `b` records.
+    pub fn new(c: u8, b: u8, r: u8, queue: u16) -> Self
+        requires records { b ≤ 16 }
+        requires combinations { r ≤ 3 }
+        ensures { result ≡ record { c = c; b = b; r = r; queue = queue; records = [] } }
     {
-        Ok(Output {
-            queue: HeapCircularBuffer::with_capacity(alloc, usize::from(c))?,
+        Output {
+            queue,
+            capacity: c,
+            most_marks: r,
             waiting: WaitBuffer::new(b),
-        })
+        }
     }
 
-    /// Whether it has neither requests nor records.
-    pub fn is_empty(&self) -> bool
-        ensures { IsTrue result ↔ IsEmptyOutput self.now }
+    /// Whether a request would be combined or queued.
+    pub fn would_take(&self, pool: &Pool, request: &Request) -> bool
+        requires { self.now.queue < length pool.now.requests }
+        ensures { IsTrue result ↔ ((accepted (output_in pool.now self.now) request.now).0 ≡ Full → ⊥) }
     {
-        self.queue.is_empty() && self.waiting.records().is_empty()
+        self.has_place(pool) || self.partner(pool, request).is_some()
+    }
+
+    /// Whether one more request can be queued.
+    fn has_place(&self, pool: &Pool) -> bool
+        requires { self.now.queue < length pool.now.requests }
+        ensures { IsTrue result ↔ length (requests_at pool.now self.now.queue) < self.now.c }
+    {
+        pool.request_count(usize::from(self.queue)) < self.capacity
     }
 
     /// Combines or queues a request, or refuses it.
-    pub fn accept(&mut self, request: Request) -> Accepted
-        ensures answer { result ≡ (accepted self.old request).0 }
-        ensures after { self.new ≡ (accepted self.old request).1 }
+    pub fn accept(&mut self, pool: &mut Pool, request: Request) -> Accepted
+        requires queue { self.old.queue < length pool.old.requests }
+        requires cell { request.leader < pool.old.cells }
+        requires free { IsFree pool.old request.leader }
+        ensures answer { result ≡ (accepted (output_in pool.old self.old) request).0 }
+        ensures records { self.new ≡ output_with self.old (accepted (output_in pool.old self.old) request).1.records }
+        ensures requests { pool.new ≡ with_requests pool.old self.old.queue (accepted (output_in pool.old self.old) request).1.requests }
     {
-        match self.partner(&request) {
-            Some(partner) => self.combine(partner, &request),
-            None => self.enqueue(request),
+        match self.partner(pool, &request) {
+            Some(partner) => self.combine(pool, partner, &request),
+            None => self.enqueue(pool, request),
         }
     }
 
     /// The entry with which a request is combined, if a record is free for it.
-    fn partner(&self, request: &Request) -> Option<Partner>
-        ensures first { option_map (partnership self.now.requests request.now) result
-            ≡ combination self.now.b most_marks request.now self.now.requests self.now.records }
-        ensures partner { IfSome result (IsPartner self.now.requests) }
+    fn partner(&self, pool: &Pool, request: &Request) -> Option<Partner>
+        requires { self.now.queue < length pool.now.requests }
+        ensures first { option_map (partnership (requests_at pool.now self.now.queue) request.now) result
+            ≡ combination self.now.b self.now.r request.now (requests_at pool.now self.now.queue) self.now.records }
+        ensures partner { IfSome result (IsPartner self.now.r (requests_at pool.now self.now.queue)) }
         ensures room { OnSome result (length self.now.records < self.now.b) }
     {
         if self.waiting.has_room() {
-            first_partner(&self.queue, request)
+            first_partner(pool, usize::from(self.queue), self.most_marks, request)
         } else {
             None
         }
     }
 
     /// Puts a request behind the others, if there is room.
-    fn enqueue(&mut self, request: Request) -> Accepted
-        ensures answer { result ≡ (queued self.old request).0 }
-        ensures after { self.new ≡ (queued self.old request).1 }
+    fn enqueue(&self, pool: &mut Pool, request: Request) -> Accepted
+        requires queue { self.now.queue < length pool.old.requests }
+        requires cell { request.leader < pool.old.cells }
+        requires free { IsFree pool.old request.leader }
+        ensures answer { result ≡ (queued (output_in pool.old self.now) request).0 }
+        ensures records { (queued (output_in pool.old self.now) request).1.records ≡ self.now.records }
+        ensures requests { pool.new ≡ with_requests pool.old self.now.queue (queued (output_in pool.old self.now) request).1.requests }
     {
+        if !self.has_place(pool) {
+            return Accepted::Full;
+        }
         let unmarked = Request {
             marks: 0,
             ..request
         };
-        match self.queue.try_push_back(unmarked) {
-            Ok(()) => Accepted::Queued,
-            Err(_) => Accepted::Full,
-        }
+        pool.push_request(usize::from(self.queue), unmarked);
+        Accepted::Queued
     }
 
     /// Puts the entry that stands for both into its partner's place, and keeps the record.
-    fn combine(&mut self, partner: Partner, request: &Request) -> Accepted
-        requires partner { IsPartner self.old.requests partner }
+    fn combine(&mut self, pool: &mut Pool, partner: Partner, request: &Request) -> Accepted
+        requires queue { self.old.queue < length pool.old.requests }
+        requires partner { IsPartner self.old.r (requests_at pool.old self.old.queue) partner }
         requires room { length self.old.records < self.old.b }
-        ensures answer { result ≡ (combined self.old (partnership self.old.requests request.now partner)).0 }
-        ensures after { self.new ≡ (combined self.old (partnership self.old.requests request.now partner)).1 }
+        ensures answer { result ≡ (combined (output_in pool.old self.old) (partnership (requests_at pool.old self.old.queue) request.now partner)).0 }
+        ensures records { self.new ≡ output_with self.old
+            (combined (output_in pool.old self.old) (partnership (requests_at pool.old self.old.queue) request.now partner)).1.records }
+        ensures requests { pool.new ≡ with_requests pool.old self.old.queue
+            (combined (output_in pool.old self.old) (partnership (requests_at pool.old self.old.queue) request.now partner)).1.requests }
     {
         let Partner {
             place,
             entry,
             joint,
         } = partner;
-        if let Some(slot) = self.queue.get_mut(place) {
-            *slot = Request {
-                phi: joint,
-                marks: entry.marks + 1,
-                ..entry
-            };
-        }
+        let queue = usize::from(self.queue);
+        let both = Request {
+            phi: joint,
+            marks: entry.marks + 1,
+            ..entry
+        };
+        pool.replace(queue, place, both);
         self.waiting.push(Record {
             leader: entry.leader,
             phi: entry.phi,
@@ -128,82 +158,66 @@ impl Output {
         }
     }
 
-    /// The requests of the queue, in two parts.
-    pub fn requests(&self) -> (&[Request], &[Request])
-        ensures { result.0.now ++ result.1.now ≡ self.now.requests }
-    {
-        self.queue.as_slices()
-    }
-
-    /// How many requests the queue has.
-    pub fn request_count(&self) -> usize
-        ensures { result ≡ length self.now.requests }
-    {
-        self.queue.len()
-    }
-
     /// The records of the wait buffer.
     pub fn records(&self) -> &[Record]
-        ensures { result.now ≡ self.now.records }
+        ensures records { result.now ≡ self.now.records }
+        ensures few { length result.now ≤ 16 }
     {
         self.waiting.records()
     }
 
     /// The first request of the queue.
-    pub fn front(&self) -> Option<Request>
-        ensures { result ≡ slice_get self.now.requests 0 }
+    pub fn front(&self, pool: &Pool) -> Option<Request>
+        requires { self.now.queue < length pool.now.requests }
+        ensures { result ≡ slice_get (requests_at pool.now self.now.queue) 0 }
     {
-        self.queue.front().copied()
+        pool.front_request(usize::from(self.queue))
     }
 
     /// Takes the first request of the queue.
-    pub fn take(&mut self) -> Option<Request>
-        ensures first { result ≡ slice_get self.old.requests 0 }
-        ensures after { self.new ≡ record { c = self.old.c; b = self.old.b; requests = drop 1 self.old.requests; records = self.old.records } }
+    pub fn take(&self, pool: &mut Pool) -> Option<Request>
+        requires { self.now.queue < length pool.old.requests }
+        ensures first { result ≡ slice_get (requests_at pool.old self.now.queue) 0 }
+        ensures after { pool.new ≡ with_requests pool.old self.now.queue (drop 1 (requests_at pool.old self.now.queue)) }
     {
-        self.queue.pop_front()
-    }
-
-    /// The replies for a reply that comes back.
-    pub fn answers(&self, reply: Reply) -> Replies
-        ensures { result.items ≡ answers (records_of reply.leader self.now.records) reply }
-    {
-        self.waiting.answers(reply)
+        pool.pop_request(usize::from(self.queue))
     }
 
     /// Drops all records of a leader.
     pub fn forget(&mut self, leader: u8)
-        ensures { self.new ≡ record { c = self.old.c; b = self.old.b; requests = self.old.requests; records = records_but leader self.old.records } }
+        ensures { self.new ≡ output_with self.old (records_but leader self.old.records) }
     {
         self.waiting.forget(leader);
     }
 }
 
-/// The first entry, from the front, with which a request combines.
-fn first_partner(queue: &HeapCircularBuffer<Request>, request: &Request) -> Option<Partner>
-    ensures first { option_map (partnership queue.now.items request.now) result ≡ combined_in most_marks request.now queue.now.items }
-    ensures partner { IfSome result (IsPartner queue.now.items) }
+/// The first entry of a queue, from the front, with which a request combines.
+fn first_partner(pool: &Pool, queue: usize, most_marks: u8, request: &Request) -> Option<Partner>
+    requires { queue < length pool.now.requests }
+    ensures first { option_map (partnership (requests_at pool.now queue) request.now) result ≡ combined_in most_marks request.now (requests_at pool.now queue) }
+    ensures partner { IfSome result (IsPartner most_marks (requests_at pool.now queue)) }
 {
-    for place in 0..queue.len() {
-        if let Some(entry) = queue.get(place).copied() {
-            if let Some(joint) = joint(&entry, request) {
-                return Some(Partner {
-                    place,
-                    entry,
-                    joint,
-                });
-            }
+    let mut next = pool.front_request(queue);
+    for place in 0..usize::from(pool.request_count(queue)) {
+        let entry = next?;
+        if let Some(joint) = joint(most_marks, &entry, request) {
+            return Some(Partner {
+                place,
+                entry,
+                joint,
+            });
         }
+        next = pool.request_behind(queue, place, entry.leader);
     }
     None
 }
 
-/// The function of an entry and a request together, where the two combine.
+/// The function of an entry and a request together, where the two combine: the entry was combined fewer than `most_marks` times.
 #[tactic(auto, unfolding(messages::specs::Queues::joint))]
-fn joint(entry: &Request, request: &Request) -> Option<Phi>
+fn joint(most_marks: u8, entry: &Request, request: &Request) -> Option<Phi>
     ensures { result ≡ joint most_marks request.now entry.now }
 {
-    if entry.marks < MOST_MARKS && entry.word == request.word {
+    if entry.marks < most_marks && entry.word == request.word {
         compose(&entry.phi, &request.phi)
     } else {
         None

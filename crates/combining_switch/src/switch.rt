@@ -1,162 +1,150 @@
 //! Switches.
 
-ghost use Rattle.std.specs.Prelude.{List, ◌≡◌, ◌↔◌, ◌+◌, ◌++◌, ◌<◌, ◌≤◌, drop, length, slice_get, slice_set, IfOk, IsTrue};
+ghost use Rattle.std.specs.Prelude.{List, ◌≡◌, ◌↔◌, ◌-◌, ◌<◌, ◌≤◌, drop, length, slice_get, IsTrue};
 ghost use Rattle.messages.specs.declared.message.Reply.{Reply};
 ghost use Rattle.messages.specs.declared.message.Record.{Record};
-ghost use Rattle.messages.specs.Queues.{answers, records_but, records_of};
+ghost use Rattle.messages.specs.Queues.{answers, records_but, records_of, reply_of};
+ghost use Rattle.message_cells.specs.Pools.{IsFree, replies_at, requests_at, with_replies, with_requests};
 ghost use Rattle.omega_wires.specs.Wires.{bit};
-ghost use Rattle.combining_switch.specs.Outputs.{accepted};
-ghost use Rattle.combining_switch.specs.Switches.{IsEmptySwitch, answered, answered_for, empty_switch, has_room, output_of, put_replies, put_reply};
-ghost use Rattle.combining_switch.specs.Switches.{records_at, replies_at, replies_for, requests_at, with_inputs, with_output, with_records, with_requests};
+ghost use Rattle.combining_switch.specs.declared.answers.Accepted.TheVariants.{Full};
+ghost use Rattle.combining_switch.specs.declared.answers.Answered.TheVariants.{NoRoom};
+ghost use Rattle.combining_switch.specs.Outputs.{accepted, output_in};
+ghost use Rattle.combining_switch.specs.Switches.{CanBeQueued, StandsIn, answered, answered_for, has_room, input_for, input_of, new_switch, output_of};
+ghost use Rattle.combining_switch.specs.Switches.{put_replies, put_reply, records_at, records_for, replies_for, with_records};
 
 use crate::answers::{Accepted, Answered};
 use crate::output::Output;
-use crate::wait_buffer::Replies;
-use circular_buffer::HeapCircularBuffer;
+use message_cells::Pool;
 use messages::{Record, Reply, Request};
 use omega_wires::bit;
-use std::alloc::{AllocError, Global};
 use std::marker::Model;
 
 /// How many messages the largest queue has.
 pub const MAX_QUEUE: u8 = 16;
 
-/// A switch with two inputs and two outputs, each numbered 0 and 1.
+/// A switch with two inputs and two outputs, each numbered 0 and 1. Its queues stand in a pool, the same at each call.
 #[derive(Drop)]
 pub struct Switch {
     outputs: [Output; 2],
-    inputs: [HeapCircularBuffer<Reply>; 2],
+    /// The numbers of the inputs' queues among the pool's queues of replies.
+    inputs: [u16; 2],
     capacity: u8,
     its_bit: u8,
 }
 
 impl Model for Switch {
-    ghost use Rattle.std.specs.Prelude.{map, length, All, ◌≡◌, ◌<◌};
-    ghost use Rattle.combining_switch.specs.Switches.{SwitchLists};
+    ghost use Rattle.std.specs.Prelude.{length, ◌≡◌, ◌<◌};
+    ghost use Rattle.combining_switch.specs.Switches.{SwitchState};
 
-    ghost Value = { SwitchLists };
+    ghost Value = { SwitchState };
 
-    ghost view = { λ s. record { c = s.capacity; its_bit = s.its_bit; outputs = s.outputs; inputs = map (λ q. q.items) s.inputs } };
+    ghost view = { λ s. record { c = s.capacity; its_bit = s.its_bit; outputs = s.outputs; inputs = s.inputs } };
 
-    ghost invariant = { λ s. (s.its_bit < 8) × (length s.inputs ≡ 2) × All (λ q. q.capacity ≡ s.capacity) s.inputs };
+    ghost invariant = { λ s. (s.its_bit < 8) × (length s.inputs ≡ 2) };
 }
 
 impl Switch {
-    /// An empty switch with queues of up to `c` messages and wait buffers of up to `b` records, whose
-    /// replies go by bit `its_bit` of their leaders' numbers.
-    ///
-    /// # Errors
-    ///
-    /// `AllocError` where there is no memory for the queues.
-    pub fn new(alloc: Global, c: u8, b: u8, its_bit: u8) -> Result<Self, AllocError>
+    /// A switch with queues of up to `c` messages and wait buffers of up to `b` records, which are empty, whose replies go by
+    /// bit `its_bit` of their leaders' numbers. An entry of a queue of requests is combined up to `r` times. `outputs` and `inputs`
+    /// are the numbers of its queues of requests and of replies.
+    pub fn new(c: u8, b: u8, r: u8, its_bit: u8, outputs: (u16, u16), inputs: (u16, u16)) -> Self
         requires queues { (2 ≤ c) × (c ≤ 16) }
         requires records { b ≤ 16 }
+        requires combinations { (1 ≤ r) × (r ≤ 3) }
         requires bits { its_bit < 8 }
-        ensures { IfOk result (λ s. s ≡ empty_switch c b its_bit) }
+        ensures { result ≡ new_switch c b r its_bit outputs.0 outputs.1 inputs.0 inputs.1 }
     {
-        let capacity = usize::from(c);
-        Ok(Switch {
-            outputs: [Output::new(alloc, c, b)?, Output::new(alloc, c, b)?],
-            inputs: [
-                HeapCircularBuffer::with_capacity(alloc, capacity)?,
-                HeapCircularBuffer::with_capacity(alloc, capacity)?,
+        Switch {
+            outputs: [
+                Output::new(c, b, r, outputs.0),
+                Output::new(c, b, r, outputs.1),
             ],
+            inputs: [inputs.0, inputs.1],
             capacity: c,
             its_bit,
-        })
+        }
     }
 
-    /// Offers a request to an output.
-    pub fn accept(&mut self, out: u8, request: Request) -> Accepted
-        requires { out < 2 }
-        ensures answer { result ≡ (accepted (output_of self.old out) request).0 }
-        ensures after { self.new ≡ with_output self.old out (accepted (output_of self.old out) request).1 }
+    /// Whether a request that is offered to an output would be combined or queued.
+    pub fn would_take(&self, pool: &Pool, out: u8, request: &Request) -> bool
+        requires out { out < 2 }
+        requires queues { StandsIn self.now pool.now }
+        ensures { IsTrue result ↔ ((accepted (output_in pool.now (output_of self.now out)) request.now).0 ≡ Full → ⊥) }
+    {
+        self.outputs[usize::from(out)].would_take(pool, request)
+    }
+
+    /// Offers a request to an output. Its leader's cell must be free.
+    pub fn accept(&mut self, pool: &mut Pool, out: u8, request: Request) -> Accepted
+        requires out { out < 2 }
+        requires queues { StandsIn self.old pool.old }
+        requires cell { request.leader < pool.old.cells }
+        requires free { IsFree pool.old request.leader }
+        ensures answer { result ≡ (accepted (output_in pool.old (output_of self.old out)) request).0 }
+        ensures records { self.new ≡ with_records self.old out (accepted (output_in pool.old (output_of self.old out)) request).1.records }
+        ensures requests { pool.new ≡ with_requests pool.old (output_of self.old out).queue
+            (accepted (output_in pool.old (output_of self.old out)) request).1.requests }
     {
         // The proof needs the type of this field named.
         let _phi = request.phi;
-        self.outputs[usize::from(out)].accept(request)
+        self.outputs[usize::from(out)].accept(pool, request)
     }
 
     /// The first request of an output's queue.
-    pub fn front(&self, out: u8) -> Option<Request>
-        requires { out < 2 }
-        ensures { result ≡ slice_get (requests_at self.now out) 0 }
+    pub fn front(&self, pool: &Pool, out: u8) -> Option<Request>
+        requires out { out < 2 }
+        requires queues { StandsIn self.now pool.now }
+        ensures { result ≡ slice_get (requests_at pool.now (output_of self.now out).queue) 0 }
     {
-        self.outputs[usize::from(out)].front()
-    }
-
-    /// The requests of an output's queue from the first on, in two parts.
-    pub fn requests(&self, out: u8) -> (&[Request], &[Request])
-        requires { out < 2 }
-        ensures { result.0.now ++ result.1.now ≡ requests_at self.now out }
-    {
-        self.outputs[usize::from(out)].requests()
+        self.outputs[usize::from(out)].front(pool)
     }
 
     /// The records of an output's wait buffer, from the first combination on.
     pub fn records(&self, out: u8) -> &[Record]
         requires { out < 2 }
-        ensures { result.now ≡ records_at self.now out }
+        ensures records { result.now ≡ records_at self.now out }
+        ensures few { length result.now ≤ 16 }
     {
         self.outputs[usize::from(out)].records()
     }
 
-    /// How many requests an output's queue has.
-    pub fn request_count(&self, out: u8) -> usize
-        requires { out < 2 }
-        ensures { result ≡ length (requests_at self.now out) }
-    {
-        self.outputs[usize::from(out)].request_count()
-    }
-
-    /// How many replies an input's queue has.
-    pub fn reply_count(&self, inp: u8) -> usize
-        requires { inp < 2 }
-        ensures { result ≡ length (replies_at self.now.inputs inp) }
-    {
-        self.inputs[usize::from(inp)].len()
-    }
-
-    /// The replies of an input's queue from the first on, in two parts.
-    pub fn replies(&self, inp: u8) -> (&[Reply], &[Reply])
-        requires { inp < 2 }
-        ensures { result.0.now ++ result.1.now ≡ replies_at self.now.inputs inp }
-    {
-        self.inputs[usize::from(inp)].as_slices()
-    }
-
     /// Takes the first request of an output's queue.
-    pub fn take(&mut self, out: u8) -> Option<Request>
-        requires { out < 2 }
-        ensures first { result ≡ slice_get (requests_at self.old out) 0 }
-        ensures after { self.new ≡ with_requests self.old out (drop 1 (requests_at self.old out)) }
+    pub fn take(&self, pool: &mut Pool, out: u8) -> Option<Request>
+        requires out { out < 2 }
+        requires queues { StandsIn self.now pool.old }
+        ensures first { result ≡ slice_get (requests_at pool.old (output_of self.now out).queue) 0 }
+        ensures after { pool.new ≡ with_requests pool.old (output_of self.now out).queue (drop 1 (requests_at pool.old (output_of self.now out).queue)) }
     {
-        self.outputs[usize::from(out)].take()
+        self.outputs[usize::from(out)].take(pool)
     }
 
-    /// Answers a reply that comes back to an output: the leader's own reply and that of its second are
-    /// put to their inputs, the leader's first, or neither is.
-    pub fn answer(&mut self, out: u8, reply: Reply) -> Answered
-        requires { out < 2 }
-        ensures answer { result ≡ (answered self.old out reply).0 }
-        ensures after { self.new ≡ (answered self.old out reply).1 }
+    /// Whether there is room for all replies for a reply that comes back to an output.
+    pub fn would_answer(&self, pool: &Pool, out: u8, reply: &Reply) -> bool
+        requires out { out < 2 }
+        requires queues { StandsIn self.now pool.now }
+        ensures { IsTrue result ↔ ((answered self.now pool.now out reply.now).0 ≡ NoRoom → ⊥) }
     {
-        let answers = self.answers(out, reply);
-        let replies = answers.as_slice();
-        if !self.has_room(replies) {
+        let records = self.records(out);
+        self.has_room(pool, reply.leader, records)
+    }
+
+    /// Answers a reply that comes back to an output: the leader's own reply and those of its seconds are
+    /// put to their inputs, the leader's first, or none is. The cells of all must be free.
+    pub fn answer(&mut self, pool: &mut Pool, out: u8, reply: Reply) -> Answered
+        requires out { out < 2 }
+        requires queues { StandsIn self.old pool.old }
+        requires leaders { CanBeQueued pool.old (answers (records_of reply.leader (records_at self.old out)) reply) }
+        ensures answer { result ≡ (answered self.old pool.old out reply).0 }
+        ensures records { self.new ≡ (answered self.old pool.old out reply).1 }
+        ensures replies { pool.new ≡ (answered self.old pool.old out reply).2 }
+    {
+        let records = self.records(out);
+        if !self.has_room(pool, reply.leader, records) {
             return Answered::NoRoom;
         }
-        self.put_all(replies);
+        let answered = self.put_all(pool, reply, records);
         self.forget(out, reply.leader);
-        outcome(replies)
-    }
-
-    /// The replies for a reply that comes back to an output.
-    fn answers(&self, out: u8, reply: Reply) -> Replies
-        requires { out < 2 }
-        ensures { result.items ≡ answers (records_of reply.leader (records_at self.now out)) reply }
-    {
-        self.outputs[usize::from(out)].answers(reply)
+        answered
     }
 
     /// Drops all records of a leader at an output.
@@ -167,91 +155,104 @@ impl Switch {
         self.outputs[usize::from(out)].forget(leader);
     }
 
-    /// Whether there is room for all of these replies at their inputs.
-    fn has_room(&self, replies: &[Reply]) -> bool
-        ensures two { length self.now.inputs ≡ 2 }
-        ensures room { result ≡ has_room self.now.c self.now.its_bit (put_replies self.now.its_bit replies.now self.now.inputs) replies.now }
+    /// Whether there is room at their inputs for a leader's reply and those of its seconds.
+    fn has_room(&self, pool: &Pool, leader: u8, records: &[Record]) -> bool
+        requires queues { StandsIn self.now pool.now }
+        requires records { length records.now ≤ 16 }
+        ensures { (reply : Reply) → reply.leader ≡ leader → result ≡ has_room self.now.c self.now.its_bit self.now.inputs
+            (put_replies self.now.its_bit self.now.inputs (answers (records_of leader records.now) reply) pool.now)
+            (answers (records_of leader records.now) reply) }
     {
-        count_for(self.its_bit, 0, replies) <= self.room_at(0)
-            && count_for(self.its_bit, 1, replies) <= self.room_at(1)
+        count_for(self.its_bit, 0, leader, records) <= self.room_at(pool, 0)
+            && count_for(self.its_bit, 1, leader, records) <= self.room_at(pool, 1)
     }
 
     /// How many replies still fit at an input.
-    fn room_at(&self, inp: usize) -> usize
-        requires { inp < 2 }
-        ensures { result + length (replies_at self.now.inputs inp) ≡ self.now.c }
+    fn room_at(&self, pool: &Pool, inp: usize) -> usize
+        requires input { inp < 2 }
+        requires queues { StandsIn self.now pool.now }
+        ensures { result ≡ self.now.c - length (replies_at pool.now (input_of self.now.inputs inp)) }
     {
-        let queue = &self.inputs[inp];
-        queue.capacity() - queue.len()
+        let queued = pool.reply_count(usize::from(self.inputs[inp]));
+        usize::from(self.capacity.saturating_sub(queued))
     }
 
-    /// Puts each reply behind those at its leader's input, for which there must be room.
-    fn put_all(&mut self, replies: &[Reply])
-        requires two { length self.old.inputs ≡ 2 }
-        requires room { IsTrue (has_room self.old.c self.old.its_bit (put_replies self.old.its_bit replies.now self.old.inputs) replies.now) }
-        ensures { self.new ≡ with_inputs self.old (put_replies self.old.its_bit replies.now self.old.inputs) }
+    /// Puts a leader's reply and those of its seconds, each behind those at its own leader's input, and tells who is answered.
+    fn put_all(&self, pool: &mut Pool, reply: Reply, records: &[Record]) -> Answered
+        requires queues { StandsIn self.now pool.old }
+        requires leaders { CanBeQueued pool.old (answers (records_of reply.leader records.now) reply) }
+        ensures answer { result ≡ answered_for (records_of reply.leader records.now) }
+        ensures replies { pool.new ≡ put_replies self.now.its_bit self.now.inputs (answers (records_of reply.leader records.now) reply) pool.old }
     {
-        for reply in replies {
-            self.put(*reply);
+        self.put(pool, reply);
+        let mut answered = Answered::One;
+        for record in records {
+            if record.leader == reply.leader {
+                self.put(pool, second_reply(record, reply.value));
+                answered = answered.and(record.second);
+            }
         }
+        answered
     }
 
-    /// Puts a reply behind those at its leader's input, for which there must be room.
-    fn put(&mut self, reply: Reply)
-        requires { length (replies_at self.old.inputs (bit self.old.its_bit reply.leader)) < self.old.c }
-        ensures { self.new ≡ with_inputs self.old (put_reply self.old.its_bit self.old.inputs reply) }
+    /// Puts a reply behind those at its leader's input.
+    fn put(&self, pool: &mut Pool, reply: Reply)
+        requires queue { input_for self.now.its_bit self.now.inputs reply.leader < length pool.old.replies }
+        requires cell { reply.leader < pool.old.cells }
+        requires free { IsFree pool.old reply.leader }
+        ensures { pool.new ≡ put_reply self.now.its_bit self.now.inputs pool.old reply }
     {
         let inp = usize::from(bit(self.its_bit, reply.leader));
-        self.inputs[inp].push_back(reply);
+        pool.push_reply(usize::from(self.inputs[inp]), reply);
     }
 
     /// The first reply of an input's queue.
-    pub fn reply_front(&self, inp: u8) -> Option<Reply>
-        requires { inp < 2 }
-        ensures { result ≡ slice_get (replies_at self.now.inputs inp) 0 }
+    pub fn reply_front(&self, pool: &Pool, inp: u8) -> Option<Reply>
+        requires input { inp < 2 }
+        requires queues { StandsIn self.now pool.now }
+        ensures { result ≡ slice_get (replies_at pool.now (input_of self.now.inputs inp)) 0 }
     {
-        self.inputs[usize::from(inp)].front().copied()
+        pool.front_reply(usize::from(self.inputs[usize::from(inp)]))
     }
 
     /// Takes the first reply of an input's queue.
-    pub fn reply_take(&mut self, inp: u8) -> Option<Reply>
-        requires { inp < 2 }
-        ensures first { result ≡ slice_get (replies_at self.old.inputs inp) 0 }
-        ensures after { self.new ≡ with_inputs self.old (slice_set self.old.inputs inp (drop 1 (replies_at self.old.inputs inp))) }
+    pub fn reply_take(&self, pool: &mut Pool, inp: u8) -> Option<Reply>
+        requires input { inp < 2 }
+        requires queues { StandsIn self.now pool.old }
+        ensures first { result ≡ slice_get (replies_at pool.old (input_of self.now.inputs inp)) 0 }
+        ensures after { pool.new ≡ with_replies pool.old (input_of self.now.inputs inp) (drop 1 (replies_at pool.old (input_of self.now.inputs inp))) }
     {
-        self.inputs[usize::from(inp)].pop_front()
-    }
-
-    /// Whether it has no request, no record and no reply.
-    pub fn is_empty(&self) -> bool
-        ensures { IsTrue result ↔ IsEmptySwitch self.now }
-    {
-        self.outputs[0].is_empty()
-            && self.outputs[1].is_empty()
-            && self.inputs[0].is_empty()
-            && self.inputs[1].is_empty()
+        pool.pop_reply(usize::from(self.inputs[usize::from(inp)]))
     }
 }
 
-/// Whether the replies are a leader's alone.
-fn outcome(replies: &[Reply]) -> Answered
-    ensures { (reply : Reply) (records : List Record) → replies.now ≡ answers records reply → result ≡ answered_for records }
+/// The reply that the second of a record gets, where the leader gets this value.
+fn second_reply(made: &Record, value: u32) -> Reply
+    ensures { result ≡ reply_of value made.now }
 {
-    match replies {
-        [_, second, ..] => Answered::Two {
-            second: second.leader,
-        },
-        _ => Answered::One,
+    Reply {
+        leader: made.second,
+        value: made.phi.apply(value),
     }
 }
 
-/// How many of the replies are for an input.
-fn count_for(its_bit: u8, inp: u8, replies: &[Reply]) -> usize
+/// How many of the replies for a leader's reply are for an input.
+fn count_for(its_bit: u8, inp: u8, leader: u8, records: &[Record]) -> usize
+    requires bits { its_bit < 8 }
+    requires records { length records.now ≤ 16 }
+    ensures { (reply : Reply) → reply.leader ≡ leader → result ≡ length (replies_for its_bit inp (answers (records_of leader records.now) reply)) }
+{
+    usize::from(bit(its_bit, leader) == inp) + count_seconds(its_bit, inp, leader, records)
+}
+
+/// How many records of a leader have a second whose reply is for an input.
+fn count_seconds(its_bit: u8, inp: u8, leader: u8, records: &[Record]) -> usize
     requires { its_bit < 8 }
-    ensures { result ≡ length (replies_for its_bit inp replies.now) }
+    ensures exact { result ≡ length (records_for its_bit inp leader records.now) }
+    ensures few { result ≤ length records.now }
 {
-    replies
+    records
         .iter()
-        .filter(|reply| bit(its_bit, reply.leader) == inp)
+        .filter(|made| made.leader == leader && bit(its_bit, made.second) == inp)
         .count()
 }

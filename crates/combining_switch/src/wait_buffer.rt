@@ -1,18 +1,15 @@
 //! Wait buffers.
 
 ghost use Rattle.std.specs.Prelude.{◌≡◌, ◌<◌, ◌≤◌, [], ◌∷◌, ◌++◌, length, nat_lt};
-ghost use Rattle.messages.specs.Queues.{answers, records_of, records_but};
+ghost use Rattle.messages.specs.Queues.{records_but};
 ghost use Rattle.combining_switch.specs.Waiting.{waiting};
 
 use arrayvec::ArrayVec;
-use messages::{Record, Reply};
+use messages::Record;
 use std::marker::Model;
 
 /// How many records the largest wait buffer has.
 pub const MAX_RECORDS: u8 = 16;
-
-/// The replies that one reply becomes: the leader's own, and one for each of its records.
-pub type Replies = ArrayVec<Reply, 17>;
 
 /// The records of one output of a switch, in the order of their combinations.
 #[derive(Drop)]
@@ -67,24 +64,6 @@ impl WaitBuffer {
         // The proof needs the type of this field named.
         let _phi = made.phi;
         self.records.push(made);
-    }
-
-    /// The replies for a reply that comes back: the leader's own, and then one for the second of each
-    /// of its records, in the order of their combinations. The records stay.
-    pub fn answers(&self, reply: Reply) -> Replies
-        ensures { result.items ≡ answers (records_of reply.leader self.now.records) reply }
-    {
-        let mut replies = ArrayVec::new();
-        replies.push(reply);
-        for record in self.records() {
-            if record.leader == reply.leader {
-                replies.push(Reply {
-                    leader: record.second,
-                    value: record.phi.apply(reply.value),
-                });
-            }
-        }
-        replies
     }
 
     /// Drops all records of a leader.

@@ -2,6 +2,7 @@
 
 mod decoding;
 mod functions;
+mod local_instructions;
 mod memory;
 mod opening;
 mod operations;

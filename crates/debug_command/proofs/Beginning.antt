@@ -1,8 +1,8 @@
 -- A session that was begun, and one that was not.
 use Rattle.std.proofs.Common.{◌≡◌, ◌∙◌, ℕ, List, Option, subst}
 use Rattle.flat_machine.specs.declared.config.Config.{Config}
-use Rattle.run_commands.specs.Files.{IsImageOf}
-use Rattle.run_commands.specs.Images.{ImageContents}
+use Rattle.machine_runs.specs.elf_image.Files.{IsImageOf}
+use Rattle.machine_runs.specs.elf_image.Images.{ImageContents}
 use Rattle.machine_runs.specs.Machines.{MachineLists}
 use Rattle.machine_runs.specs.Runs.{IsOpening}
 use Rattle.machine_log.specs.Logs.{Log}

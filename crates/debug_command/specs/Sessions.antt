@@ -2,8 +2,8 @@
 use Rattle.std.specs.Prelude.{◌≡◌, ◌⊎◌, ℕ, List, [], Option}
 use Rattle.flat_machine.specs.declared.config.Config.{Config}
 use Rattle.flat_machine.specs.Limits.{IsWithinLimits}
-use Rattle.run_commands.specs.Files.{IsImageOf, IsImageRefusal}
-use Rattle.run_commands.specs.Images.{ImageContents}
+use Rattle.machine_runs.specs.elf_image.Files.{IsImageOf, IsImageRefusal}
+use Rattle.machine_runs.specs.elf_image.Images.{ImageContents}
 use Rattle.machine_runs.specs.Machines.{MachineLists}
 use Rattle.machine_runs.specs.Runs.{IsOpening}
 use Rattle.machine_log.specs.Logs.{Log}

@@ -10,7 +10,7 @@ use Rattle.flat_machine.specs.declared.config.Config.{Config}
 use Rattle.flat_machine.specs.declared.poke.Poke.{Poke}
 use Rattle.flat_machine.specs.declared.poke.Poke.TheVariants as poke
 use Rattle.flat_machine.specs.State.{FlatState}
-use Rattle.debug_sweep.specs.Processors.{is_lawful_poke}
+use Rattle.machine_runs.specs.machine_program.Processors.{is_lawful_poke}
 use Rattle.machine_runs.specs.Machines.{IsMachine, MachineLists}
 use Rattle.machine_runs.specs.Runs.{flat_state}
 use Rattle.machine_log.specs.Logs.{AreLawful}

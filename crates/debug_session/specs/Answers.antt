@@ -6,7 +6,7 @@ use Rattle.flat_machine.specs.declared.poke.Poke.{Poke}
 use Rattle.flat_machine.specs.declared.poke.Poke.TheVariants as poke
 use Rattle.flat_machine.specs.Flat.{flat_run}
 use Rattle.flat_machine.specs.State.{FlatState}
-use Rattle.debug_sweep.specs.Outcome.{Outcome}
+use Rattle.machine_runs.specs.steps.declared.step.Outcome.{Outcome}
 use Rattle.machine_runs.specs.Runs.{flat_state, passed}
 use Rattle.machine_runs.specs.Whole.{one_steps, IsOne}
 use Rattle.machine_log.specs.Logs.{Log, HasPoked}

@@ -4,12 +4,12 @@ use Rattle.std.specs.Prelude.{slice_get}
 use Rattle.std.proofs.lemmas.Bool.{cases_lt}
 use Rattle.std.proofs.lemmas.List.{length-append}
 use Rattle.flat_machine.specs.declared.config.Config.{Config}
-use Rattle.machine_program.specs.Theory as theory
+use Rattle.machine_runs.specs.machine_program.Theory as theory
 use Rattle.steps.specs.declared.step.Step.{Step}
 use Rattle.steps.specs.declared.step.Outcome.{Outcome}
 use Rattle.steps.specs.declared.step.Outcome.TheVariants.{Stalled}
-use Rattle.machine_program.specs.Processors.{Told}
-use Rattle.machine_program.specs.Steps.{machine_of_parts, outcome_of}
+use Rattle.machine_runs.specs.machine_program.Processors.{Told}
+use Rattle.machine_runs.specs.machine_program.Steps.{machine_of_parts, outcome_of}
 use Rattle.machine_runs.specs.Machines.{IsMachine, MachineLists, machine_of}
 use Rattle.machine_log.specs.Logs.{HasTaken, Log, entered}
 use Rattle.machine_sweep.specs.Rounds.{round}

@@ -2,10 +2,10 @@
 use Rattle.std.proofs.Common.{◌≡◌, ℕ, ◌^◌, ◌<◌, Bool, List, [], sym, ap, ◌∙◌, subst}
 use Rattle.flat_machine.specs.declared.config.Config.{Config}
 use Rattle.flat_machine.specs.State.{Processor}
-use Rattle.machine_program.specs.Theory as theory
+use Rattle.machine_runs.specs.machine_program.Theory as theory
 use Rattle.steps.specs.declared.step.Step.{Step}
-use Rattle.machine_program.specs.Processors.{Told, open_at}
-use Rattle.machine_program.specs.Steps.{machine_of_parts}
+use Rattle.machine_runs.specs.machine_program.Processors.{Told, open_at}
+use Rattle.machine_runs.specs.machine_program.Steps.{machine_of_parts}
 use Rattle.machine_runs.specs.Machines.{MachineLists}
 use Rattle.machine_runs.specs.Runs.{IsReplay}
 use Rattle.machine_sweep.specs.Standing.{HasRunning, processor_of}

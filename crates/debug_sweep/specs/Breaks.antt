@@ -6,8 +6,8 @@ use Rattle.steps.specs.declared.step.Step.{Step}
 use Rattle.steps.specs.declared.step.Step.TheVariants as step
 use Rattle.steps.specs.declared.step.Outcome.{Outcome}
 use Rattle.steps.specs.declared.step.Outcome.TheVariants as outcome
-use Rattle.machine_program.specs.Processors.{Told, open_at}
-use Rattle.machine_program.specs.Theory as theory
+use Rattle.machine_runs.specs.machine_program.Processors.{Told, open_at}
+use Rattle.machine_runs.specs.machine_program.Theory as theory
 use Rattle.machine_runs.specs.Machines.{MachineLists, machine_of}
 use Rattle.machine_runs.specs.Runs.{all_after, answer_after}
 use Rattle.machine_sweep.specs.Standing.{processor_of}

@@ -2,8 +2,8 @@
 use Rattle.std.specs.Prelude.{◌≡◌, ◌≢◌, ◌≤◌, ◌<◌, ◌+◌, ◌-◌, ◌*◌, ◌^◌, ℕ, zero, suc, List, [], ◌∷◌, ◌++◌, codes}
 use Rattle.std.specs.Option.{option_map_or}
 use Rattle.command_io.specs.Digits.{hex_of_word}
-use Rattle.disassembler.specs.Rows.{insn_of}
-use Rattle.disassembler.specs.Written.{text_of}
+use Rattle.flat_machine.specs.rv_table.Rows.{insn_of}
+use Rattle.disassembler.specs.asm_lines.Written.{text_of}
 use Rattle.flat_machine.specs.Memory.{number_at}
 
 -- the word of code with this index, as a processor fetches it

@@ -55,6 +55,7 @@ fn carried_out<R: Read + Drop, W: LinkWrite>(
         k: 0,
         c: MIN_QUEUE_CAPACITY,
         b: 0,
+        r: 1,
         shared_words,
     };
     let image = image_of(alloc, file, &config)?;

@@ -1,3 +1,2 @@
 -- Words of lower crates, passed on to those above.
-pub use Rattle.asm_lines.specs.Written
-pub use Rattle.rv_table.specs.Rows
+pub use Rattle.asm_lines.specs as asm_lines

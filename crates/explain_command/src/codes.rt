@@ -103,6 +103,16 @@ What to do: `.code` and `.local` have 65,536 bytes each, `.shared` has 786,432. 
 ",
     },
     Topic {
+        name: "A7",
+        meaning: "what is told as `memory`: there is none for the program of a text",
+        advice: "\
+No command prints this code: it is a fault of the library `assembler`, which `ultra asm` and `check`
+tell as `memory`, with exit status 4.
+
+What to do: as for `memory`.
+",
+    },
+    Topic {
         name: "I1",
         meaning: "an image ends before its header or its table of segments does",
         advice: "\
@@ -222,15 +232,26 @@ in OUT then is no whole image.
 ",
     },
     Topic {
+        name: "I10",
+        meaning: "what is told as `memory`: there is none for an image",
+        advice: "\
+No command prints this code: it is a fault of the library `elf_image`, which all commands tell as
+`memory`, with exit status 4.
+
+What to do: as for `memory`.
+",
+    },
+    Topic {
         name: "K1",
         meaning: "a size of the machine is out of its limits",
         advice: "\
 It is told where a machine is made. Exit status 2.
 
-The limits: `k` 0 to 6, `c` 2 to 16, `b` 0 to 16, and 1 to 262,144 shared words.
+The limits: `k` 0 to 6, `c` 2 to 16, `b` 0 to 16, `r` 1 to 3 and below `c`, and 1 to 262,144 shared
+words.
 
-Usual causes: none by these commands, for they look at the numbers before. An option out of its
-range is told in words, and a trace with such a size as `X2`.
+Usual causes: `--r` that is not below `--c`. Any other number out of its range is told in words, and
+a trace with such a size as `X2`.
 
 What to do: keep to the limits; `ultra help run` has them too.
 ",
@@ -244,7 +265,8 @@ What to do: keep to the limits; `ultra help run` has them too.
 Usual causes: a file that was cut, as by a full disk, or a header that counts more records than
 there are.
 
-What to do: run the image again with `--trace`. A trace has 12 bytes, and 12 more for each step.
+What to do: run the image again with `--trace`. A trace has a header of 12
+or 16 bytes, and 12 bytes for each step.
 ",
     },
     Topic {
@@ -300,6 +322,16 @@ written; a full disk. A TRACE that cannot be opened is told as `link`.
 
 What to do: look at the file's name and rights, and at the room on the disk. What `ultra run` left in
 OUT then is no whole trace.
+",
+    },
+    Topic {
+        name: "X6",
+        meaning: "what is told as `memory`: there is none for a trace",
+        advice: "\
+No command prints this code: it is a fault of the library `trace_file`, which all commands tell as
+`memory`, with exit status 4.
+
+What to do: as for `memory`.
 ",
     },
     Topic {

@@ -1,40 +1,41 @@
 -- Rows in which no processor runs, and their results.
-use Rattle.std.proofs.Common.{◌≡◌, ◌≢◌, ◌⊎◌, inl, inr, ℕ, ◌+◌, ◌<◌, ◌≤◌, zero, suc, Bool, true, false, cond, true≢false, List, [], ◌∷◌, ◌++◌, Some}
+use Rattle.std.proofs.Common.{◌≡◌, ◌⊎◌, inl, inr, ℕ, ◌+◌, ◌<◌, ◌≤◌, zero, suc, Bool, true, false, cond, true≢false, List, [], ◌∷◌, ◌++◌, Some}
 use Rattle.std.proofs.Common.{All, length, map, refl, sym, ap, subst, ◌∙◌, arith}
-use Rattle.std.specs.Prelude.{Contains, slice_get, slice_index, slice_index_or}
+use Rattle.std.specs.Prelude.{Contains, slice_get, slice_index}
 use Rattle.std.specs.List.{range_with_len}
+use Rattle.std.proofs.lemmas.Bool.{cases_lt}
 use Rattle.std.proofs.lemmas.List.{length-map}
 use Rattle.std.proofs.lemmas.List.Elements.{All-append, All-cons, All-nil, Contains-append_left, Contains-push}
 use Rattle.std.proofs.lemmas.List.FromFn.{length-map-range_with_len, fill_by_all}
 use Rattle.flat_machine.specs.State.{is_running}
-use Rattle.alone.specs.Stations.{Station}
-use Rattle.alone.specs.Closing.{if_running}
-use Rattle.results.specs.Results.{ProcessorResult, FinalResult}
+use Rattle.results.specs.alone.Stations.{Station}
+use Rattle.live_registers.specs.Forgetting.{with_live, kept_by}
+use Rattle.results.specs.Results.{FinalResult}
 use Rattle.station_search.specs.declared.tables.Extent.{Extent}
 use Rattle.station_search.specs.Tables.{TableLists, nowhere, placed_at, means}
 use Rattle.station_search.specs.Search.{state_at}
-use Rattle.station_search.proofs.Lemmas.{listed_there, listed_is, mapped_at}
-use Rattle.exploration.specs.Endings.{HaveStopped, IsEnding, result_at, station_result}
+use Rattle.station_search.proofs.Lemmas.{found_at, listed_there, listed_is, mapped_at}
+use Rattle.exploration.specs.Endings.{HaveStopped, IsAdded, IsEnding, IsOnce, result_at, station_result}
 
 -- ---- what is kept of a station
 
-module _ (a : Station) where
+module _ (live : List (List Bool)) (a : Station) where
   forgotten : Station
   forgotten = record a { processor = record a.processor { registers = []; local = [] } }
 
-  pub kept_result : station_result (if_running a) ≡ station_result a
+  pub kept_result : station_result (kept_by live a) ≡ station_result a
   unfolding forgotten
   kept_result = by (is_running a.processor.status)
     where
-      by : (b : Bool) → station_result (cond b a forgotten) ≡ station_result a
+      by : (b : Bool) → station_result (cond b (with_live live a) forgotten) ≡ station_result a
       by true = refl
       by false = refl
 
-  pub kept_stands : is_running (if_running a).processor.status ≡ is_running a.processor.status
+  pub kept_stands : is_running (kept_by live a).processor.status ≡ is_running a.processor.status
   unfolding forgotten
   kept_stands = by (is_running a.processor.status)
     where
-      by : (b : Bool) → is_running (cond b a forgotten).processor.status ≡ is_running a.processor.status
+      by : (b : Bool) → is_running (cond b (with_live live a) forgotten).processor.status ≡ is_running a.processor.status
       by true = refl
       by false = refl
 
@@ -47,18 +48,47 @@ module _ (e : Extent) (t : TableLists) (row : List ℕ) where
   pub all_results : map station_result (means e t row).stations
       ≡ map (λ p. station_result (placed_at t (slice_index row p)).station) (range_with_len 0 e.processors)
   all_results = fill_by_all (λ p. station_result (station p)) (map station_result (means e t row).stations) e.processors (station_result nowhere.station)
-      (length-map (means e t row).stations station_result ∙ length-map-range_with_len (λ p. if_running (station p)) 0 e.processors)
-      (λ k l. mapped_at station_result (means e t row).stations k (if_running (station k)) (station_result nowhere.station)
-      (listed_there (λ p. if_running (station p)) e.processors k l) ∙ kept_result (station k))
+      (length-map (means e t row).stations station_result ∙ length-map-range_with_len (λ p. kept_by t.live (station p)) 0 e.processors)
+      (λ k l. mapped_at station_result (means e t row).stations k (kept_by t.live (station k)) (station_result nowhere.station)
+      (listed_there (λ p. kept_by t.live (station p)) e.processors k l) ∙ kept_result t.live (station k))
 
   pub all_stopped : ((p : ℕ) → p < e.processors → is_running (placed_at t (slice_index row p)).station.processor.status ≡ false) → HaveStopped (means e t row)
   all_stopped h k a found =
-      let here = listed_is (λ p. if_running (station p)) e.processors k a found in
-      ap (λ (b : Station). is_running b.processor.status) (sym here.1) ∙ (kept_stands (station k) ∙ h k here.0)
+      let here = listed_is (λ p. kept_by t.live (station p)) e.processors k a found in
+      ap (λ (b : Station). is_running b.processor.status) (sym here.1) ∙ (kept_stands t.live (station k) ∙ h k here.0)
 
   pub one_runs : (p : ℕ) → p < e.processors → is_running (placed_at t (slice_index row p)).station.processor.status ≡ true → HaveStopped (means e t row) → ⊥
   one_runs p few runs h =
-      true≢false (sym runs ∙ (sym (kept_stands (station p)) ∙ h p (if_running (station p)) (listed_there (λ q. if_running (station q)) e.processors p few)))
+      true≢false (sym runs ∙ (sym (kept_stands t.live (station p))
+      ∙ h p (kept_by t.live (station p)) (listed_there (λ q. kept_by t.live (station q)) e.processors p few)))
+
+-- ---- a result more
+
+nowhere_there : {X : Type 0} (i : ℕ) (x : X) → slice_get [] i ≡ Some x → ⊥
+nowhere_there i x found = cc
+
+-- what is at a place of a longer list
+at_place : {X : Type 0} (xs : List X) (x y : X) (i : ℕ) → slice_get (xs ++ x ∷ []) i ≡ Some y → (slice_get xs i ≡ Some y) ⊎ ((i ≡ length xs) × (x ≡ y))
+at_place [] x y zero e = inr (refl, (let same : x ≡ y = cc in same))
+at_place [] x y (suc i) e = absurd (cc)
+at_place (z ∷ xs) x y zero e = inl e
+at_place (z ∷ xs) x y (suc i) e = by (at_place xs x y i e)
+  where
+    by : (slice_get xs i ≡ Some y) ⊎ ((i ≡ length xs) × (x ≡ y)) → (slice_get xs i ≡ Some y) ⊎ ((suc i ≡ suc (length xs)) × (x ≡ y))
+    by (inl here) = inl here
+    by (inr last) = inr (ap suc last.0, last.1)
+
+has_at : (results : List FinalResult) (i : ℕ) (r : FinalResult) → slice_get results i ≡ Some r → Contains results r
+has_at results i r e = let h = found_at results i r r e in (i, h.0, h.1)
+
+once_more : (results : List FinalResult) (r : FinalResult) → (Contains results r → ⊥) → IsOnce results → IsOnce (results ++ r ∷ [])
+once_more results r new once i j x ei ej = by (at_place results r x i ei) (at_place results r x j ej)
+  where
+    by : (slice_get results i ≡ Some x) ⊎ ((i ≡ length results) × (r ≡ x)) → (slice_get results j ≡ Some x) ⊎ ((j ≡ length results) × (r ≡ x)) → i ≡ j
+    by (inl a) (inl b) = once i j x a b
+    by (inl a) (inr b) = absurd (new (subst (Contains results) (sym b.1) (has_at results i x a)))
+    by (inr a) (inl b) = absurd (new (subst (Contains results) (sym a.1) (has_at results j x b)))
+    by (inr a) (inr b) = a.0 ∙ sym b.0
 
 -- ---- the results of the first so many rows
 
@@ -66,27 +96,35 @@ module _ (e : Extent) (t : TableLists) (rows : List (List ℕ)) where
   pub record AreEndings (done : ℕ) (results : List FinalResult) : Type 0 where
     pub sound : All (IsEnding e t rows) results
     pub complete : (i : ℕ) → i < done → HaveStopped (state_at e t rows i) → Contains results (result_at (state_at e t rows i))
+    pub once : IsOnce results
 
   pub no_endings : AreEndings 0 []
-  no_endings = record { sound = All-nil (IsEnding e t rows); complete = λ i l. absurd (omega (arith, l)) }
+  no_endings = record { sound = All-nil (IsEnding e t rows); complete = λ i l. absurd (omega (arith, l)); once = λ i j r e. absurd (nowhere_there i r e) }
 
   up_to : (k n : ℕ) → k < n + 1 → (k < n) ⊎ (k ≡ n)
-  up_to zero zero h = inr refl
-  up_to zero (suc n) h = inl (omega arith)
-  up_to (suc k) zero h = absurd (omega (arith, h))
-  up_to (suc k) (suc n) h = by (up_to k n (omega (arith, h)))
+  up_to k n h = by (cases_lt k n)
     where
-      by : (k < n) ⊎ (k ≡ n) → (suc k < suc n) ⊎ (suc k ≡ suc n)
-      by (inl below) = inl (omega (arith, below))
-      by (inr same) = inr (ap suc same)
+      by : (k < n) ⊎ (n ≤ k) → (k < n) ⊎ (k ≡ n)
+      by (inl below) = inl below
+      by (inr past) = inr (omega (arith, h, past))
 
-  pub ended : (done : ℕ) (results : List FinalResult) (r : FinalResult) → AreEndings done results → done < length rows → HaveStopped (state_at e t rows done) →
-      r ≡ result_at (state_at e t rows done) → AreEndings (done + 1) (results ++ r ∷ [])
-  ended done results r h within stopped is = record {
-    sound = All-append (IsEnding e t rows) results (r ∷ []) h.sound
-        (All-cons (IsEnding e t rows) r [] (record { place = done; within = within; stopped = stopped; is = is }) (All-nil (IsEnding e t rows)));
-    complete = λ i l. by i (up_to i done l);
-  }
+  pub ended : (done : ℕ) (results new : List FinalResult) (r : FinalResult) → AreEndings done results → done < length rows →
+      HaveStopped (state_at e t rows done) → r ≡ result_at (state_at e t rows done) → IsAdded results r new → AreEndings (done + 1) new
+  ended done results new r h within stopped is (inl there) =
+      subst (AreEndings (done + 1)) (sym there.1)
+      (record { sound = h.sound; complete = λ i l. by i (up_to i done l); once = h.once })
+    where
+      by : (i : ℕ) → (i < done) ⊎ (i ≡ done) → HaveStopped (state_at e t rows i) → Contains results (result_at (state_at e t rows i))
+      by i (inl below) s = h.complete i below s
+      by i (inr last) s = subst (Contains results) (is ∙ ap (λ j. result_at (state_at e t rows j)) (sym last)) there.0
+  ended done results new r h within stopped is (inr more) =
+      subst (AreEndings (done + 1)) (sym more.1)
+      (record {
+        sound = All-append (IsEnding e t rows) results (r ∷ []) h.sound
+            (All-cons (IsEnding e t rows) r [] (record { place = done; within = within; stopped = stopped; is = is }) (All-nil (IsEnding e t rows)));
+        complete = λ i l. by i (up_to i done l);
+        once = once_more results r more.0 h.once;
+      })
     where
       by : (i : ℕ) → (i < done) ⊎ (i ≡ done) → HaveStopped (state_at e t rows i) → Contains (results ++ r ∷ []) (result_at (state_at e t rows i))
       by i (inl below) s = Contains-append_left results (r ∷ []) (result_at (state_at e t rows i)) (h.complete i below s)
@@ -94,7 +132,7 @@ module _ (e : Extent) (t : TableLists) (rows : List (List ℕ)) where
           subst (Contains (results ++ r ∷ [])) (is ∙ ap (λ j. result_at (state_at e t rows j)) (sym last)) (Contains-push results r)
 
   pub passed : (done : ℕ) (results : List FinalResult) → AreEndings done results → (HaveStopped (state_at e t rows done) → ⊥) → AreEndings (done + 1) results
-  passed done results h runs = record { sound = h.sound; complete = λ i l. by i (up_to i done l) }
+  passed done results h runs = record { sound = h.sound; complete = λ i l. by i (up_to i done l); once = h.once }
     where
       by : (i : ℕ) → (i < done) ⊎ (i ≡ done) → HaveStopped (state_at e t rows i) → Contains results (result_at (state_at e t rows i))
       by i (inl below) s = h.complete i below s

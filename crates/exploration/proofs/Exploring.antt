@@ -1,7 +1,7 @@
 -- The results of the rows that a search has found are those of the machine.
-use Rattle.std.proofs.Common.{◌≡◌, ℕ, ◌<◌, ◌≤◌, ◌^◌, zero, suc, Bool, true, false, cond, List, [], Some, None, All, length, map, refl, sym, ap, subst}
+use Rattle.std.proofs.Common.{◌≡◌, ℕ, ◌<◌, ◌≤◌, ◌^◌, zero, suc, Bool, true, false, cond, List, [], Some, None, length, map, sym, ap, subst}
 use Rattle.std.proofs.Common.{◌∙◌, arith}
-use Rattle.std.specs.Prelude.{Contains, slice_get, slice_index_or}
+use Rattle.std.specs.Prelude.{slice_get, slice_index_or}
 use Rattle.std.specs.List.{range_with_len}
 use Rattle.std.proofs.lemmas.List.{length-map}
 use Rattle.std.proofs.lemmas.List.FromFn.{length-map-range_with_len, fill_by_all}
@@ -9,14 +9,14 @@ use Rattle.flat_machine.specs.declared.event.Event.{Event}
 use Rattle.flat_machine.specs.State.{FlatState, Processor, is_running}
 use Rattle.flat_machine.specs.Flat.{flat_run, flat_events}
 use Rattle.hart.specs.State.{CoreState}
-use Rattle.machine_ports.specs.Ports.{PortState}
-use Rattle.machine_program.specs.Processors.{no_processor, no_port, port_at, word_at}
-use Rattle.machine.specs.Machines.{MachineLists, IsMachine, IsIdle}
+use Rattle.machine.specs.machine_ports.Ports.{PortState}
+use Rattle.machine.specs.machine_program.Processors.{no_processor, no_port, port_at, word_at}
+use Rattle.machine.specs.Machines.{MachineLists, IsMachine}
 use Rattle.machine.specs.Openings.{flat_state}
-use Rattle.alone.specs.Stations.{Station, consoles_after, turns}
-use Rattle.alone.specs.Closing.{if_running, station_of, Standing, Settles, IsKeptOf, HasStopped}
-use Rattle.results.specs.Laws.{ResultsAreThoseOfTheFlatMachine}
-use Rattle.results.specs.Results.{ProcessorResult, FinalResult, result_with, result_of, IsFlatResult, IsMachineResult}
+use Rattle.results.specs.alone.Stations.{Station, consoles_after, turns}
+use Rattle.results.specs.alone.Closing.{station_of, Standing, Settles, IsKeptOf, HasStopped}
+use Rattle.live_registers.specs.Forgetting.{kept_by}
+use Rattle.results.specs.Results.{ProcessorResult, FinalResult, result_with, result_of, IsFlatResult}
 use Rattle.station_search.specs.declared.tables.Extent.{Extent}
 use Rattle.station_search.specs.Tables.{TableLists, setting_at}
 use Rattle.station_search.specs.Opening.{AreOfExtent, flat_of}
@@ -28,19 +28,19 @@ use Rattle.exploration.proofs.Endings.{kept_result, kept_stands}
 
 -- ---- what is kept of a machine has its result
 
-module _ (n : FlatState) (consoles : ℕ → List ℕ) (s : Standing) (h : IsKeptOf if_running n consoles s) where
+module _ (live : List (List Bool)) (n : FlatState) (consoles : ℕ → List ℕ) (s : Standing) (h : IsKeptOf (kept_by live) n consoles s) where
   pub stopped_so : HaveStopped s → HasStopped n
-  stopped_so stopped k p found = sym (kept_stands (station_of p (consoles k))) ∙ stopped k (if_running (station_of p (consoles k))) (h.each k p found)
+  stopped_so stopped k p found = sym (kept_stands live (station_of p (consoles k))) ∙ stopped k (kept_by live (station_of p (consoles k))) (h.each k p found)
 
   pub so_stopped : HasStopped n → HaveStopped s
   so_stopped stopped k a found =
       let within : k < length n.processors = subst (λ m. k < m) h.all (found_at s.stations k a a found).0 in
       let here = there n.processors k no_processor within in
-      let both : Some (if_running (station_of (slice_index_or n.processors k no_processor) (consoles k))) ≡ Some a =
+      let both : Some (kept_by live (station_of (slice_index_or n.processors k no_processor) (consoles k))) ≡ Some a =
       sym (h.each k (slice_index_or n.processors k no_processor) here) ∙ found in
-      let is : if_running (station_of (slice_index_or n.processors k no_processor) (consoles k)) ≡ a = cc in
+      let is : kept_by live (station_of (slice_index_or n.processors k no_processor) (consoles k)) ≡ a = cc in
       ap (λ (b : Station). is_running b.processor.status) (sym is)
-      ∙ (kept_stands (station_of (slice_index_or n.processors k no_processor) (consoles k)) ∙ stopped k (slice_index_or n.processors k no_processor) here)
+      ∙ (kept_stands live (station_of (slice_index_or n.processors k no_processor) (consoles k)) ∙ stopped k (slice_index_or n.processors k no_processor) here)
 
   abbrev shown : ℕ → ProcessorResult
   shown k = result_with (slice_index_or n.processors k no_processor) (consoles k)
@@ -48,24 +48,25 @@ module _ (n : FlatState) (consoles : ℕ → List ℕ) (s : Standing) (h : IsKep
   pub processors_kept : map shown (range_with_len 0 (length n.processors)) ≡ map station_result s.stations
   processors_kept = sym (fill_by_all shown (map station_result s.stations) (length n.processors) (shown 0)
       (length-map s.stations station_result ∙ h.all)
-      (λ k l. mapped_at station_result s.stations k (if_running (station_of (slice_index_or n.processors k no_processor) (consoles k))) (shown 0)
+      (λ k l. mapped_at station_result s.stations k (kept_by live (station_of (slice_index_or n.processors k no_processor) (consoles k))) (shown 0)
       (h.each k (slice_index_or n.processors k no_processor) (there n.processors k no_processor l))
-      ∙ kept_result (station_of (slice_index_or n.processors k no_processor) (consoles k))))
+      ∙ kept_result live (station_of (slice_index_or n.processors k no_processor) (consoles k))))
 
-result_kept : (n : FlatState) (events : List (ℕ × Event)) (s : Standing) → IsKeptOf if_running n (consoles_after (λ j. []) events) s →
+result_kept : (live : List (List Bool)) (n : FlatState) (events : List (ℕ × Event)) (s : Standing) →
+    IsKeptOf (kept_by live) n (consoles_after (λ j. []) events) s →
     result_of n events ≡ result_at s
-result_kept n events s h =
-    let processors = processors_kept n (consoles_after (λ j. []) events) s h in
+result_kept live n events s h =
+    let processors = processors_kept live n (consoles_after (λ j. []) events) s h in
     λ i. record { processors = processors i; words = sym h.shared i }
 
 module _ (e : Extent) (code : List ℕ) (t : TableLists) (rows : List (List ℕ)) (first : Standing) (m : FlatState)
-    (settles : Settles (setting_at e) code if_running m (λ k. []) first) where
+    (settles : Settles (setting_at e) code (kept_by t.live) m (λ k. []) first) where
   pub flat_sound : AreTurns e code t rows first → (r : FinalResult) → IsEnding e t rows r → IsFlatResult m r
   flat_sound all r h =
       let x = all m (λ k. []) h.place settles h.within in (
         x.0,
-        stopped_so (flat_run m (turns x.0)) (consoles_after (λ j. []) (flat_events m (turns x.0))) (state_at e t rows h.place) x.1 h.stopped,
-        h.is ∙ sym (result_kept (flat_run m (turns x.0)) (flat_events m (turns x.0)) (state_at e t rows h.place) x.1),
+        stopped_so t.live (flat_run m (turns x.0)) (consoles_after (λ j. []) (flat_events m (turns x.0))) (state_at e t rows h.place) x.1 h.stopped,
+        h.is ∙ sym (result_kept t.live (flat_run m (turns x.0)) (flat_events m (turns x.0)) (state_at e t rows h.place) x.1),
       )
 
   pub flat_complete : HaveAllEnds e code t rows first → (r : FinalResult) → IsFlatResult m r → IsEnding e t rows r
@@ -74,8 +75,8 @@ module _ (e : Extent) (code : List ℕ) (t : TableLists) (rows : List (List ℕ)
       record {
         place = x.0;
         within = x.1;
-        stopped = so_stopped (flat_run m (turns h.0)) (consoles_after (λ j. []) (flat_events m (turns h.0))) (state_at e t rows x.0) x.2 h.1;
-        is = h.2 ∙ result_kept (flat_run m (turns h.0)) (flat_events m (turns h.0)) (state_at e t rows x.0) x.2;
+        stopped = so_stopped t.live (flat_run m (turns h.0)) (consoles_after (λ j. []) (flat_events m (turns h.0))) (state_at e t rows x.0) x.2 h.1;
+        is = h.2 ∙ result_kept t.live (flat_run m (turns h.0)) (flat_events m (turns h.0)) (state_at e t rows x.0) x.2;
       }
 
 -- ---- the machine

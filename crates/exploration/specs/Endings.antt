@@ -1,8 +1,8 @@
 -- The results of states in which no processor runs.
-use Rattle.std.specs.Prelude.{◌≡◌, ℕ, ◌<◌, false, List, Some, length, map, slice_get}
+use Rattle.std.specs.Prelude.{◌≡◌, ◌⊎◌, ℕ, ◌<◌, false, List, [], ◌∷◌, ◌++◌, Some, Contains, length, map, slice_get}
 use Rattle.flat_machine.specs.State.{is_running}
-use Rattle.alone.specs.Stations.{Station}
-use Rattle.alone.specs.Closing.{Standing}
+use Rattle.results.specs.alone.Stations.{Station}
+use Rattle.results.specs.alone.Closing.{Standing}
 use Rattle.results.specs.Results.{ProcessorResult, FinalResult, result_with}
 use Rattle.station_search.specs.declared.tables.Extent.{Extent}
 use Rattle.station_search.specs.Tables.{TableLists}
@@ -24,3 +24,11 @@ pub record IsEnding (e : Extent) (t : TableLists) (rows : List (List ℕ)) (r : 
   pub within : place < length rows
   pub stopped : HaveStopped (state_at e t rows place)
   pub is : r ≡ result_at (state_at e t rows place)
+
+-- No result is listed twice.
+abbrev pub IsOnce : List FinalResult → Type 0
+IsOnce results = (i j : ℕ) (r : FinalResult) → slice_get results i ≡ Some r → slice_get results j ≡ Some r → i ≡ j
+
+-- The result is at the end now, or it was there before.
+abbrev pub IsAdded : (old : List FinalResult) → FinalResult → (new : List FinalResult) → Type 0
+IsAdded old r new = (Contains old r × (new ≡ old)) ⊎ ((Contains old r → ⊥) × (new ≡ old ++ r ∷ []))

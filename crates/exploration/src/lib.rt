@@ -11,6 +11,8 @@ mod opening;
 mod outcome;
 mod run;
 
+pub use move_ranks::{Schedules, way_to};
+pub use opening::words_of;
 pub use outcome::{Explored, FinalResult, ProcessorResult};
 pub use run::explore;
-pub use station_search::Refusal;
+pub use station_search::{Refusal, Unwatched, Watch};

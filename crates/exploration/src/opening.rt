@@ -2,7 +2,7 @@
 
 ghost use Rattle.std.specs.Prelude.{◌≡◌, ◌≤◌, ◌^◌, map, IfOk};
 ghost use Rattle.std.specs.List.{range_with_len};
-ghost use Rattle.machine_program.specs.Processors.{port_at, word_at};
+ghost use Rattle.machine.specs.machine_program.Processors.{port_at, word_at};
 
 use hart::Core;
 use machine::Machine;

@@ -1,6 +1,9 @@
 //! What is found.
 
+ghost use Rattle.std.specs.Prelude.{◌≡◌, ◌↔◌, ◌<◌, ℕ, slice_index, IsTrue};
+
 use flat_machine::Status;
+use move_ranks::{Schedules, Targets};
 use std::marker::Model;
 
 /// Where a processor has stopped, how, and the bytes that it has printed.
@@ -27,6 +30,8 @@ pub struct FinalResult {
     pub words: Vec<u32>,
     /// How many words there are.
     pub shared_words: u32,
+    /// Where the state was found that has it: no part of the result.
+    pub place: u32,
 }
 
 impl Model for FinalResult {
@@ -39,10 +44,78 @@ impl Model for FinalResult {
     ghost view = { λ r. record { processors = r.processors.items; words = map (slice_index r.words.items) (range_with_len 0 r.shared_words) } };
 }
 
-/// All final results, in the order in which they are found.
+impl ProcessorResult {
+    /// Whether both are the same.
+    pub(crate) fn is_same(&self, other: &ProcessorResult) -> bool
+        ensures { IsTrue result ↔ (self.now ≡ other.now) }
+    {
+        self.pc == other.pc
+            && self.status == other.status
+            && self.console.as_slice() == other.console.as_slice()
+    }
+}
+
+impl FinalResult {
+    /// Whether both are the same, wherever they were found.
+    pub fn is_same(&self, other: &FinalResult) -> bool
+        ensures { IsTrue result ↔ (self.now ≡ other.now) }
+    {
+        if self.shared_words != other.shared_words {
+            return false;
+        }
+        if !are_same(self.processors.as_slice(), other.processors.as_slice()) {
+            return false;
+        }
+        have_same_words(
+            self.words.as_slice(),
+            other.words.as_slice(),
+            self.shared_words,
+        )
+    }
+}
+
+/// Whether the processors have the same results.
+fn are_same(some: &[ProcessorResult], others: &[ProcessorResult]) -> bool
+    ensures { IsTrue result ↔ (some.now ≡ others.now) }
+{
+    if some.len() != others.len() {
+        return false;
+    }
+    for (p, one) in some.iter().enumerate() {
+        if !one.is_same(&others[p]) {
+            return false;
+        }
+    }
+    true
+}
+
+/// Whether the first so many words are the same. Those past the last of a list are zero.
+fn have_same_words(some: &[u32], others: &[u32], count: u32) -> bool
+    ensures { IsTrue result ↔ ((i : ℕ) → i < count → slice_index some.now i ≡ slice_index others.now i) }
+{
+    for place in 0..count {
+        if word_at(some, place) != word_at(others, place) {
+            return false;
+        }
+    }
+    true
+}
+
+/// The word at a place.
+fn word_at(words: &[u32], place: u32) -> u32
+    ensures { result ≡ slice_index words.now place }
+{
+    match words.get(place as usize) {
+        Some(word) => *word,
+        None => 0,
+    }
+}
+
+/// All final results, in the order in which they are found, and whether schedules end.
 #[derive(Drop)]
 pub struct Explored {
     pub results: Vec<FinalResult>,
-    /// How many states were found.
-    pub states: usize,
+    pub schedules: Schedules,
+    /// For each state that was found, where the references of its processors lead.
+    pub moves: Vec<Targets>,
 }

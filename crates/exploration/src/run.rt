@@ -1,7 +1,10 @@
 //! The search of a machine.
 
 ghost use Rattle.std.specs.Prelude.{◌≡◌, ◌≤◌, ◌^◌, All, Contains, length, IfOk};
+ghost use Rattle.exploration.specs.Endings.{IsOnce};
+ghost use Rattle.station_search.specs.Scheduled.{AreSchedulesOf};
 ghost use Rattle.machine.specs.Machines.{IsIdle};
+ghost use Rattle.machine.specs.Openings.{flat_state};
 ghost use Rattle.results.specs.Results.{FinalResult, IsFlatResult, IsMachineResult};
 ghost use Rattle.station_search.specs.Opening.{AreOfExtent, flat_of};
 
@@ -9,24 +12,33 @@ use crate::ending::results_of;
 use crate::opening::{cores_of, words_of};
 use crate::outcome::Explored;
 use hart::Core;
+use live_registers::LiveTable;
 use local_memory::Code;
 use machine::{Machine, machine_is_sound};
+use move_ranks::schedules_of;
 use results::results_are_those_of_the_flat_machine;
-use station_search::{Extent, Refusal, Tables, search};
+use station_search::{Extent, Refusal, Tables, Watch, moves_tell_of_schedules, search};
 use std::alloc::Global;
 
 /// All final results that a machine of up to 8 processors can have: each in which some steps without
-/// writes from outside end, after which no processor runs.
+/// writes from outside end, after which no processor runs. How many states are found is told as they are.
 ///
 /// # Errors
 ///
-/// [`Refusal::States`] where there are more than `limit` states between references, [`Refusal::Alone`]
+/// [`Refusal::States`] where there are as many states between references as `limit`, or more, [`Refusal::Alone`]
 /// where a processor goes on for 1,000,000 instructions without a reference, and [`Refusal::Memory`].
-pub fn explore(alloc: Global, machine: &Machine, limit: u32) -> Result<Explored, Refusal>
+pub fn explore<G: Watch>(
+    alloc: Global,
+    machine: &Machine,
+    limit: u32,
+    watch: &mut G,
+) -> Result<Explored, Refusal>
     requires idle { IsIdle machine.now }
     requires few { machine.now.config.k ≤ 3 }
     ensures sound { IfOk result (λ e. All (IsMachineResult machine.now) e.results.items) }
     ensures complete { IfOk result (λ e. (r : FinalResult) → IsMachineResult machine.now r → Contains e.results.items r) }
+    ensures once { IfOk result (λ e. IsOnce e.results.items) }
+    ensures schedules { IfOk result (λ e. AreSchedulesOf (flat_state machine.now) e.schedules) }
 {
     machine_is_sound(machine);
     results_are_those_of_the_flat_machine();
@@ -39,7 +51,7 @@ pub fn explore(alloc: Global, machine: &Machine, limit: u32) -> Result<Explored,
     };
     let all = cores.as_slice();
     let code = machine.code();
-    let explored = explored(alloc, code, extent, all, words, limit)?;
+    let explored = explored(alloc, code, extent, all, words, limit, watch)?;
     Ok(explored)
 }
 
@@ -55,29 +67,41 @@ fn extent_of(machine: &Machine) -> Extent
 }
 
 /// All results of the flat machine of these cores and words.
-fn explored(
+fn explored<G: Watch>(
     alloc: Global,
     code: &Code,
     extent: Extent,
     cores: &[Core],
     words: Vec<u32>,
     limit: u32,
+    watch: &mut G,
 ) -> Result<Explored, Refusal>
     requires cores { AreOfExtent extent cores.now }
     requires room { extent.processors ≤ 8 }
     requires words { length words.items ≡ extent.shared_words }
     ensures sound { IfOk result (λ e. All (IsFlatResult (flat_of code.now cores.now words.items)) e.results.items) }
     ensures complete { IfOk result (λ e. (r : FinalResult) → IsFlatResult (flat_of code.now cores.now words.items) r → Contains e.results.items r) }
+    ensures once { IfOk result (λ e. IsOnce e.results.items) }
+    ensures schedules { IfOk result (λ e. AreSchedulesOf (flat_of code.now cores.now words.items) e.schedules) }
 {
-    let mut tables = Tables::new(alloc);
+    moves_tell_of_schedules();
+    let Ok(live) = LiveTable::new(alloc, code) else {
+        return Err(Refusal::Memory);
+    };
+    let mut tables = Tables::new(alloc, live);
     let first = tables.open(alloc, code, extent, cores, words)?;
-    let found = search(alloc, &mut tables, code, extent, first, limit)?;
-    let rows = found.as_slice();
+    let found = search(alloc, &mut tables, code, extent, first, limit, watch)?;
+    let rows = found.rows.as_slice();
     let Ok(results) = results_of(alloc, &tables, extent, rows) else {
+        return Err(Refusal::Memory);
+    };
+    let moves = found.moves;
+    let Ok(schedules) = schedules_of(alloc, moves.as_slice(), extent.processors) else {
         return Err(Refusal::Memory);
     };
     Ok(Explored {
         results,
-        states: rows.len(),
+        schedules,
+        moves,
     })
 }

@@ -4,7 +4,9 @@ use Rattle.std.specs.Fmt.{decimal}
 use Rattle.flat_machine.specs.declared.event.Status.TheVariants.{Running}
 use Rattle.command_io.specs.Digits.{hex_of_word, line_feed, status_text}
 use Rattle.run_report.specs.Lines.{console_text, word_lines}
-use Rattle.results.specs.Results.{ProcessorResult, FinalResult}
+use Rattle.exploration.specs.results.Results.{ProcessorResult, FinalResult}
+use Rattle.exploration.specs.move_ranks.declared.schedules.Schedules.{Schedules}
+use Rattle.exploration.specs.move_ranks.declared.schedules.Schedules.TheVariants as told
 
 -- ---- a result
 
@@ -48,7 +50,14 @@ first_lines results (suc place) = first_lines results place ++ result_lines plac
 abbrev pub counted : ℕ → (noun : List ℕ) → List ℕ
 counted count noun = decimal count ++ codes " " ++ noun ++ (if count == 1 then [] else codes "s")
 
--- the lines of all results, and behind them `N results, M states`
-abbrev pub results_lines : List FinalResult → (states : ℕ) → List ℕ
-results_lines results states =
-    first_lines results (length results) ++ counted (length results) (codes "result") ++ codes ", " ++ counted states (codes "state") ++ line_feed
+-- what is told of the schedules
+abbrev pub schedules_line : Schedules → List ℕ
+schedules_line told.End = codes "every schedule ends\n"
+schedules_line told.MayEnd = codes "some schedule never ends; an end can always be reached\n"
+schedules_line (told.MayBeStuck states first) = codes "from " ++ counted states (codes "state") ++ codes " no end can be reached\n"
+
+-- the lines of all results, behind them `N results, M states`, and last what is told of the schedules
+abbrev pub results_lines : List FinalResult → (states : ℕ) → Schedules → List ℕ
+results_lines results states schedules =
+    first_lines results (length results)
+    ++ (counted (length results) (codes "result") ++ codes ", " ++ counted states (codes "state") ++ line_feed) ++ schedules_line schedules

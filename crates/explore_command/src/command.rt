@@ -1,100 +1,105 @@
 //! The command.
 
-ghost use Rattle.std.specs.Prelude.{◌≡◌, ◌≤◌, ◌↔◌, true, false, IfOk, IfErr, IsErrOf, OnErr, string_bytes};
-ghost use Rattle.machine_runs.specs.Machines.{IsIdle};
-ghost use Rattle.command_io.specs.Printing.{IsPrinted, IsTold};
-ghost use Rattle.explore_command.specs.Explorations.{AreExplored, AreResultsOf, IsNotExplored, IsNotFound, IsNotSearched, PrintsResults};
+ghost use Rattle.std.specs.Prelude.{◌≡◌, ◌≤◌, ◌↔◌, true, false, IfOk, IfErr, IsErrOf, OnErr};
+ghost use Rattle.command_io.specs.Printing.{IsPrinted};
+ghost use Rattle.run_commands.specs.Commands.{IsWorking};
+ghost use Rattle.explore_command.specs.Causes.{IsRefused, IsToldAs, status_of};
+ghost use Rattle.explore_command.specs.Explorations.{PrintsResults};
 
-use crate::lines::results_text;
-use crate::status::exit_status;
-use command_io::{Fault, image_of, print, tell};
-use elf_image::Image;
-use exploration::{Explored, Refusal, explore};
+use crate::searching::explored;
+use command_io::{Fault, REFUSED, SPENT, image_of, print, tell};
+use exploration::Watch;
 use flat_machine::Config;
 use link::LinkWrite;
-use machine_runs::Machine;
-use run_commands::machine_of;
+use result_witness::Refused;
 use std::alloc::Global;
 use std::io::{Read, Write};
 
-/// The most stages of switches of a machine that is explored: it has 8 processors then.
-pub const MAX_STAGES: u8 = 3;
+/// What a search is asked for.
+#[derive(Clone, Copy, Debug, PartialEq, Eq, Drop)]
+pub struct Search {
+    /// With how many states between references to shared words it is given up.
+    pub limit: u32,
+    /// The number of the result that the trace is to lead to, from 1; or 0 for a state from which no end can be reached. It is of no
+    /// account where no trace is asked for.
+    pub witness: u32,
+}
 
 /// Finds every final result that the program can have which the image means that a file is, on a machine of
 /// this size of up to 8 processors, and prints them: each where no processor runs any more behind some
-/// steps of the machine. At most `limit` states between references to shared words are looked at.
+/// steps of the machine; and whether its schedules end. How many states are found is told meanwhile. Where a trace is asked for, that
+/// of a way to the result of a number is written before.
 ///
 /// Answers the exit status: 0 where the results are printed, 1 where they are and in one of them a fault has
-/// stopped a processor, else that of the fault that is told on standard error. A fault is told in this order:
-/// of the image, of the machine's size, of the search, of standard output.
-pub fn explore_command<R: Read + Drop, W: LinkWrite, E: Write>(
+/// stopped a processor, or from a state no end can be reached, else that of the fault that is told on standard error. A fault is told in this order:
+/// of the image, of the machine's size, of the search, of the witness, of the trace, of standard output.
+pub fn explore_command<R: Read + Drop, T: LinkWrite, G: Watch, W: LinkWrite, E: Write>(
     alloc: Global,
     file: R,
     config: Config,
-    limit: u32,
+    search: Search,
+    trace: &mut Option<T>,
+    watch: &mut G,
     out: &mut W,
     err: &mut E,
 ) -> u8
+    requires works { IsWorking T.has_failed trace.old }
     requires prints { W.has_failed out.old ≡ false }
-    ensures printed { result ≤ 1 → IsPrinted (PrintsResults config (R.remaining file) result) (W.contents out.old) (W.contents out.new) }
-    ensures told { 2 ≤ result → IsTold W.has_failed Fault.Link ⊥
-        (IsNotExplored config (R.remaining file) (W.contents out.old) (W.contents out.new)) out.old out.new result }
+    ensures printed { result ≤ 1 → IsPrinted (PrintsResults T.contents config search.witness (R.remaining file) trace.old trace.new result)
+        (W.contents out.old) (W.contents out.new) }
+    ensures told { 2 ≤ result → IsToldAs W.has_failed
+        (IsRefused T.contents config search.witness (R.remaining file) trace.old trace.new (W.contents out.old) (W.contents out.new)) out.old out.new result }
     ensures failed { W.has_failed out.new ≡ true → result ≡ 3 }
 {
-    match carried_out(alloc, file, config, limit, out) {
+    match carried_out(alloc, file, config, search, trace, watch, out) {
         Ok(status) => status,
-        Err(fault) => tell(fault, err),
+        Err(refused) => tell_refused(refused, search.witness, err),
+    }
+}
+
+/// Tells why the results are not printed, and answers the exit status.
+fn tell_refused<E: Write>(refused: Refused, number: u32, err: &mut E) -> u8
+    ensures told { result ≡ status_of refused }
+    ensures high { 2 ≤ result }
+{
+    match refused {
+        Refused::Fault(fault) => tell(fault, err),
+        Refused::Unknown => {
+            let _ = match number {
+                0 => writeln!(err, "error: an end can be reached from each state"),
+                _ => writeln!(err, "error: there is no result {number}"),
+            };
+            REFUSED
+        }
+        Refused::Missed => {
+            let _ = writeln!(err, "error: the steps that were taken lead elsewhere");
+            SPENT
+        }
     }
 }
 
 /// Carries the command out.
-fn carried_out<R: Read + Drop, W: LinkWrite>(
+fn carried_out<R: Read + Drop, T: LinkWrite, G: Watch, W: LinkWrite>(
     alloc: Global,
     file: R,
     config: Config,
-    limit: u32,
+    search: Search,
+    trace: &mut Option<T>,
+    watch: &mut G,
     out: &mut W,
-) -> Result<u8, Fault>
+) -> Result<u8, Refused>
+    requires works { IsWorking T.has_failed trace.old }
     requires prints { W.has_failed out.old ≡ false }
-    ensures failed { IsErrOf result Fault.Link ↔ (W.has_failed out.new ≡ true) }
-    ensures printed { IfOk result (λ status. IsPrinted (PrintsResults config (R.remaining file) status) (W.contents out.old) (W.contents out.new)) }
+    ensures failed { IsErrOf result (Refused.Fault Fault.Link) ↔ (W.has_failed out.new ≡ true) }
+    ensures printed { IfOk result (λ status. IsPrinted (PrintsResults T.contents config search.witness (R.remaining file) trace.old trace.new status)
+        (W.contents out.old) (W.contents out.new)) }
     ensures low { IfOk result (λ status. status ≤ 1) }
-    ensures told { IfErr result (IsNotExplored config (R.remaining file) (W.contents out.old) (W.contents out.new)) }
+    ensures told { IfErr result
+        (IsRefused T.contents config search.witness (R.remaining file) trace.old trace.new (W.contents out.old) (W.contents out.new)) }
     ensures silent { OnErr result (W.has_failed out.new ≡ false → out.new ≡ out.old) }
 {
     let image = image_of(alloc, file, &config)?;
-    let (text, status) = explored(alloc, image, config, limit)?;
+    let (text, status) = explored(alloc, image, config, search, trace, watch)?;
     print(out, text.as_str())?;
     Ok(status)
-}
-
-/// The lines of the results, and the exit status.
-fn explored(alloc: Global, image: Image, config: Config, limit: u32) -> Result<(String, u8), Fault>
-    requires words { image.shared_words ≡ config.shared_words }
-    ensures lines { IfOk result (λ done. AreExplored config image (string_bytes done.0) done.1) }
-    ensures low { IfOk result (λ done. done.1 ≤ 1) }
-    ensures refused { IfErr result (IsNotFound config image) }
-{
-    if config.k > MAX_STAGES {
-        return Err(Fault::Size);
-    }
-    let machine = machine_of(alloc, image, config)?;
-    let found = found(alloc, &machine, limit)?;
-    let text = results_text(alloc, found.results.as_slice(), found.states)?;
-    Ok((text, exit_status(found.results.as_slice())))
-}
-
-/// The results of a machine that has just opened.
-fn found(alloc: Global, machine: &Machine, limit: u32) -> Result<Explored, Fault>
-    requires idle { IsIdle machine.now }
-    requires few { machine.now.config.k ≤ 3 }
-    ensures results { IfOk result (λ found. AreResultsOf machine.now found.results.items) }
-    ensures refused { IfErr result IsNotSearched }
-{
-    match explore(alloc, machine, limit) {
-        Ok(found) => Ok(found),
-        Err(Refusal::Memory) => Err(Fault::Memory),
-        Err(Refusal::States) => Err(Fault::States),
-        Err(Refusal::Alone) => Err(Fault::Alone),
-    }
 }

@@ -1,13 +1,19 @@
 //! `ultra explore`: from the bytes of an image to every final result that its program can have.
 //!
 //! The results are those of the crate `exploration`. Here they become lines ([`results_text`]), which are made
-//! whole before the first byte is printed.
+//! whole before the first byte is printed. Where a trace is asked for, it is that of a witness (crate `result_witness`), and is
+//! written before.
 #![tactic(auto)]
 
 mod command;
 mod lines;
+mod progress;
+mod searching;
 mod status;
 
-pub use command::{MAX_STAGES, explore_command};
+pub use command::{Search, explore_command};
+pub use exploration::{Unwatched, Watch};
 pub use lines::results_text;
+pub use progress::SearchProgress;
+pub use searching::MAX_STAGES;
 pub use status::exit_status;

@@ -2,15 +2,16 @@
 
 ghost use Rattle.std.specs.Prelude.{◌≡◌, ◌+◌, ◌++◌, ◌<◌, ◌^◌, codes, length, slice_index, IfOk, OnOk, string_bytes};
 ghost use Rattle.std.specs.Fmt.{decimal};
-ghost use Rattle.explore_command.specs.Lines.{counted, processor_line, processor_lines, result_lines, results_lines, shared_lines};
+ghost use Rattle.explore_command.specs.Lines.{counted, processor_line, processor_lines, result_lines, results_lines, schedules_line, shared_lines};
 
 use command_io::{push_status, push_word};
-use exploration::{FinalResult, ProcessorResult};
+use exploration::{FinalResult, ProcessorResult, Schedules};
 use run_report::{push_console, push_shared_word};
 use std::alloc::{AllocError, Global};
 use std::fmt::Write;
 
-/// The lines of these results, and behind them one with their number and that of the states that were found.
+/// The lines of these results, behind them one with their number and that of the states that were found, and one that tells whether
+/// schedules end.
 ///
 /// # Errors
 ///
@@ -19,19 +20,38 @@ pub fn results_text(
     alloc: Global,
     results: &[FinalResult],
     states: usize,
+    schedules: Schedules,
 ) -> Result<String, AllocError>
-    ensures { IfOk result (λ text. string_bytes text ≡ results_lines results.now states) }
+    ensures { IfOk result (λ text. string_bytes text ≡ results_lines results.now states schedules) }
 {
     let mut text = String::new(alloc);
     for (place, result) in results.iter().enumerate() {
         push_result(alloc, &mut text, place, result)?;
     }
-    push_last(&mut text, results.len(), states)?;
+    push_counts(&mut text, results.len(), states)?;
+    push_schedules(&mut text, schedules)?;
     Ok(text)
 }
 
-/// Appends the last line.
-fn push_last(text: &mut String, results: usize, states: usize) -> Result<(), AllocError>
+/// Appends what is told of the schedules.
+fn push_schedules(text: &mut String, schedules: Schedules) -> Result<(), AllocError>
+    ensures { OnOk result (string_bytes text.new ≡ string_bytes text.old ++ schedules_line schedules) }
+{
+    match schedules {
+        Schedules::End => text.push_str("every schedule ends\n"),
+        Schedules::MayEnd => {
+            text.push_str("some schedule never ends; an end can always be reached\n")
+        }
+        Schedules::MayBeStuck { states, .. } => {
+            text.push_str("from ")?;
+            push_count(text, states, "state")?;
+            text.push_str(" no end can be reached\n")
+        }
+    }
+}
+
+/// Appends the line of the numbers.
+fn push_counts(text: &mut String, results: usize, states: usize) -> Result<(), AllocError>
     ensures { OnOk result (string_bytes text.new
         ≡ string_bytes text.old ++ counted results (codes "result") ++ codes ", " ++ counted states (codes "state") ++ codes "\n") }
 {

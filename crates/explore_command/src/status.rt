@@ -1,22 +1,32 @@
-//! The exit status that tells how the processors of the results stopped.
+//! The exit status that tells how the processors of the results stopped, and whether they always can.
 
 ghost use Rattle.std.specs.Prelude.{◌≤◌, ◌↔◌, All, IsTrue};
-ghost use Rattle.explore_command.specs.Explorations.{IsExitOf, IsFaultless, IsNotFaulted};
+ghost use Rattle.explore_command.specs.Explorations.{IsExitOf, IsFaultless, IsNotFaulted, IsNotStuck};
 
 use command_io::{DONE, STOPPED_BY_FAULT};
-use exploration::{FinalResult, ProcessorResult};
+use exploration::{FinalResult, ProcessorResult, Schedules};
 use flat_machine::Status;
 
-/// The exit status of results: [`STOPPED_BY_FAULT`] where in one of them a fault has stopped a processor, else
-/// [`DONE`].
-pub fn exit_status(results: &[FinalResult]) -> u8
-    ensures exit { IsExitOf results.now result }
+/// The exit status of results: [`STOPPED_BY_FAULT`] where in one of them a fault has stopped a processor, or from a state no end
+/// can be reached, else [`DONE`].
+pub fn exit_status(results: &[FinalResult], schedules: Schedules) -> u8
+    ensures exit { IsExitOf results.now schedules result }
     ensures low { result ≤ 1 }
 {
-    if are_faultless(results) {
+    if are_faultless(results) && is_not_stuck(schedules) {
         DONE
     } else {
         STOPPED_BY_FAULT
+    }
+}
+
+/// Whether there is no state from which no end can be reached.
+fn is_not_stuck(schedules: Schedules) -> bool
+    ensures { IsTrue result ↔ IsNotStuck schedules }
+{
+    match schedules {
+        Schedules::End | Schedules::MayEnd => true,
+        Schedules::MayBeStuck { .. } => false,
     }
 }
 

@@ -2,4 +2,5 @@
 
 mod images;
 mod links;
+mod memory;
 mod traces;

@@ -8,3 +8,5 @@ pub mod Memory
 pub mod Turns
 pub mod Flat
 pub mod Laws
+-- Words of lower crates, passed on to those above.
+pub use Rattle.rv_table.specs as rv_table

@@ -27,6 +27,9 @@ pub const MAX_QUEUE_CAPACITY: u8 = 16;
 /// The most records that a wait buffer has.
 pub const MAX_WAIT_RECORDS: u8 = 16;
 
+/// The most combinations of an entry of a queue.
+pub const MAX_COMBINATIONS: u8 = 3;
+
 /// The most words that shared memory has.
 pub const MAX_SHARED_WORDS: u32 = 262_144;
 
@@ -39,6 +42,9 @@ pub struct Config {
     pub c: u8,
     /// How many records a wait buffer holds: 0 to 16.
     pub b: u8,
+    /// How often an entry of a queue is combined, at most: 1 to 3, and less than `c`, so that a queue has room for all replies of
+    /// an entry.
+    pub r: u8,
     /// How many words the shared memory has: 1 to 262,144.
     pub shared_words: u32,
 }
@@ -52,6 +58,9 @@ impl Config {
             && MIN_QUEUE_CAPACITY <= self.c
             && self.c <= MAX_QUEUE_CAPACITY
             && self.b <= MAX_WAIT_RECORDS
+            && 1 <= self.r
+            && self.r <= MAX_COMBINATIONS
+            && self.r < self.c
             && 1 <= self.shared_words
             && self.shared_words <= MAX_SHARED_WORDS
     }

@@ -3,10 +3,10 @@ use Rattle.std.proofs.Common.{◌≡◌, ℕ, List, ◌∙◌, ap, refl, sym, su
 use Rattle.flat_machine.specs.declared.config.Config.{Config}
 use Rattle.flat_machine.specs.Limits.{IsWithinLimits}
 use Rattle.elf_image.specs.Images.{ImageContents}
-use Rattle.random_runs.specs.Step.{Step}
-use Rattle.trace_file.specs.Traces.{HaveRecords, IsTrace, trace_of}
-use Rattle.run_commands.proofs.Lemmas.{none_stalls}
-use Rattle.run_commands.specs.Replays.{StallsAt}
+use Rattle.machine_runs.specs.steps.declared.step.Step.{Step}
+use Rattle.trace_file.specs.Traces.{HaveRecords}
+use Rattle.run_commands.proofs.Lemmas.{is_spelled, none_stalls}
+use Rattle.run_commands.specs.trace_replay.Replays.{StallsAt}
 use Rattle.machine_runs.specs.Machines.{MachineLists}
 use Rattle.machine_runs.specs.Runs.{IsOpening, IsReplay}
 use Rattle.machine_log.specs.Logs.{IsKept, Log}
@@ -17,11 +17,11 @@ use Rattle.run_commands.specs.Faults.{fault_of_retaking}
 use Rattle.run_commands.specs.Retaking.{IsNotRetaken}
 use Rattle.run_commands.specs.declared.taking.RetakeError.{RetakeError}
 use Rattle.run_commands.specs.declared.taking.RetakeError.TheVariants as retake
-use Rattle.random_runs.specs.Runs.{HasRun, IsRandomRun}
+use Rattle.random_runs.specs.Runs.{HasRunAtRandom, IsRandomRun}
 use Rattle.hunt_command.specs.Hunts.{IsLogOf}
 
 module _ (c : Config) (most number : ℕ) (image : ImageContents) (m : MachineLists) (opens : IsOpening c image m) (old log : Log) (starts : old ≡ opened m)
-    (kept : IsKept log) (end : SweepEnd) (ran : HasRun number most old end log)
+    (kept : IsKept log) (end : SweepEnd) (ran : HasRunAtRandom number most old end log)
     (records : HaveRecords old.machine.config.k old.steps → HaveRecords log.machine.config.k log.steps) where
   opening_is : log.opening ≡ m
   opening_is = ran.opening ∙ ap (λ (l : Log). l.opening) starts
@@ -29,22 +29,17 @@ module _ (c : Config) (most number : ℕ) (image : ImageContents) (m : MachineLi
   config_is : log.machine.config ≡ c
   config_is = kept.replay.run.config ∙ ap (λ (n : MachineLists). n.config) opening_is ∙ opens.config
 
-  limits : IsWithinLimits c
-  limits = subst IsWithinLimits config_is kept.sound.limits
-
   pub log_of : IsLogOf c image most number end log
   log_of = record {
     ran = record {
       opens = subst (IsOpening c image) (sym opening_is) opens;
       replay = kept.replay;
-      ran = subst (λ (l : Log). HasRun number most l end log) (starts ∙ ap opened (sym opening_is)) ran;
+      ran = subst (λ (l : Log). HasRunAtRandom number most l end log) (starts ∙ ap opened (sym opening_is)) ran;
     };
-    trace = record {
-      header =
-          record { stages = limits.stages; some_capacity = limits.some_capacity; capacity = limits.capacity; records = limits.records; count = kept.room };
-      records = subst (λ (d : Config). HaveRecords d.k log.steps) config_is
-          (records (subst (λ (l : Log). HaveRecords l.machine.config.k l.steps) (sym starts) (λ p d inside. absurd (omega (arith, inside)))));
-    };
+    trace =
+        is_spelled c log.steps (subst IsWithinLimits config_is kept.sound.limits) kept.room
+        (subst (λ (d : Config). HaveRecords d.k log.steps) config_is
+        (records (subst (λ (l : Log). HaveRecords l.machine.config.k l.steps) (sym starts) (λ p d inside. absurd (omega (arith, inside))))));
   }
 
 -- the steps of a run do not stall on another machine that opens on the image

@@ -10,8 +10,6 @@ mod findings;
 mod lines;
 mod runs;
 mod saving;
-#[cfg(test)]
-mod tests;
 
 pub use command::{Hunt, hunt_command};
 pub use findings::{Finding, Findings, findings_text};

@@ -6,10 +6,10 @@ use Rattle.std.proofs.lemmas.Bool.{cases_lt}
 use Rattle.std.proofs.lemmas.Bool.Decides.{nat_tests}
 use Rattle.std.proofs.lemmas.List.{length-replicate, get_or_past, get_or_append_left, get_or-append_right}
 use Rattle.std.proofs.lemmas.List.FromFn.{length-map-range_with_len, get_or-map-range_with_len}
-use Rattle.flat_machine.specs.declared.config.Config.{Config}
-use Rattle.flat_machine.specs.Words.{part_of}
-use Rattle.flat_machine.specs.Memory.{number_at, in_code, in_local, in_shared}
-use Rattle.flat_machine.specs.State.{Processor, FlatState}
+use Rattle.elf_image.specs.flat_machine.declared.config.Config.{Config}
+use Rattle.elf_image.specs.flat_machine.Words.{part_of}
+use Rattle.elf_image.specs.flat_machine.Memory.{number_at, in_code, in_local, in_shared}
+use Rattle.elf_image.specs.flat_machine.State.{Processor, FlatState}
 use Rattle.elf_image.specs.declared.layout.Layout.{Layout}
 use Rattle.elf_image.specs.declared.region.Region.{Region}
 use Rattle.elf_image.specs.declared.region.Region.TheVariants.{Code, Local, Shared}

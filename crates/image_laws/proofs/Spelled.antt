@@ -4,7 +4,7 @@ use Rattle.std.proofs.Common.{append_assoc, append-nil, length-append}
 use Rattle.std.specs.Prelude.{slice_index}
 use Rattle.std.specs.List.{range_with_len, filter, flat_map}
 use Rattle.std.proofs.lemmas.List.{get_or-append-add}
-use Rattle.flat_machine.specs.Memory.{number_at}
+use Rattle.elf_image.specs.flat_machine.Memory.{number_at}
 use Rattle.elf_image.specs.declared.header.FileHeader.{FileHeader}
 use Rattle.elf_image.specs.declared.layout.Layout.{Layout}
 use Rattle.elf_image.specs.declared.region.Region.TheVariants.{Code, Local, Shared}

@@ -7,7 +7,7 @@ use Rattle.std.proofs.lemmas.Option.{slice_get_within}
 use Rattle.std.proofs.lemmas.Bool.{cases_lt}
 use Rattle.std.proofs.lemmas.Bool.Decides.{nat_tests}
 use Rattle.std.proofs.lemmas.List.{get_or-append-add, get_or_append_left, get_or_past}
-use Rattle.flat_machine.specs.Memory.{in_code}
+use Rattle.elf_image.specs.flat_machine.Memory.{in_code}
 use Rattle.elf_image.specs.declared.layout.Layout.{Layout}
 use Rattle.elf_image.specs.declared.region.Region.{Region}
 use Rattle.elf_image.specs.declared.region.Region.TheVariants.{Code, Local, Shared}

@@ -1,10 +1,10 @@
 -- What the laws of images speak of.
 use Rattle.std.specs.Prelude.{◌≡◌, ◌⊎◌, ℕ, ◌+◌, ◌-◌, ◌*◌, ◌/◌, ◌%◌, ◌^◌, ◌<◌, ◌≤◌, true, false, List, length, Some, slice_get, slice_index}
-use Rattle.flat_machine.specs.declared.config.Config.{Config}
-use Rattle.flat_machine.specs.declared.event.Status.TheVariants.{Running}
-use Rattle.flat_machine.specs.Words.{part_of}
-use Rattle.flat_machine.specs.Memory.{in_code, in_local, in_shared}
-use Rattle.flat_machine.specs.State.{Processor, FlatState}
+use Rattle.elf_image.specs.flat_machine.declared.config.Config.{Config}
+use Rattle.elf_image.specs.flat_machine.declared.event.Status.TheVariants.{Running}
+use Rattle.elf_image.specs.flat_machine.Words.{part_of}
+use Rattle.elf_image.specs.flat_machine.Memory.{in_code, in_local, in_shared}
+use Rattle.elf_image.specs.flat_machine.State.{Processor, FlatState}
 use Rattle.elf_image.specs.declared.error.ImageError.{ImageError}
 use Rattle.elf_image.specs.declared.error.ImageError.TheVariants as error
 use Rattle.elf_image.specs.declared.layout.Layout.{Layout}

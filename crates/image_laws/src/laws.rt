@@ -1,7 +1,7 @@
 //! Laws of images: each is the contract of a function that does nothing, or that calls another law.
 
 ghost use Rattle.std.specs.Prelude.{◌≡◌, ◌↔◌, ℕ, ◌+◌, ◌<◌, ◌≤◌, List, None, Some, length, slice_index};
-ghost use Rattle.flat_machine.specs.declared.config.Config.{Config};
+ghost use Rattle.elf_image.specs.flat_machine.declared.config.Config.{Config};
 ghost use Rattle.elf_image.specs.declared.error.ImageError.{ImageError};
 ghost use Rattle.elf_image.specs.declared.layout.Layout.{Layout};
 ghost use Rattle.elf_image.specs.Refusals.{refusal_of};

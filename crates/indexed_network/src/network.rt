@@ -4,6 +4,7 @@ ghost use Rattle.std.specs.Prelude.{◌≡◌, ◌<◌, ◌≤◌, ◌==◌, ◌
 ghost use Rattle.std.specs.Prelude.{IfOk, IsTrue, if◌then◌else◌};
 ghost use Rattle.wire_sets.specs.Members.{members};
 ghost use Rattle.messages.specs.Network.{IsEmptyNet, Sizes};
+ghost use Rattle.messages.specs.Naming.{Names, Unnamed};
 ghost use Rattle.messages.specs.Moves.{injected, module_replied, module_taken, moved_down, moved_up, port_taken};
 ghost use Rattle.omega_network.specs.Networks.{net_of, sizes_of};
 ghost use Rattle.indexed_network.specs.Index.{IsLookedAt};
@@ -44,16 +45,17 @@ impl IndexedNetwork {
     /// # Errors
     ///
     /// `AllocError` where there is no memory for it.
-    pub fn new(alloc: Global, k: u8, c: u8, b: u8) -> Result<Self, AllocError>
+    pub fn new(alloc: Global, k: u8, c: u8, b: u8, r: u8) -> Result<Self, AllocError>
         requires stages { k ≤ 6 }
         requires queues { (2 ≤ c) × (c ≤ 16) }
         requires records { b ≤ 16 }
+        requires combinations { (1 ≤ r) × (r ≤ 3) }
         ensures empty { IfOk result (λ n. IsEmptyNet (net_of n)) }
-        ensures sizes { IfOk result (λ n. sizes_of n ≡ record { k = k; c = c; b = b; r = 1 }) }
+        ensures sizes { IfOk result (λ n. sizes_of n ≡ record { k = k; c = c; b = b; r = r }) }
     {
         no_bits_no_wires();
         Ok(IndexedNetwork {
-            network: Network::new(alloc, k, c, b)?,
+            network: Network::new(alloc, k, c, b, r)?,
             requests: [WireSet::new(); DEPTHS],
             replies: [WireSet::new(); DEPTHS],
         })
@@ -75,11 +77,26 @@ impl IndexedNetwork {
         !self.has_request(0, p)
     }
 
-    /// Puts a processor's request into its slot, which must be free.
+    /// Whether a message or a record names a processor, as [`Network::names`] tells.
+    pub fn names(&self, p: u8) -> bool
+        ensures { IsTrue result ↔ Names (net_of self.now) p }
+    {
+        self.network.names(p)
+    }
+
+    /// Whether a reply for a processor may be put in, as [`Network::may_reply`] tells.
+    pub fn may_reply(&self, p: u8) -> bool
+        ensures { IsTrue result ↔ Unnamed (net_of self.now) p }
+    {
+        self.network.may_reply(p)
+    }
+
+    /// Puts a processor's request into its slot, which must be free. Nothing may name the processor.
     pub fn inject(&mut self, p: u8, request: Request)
         requires processor { p < 2 ^ self.old.k }
         requires leader { request.leader ≡ p }
         requires free { (net_of self.old).requests 0 p ≡ [] }
+        requires unnamed { Names (net_of self.old) p → ⊥ }
         ensures after { net_of self.new ≡ injected (net_of self.old) request }
         ensures sizes { sizes_of self.new ≡ sizes_of self.old }
     {
@@ -194,10 +211,13 @@ impl IndexedNetwork {
         !self.has_reply(self.stages(), m)
     }
 
-    /// Puts a reply into a module's slot, which must be free.
+    /// Puts a reply into a module's slot, which must be free. No message may be led by the reply's
+    /// leader, and no record may have it as its second.
     pub fn module_reply(&mut self, m: u8, reply: Reply)
         requires at_module { m < 2 ^ self.old.k }
         requires free { (net_of self.old).replies self.old.k m ≡ [] }
+        requires leader { reply.leader < 2 ^ self.old.k }
+        requires unnamed { Unnamed (net_of self.old) reply.leader }
         ensures after { net_of self.new ≡ module_replied (sizes_of self.old) (net_of self.old) m reply }
         ensures sizes { sizes_of self.new ≡ sizes_of self.old }
     {
@@ -247,6 +267,24 @@ impl IndexedNetwork {
         ensures { result ≡ is_some (slice_get ((net_of self.now).replies stage wire) 0) }
     {
         self.reply_wires(stage).contains(wire)
+    }
+
+    /// The request that stands at `place` before a stage on a wire, or at a module for stage `k`; the first stands at 0.
+    pub fn request(&self, stage: u8, wire: u8, place: usize) -> Option<Request>
+        requires stage { stage ≤ self.now.k }
+        requires wire { wire < 2 ^ self.now.k }
+        ensures { result ≡ slice_get ((net_of self.now).requests stage wire) place }
+    {
+        self.network.request(stage, wire, place)
+    }
+
+    /// The reply that stands at `place` before a stage on a wire, or at a module for stage `k`; the first stands at 0.
+    pub fn reply(&self, stage: u8, wire: u8, place: usize) -> Option<Reply>
+        requires stage { stage ≤ self.now.k }
+        requires wire { wire < 2 ^ self.now.k }
+        ensures { result ≡ slice_get ((net_of self.now).replies stage wire) place }
+    {
+        self.network.reply(stage, wire, place)
     }
 
     /// How many requests stand in the queue at the output of a wire after a stage.

@@ -8,8 +8,8 @@ use Rattle.std.proofs.lemmas.List.FromFn.{length-map-range_with_len, get_or-map-
 use Rattle.flat_machine.specs.State.{Processor, FlatState}
 use Rattle.flat_machine.specs.Laws.{HasWords}
 use Rattle.machine_ports.specs.Ports.{PortState}
-use Rattle.machine_program.specs.Processors.{no_port, no_processor, port_at, open_at, word_at}
-use Rattle.machine_program.specs.FlatSizes.{HasSize, IsSoundFlat}
+use Rattle.machine_opening.specs.machine_program.Processors.{no_port, no_processor, port_at, open_at, word_at}
+use Rattle.machine_opening.specs.machine_program.FlatSizes.{HasSize, IsSoundFlat}
 use Rattle.machine.specs.Machines.{MachineLists, IsIdle, IsMachine}
 use Rattle.machine.specs.Openings.{flat_state}
 use Rattle.machine.proofs.Keeping.{count_small}

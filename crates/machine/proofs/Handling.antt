@@ -13,9 +13,9 @@ use Rattle.flat_machine.specs.Flat.{is_lawful_register, with_poked_register, wit
 use Rattle.flat_machine.specs.Memory.{in_local, in_shared}
 use Rattle.flat_machine.specs.Words.{with_part}
 use Rattle.flat_machine.proofs.Lemmas.{byte_words, register_words}
-use Rattle.phi_algebra.specs.declared.phi.Phi.{Phi}
+use Rattle.messages.specs.phi_algebra.declared.phi.Phi.{Phi}
 use Rattle.hart.specs.Deciding.{IsReference}
-use Rattle.phi_algebra.specs.Functions.{apply}
+use Rattle.messages.specs.phi_algebra.Functions.{apply}
 use Rattle.machine_ports.specs.Ports.{PortState, begun, turn, with_state}
 use Rattle.messages.specs.declared.message.Request.{Request}
 use Rattle.messages.specs.declared.message.Reply.{Reply}
@@ -23,18 +23,20 @@ use Rattle.messages.specs.declared.moves.UpMove.{UpMove}
 use Rattle.messages.specs.declared.moves.DownMove.{DownMove}
 use Rattle.messages.specs.Network.{Sizes}
 use Rattle.messages.specs.Moves.{moved_up, moved_down}
-use Rattle.omega_network.specs.Networks.{NetworkLists, net_of}
-use Rattle.omega_network.specs.Networks as network
+use Rattle.indexed_network.specs.omega_network.Networks.{NetworkLists, net_of}
+use Rattle.indexed_network.specs.omega_network.Networks as network
 use Rattle.steps.specs.declared.step.Step.{Step}
 use Rattle.steps.specs.declared.step.Step.TheVariants as step
 use Rattle.steps.specs.declared.step.Outcome.{Outcome}
 use Rattle.steps.specs.declared.step.Outcome.TheVariants.{Stalled, Served, Poked}
-use Rattle.machine_program.specs.Processors.{sizes_of, no_port, port_at, word_at, is_lawful_poke}
-use Rattle.machine_program.specs.Steps.{IsStepOf}
-use Rattle.machine_program.proofs.Lemmas.{at_its_module, begins, byte_poked, finishes, found_within, goes_down, goes_up, no_module, no_place, no_request}
-use Rattle.machine_program.proofs.Lemmas.{no_stage_down, no_stage_up, no_wire_down, no_wire_up, not_idle, refers, register_poked, rests, serves, slot_free}
-use Rattle.machine_program.proofs.Lemmas.{unlawful, unnamed, word_poked, word_there}
-use Rattle.machine_program.specs.Turning.{IsBegun, IsFinishedBy, told_of_up, told_of_down}
+use Rattle.machine_opening.specs.machine_program.Processors.{sizes_of, no_port, port_at, word_at, is_lawful_poke}
+use Rattle.machine_opening.specs.machine_program.Steps.{IsStepOf}
+use Rattle.machine_opening.proofs.Lemmas.machine_program.{at_its_module, begins, byte_poked, finishes, found_within, goes_down, goes_up, no_module, no_place}
+use Rattle.machine_opening.proofs.Lemmas.machine_program.{no_request}
+use Rattle.machine_opening.proofs.Lemmas.machine_program.{no_stage_down, no_stage_up, no_wire_down, no_wire_up, not_idle, refers, register_poked, rests, serves}
+use Rattle.machine_opening.proofs.Lemmas.machine_program.{slot_free}
+use Rattle.machine_opening.proofs.Lemmas.machine_program.{unlawful, unnamed, word_poked, word_there}
+use Rattle.machine_opening.specs.machine_program.Turning.{IsBegun, IsFinishedBy, told_of_up, told_of_down}
 use Rattle.machine.specs.Machines.{MachineLists, ArePorts, AreModules, IsIdle, IsMachine, IsStep}
 use Rattle.machine.specs.Serving.{IsKept, IsExecuted}
 use Rattle.machine.proofs.Keeping.{parts_kept, begun_kept, finished_kept, ports_set, modules_set, module_there, place_there}

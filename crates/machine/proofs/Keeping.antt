@@ -17,15 +17,15 @@ use Rattle.hart.specs.Deciding.{after_reply}
 use Rattle.machine_ports.specs.Ports.{PortState, begun, turn}
 use Rattle.messages.specs.Places.{put}
 use Rattle.messages.proofs.Lemmas.{put_other, put_same}
-use Rattle.omega_network.specs.Networks.{NetworkLists, net_of}
-use Rattle.omega_network.specs.Networks as network
+use Rattle.indexed_network.specs.omega_network.Networks.{NetworkLists, net_of}
+use Rattle.indexed_network.specs.omega_network.Networks as network
 use Rattle.steps.specs.declared.step.Step.{Step}
 use Rattle.steps.specs.declared.step.Outcome.{Outcome}
 use Rattle.machine_opening.specs.Openings.{places_of}
 use Rattle.machine_opening.proofs.Lemmas.{quotient_small}
-use Rattle.machine_program.specs.Processors.{setting_of, port_at, no_port, word_at}
-use Rattle.machine_program.specs.Steps.{IsStepOf, with_shown}
-use Rattle.machine_program.proofs.Lemmas.{retold, stays_steady, words_set}
+use Rattle.machine_opening.specs.machine_program.Processors.{setting_of, port_at, no_port, word_at}
+use Rattle.machine_opening.specs.machine_program.Steps.{IsStepOf, with_shown}
+use Rattle.machine_opening.proofs.Lemmas.machine_program.{retold, stays_steady, words_set}
 use Rattle.machine.specs.Machines.{MachineLists, ArePorts, AreModules, IsMachine}
 
 -- ---- a port changes

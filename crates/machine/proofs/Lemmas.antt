@@ -6,3 +6,5 @@ pub use Rattle.machine.proofs.Flattening.{all_shut, count_is, flat_is, none_past
 pub use Rattle.machine.proofs.Keeping.{count_small}
 -- A step that stalls changes nothing.
 pub use Rattle.machine.proofs.Stalling.{keeps, retell, retold, stalled_keeps}
+-- Lemmas of lower crates, passed on to those above.
+pub use Rattle.messages.proofs.Lemmas as messages

@@ -16,16 +16,16 @@ use Rattle.elf_image.specs.declared.layout.Layout.{Layout}
 use Rattle.elf_image.specs.Images.{ImageContents, IsPlaced}
 use Rattle.machine_ports.specs.Ports.{PortState}
 use Rattle.messages.specs.Network.{IsEmptyNet, empty_net}
-use Rattle.omega_network.specs.Networks.{NetworkLists, net_of}
-use Rattle.omega_network.specs.Networks as network
-use Rattle.placement.specs.Roles.{Idle}
-use Rattle.machine_program.specs.Theory as theory
-use Rattle.abstract_machine.specs.Steadiness.{Steady}
-use Rattle.abstract_machine.proofs.Lemmas.{steady_start}
+use Rattle.indexed_network.specs.omega_network.Networks.{NetworkLists, net_of}
+use Rattle.indexed_network.specs.omega_network.Networks as network
+use Rattle.machine_opening.specs.placement.Roles.{Idle}
+use Rattle.machine_opening.specs.machine_program.Theory as theory
+use Rattle.machine_opening.specs.abstract_machine.Steadiness.{Steady}
+use Rattle.machine_opening.proofs.Lemmas.abstract_machine.{steady_start}
 use Rattle.machine_opening.specs.Openings.{opening_port, opening_ports, opening_word, opening_module, opening_modules, places_of}
 use Rattle.machine_opening.proofs.Lemmas.{the_opening}
-use Rattle.machine_program.specs.Processors.{Told, sizes_of, program, no_port, port_at, told_at, open_at, word_at}
-use Rattle.machine_program.specs.Steps.{machine_of_parts}
+use Rattle.machine_opening.specs.machine_program.Processors.{Told, sizes_of, program, no_port, port_at, told_at, open_at, word_at}
+use Rattle.machine_opening.specs.machine_program.Steps.{machine_of_parts}
 use Rattle.machine.specs.Machines.{ArePorts, AreModules, IsMachine}
 use Rattle.machine.specs.Openings.{IsOpening}
 use Rattle.machine.proofs.Flattening.{past_end}

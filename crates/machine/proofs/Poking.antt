@@ -7,15 +7,15 @@ use Rattle.flat_machine.specs.declared.poke.Poke.{Poke}
 use Rattle.flat_machine.specs.declared.poke.Entry.TheVariants as entry
 use Rattle.flat_machine.specs.State.{FlatState}
 use Rattle.flat_machine.specs.Flat.{flat_step, written}
-use Rattle.omega_network.specs.Networks.{net_of}
-use Rattle.machine_program.specs.Theory as theory
+use Rattle.indexed_network.specs.omega_network.Networks.{net_of}
+use Rattle.machine_opening.specs.machine_program.Theory as theory
 use Rattle.steps.specs.declared.step.Step.TheVariants as step
 use Rattle.steps.specs.declared.step.Outcome.{Outcome}
 use Rattle.steps.specs.declared.step.Outcome.TheVariants.{Poked, Stalled}
-use Rattle.machine_program.specs.Processors.{Told, next, program, open_at, is_lawful_poke, poked_words, poked_processors}
-use Rattle.machine_program.specs.FlatSizes.{HasSize}
-use Rattle.machine_program.specs.Steps.{taken, answer_of, outcome_of, after, machine_of_parts}
-use Rattle.machine_program.proofs.Lemmas.{lawful_same, parts_of, shut_all, size_written, written_agrees}
+use Rattle.machine_opening.specs.machine_program.Processors.{Told, next, program, open_at, is_lawful_poke, poked_words, poked_processors}
+use Rattle.machine_opening.specs.machine_program.FlatSizes.{HasSize}
+use Rattle.machine_opening.specs.machine_program.Steps.{taken, answer_of, outcome_of, after, machine_of_parts}
+use Rattle.machine_opening.proofs.Lemmas.machine_program.{lawful_same, parts_of, shut_all, size_written, written_agrees}
 use Rattle.machine.specs.Machines.{MachineLists, machine_of, IsIdle, IsMachine, IsStep}
 use Rattle.machine.specs.Openings.{flat_state}
 use Rattle.machine.specs.Poking.{IsPoked}

@@ -8,8 +8,8 @@ use Rattle.flat_machine.specs.declared.setting.Setting.{Setting}
 use Rattle.flat_machine.specs.State.{Processor, setting_of}
 use Rattle.flat_machine.specs.Words.{part_of}
 use Rattle.flat_machine.specs.Memory.{number_at, in_code, in_local, in_shared, region_of}
-use Rattle.machine_program.specs.Processors.{no_processor, port_at, word_at}
-use Rattle.machine_program.proofs.Lemmas.{found_within}
+use Rattle.machine_opening.specs.machine_program.Processors.{no_processor, port_at, word_at}
+use Rattle.machine_opening.proofs.Lemmas.machine_program.{found_within}
 use Rattle.machine.specs.Machines.{MachineLists, IsMachine}
 use Rattle.machine.specs.Openings.{flat_state}
 use Rattle.machine.specs.Seeing.{byte_in, byte_of, byte_seen}

@@ -14,18 +14,18 @@ use Rattle.messages.specs.declared.moves.DownMove.{DownMove}
 use Rattle.messages.specs.declared.moves.DownMove.TheVariants as down
 use Rattle.messages.specs.Network.{Net}
 use Rattle.messages.specs.Moves.{moved_up, moved_down}
-use Rattle.omega_network.specs.Networks.{net_of}
-use Rattle.abstract_machine.specs.Program.{Kind, Rests, Alone, Refers}
-use Rattle.machine_program.specs.Theory.{Result, stalled, went_up, went_down, serve_from}
-use Rattle.machine_program.specs.Theory as theory
-use Rattle.abstract_machine.specs.Machine.{Machine, retire_from, begin, turned, poked, all_shut}
+use Rattle.indexed_network.specs.omega_network.Networks.{net_of}
+use Rattle.machine_opening.specs.abstract_machine.Program.{Kind, Rests, Alone, Refers}
+use Rattle.machine_opening.specs.machine_program.Theory.{Result, stalled, went_up, went_down, serve_from}
+use Rattle.machine_opening.specs.machine_program.Theory as theory
+use Rattle.machine_opening.specs.abstract_machine.Machine.{Machine, retire_from, begin, turned, poked, all_shut}
 use Rattle.steps.specs.declared.step.Step.{Step}
 use Rattle.steps.specs.declared.step.Step.TheVariants as step
 use Rattle.steps.specs.declared.step.Outcome.{Outcome}
 use Rattle.steps.specs.declared.step.Outcome.TheVariants.{Stalled}
-use Rattle.machine_program.specs.Processors.{Told, sizes_of, kind_of, next, program, is_lawful_poke}
-use Rattle.machine_program.specs.Steps.{taken, answer_of, told_of_turn, told_of_reply, outcome_of, after, with_shown, machine_of_parts}
-use Rattle.machine_program.proofs.Lemmas.{reaches_of, runs_by}
+use Rattle.machine_opening.specs.machine_program.Processors.{Told, sizes_of, kind_of, next, program, is_lawful_poke}
+use Rattle.machine_opening.specs.machine_program.Steps.{taken, answer_of, told_of_turn, told_of_reply, outcome_of, after, with_shown, machine_of_parts}
+use Rattle.machine_opening.proofs.Lemmas.machine_program.{reaches_of, runs_by}
 use Rattle.machine.specs.Machines.{MachineLists, machine_of, IsMachine, IsStep}
 
 -- what a step answers that stalls

@@ -5,17 +5,17 @@ use Rattle.flat_machine.specs.declared.event.Event.{Event}
 use Rattle.flat_machine.specs.Limits.{IsWithinLimits}
 use Rattle.flat_machine.specs.Laws.{HasWords, AreBelow}
 use Rattle.elf_image.specs.Images.{ImageContents}
-use Rattle.omega_network.specs.Networks.{NetworkLists, net_of}
-use Rattle.omega_network.specs.Networks as network
-use Rattle.placement.specs.Roles.{Role}
-use Rattle.machine_program.specs.Theory as theory
-use Rattle.abstract_machine.specs.Steadiness.{Steady}
+use Rattle.indexed_network.specs.omega_network.Networks.{NetworkLists, net_of}
+use Rattle.indexed_network.specs.omega_network.Networks as network
+use Rattle.machine_opening.specs.placement.Roles.{Role}
+use Rattle.machine_opening.specs.machine_program.Theory as theory
+use Rattle.machine_opening.specs.abstract_machine.Steadiness.{Steady}
 use Rattle.steps.specs.declared.step.Step.{Step}
 use Rattle.steps.specs.declared.step.Outcome.{Outcome}
 use Rattle.machine_ports.specs.Ports.{PortState}
 use Rattle.machine_opening.specs.Openings.{places_of}
-use Rattle.machine_program.specs.Processors.{Told, sizes_of, setting_of, program, port_at, open_at, word_at}
-use Rattle.machine_program.specs.Steps.{machine_of_parts, IsStepOf}
+use Rattle.machine_opening.specs.machine_program.Processors.{Told, sizes_of, setting_of, program, port_at, open_at, word_at}
+use Rattle.machine_opening.specs.machine_program.Steps.{machine_of_parts, IsStepOf}
 
 pub record MachineLists : Type 0 where
   pub config : Config

@@ -8,11 +8,11 @@ use Rattle.elf_image.specs.declared.layout.Layout.{Layout}
 use Rattle.elf_image.specs.Images.{ImageContents}
 use Rattle.elf_image.specs.Openings.{opening}
 use Rattle.messages.specs.Network.{empty_net}
-use Rattle.machine_program.specs.Theory as theory
+use Rattle.machine_opening.specs.machine_program.Theory as theory
 use Rattle.machine_ports.specs.Ports.{PortState}
 use Rattle.machine_opening.specs.Openings.{opening_ports, opening_modules}
-use Rattle.machine_program.specs.Processors.{Told, word_at}
-use Rattle.machine_program.specs.Steps.{machine_of_parts}
+use Rattle.machine_opening.specs.machine_program.Processors.{Told, word_at}
+use Rattle.machine_opening.specs.machine_program.Steps.{machine_of_parts}
 use Rattle.machine.specs.Machines.{MachineLists, machine_of, IsIdle}
 
 -- the flat machine that a machine's processors, words and code make

@@ -5,7 +5,7 @@ use Rattle.flat_machine.specs.declared.poke.Entry.TheVariants as entry
 use Rattle.flat_machine.specs.Flat.{flat_step}
 use Rattle.steps.specs.declared.step.Outcome.{Outcome}
 use Rattle.steps.specs.declared.step.Outcome.TheVariants.{Poked, Stalled}
-use Rattle.machine_program.specs.Processors.{is_lawful_poke}
+use Rattle.machine_opening.specs.machine_program.Processors.{is_lawful_poke}
 use Rattle.machine.specs.Machines.{MachineLists, IsIdle}
 use Rattle.machine.specs.Openings.{flat_state}
 

@@ -2,7 +2,7 @@
 use Rattle.std.specs.Prelude.{ℕ, ◌-◌, ◌/◌, ◌%◌, ◌^◌, ◌&&◌, List, Option, Some, None, nat_lt, slice_get, slice_index, if◌then◌else◌}
 use Rattle.flat_machine.specs.Memory.{in_local, in_shared}
 use Rattle.flat_machine.specs.Words.{part_of}
-use Rattle.machine_program.specs.Processors.{port_at, word_at}
+use Rattle.machine_opening.specs.machine_program.Processors.{port_at, word_at}
 use Rattle.machine.specs.Machines.{MachineLists}
 
 -- the registers of a processor

@@ -1,11 +1,12 @@
 -- What a module does with the first request that stands at it.
 use Rattle.std.specs.Prelude.{◌≡◌, ℕ, ◌/◌, ◌^◌, ◌<◌, List, [], length, Option, Some, None, slice_get, slice_index, slice_set}
-use Rattle.phi_algebra.specs.Functions.{apply}
+use Rattle.messages.specs.phi_algebra.Functions.{apply}
 use Rattle.messages.specs.declared.message.Request.{Request}
 use Rattle.messages.specs.declared.message.Reply.{Reply}
 use Rattle.messages.specs.Network.{Sizes, Net}
+use Rattle.messages.specs.Naming.{Unnamed}
 use Rattle.messages.specs.Moves.{module_taken, module_replied}
-use Rattle.omega_network.specs.Networks.{NetworkLists, net_of, sizes_of}
+use Rattle.indexed_network.specs.omega_network.Networks.{NetworkLists, net_of, sizes_of}
 use Rattle.steps.specs.declared.step.Outcome.{Outcome}
 use Rattle.steps.specs.declared.step.Outcome.TheVariants.{Served, Stalled}
 
@@ -40,6 +41,16 @@ IsFree n m = (net_of n).replies n.k m ≡ []
 -- The module has the word that the first request at it refers to.
 abbrev pub HasItsWord : NetworkLists → (m : ℕ) → (memory : List ℕ) → Type 0
 HasItsWord n m memory = (x : Request) → request_at n m ≡ Some x → x.word / 2 ^ n.k < length memory
+
+-- Once the module has taken its request, nothing is on its way to this processor: no message is led by it, and no record has it
+-- as its second.
+pub record MayBeAnswered (n : NetworkLists) (m leader : ℕ) : Type 0 where
+  pub within : leader < 2 ^ n.k
+  pub unnamed : Unnamed (module_taken (sizes_of n) (net_of n) m) leader
+
+-- so it is with who leads the first request at the module
+abbrev pub MayReply : NetworkLists → (m : ℕ) → Type 0
+MayReply n m = (x : Request) → request_at n m ≡ Some x → MayBeAnswered n m x.leader
 
 -- The first request at the module is executed, if there is one.
 abbrev pub IsServed : (m : ℕ) → NetworkLists → List ℕ → Outcome → NetworkLists → List ℕ → Type 0

@@ -11,17 +11,18 @@ ghost use Rattle.flat_machine.specs.Flat.{is_lawful_register};
 ghost use Rattle.flat_machine.specs.Memory.{in_local, in_shared, number_at};
 ghost use Rattle.flat_machine.specs.Words.{part_of};
 ghost use Rattle.wire_sets.specs.Members.{members};
-ghost use Rattle.omega_network.specs.Networks.{net_of};
-ghost use Rattle.abstract_machine.specs.Steadiness.{Few};
-ghost use Rattle.machine_program.specs.Processors.{is_lawful_poke, open_at, port_at, word_at, sizes_of};
-ghost use Rattle.machine_program.specs.Steps.{outcome_of};
-ghost use Rattle.machine_program.specs.Turning.{told_of_down, told_of_up};
+ghost use Rattle.indexed_network.specs.omega_network.Networks.{net_of};
+ghost use Rattle.machine_opening.specs.abstract_machine.Steadiness.{Few};
+ghost use Rattle.machine_opening.specs.machine_program.Processors.{is_lawful_poke, open_at, port_at, word_at, sizes_of};
+ghost use Rattle.machine_opening.specs.machine_program.Steps.{outcome_of};
+ghost use Rattle.machine_opening.specs.machine_program.Turning.{told_of_down, told_of_up};
 ghost use Rattle.flat_machine.specs.State.{is_running};
 ghost use Rattle.machine.specs.Machines.{MachineLists, IsIdle, IsMachine, IsStep, machine_of};
 ghost use Rattle.machine.specs.Openings.{flat_state, IsOpening};
 ghost use Rattle.machine.specs.Poking.{IsPoked};
 ghost use Rattle.machine.specs.Readers.{local_byte_at, register_at, registers_at, shared_byte_at};
 ghost use Rattle.machine.specs.Seeing.{byte_seen};
+ghost use Rattle.machine.specs.Telling.{TellsAll};
 
 use crate::error::NewError;
 use crate::service::execute;
@@ -36,7 +37,7 @@ use local_memory::Code;
 use machine_opening::{new_modules, new_ports};
 use machine_ports::Port;
 use memory_module::Module;
-use messages::{DownMove, UpMove};
+use messages::{DownMove, UpMove, seconds_are_told};
 use omega_wires::module_of;
 use std::alloc::{AllocError, Global};
 use std::marker::Model;
@@ -283,9 +284,11 @@ impl Machine {
         ensures stalled { result ≡ Outcome.Stalled → (shown : ℕ → List Event) → machine_of self.new shown ≡ machine_of self.old shown }
         ensures poked { IsIdle self.old → (poke : Poke) → step ≡ Step.Poke poke → IsPoked self.old poke result self.new }
         ensures few { Few (sizes_of self.new.config) (net_of self.new.network) }
+        ensures told { TellsAll self.old step result }
         ensures sound { IsMachine self.new }
     {
         machine_is_sound(self);
+        seconds_are_told();
         let outcome = self.take(step);
         machine_is_sound(self);
         outcome
@@ -529,7 +532,7 @@ fn made(alloc: Global, image: Image, config: Config) -> Result<Machine, AllocErr
     let code = Code::new(alloc, code_bytes)?;
     let ports = new_ports(alloc, config, layout)?;
     let modules = new_modules(alloc, config, shared)?;
-    let network = IndexedNetwork::new(alloc, config.k, config.c, config.b)?;
+    let network = IndexedNetwork::new(alloc, config.k, config.c, config.b, config.r)?;
     Ok(Machine {
         config,
         image,

@@ -1,8 +1,8 @@
 //! What a module does with a request.
 
 ghost use Rattle.std.specs.Prelude.{◌≡◌, ◌<◌, ◌≤◌, ◌^◌, ◌/◌, Some, length};
-ghost use Rattle.omega_network.specs.Networks.{net_of, sizes_of};
-ghost use Rattle.machine.specs.Serving.{request_at, HasItsWord, IsExecuted, IsFree, IsKept, IsServed};
+ghost use Rattle.indexed_network.specs.omega_network.Networks.{net_of, sizes_of};
+ghost use Rattle.machine.specs.Serving.{request_at, HasItsWord, IsExecuted, IsFree, IsKept, IsServed, MayBeAnswered, MayReply};
 
 use indexed_network::IndexedNetwork;
 use memory_module::Module;
@@ -16,6 +16,7 @@ pub(crate) fn execute(memory: &mut Module, network: &mut IndexedNetwork, m: u8) 
     requires few { network.old.k ≤ 6 }
     requires there { m < 2 ^ network.old.k }
     requires place { HasItsWord network.old m memory.old }
+    requires leader { MayReply network.old m }
     ensures executed { IsFree network.old m → IsServed m network.old memory.old result network.new memory.new }
     ensures full { (IsFree network.old m → ⊥) → IsKept (net_of network.old) memory.old result (net_of network.new) memory.new }
     ensures sizes { sizes_of network.new ≡ sizes_of network.old }
@@ -37,6 +38,7 @@ fn serve(memory: &mut Module, network: &mut IndexedNetwork, m: u8, request: Requ
     requires there { m < 2 ^ network.old.k }
     requires first { request_at network.old m ≡ Some request }
     requires place { request.word / 2 ^ network.old.k < length memory.old }
+    requires leader { MayBeAnswered network.old m request.leader }
     requires free { IsFree network.old m }
     ensures executed { IsExecuted (sizes_of network.old) m (net_of network.old) memory.old (Some request) result (net_of network.new) memory.new }
     ensures sizes { sizes_of network.new ≡ sizes_of network.old }

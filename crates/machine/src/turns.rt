@@ -4,9 +4,10 @@ ghost use Rattle.std.specs.Prelude.{◌≡◌, ◌<◌, ◌^◌, [], true, false
 ghost use Rattle.flat_machine.specs.State.{is_running};
 ghost use Rattle.hart.specs.Deciding.{IsReference};
 ghost use Rattle.machine_ports.specs.Ports.{begun, turn};
-ghost use Rattle.omega_network.specs.Networks.{net_of, sizes_of};
+ghost use Rattle.messages.specs.Naming.{Names};
+ghost use Rattle.indexed_network.specs.omega_network.Networks.{net_of, sizes_of};
 ghost use Rattle.machine.specs.Serving.{reply_at};
-ghost use Rattle.machine_program.specs.Turning.{IsBegun, IsFinished, IsFinishedBy};
+ghost use Rattle.machine_opening.specs.machine_program.Turning.{IsBegun, IsFinished, IsFinishedBy};
 
 use indexed_network::IndexedNetwork;
 use local_memory::Code;
@@ -22,6 +23,7 @@ pub(crate) fn begin(port: &mut Port, network: &mut IndexedNetwork, code: &Code, 
     requires running { is_running port.old.core.state.status ≡ true }
     requires there { p < 2 ^ network.old.k }
     requires free { (net_of network.old).requests 0 p ≡ [] }
+    requires unnamed { Names (net_of network.old) p → ⊥ }
     ensures port { port.new ≡ (begun port.old code.now (turn port.old code.now)).1 }
     ensures begun { IsBegun p port.old code.now (turn port.old code.now) (net_of network.old) result (net_of network.new) }
     ensures sizes { sizes_of network.new ≡ sizes_of network.old }

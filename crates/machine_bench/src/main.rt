@@ -85,6 +85,7 @@ fn main(rt: HostRuntime) -> anyhow::Result<()> {
         k,
         c: 4,
         b: 4,
+        r: 1,
         shared_words: 1024,
     };
     let mut counts = Counts {

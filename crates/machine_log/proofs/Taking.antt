@@ -15,7 +15,7 @@ use Rattle.steps.specs.declared.step.Outcome.{Outcome}
 use Rattle.steps.specs.declared.step.Outcome.TheVariants.{Retired, Issued, Stopped, Moved, Combined, Served, Answered, Poked, Stalled}
 use Rattle.steps.specs.Answers.{is_stalled}
 use Rattle.machine_runs.specs.Machines.{MachineLists, machine_of, IsIdle, IsMachine, IsStep}
-use Rattle.machine_program.specs.Processors.{is_lawful_poke}
+use Rattle.machine_runs.specs.machine_program.Processors.{is_lawful_poke}
 use Rattle.machine_runs.specs.Runs.{flat_state, IsReplay}
 use Rattle.machine_runs.specs.Draining.{drain_step, GoesOn, drain_bound, drain_steps, IsDrained}
 use Rattle.machine_runs.specs.Whole.{steps_from, one_steps, IsOne, IsPoked, IsSent}

@@ -3,7 +3,7 @@
 ghost use Rattle.std.specs.Prelude.{◌≡◌, ◌≤◌, ◌<◌, ◌+◌, ◌*◌, ◌++◌, ℕ, List, [], length};
 ghost use Rattle.std.specs.Vec.{vec_capacity};
 ghost use Rattle.flat_machine.specs.declared.event.Event.{Event};
-ghost use Rattle.machine_program.specs.Steps.{outcome_of};
+ghost use Rattle.machine_runs.specs.machine_program.Steps.{outcome_of};
 ghost use Rattle.machine_runs.specs.Machines.{MachineLists, machine_of, IsIdle, IsStep};
 ghost use Rattle.machine_runs.specs.Draining.{drain_bound, drain_steps, IsDrained};
 ghost use Rattle.machine_runs.specs.Whole.{one_steps, IsOne, IsPoked, IsSent};

@@ -7,7 +7,7 @@ use Rattle.flat_machine.specs.Memory.{number_at}
 use Rattle.flat_machine.specs.State.{FlatState}
 use Rattle.elf_image.specs.declared.layout.Layout.{Layout}
 use Rattle.elf_image.specs.Openings.{opening}
-use Rattle.hart.specs.State.{new_core}
+use Rattle.machine_ports.specs.hart.State.{new_core}
 use Rattle.machine_ports.specs.Ports.{PortState}
 use Rattle.machine_program.specs.Processors.{setting_of, word_at}
 

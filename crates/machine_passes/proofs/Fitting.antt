@@ -8,16 +8,16 @@ use Rattle.std.proofs.Math.Seq.{take-length, drop-length}
 use Rattle.std.proofs.lemmas.Option.{slice_get_within, slice_get-get_or}
 use mathlib.Core.Logic.{dite}
 use native.Mathlib.Decide.{ℕ_discrete}
-use Rattle.machine_program.specs.Theory.{Machine}
-use Rattle.machine_program.specs.Processors.{Told}
-use Rattle.machine_program.specs.Steps.{outcome_of}
+use Rattle.machine.specs.machine_program.Theory.{Machine}
+use Rattle.machine.specs.machine_program.Processors.{Told}
+use Rattle.machine.specs.machine_program.Steps.{outcome_of}
 use Rattle.steps.specs.declared.step.Step.{Step}
 use Rattle.steps.specs.declared.step.Step.TheVariants as step
 use Rattle.steps.specs.declared.step.Outcome.{Outcome}
 use Rattle.steps.specs.declared.step.Outcome.TheVariants.{Retired, Issued, Stopped, Moved, Combined, Served, Answered, Poked, Stalled}
 use Rattle.steps.specs.Answers.{is_stalled}
-use Rattle.machine_runs.specs.Machines.{MachineLists, machine_of}
-use Rattle.machine_runs.specs.Runs.{all_after, answer_after}
+use Rattle.machine_log.specs.machine_runs.Machines.{MachineLists, machine_of}
+use Rattle.machine_log.specs.machine_runs.Runs.{all_after, answer_after}
 use Rattle.machine_log.specs.Logs.{entered, is_named}
 use Rattle.machine_passes.specs.declared.row.Notice.{Notice}
 use Rattle.machine_passes.specs.declared.row.Answer.{Answer}

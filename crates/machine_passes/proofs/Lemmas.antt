@@ -2,3 +2,5 @@
 
 -- What threads share crosses them.
 pub use Rattle.machine_passes.proofs.Crosses.{Shared-sync}
+-- Passes stay those of all processors, in order, where one becomes another one of the same processor.
+pub use Rattle.machine_passes.proofs.Fitting.{whole_set}

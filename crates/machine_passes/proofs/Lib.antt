@@ -6,3 +6,4 @@ pub mod Fitting
 pub mod Crosses
 pub mod Lemmas
 pub mod Stopping
+pub mod Stalling

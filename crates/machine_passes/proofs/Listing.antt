@@ -7,15 +7,15 @@ use Rattle.std.proofs.lemmas.List.{append-nil, map-append}
 use Rattle.flat_machine.specs.declared.config.Config.{Config}
 use Rattle.flat_machine.specs.declared.event.Event.{Event}
 use Rattle.flat_machine.specs.declared.event.Event.TheVariants as event
-use Rattle.messages.specs.Places.{put}
-use Rattle.machine_program.specs.Theory.{Machine}
-use Rattle.machine_program.specs.Processors.{Told}
-use Rattle.machine_program.specs.Steps.{outcome_of, after, with_shown}
+use Rattle.machine.specs.messages.Places.{put}
+use Rattle.machine.specs.machine_program.Theory.{Machine}
+use Rattle.machine.specs.machine_program.Processors.{Told}
+use Rattle.machine.specs.machine_program.Steps.{outcome_of, after, with_shown}
 use Rattle.steps.specs.declared.step.Step.{Step}
 use Rattle.steps.specs.declared.step.Step.TheVariants as step
 use Rattle.steps.specs.declared.step.Outcome.{Outcome}
 use Rattle.steps.specs.declared.step.Outcome.TheVariants.{Retired, Issued, Stopped, Moved, Combined, Served, Answered, Poked, Stalled}
-use Rattle.machine_runs.specs.Laws.{told_after}
+use Rattle.machine_log.specs.machine_runs.Laws.{told_after}
 use Rattle.machine_passes.specs.declared.row.Notice.{Notice}
 use Rattle.machine_passes.specs.Lists.{notices_of, given_to}
 

@@ -5,11 +5,11 @@ use Rattle.std.specs.List.{list_all}
 use Rattle.std.proofs.lemmas.List.{append-nil}
 use Rattle.std.proofs.lemmas.List.Folds.{list_all-append}
 use Rattle.flat_machine.specs.declared.config.Config.{Config}
-use Rattle.machine_program.specs.Theory.{Machine}
-use Rattle.machine_program.specs.Processors.{Told}
-use Rattle.machine_program.specs.Steps.{outcome_of, after}
+use Rattle.machine.specs.machine_program.Theory.{Machine}
+use Rattle.machine.specs.machine_program.Processors.{Told}
+use Rattle.machine.specs.machine_program.Steps.{outcome_of, after}
 use Rattle.steps.specs.declared.step.Step.{Step}
-use Rattle.machine_runs.specs.Runs.{all_after}
+use Rattle.machine_log.specs.machine_runs.Runs.{all_after}
 use Rattle.machine_passes.specs.Lists.{notices_of, given_to}
 
 pub all_after-append : (c : Config) (code : List ℕ) (M : Machine Told) (xs ys : List Step) →

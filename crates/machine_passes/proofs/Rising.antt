@@ -2,9 +2,9 @@
 use Rattle.std.proofs.Common.{ℕ, suc, Bool, true, false, List, [], ◌∷◌, ◌++◌, arith}
 use Rattle.std.specs.Prelude.{if◌then◌else◌}
 use Rattle.flat_machine.specs.declared.config.Config.{Config}
-use Rattle.machine_program.specs.Theory.{Machine}
-use Rattle.machine_program.specs.Processors.{Told}
-use Rattle.machine_program.specs.Steps.{outcome_of, after}
+use Rattle.machine.specs.machine_program.Theory.{Machine}
+use Rattle.machine.specs.machine_program.Processors.{Told}
+use Rattle.machine.specs.machine_program.Steps.{outcome_of, after}
 use Rattle.steps.specs.declared.step.Step.{Step}
 use Rattle.steps.specs.declared.step.Outcome.{Outcome}
 use Rattle.steps.specs.declared.step.Outcome.TheVariants.{Retired, Issued, Stopped, Moved, Combined, Served, Answered, Poked, Stalled}

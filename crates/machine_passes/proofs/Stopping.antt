@@ -9,25 +9,25 @@ use Rattle.flat_machine.specs.declared.event.Event.TheVariants as event
 use Rattle.flat_machine.specs.declared.event.Retired as retirement
 use Rattle.flat_machine.specs.State.{Processor, is_running, status_of}
 use Rattle.flat_machine.specs.Turns.{Turn, Retires, Reaches, Stops}
-use Rattle.hart.specs.Deciding.{after_reply}
-use Rattle.messages.specs.declared.message.Reply.{Reply}
-use Rattle.messages.specs.declared.message.Request.{Request}
-use Rattle.messages.specs.declared.moves.UpMove.{UpMove}
-use Rattle.messages.specs.declared.moves.UpMove.TheVariants as up
-use Rattle.messages.specs.declared.moves.DownMove.{DownMove}
-use Rattle.messages.specs.declared.moves.DownMove.TheVariants as down
-use Rattle.messages.specs.Moves.{moved_up, moved_down}
-use Rattle.messages.specs.Network.{Net, Sizes, wires}
-use Rattle.messages.proofs.Lemmas.{put_other, put_same}
-use Rattle.abstract_machine.specs.Program.{Kind, Rests, Alone, Refers}
-use Rattle.machine_program.specs.Theory as theory
-use Rattle.machine_program.specs.Processors.{Told, alone_by, kind_of, kind_of_turn, next, program, sizes_of}
-use Rattle.machine_program.specs.Steps.{outcome_of, after, answer_of, told_of_reply, told_of_turn}
+use Rattle.machine.specs.hart.Deciding.{after_reply}
+use Rattle.machine.specs.messages.declared.message.Reply.{Reply}
+use Rattle.machine.specs.messages.declared.message.Request.{Request}
+use Rattle.machine.specs.messages.declared.moves.UpMove.{UpMove}
+use Rattle.machine.specs.messages.declared.moves.UpMove.TheVariants as up
+use Rattle.machine.specs.messages.declared.moves.DownMove.{DownMove}
+use Rattle.machine.specs.messages.declared.moves.DownMove.TheVariants as down
+use Rattle.machine.specs.messages.Moves.{moved_up, moved_down}
+use Rattle.machine.specs.messages.Network.{Net, Sizes, wires}
+use Rattle.machine.proofs.Lemmas.messages.{put_other, put_same}
+use Rattle.machine.specs.abstract_machine.Program.{Kind, Rests, Alone, Refers}
+use Rattle.machine.specs.machine_program.Theory as theory
+use Rattle.machine.specs.machine_program.Processors.{Told, alone_by, kind_of, kind_of_turn, next, program, sizes_of}
+use Rattle.machine.specs.machine_program.Steps.{outcome_of, after, answer_of, told_of_reply, told_of_turn}
 use Rattle.steps.specs.declared.step.Step.{Step}
 use Rattle.steps.specs.declared.step.Step.TheVariants as step
 use Rattle.steps.specs.declared.step.Outcome.{Outcome}
 use Rattle.steps.specs.declared.step.Outcome.TheVariants as outcome
-use Rattle.machine_runs.specs.Runs.{all_after}
+use Rattle.machine_log.specs.machine_runs.Runs.{all_after}
 use Rattle.machine_passes.specs.declared.row.Notice.{Notice}
 use Rattle.machine_passes.specs.Lists.{given_to, is_poke, is_turn_of, no_poke, notices_of, shown_at}
 

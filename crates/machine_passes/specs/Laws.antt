@@ -3,11 +3,11 @@ use Rattle.std.specs.Prelude.{◌≡◌, ℕ, ◌+◌, true, false, List, [], �
 use Rattle.flat_machine.specs.declared.event.Cause.{Cause}
 use Rattle.flat_machine.specs.declared.event.Event.TheVariants.{Stopped}
 use Rattle.flat_machine.specs.declared.config.Config.{Config}
-use Rattle.machine_program.specs.Theory as theory
-use Rattle.machine_program.specs.Processors.{Told}
+use Rattle.machine.specs.machine_program.Theory as theory
+use Rattle.machine.specs.machine_program.Processors.{Told}
 use Rattle.steps.specs.declared.step.Step.{Step}
-use Rattle.machine_runs.specs.Runs.{all_after}
-use Rattle.machine_runs.specs.Laws.{told_after}
+use Rattle.machine_log.specs.machine_runs.Runs.{all_after}
+use Rattle.machine_log.specs.machine_runs.Laws.{told_after}
 use Rattle.machine_passes.specs.declared.row.Notice.{Notice}
 use Rattle.machine_passes.specs.Lists.{no_poke, notices_of, IsRising}
 

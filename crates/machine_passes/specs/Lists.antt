@@ -3,9 +3,9 @@ use Rattle.std.specs.Prelude.{ℕ, suc, ◌≤◌, ◌==◌, nat_lt, Bool, true,
 use Rattle.std.specs.List.{list_all}
 use Rattle.flat_machine.specs.declared.config.Config.{Config}
 use Rattle.flat_machine.specs.declared.event.Event.TheVariants as event
-use Rattle.machine_program.specs.Theory as theory
-use Rattle.machine_program.specs.Processors.{Told}
-use Rattle.machine_program.specs.Steps.{outcome_of, after}
+use Rattle.machine.specs.machine_program.Theory as theory
+use Rattle.machine.specs.machine_program.Processors.{Told}
+use Rattle.machine.specs.machine_program.Steps.{outcome_of, after}
 use Rattle.steps.specs.declared.step.Step.{Step}
 use Rattle.steps.specs.declared.step.Step.TheVariants as step
 use Rattle.steps.specs.declared.step.Outcome.{Outcome}
@@ -61,6 +61,18 @@ turns_below count steps = list_all (is_turn_below count) steps
 -- steps that a machine of this size has
 abbrev pub all_named : Config → List Step → Bool
 all_named c steps = list_all (is_named c) steps
+
+-- a turn that stops its processor
+abbrev pub is_stop : Outcome → Bool
+is_stop (Stopped cause) = true
+is_stop (Retired retired) = false
+is_stop Issued = false
+is_stop Moved = false
+is_stop (Combined first second) = false
+is_stop (Served leader) = false
+is_stop (Answered to) = false
+is_stop Poked = false
+is_stop Stalled = false
 
 -- ---- what a turn gives
 

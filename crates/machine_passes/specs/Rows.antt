@@ -1,12 +1,12 @@
 -- What the passes store, beside the steps of the log.
 use Rattle.std.specs.Prelude.{◌≡◌, ℕ, ◌+◌, ◌≤◌, true, false, List, [], ◌∷◌, ◌++◌, length, take, drop, Option, Some, None, slice_get, if◌then◌else◌}
-use Rattle.machine_program.specs.Theory as theory
-use Rattle.machine_program.specs.Processors.{Told}
+use Rattle.machine.specs.machine_program.Theory as theory
+use Rattle.machine.specs.machine_program.Processors.{Told}
 use Rattle.steps.specs.declared.step.Step.{Step}
 use Rattle.steps.specs.declared.step.Outcome.{Outcome}
 use Rattle.steps.specs.Answers.{is_stalled}
-use Rattle.machine_runs.specs.Machines.{MachineLists, machine_of}
-use Rattle.machine_runs.specs.Runs.{all_after, answer_after}
+use Rattle.machine_log.specs.machine_runs.Machines.{MachineLists, machine_of}
+use Rattle.machine_log.specs.machine_runs.Runs.{all_after, answer_after}
 use Rattle.machine_passes.specs.declared.row.Notice.{Notice}
 use Rattle.machine_passes.specs.declared.row.Answer.{Answer}
 use Rattle.machine_passes.specs.declared.row.Row.{Row}

@@ -1,13 +1,15 @@
 //! What lies under the lock.
 
-ghost use Rattle.std.specs.Prelude.{◌≡◌, ℕ, ◌≤◌, ◌↔◌, [], ◌∷◌, length, true, false, Some, Err, slice_get, IfOk, OnErr};
+ghost use Rattle.std.specs.Prelude.{◌≡◌, ℕ, ◌≤◌, ◌<◌, ◌+◌, ◌^◌, ◌↔◌, [], ◌∷◌, length, true, false, Some, Err, slice_get};
+ghost use Rattle.std.specs.Prelude.{IfOk, OnOk, OnErr, vec_len, vec_capacity};
 ghost use Rattle.agreed_rows.specs.Rows.{IsWritten};
 ghost use Rattle.machine_log.specs.Logs.{is_named};
 ghost use Rattle.machine_passes.specs.Lists.{is_net, is_poke, is_turn_of};
-ghost use Rattle.machine_passes.specs.Passes.{row_of, IsAgreed, IsTold};
+ghost use Rattle.machine_passes.specs.Passes.{row_of, IsAgreed, IsAnswered, IsTold};
 
 use crate::kinds::is_of_network;
 use crate::pass::Pass;
+use crate::quiet::is_quiet;
 use crate::row::Row;
 use crate::run::Run;
 use crate::stored::Stored;
@@ -35,12 +37,14 @@ impl<N: Run> Model for Desk<N> {
 }
 
 // Writes what the pass of the claim stores now. What it stored before was the keeper's row.
+#[inline(always)]
 fn note<N: Run>(keeper: &mut Keeper<Row, N>, claim: &mut Claim<Row, N>, stored: &Stored)
     ensures { (who : ℕ) (r : _) → claim.old ≡ (who, r) ∷ [] → IsWritten (row_of stored.now) keeper.old who r keeper.new claim.new }
 {
     note_as::<N, Brand>(keeper, claim, stored)
 }
 
+#[inline(always)]
 fn note_as<N: Run, M: Next<Row>>(
     keeper: &mut Keeper<Row, N>,
     claim: &mut Claim<Row, N>,
@@ -54,13 +58,46 @@ fn note_as<N: Run, M: Next<Row>>(
     keeper.write::<M>(claim)
 }
 
+// Takes a step that the machine has, enters it unless it stalls, and tells what a pass stores. Nothing is done for a step that has no
+// message: an outcome is made, and copied, as slowly as most steps are taken.
+#[inline(always)]
+fn take(
+    logged: &mut Logged,
+    stored: &mut Stored,
+    processor: u8,
+    step: Step,
+    place: u32,
+) -> Result<(), LogRefusal>
+    requires named { is_named logged.old.machine.config step ≡ true }
+    requires few { length logged.old.steps < 4194304 }
+    requires room { (p : ℕ) → is_turn_of p step ≡ true → vec_len stored.old.notices < vec_capacity stored.old.notices }
+    requires steps { stored.old.steps + 1 < 2 ^ 32 }
+    ensures answered { OnOk result (IsAnswered logged.old processor (row_of stored.old) step place logged.new (row_of stored.new)) }
+    ensures err { OnErr result ((stored.new ≡ stored.old) × (logged.new ≡ logged.old)) }
+    ensures full { result ≡ Err LogRefusal.Full → ⊥ }
+    ensures unnamed { result ≡ Err LogRefusal.Unnamed → ⊥ }
+{
+    if is_quiet(logged.machine(), step) {
+        stored.tell(processor, step, &Outcome::Stalled, place);
+        return Ok(());
+    }
+    match logged.step(step) {
+        Ok(outcome) => {
+            stored.tell(processor, step, &outcome, place);
+            Ok(())
+        }
+        Err(refusal) => Err(refusal),
+    }
+}
+
 impl<N: Run> Desk<N> {
     /// Takes a step that the machine has for a pass that the keeper has met, and tells the pass.
     ///
     /// # Errors
     ///
-    /// [`LogRefusal::Full`] where the log has [`MAX_STEPS`] steps, else [`LogRefusal::Memory`] where there is no memory for a
-    /// place in the pass or in the log.
+    /// [`LogRefusal::Full`] where the log has [`MAX_STEPS`] steps, else [`LogRefusal::Memory`] where a turn finds no room in the pass,
+    /// which is made before the desk is taken ([`Pass::make_room`]), or there is no memory for a place in the log.
+    #[inline(always)]
     fn answer(&mut self, pass: &mut Pass<N>, step: Step) -> Result<Outcome, LogRefusal>
         requires turn { (q : ℕ) → is_turn_of q step ≡ true → q ≡ pass.old.processor }
         requires poke { is_poke step ≡ false }
@@ -82,13 +119,12 @@ impl<N: Run> Desk<N> {
         if place >= MAX_STEPS {
             return Err(LogRefusal::Full);
         }
-        if stored.make_room(step).is_err() {
+        if !stored.has_room(step) {
             return Err(LogRefusal::Memory);
         }
-        let outcome = logged.step(step)?;
-        stored.tell(*processor, step, &outcome, place as u32);
+        take(logged, stored, *processor, step, place as u32)?;
         note(keeper, claim, stored);
-        Ok(outcome)
+        Ok(stored.outcome())
     }
 
     /// Takes a turn of the pass's processor.
@@ -96,6 +132,7 @@ impl<N: Run> Desk<N> {
     /// # Errors
     ///
     /// Those of [`Desk::answer`].
+    #[inline(always)]
     pub(crate) fn turn(&mut self, pass: &mut Pass<N>) -> Result<Outcome, LogRefusal>
         ensures told { IfOk result (λ o. IsTold (length N.first) pass.old (Step.Turn pass.old.processor) o pass.new) }
         ensures full { (result ≡ Err LogRefusal.Full) ↔ (4194304 ≤ length self.old.log.steps) }
@@ -114,6 +151,7 @@ impl<N: Run> Desk<N> {
     ///
     /// [`LogRefusal::Unnamed`] where it is none of the network, or names a place that the machine has not, else those of
     /// [`Desk::answer`].
+    #[inline(always)]
     pub(crate) fn net(&mut self, pass: &mut Pass<N>, step: Step) -> Result<Outcome, LogRefusal>
         ensures told { IfOk result (λ o. IsTold (length N.first) pass.old step o pass.new) }
         ensures unnamed { (result ≡ Err LogRefusal.Unnamed) ↔ (is_net N.opening.config step ≡ false) }
@@ -129,6 +167,7 @@ impl<N: Run> Desk<N> {
     }
 
     /// What the pass stores is the keeper's row.
+    #[inline(always)]
     pub(crate) fn meet(&mut self, pass: &mut Pass<N>)
         ensures same { (pass.new ≡ pass.old) × (self.new ≡ self.old) }
         ensures agrees { slice_get self.old.rows pass.old.processor ≡ Some pass.old.row }

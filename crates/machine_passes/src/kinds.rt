@@ -1,7 +1,7 @@
 //! Kinds of steps and outcomes.
 
 ghost use Rattle.std.specs.Prelude.{◌≡◌};
-ghost use Rattle.machine_passes.specs.Lists.{is_of_network, is_turn_of};
+ghost use Rattle.machine_passes.specs.Lists.{is_of_network, is_stop, is_turn_of};
 ghost use Rattle.machine_passes.specs.Rows.{counted};
 
 use steps::{Outcome, Step};
@@ -21,6 +21,13 @@ pub(crate) fn is_turn_of(processor: u8, step: Step) -> bool
         Step::Turn(turn) => turn == processor,
         _ => false,
     }
+}
+
+/// Whether a turn has stopped its processor.
+pub(crate) fn is_stop(outcome: &Outcome) -> bool
+    ensures { result ≡ is_stop outcome.now }
+{
+    matches!(outcome, Outcome::Stopped(_))
 }
 
 /// 1 for a step that is entered.

@@ -10,6 +10,7 @@ mod desk;
 mod kinds;
 mod laws;
 mod pass;
+mod quiet;
 mod row;
 mod run;
 mod shared;
@@ -20,4 +21,4 @@ pub use laws::{events_are_listed, lists_are_joined, places_rise, stopped_are_shu
 pub use pass::Pass;
 pub use row::{Answer, Notice, Row};
 pub use run::Run;
-pub use shared::Shared;
+pub use shared::{Round, Shared};

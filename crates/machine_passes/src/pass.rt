@@ -29,6 +29,13 @@ impl<N: Run> Model for Pass<N> {
 }
 
 impl<N: Run> Pass<N> {
+    /// Makes room for what a turn can give, if there is memory for it. So nothing is asked of the allocator for it under the lock.
+    pub(crate) fn make_room(&mut self)
+        ensures { self.new ≡ self.old }
+    {
+        self.stored.make_room();
+    }
+
     /// The number of its processor.
     pub fn processor(&self) -> u8
         ensures { result ≡ self.now.processor }

@@ -8,7 +8,7 @@ use std::marker::Brand;
 /// processors there are. Each call of a program picks them, in proofs alone.
 pub trait Run: Naming {
     ghost use Rattle.std.specs.Prelude.{ℕ, List};
-    ghost use Rattle.machine_runs.specs.Machines.{MachineLists};
+    ghost use Rattle.machine_log.specs.machine_runs.Machines.{MachineLists};
     ghost use Rattle.steps.specs.declared.step.Step.{Step};
 
     ghost opening: { MachineLists };

@@ -3,9 +3,10 @@
 ghost use Rattle.std.specs.Prelude.{◌≡◌, ◌≤◌, ◌^◌, ◌↔◌, length, false, Err, IfOk, IfErr, OnErr};
 ghost use Rattle.machine_passes.specs.Lists.{is_net};
 ghost use Rattle.machine_passes.specs.Rows.{Fits};
-ghost use Rattle.machine_passes.specs.Passes.{IsTold, IsWhole, TotalsAgree, new_passes, rows_of};
+ghost use Rattle.machine_passes.specs.Passes.{AreTold, IsTold, IsWhole, TotalsAgree, new_passes, rows_of};
 
 use crate::desk::Desk;
+use crate::kinds::is_stop;
 use crate::pass::Pass;
 use crate::row::Row;
 use crate::run::Run;
@@ -13,9 +14,28 @@ use crate::stored::Stored;
 use agreed_rows::{Keeper, Room};
 use machine_log::{LogRefusal, Logged};
 use std::alloc::Global;
+use std::hint::spin_loop;
 use std::marker::Brand;
-use std::sync::{Mutex, Wait};
+use std::sync::{Mutex, MutexGuard, Wait};
+use std::thread::yield_now;
 use steps::{Outcome, Step};
+
+/// How often a thread looks for the lock, before it lets other threads run. Between two looks it waits, and each time twice as long.
+const LOOKS: u32 = 4;
+
+/// How long it waits behind its first look, in turns of a loop that does nothing: one to ten microseconds, by the processor. The machine's memory takes
+/// longer to come from one processor of the host to another than a round does, so it is better that who has it goes through many.
+const WAIT: u32 = 256;
+
+/// How often it then lets others run, before it sleeps until it is called.
+const YIELDS: u32 = 16;
+
+/// What a turn answered, and then the step of the network that was asked for; none where the turn has stopped the processor.
+#[derive(Clone, Copy, Debug, PartialEq, Eq, Drop)]
+pub struct Round {
+    pub turn: Outcome,
+    pub net: Option<Result<Outcome, LogRefusal>>,
+}
 
 /// A logged machine that threads share. A call waits for the lock, and then takes one step.
 #[derive(Drop)]
@@ -77,7 +97,8 @@ impl<N: Run> Shared<N> {
         ensures err { OnErr result (pass.new ≡ pass.old) }
         ensures processor { pass.new.processor ≡ pass.old.processor }
     {
-        self.desk.lock(rt).turn(pass)
+        pass.make_room();
+        self.take(rt).turn(pass)
     }
 
     /// Takes one move of the network, or one service by a module, and enters it in the log unless it stalled. The answer is
@@ -99,7 +120,65 @@ impl<N: Run> Shared<N> {
         ensures err { OnErr result (pass.new ≡ pass.old) }
         ensures processor { pass.new.processor ≡ pass.old.processor }
     {
-        self.desk.lock(rt).net(pass, step)
+        self.take(rt).net(pass, step)
+    }
+
+    /// Takes a turn as [`Shared::turn`] does and then, unless that has stopped the processor, a step of the network as
+    /// [`Shared::net`] does, with no other thread's step between them.
+    ///
+    /// # Errors
+    ///
+    /// Those of [`Shared::turn`], where the turn is refused. Then no step is asked for.
+    #[inline(always)]
+    pub fn round<R: Wait>(
+        &self,
+        rt: &R,
+        pass: &mut Pass<N>,
+        step: Step,
+    ) -> Result<Round, LogRefusal>
+        ensures told { IfOk result (λ r. AreTold (length N.first) N.opening.config pass.old r.turn step r.net pass.new) }
+        ensures named { result ≡ Err LogRefusal.Unnamed → ⊥ }
+        ensures err { OnErr result (pass.new ≡ pass.old) }
+        ensures processor { pass.new.processor ≡ pass.old.processor }
+    {
+        pass.make_room();
+        let mut desk = self.take(rt);
+        let turn = desk.turn(pass)?;
+        if is_stop(&turn) {
+            return Ok(Round { turn, net: None });
+        }
+        let net = Some(desk.net(pass, step));
+        Ok(Round { turn, net })
+    }
+
+    /// The desk, once no other thread has it.
+    #[inline(always)]
+    fn take<R: Wait>(&self, rt: &R) -> MutexGuard<'_, Desk<N>> {
+        match self.desk.try_lock() {
+            Some(desk) => desk,
+            None => self.wait(rt),
+        }
+    }
+
+    /// The desk, which another thread has. It is soon given back, so a thread looks again before it sleeps: to be called costs more than a
+    /// step.
+    #[inline(never)]
+    fn wait<R: Wait>(&self, rt: &R) -> MutexGuard<'_, Desk<N>> {
+        for look in 0..LOOKS {
+            for _ in 0..WAIT << look {
+                spin_loop();
+            }
+            if let Some(desk) = self.desk.try_lock() {
+                return desk;
+            }
+        }
+        for _ in 0..YIELDS {
+            yield_now();
+            if let Some(desk) = self.desk.try_lock() {
+                return desk;
+            }
+        }
+        self.desk.lock(rt)
     }
 
     /// The logged machine, once all passes are back, in their order.

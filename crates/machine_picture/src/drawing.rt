@@ -2,7 +2,7 @@
 
 use crate::elements::{Point, push_box, push_line, push_text};
 use crate::layout::{END_WIDTH, ROW_HEIGHT, SWITCH_WIDTH, left_of, top_of, wire_into, wires_of};
-use crate::messages::{Kind, Place};
+use crate::places::{Kind, Place};
 use crate::queues::queue_text;
 use crate::scene::{Scene, Shown};
 use command_io::{push_status, push_word};
@@ -138,7 +138,7 @@ fn push_processor(
         x: PROCESSORS + 4,
         y: top + 15,
     };
-    let line = processor_text(alloc, scene, processor, shown)?;
+    let line = processor_text(alloc, processor, shown)?;
     push_text(text, at, END_WIDTH - 8, "processor", line.as_str())?;
     let place = Place {
         kind: Kind::Request,
@@ -153,19 +153,14 @@ fn push_processor(
 }
 
 /// What a processor does, where it stands, and the word to which it refers.
-fn processor_text(
-    alloc: Global,
-    scene: &Scene<'_>,
-    processor: u8,
-    shown: &Shown,
-) -> Result<String, AllocError> {
+fn processor_text(alloc: Global, processor: u8, shown: &Shown) -> Result<String, AllocError> {
     let mut line = String::new(alloc);
     write!(line, "{processor} ")?;
     push_status(alloc, &mut line, shown.status)?;
     line.push(' ')?;
     push_word(alloc, &mut line, shown.pc)?;
-    if let Some(message) = scene.messages.of(processor) {
-        write!(line, " word {}", message.word)?;
+    if let Some(word) = &shown.referred {
+        write!(line, " word {}", word.number)?;
     }
     Ok(line)
 }
@@ -277,12 +272,12 @@ fn module_text(alloc: Global, scene: &Scene<'_>, module: u8) -> Result<String, A
     let wires = u32::from(wires_of(scene.config.k));
     let mut line = String::new(alloc);
     write!(line, "module {module}")?;
-    for (p, shown) in scene.processors.iter().enumerate() {
-        if let Some(message) = scene.messages.of((p % 64) as u8)
-            && message.word % wires == u32::from(module)
+    for shown in scene.processors {
+        if let Some(word) = &shown.referred
+            && word.number % wires == u32::from(module)
         {
-            write!(line, " word {} = ", message.word)?;
-            push_word(alloc, &mut line, shown.value)?;
+            write!(line, " word {} = ", word.number)?;
+            push_word(alloc, &mut line, word.value)?;
             break;
         }
     }

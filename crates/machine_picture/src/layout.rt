@@ -1,6 +1,6 @@
 //! Where things stand in a picture, in its own units.
 
-ghost use Rattle.std.specs.Prelude.{◌<◌, ◌≤◌};
+ghost use Rattle.std.specs.Prelude.{◌≡◌, ◌<◌, ◌≤◌, ◌^◌};
 
 /// How wide the box of a switch is.
 pub const SWITCH_WIDTH: u32 = 150;
@@ -11,8 +11,9 @@ pub const END_WIDTH: u32 = 180;
 /// How high the row of a wire is.
 pub const ROW_HEIGHT: u32 = 48;
 
-/// How many wires a network of `k` stages has, with 0 to 6 of them.
+/// How many wires a network of `k` stages has, 0 to 6; as many as one of 6 has, where there are more.
 pub fn wires_of(k: u8) -> u8
+    ensures exact { k ≤ 6 → result ≡ 2 ^ k }
     ensures some { 0 < result }
     ensures few { result ≤ 64 }
 {

@@ -1,7 +1,7 @@
 //! The texts of messages.
 
 use crate::layout::wires_of;
-use crate::messages::{Kind, Messages, Place};
+use crate::places::{Kind, Place, Told, told_at};
 use crate::scene::Scene;
 use std::alloc::{AllocError, Global};
 use std::fmt::Write;
@@ -9,14 +9,12 @@ use std::fmt::Write;
 /// The messages of a place. The first of a queue stands where it goes out: a request to the right, a reply to the left.
 pub fn queue_text(alloc: Global, scene: &Scene<'_>, place: Place) -> Result<String, AllocError> {
     let mut text = String::new(alloc);
-    let mut then = 0;
-    for _ in 0..64_u8 {
-        let Some((leader, since)) = scene.messages.next(place, then) else {
+    for position in 0..64 {
+        let Some(told) = told_at(scene.network, place, position) else {
             break;
         };
-        let message = message_text(alloc, scene, place.kind, leader)?;
+        let message = told_text(alloc, scene, told)?;
         text = beside(alloc, place.kind, text, message)?;
-        then = since;
     }
     Ok(text)
 }
@@ -38,21 +36,16 @@ fn beside(alloc: Global, kind: Kind, text: String, message: String) -> Result<St
 }
 
 /// A message: who leads it, and, where that are more, for whom it stands. Of a record, into whose request whose was combined.
-fn message_text(
-    alloc: Global,
-    scene: &Scene<'_>,
-    kind: Kind,
-    leader: u8,
-) -> Result<String, AllocError> {
-    let mut text = String::new(alloc);
-    if kind == Kind::Record {
-        let into = scene
-            .messages
-            .of(leader)
-            .map_or(leader, |message| message.into);
-        write!(text, "{into}+{leader}")?;
-        return Ok(text);
+fn told_text(alloc: Global, scene: &Scene<'_>, told: Told) -> Result<String, AllocError> {
+    match told {
+        Told::Record(leader, second) => Ok(format!(in alloc; "{leader}+{second}")?),
+        Told::Message(leader) => message_text(alloc, scene, leader),
     }
+}
+
+/// The message of a leader.
+fn message_text(alloc: Global, scene: &Scene<'_>, leader: u8) -> Result<String, AllocError> {
+    let mut text = String::new(alloc);
     write!(text, "{leader}")?;
     let group = group_text(alloc, scene, leader)?;
     if group.as_str() != text.as_str() {
@@ -66,8 +59,8 @@ fn message_text(
 /// For whom the message of a leader stands.
 fn group_text(alloc: Global, scene: &Scene<'_>, leader: u8) -> Result<String, AllocError> {
     let mut text = String::new(alloc);
-    for p in 0..wires_of(scene.config.k) {
-        if scene.messages.leader_of(p) == leader {
+    for p in 0..wires_of(scene.network.stages()) {
+        if scene.leaders.of_processor(p) == leader {
             if !text.is_empty() {
                 text.push(' ')?;
             }

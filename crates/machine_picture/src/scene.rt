@@ -1,7 +1,16 @@
 //! What is drawn.
 
-use crate::messages::Messages;
+use crate::leaders::Leaders;
 use flat_machine::{Config, Status};
+use indexed_network::IndexedNetwork;
+
+/// A shared word.
+#[derive(Clone, Copy, Debug, Drop)]
+pub struct SharedWord {
+    pub number: u32,
+    /// Its value, as its module holds it.
+    pub value: u32,
+}
 
 /// What a machine shows of a processor.
 #[derive(Clone, Copy, Debug, Drop)]
@@ -10,18 +19,34 @@ pub struct Shown {
     pub pc: u32,
     /// What it is doing.
     pub status: Status,
-    /// The value of the shared word to which its open reference refers, as the word's module holds it.
-    pub value: u32,
+    /// The shared word to which its reference refers, where it has one open.
+    pub referred: Option<SharedWord>,
 }
 
 /// A machine behind some steps.
 #[derive(Drop)]
 pub struct Scene<'a> {
-    pub config: Config,
-    /// How many steps it has taken.
-    pub steps: usize,
-    /// Its processors.
-    pub processors: &'a [Shown],
-    /// Its messages.
-    pub messages: &'a Messages,
+    pub(crate) config: Config,
+    pub(crate) steps: usize,
+    pub(crate) processors: &'a [Shown],
+    pub(crate) network: &'a IndexedNetwork,
+    pub(crate) leaders: Leaders,
+}
+
+impl<'a> Scene<'a> {
+    /// A machine of this size that has taken so many steps, by its processors and its network.
+    pub fn new(
+        config: Config,
+        steps: usize,
+        processors: &'a [Shown],
+        network: &'a IndexedNetwork,
+    ) -> Self {
+        Scene {
+            config,
+            steps,
+            processors,
+            network,
+            leaders: Leaders::of(network),
+        }
+    }
 }

@@ -5,8 +5,8 @@ use Rattle.rv_table.specs.declared.insn.Insn.TheVariants.{Op, OpImm, Shift, Load
 use Rattle.rv_table.specs.declared.operation.UpperOp.TheVariants.{Lui, Auipc}
 use Rattle.phi_algebra.specs.declared.phi.Phi.{Phi}
 use Rattle.phi_algebra.specs.Functions.{IsInRange, apply}
-use Rattle.phi_instructions.specs.Table.{amo_phi, load_phi, store_phi}
-use Rattle.phi_instructions.proofs.Lemmas.{amo_small, store_meaning}
+use Rattle.hart.specs.phi_instructions.Table.{amo_phi, load_phi, store_phi}
+use Rattle.hart.proofs.Lemmas.phi_instructions.{amo_small, store_meaning}
 use Rattle.flat_machine.specs.declared.effect.Effect.{Effect}
 use Rattle.flat_machine.specs.declared.effect.Effect.TheVariants as does
 use Rattle.flat_machine.specs.declared.effect.Region.{Region}

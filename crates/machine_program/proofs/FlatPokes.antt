@@ -2,17 +2,17 @@
 use Rattle.std.proofs.Common.{◌≡◌, ℕ, ◌+◌, ◌-◌, ◌*◌, ◌/◌, ◌%◌, ◌^◌, ◌<◌, ◌≤◌, true, List, length, length-set, Option, Some, None, sym, ap, ◌∙◌, subst, arith}
 use Rattle.std.specs.Prelude.{slice_get, slice_index, slice_index_or, ◌&&◌, nat_lt, nat_le}
 use Rattle.std.proofs.lemmas.Bool.{ltb-true, leb-true, and_parts}
-use Rattle.flat_machine.specs.declared.config.Config.{Config}
-use Rattle.flat_machine.specs.declared.event.Event.{Event}
-use Rattle.flat_machine.specs.declared.poke.Poke.{Poke}
-use Rattle.flat_machine.specs.declared.poke.Poke.TheVariants as poke
-use Rattle.flat_machine.specs.declared.poke.Entry.TheVariants as entry
-use Rattle.flat_machine.specs.State.{Processor, FlatState}
-use Rattle.flat_machine.specs.Flat.{written, is_lawful, is_lawful_register, with_processor, with_poked_register, with_poked_byte}
-use Rattle.flat_machine.specs.Memory.{in_local, in_shared}
-use Rattle.flat_machine.specs.Laws.{WritesWords}
-use Rattle.flat_machine.specs.Words.{with_part}
-use Rattle.messages.specs.Places.{put}
+use Rattle.machine_ports.specs.flat_machine.declared.config.Config.{Config}
+use Rattle.machine_ports.specs.flat_machine.declared.event.Event.{Event}
+use Rattle.machine_ports.specs.flat_machine.declared.poke.Poke.{Poke}
+use Rattle.machine_ports.specs.flat_machine.declared.poke.Poke.TheVariants as poke
+use Rattle.machine_ports.specs.flat_machine.declared.poke.Entry.TheVariants as entry
+use Rattle.machine_ports.specs.flat_machine.State.{Processor, FlatState}
+use Rattle.machine_ports.specs.flat_machine.Flat.{written, is_lawful, is_lawful_register, with_processor, with_poked_register, with_poked_byte}
+use Rattle.machine_ports.specs.flat_machine.Memory.{in_local, in_shared}
+use Rattle.machine_ports.specs.flat_machine.Laws.{WritesWords}
+use Rattle.machine_ports.specs.flat_machine.Words.{with_part}
+use Rattle.abstract_machine.specs.messages.Places.{put}
 use Rattle.machine_program.specs.Processors.{Told, no_processor, changed, poked_processors, poked_words, is_lawful_poke}
 use Rattle.machine_program.specs.FlatSizes.{HasSize}
 use Rattle.machine_program.proofs.Reading.{read_set, found_within, told_changed}

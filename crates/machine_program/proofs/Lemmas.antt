@@ -16,3 +16,8 @@ pub use Rattle.machine_program.proofs.Standing.{at_its_module, refers, retold, s
 pub use Rattle.machine_program.proofs.TurnKinds.{reaches_of, runs_by}
 -- Turns are steps of the machine.
 pub use Rattle.machine_program.proofs.TurnSteps.{begins, finishes, rests, unnamed}
+-- Lemmas of lower crates, passed on to those above.
+pub use Rattle.machine_ports.proofs.Lemmas.flat_machine as flat_machine
+pub use Rattle.machine_ports.proofs.Lemmas as machine_ports
+pub use Rattle.abstract_machine.proofs.Lemmas.placement as placement
+pub use Rattle.abstract_machine.proofs.Lemmas as abstract_machine

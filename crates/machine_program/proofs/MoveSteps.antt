@@ -2,20 +2,20 @@
 use Rattle.std.proofs.Common.{◌≡◌, ℕ, suc, ◌%◌, ◌^◌, ◌<◌, ◌≤◌, Bool, true, false, List, [], ◌∷◌, ◌++◌, length, nat_lt, Option, Some, None, refl, sym, ap, ◌∙◌}
 use Rattle.std.proofs.Common.{subst, lt-ltb, le-ltb}
 use Rattle.std.specs.Prelude.{if◌then◌else◌}
-use Rattle.flat_machine.specs.declared.config.Config.{Config}
-use Rattle.flat_machine.specs.declared.event.Event.{Event}
+use Rattle.machine_ports.specs.flat_machine.declared.config.Config.{Config}
+use Rattle.machine_ports.specs.flat_machine.declared.event.Event.{Event}
 use Rattle.machine_ports.specs.Ports.{PortState}
-use Rattle.omega_wires.specs.Wires.{wire_after, wire_before}
-use Rattle.messages.specs.declared.message.Request.{Request}
-use Rattle.messages.specs.declared.message.Reply.{Reply}
-use Rattle.messages.specs.declared.message.Record.{Record}
-use Rattle.messages.specs.declared.moves.UpMove.{UpMove}
-use Rattle.messages.specs.declared.moves.UpMove.TheVariants as up
-use Rattle.messages.specs.declared.moves.DownMove.{DownMove}
-use Rattle.messages.specs.declared.moves.DownMove.TheVariants as down
-use Rattle.messages.specs.Network.{Sizes, Net, wires, put_requests, put_replies, put_records}
-use Rattle.messages.specs.Queues.{Combination, combination, unmarked, answers, records_of, records_but}
-use Rattle.messages.specs.Moves.{queued, accepted, up_from, moved_up, push_all, has_room, answered, answer, down_from, moved_down}
+use Rattle.abstract_machine.specs.omega_wires.Wires.{wire_after, wire_before}
+use Rattle.abstract_machine.specs.messages.declared.message.Request.{Request}
+use Rattle.abstract_machine.specs.messages.declared.message.Reply.{Reply}
+use Rattle.abstract_machine.specs.messages.declared.message.Record.{Record}
+use Rattle.abstract_machine.specs.messages.declared.moves.UpMove.{UpMove}
+use Rattle.abstract_machine.specs.messages.declared.moves.UpMove.TheVariants as up
+use Rattle.abstract_machine.specs.messages.declared.moves.DownMove.{DownMove}
+use Rattle.abstract_machine.specs.messages.declared.moves.DownMove.TheVariants as down
+use Rattle.abstract_machine.specs.messages.Network.{Sizes, Net, wires, put_requests, put_replies, put_records}
+use Rattle.abstract_machine.specs.messages.Queues.{Combination, combination, unmarked, answers, records_of, records_but}
+use Rattle.abstract_machine.specs.messages.Moves.{queued, accepted, up_from, moved_up, push_all, has_room, answered, answer, down_from, moved_down}
 use Rattle.abstract_machine.specs.Machine.{Machine}
 use Rattle.steps.specs.declared.step.Step.TheVariants as step
 use Rattle.steps.specs.declared.step.Outcome.TheVariants.{Moved, Combined, Answered, Stalled}

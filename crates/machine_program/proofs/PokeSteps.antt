@@ -1,17 +1,17 @@
 -- Writes from outside are steps of the machine.
 use Rattle.std.proofs.Common.{◌≡◌, ℕ, zero, suc, ◌-◌, ◌/◌, ◌%◌, ◌^◌, ◌<◌, Bool, true, false, List, [], length, refl, sym, ap, ap₂, ◌∙◌, lt-ltb, arith}
 use Rattle.std.specs.Prelude.{◌&&◌, not, slice_index, slice_index_or, slice_set, if◌then◌else◌}
-use Rattle.flat_machine.specs.declared.config.Config.{Config}
-use Rattle.flat_machine.specs.declared.event.Event.{Event}
-use Rattle.flat_machine.specs.declared.poke.Poke.{Poke}
-use Rattle.flat_machine.specs.declared.poke.Poke.TheVariants as poke
-use Rattle.flat_machine.specs.State.{Processor}
-use Rattle.flat_machine.specs.Words.{with_part}
-use Rattle.flat_machine.specs.Memory.{in_local, in_shared}
-use Rattle.flat_machine.specs.Flat.{is_lawful_register, with_poked_register, with_poked_byte}
+use Rattle.machine_ports.specs.flat_machine.declared.config.Config.{Config}
+use Rattle.machine_ports.specs.flat_machine.declared.event.Event.{Event}
+use Rattle.machine_ports.specs.flat_machine.declared.poke.Poke.{Poke}
+use Rattle.machine_ports.specs.flat_machine.declared.poke.Poke.TheVariants as poke
+use Rattle.machine_ports.specs.flat_machine.State.{Processor}
+use Rattle.machine_ports.specs.flat_machine.Words.{with_part}
+use Rattle.machine_ports.specs.flat_machine.Memory.{in_local, in_shared}
+use Rattle.machine_ports.specs.flat_machine.Flat.{is_lawful_register, with_poked_register, with_poked_byte}
 use Rattle.machine_ports.specs.Ports.{PortState, with_state}
-use Rattle.messages.specs.Places.{put}
-use Rattle.messages.specs.Network.{Net}
+use Rattle.abstract_machine.specs.messages.Places.{put}
+use Rattle.abstract_machine.specs.messages.Network.{Net}
 use Rattle.abstract_machine.specs.Machine.{Machine, poked, all_shut}
 use Rattle.abstract_machine.proofs.Lemmas.{all_shut_is}
 use Rattle.steps.specs.declared.step.Step.TheVariants as step

@@ -3,10 +3,10 @@ use Rattle.std.proofs.Common.{◌≡◌, ℕ, ◌<◌, Bool, List, length, get_o
 use Rattle.std.specs.Prelude.{slice_set}
 use Rattle.std.proofs.lemmas.Bool.{cases_eq}
 use mathlib.Core.Path.{fun_ext}
-use Rattle.flat_machine.specs.declared.event.Event.{Event}
+use Rattle.machine_ports.specs.flat_machine.declared.event.Event.{Event}
 use Rattle.machine_ports.specs.Ports.{PortState}
-use Rattle.messages.specs.Places.{put}
-use Rattle.messages.proofs.Lemmas.{put_other, put_same}
+use Rattle.abstract_machine.specs.messages.Places.{put}
+use Rattle.abstract_machine.proofs.Lemmas.messages.{put_other, put_same}
 use Rattle.machine_program.specs.Processors.{Told, port_at, told_at, open_at, no_port}
 
 -- what is written where it stood already

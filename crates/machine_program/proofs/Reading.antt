@@ -4,10 +4,10 @@ use Rattle.std.proofs.Common.{◌∙◌, arith}
 use Rattle.std.specs.Prelude.{slice_get, slice_set, slice_index_or}
 use Rattle.std.proofs.lemmas.Bool.{cases_eq}
 use mathlib.Core.Path.{fun_ext}
-use Rattle.flat_machine.specs.declared.event.Event.{Event}
-use Rattle.flat_machine.specs.State.{Processor}
-use Rattle.messages.specs.Places.{put}
-use Rattle.messages.proofs.Lemmas.{put_other, put_same}
+use Rattle.machine_ports.specs.flat_machine.declared.event.Event.{Event}
+use Rattle.machine_ports.specs.flat_machine.State.{Processor}
+use Rattle.abstract_machine.specs.messages.Places.{put}
+use Rattle.abstract_machine.proofs.Lemmas.messages.{put_other, put_same}
 use Rattle.machine_program.specs.Processors.{Told, no_processor}
 
 -- a list with a place written, read as a function

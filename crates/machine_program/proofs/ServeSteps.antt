@@ -5,18 +5,18 @@ use Rattle.std.specs.Prelude.{slice_index, slice_index_or, slice_set, ifâ—Œthenâ
 use Rattle.std.proofs.lemmas.Bool.{cases_eq}
 use Rattle.std.proofs.lemmas.Nat.{div-add-mod'}
 use mathlib.Core.Path.{fun_ext}
-use Rattle.flat_machine.specs.declared.config.Config.{Config}
-use Rattle.flat_machine.specs.declared.event.Event.{Event}
-use Rattle.phi_algebra.specs.declared.phi.Phi.{Phi}
-use Rattle.phi_algebra.specs.Functions.{apply}
+use Rattle.machine_ports.specs.flat_machine.declared.config.Config.{Config}
+use Rattle.machine_ports.specs.flat_machine.declared.event.Event.{Event}
+use Rattle.abstract_machine.specs.phi_algebra.declared.phi.Phi.{Phi}
+use Rattle.abstract_machine.specs.phi_algebra.Functions.{apply}
 use Rattle.machine_ports.specs.Ports.{PortState}
-use Rattle.messages.specs.declared.message.Request.{Request}
-use Rattle.messages.specs.declared.message.Reply.{Reply}
-use Rattle.messages.specs.Places.{put}
-use Rattle.messages.proofs.Lemmas.{put_other, put_same}
-use Rattle.messages.specs.Queues.{applied}
-use Rattle.messages.specs.Network.{Net}
-use Rattle.messages.specs.Moves.{module_taken, module_replied}
+use Rattle.abstract_machine.specs.messages.declared.message.Request.{Request}
+use Rattle.abstract_machine.specs.messages.declared.message.Reply.{Reply}
+use Rattle.abstract_machine.specs.messages.Places.{put}
+use Rattle.abstract_machine.proofs.Lemmas.messages.{put_other, put_same}
+use Rattle.abstract_machine.specs.messages.Queues.{applied}
+use Rattle.abstract_machine.specs.messages.Network.{Net}
+use Rattle.abstract_machine.specs.messages.Moves.{module_taken, module_replied}
 use Rattle.abstract_machine.specs.Machine.{Machine}
 use Rattle.steps.specs.declared.step.Step.TheVariants as step
 use Rattle.steps.specs.declared.step.Outcome.TheVariants.{Served, Stalled}

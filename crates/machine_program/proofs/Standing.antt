@@ -1,19 +1,19 @@
 -- What a steady machine has where: that its handlers find things as they need them, and that it stays steady.
 use Rattle.std.proofs.Common.{◌≡◌, ℕ, ◌%◌, ◌^◌, ◌<◌, Bool, true, false, List, [], ◌∷◌, ◌⊎◌, inl, inr, refl, sym, ap, ◌∙◌, subst}
 use Rattle.std.proofs.lemmas.Nat.{mod_below, pow_pos}
-use Rattle.flat_machine.specs.declared.config.Config.{Config}
-use Rattle.flat_machine.specs.declared.event.Event.{Event}
-use Rattle.flat_machine.specs.State.{is_running}
-use Rattle.flat_machine.specs.Turns.{Turn, turn_of}
-use Rattle.flat_machine.specs.Laws.{HasWords}
-use Rattle.hart.specs.Deciding.{IsReference}
-use Rattle.omega_wires.proofs.Lemmas.{path_end, path_zero}
+use Rattle.machine_ports.specs.flat_machine.declared.config.Config.{Config}
+use Rattle.machine_ports.specs.flat_machine.declared.event.Event.{Event}
+use Rattle.machine_ports.specs.flat_machine.State.{is_running}
+use Rattle.machine_ports.specs.flat_machine.Turns.{Turn, turn_of}
+use Rattle.machine_ports.specs.flat_machine.Laws.{HasWords}
+use Rattle.machine_ports.specs.hart.Deciding.{IsReference}
+use Rattle.abstract_machine.proofs.Lemmas.omega_wires.{path_end, path_zero}
 use Rattle.machine_ports.specs.Ports.{PortState, turn}
 use Rattle.machine_ports.proofs.Lemmas.{reference_means}
-use Rattle.messages.specs.declared.message.Request.{Request}
-use Rattle.messages.specs.Places.{In}
-use Rattle.messages.specs.Network.{Net}
-use Rattle.placement.specs.Roles.{Role, Idle, Asking}
+use Rattle.abstract_machine.specs.messages.declared.message.Request.{Request}
+use Rattle.abstract_machine.specs.messages.Places.{In}
+use Rattle.abstract_machine.specs.messages.Network.{Net}
+use Rattle.abstract_machine.specs.placement.Roles.{Role, Idle, Asking}
 use Rattle.abstract_machine.specs.Program.{Refers}
 use Rattle.abstract_machine.specs.Machine.{Machine}
 use Rattle.abstract_machine.specs.Steadiness.{Steady}

@@ -1,8 +1,8 @@
 -- What the kind of a processor's turn says of the turn.
 use Rattle.std.proofs.Common.{◌≡◌, ℕ, Bool, true, false, refl, sym}
-use Rattle.flat_machine.specs.declared.event.Retired as retirement
-use Rattle.flat_machine.specs.State.{Processor}
-use Rattle.flat_machine.specs.Turns.{Turn, Retires, Reaches, Stops}
+use Rattle.machine_ports.specs.flat_machine.declared.event.Retired as retirement
+use Rattle.machine_ports.specs.flat_machine.State.{Processor}
+use Rattle.machine_ports.specs.flat_machine.Turns.{Turn, Retires, Reaches, Stops}
 use Rattle.abstract_machine.specs.Program.{Kind, Rests, Refers}
 use Rattle.machine_program.specs.Processors.{kind_of, kind_of_turn}
 

@@ -2,17 +2,17 @@
 use Rattle.std.proofs.Common.{◌≡◌, ℕ, ◌^◌, ◌<◌, ◌≤◌, Bool, true, false, List, [], ◌∷◌, ◌++◌, length, Option, Some, refl, sym, ap, ap₂, ◌∙◌, subst, lt-ltb}
 use Rattle.std.proofs.Common.{le-ltb}
 use Rattle.std.specs.Prelude.{slice_get, slice_set, if◌then◌else◌}
-use Rattle.flat_machine.specs.declared.config.Config.{Config}
-use Rattle.flat_machine.specs.declared.event.Event.{Event}
-use Rattle.flat_machine.specs.declared.event.Event.TheVariants as event
-use Rattle.flat_machine.specs.State.{Processor, is_running, status_of}
-use Rattle.flat_machine.specs.Turns.{Turn, Retires, Reaches, Stops, turn_of}
-use Rattle.hart.specs.Deciding.{after_reply}
+use Rattle.machine_ports.specs.flat_machine.declared.config.Config.{Config}
+use Rattle.machine_ports.specs.flat_machine.declared.event.Event.{Event}
+use Rattle.machine_ports.specs.flat_machine.declared.event.Event.TheVariants as event
+use Rattle.machine_ports.specs.flat_machine.State.{Processor, is_running, status_of}
+use Rattle.machine_ports.specs.flat_machine.Turns.{Turn, Retires, Reaches, Stops, turn_of}
+use Rattle.machine_ports.specs.hart.Deciding.{after_reply}
 use Rattle.machine_ports.specs.Ports.{PortState, begun, turn, with_state, reference_phi}
-use Rattle.messages.specs.declared.message.Reply.{Reply}
-use Rattle.messages.specs.Places.{put}
-use Rattle.messages.specs.Network.{Net}
-use Rattle.messages.specs.Moves.{injected, port_taken}
+use Rattle.abstract_machine.specs.messages.declared.message.Reply.{Reply}
+use Rattle.abstract_machine.specs.messages.Places.{put}
+use Rattle.abstract_machine.specs.messages.Network.{Net}
+use Rattle.abstract_machine.specs.messages.Moves.{injected, port_taken}
 use Rattle.abstract_machine.specs.Program.{Alone, Refers}
 use Rattle.abstract_machine.specs.Machine.{Machine, retire_from, begin, turned}
 use Rattle.steps.specs.declared.step.Step.{Step}

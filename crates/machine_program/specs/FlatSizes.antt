@@ -1,8 +1,8 @@
 -- The flat machines of a size.
 use Rattle.std.specs.Prelude.{◌≡◌, ℕ, ◌^◌, List, length}
-use Rattle.flat_machine.specs.declared.config.Config.{Config}
-use Rattle.flat_machine.specs.State.{FlatState}
-use Rattle.flat_machine.specs.Laws.{IsInRange}
+use Rattle.machine_ports.specs.flat_machine.declared.config.Config.{Config}
+use Rattle.machine_ports.specs.flat_machine.State.{FlatState}
+use Rattle.machine_ports.specs.flat_machine.Laws.{IsInRange}
 
 -- a flat machine of this size, with this code
 pub record HasSize (c : Config) (code : List ℕ) (F : FlatState) : Type 0 where

@@ -2,29 +2,29 @@
 -- machine's definition; nothing is said of it a second time.
 use Rattle.std.specs.Prelude.{ℕ, ◌-◌, ◌/◌, ◌%◌, ◌^◌, Bool, false, ◌&&◌, List, [], ◌∷◌, ◌++◌, Option, Some, None, nat_lt, slice_index, slice_index_or}
 use Rattle.std.specs.Prelude.{if◌then◌else◌}
-use Rattle.flat_machine.specs.declared.config.Config.{Config}
-use Rattle.flat_machine.specs.declared.setting.Setting.{Setting}
-use Rattle.flat_machine.specs.declared.event.Status.TheVariants.{Halted}
-use Rattle.flat_machine.specs.declared.event.Event.{Event}
-use Rattle.flat_machine.specs.declared.event.Event.TheVariants as event
-use Rattle.flat_machine.specs.declared.event.Retired as retirement
-use Rattle.flat_machine.specs.declared.poke.Poke.{Poke}
-use Rattle.flat_machine.specs.declared.poke.Poke.TheVariants as poke
-use Rattle.flat_machine.specs.State.{Processor, is_running, status_of}
-use Rattle.flat_machine.specs.Words.{with_part}
-use Rattle.flat_machine.specs.Memory.{in_local, in_shared}
-use Rattle.flat_machine.specs.Turns.{Turn, Retires, Reaches, Stops, turn_of}
-use Rattle.flat_machine.specs.Flat.{is_lawful_register, with_poked_register, with_poked_byte}
-use Rattle.hart.specs.Deciding.{after_reply}
+use Rattle.machine_ports.specs.flat_machine.declared.config.Config.{Config}
+use Rattle.machine_ports.specs.flat_machine.declared.setting.Setting.{Setting}
+use Rattle.machine_ports.specs.flat_machine.declared.event.Status.TheVariants.{Halted}
+use Rattle.machine_ports.specs.flat_machine.declared.event.Event.{Event}
+use Rattle.machine_ports.specs.flat_machine.declared.event.Event.TheVariants as event
+use Rattle.machine_ports.specs.flat_machine.declared.event.Retired as retirement
+use Rattle.machine_ports.specs.flat_machine.declared.poke.Poke.{Poke}
+use Rattle.machine_ports.specs.flat_machine.declared.poke.Poke.TheVariants as poke
+use Rattle.machine_ports.specs.flat_machine.State.{Processor, is_running, status_of}
+use Rattle.machine_ports.specs.flat_machine.Words.{with_part}
+use Rattle.machine_ports.specs.flat_machine.Memory.{in_local, in_shared}
+use Rattle.machine_ports.specs.flat_machine.Turns.{Turn, Retires, Reaches, Stops, turn_of}
+use Rattle.machine_ports.specs.flat_machine.Flat.{is_lawful_register, with_poked_register, with_poked_byte}
+use Rattle.machine_ports.specs.hart.Deciding.{after_reply}
 use Rattle.machine_ports.specs.Ports.{PortState, reference_phi}
-use Rattle.messages.specs.Places.{put}
-use Rattle.messages.specs.Network.{Sizes}
+use Rattle.abstract_machine.specs.messages.Places.{put}
+use Rattle.abstract_machine.specs.messages.Network.{Sizes}
 use Rattle.abstract_machine.specs.Program.{Kind, Rests, Alone, Refers}
 use Rattle.machine_program.specs.Theory.{Program, entries}
 
--- the network of a machine of this size: an entry of a queue is combined once at most
+-- the network of a machine of this size
 abbrev pub sizes_of : Config → Sizes
-sizes_of c = record { k = c.k; c = c.c; b = c.b; r = 1 }
+sizes_of c = record { k = c.k; c = c.c; b = c.b; r = c.r }
 
 -- what processor p of a machine of this size knows of it
 abbrev pub setting_of : Config → ℕ → Setting

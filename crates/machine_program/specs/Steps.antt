@@ -1,20 +1,20 @@
 -- The machine step: what each step answers, and the machine after it.
 use Rattle.std.specs.Prelude.{◌≡◌, ℕ, List, [], ◌∷◌, ◌++◌, Option, Some, None}
-use Rattle.flat_machine.specs.declared.config.Config.{Config}
-use Rattle.flat_machine.specs.declared.event.Event.{Event}
-use Rattle.flat_machine.specs.declared.event.Event.TheVariants as event
-use Rattle.flat_machine.specs.declared.event.Retired as retirement
-use Rattle.flat_machine.specs.State.{Processor}
-use Rattle.flat_machine.specs.Turns.{Turn, Retires, Reaches, Stops}
-use Rattle.hart.specs.Deciding.{after_reply}
-use Rattle.messages.specs.Places.{put}
+use Rattle.machine_ports.specs.flat_machine.declared.config.Config.{Config}
+use Rattle.machine_ports.specs.flat_machine.declared.event.Event.{Event}
+use Rattle.machine_ports.specs.flat_machine.declared.event.Event.TheVariants as event
+use Rattle.machine_ports.specs.flat_machine.declared.event.Retired as retirement
+use Rattle.machine_ports.specs.flat_machine.State.{Processor}
+use Rattle.machine_ports.specs.flat_machine.Turns.{Turn, Retires, Reaches, Stops}
+use Rattle.machine_ports.specs.hart.Deciding.{after_reply}
+use Rattle.abstract_machine.specs.messages.Places.{put}
 use Rattle.machine_program.specs.Theory as theory
 use Rattle.steps.specs.declared.step.Step.{Step}
 use Rattle.steps.specs.declared.step.Step.TheVariants as step
 use Rattle.steps.specs.declared.step.Outcome.{Outcome}
 use Rattle.steps.specs.declared.step.Outcome.TheVariants.{Retired, Issued, Stopped, Moved, Combined, Served, Answered, Poked, Stalled}
 use Rattle.machine_ports.specs.Ports.{PortState}
-use Rattle.messages.specs.Network.{Net}
+use Rattle.abstract_machine.specs.messages.Network.{Net}
 use Rattle.machine_program.specs.Processors.{Told, sizes_of, next, program, told_at, open_at, word_at}
 
 -- a step, as the theory names it

@@ -1,13 +1,13 @@
 -- The words of the theory, for the pokes and the entries of the flat machine.
 use Rattle.std.specs.Prelude.{ℕ, List, Option, refl}
-use Rattle.messages.specs.declared.message.Request.{Request}
-use Rattle.messages.specs.declared.message.Reply.{Reply}
-use Rattle.messages.specs.declared.moves.UpMove.{UpMove}
-use Rattle.messages.specs.declared.moves.DownMove.{DownMove}
-use Rattle.messages.specs.Network.{Sizes, Net}
-use Rattle.flat_machine.specs.declared.poke.Poke as pokes
-use Rattle.flat_machine.specs.declared.poke.Entry.{Entry}
-use Rattle.flat_machine.specs.declared.poke.Entry.TheVariants as entry
+use Rattle.abstract_machine.specs.messages.declared.message.Request.{Request}
+use Rattle.abstract_machine.specs.messages.declared.message.Reply.{Reply}
+use Rattle.abstract_machine.specs.messages.declared.moves.UpMove.{UpMove}
+use Rattle.abstract_machine.specs.messages.declared.moves.DownMove.{DownMove}
+use Rattle.abstract_machine.specs.messages.Network.{Sizes, Net}
+use Rattle.machine_ports.specs.flat_machine.declared.poke.Poke as pokes
+use Rattle.machine_ports.specs.flat_machine.declared.poke.Entry.{Entry}
+use Rattle.machine_ports.specs.flat_machine.declared.poke.Entry.TheVariants as entry
 use Rattle.abstract_machine.specs.Program as program
 use Rattle.abstract_machine.specs.Program.{Content, TurnOf, PokeOf, Entries}
 use Rattle.abstract_machine.specs.Machine as machine

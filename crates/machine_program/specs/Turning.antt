@@ -1,17 +1,17 @@
 -- What a port does in a turn, with the network, and what moves answer.
 use Rattle.std.specs.Prelude.{◌≡◌, ℕ, ◌<◌, ◌^◌, false, List, Option, Some, None}
-use Rattle.flat_machine.specs.declared.event.Retired as retirement
-use Rattle.flat_machine.specs.State.{Processor}
-use Rattle.flat_machine.specs.Turns.{Turn, Retires, Reaches, Stops}
-use Rattle.hart.specs.Deciding.{after_reply}
+use Rattle.machine_ports.specs.flat_machine.declared.event.Retired as retirement
+use Rattle.machine_ports.specs.flat_machine.State.{Processor}
+use Rattle.machine_ports.specs.flat_machine.Turns.{Turn, Retires, Reaches, Stops}
+use Rattle.machine_ports.specs.hart.Deciding.{after_reply}
 use Rattle.machine_ports.specs.Ports.{PortState, reference_phi}
-use Rattle.messages.specs.declared.message.Reply.{Reply}
-use Rattle.messages.specs.declared.moves.UpMove.{UpMove}
-use Rattle.messages.specs.declared.moves.UpMove.TheVariants as up
-use Rattle.messages.specs.declared.moves.DownMove.{DownMove}
-use Rattle.messages.specs.declared.moves.DownMove.TheVariants as down
-use Rattle.messages.specs.Network.{Net}
-use Rattle.messages.specs.Moves.{injected, port_taken}
+use Rattle.abstract_machine.specs.messages.declared.message.Reply.{Reply}
+use Rattle.abstract_machine.specs.messages.declared.moves.UpMove.{UpMove}
+use Rattle.abstract_machine.specs.messages.declared.moves.UpMove.TheVariants as up
+use Rattle.abstract_machine.specs.messages.declared.moves.DownMove.{DownMove}
+use Rattle.abstract_machine.specs.messages.declared.moves.DownMove.TheVariants as down
+use Rattle.abstract_machine.specs.messages.Network.{Net}
+use Rattle.abstract_machine.specs.messages.Moves.{injected, port_taken}
 use Rattle.steps.specs.declared.step.Outcome.{Outcome}
 use Rattle.steps.specs.declared.step.Outcome.TheVariants.{Retired, Issued, Stopped, Moved, Combined, Answered, Stalled}
 

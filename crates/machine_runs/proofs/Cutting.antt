@@ -3,10 +3,10 @@
 use Rattle.std.proofs.Common.{◌≡◌, ℕ, List, [], ◌∷◌, ◌++◌, refl, sym, ap, ◌∙◌, subst}
 use Rattle.flat_machine.specs.declared.config.Config.{Config}
 use Rattle.flat_machine.specs.declared.event.Event.{Event}
-use Rattle.abstract_machine.specs.Machine.{Machine}
+use Rattle.machine_theorem.specs.abstract_machine.Machine.{Machine}
 use Rattle.steps.specs.declared.step.Step.{Step}
-use Rattle.machine_program.specs.Processors.{Told}
-use Rattle.machine_program.specs.Steps.{outcome_of, after, machine_of_parts}
+use Rattle.machine_theorem.specs.machine_program.Processors.{Told}
+use Rattle.machine_theorem.specs.machine_program.Steps.{outcome_of, after, machine_of_parts}
 use Rattle.machine.specs.Machines.{MachineLists, machine_of}
 use Rattle.machine_runs.specs.Runs.{all_after, events_of, NoneStalls, IsRun, IsReplay}
 use Rattle.machine_runs.proofs.Retelling.{after_alike, outcome_same}

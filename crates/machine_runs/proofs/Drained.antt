@@ -2,17 +2,18 @@
 use Rattle.std.proofs.Common.{◌≡◌, ℕ, zero, suc, ◌+◌, ◌^◌, ◌<◌, ◌≤◌, List, [], ◌∷◌, ◌++◌, length, Option, Some, None, refl, sym, ap, ap₂, ◌∙◌, subst, arith}
 use Rattle.std.specs.Prelude.{map, IfSome}
 use Rattle.std.proofs.lemmas.List.{length-append, length-map, append-nil, append_assoc}
-use Rattle.omega_network.specs.Networks.{net_of}
-use Rattle.machine_program.specs.Theory as theory
-use Rattle.abstract_machine.specs.Machine.{Turn, Serve}
-use Rattle.abstract_machine.specs.Steadiness.{total}
-use Rattle.abstract_machine.specs.Draining.{first_wire, or_else, down_step, up_step, AreDistances, DrainIs}
-use Rattle.abstract_machine.specs.Draining as draining
-use Rattle.abstract_machine.proofs.Lemmas.{bound as distances_bound, distances_are, drain_is, drain_is_short, drained, idle_names_none, steady_after}
+use Rattle.indexed_network.specs.omega_network.Networks.{net_of}
+use Rattle.machine_theorem.specs.machine_program.Theory as theory
+use Rattle.machine_theorem.specs.abstract_machine.Machine.{Turn, Serve}
+use Rattle.machine_theorem.specs.abstract_machine.Steadiness.{total}
+use Rattle.machine_theorem.specs.abstract_machine.Draining.{first_wire, or_else, down_step, up_step, AreDistances, DrainIs}
+use Rattle.machine_theorem.specs.abstract_machine.Draining as draining
+use Rattle.machine_theorem.proofs.Lemmas.abstract_machine.{bound as distances_bound, distances_are, drain_is, drain_is_short, drained, idle_names_none}
+use Rattle.machine_theorem.proofs.Lemmas.abstract_machine.{steady_after}
 use Rattle.steps.specs.declared.step.Step.{Step}
 use Rattle.steps.specs.declared.step.Outcome.{Outcome}
-use Rattle.machine_program.specs.Processors.{Told, sizes_of, program}
-use Rattle.machine_program.specs.Steps.{named, outcome_of, after, machine_of_parts}
+use Rattle.machine_theorem.specs.machine_program.Processors.{Told, sizes_of, program}
+use Rattle.machine_theorem.specs.machine_program.Steps.{named, outcome_of, after, machine_of_parts}
 use Rattle.machine.specs.Machines.{MachineLists, machine_of, IsIdle, IsMachine, IsStep}
 use Rattle.machine_runs.specs.Runs.{all_after, events_of, IsRun}
 use Rattle.machine_runs.specs.Draining.{step_of, some_step, step_in, network_step, drain_step, GoesOn, drain_bound, first_steps, drain_steps, IsDrained}
@@ -42,8 +43,8 @@ module _ (m : MachineLists) (is : IsMachine m) where
   unfolding machine_of_parts
   step_is = ap (λ z. step_in z (net_of m.network)) is.sizes
 
-  room : 1 < m.config.c
-  room = is.limits.some_capacity
+  room : m.config.r < m.config.c
+  room = is.limits.answers
 
   -- the step that is named does something, and lowers the sum of the distances
   pub goes_on : (s : Step) → drain_step m ≡ Some s → GoesOn m s

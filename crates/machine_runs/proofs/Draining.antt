@@ -3,11 +3,11 @@ use Rattle.std.proofs.Common.{◌≡◌, ℕ, zero, suc, ◌+◌, ◌^◌, ◌<�
 use Rattle.std.proofs.Common.{ap, ◌∙◌, subst, arith}
 use Rattle.std.proofs.lemmas.Bool.{cases_lt, true≢false}
 use Rattle.std.specs.Prelude.{IfSome, slice_get, if◌then◌else◌}
-use Rattle.wire_sets.specs.Members.{HasNoneIn, IsFirst, members}
-use Rattle.messages.specs.Network.{Sizes, Net, wires}
-use Rattle.abstract_machine.specs.Machine.{Up, Down}
-use Rattle.abstract_machine.specs.Draining.{least, greatest, is_any, some_wire, first_wire, down_step, up_step}
-use Rattle.abstract_machine.proofs.Lemmas.{LeastIs, least_is}
+use Rattle.indexed_network.specs.wire_sets.Members.{HasNoneIn, IsFirst, members}
+use Rattle.machine_theorem.specs.messages.Network.{Sizes, Net, wires}
+use Rattle.machine_theorem.specs.abstract_machine.Machine.{Up, Down}
+use Rattle.machine_theorem.specs.abstract_machine.Draining.{least, greatest, is_any, some_wire, first_wire, down_step, up_step}
+use Rattle.machine_theorem.proofs.Lemmas.abstract_machine.{LeastIs, least_is}
 use Rattle.steps.specs.declared.step.Step.TheVariants as step
 use Rattle.machine_runs.specs.Draining.{some_step}
 use Rattle.machine.proofs.Lemmas.{count_small}

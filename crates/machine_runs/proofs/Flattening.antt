@@ -1,9 +1,9 @@
 -- A machine in which no reference is open is the flat machine of its processors, words and code.
 use Rattle.std.proofs.Common.{◌≡◌, ℕ, [], sym, ap, ap₂}
 use mathlib.Core.Path.{fun_ext}
-use Rattle.serialization.specs.Order.{flat_of}
-use Rattle.machine_program.specs.Processors.{Told}
-use Rattle.machine_program.specs.Steps.{machine_of_parts}
+use Rattle.machine_theorem.specs.serialization.Order.{flat_of}
+use Rattle.machine_theorem.specs.machine_program.Processors.{Told}
+use Rattle.machine_theorem.specs.machine_program.Steps.{machine_of_parts}
 use Rattle.machine_theorem.specs.Flatness.{read_flat}
 use Rattle.machine_theorem.specs.Explained.{Opens}
 use Rattle.machine.specs.Machines.{MachineLists, machine_of, IsIdle, IsMachine}

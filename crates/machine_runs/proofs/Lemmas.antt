@@ -13,3 +13,9 @@ pub use Rattle.machine_runs.proofs.Replaying.{outcome_there, replay_begins, repl
 pub use Rattle.machine_runs.proofs.Running.{all_after_more, passes_machine, serialized, shown_is}
 -- One instruction at a time: the flat machine's step.
 pub use Rattle.machine_runs.proofs.Whole.{IsGoingHome, few_moves, home_begins, home_goes_on, home_in_time, home_now, sent_is_short, steps_back, turn_whole}
+-- Lemmas of lower crates, passed on to those above.
+pub use Rattle.machine_theorem.proofs.Lemmas.messages as messages
+pub use Rattle.machine_theorem.proofs.Lemmas.abstract_machine as abstract_machine
+pub use Rattle.machine_theorem.proofs.Lemmas.machine_program as machine_program
+pub use Rattle.machine_theorem.proofs.Lemmas as machine_theorem
+pub use Rattle.machine.proofs.Lemmas as machine

@@ -4,28 +4,30 @@ use Rattle.std.proofs.Common.{refl, sym, ap, ap₂, ◌∙◌, subst, lt-ltb}
 use Rattle.std.specs.Prelude.{if◌then◌else◌}
 use Rattle.std.proofs.lemmas.Bool.{cases_eq, cases_Bool, true≢false}
 use Rattle.std.proofs.lemmas.List.{append-nil}
-use Rattle.messages.specs.declared.message.Request.{Request}
-use Rattle.messages.specs.declared.message.Reply.{Reply}
-use Rattle.messages.specs.declared.message.Record.{Record}
-use Rattle.messages.specs.declared.moves.UpMove.TheVariants as up
-use Rattle.messages.specs.declared.moves.DownMove.TheVariants as down
-use Rattle.messages.specs.Places.{put, put2, In}
-use Rattle.messages.specs.Queues.{Combination, combination, unmarked, records_of, records_but, answers}
-use Rattle.messages.specs.Network.{Sizes, wires, Net, put_requests, put_records, put_replies}
-use Rattle.messages.specs.Moves.{accepted, up_from, moved_up, push_all, has_room, answered, down_from, moved_down, injected, module_taken, module_replied}
-use Rattle.messages.specs.Moves.{port_taken}
-use Rattle.omega_wires.specs.Wires.{wire_after, wire_before}
-use Rattle.omega_wires.proofs.Lemmas.{path_zero}
-use Rattle.placement.specs.Roles.{Role, Idle, Asking, Told, Unnamed}
-use Rattle.messages.proofs.Lemmas.{In-append_right, In-put2, put_other, put_same}
-use Rattle.placement.proofs.Lemmas.{Joins, combination_joins, pop_request_unnamed}
-use Rattle.abstract_machine.specs.Program.{Kind, Rests, Alone, Refers, word_of, path_of}
-use Rattle.abstract_machine.specs.Machine.{Machine, Turn, Up, Serve, Down, Poke, retire_from, issue, advance, begin, turned, step, IsIdle}
-use Rattle.abstract_machine.specs.Steadiness.{Steady}
-use Rattle.abstract_machine.specs.Draining.{least, greatest, is_any, some_wire, first_wire, or_else, down_step, up_step, drain_step}
-use Rattle.abstract_machine.proofs.Lemmas.{LeastIs, goes_step, idle_names_none, least_is}
-use Rattle.serialization.specs.Order.{passed_by, pass, from_machine}
-use Rattle.machine_program.specs.Theory.{Program, Step, Result, stalled, went_up, went_down, serve_from}
+use Rattle.machine_theorem.specs.messages.declared.message.Request.{Request}
+use Rattle.machine_theorem.specs.messages.declared.message.Reply.{Reply}
+use Rattle.machine_theorem.specs.messages.declared.message.Record.{Record}
+use Rattle.machine_theorem.specs.messages.declared.moves.UpMove.TheVariants as up
+use Rattle.machine_theorem.specs.messages.declared.moves.DownMove.TheVariants as down
+use Rattle.machine_theorem.specs.messages.Places.{put, put2, In}
+use Rattle.machine_theorem.specs.messages.Queues.{Combination, combination, unmarked, records_of, records_but, answers}
+use Rattle.machine_theorem.specs.messages.Network.{Sizes, wires, Net, put_requests, put_records, put_replies}
+use Rattle.machine_theorem.specs.messages.Naming.{Unnamed}
+use Rattle.machine_theorem.specs.messages.Moves.{accepted, up_from, moved_up, push_all, has_room, answered, down_from, moved_down, injected, module_taken}
+use Rattle.machine_theorem.specs.messages.Moves.{module_replied}
+use Rattle.machine_theorem.specs.messages.Moves.{port_taken}
+use Rattle.indexed_network.specs.omega_wires.Wires.{wire_after, wire_before}
+use Rattle.indexed_network.proofs.Lemmas.omega_wires.{path_zero}
+use Rattle.machine_theorem.specs.placement.Roles.{Role, Idle, Asking, Told}
+use Rattle.machine_theorem.proofs.Lemmas.messages.{In-append_right, In-put2, Joins, combination_joins, put_other, put_same}
+use Rattle.machine_theorem.proofs.Lemmas.placement.{pop_request_unnamed}
+use Rattle.machine_theorem.specs.abstract_machine.Program.{Kind, Rests, Alone, Refers, word_of, path_of}
+use Rattle.machine_theorem.specs.abstract_machine.Machine.{Machine, Turn, Up, Serve, Down, Poke, retire_from, issue, advance, begin, turned, step, IsIdle}
+use Rattle.machine_theorem.specs.abstract_machine.Steadiness.{Steady}
+use Rattle.machine_theorem.specs.abstract_machine.Draining.{least, greatest, is_any, some_wire, first_wire, or_else, down_step, up_step, drain_step}
+use Rattle.machine_theorem.proofs.Lemmas.abstract_machine.{LeastIs, goes_step, idle_names_none, least_is}
+use Rattle.machine_theorem.specs.serialization.Order.{passed_by, pass, from_machine}
+use Rattle.machine_theorem.specs.machine_program.Theory.{Program, Step, Result, stalled, went_up, went_down, serve_from}
 use Rattle.machine_theorem.specs.Order.{Passed}
 
 -- ---- the step that a drain takes next

@@ -12,32 +12,32 @@ use Rattle.flat_machine.specs.declared.event.Event.{Event}
 use Rattle.flat_machine.specs.declared.poke.Entry.{Entry}
 use Rattle.flat_machine.specs.State.{is_running}
 use Rattle.flat_machine.specs.Turns.{Turn, Retires, Reaches, Stops}
-use Rattle.hart.specs.Deciding.{after_reply}
+use Rattle.machine_theorem.specs.hart.Deciding.{after_reply}
 use Rattle.arrayvec.specs.ArrayVec.{ArrayVec}
-use Rattle.messages.specs.declared.message.Request.{Request}
-use Rattle.messages.specs.declared.message.Reply.{Reply}
-use Rattle.messages.specs.declared.moves.UpMove.{UpMove}
-use Rattle.messages.specs.declared.moves.UpMove.TheVariants as up
-use Rattle.messages.specs.declared.moves.DownMove.{DownMove}
-use Rattle.messages.specs.declared.moves.DownMove.TheVariants as down
-use Rattle.messages.specs.Places.{In, Distinct}
-use Rattle.messages.specs.Network.{Sizes, Net}
-use Rattle.messages.specs.Moves.{moved_up, moved_down}
-use Rattle.abstract_machine.specs.Program.{Kind, Rests, Alone, Refers}
-use Rattle.machine_program.specs.Theory.{Program, Result, stalled, went_up, went_down, serve_from}
+use Rattle.machine_theorem.specs.messages.declared.message.Request.{Request}
+use Rattle.machine_theorem.specs.messages.declared.message.Reply.{Reply}
+use Rattle.machine_theorem.specs.messages.declared.moves.UpMove.{UpMove}
+use Rattle.machine_theorem.specs.messages.declared.moves.UpMove.TheVariants as up
+use Rattle.machine_theorem.specs.messages.declared.moves.DownMove.{DownMove}
+use Rattle.machine_theorem.specs.messages.declared.moves.DownMove.TheVariants as down
+use Rattle.machine_theorem.specs.messages.Places.{In, Distinct}
+use Rattle.machine_theorem.specs.messages.Network.{Sizes, Net}
+use Rattle.machine_theorem.specs.messages.Moves.{moved_up, moved_down}
+use Rattle.machine_theorem.specs.abstract_machine.Program.{Kind, Rests, Alone, Refers}
+use Rattle.machine_theorem.specs.machine_program.Theory.{Program, Result, stalled, went_up, went_down, serve_from}
 use Rattle.machine_theorem.specs.Order.{segment, Passed, group_after}
-use Rattle.machine_program.specs.Theory as theory
-use Rattle.abstract_machine.specs.Machine.{Machine, retire_from, begin, turned, poked, all_shut}
-use Rattle.serialization.specs.Order.{pass, passes, from_machine, ran}
-use Rattle.serialization.specs.Serialization.{Begins}
-use Rattle.serialization.proofs.Lemmas.{follows}
+use Rattle.machine_theorem.specs.machine_program.Theory as theory
+use Rattle.machine_theorem.specs.abstract_machine.Machine.{Machine, retire_from, begin, turned, poked, all_shut}
+use Rattle.machine_theorem.specs.serialization.Order.{pass, passes, from_machine, ran}
+use Rattle.machine_theorem.specs.serialization.Serialization.{Begins}
+use Rattle.machine_theorem.proofs.Lemmas.serialization.{follows}
 use Rattle.steps.specs.declared.step.Step.{Step}
 use Rattle.steps.specs.declared.step.Step.TheVariants as step
 use Rattle.steps.specs.declared.step.Outcome.{Outcome}
-use Rattle.machine_ports.specs.Ports.{PortState}
-use Rattle.machine_program.specs.Processors.{Told, no_port, sizes_of, kind_of, next, program, is_lawful_poke, port_at}
+use Rattle.machine.specs.machine_ports.Ports.{PortState}
+use Rattle.machine_theorem.specs.machine_program.Processors.{Told, no_port, sizes_of, kind_of, next, program, is_lawful_poke, port_at}
 use Rattle.machine_theorem.specs.Flatness.{IsGood}
-use Rattle.machine_program.specs.Steps.{named, taken, answer_of, told_of_turn, told_of_reply, outcome_of, after, machine_of_parts}
+use Rattle.machine_theorem.specs.machine_program.Steps.{named, taken, answer_of, told_of_turn, told_of_reply, outcome_of, after, machine_of_parts}
 use Rattle.machine_theorem.proofs.Lemmas.{keeps}
 use Rattle.machine.specs.Machines.{MachineLists, machine_of, IsIdle, IsMachine, IsStep}
 use Rattle.machine_runs.specs.Runs.{all_after, events_of, IsRun, passed}

@@ -9,23 +9,24 @@ use Rattle.flat_machine.specs.declared.poke.Poke.TheVariants as poke
 use Rattle.flat_machine.specs.State.{Processor, is_running, status_of}
 use Rattle.flat_machine.specs.Turns.{Turn, Retires, Reaches, Stops}
 use Rattle.flat_machine.specs.Flat.{with_poked_register, with_poked_byte}
-use Rattle.messages.specs.Places.{put}
-use Rattle.hart.specs.Deciding.{after_reply}
-use Rattle.messages.specs.declared.message.Request.{Request}
-use Rattle.messages.specs.declared.message.Reply.{Reply}
-use Rattle.messages.specs.declared.moves.UpMove.{UpMove}
-use Rattle.messages.specs.declared.moves.UpMove.TheVariants as up
-use Rattle.messages.specs.declared.moves.DownMove.{DownMove}
-use Rattle.messages.specs.declared.moves.DownMove.TheVariants as down
-use Rattle.messages.specs.Network.{Net}
-use Rattle.messages.specs.Moves.{moved_up, moved_down, port_taken}
-use Rattle.abstract_machine.specs.Program.{Kind, Rests, Alone, Refers}
-use Rattle.abstract_machine.specs.Machine.{Machine, retire_from, begin, turned, poked, all_shut}
+use Rattle.machine_theorem.specs.messages.Places.{put}
+use Rattle.machine_theorem.specs.hart.Deciding.{after_reply}
+use Rattle.machine_theorem.specs.messages.declared.message.Request.{Request}
+use Rattle.machine_theorem.specs.messages.declared.message.Reply.{Reply}
+use Rattle.machine_theorem.specs.messages.declared.moves.UpMove.{UpMove}
+use Rattle.machine_theorem.specs.messages.declared.moves.UpMove.TheVariants as up
+use Rattle.machine_theorem.specs.messages.declared.moves.DownMove.{DownMove}
+use Rattle.machine_theorem.specs.messages.declared.moves.DownMove.TheVariants as down
+use Rattle.machine_theorem.specs.messages.Network.{Net}
+use Rattle.machine_theorem.specs.messages.Moves.{moved_up, moved_down, port_taken}
+use Rattle.machine_theorem.specs.abstract_machine.Program.{Kind, Rests, Alone, Refers}
+use Rattle.machine_theorem.specs.abstract_machine.Machine.{Machine, retire_from, begin, turned, poked, all_shut}
 use Rattle.steps.specs.declared.step.Step.{Step}
 use Rattle.steps.specs.declared.step.Step.TheVariants as step
-use Rattle.machine_program.specs.Theory.{Result, stalled, went_up, went_down, serve_from}
-use Rattle.machine_program.specs.Processors.{Told, sizes_of, kind_of, next, program, is_lawful_poke, retired_by, alone_by, poked_processors, poked_words}
-use Rattle.machine_program.specs.Steps.{taken, answer_of, outcome_of, after}
+use Rattle.machine_theorem.specs.machine_program.Theory.{Result, stalled, went_up, went_down, serve_from}
+use Rattle.machine_theorem.specs.machine_program.Processors.{Told, sizes_of, kind_of, next, program, is_lawful_poke, retired_by, alone_by, poked_processors}
+use Rattle.machine_theorem.specs.machine_program.Processors.{poked_words}
+use Rattle.machine_theorem.specs.machine_program.Steps.{taken, answer_of, outcome_of, after}
 use Rattle.machine.proofs.Lemmas.{retell}
 
 -- ---- processors whose states are the same

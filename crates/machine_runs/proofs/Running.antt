@@ -5,16 +5,16 @@ use Rattle.flat_machine.specs.declared.config.Config.{Config}
 use Rattle.flat_machine.specs.declared.event.Event.{Event}
 use Rattle.flat_machine.specs.State.{FlatState}
 use Rattle.flat_machine.specs.Flat.{flat_run, flat_events}
-use Rattle.omega_network.specs.Networks.{net_of}
-use Rattle.machine_program.specs.Theory as theory
-use Rattle.serialization.specs.Order.{pass, passes, from_machine}
+use Rattle.indexed_network.specs.omega_network.Networks.{net_of}
+use Rattle.machine_theorem.specs.machine_program.Theory as theory
+use Rattle.machine_theorem.specs.serialization.Order.{pass, passes, from_machine}
 use Rattle.steps.specs.declared.step.Step.{Step}
 use Rattle.steps.specs.declared.step.Outcome.{Outcome}
 use Rattle.machine_theorem.specs.Order.{Passed}
-use Rattle.machine_program.specs.Processors.{Told, sizes_of, program, no_processor, port_at, word_at}
-use Rattle.machine_program.specs.FlatSizes.{HasSize, IsSoundFlat}
+use Rattle.machine_theorem.specs.machine_program.Processors.{Told, sizes_of, program, no_processor, port_at, word_at}
+use Rattle.machine_theorem.specs.machine_program.FlatSizes.{HasSize, IsSoundFlat}
 use Rattle.machine_theorem.specs.Flatness.{with_events}
-use Rattle.machine_program.specs.Steps.{named, after, with_shown, machine_of_parts}
+use Rattle.machine_theorem.specs.machine_program.Steps.{named, after, with_shown, machine_of_parts}
 use Rattle.machine_theorem.specs.Explained.{IsExplained, flat_after}
 use Rattle.machine_theorem.proofs.Lemmas.{means_change, order_lawful, run_sound, runs_are_explained}
 use Rattle.machine.specs.Machines.{MachineLists, machine_of, IsIdle, IsMachine, IsStep}

@@ -14,28 +14,28 @@ use Rattle.flat_machine.specs.declared.poke.Poke.TheVariants as poke
 use Rattle.flat_machine.specs.State.{Processor, is_running}
 use Rattle.flat_machine.specs.Turns.{Turn, Retires, Reaches, Stops}
 use Rattle.flat_machine.specs.Flat.{with_poked_register, with_poked_byte}
-use Rattle.hart.specs.Deciding.{after_reply}
-use Rattle.messages.specs.declared.message.Request.{Request}
-use Rattle.messages.specs.declared.message.Reply.{Reply}
-use Rattle.messages.specs.declared.moves.UpMove.{UpMove}
-use Rattle.messages.specs.declared.moves.UpMove.TheVariants as up
-use Rattle.messages.specs.declared.moves.DownMove.{DownMove}
-use Rattle.messages.specs.declared.moves.DownMove.TheVariants as down
-use Rattle.messages.specs.Places.{put}
-use Rattle.messages.specs.Network.{Net}
-use Rattle.messages.specs.Moves.{moved_up, moved_down}
-use Rattle.messages.proofs.Lemmas.{put_other, put_same}
-use Rattle.abstract_machine.specs.Program.{Kind, Rests, Alone, Refers}
-use Rattle.machine_program.specs.Theory.{Result, stalled, went_up, went_down, serve_from}
+use Rattle.machine_theorem.specs.hart.Deciding.{after_reply}
+use Rattle.machine_theorem.specs.messages.declared.message.Request.{Request}
+use Rattle.machine_theorem.specs.messages.declared.message.Reply.{Reply}
+use Rattle.machine_theorem.specs.messages.declared.moves.UpMove.{UpMove}
+use Rattle.machine_theorem.specs.messages.declared.moves.UpMove.TheVariants as up
+use Rattle.machine_theorem.specs.messages.declared.moves.DownMove.{DownMove}
+use Rattle.machine_theorem.specs.messages.declared.moves.DownMove.TheVariants as down
+use Rattle.machine_theorem.specs.messages.Places.{put}
+use Rattle.machine_theorem.specs.messages.Network.{Net}
+use Rattle.machine_theorem.specs.messages.Moves.{moved_up, moved_down}
+use Rattle.machine_theorem.proofs.Lemmas.messages.{put_other, put_same}
+use Rattle.machine_theorem.specs.abstract_machine.Program.{Kind, Rests, Alone, Refers}
+use Rattle.machine_theorem.specs.machine_program.Theory.{Result, stalled, went_up, went_down, serve_from}
 use Rattle.machine_theorem.specs.Order.{Passed}
-use Rattle.machine_program.specs.Theory as theory
-use Rattle.abstract_machine.specs.Machine.{Machine, retire_from, begin, turned, poked, all_shut}
-use Rattle.serialization.specs.Order.{from_machine}
+use Rattle.machine_theorem.specs.machine_program.Theory as theory
+use Rattle.machine_theorem.specs.abstract_machine.Machine.{Machine, retire_from, begin, turned, poked, all_shut}
+use Rattle.machine_theorem.specs.serialization.Order.{from_machine}
 use Rattle.steps.specs.declared.step.Step.{Step}
 use Rattle.steps.specs.declared.step.Step.TheVariants as step
 use Rattle.steps.specs.declared.step.Outcome.{Outcome}
-use Rattle.machine_program.specs.Processors.{Told, sizes_of, kind_of, next, program, is_lawful_poke, retired_by, alone_by, changed}
-use Rattle.machine_program.specs.Steps.{named, taken, answer_of, told_of_turn, told_of_reply, outcome_of, after, with_shown}
+use Rattle.machine_theorem.specs.machine_program.Processors.{Told, sizes_of, kind_of, next, program, is_lawful_poke, retired_by, alone_by, changed}
+use Rattle.machine_theorem.specs.machine_program.Steps.{named, taken, answer_of, told_of_turn, told_of_reply, outcome_of, after, with_shown}
 use Rattle.machine_theorem.specs.Explained.{IsExplained, flat_after}
 use Rattle.machine_theorem.proofs.Lemmas.{runs_are_explained}
 use Rattle.machine.specs.Machines.{MachineLists, machine_of, IsIdle, IsMachine}

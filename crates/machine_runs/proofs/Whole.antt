@@ -5,7 +5,7 @@ use Rattle.std.specs.Prelude.{map, slice_get, if◌then◌else◌}
 use Rattle.std.proofs.lemmas.Bool.{true≢false, lt-ltb}
 use Rattle.std.proofs.lemmas.List.{length-append}
 use Rattle.std.proofs.lemmas.Nat.{pow_pos}
-use Rattle.omega_network.specs.Networks.{net_of}
+use Rattle.indexed_network.specs.omega_network.Networks.{net_of}
 use Rattle.flat_machine.specs.declared.config.Config.{Config}
 use Rattle.flat_machine.specs.declared.event.Event.{Event}
 use Rattle.flat_machine.specs.declared.event.Event.TheVariants as event
@@ -13,25 +13,25 @@ use Rattle.flat_machine.specs.declared.poke.Entry.TheVariants as entry
 use Rattle.flat_machine.specs.State.{Processor, is_running}
 use Rattle.flat_machine.specs.Turns.{Turn, Retires, Reaches, Stops}
 use Rattle.flat_machine.specs.declared.event.Retired as retirement
-use Rattle.hart.specs.Deciding.{after_reply}
-use Rattle.messages.specs.declared.message.Reply.{Reply}
+use Rattle.machine_theorem.specs.hart.Deciding.{after_reply}
+use Rattle.machine_theorem.specs.messages.declared.message.Reply.{Reply}
 use Rattle.flat_machine.specs.Flat.{flat_step, flat_event, flat_run, flat_events, with_taken, turned, turn_event, with_processor_number}
 use Rattle.flat_machine.specs.Flat.{step_of as flat_step_of}
-use Rattle.messages.proofs.Lemmas.{put_same}
-use Rattle.abstract_machine.specs.Program.{Rests}
+use Rattle.machine_theorem.proofs.Lemmas.messages.{put_same}
+use Rattle.machine_theorem.specs.abstract_machine.Program.{Rests}
 use Rattle.machine_theorem.specs.Order.{Passed, passed_by}
-use Rattle.machine_program.specs.Theory as theory
-use Rattle.abstract_machine.specs.Draining as draining
-use Rattle.abstract_machine.proofs.Lemmas.{bound_alone, distances_are}
-use Rattle.serialization.specs.Order.{pass, passes, from_machine}
+use Rattle.machine_theorem.specs.machine_program.Theory as theory
+use Rattle.machine_theorem.specs.abstract_machine.Draining as draining
+use Rattle.machine_theorem.proofs.Lemmas.abstract_machine.{bound_alone, distances_are}
+use Rattle.machine_theorem.specs.serialization.Order.{pass, passes, from_machine}
 use Rattle.steps.specs.declared.step.Step.{Step}
 use Rattle.steps.specs.declared.step.Step.TheVariants as step
 use Rattle.steps.specs.declared.step.Outcome.{Outcome}
 use Rattle.steps.specs.declared.step.Outcome.TheVariants.{Retired, Issued, Stopped, Moved, Combined, Served, Answered, Poked, Stalled}
-use Rattle.machine_program.specs.Processors.{Told, sizes_of, next, kind_of, program, no_processor, port_at, open_at}
+use Rattle.machine_theorem.specs.machine_program.Processors.{Told, sizes_of, next, kind_of, program, no_processor, port_at, open_at}
 use Rattle.machine_theorem.specs.Flatness.{with_events}
-use Rattle.machine_program.specs.Steps.{named, answer_of, told_of_turn, told_of_reply, outcome_of, after, with_shown, machine_of_parts}
-use Rattle.machine_program.proofs.Lemmas.{read_found}
+use Rattle.machine_theorem.specs.machine_program.Steps.{named, answer_of, told_of_turn, told_of_reply, outcome_of, after, with_shown, machine_of_parts}
+use Rattle.machine_theorem.proofs.Lemmas.machine_program.{read_found}
 use Rattle.machine.specs.Machines.{MachineLists, machine_of, IsIdle, IsMachine, IsStep}
 use Rattle.machine.specs.Openings.{flat_state}
 use Rattle.machine_runs.specs.Runs.{all_after, events_of, IsRun, IsReplay, passed, IsSerialized}

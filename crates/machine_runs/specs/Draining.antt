@@ -1,17 +1,17 @@
 -- What a drain does: the steps that bring every reference to its end, by the theory's drain.
 use Rattle.std.specs.Prelude.{◌≡◌, ℕ, ◌*◌, ◌+◌, ◌^◌, ◌≤◌, ◌<◌, List, [], length, map, Option, Some, None}
 use Rattle.flat_machine.specs.declared.config.Config.{Config}
-use Rattle.machine_program.specs.Theory as theory
-use Rattle.messages.specs.Network.{Sizes, Net, wires}
-use Rattle.omega_network.specs.Networks.{NetworkLists}
-use Rattle.omega_network.specs.Networks as network
-use Rattle.abstract_machine.specs.Draining as draining
+use Rattle.machine_theorem.specs.machine_program.Theory as theory
+use Rattle.machine_theorem.specs.messages.Network.{Sizes, Net, wires}
+use Rattle.indexed_network.specs.omega_network.Networks.{NetworkLists}
+use Rattle.indexed_network.specs.omega_network.Networks as network
+use Rattle.machine_theorem.specs.abstract_machine.Draining as draining
 use Rattle.steps.specs.declared.step.Step.{Step}
-use Rattle.abstract_machine.specs.Steadiness.{total}
+use Rattle.machine_theorem.specs.abstract_machine.Steadiness.{total}
 use Rattle.steps.specs.declared.step.Step.TheVariants as step
 use Rattle.steps.specs.declared.step.Outcome.TheVariants.{Stalled}
-use Rattle.machine_program.specs.Processors.{Told, sizes_of, program}
-use Rattle.machine_program.specs.Steps.{outcome_of, after}
+use Rattle.machine_theorem.specs.machine_program.Processors.{Told, sizes_of, program}
+use Rattle.machine_theorem.specs.machine_program.Steps.{outcome_of, after}
 use Rattle.machine.specs.Machines.{MachineLists, machine_of, IsIdle}
 use Rattle.machine_runs.specs.Runs.{IsRun}
 

@@ -3,13 +3,13 @@ use Rattle.std.specs.Prelude.{◌≡◌, ℕ, ◌^◌, ◌<◌, ◌≤◌, false
 use Rattle.flat_machine.specs.declared.config.Config.{Config}
 use Rattle.flat_machine.specs.declared.event.Event.{Event}
 use Rattle.flat_machine.specs.Flat.{flat_events}
-use Rattle.machine_program.specs.Theory as theory
+use Rattle.machine_theorem.specs.machine_program.Theory as theory
 use Rattle.steps.specs.declared.step.Step.{Step}
 use Rattle.steps.specs.declared.step.Outcome.{Outcome}
 use Rattle.steps.specs.declared.step.Outcome.TheVariants.{Stalled}
-use Rattle.machine_program.specs.Processors.{Told, port_at, open_at, word_at}
+use Rattle.machine_theorem.specs.machine_program.Processors.{Told, port_at, open_at, word_at}
 use Rattle.machine_theorem.specs.Flatness.{with_events}
-use Rattle.machine_program.specs.Steps.{outcome_of, after, with_shown}
+use Rattle.machine_theorem.specs.machine_program.Steps.{outcome_of, after, with_shown}
 use Rattle.machine.specs.Machines.{MachineLists, machine_of, IsIdle, IsMachine, IsStep}
 use Rattle.machine.specs.Openings.{flat_state}
 use Rattle.machine_runs.specs.Runs.{answer_after, IsRun, IsReplay, IsSerialized, passed}

@@ -3,14 +3,14 @@ use Rattle.std.specs.Prelude.{◌≡◌, ℕ, List, [], ◌∷◌, map}
 use Rattle.flat_machine.specs.declared.config.Config.{Config}
 use Rattle.flat_machine.specs.declared.event.Event.{Event}
 use Rattle.flat_machine.specs.Flat.{flat_run, flat_events}
-use Rattle.machine_program.specs.Theory as theory
-use Rattle.serialization.specs.Order.{ran, outcomes}
-use Rattle.serialization.specs.Serialization.{EachServedOnce}
+use Rattle.machine_theorem.specs.machine_program.Theory as theory
+use Rattle.machine_theorem.specs.serialization.Order.{ran, outcomes}
+use Rattle.machine_theorem.specs.serialization.Serialization.{EachServedOnce}
 use Rattle.steps.specs.declared.step.Step.{Step}
 use Rattle.steps.specs.declared.step.Outcome.{Outcome}
 use Rattle.steps.specs.declared.step.Outcome.TheVariants.{Stalled}
-use Rattle.machine_program.specs.Processors.{Told, sizes_of, program}
-use Rattle.machine_program.specs.Steps.{named, outcome_of, after}
+use Rattle.machine_theorem.specs.machine_program.Processors.{Told, sizes_of, program}
+use Rattle.machine_theorem.specs.machine_program.Steps.{named, outcome_of, after}
 use Rattle.machine.specs.Machines.{MachineLists, machine_of, IsIdle}
 pub use Rattle.machine.specs.Openings.{flat_state, opening_machine, IsOpening}
 use Rattle.machine_theorem.specs.Order.{Passed}

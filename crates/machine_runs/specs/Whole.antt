@@ -5,13 +5,13 @@ use Rattle.flat_machine.specs.declared.event.Event.{Event}
 use Rattle.flat_machine.specs.declared.event.Event.TheVariants as event
 use Rattle.flat_machine.specs.declared.poke.Entry.TheVariants as entry
 use Rattle.flat_machine.specs.Flat.{flat_step, flat_event}
-use Rattle.machine_program.specs.Theory as theory
+use Rattle.machine_theorem.specs.machine_program.Theory as theory
 use Rattle.steps.specs.declared.step.Step.{Step}
 use Rattle.steps.specs.declared.step.Step.TheVariants as step
 use Rattle.steps.specs.declared.step.Outcome.{Outcome}
 use Rattle.steps.specs.declared.step.Outcome.TheVariants.{Retired, Issued, Stopped, Stalled}
-use Rattle.machine_program.specs.Processors.{Told}
-use Rattle.machine_program.specs.Steps.{outcome_of, after}
+use Rattle.machine_theorem.specs.machine_program.Processors.{Told}
+use Rattle.machine_theorem.specs.machine_program.Steps.{outcome_of, after}
 use Rattle.machine.specs.Machines.{MachineLists, machine_of, IsIdle, IsMachine, IsStep}
 use Rattle.machine.specs.Openings.{flat_state}
 pub use Rattle.machine.specs.Poking.{IsPoked}

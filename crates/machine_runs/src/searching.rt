@@ -1,8 +1,8 @@
 //! Draining: the steps that bring every open reference to its end.
 
 ghost use Rattle.std.specs.Prelude.{◌≡◌, ◌≤◌, ◌^◌};
-ghost use Rattle.omega_network.specs.Networks.{net_of, sizes_of};
-ghost use Rattle.abstract_machine.specs.Draining.{down_step, is_any, least, up_step};
+ghost use Rattle.indexed_network.specs.omega_network.Networks.{net_of, sizes_of};
+ghost use Rattle.machine_theorem.specs.abstract_machine.Draining.{down_step, is_any, least, up_step};
 ghost use Rattle.machine_runs.specs.Draining.{network_step, some_step};
 
 use indexed_network::IndexedNetwork;

@@ -5,13 +5,13 @@ use Rattle.std.specs.Prelude.{if◌then◌else◌}
 use Rattle.std.proofs.lemmas.Bool.{cases_eq, cases_lt}
 use Rattle.std.proofs.lemmas.List.{length-append, take_all}
 use Rattle.flat_machine.specs.declared.config.Config.{Config}
-use Rattle.machine_program.specs.Theory as theory
+use Rattle.machine_runs.specs.machine_program.Theory as theory
 use Rattle.steps.specs.Answers.{is_stalled}
 use Rattle.steps.specs.declared.step.Outcome.{Outcome}
 use Rattle.steps.specs.declared.step.Outcome.TheVariants.{Stalled}
 use Rattle.steps.specs.declared.step.Step.{Step}
-use Rattle.machine_program.specs.Processors.{Told}
-use Rattle.machine_program.specs.Steps.{machine_of_parts}
+use Rattle.machine_runs.specs.machine_program.Processors.{Told}
+use Rattle.machine_runs.specs.machine_program.Steps.{machine_of_parts}
 use Rattle.machine_runs.specs.Machines.{MachineLists, machine_of}
 use Rattle.machine_runs.specs.Runs.{IsReplay, all_after, answer_after}
 use Rattle.machine_runs.proofs.Lemmas.{all_after_more}

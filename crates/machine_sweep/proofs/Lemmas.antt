@@ -11,5 +11,5 @@ pub use Rattle.machine_sweep.proofs.Recorded.{drained_has_records}
 -- Machines that are one take the same steps.
 pub use Rattle.machine_sweep.proofs.OneLog.{no_longer, over_there, same_drain, same_entered, told_nothing}
 -- Lemmas of lower crates, passed on.
-pub use Rattle.machine.proofs.Lemmas.{retell}
-pub use Rattle.messages.proofs.Lemmas.{put_other, put_same}
+pub use Rattle.machine_runs.proofs.Lemmas.machine.{retell}
+pub use Rattle.machine_runs.proofs.Lemmas.messages.{put_other, put_same}

@@ -6,16 +6,16 @@ use Rattle.std.proofs.lemmas.List.{append-nil, length-append, take-append-drop, 
 use Rattle.flat_machine.specs.declared.config.Config.{Config}
 use Rattle.flat_machine.specs.declared.event.Event.{Event}
 use Rattle.flat_machine.specs.State.{FlatState}
-use Rattle.elf_image.specs.Images.{ImageContents}
-use Rattle.elf_image.specs.Openings.{opening as flat_opening}
-use Rattle.abstract_machine.specs.Draining as draining
+use Rattle.machine_runs.specs.elf_image.Images.{ImageContents}
+use Rattle.machine_runs.specs.elf_image.Openings.{opening as flat_opening}
+use Rattle.machine_runs.specs.abstract_machine.Draining as draining
 use Rattle.steps.specs.declared.step.Step.{Step}
-use Rattle.machine_program.specs.Processors.{sizes_of, program}
-use Rattle.machine_program.specs.Steps.{machine_of_parts, outcome_of}
+use Rattle.machine_runs.specs.machine_program.Processors.{sizes_of, program}
+use Rattle.machine_runs.specs.machine_program.Steps.{machine_of_parts, outcome_of}
 use Rattle.machine_runs.specs.Draining.{drain_bound, drain_steps, step_of}
 use Rattle.machine_runs.specs.Machines.{MachineLists, machine_of}
 use Rattle.machine_runs.specs.Runs.{IsReplay, all_after, events_of, answer_after}
-use Rattle.machine.proofs.Lemmas.{retell}
+use Rattle.machine_runs.proofs.Lemmas.machine.{retell}
 use Rattle.machine_log.specs.Logs.{Log, entered}
 use Rattle.machine_sweep.specs.Rounds.{round}
 use Rattle.machine_sweep.specs.Sweeps.{EndsAt, IsFault, IsOver, IsWholeRun, RunsAfter, entered_of, rounds, status_after}

@@ -4,15 +4,15 @@ use Rattle.std.proofs.Common.{◌≡◌, ℕ, zero, suc, ◌^◌, Bool, true, fa
 use Rattle.std.specs.Prelude.{slice_get, if◌then◌else◌}
 use Rattle.std.specs.List.{range_with_len}
 use Rattle.std.proofs.lemmas.List.{append-nil}
-use Rattle.messages.specs.Network.{Sizes, Net, wires}
-use Rattle.machine_program.specs.Theory as theory
-use Rattle.abstract_machine.specs.Draining.{least, greatest, is_any, some_wire, first_wire, or_else, down_step, up_step}
-use Rattle.abstract_machine.specs.Draining as draining
-use Rattle.machine_program.specs.Theory.{Program}
+use Rattle.machine_runs.specs.messages.Network.{Sizes, Net, wires}
+use Rattle.machine_runs.specs.machine_program.Theory as theory
+use Rattle.machine_runs.specs.abstract_machine.Draining.{least, greatest, is_any, some_wire, first_wire, or_else, down_step, up_step}
+use Rattle.machine_runs.specs.abstract_machine.Draining as draining
+use Rattle.machine_runs.specs.machine_program.Theory.{Program}
 use Rattle.steps.specs.Answers.{is_stalled}
 use Rattle.steps.specs.declared.step.Step.{Step}
 use Rattle.steps.specs.declared.step.Step.TheVariants as step
-use Rattle.machine_program.specs.Processors.{Told, sizes_of, program}
+use Rattle.machine_runs.specs.machine_program.Processors.{Told, sizes_of, program}
 use Rattle.machine_runs.specs.Draining.{drain_bound, drain_step, drain_steps, step_of}
 use Rattle.machine_runs.specs.Machines.{MachineLists, machine_of}
 use Rattle.machine_runs.proofs.Lemmas.{named_step}

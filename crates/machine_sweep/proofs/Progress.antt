@@ -8,18 +8,18 @@ use Rattle.std.proofs.lemmas.Option.{slice_get-get_or}
 use Rattle.flat_machine.specs.declared.config.Config.{Config}
 use Rattle.flat_machine.specs.State.{is_running}
 use Rattle.flat_machine.specs.Turns.{Turn, Retires, Reaches, Stops}
-use Rattle.messages.specs.declared.moves.UpMove.TheVariants as up
-use Rattle.messages.specs.declared.moves.DownMove.TheVariants as down
-use Rattle.messages.specs.Moves.{moved_up, moved_down, up_from, down_from}
-use Rattle.machine_program.specs.Theory.{stalled, went_up, went_down, serve_from}
-use Rattle.machine_program.specs.Theory as theory
-use Rattle.abstract_machine.specs.Machine.{begin, turned}
+use Rattle.machine_runs.specs.messages.declared.moves.UpMove.TheVariants as up
+use Rattle.machine_runs.specs.messages.declared.moves.DownMove.TheVariants as down
+use Rattle.machine_runs.specs.messages.Moves.{moved_up, moved_down, up_from, down_from}
+use Rattle.machine_runs.specs.machine_program.Theory.{stalled, went_up, went_down, serve_from}
+use Rattle.machine_runs.specs.machine_program.Theory as theory
+use Rattle.machine_runs.specs.abstract_machine.Machine.{begin, turned}
 use Rattle.steps.specs.declared.step.Step.{Step}
 use Rattle.steps.specs.declared.step.Step.TheVariants as step
 use Rattle.steps.specs.declared.step.Outcome.{Outcome}
 use Rattle.steps.specs.declared.step.Outcome.TheVariants.{Stalled}
-use Rattle.machine_program.specs.Processors.{Told, sizes_of, kind_of, kind_of_turn, next, program}
-use Rattle.machine_program.specs.Steps.{answer_of, told_of_turn, outcome_of, machine_of_parts}
+use Rattle.machine_runs.specs.machine_program.Processors.{Told, sizes_of, kind_of, kind_of_turn, next, program}
+use Rattle.machine_runs.specs.machine_program.Steps.{answer_of, told_of_turn, outcome_of, machine_of_parts}
 use Rattle.machine_runs.specs.Machines.{MachineLists, machine_of, IsMachine, IsIdle}
 use Rattle.machine_runs.specs.Draining.{drain_step}
 use Rattle.machine_runs.proofs.Lemmas.{goes_on, none_idle}

@@ -3,18 +3,18 @@ use Rattle.std.proofs.Common.{◌≡◌, ℕ, suc, ◌+◌, ◌-◌, ◌*◌, �
 use Rattle.std.specs.Prelude.{is_some, slice_get, if◌then◌else◌}
 use Rattle.std.proofs.lemmas.Bool.{true≢false}
 use Rattle.flat_machine.specs.declared.config.Config.{Config}
-use Rattle.messages.specs.declared.moves.UpMove.TheVariants as up
-use Rattle.messages.specs.declared.moves.DownMove.TheVariants as down
-use Rattle.messages.specs.Moves.{moved_up, moved_down, up_from, down_from}
-use Rattle.omega_network.specs.Networks.{net_of}
-use Rattle.machine_program.specs.Theory.{stalled, went_up, went_down, serve_from}
-use Rattle.machine_program.specs.Theory as theory
+use Rattle.machine_runs.specs.messages.declared.moves.UpMove.TheVariants as up
+use Rattle.machine_runs.specs.messages.declared.moves.DownMove.TheVariants as down
+use Rattle.machine_runs.specs.messages.Moves.{moved_up, moved_down, up_from, down_from}
+use Rattle.machine_runs.specs.omega_network.Networks.{net_of}
+use Rattle.machine_runs.specs.machine_program.Theory.{stalled, went_up, went_down, serve_from}
+use Rattle.machine_runs.specs.machine_program.Theory as theory
 use Rattle.steps.specs.declared.step.Step.{Step}
 use Rattle.steps.specs.declared.step.Step.TheVariants as step
 use Rattle.steps.specs.declared.step.Outcome.{Outcome}
 use Rattle.steps.specs.declared.step.Outcome.TheVariants.{Stalled}
-use Rattle.machine_program.specs.Processors.{Told, sizes_of, next}
-use Rattle.machine_program.specs.Steps.{answer_of, outcome_of, machine_of_parts}
+use Rattle.machine_runs.specs.machine_program.Processors.{Told, sizes_of, next}
+use Rattle.machine_runs.specs.machine_program.Steps.{answer_of, outcome_of, machine_of_parts}
 use Rattle.machine_runs.specs.Machines.{MachineLists, machine_of}
 use Rattle.machine_sweep.specs.Rounds.{round}
 use Rattle.machine_sweep.proofs.Places.{up_at, serve_at, down_at}

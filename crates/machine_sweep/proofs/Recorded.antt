@@ -4,13 +4,13 @@ use Rattle.std.specs.Prelude.{◌&&◌, nat_lt}
 use Rattle.std.proofs.lemmas.Bool.{lt-ltb}
 use Rattle.std.proofs.lemmas.List.Elements.{All-append, All-cons, All-nil}
 use Rattle.flat_machine.specs.declared.config.Config.{Config}
-use Rattle.machine_program.specs.Theory as theory
+use Rattle.machine_runs.specs.machine_program.Theory as theory
 use Rattle.steps.specs.declared.step.Step.{Step}
 use Rattle.steps.specs.declared.step.Step.TheVariants as step
 use Rattle.trace_file.specs.Records.{HasRecord}
 use Rattle.trace_file.specs.Traces.{HaveRecords}
-use Rattle.machine_program.specs.Processors.{Told}
-use Rattle.machine_program.specs.Steps.{after}
+use Rattle.machine_runs.specs.machine_program.Processors.{Told}
+use Rattle.machine_runs.specs.machine_program.Steps.{after}
 use Rattle.machine_runs.specs.Draining.{drain_steps}
 use Rattle.machine_runs.specs.Machines.{machine_of}
 use Rattle.machine_runs.specs.Runs.{IsReplay, NoneStalls, all_after}

@@ -6,7 +6,7 @@ use Rattle.std.proofs.lemmas.Option.{slice_get-get_or, slice_get_within}
 use Rattle.steps.specs.declared.step.Step.{Step}
 use Rattle.steps.specs.declared.step.Step.TheVariants as step
 use Rattle.steps.specs.declared.step.Outcome.TheVariants.{Stalled}
-use Rattle.machine_program.specs.Steps.{outcome_of}
+use Rattle.machine_runs.specs.machine_program.Steps.{outcome_of}
 use Rattle.machine_runs.specs.Machines.{machine_of}
 use Rattle.machine_runs.specs.Runs.{IsReplay}
 use Rattle.machine_runs.proofs.Lemmas.{outcome_there}

@@ -1,7 +1,7 @@
 -- A step that stops no processor leaves what each processor is doing as it was.
 use Rattle.std.proofs.Common.{◌≡◌, ℕ, ◌^◌, Bool, true, false, nat_lt, List, [], ◌∷◌, eqb-true, refl, sym, ap, ◌∙◌, subst}
 use Rattle.std.specs.Prelude.{◌%◌, ◌==◌, cond, eqb, Result, Ok, Err, if◌then◌else◌}
-use Rattle.rv_table.specs.declared.insn.Insn.{Insn}
+use Rattle.flat_machine.specs.rv_table.declared.insn.Insn.{Insn}
 use Rattle.flat_machine.specs.declared.config.Config.{Config}
 use Rattle.flat_machine.specs.declared.effect.Effect.{Effect}
 use Rattle.flat_machine.specs.declared.effect.Effect.TheVariants as does
@@ -14,25 +14,25 @@ use Rattle.flat_machine.specs.Memory.{region_of}
 use Rattle.flat_machine.specs.Operations.{load_size, loaded, store_size, amo_value}
 use Rattle.flat_machine.specs.State.{Processor, is_running}
 use Rattle.flat_machine.specs.Turns.{Turn, Retires, Reaches, Stops, accessed, fetched, performed, turn_by, turn_of}
-use Rattle.hart.specs.Deciding.{after_reply}
-use Rattle.messages.specs.Places.{put}
-use Rattle.messages.specs.declared.message.Request.{Request}
-use Rattle.messages.specs.declared.message.Reply.{Reply}
-use Rattle.messages.specs.declared.moves.DownMove.{DownMove}
-use Rattle.messages.specs.declared.moves.DownMove.TheVariants as down
-use Rattle.messages.specs.declared.moves.UpMove.{UpMove}
-use Rattle.messages.specs.declared.moves.UpMove.TheVariants as up
-use Rattle.messages.specs.Moves.{moved_up, moved_down}
-use Rattle.messages.specs.Network.{Net}
-use Rattle.machine_program.specs.Theory.{serve_from, stalled, went_down, went_up}
-use Rattle.machine_program.specs.Theory as theory
-use Rattle.abstract_machine.specs.Machine.{begin, retire_from, turned}
-use Rattle.abstract_machine.specs.Program.{Kind, Rests, Alone, Refers}
+use Rattle.machine_runs.specs.hart.Deciding.{after_reply}
+use Rattle.machine_runs.specs.messages.Places.{put}
+use Rattle.machine_runs.specs.messages.declared.message.Request.{Request}
+use Rattle.machine_runs.specs.messages.declared.message.Reply.{Reply}
+use Rattle.machine_runs.specs.messages.declared.moves.DownMove.{DownMove}
+use Rattle.machine_runs.specs.messages.declared.moves.DownMove.TheVariants as down
+use Rattle.machine_runs.specs.messages.declared.moves.UpMove.{UpMove}
+use Rattle.machine_runs.specs.messages.declared.moves.UpMove.TheVariants as up
+use Rattle.machine_runs.specs.messages.Moves.{moved_up, moved_down}
+use Rattle.machine_runs.specs.messages.Network.{Net}
+use Rattle.machine_runs.specs.machine_program.Theory.{serve_from, stalled, went_down, went_up}
+use Rattle.machine_runs.specs.machine_program.Theory as theory
+use Rattle.machine_runs.specs.abstract_machine.Machine.{begin, retire_from, turned}
+use Rattle.machine_runs.specs.abstract_machine.Program.{Kind, Rests, Alone, Refers}
 use Rattle.steps.specs.declared.step.Outcome.{Outcome}
 use Rattle.steps.specs.declared.step.Step.{Step}
 use Rattle.steps.specs.declared.step.Step.TheVariants as step
-use Rattle.machine_program.specs.Processors.{Told, alone_by, kind_of, next, program, retired_by, setting_of, sizes_of}
-use Rattle.machine_program.specs.Steps.{after, answer_of, outcome_of, taken, told_of_turn}
+use Rattle.machine_runs.specs.machine_program.Processors.{Told, alone_by, kind_of, next, program, retired_by, setting_of, sizes_of}
+use Rattle.machine_runs.specs.machine_program.Steps.{after, answer_of, outcome_of, taken, told_of_turn}
 use Rattle.machine_sweep.specs.Sweeps.{IsStop}
 use Rattle.machine_sweep.proofs.Own.{IsOwn}
 

@@ -4,16 +4,5 @@ pub mod Skips
 pub mod Own
 pub mod Sweeps
 -- Words of lower crates, passed on to those above.
-pub use Rattle.flat_machine.specs.State
-pub use Rattle.flat_machine.specs.declared.config.Config
-pub use Rattle.elf_image.specs.Openings
-pub use Rattle.elf_image.specs.Images
-pub use Rattle.trace_file.specs.Traces
-pub use Rattle.machine_runs.specs.Draining
-pub use Rattle.machine_runs.specs.Machines
-pub use Rattle.machine_runs.specs.Runs
-pub use Rattle.omega_network.specs.Networks
-pub use Rattle.messages.specs.Places
-pub use Rattle.machine_program.specs.Theory
-pub use Rattle.machine_program.specs.Steps
-pub use Rattle.machine_program.specs.Processors
+pub use Rattle.trace_file.specs as trace_file
+pub use Rattle.machine_runs.specs.elf_image as elf_image

@@ -3,7 +3,7 @@ use Rattle.std.specs.Prelude.{◌≡◌, ℕ, ◌^◌, ◌<◌}
 use Rattle.flat_machine.specs.declared.event.Status.{Status}
 use Rattle.flat_machine.specs.declared.event.Status.TheVariants.{Running, Halted, Faulted}
 use Rattle.flat_machine.specs.State.{Processor}
-use Rattle.machine_program.specs.Processors.{port_at}
+use Rattle.machine_runs.specs.machine_program.Processors.{port_at}
 use Rattle.machine_runs.specs.Machines.{MachineLists}
 
 -- a processor of a machine

@@ -2,7 +2,7 @@
 
 ghost use Rattle.std.specs.Prelude.{◌≡◌, ℕ, Some, length, slice_get};
 ghost use Rattle.flat_machine.specs.declared.config.Config.{Config};
-ghost use Rattle.elf_image.specs.Images.{ImageContents};
+ghost use Rattle.machine_runs.specs.elf_image.Images.{ImageContents};
 ghost use Rattle.steps.specs.declared.step.Step.{Step};
 ghost use Rattle.machine_runs.specs.Draining.{drain_steps};
 ghost use Rattle.machine_runs.specs.Machines.{IsMachine, MachineLists};

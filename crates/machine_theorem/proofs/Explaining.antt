@@ -2,15 +2,15 @@
 use Rattle.std.proofs.Common.{◌≡◌, ℕ, zero, suc, ◌^◌, ◌<◌, ◌≤◌, List, [], ◌∷◌, ◌++◌, length, ◌⊎◌, inl, inr, refl, sym, ap, ◌∙◌, subst, arith}
 use Rattle.std.specs.Prelude.{slice_index_or}
 use Rattle.std.proofs.lemmas.Bool.{cases_lt}
-use Rattle.flat_machine.specs.declared.config.Config.{Config}
-use Rattle.flat_machine.specs.declared.poke.Entry.{Entry}
-use Rattle.flat_machine.specs.declared.poke.Entry.TheVariants as entry
-use Rattle.flat_machine.specs.State.{FlatState, Processor}
-use Rattle.flat_machine.specs.Laws.{HasWords, AreBelow}
-use Rattle.flat_machine.proofs.Lemmas.{all_get}
-use Rattle.placement.specs.Roles.{Idle}
-use Rattle.abstract_machine.proofs.Lemmas.{steady_start}
-use Rattle.abstract_machine.specs.Machine.{new_machine, Machine}
+use Rattle.machine_program.specs.flat_machine.declared.config.Config.{Config}
+use Rattle.machine_program.specs.flat_machine.declared.poke.Entry.{Entry}
+use Rattle.machine_program.specs.flat_machine.declared.poke.Entry.TheVariants as entry
+use Rattle.machine_program.specs.flat_machine.State.{FlatState, Processor}
+use Rattle.machine_program.specs.flat_machine.Laws.{HasWords, AreBelow}
+use Rattle.machine_program.proofs.Lemmas.flat_machine.{all_get}
+use Rattle.serialization.specs.placement.Roles.{Idle}
+use Rattle.serialization.proofs.Lemmas.abstract_machine.{steady_start}
+use Rattle.serialization.specs.abstract_machine.Machine.{new_machine, Machine}
 use Rattle.serialization.specs.Order.{FlatMachine, flat_of, from_machine, ran, outcomes, flat_run}
 use Rattle.serialization.specs.Serialization.{Begins, FindsAt, EachServedOnce}
 use Rattle.serialization.proofs.Lemmas.{at_the_moment, follows, served_once}

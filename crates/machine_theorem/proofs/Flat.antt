@@ -1,25 +1,26 @@
 -- The flat machine of lists takes the entries that the theory's does.
 use Rattle.std.proofs.Common.{◌≡◌, ℕ, ◌^◌, ◌<◌, Bool, true, false, List, [], ◌∷◌, ◌++◌, length, length-set, Option, Some, None, refl, sym, ap, ap₂, ◌∙◌, subst}
 use Rattle.std.specs.Prelude.{slice_get, slice_index, if◌then◌else◌}
-use Rattle.flat_machine.specs.declared.config.Config.{Config}
-use Rattle.flat_machine.specs.declared.event.Event.{Event}
-use Rattle.flat_machine.specs.declared.event.Event.TheVariants as event
-use Rattle.flat_machine.specs.declared.event.Retired as retirement
-use Rattle.flat_machine.specs.declared.poke.Poke.{Poke}
-use Rattle.flat_machine.specs.declared.poke.Entry.{Entry}
-use Rattle.flat_machine.specs.declared.poke.Entry.TheVariants as entry
-use Rattle.flat_machine.specs.State as flat
-use Rattle.flat_machine.specs.State.{Processor, FlatState, is_running, status_of}
-use Rattle.flat_machine.specs.Turns.{Turn, Retires, Reaches, Stops, turn_of}
-use Rattle.flat_machine.specs.Flat.{flat_step, flat_event, flat_run, flat_events, taken, with_taken, step_of, turned, turn_event, written, is_lawful}
-use Rattle.flat_machine.specs.Flat.{with_processor_number}
-use Rattle.flat_machine.specs.Laws.{HasWords}
-use Rattle.flat_machine.proofs.Lemmas.{all_get, step_in_range}
-use Rattle.phi_algebra.specs.Functions.{apply}
-use Rattle.hart.specs.Deciding.{after_reply}
-use Rattle.machine_ports.specs.Ports.{reference_phi}
-use Rattle.messages.specs.Places.{put}
-use Rattle.messages.specs.Queues.{applied}
+use Rattle.machine_program.specs.flat_machine.declared.config.Config.{Config}
+use Rattle.machine_program.specs.flat_machine.declared.event.Event.{Event}
+use Rattle.machine_program.specs.flat_machine.declared.event.Event.TheVariants as event
+use Rattle.machine_program.specs.flat_machine.declared.event.Retired as retirement
+use Rattle.machine_program.specs.flat_machine.declared.poke.Poke.{Poke}
+use Rattle.machine_program.specs.flat_machine.declared.poke.Entry.{Entry}
+use Rattle.machine_program.specs.flat_machine.declared.poke.Entry.TheVariants as entry
+use Rattle.machine_program.specs.flat_machine.State as flat
+use Rattle.machine_program.specs.flat_machine.State.{Processor, FlatState, is_running, status_of}
+use Rattle.machine_program.specs.flat_machine.Turns.{Turn, Retires, Reaches, Stops, turn_of}
+use Rattle.machine_program.specs.flat_machine.Flat.{flat_step, flat_event, flat_run, flat_events, taken, with_taken, step_of, turned, turn_event, written}
+use Rattle.machine_program.specs.flat_machine.Flat.{is_lawful}
+use Rattle.machine_program.specs.flat_machine.Flat.{with_processor_number}
+use Rattle.machine_program.specs.flat_machine.Laws.{HasWords}
+use Rattle.machine_program.proofs.Lemmas.flat_machine.{all_get, step_in_range}
+use Rattle.serialization.specs.phi_algebra.Functions.{apply}
+use Rattle.machine_program.specs.hart.Deciding.{after_reply}
+use Rattle.machine_program.specs.machine_ports.Ports.{reference_phi}
+use Rattle.serialization.specs.messages.Places.{put}
+use Rattle.serialization.specs.messages.Queues.{applied}
 use Rattle.serialization.specs.Order as theory
 use Rattle.serialization.specs.Order.{FlatMachine, flat_turn}
 use Rattle.machine_program.specs.Processors.{Told, no_processor, setting_of, kind_of, kind_of_turn, alone_by, word_by, retired_by, is_lawful_poke, next}

@@ -2,22 +2,22 @@
 use Rattle.std.proofs.Common.{◌≡◌, ℕ, zero, suc, ◌-◌, ◌/◌, ◌%◌, ◌^◌, ◌<◌, ◌≤◌, Bool, true, false, eqb, List, ◌⊎◌, inl, inr, refl, sym, ap, ◌∙◌, subst, arith}
 use Rattle.std.specs.Prelude.{◌&&◌, nat_lt, slice_set, if◌then◌else◌}
 use Rattle.std.proofs.lemmas.Bool.{cases_eq, ltb-true, and_parts}
-use Rattle.flat_machine.specs.declared.config.Config.{Config}
-use Rattle.flat_machine.specs.declared.poke.Poke.{Poke}
-use Rattle.flat_machine.specs.declared.poke.Poke.TheVariants as poke
-use Rattle.flat_machine.specs.State.{Processor, is_running}
-use Rattle.flat_machine.specs.Turns.{Turn, Retires, Reaches, Stops}
-use Rattle.flat_machine.specs.Flat.{is_lawful_register, with_poked_register, with_poked_byte}
-use Rattle.flat_machine.specs.Memory.{in_local}
-use Rattle.flat_machine.specs.Laws.{AreBelow, HasWords, LeavesWords}
-use Rattle.flat_machine.proofs.Lemmas.{byte_words, register_words, turn_words, with_part_small}
-use Rattle.phi_algebra.specs.Functions.{IsInRange}
-use Rattle.hart.specs.Deciding.{after_reply}
-use Rattle.machine_ports.specs.Ports.{reference_phi}
-use Rattle.machine_ports.proofs.Lemmas.{reference_means}
-use Rattle.messages.specs.Places.{put}
-use Rattle.messages.proofs.Lemmas.{put_other, put_same}
-use Rattle.abstract_machine.specs.Program.{Keeps, Alone, Refers}
+use Rattle.machine_program.specs.flat_machine.declared.config.Config.{Config}
+use Rattle.machine_program.specs.flat_machine.declared.poke.Poke.{Poke}
+use Rattle.machine_program.specs.flat_machine.declared.poke.Poke.TheVariants as poke
+use Rattle.machine_program.specs.flat_machine.State.{Processor, is_running}
+use Rattle.machine_program.specs.flat_machine.Turns.{Turn, Retires, Reaches, Stops}
+use Rattle.machine_program.specs.flat_machine.Flat.{is_lawful_register, with_poked_register, with_poked_byte}
+use Rattle.machine_program.specs.flat_machine.Memory.{in_local}
+use Rattle.machine_program.specs.flat_machine.Laws.{AreBelow, HasWords, LeavesWords}
+use Rattle.machine_program.proofs.Lemmas.flat_machine.{byte_words, register_words, turn_words, with_part_small}
+use Rattle.serialization.specs.phi_algebra.Functions.{IsInRange}
+use Rattle.machine_program.specs.hart.Deciding.{after_reply}
+use Rattle.machine_program.specs.machine_ports.Ports.{reference_phi}
+use Rattle.machine_program.proofs.Lemmas.machine_ports.{reference_means}
+use Rattle.serialization.specs.messages.Places.{put}
+use Rattle.serialization.proofs.Lemmas.messages.{put_other, put_same}
+use Rattle.serialization.specs.abstract_machine.Program.{Keeps, Alone, Refers}
 use Rattle.machine_program.specs.Processors.{Told, setting_of, kind_of, alone_by, retired_by, changed, poked_processors, poked_words, is_lawful_poke, next}
 use Rattle.machine_program.specs.Processors.{program}
 use Rattle.machine_program.proofs.Lemmas.{reaches_of, runs_by}

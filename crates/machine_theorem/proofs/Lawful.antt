@@ -2,21 +2,22 @@
 use Rattle.std.proofs.Common.{◌≡◌, ℕ, Bool, true, false, ◌&&◌, List, [], ◌∷◌, ◌++◌, map, nat_lt, refl, sym, ap, ◌∙◌}
 use Rattle.std.specs.Prelude.{if◌then◌else◌}
 use Rattle.std.proofs.lemmas.Bool.{and_parts}
-use Rattle.flat_machine.specs.declared.config.Config.{Config}
-use Rattle.flat_machine.specs.declared.poke.Poke as pokes
-use Rattle.flat_machine.specs.declared.poke.Entry.{Entry}
-use Rattle.flat_machine.specs.declared.poke.Entry.TheVariants as entry
-use Rattle.messages.specs.declared.message.Request.{Request}
-use Rattle.messages.specs.declared.message.Reply.{Reply}
-use Rattle.messages.specs.declared.moves.UpMove.{UpMove}
-use Rattle.messages.specs.declared.moves.UpMove.TheVariants as up
-use Rattle.messages.specs.declared.moves.DownMove.{DownMove}
-use Rattle.messages.specs.declared.moves.DownMove.TheVariants as down
-use Rattle.messages.specs.Network.{Net, wires}
-use Rattle.messages.specs.Moves.{moved_up, moved_down}
-use Rattle.abstract_machine.specs.Program.{Kind, Rests, Alone, Refers}
-use Rattle.abstract_machine.specs.Machine.{Machine, Turn, Up, Serve, Down, Poke, Issued, Advanced, Retired, Moved, Combined, Served, Answered, Poked, Stalled}
-use Rattle.abstract_machine.specs.Machine.{retire_from, begin, turned, all_shut, poked, step}
+use Rattle.machine_program.specs.flat_machine.declared.config.Config.{Config}
+use Rattle.machine_program.specs.flat_machine.declared.poke.Poke as pokes
+use Rattle.machine_program.specs.flat_machine.declared.poke.Entry.{Entry}
+use Rattle.machine_program.specs.flat_machine.declared.poke.Entry.TheVariants as entry
+use Rattle.serialization.specs.messages.declared.message.Request.{Request}
+use Rattle.serialization.specs.messages.declared.message.Reply.{Reply}
+use Rattle.serialization.specs.messages.declared.moves.UpMove.{UpMove}
+use Rattle.serialization.specs.messages.declared.moves.UpMove.TheVariants as up
+use Rattle.serialization.specs.messages.declared.moves.DownMove.{DownMove}
+use Rattle.serialization.specs.messages.declared.moves.DownMove.TheVariants as down
+use Rattle.serialization.specs.messages.Network.{Net, wires}
+use Rattle.serialization.specs.messages.Moves.{moved_up, moved_down}
+use Rattle.serialization.specs.abstract_machine.Program.{Kind, Rests, Alone, Refers}
+use Rattle.serialization.specs.abstract_machine.Machine.{Machine, Turn, Up, Serve, Down, Poke, Issued, Advanced, Retired, Moved, Combined, Served, Answered}
+use Rattle.serialization.specs.abstract_machine.Machine.{Poked, Stalled}
+use Rattle.serialization.specs.abstract_machine.Machine.{retire_from, begin, turned, all_shut, poked, step}
 use Rattle.serialization.specs.Order.{pass, passes}
 use Rattle.machine_program.specs.Theory.{Result, Step, Outcome, stalled, went_up, went_down, serve_from}
 use Rattle.machine_theorem.specs.Order.{Passed, segment}

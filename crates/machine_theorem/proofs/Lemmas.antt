@@ -8,3 +8,9 @@ pub use Rattle.machine_theorem.proofs.Flat.{run_sound}
 pub use Rattle.machine_theorem.proofs.Good.{keeps, means_change}
 -- Only lawful pokes are in the order.
 pub use Rattle.machine_theorem.proofs.Lawful.{order_lawful}
+-- Lemmas of lower crates, passed on to those above.
+pub use Rattle.serialization.proofs.Lemmas.messages as messages
+pub use Rattle.machine_program.proofs.Lemmas.placement as placement
+pub use Rattle.serialization.proofs.Lemmas.abstract_machine as abstract_machine
+pub use Rattle.serialization.proofs.Lemmas as serialization
+pub use Rattle.machine_program.proofs.Lemmas as machine_program

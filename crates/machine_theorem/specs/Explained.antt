@@ -1,14 +1,14 @@
 -- One serial order of whole instructions explains a run.
 use Rattle.std.specs.Prelude.{◌≡◌, ℕ, ◌≤◌, false, List, [], ◌∷◌, ◌++◌, length, Some, None, slice_index}
-use Rattle.flat_machine.specs.declared.config.Config.{Config}
-use Rattle.flat_machine.specs.declared.poke.Entry.{Entry}
-use Rattle.flat_machine.specs.declared.poke.Entry.TheVariants as entry
-use Rattle.flat_machine.specs.State.{FlatState}
-use Rattle.flat_machine.specs.Flat as flat
-use Rattle.hart.specs.Deciding.{after_reply}
-use Rattle.placement.specs.Roles.{Role}
-use Rattle.abstract_machine.specs.Machine.{Machine, Turn, Retired, step, new_machine, IsIdle}
-use Rattle.abstract_machine.specs.Steadiness.{Steady}
+use Rattle.machine_program.specs.flat_machine.declared.config.Config.{Config}
+use Rattle.machine_program.specs.flat_machine.declared.poke.Entry.{Entry}
+use Rattle.machine_program.specs.flat_machine.declared.poke.Entry.TheVariants as entry
+use Rattle.machine_program.specs.flat_machine.State.{FlatState}
+use Rattle.machine_program.specs.flat_machine.Flat as flat
+use Rattle.machine_program.specs.hart.Deciding.{after_reply}
+use Rattle.serialization.specs.placement.Roles.{Role}
+use Rattle.serialization.specs.abstract_machine.Machine.{Machine, Turn, Retired, step, new_machine, IsIdle}
+use Rattle.serialization.specs.abstract_machine.Steadiness.{Steady}
 use Rattle.serialization.specs.Order.{FlatMachine, flat_of, ran, outcomes}
 use Rattle.serialization.specs.Serialization.{EachServedOnce}
 use Rattle.machine_program.specs.Theory.{Step}

@@ -1,12 +1,12 @@
 -- The flat machine, as the theory of serialization reads it.
 use Rattle.std.specs.Prelude.{◌≡◌, ℕ, ◌^◌, ◌<◌, ◌⊎◌, true, false, List, [], ◌∷◌, ◌++◌, slice_index, slice_index_or}
-use Rattle.flat_machine.specs.declared.config.Config.{Config}
-use Rattle.flat_machine.specs.declared.event.Event.{Event}
-use Rattle.flat_machine.specs.declared.poke.Entry.{Entry}
-use Rattle.flat_machine.specs.declared.poke.Entry.TheVariants as entry
-use Rattle.flat_machine.specs.State.{FlatState, is_running}
-use Rattle.flat_machine.specs.Laws.{HasWords}
-use Rattle.messages.specs.Places.{put}
+use Rattle.machine_program.specs.flat_machine.declared.config.Config.{Config}
+use Rattle.machine_program.specs.flat_machine.declared.event.Event.{Event}
+use Rattle.machine_program.specs.flat_machine.declared.poke.Entry.{Entry}
+use Rattle.machine_program.specs.flat_machine.declared.poke.Entry.TheVariants as entry
+use Rattle.machine_program.specs.flat_machine.State.{FlatState, is_running}
+use Rattle.machine_program.specs.flat_machine.Laws.{HasWords}
+use Rattle.serialization.specs.messages.Places.{put}
 use Rattle.serialization.specs.Order.{FlatMachine}
 use Rattle.machine_program.specs.Processors.{Told, no_processor, is_lawful_poke}
 

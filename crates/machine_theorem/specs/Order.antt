@@ -1,6 +1,6 @@
 -- The words of the serial order, for the entries of the flat machine.
 use Rattle.std.specs.Prelude.{ℕ, List}
-use Rattle.flat_machine.specs.declared.poke.Entry.{Entry}
+use Rattle.machine_program.specs.flat_machine.declared.poke.Entry.{Entry}
 use Rattle.serialization.specs.Order as order
 use Rattle.machine_program.specs.Theory.{Outcome, Result, entries}
 

@@ -1,7 +1,7 @@
 //! Laws of the machine's processors: each is the contract of a function that does nothing.
 
 ghost use Rattle.std.specs.Prelude.{ℕ, List};
-ghost use Rattle.flat_machine.specs.declared.config.Config.{Config};
+ghost use Rattle.machine_program.specs.flat_machine.declared.config.Config.{Config};
 ghost use Rattle.machine_theorem.specs.Explained.{RunsAreExplained};
 
 /// Whatever steps a machine takes, one serial order of whole instructions of the flat machine

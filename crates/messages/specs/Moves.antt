@@ -9,6 +9,7 @@ use Rattle.messages.specs.declared.moves.UpMove.TheVariants as up
 use Rattle.messages.specs.declared.moves.DownMove.{DownMove}
 use Rattle.messages.specs.declared.moves.DownMove.TheVariants as down
 use Rattle.messages.specs.Queues.{Combination, combination, unmarked, answers, records_of, records_but}
+use Rattle.messages.specs.Seconds.{seconds_told}
 use Rattle.messages.specs.Network.{Sizes, wires, Net, put_requests, put_records, put_replies}
 
 -- ---- up
@@ -54,10 +55,9 @@ abbrev pub has_room : (c : ℕ) → (wire : ℕ → ℕ) → ℕ → Net → Lis
 has_room c wire s net [] = true
 has_room c wire s net (y ∷ ys) = nat_le (length (net.replies s (wire y.leader))) c && has_room c wire s net ys
 
--- A leader has one record at most in a wait buffer, as r is 1.
 abbrev pub answered : List Record → DownMove
 answered [] = down.Moved
-answered (e ∷ es) = down.Answered e.second
+answered (e ∷ es) = down.Answered (seconds_told e es)
 
 -- the reply x, taken out of its place, is answered at output w of stage s: all its replies are put, or none is
 abbrev pub answer : Sizes → Net → Net → ℕ → ℕ → Reply → List Record → DownMove × Net

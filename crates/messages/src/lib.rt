@@ -16,7 +16,9 @@
 mod laws;
 mod message;
 mod moves;
+mod seconds;
 
-pub use laws::moves_of_nothing_stall;
+pub use laws::{moves_of_nothing_stall, seconds_are_told};
 pub use message::{Record, Reply, Request};
 pub use moves::{DownMove, UpMove};
+pub use seconds::Seconds;

@@ -1,5 +1,7 @@
 //! What moves answer.
 
+use crate::seconds::Seconds;
+
 /// What a move of a request to the next stage did.
 #[derive(Clone, Copy, Debug, PartialEq, Eq, Drop)]
 pub enum UpMove {
@@ -21,10 +23,10 @@ pub enum UpMove {
 pub enum DownMove {
     /// The reply went on alone.
     Moved,
-    /// It went on, and so did the reply of the second that was combined with its leader.
+    /// It went on, and so did the replies of the seconds that were combined with its leader.
     Answered {
-        /// The second.
-        to: u8,
+        /// The seconds.
+        to: Seconds,
     },
     /// Nothing: there was no reply, or no room for all replies.
     Stalled,

@@ -3,6 +3,9 @@
 //! `network_bench KIND ROUNDS`: in each round 64 processors send a request, and each message is moved
 //! until all have their replies. KIND is `one`, where all add 1 to one word and combine at each stage,
 //! or `each`, where each adds 1 to a word of its own module. With no arguments it does 10 rounds of both.
+//! Standard output has what the rounds came to, standard error the time of the moves, which has nothing of
+//! the other calls: before a request or a reply is put in it is asked whom the network names, which looks
+//! through all of it.
 #![tactic(auto)]
 
 ghost use Rattle.std.specs.Prelude.{◌<◌, ◌≤◌};
@@ -12,7 +15,8 @@ use messages::{DownMove, Reply, Request, UpMove};
 use omega_network::Network;
 use phi_algebra::Phi;
 use std::alloc::{AllocError, Global};
-use std::env;
+use std::time::{Clock, Duration, Instant};
+use std::{env, io};
 
 /// How many stages the network has: the most that there may be.
 const STAGES: u8 = 6;
@@ -65,45 +69,62 @@ struct Bench {
     moves: u64,
     replies: u64,
     sum: u64,
+    time: Duration,
 }
 
 impl Bench {
     fn new(alloc: Global) -> Result<Self, AllocError> {
         Ok(Bench {
-            network: Network::new(alloc, STAGES, 4, 4)?,
+            network: Network::new(alloc, STAGES, 4, 4, 1)?,
             words: [0; 64],
             moves: 0,
             replies: 0,
             sum: 0,
+            time: Duration::ZERO,
         })
     }
 
     /// Each processor's reference, from its request to its reply.
-    fn round(&mut self, kind: Kind) {
+    fn round(&mut self, clock: &impl Clock, kind: Kind) -> io::Result<()> {
         for processor in 0..WIRES {
             self.inject(processor, kind.word(processor));
         }
+        let start = Instant::now(clock)?;
+        self.all_up(kind);
+        self.time = self.time.saturating_add(start.elapsed(clock)?);
+        for module in (0..WIRES).step_by(kind.step(STAGES)) {
+            self.serve(module);
+        }
+        let start = Instant::now(clock)?;
+        self.all_down(kind);
+        self.time = self.time.saturating_add(start.elapsed(clock)?);
+        for processor in 0..WIRES {
+            self.take(processor);
+        }
+        Ok(())
+    }
+
+    /// All requests go to their modules.
+    fn all_up(&mut self, kind: Kind) {
         for stage in 0..STAGES {
             for wire in (0..WIRES).step_by(kind.step(stage)) {
                 self.up(stage, wire);
             }
         }
-        for module in (0..WIRES).step_by(kind.step(STAGES)) {
-            self.serve(module);
-        }
+    }
+
+    /// All replies go to their processors.
+    fn all_down(&mut self, kind: Kind) {
         for stage in (0..STAGES).rev() {
             for wire in (0..WIRES).step_by(kind.step(stage + 1)) {
                 self.down(stage, wire);
             }
         }
-        for processor in 0..WIRES {
-            self.take(processor);
-        }
     }
 
     fn inject(&mut self, leader: u8, word: u32) {
         let network = &mut self.network;
-        if leader < network.wires() && network.slot_is_free(leader) {
+        if leader < network.wires() && network.slot_is_free(leader) && !network.names(leader) {
             let request = Request {
                 leader,
                 word,
@@ -138,7 +159,10 @@ impl Bench {
             value: *word,
         };
         *word = request.phi.apply(*word);
-        if network.module_is_free(module) {
+        if network.module_is_free(module)
+            && reply.leader < network.wires()
+            && network.may_reply(reply.leader)
+        {
             network.module_reply(module, reply);
         }
     }
@@ -165,10 +189,10 @@ impl Bench {
 }
 
 /// What the rounds of a kind did.
-fn run_rounds(alloc: Global, kind: Kind, rounds: u32) -> Result<Bench, AllocError> {
+fn run_rounds(alloc: Global, clock: &impl Clock, kind: Kind, rounds: u32) -> anyhow::Result<Bench> {
     let mut bench = Bench::new(alloc)?;
     for _ in 0..rounds {
-        bench.round(kind);
+        bench.round(clock, kind)?;
     }
     Ok(bench)
 }
@@ -182,7 +206,7 @@ fn main(rt: HostRuntime) -> anyhow::Result<()> {
         _ => bail!("usage: network_bench [one|each ROUNDS]"),
     };
     for kind in kinds {
-        let bench = run_rounds(rt.alloc(), *kind, rounds)?;
+        let bench = run_rounds(rt.alloc(), &rt, *kind, rounds)?;
         println!(rt;
             "{}: {} rounds, {} moves, {} replies, their sum {}",
             kind.name(),
@@ -190,6 +214,11 @@ fn main(rt: HostRuntime) -> anyhow::Result<()> {
             bench.moves,
             bench.replies,
             bench.sum
+        )?;
+        eprintln!(rt;
+            "{}: moves in {} microseconds",
+            kind.name(),
+            bench.time.as_micros()
         )?;
     }
     Ok(())

@@ -15,10 +15,10 @@ use Rattle.messages.specs.declared.moves.DownMove.TheVariants as down
 use Rattle.messages.specs.Places.{In}
 use Rattle.messages.specs.Queues.{Combination, answers, combination, merged, records_but, records_of, unmarked}
 use Rattle.messages.specs.Network.{Net, Sizes, wires, put_records, put_replies, put_requests}
-use Rattle.messages.specs.Moves.{accepted, answered, combined, down_from, has_room, injected, module_replied, module_taken, moved_down, moved_up, port_taken}
+use Rattle.messages.specs.Moves.{accepted, answered, combined, down_from, has_room, injected, module_replied, module_taken, moved_down, moved_up}
+use Rattle.messages.specs.Moves.{port_taken}
 use Rattle.messages.specs.Moves.{push_all, up_from}
-use Rattle.messages.proofs.Lemmas.{In-append, In-append_left, In-append_right, In-filter, In-put2}
-use Rattle.placement.proofs.Lemmas.{Joins, combination_joins, from_answers}
+use Rattle.messages.proofs.Lemmas.{In-append, In-append_left, In-append_right, In-filter, In-put2, Joins, combination_joins, from_answers}
 use Rattle.network_paths.specs.Paths.{EmptyNetworksKeepToPaths, InjectingKeepsToPaths, KeepToPaths, MovingDownKeepsToPaths, MovingUpKeepsToPaths}
 use Rattle.network_paths.specs.Paths.{OthersDoNotCount, RecordOnPath, RepliesArrive, ReplyOnPath, RequestOnPath, RequestsArrive, ServingKeepsToPaths}
 use Rattle.network_paths.specs.Paths.{TakingKeepsToPaths}

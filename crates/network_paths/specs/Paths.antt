@@ -2,13 +2,14 @@
 --
 -- `goes p m` tells whether processor p has a reference to module m that is on its way, there or back. Where each processor has
 -- one reference at a time, there is one such m at most.
-use Rattle.std.specs.Prelude.{◌≡◌, ◌⊎◌, ℕ, suc, ◌<◌, ◌≤◌, ◌%◌, ◌^◌, Bool, true}
+use Rattle.std.specs.Prelude.{◌≡◌, ℕ, suc, ◌<◌, ◌≤◌, ◌%◌, ◌^◌, Bool, true}
 use Rattle.omega_wires.specs.Wires.{path}
 use Rattle.messages.specs.declared.message.Request.{Request}
 use Rattle.messages.specs.declared.message.Reply.{Reply}
 use Rattle.messages.specs.declared.message.Record.{Record}
 use Rattle.messages.specs.Places.{In}
 use Rattle.messages.specs.Network.{IsEmptyNet, Net, Sizes, wires}
+use Rattle.messages.specs.Naming.{Names}
 use Rattle.messages.specs.Moves.{injected, module_replied, module_taken, moved_down, moved_up, port_taken}
 
 -- A request at depth d on wire w stands on its leader's path to the module that has its word.
@@ -43,13 +44,6 @@ pub record KeepToPaths (z : Sizes) (goes : ℕ → ℕ → Bool) (net : Net) : T
   pub requests : (d w : ℕ) (x : Request) → In x (net.requests d w) → RequestOnPath z.k goes d w x
   pub records : (s w : ℕ) (x : Record) → In x (net.records s w) → RecordOnPath z.k goes s w x
   pub replies : (d w : ℕ) (x : Reply) → In x (net.replies d w) → ReplyOnPath z.k goes d w x
-
--- p leads a message or a record, or is the second of a record
-abbrev pub Names : Net → (p : ℕ) → Type 0
-Names net p =
-    ((d w : ℕ) × (x : Request) × In x (net.requests d w) × (x.leader ≡ p))
-    ⊎ (((s w : ℕ) × (x : Record) × In x (net.records s w) × ((x.leader ≡ p) ⊎ (x.second ≡ p)))
-    ⊎ ((d w : ℕ) × (x : Reply) × In x (net.replies d w) × (x.leader ≡ p)))
 
 -- ---- what the calls of a network keep
 

@@ -6,14 +6,14 @@ mod both;
 mod buffers;
 mod cells;
 mod indexed;
+mod memory;
 mod plain;
-mod pooled;
 mod random;
 mod runs;
 mod switches;
 mod wires;
 
-use messages::{DownMove, Request, UpMove};
+use messages::{DownMove, Request, Seconds, UpMove};
 use phi_algebra::{Phi, SignedRange};
 
 /// What an AMO makes of a word, as the tables name it.
@@ -40,8 +40,8 @@ enum Answer {
     Moved,
     /// The first leader, and the second.
     Combined(u8, u8),
-    /// The leader that gets the second reply.
-    Answered(u8),
+    /// Those who get replies beside the leader.
+    Answered(Seconds),
     Stalled,
 }
 

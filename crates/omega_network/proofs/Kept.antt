@@ -1,215 +1,74 @@
--- What stays of a network and of a switch through every change.
-use Rattle.std.proofs.Common.{◌≡◌, ℕ, zero, suc, ◌+◌, ◌*◌, ◌/◌, ◌^◌, ◌<◌, Bool, true, false, List, [], ◌∷◌, length, set, get_or, nat_lt, Option, Some, None}
-use Rattle.std.proofs.Common.{◌⊎◌, inl, inr, refl, sym, ap, ◌∙◌, subst, arith, get_or-set_same, get_or-set_other, length-set}
+-- What stays of a network through a change of its pool or of the records of a switch.
+use Rattle.std.proofs.Common.{◌≡◌, ℕ, zero, suc, ◌+◌, ◌*◌, ◌/◌, ◌%◌, ◌^◌, ◌<◌, List, length, set, ◌⊎◌, inl, inr, refl, sym, ap, ◌∙◌, subst, arith, length-set}
 use Rattle.std.proofs.lemmas.Bool.{cases_eq}
-use Rattle.omega_wires.specs.Laws.{RotationsStayOnWires}
-use Rattle.omega_wires.specs.Wires.{bit, bit_of_stage, rotated_left, switch_of}
-use Rattle.messages.specs.declared.message.Request.{Request}
-use Rattle.messages.specs.declared.message.Reply.{Reply}
 use Rattle.messages.specs.declared.message.Record.{Record}
-use Rattle.messages.specs.Queues.{Combination, answers, combination, records_but, records_of}
-use Rattle.combining_switch.specs.Outputs.{OutputLists, accepted, accepted_as, empty_output, most_marks, queued}
-use Rattle.combining_switch.specs.Switches.{SwitchLists, answered, answered_from, empty_switch, has_room, output_of, put_replies, put_reply, records_at}
-use Rattle.combining_switch.specs.Switches.{with_inputs, with_output, with_records, with_requests}
-use Rattle.omega_network.specs.Networks.{IsNetwork, IsSwitchOf, NetworkLists, half, switch_at}
-use Rattle.omega_network.specs.Changes.{with_module_slot, with_slot, with_switch}
-use Rattle.omega_network.proofs.Switches.{half_of_wire, place_within, switch_kept, switch_put}
+use Rattle.messages.specs.Places.{put2}
+use Rattle.message_cells.specs.Pools.{PoolLists}
+use Rattle.combining_switch.specs.Switches.{SwitchState, records_at, with_records}
+use Rattle.omega_network.specs.Networks.{AreSeconds, IsNetwork, NetworkLists, half, records_behind, switch_at, the_switch}
+use Rattle.omega_network.proofs.Changes.{records_put}
+use Rattle.omega_network.proofs.Switches.{half_of_wire, switch_kept, switch_put, with_pool, with_switch}
 
-module _ (c b i : ℕ) where
-  pub output_kept : (s : SwitchLists) (out : ℕ) (o : OutputLists) → IsSwitchOf c b i s → out < 2 → o.c ≡ c → o.b ≡ b → IsSwitchOf c b i (with_output s out o)
-  output_kept s out o is l ec eb = record {
-    c_is = is.c_is;
-    bit_is = is.bit_is;
-    two_outputs = length-set s.outputs out o ∙ is.two_outputs;
-    two_inputs = is.two_inputs;
-    outputs = λ v m d. go v m d (cases_eq v out);
-  }
-    where
-      within : out < length s.outputs
-      within = let two = is.two_outputs in omega arith
+-- a pool with as many cells and queues
+pub record IsLike (pool pool' : PoolLists) : Type 0 where
+  pub cells : pool'.cells ≡ pool.cells
+  pub requests : length pool'.requests ≡ length pool.requests
+  pub replies : length pool'.replies ≡ length pool.replies
 
-      go : (v : ℕ) → v < 2 → (d : OutputLists) → (v ≡ out) ⊎ (v ≡ out → ⊥) →
-          ((get_or (set s.outputs out o) v d).c ≡ c) × ((get_or (set s.outputs out o) v d).b ≡ b)
-      go v m d (inl e) =
-          let same : get_or (set s.outputs out o) v d ≡ o = ap (λ u. get_or (set s.outputs out o) u d) e ∙ get_or-set_same s.outputs out o d within in
-          (ap (λ (p : OutputLists). p.c) same ∙ ec, ap (λ (p : OutputLists). p.b) same ∙ eb)
-      go v m d (inr away) =
-          let same : get_or (set s.outputs out o) v d ≡ get_or s.outputs v d = get_or-set_other s.outputs out v o d away in
-          (ap (λ (p : OutputLists). p.c) same ∙ (is.outputs v m d).0, ap (λ (p : OutputLists). p.b) same ∙ (is.outputs v m d).1)
-
-  pub inputs_kept : (s : SwitchLists) (inputs : List (List Reply)) → IsSwitchOf c b i s → length inputs ≡ 2 → IsSwitchOf c b i (with_inputs s inputs)
-  inputs_kept s inputs is two = record { c_is = is.c_is; bit_is = is.bit_is; two_outputs = is.two_outputs; two_inputs = two; outputs = is.outputs }
-
-pub empty_is : (c b i : ℕ) → IsSwitchOf c b i (empty_switch c b i)
-empty_is c b i = record { c_is = refl; bit_is = refl; two_outputs = refl; two_inputs = refl; outputs = at }
-  where
-    at : (out : ℕ) → out < 2 → (d : OutputLists) →
-        ((get_or (empty_output c b ∷ empty_output c b ∷ []) out d).c ≡ c) × ((get_or (empty_output c b ∷ empty_output c b ∷ []) out d).b ≡ b)
-    at zero l d = (refl, refl)
-    at (suc zero) l d = (refl, refl)
-    at (suc (suc out)) l d = absurd (omega arith)
-
--- the output's sizes stay
-accepted_sizes : (o : OutputLists) (x : Request) → ((accepted o x).1.c ≡ o.c) × ((accepted o x).1.b ≡ o.b)
-unfolding accepted
-accepted_sizes o x = go (combination o.b most_marks x o.requests o.records)
-  where
-    full : (b : Bool) → nat_lt (length o.requests) o.c ≡ b → ((queued o x).1.c ≡ o.c) × ((queued o x).1.b ≡ o.b)
-    full true e = rw e (refl, refl)
-    full false e = rw e (refl, refl)
-
-    go : (j : Option Combination) → ((accepted_as o x j).1.c ≡ o.c) × ((accepted_as o x j).1.b ≡ o.b)
-    go None = full (nat_lt (length o.requests) o.c) refl
-    go (Some j) = (refl, refl)
-
-pub accepted_kept : (c b i : ℕ) (s : SwitchLists) (out : ℕ) (x : Request) → IsSwitchOf c b i s → out < 2 →
-    IsSwitchOf c b i (with_output s out (accepted (output_of s out) x).1)
-accepted_kept c b i s out x is l =
-    let sizes = accepted_sizes (output_of s out) x in
-    let had = is.outputs out l (empty_output 0 0) in
-    output_kept c b i s out (accepted (output_of s out) x).1 is l (sizes.0 ∙ had.0) (sizes.1 ∙ had.1)
-
-pub length-put_replies : (i : ℕ) (ys : List Reply) (inputs : List (List Reply)) → length (put_replies i ys inputs) ≡ length inputs
-unfolding put_replies
-length-put_replies i [] inputs = refl
-length-put_replies i (y ∷ ys) inputs = length-put_replies i ys (put_reply i inputs y) ∙ length-set inputs (bit i y.leader) _
-
-pub answered_kept : (c b i : ℕ) (s : SwitchLists) (out : ℕ) (x : Reply) → IsSwitchOf c b i s → out < 2 → IsSwitchOf c b i (answered s out x).1
-unfolding answered
-answered_kept c b i s out x is l = go (has_room s.c s.its_bit all (answers records x)) refl
-  where
-    records : List Record
-    records = records_of x.leader (records_at s out)
-
-    all : List (List Reply)
-    all = put_replies s.its_bit (answers records x) s.inputs
-
-    go : (r : Bool) → has_room s.c s.its_bit (put_replies s.its_bit (answers (records_of x.leader (records_at s out)) x) s.inputs)
-        (answers (records_of x.leader (records_at s out)) x) ≡ r → IsSwitchOf c b i (answered_from s out x (records_of x.leader (records_at s out))).1
-    go false e = rw e is
-    go true e =
-        let had = is.outputs out l (empty_output 0 0) in
-        rw e (inputs_kept c b i (with_records s out (records_but x.leader (records_at s out)))
-        (put_replies s.its_bit (answers (records_of x.leader (records_at s out)) x) s.inputs)
-        (output_kept c b i s out _ is l had.0 had.1) (length-put_replies s.its_bit (answers (records_of x.leader (records_at s out)) x) s.inputs
-        ∙ is.two_inputs))
-
--- ---- networks
-
-pub with_switch_kept : (n : NetworkLists) (s i : ℕ) (t : SwitchLists) → IsNetwork n → s < n.k → i < half n.k → IsSwitchOf n.c n.b (bit_of_stage n.k s) t →
-    IsNetwork (with_switch n s i t)
-with_switch_kept n s i t is l m new = record {
+pub pool_kept : (n : NetworkLists) (pool : PoolLists) → IsNetwork n → IsLike n.pool pool → AreSeconds pool (records_behind n) → IsNetwork (with_pool n pool)
+unfolding records_behind
+pool_kept n pool is like seconds = record {
   few = is.few;
-  all_slots = is.all_slots;
-  all_module_slots = is.all_module_slots;
-  all_switches = length-set n.switches (s * half n.k + i) t ∙ is.all_switches;
-  each_switch = λ s' i' l' m'. go s' i' l' m' (cases_eq s' s) (cases_eq i' i);
-}
-  where
-    put : switch_at (with_switch n s i t) s i ≡ t
-    put = switch_put n s i t l m is.all_switches
-
-    go : (s' i' : ℕ) → s' < n.k → i' < half n.k → (s' ≡ s) ⊎ (s' ≡ s → ⊥) → (i' ≡ i) ⊎ (i' ≡ i → ⊥) →
-        IsSwitchOf n.c n.b (bit_of_stage n.k s') (switch_at (with_switch n s i t) s' i')
-    go s' i' l' m' (inl a) (inl e) =
-        let same : switch_at (with_switch n s i t) s' i' ≡ t = (λ j. switch_at (with_switch n s i t) (a j) (e j)) ∙ put in
-        subst (λ (u : SwitchLists). IsSwitchOf n.c n.b (bit_of_stage n.k s') u) (sym same) (subst (λ v. IsSwitchOf n.c n.b (bit_of_stage n.k v) t) (sym a) new)
-    go s' i' l' m' (inl a) (inr e) = subst (λ (u : SwitchLists). IsSwitchOf n.c n.b (bit_of_stage n.k s') u)
-        (sym (switch_kept n s i t l m is.all_switches s' i' m' (λ _ f. e f))) (is.each_switch s' i' l' m')
-    go s' i' l' m' (inr a) _ = subst (λ (u : SwitchLists). IsSwitchOf n.c n.b (bit_of_stage n.k s') u)
-        (sym (switch_kept n s i t l m is.all_switches s' i' m' (λ f _. a f))) (is.each_switch s' i' l' m')
-
-pub with_slot_kept : (n : NetworkLists) (p : ℕ) (x : Option Request) → IsNetwork n → IsNetwork (with_slot n p x)
-with_slot_kept n p x is = record {
-  few = is.few;
-  all_slots = length-set n.slots p x ∙ is.all_slots;
-  all_module_slots = is.all_module_slots;
+  all_cells = like.cells ∙ is.all_cells;
+  all_requests = like.requests ∙ is.all_requests;
+  all_replies = like.replies ∙ is.all_replies;
   all_switches = is.all_switches;
   each_switch = is.each_switch;
+  seconds = seconds;
 }
 
-pub with_module_slot_kept : (n : NetworkLists) (m : ℕ) (y : Option Reply) → IsNetwork n → IsNetwork (with_module_slot n m y)
-with_module_slot_kept n m y is = record {
+-- a switch keeps its form
+abbrev HasForm : (k c b r s i : ℕ) → SwitchState → Type 0
+HasForm k c b r s i t = t ≡ the_switch k c b r s i (records_at t 0) (records_at t 1)
+
+form_kept : (k c b r s i : ℕ) (t : SwitchState) (out : ℕ) (es : List Record) → out < 2 → t ≡ the_switch k c b r s i (records_at t 0) (records_at t 1)
+    → HasForm k c b r s i (with_records t out es)
+form_kept k c b r s i t out es l form = subst (λ u. HasForm k c b r s i (with_records u out es)) (sym form) (go out l)
+  where
+    go : (out : ℕ) → out < 2 → HasForm k c b r s i (with_records (the_switch k c b r s i (records_at t 0) (records_at t 1)) out es)
+    go zero m = refl
+    go (suc zero) m = refl
+    go (suc (suc v)) m = absurd (omega arith)
+
+pub records_kept : (n : NetworkLists) (is : IsNetwork n) (s w : ℕ) (stage : s < n.k) (wire : w < 2 ^ n.k) (es : List Record)
+    → AreSeconds n.pool (put2 (records_behind n) s w es)
+    → IsNetwork (with_switch n s (w / 2) (with_records (switch_at n s (w / 2)) (w % 2) es))
+records_kept n is s w stage wire es seconds = record {
   few = is.few;
-  all_slots = is.all_slots;
-  all_module_slots = length-set n.module_slots m y ∙ is.all_module_slots;
-  all_switches = is.all_switches;
-  each_switch = is.each_switch;
+  all_cells = is.all_cells;
+  all_requests = is.all_requests;
+  all_replies = is.all_replies;
+  all_switches = length-set n.switches (s * half n.k + w / 2) (with_records (switch_at n s (w / 2)) (w % 2) es) ∙ is.all_switches;
+  each_switch = λ s' i' l m. each s' i' l m (cases_eq s' s) (cases_eq i' (w / 2));
+  seconds = subst (AreSeconds n.pool) (sym (records_put n is s w stage wire es)) seconds;
 }
+  where
+    number : w / 2 < half n.k
+    number = half_of_wire n.k s w stage wire
 
--- a switch of the network with one output's requests, or one input's replies, changed
-pub requests_kept : (c b i : ℕ) (s : SwitchLists) (out : ℕ) (xs : List Request) → IsSwitchOf c b i s → out < 2
-    → IsSwitchOf c b i (with_output s out (record { c = (output_of s out).c; b = (output_of s out).b; requests = xs; records = (output_of s out).records }))
-requests_kept c b i s out xs is l = let had = is.outputs out l (empty_output 0 0) in output_kept c b i s out _ is l had.0 had.1
+    rest : w % 2 < 2
+    rest = omega arith
 
-pub replies_kept : (c b i : ℕ) (s : SwitchLists) (inp : ℕ) (ys : List Reply) → IsSwitchOf c b i s → IsSwitchOf c b i (with_inputs s (set s.inputs inp ys))
-replies_kept c b i s inp ys is = inputs_kept c b i s (set s.inputs inp ys) is (length-set s.inputs inp ys ∙ is.two_inputs)
-
--- ---- a switch that is replaced where it stands
-
-pub get_or_any : {X : Type 0} (xs : List X) (i : ℕ) (d e : X) → i < length xs → get_or xs i d ≡ get_or xs i e
-get_or_any [] i d e l = absurd (omega arith)
-get_or_any (x ∷ xs) zero d e l = refl
-get_or_any (x ∷ xs) (suc i) d e l = get_or_any xs i d e (omega arith)
-
-abbrev pub put_at : NetworkLists → (place : ℕ) → SwitchLists → NetworkLists
-put_at n place t = record { k = n.k; c = n.c; b = n.b; slots = n.slots; switches = set n.switches place t; module_slots = n.module_slots }
-
--- switch i of stage s is u, and stands at this place. The network n is m as a caller sees it
-pub record Found (n m : NetworkLists) (s i place : ℕ) (u : SwitchLists) : Type 0 where
-  pub view : n ≡ m
-  pub is : IsNetwork n
-  pub stage : s < m.k
-  pub number : i < half m.k
-  pub exact : place ≡ s * half m.k + i
-  pub at : u ≡ get_or n.switches place u
-
--- the switch that a wire comes from after a stage, and the one that it goes to before a stage
-pub found_behind : {n m : NetworkLists} {s w place : ℕ} {u : SwitchLists} → n ≡ m → IsNetwork n → s < m.k → w < 2 ^ m.k →
-    place ≡ s * half m.k + w / 2 → u ≡ get_or n.switches place u → Found n m s (w / 2) place u
-found_behind {n} {m} {s} {w} view is stage wire exact at =
-    record { view = view; is = is; stage = stage; number = half_of_wire m.k s w stage wire; exact = exact; at = at }
-
-pub found_before : {n m : NetworkLists} {s w place : ℕ} {u : SwitchLists} → RotationsStayOnWires → n ≡ m → IsNetwork n → s < m.k → w < 2 ^ m.k →
-    place ≡ s * half m.k + switch_of m.k w → u ≡ get_or n.switches place u → Found n m s (switch_of m.k w) place u
-found_before {n} {m} {s} {w} on_wires view is stage wire exact at =
-    record { view = view; is = is; stage = stage; number = half_of_wire m.k s (rotated_left m.k w) stage ((on_wires m.k w wire).0); exact = exact; at = at }
-
-module _ (n m : NetworkLists) (s i place : ℕ) (u : SwitchLists) (found : Found n m s i place u) where
-  k_is : n.k ≡ m.k
-  k_is = ap (λ (l : NetworkLists). l.k) found.view
-
-  place_is : place ≡ s * half n.k + i
-  place_is = found.exact ∙ ap (λ k. s * half k + i) (sym k_is)
-
-  pub stage_is : s < n.k
-  stage_is = let e = k_is in let l = found.stage in omega arith
-
-  pub number_is : i < half n.k
-  number_is = subst (λ k. i < half k) (sym k_is) found.number
-
-  pub switch_is : u ≡ switch_at n s i
-  switch_is =
-      found.at ∙ ap (λ p. get_or n.switches p u) place_is
-      ∙ get_or_any n.switches (s * half n.k + i) u (empty_switch 0 0 0) (place_within n.k s i (length n.switches) stage_is number_is found.is.all_switches)
-
-  pub put_is : (t : SwitchLists) → put_at n place t ≡ with_switch n s i t
-  put_is t = ap (λ p. put_at n p t) place_is
-
-  pub had_is : IsSwitchOf n.c n.b (bit_of_stage n.k s) u
-  had_is = subst (λ (v : SwitchLists). IsSwitchOf n.c n.b (bit_of_stage n.k s) v) (sym switch_is) (found.is.each_switch s i stage_is number_is)
-
-  replaced : (t t' : SwitchLists) → t ≡ t' → IsSwitchOf n.c n.b (bit_of_stage n.k s) t' → IsNetwork (put_at n place t)
-  replaced t t' same kept = subst IsNetwork (sym (put_is t ∙ ap (with_switch n s i) same)) (with_switch_kept n s i t' found.is stage_is number_is kept)
-
-  pub accept_stays : (v : ℕ) (x : Request) (t : SwitchLists) → v < 2 → t ≡ with_output u v (accepted (output_of u v) x).1 → IsNetwork (put_at n place t)
-  accept_stays v x t l same = replaced t (with_output u v (accepted (output_of u v) x).1) same (accepted_kept n.c n.b (bit_of_stage n.k s) u v x had_is l)
-
-  pub answer_stays : (v : ℕ) (x : Reply) (t : SwitchLists) → v < 2 → t ≡ (answered u v x).1 → IsNetwork (put_at n place t)
-  answer_stays v x t l same = replaced t (answered u v x).1 same (answered_kept n.c n.b (bit_of_stage n.k s) u v x had_is l)
-
-  pub take_stays : (v : ℕ) (xs : List Request) (t : SwitchLists) → v < 2 → t ≡ with_requests u v xs → IsNetwork (put_at n place t)
-  take_stays v xs t l same = replaced t (with_requests u v xs) same (requests_kept n.c n.b (bit_of_stage n.k s) u v xs had_is l)
-
-  pub reply_take_stays : (v : ℕ) (ys : List Reply) (t : SwitchLists) → t ≡ with_inputs u (set u.inputs v ys) → IsNetwork (put_at n place t)
-  reply_take_stays v ys t same = replaced t (with_inputs u (set u.inputs v ys)) same (replies_kept n.c n.b (bit_of_stage n.k s) u v ys had_is)
+    each : (s' i' : ℕ) → s' < n.k → i' < half n.k → (s' ≡ s) ⊎ (s' ≡ s → ⊥) → (i' ≡ w / 2) ⊎ (i' ≡ w / 2 → ⊥)
+        → HasForm n.k n.c n.b n.r s' i' (switch_at (with_switch n s (w / 2) (with_records (switch_at n s (w / 2)) (w % 2) es)) s' i')
+    each s' i' l m (inl a) (inl e) =
+        subst (λ v. HasForm n.k n.c n.b n.r v i' (switch_at (with_switch n s (w / 2) (with_records (switch_at n s (w / 2)) (w % 2) es)) v i')) (sym a)
+        (subst (λ v. HasForm n.k n.c n.b n.r s v (switch_at (with_switch n s (w / 2) (with_records (switch_at n s (w / 2)) (w % 2) es)) s v)) (sym e)
+        (subst (HasForm n.k n.c n.b n.r s (w / 2)) (sym (switch_put n s (w / 2) (with_records (switch_at n s (w / 2)) (w % 2) es) stage number is.all_switches))
+        (form_kept n.k n.c n.b n.r s (w / 2) (switch_at n s (w / 2)) (w % 2) es rest (is.each_switch s (w / 2) stage number))))
+    each s' i' l m (inl a) (inr e) = subst (HasForm n.k n.c n.b n.r s' i')
+        (sym (switch_kept n s (w / 2) (with_records (switch_at n s (w / 2)) (w % 2) es) stage number is.all_switches s' i' m (λ _ q. e q)))
+        (is.each_switch s' i' l m)
+    each s' i' l m (inr a) e = subst (HasForm n.k n.c n.b n.r s' i')
+        (sym (switch_kept n s (w / 2) (with_records (switch_at n s (w / 2)) (w % 2) es) stage number is.all_switches s' i' m (λ p _. a p)))
+        (is.each_switch s' i' l m)

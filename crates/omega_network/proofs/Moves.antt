@@ -1,8 +1,7 @@
--- A move as what a switch did with the message, which is then taken from its place.
-use Rattle.std.proofs.Common.{◌≡◌, ℕ, suc, ◌%◌, ◌^◌, ◌<◌, Bool, true, false, ◌&&◌, List, [], ◌∷◌, ◌++◌, length, drop, nat_lt, Option, Some, None, refl, sym}
-use Rattle.std.proofs.Common.{ap, ◌∙◌, arith, lt-ltb}
-use Rattle.std.specs.Prelude.{IsTrue, if◌then◌else◌, is_some, nat_le, not, slice_get}
-use Rattle.phi_algebra.specs.declared.phi.Phi.{Phi}
+-- A move is what the switch does with a message that was taken out of its place, if the switch, asked before, would take it.
+use Rattle.std.proofs.Common.{◌≡◌, ℕ, suc, ◌^◌, ◌%◌, ◌<◌, Bool, true, false, ◌&&◌, List, [], ◌∷◌, ◌++◌, length, drop, nat_lt, Option, Some, None, ◌⊎◌, inl, inr}
+use Rattle.std.proofs.Common.{refl, sym, ap, ◌∙◌, subst, arith, lt-ltb}
+use Rattle.std.specs.Prelude.{IsTrue, is_some, nat_le, not, slice_get, if◌then◌else◌}
 use Rattle.omega_wires.specs.Wires.{wire_after, wire_before}
 use Rattle.messages.specs.declared.message.Request.{Request}
 use Rattle.messages.specs.declared.message.Reply.{Reply}
@@ -12,20 +11,15 @@ use Rattle.messages.specs.declared.moves.UpMove.TheVariants as up
 use Rattle.messages.specs.declared.moves.DownMove.{DownMove}
 use Rattle.messages.specs.declared.moves.DownMove.TheVariants as down
 use Rattle.messages.specs.Places.{put2}
-use Rattle.messages.specs.Queues.{Combination, answers, behind, combination, combined_in, joint, records_but, records_of, unmarked}
+use Rattle.messages.specs.Queues.{Combination, answers, combination, records_but, records_of}
+use Rattle.messages.specs.Seconds.{seconds_told}
 use Rattle.messages.specs.Network.{Net, Sizes, put_records, put_replies, put_requests, wires}
 use Rattle.messages.specs.Moves as moves
-use Rattle.combining_switch.specs.declared.answers.Accepted.{Accepted}
-use Rattle.combining_switch.specs.declared.answers.Accepted.TheVariants.{Queued, Combined, Full}
-use Rattle.combining_switch.specs.declared.answers.Answered.{Answered}
-use Rattle.combining_switch.specs.declared.answers.Answered.TheVariants.{One, Two, NoRoom}
-use Rattle.combining_switch.specs.Switches.{answered_for}
-use Rattle.omega_network.specs.Networks.{NetworkLists, net_of, sizes_of}
-use Rattle.omega_network.specs.Offers.{accepted_on, accepted_where, answered_on, answered_where, first_reply_taken, first_request_taken}
 use Rattle.messages.proofs.Lemmas.{put2_comm, put2_other}
+use Rattle.omega_network.specs.Networks.{NetworkLists, net_of, sizes_of}
 
 -- the first of a list
-first_is : {X : Type 0} (q : List X) (x : X) → slice_get q 0 ≡ Some x → q ≡ x ∷ drop 1 q
+pub first_is : {X : Type 0} (q : List X) (x : X) → slice_get q 0 ≡ Some x → q ≡ x ∷ drop 1 q
 first_is [] x e = cc
 first_is (y ∷ ys) x e = let same : y ≡ x = cc in ap (λ z. z ∷ ys) same
 
@@ -45,150 +39,75 @@ apart s e = omega arith
 
 -- ---- up
 
--- the second of a combination is the request that came
-second_is : (r : ℕ) (x : Request) (queue : List Request) (j : Combination) → combined_in r x queue ≡ Some j → j.made.second ≡ x.leader
-unfolding combined_in
-second_is r x [] j e = cc
-second_is r x (d ∷ ds) j e = go (second_is r x ds) (joint r x d) e
-  where
-    later : (o : Option Combination) → ((i : Combination) → o ≡ Some i → i.made.second ≡ x.leader) → behind d o ≡ Some j → j.made.second ≡ x.leader
-    later None rest f = cc
-    later (Some i) rest f =
-        let same : record { queue = d ∷ i.queue; made = i.made } ≡ j = cc in
-        ap (λ (k : Combination). k.made.second) (sym same) ∙ rest i refl
+pub up_stalls_or_not : (u : UpMove) → (u ≡ up.Stalled) ⊎ (u ≡ up.Stalled → ⊥)
+up_stalls_or_not up.Moved = inr (λ e. cc)
+up_stalls_or_not (up.Combined p q) = inr (λ e. cc)
+up_stalls_or_not up.Stalled = inl refl
 
-    go : ((i : Combination) → combined_in r x ds ≡ Some i → i.made.second ≡ x.leader) → (o : Option Phi)
-        → elim o [
-          | Some phi ↦ Some (record {
-            queue = record { leader = d.leader; word = d.word; phi = phi; marks = suc d.marks } ∷ ds;
-            made = record { leader = d.leader; phi = d.phi; second = x.leader };
-          })
-          | None ↦ behind d (combined_in r x ds)
-        ] ≡ Some j
-        → j.made.second ≡ x.leader
-    go rest None f = later (combined_in r x ds) rest f
-    go rest (Some phi) f =
-        let same : record {
-          queue = record { leader = d.leader; word = d.word; phi = phi; marks = suc d.marks } ∷ ds;
-          made = record { leader = d.leader; phi = d.phi; second = x.leader };
-        } ≡ j = cc in
-        ap (λ (k : Combination). k.made.second) (sym same)
+module _ (z : Sizes) (s out : ℕ) (x : Request) where
+  -- what is answered, by the queue and the combination
+  answer_by : List Request → Option Combination → UpMove
+  answer_by q None = if nat_lt (length q) z.c then up.Moved else up.Stalled
+  answer_by q (Some j) = up.Combined j.made.leader j.made.second
 
-combined_second : (b r : ℕ) (x : Request) (queue : List Request) (records : List Record) (j : Combination) → combination b r x queue records ≡ Some j →
-    j.made.second ≡ x.leader
-combined_second b r x queue records j e = go (nat_lt (length records) b) e
-  where
-    go : (c : Bool) → (if c then combined_in r x queue else None) ≡ Some j → j.made.second ≡ x.leader
-    go true f = second_is r x queue j f
-    go false f = cc
+  module _ (net taken : Net) where
+    answer_is : (j : Option Combination) → (moves.accepted z net taken s out x j).0 ≡ answer_by (taken.requests (suc s) out) j
+    unfolding answer_by
+    answer_is (Some j) = refl
+    answer_is None = go (nat_lt (length (taken.requests (suc s) out)) z.c) refl
+      where
+        go : (b : Bool) → nat_lt (length (taken.requests (suc s) out)) z.c ≡ b
+            → (moves.queued z net taken s out x).0 ≡ (if nat_lt (length (taken.requests (suc s) out)) z.c then up.Moved else up.Stalled)
+        go true e = rw e refl
+        go false e = rw e refl
 
-abbrev pub up_of : Accepted → (second : ℕ) → UpMove
-up_of Queued p = up.Moved
-up_of (Combined first) p = up.Combined first p
-up_of Full p = up.Stalled
+    by_combination : (j : Option Combination) →
+        ((moves.accepted z net taken s out x j).0 ≡ up.Stalled → moves.accepted z net taken s out x j ≡ (up.Stalled, net))
+        × (((moves.accepted z net taken s out x j).0 ≡ up.Stalled → ⊥) → moves.accepted z net taken s out x j ≡ moves.accepted z taken taken s out x j)
+    by_combination (Some j) = ((λ e. absurd (let no : up.Combined j.made.leader j.made.second ≡ up.Stalled = e in cc)), (λ n. refl))
+    by_combination None = go (nat_lt (length (taken.requests (suc s) out)) z.c) refl
+      where
+        go : (b : Bool) → nat_lt (length (taken.requests (suc s) out)) z.c ≡ b
+            → ((moves.queued z net taken s out x).0 ≡ up.Stalled → moves.queued z net taken s out x ≡ (up.Stalled, net))
+            × (((moves.queued z net taken s out x).0 ≡ up.Stalled → ⊥) → moves.queued z net taken s out x ≡ moves.queued z taken taken s out x)
+        go true e = rw e ((λ h. absurd (let no : up.Moved ≡ up.Stalled = h in cc)), (λ n. refl))
+        go false e = rw e ((λ h. refl), (λ n. absurd (n refl)))
 
-abbrev pub net_after_up : Accepted → Net → (s w : ℕ) → Net
-net_after_up Queued net s w = first_request_taken net s w
-net_after_up (Combined first) net s w = first_request_taken net s w
-net_after_up Full net s w = net
+    pub offered_cases : ((moves.offered z net taken s out x).0 ≡ up.Stalled → moves.offered z net taken s out x ≡ (up.Stalled, net))
+        × (((moves.offered z net taken s out x).0 ≡ up.Stalled → ⊥) → moves.offered z net taken s out x ≡ moves.offered z taken taken s out x)
+    offered_cases = by_combination (combination z.b z.r x (taken.requests (suc s) out) (taken.records s out))
 
-module _ (z : Sizes) (net : Net) (s w out : ℕ) (x : Request) (rest : List Request) (first : net.requests s w ≡ x ∷ rest) where
-  abbrev taken : Net
-  taken = put_requests net s w rest
+  -- the answer is that of the network with the request in its place
+  pub same_answer : (net : Net) (w : ℕ) (rest : List Request) →
+      (moves.offered z net (put_requests net s w rest) s out x).0 ≡ (moves.offered z net net s out x).0
+  same_answer net w rest =
+      answer_is net (put_requests net s w rest)
+      (combination z.b z.r x ((put_requests net s w rest).requests (suc s) out) (net.records s out))
+      ∙ ap (λ q. answer_by q (combination z.b z.r x q (net.records s out))) (put2_other net.requests s w rest (suc s) out (λ e _. apart s (sym e)))
+      ∙ sym (answer_is net net (combination z.b z.r x (net.requests (suc s) out) (net.records s out)))
 
-  queue_same : taken.requests (suc s) out ≡ net.requests (suc s) out
-  queue_same = put2_other net.requests s w rest (suc s) out (λ e _. apart s (sym e))
-
-  -- what is put at the output, and then taken before it
-  swapped : (q : List Request) (es : List Record) →
-      put_records (put_requests taken (suc s) out q) s out es ≡ first_request_taken (put_records (put_requests net (suc s) out q) s out es) s w
-  swapped q es = λ j. record {
-    requests = (put2_comm net.requests s w rest (suc s) out q (apart s)
-        ∙ ap (put2 (put2 net.requests (suc s) out q) s w)
-        (ap (drop 1) (sym first) ∙ ap (drop 1) (sym (put2_other net.requests (suc s) out q s w (λ e _. apart s e))))) j;
-    records = put2 net.records s out es;
-    replies = net.replies;
-  }
-
-  swapped_queue : (q : List Request) → put_requests taken (suc s) out q ≡ first_request_taken (put_requests net (suc s) out q) s w
-  swapped_queue q = λ j. record {
-    requests = (put2_comm net.requests s w rest (suc s) out q (apart s)
-        ∙ ap (put2 (put2 net.requests (suc s) out q) s w)
-        (ap (drop 1) (sym first) ∙ ap (drop 1) (sym (put2_other net.requests (suc s) out q s w (λ e _. apart s e))))) j;
-    records = net.records;
-    replies = net.replies;
-  }
-
-  offered_is : moves.offered z net taken s out x
-      ≡ (up_of (accepted_on z net s out x).0 x.leader, net_after_up (accepted_on z net s out x).0 (accepted_on z net s out x).1 s w)
-  unfolding accepted_on
-  offered_is =
-      ap (λ q. moves.accepted z net taken s out x (combination z.b z.r x q (net.records s out))) queue_same
-      ∙ go (combination z.b z.r x (net.requests (suc s) out) (net.records s out))
-      (λ j e. combined_second z.b z.r x (net.requests (suc s) out) (net.records s out) j e)
-    where
-      Goal : Option Combination → Type 0
-      Goal j = moves.accepted z net taken s out x j
-          ≡ (up_of (accepted_where z net s out x j).0 x.leader, net_after_up (accepted_where z net s out x j).0 (accepted_where z net s out x j).1 s w)
-
-      queued : (b : Bool) → nat_lt (length (net.requests (suc s) out)) z.c ≡ b
-          → moves.accepted z net taken s out x None ≡ (
-            up_of (accepted_where z net s out x None).0 x.leader,
-            net_after_up (accepted_where z net s out x None).0 (accepted_where z net s out x None).1 s w,
-          )
-      queued true e =
-          rw (e, ap (λ q. nat_lt (length q) z.c) queue_same ∙ e)
-          (λ j. (
-            up.Moved,
-            (ap (λ q. put_requests taken (suc s) out (q ++ unmarked x ∷ [])) queue_same
-                ∙ swapped_queue (net.requests (suc s) out ++ unmarked x ∷ [])) j,
-          ))
-      queued false e = rw (e, ap (λ q. nat_lt (length q) z.c) queue_same ∙ e) refl
-
-      go : (j : Option Combination) → ((i : Combination) → j ≡ Some i → i.made.second ≡ x.leader)
-          → moves.accepted z net taken s out x j ≡ (
-            up_of (accepted_where z net s out x j).0 x.leader,
-            net_after_up (accepted_where z net s out x j).0 (accepted_where z net s out x j).1 s w,
-          )
-      go None second = queued (nat_lt (length (net.requests (suc s) out)) z.c) refl
-      go (Some i) second = λ j. (up.Combined i.made.leader (second i refl j), swapped i.queue (net.records s out ++ i.made ∷ []) j)
-
-pub up_law : (z : Sizes) (net : Net) (s w out : ℕ) (x : Request) → s < z.k → slice_get (net.requests s w) 0 ≡ Some x →
+pub up_is : (z : Sizes) (net : Net) (s w out : ℕ) (x : Request) → s < z.k → slice_get (net.requests s w) 0 ≡ Some x →
     out ≡ wire_after z.k s w (x.word % wires z)
-    → moves.moved_up z net s w ≡ (up_of (accepted_on z net s out x).0 x.leader, net_after_up (accepted_on z net s out x).0 (accepted_on z net s out x).1 s w)
+    → moves.moved_up z net s w ≡ moves.offered z net (put_requests net s w (drop 1 (net.requests s w))) s out x
 unfolding moves.moved_up
-up_law z net s w out x stage found way =
-    let first : net.requests s w ≡ x ∷ drop 1 (net.requests s w) = first_is (net.requests s w) x found in
+up_is z net s w out x stage found way =
     ap (λ (b : Bool). if b then moves.up_from z net s w (net.requests s w) else (up.Stalled, net)) (lt-ltb s z.k stage)
-    ∙ ap (moves.up_from z net s w) first
+    ∙ ap (moves.up_from z net s w) (first_is (net.requests s w) x found)
     ∙ ap (λ o. moves.offered z net (put_requests net s w (drop 1 (net.requests s w))) s o x) (sym way)
-    ∙ offered_is z net s w out x (drop 1 (net.requests s w)) first
 
 -- ---- down
 
-abbrev pub down_of : Answered → DownMove
-down_of One = down.Moved
-down_of (Two second) = down.Answered second
-down_of NoRoom = down.Stalled
-
-abbrev pub net_after_down : Answered → Net → (d w : ℕ) → Net
-net_after_down One net d w = first_reply_taken net d w
-net_after_down (Two second) net d w = first_reply_taken net d w
-net_after_down NoRoom net d w = net
+pub down_stalls_or_not : (u : DownMove) → (u ≡ down.Stalled) ⊎ (u ≡ down.Stalled → ⊥)
+down_stalls_or_not down.Moved = inr (λ e. cc)
+down_stalls_or_not (down.Answered p) = inr (λ e. cc)
+down_stalls_or_not down.Stalled = inl refl
 
 module _ (wire : ℕ → ℕ) (s w : ℕ) (rest : List Reply) where
   -- what is put before a stage leaves what is after it
-  after_same : (ys : List Reply) (net : Net) → (moves.push_all wire s ys net).replies (suc s) w ≡ net.replies (suc s) w
-  unfolding moves.push_all
-  after_same [] net = refl
-  after_same (y ∷ ys) net =
-      after_same ys (put_replies net s (wire y.leader) (net.replies s (wire y.leader) ++ y ∷ []))
-      ∙ put2_other net.replies s (wire y.leader) (net.replies s (wire y.leader) ++ y ∷ []) (suc s) w (λ e _. apart s (sym e))
-
   before_same : (net : Net) (v : ℕ) → (put_replies net (suc s) w rest).replies s v ≡ net.replies s v
   before_same net v = put2_other net.replies (suc s) w rest s v (λ e _. apart s e)
 
-  push_taken : (ys : List Reply) (net : Net) → moves.push_all wire s ys (put_replies net (suc s) w rest)
+  pub push_taken : (ys : List Reply) (net : Net) → moves.push_all wire s ys (put_replies net (suc s) w rest)
       ≡ put_replies (moves.push_all wire s ys net) (suc s) w rest
   unfolding moves.push_all
   push_taken [] net = refl
@@ -201,85 +120,119 @@ module _ (wire : ℕ → ℕ) (s w : ℕ) (rest : List Reply) where
       })
       ∙ push_taken ys (put_replies net s (wire y.leader) (net.replies s (wire y.leader) ++ y ∷ []))
 
-  room_same : (c : ℕ) (ys : List Reply) (net : Net) → moves.has_room c wire s (put_replies net (suc s) w rest) ys ≡ moves.has_room c wire s net ys
+  pub room_same : (c : ℕ) (ys : List Reply) (net : Net) → moves.has_room c wire s (put_replies net (suc s) w rest) ys ≡ moves.has_room c wire s net ys
   room_same c [] net = refl
   room_same c (y ∷ ys) net = λ j. nat_le (length (before_same net (wire y.leader) j)) c && room_same c ys net j
 
-answered_same : (es : List Record) → moves.answered es ≡ down_of (answered_for es)
-answered_same [] = refl
-answered_same (e ∷ es) = refl
+moved_on : (es : List Record) → moves.answered es ≡ down.Stalled → ⊥
+moved_on [] e = let no : down.Moved ≡ down.Stalled = e in cc
+moved_on (f ∷ es) e = let no : down.Answered (seconds_told f es) ≡ down.Stalled = e in cc
 
-not_refused : (es : List Record) (net : Net) (d w : ℕ) → net_after_down (answered_for es) net d w ≡ first_reply_taken net d w
-not_refused [] net d w = refl
-not_refused (e ∷ es) net d w = refl
-
-module _ (z : Sizes) (net : Net) (s w : ℕ) (x : Reply) (rest : List Reply) (first : net.replies (suc s) w ≡ x ∷ rest) where
+module _ (z : Sizes) (s w : ℕ) (x : Reply) (es : List Record) where
   abbrev wire : ℕ → ℕ
   wire = wire_before z.k s w
-
-  abbrev es : List Record
-  es = records_of x.leader (net.records s w)
 
   abbrev ys : List Reply
   ys = answers es x
 
-  abbrev left : Net
-  left = put_records net s w (records_but x.leader (net.records s w))
+  abbrev without : Net → Net
+  without net = put_records net s w (records_but x.leader (net.records s w))
 
-  abbrev before : Net
-  before = put_records (put_replies net (suc s) w rest) s w (records_but x.leader (net.records s w))
+  abbrev all : Net → Net
+  all net = moves.push_all wire s ys (without net)
 
-  pushed : moves.push_all wire s ys before ≡ put_replies (moves.push_all wire s ys left) (suc s) w rest
-  pushed = push_taken wire s w rest ys left
-
-  then_taken : put_replies (moves.push_all wire s ys left) (suc s) w rest ≡ first_reply_taken (moves.push_all wire s ys left) (suc s) w
-  then_taken = ap (put_replies (moves.push_all wire s ys left) (suc s) w) (sym (ap (drop 1) (after_same wire s w rest ys left ∙ first)))
-
-  room : moves.has_room z.c wire s (moves.push_all wire s ys before) ys ≡ moves.has_room z.c wire s (moves.push_all wire s ys left) ys
-  room = ap (λ (n : Net). moves.has_room z.c wire s n ys) pushed ∙ room_same wire s w rest z.c ys (moves.push_all wire s ys left)
-
-  answer_is : moves.answer z net (put_replies net (suc s) w rest) s w x es
-      ≡ (down_of (answered_on z net s w x).0, net_after_down (answered_on z net s w x).0 (answered_on z net s w x).1 (suc s) w)
-  unfolding answered_on
-  answer_is = go (moves.has_room z.c wire s (moves.push_all wire s ys left) ys) refl
+  pub answer_cases : (net taken : Net) → ((moves.answer z net taken s w x es).0 ≡ down.Stalled → moves.answer z net taken s w x es ≡ (down.Stalled, net))
+      × (((moves.answer z net taken s w x es).0 ≡ down.Stalled → ⊥) → moves.answer z net taken s w x es ≡ moves.answer z taken taken s w x es)
+  answer_cases net taken = go (moves.has_room z.c wire s (all taken) ys) refl
     where
-      go : (b : Bool) → moves.has_room z.c wire s (moves.push_all wire s ys left) ys ≡ b
-          → moves.answer z net (put_replies net (suc s) w rest) s w x es
-          ≡ (down_of (answered_where z net s w x es).0, net_after_down (answered_where z net s w x es).0 (answered_where z net s w x es).1 (suc s) w)
-      go true e = rw (e, room ∙ e) (λ j. (answered_same es j, (pushed ∙ then_taken ∙ sym (not_refused es (moves.push_all wire s ys left) (suc s) w)) j))
+      go : (b : Bool) → moves.has_room z.c wire s (all taken) ys ≡ b
+          → ((moves.answer z net taken s w x es).0 ≡ down.Stalled → moves.answer z net taken s w x es ≡ (down.Stalled, net))
+          × (((moves.answer z net taken s w x es).0 ≡ down.Stalled → ⊥) → moves.answer z net taken s w x es ≡ moves.answer z taken taken s w x es)
+      go true e = rw e ((λ h. absurd (moved_on es h)), (λ n. refl))
+      go false e = rw e ((λ h. refl), (λ n. absurd (n refl)))
+
+  pub same_answer_down : (net : Net) (rest : List Reply) →
+      (moves.answer z net (put_replies net (suc s) w rest) s w x es).0 ≡ (moves.answer z net net s w x es).0
+  same_answer_down net rest = go (moves.has_room z.c wire s (all net) ys) refl
+    where
+      room : moves.has_room z.c wire s (all (put_replies net (suc s) w rest)) ys ≡ moves.has_room z.c wire s (all net) ys
+      room = ap (λ (n : Net). moves.has_room z.c wire s n ys) (push_taken wire s w rest ys (without net)) ∙ room_same wire s w rest z.c ys (all net)
+
+      go : (b : Bool) → moves.has_room z.c wire s (all net) ys ≡ b →
+          (moves.answer z net (put_replies net (suc s) w rest) s w x es).0 ≡ (moves.answer z net net s w x es).0
+      go true e = rw (e, room ∙ e) refl
       go false e = rw (e, room ∙ e) refl
 
-pub down_law : (z : Sizes) (net : Net) (s w : ℕ) (x : Reply) → s < z.k → slice_get (net.replies (suc s) w) 0 ≡ Some x
-    → moves.moved_down z net s w ≡ (down_of (answered_on z net s w x).0, net_after_down (answered_on z net s w x).0 (answered_on z net s w x).1 (suc s) w)
+pub down_is : (z : Sizes) (net : Net) (s w : ℕ) (x : Reply) → s < z.k → slice_get (net.replies (suc s) w) 0 ≡ Some x
+    → moves.moved_down z net s w
+    ≡ moves.answer z net (put_replies net (suc s) w (drop 1 (net.replies (suc s) w))) s w x (records_of x.leader (net.records s w))
 unfolding moves.moved_down
-down_law z net s w x stage found =
-    let first : net.replies (suc s) w ≡ x ∷ drop 1 (net.replies (suc s) w) = first_is (net.replies (suc s) w) x found in
+down_is z net s w x stage found =
     ap (λ (b : Bool). if b then moves.down_from z net s w (net.replies (suc s) w) else (down.Stalled, net)) (lt-ltb s z.k stage)
-    ∙ ap (moves.down_from z net s w) first
-    ∙ answer_is z net s w x (drop 1 (net.replies (suc s) w)) first
+    ∙ ap (moves.down_from z net s w) (first_is (net.replies (suc s) w) x found)
 
--- ---- as the calls tell it, where the switch answers b. What the code sees as l, a caller sees as m
+-- ---- as the calls tell it
 
-pub up_ends : (m : NetworkLists) (w : ℕ) {l : NetworkLists} {net : Net} {s out target : ℕ} {x : Request} {a b : Accepted} → l ≡ m → s < m.k →
+way_is : (m l : NetworkLists) (s w out target : ℕ) (x : Request) → l ≡ m → out ≡ wire_after l.k s w target →
+    target ≡ x.word % 2 ^ l.k → out ≡ wire_after m.k s w (x.word % 2 ^ m.k)
+way_is m l s w out target x view way aim =
+    way ∙ ap (wire_after l.k s w) aim ∙ ap (λ (n : NetworkLists). wire_after n.k s w (x.word % 2 ^ n.k)) view
+
+pub up_stalled : (m : NetworkLists) (w : ℕ) {l : NetworkLists} {s out target : ℕ} {x : Request} {b : Bool} → l ≡ m → s < m.k →
     slice_get ((net_of m).requests s w) 0 ≡ Some x → out ≡ wire_after l.k s w target → target ≡ x.word % 2 ^ l.k →
-    a ≡ (accepted_on (sizes_of m) (net_of m) s out x).0 → net ≡ (accepted_on (sizes_of m) (net_of m) s out x).1 → a ≡ b →
-    (up_of b x.leader ≡ (moves.moved_up (sizes_of m) (net_of m) s w).0) × (net_after_up b net s w ≡ (moves.moved_up (sizes_of m) (net_of m) s w).1)
-up_ends m w {l} {net} {s} {out} {target} {x} {a} {b} view stage found way aim answer after is =
-    let same : out ≡ wire_after m.k s w (x.word % 2 ^ m.k) =
-    way ∙ ap (wire_after l.k s w) aim ∙ ap (λ (n : NetworkLists). wire_after n.k s w (x.word % 2 ^ n.k)) view in
-    let law = up_law (sizes_of m) (net_of m) s w out x stage found same in
-    let told : b ≡ (accepted_on (sizes_of m) (net_of m) s out x).0 = sym is ∙ answer in (
-      ap (λ e. up_of e x.leader) told ∙ sym (ap (λ (r : UpMove × Net). r.0) law),
-      (λ j. net_after_up (told j) (after j) s w) ∙ sym (ap (λ (r : UpMove × Net). r.1) law),
-    )
+    (IsTrue b → (moves.offered (sizes_of m) (net_of m) (net_of m) s out x).0 ≡ up.Stalled → ⊥)
+    × (((moves.offered (sizes_of m) (net_of m) (net_of m) s out x).0 ≡ up.Stalled → ⊥) → IsTrue b) → b ≡ false →
+    moves.moved_up (sizes_of m) (net_of m) s w ≡ (up.Stalled, net_of m)
+up_stalled m w {l} {s} {out} {target} {x} {b} view stage found way aim told none =
+    up_is (sizes_of m) (net_of m) s w out x stage found (way_is m l s w out target x view way aim)
+    ∙ (offered_cases (sizes_of m) s out x (net_of m) (put_requests (net_of m) s w (drop 1 ((net_of m).requests s w)))).0
+    (same_answer (sizes_of m) s out x (net_of m) w (drop 1 ((net_of m).requests s w)) ∙ go (up_stalls_or_not
+    ((moves.offered (sizes_of m) (net_of m) (net_of m) s out x).0)))
+  where
+    go : ((moves.offered (sizes_of m) (net_of m) (net_of m) s out x).0 ≡ up.Stalled)
+        ⊎ ((moves.offered (sizes_of m) (net_of m) (net_of m) s out x).0 ≡ up.Stalled → ⊥)
+        → (moves.offered (sizes_of m) (net_of m) (net_of m) s out x).0 ≡ up.Stalled
+    go (inl e) = e
+    go (inr n) = absurd (let no : true ≡ false = sym (told.1 n) ∙ none in cc)
 
-pub down_ends : (m : NetworkLists) (w : ℕ) {net : Net} {s : ℕ} {x : Reply} {a b : Answered} → s < m.k →
-    slice_get ((net_of m).replies (suc s) w) 0 ≡ Some x →
-    a ≡ (answered_on (sizes_of m) (net_of m) s w x).0 → net ≡ (answered_on (sizes_of m) (net_of m) s w x).1 → a ≡ b →
-    (down_of b ≡ (moves.moved_down (sizes_of m) (net_of m) s w).0) × (net_after_down b net (suc s) w ≡ (moves.moved_down (sizes_of m) (net_of m) s w).1)
-down_ends m w {net} {s} {x} {a} {b} stage found answer after is =
-    let law = down_law (sizes_of m) (net_of m) s w x stage found in
-    let told : b ≡ (answered_on (sizes_of m) (net_of m) s w x).0 = sym is ∙ answer in (
-      ap down_of told ∙ sym (ap (λ (r : DownMove × Net). r.0) law),
-      (λ j. net_after_down (told j) (after j) (suc s) w) ∙ sym (ap (λ (r : DownMove × Net). r.1) law),
-    )
+pub up_went : (m : NetworkLists) (w : ℕ) {l : NetworkLists} {s out target : ℕ} {x : Request} {b : Bool} {net : Net} → l ≡ m → s < m.k →
+    slice_get ((net_of m).requests s w) 0 ≡ Some x → out ≡ wire_after l.k s w target → target ≡ x.word % 2 ^ l.k →
+    (IsTrue b → (moves.offered (sizes_of m) (net_of m) (net_of m) s out x).0 ≡ up.Stalled → ⊥)
+    × (((moves.offered (sizes_of m) (net_of m) (net_of m) s out x).0 ≡ up.Stalled → ⊥) → IsTrue b) → b ≡ true →
+    net ≡ put_requests (net_of m) s w (drop 1 ((net_of m).requests s w)) →
+    moves.moved_up (sizes_of m) (net_of m) s w ≡ moves.offered (sizes_of m) net net s out x
+up_went m w {l} {s} {out} {target} {x} {b} {net} view stage found way aim told goes taken =
+    up_is (sizes_of m) (net_of m) s w out x stage found (way_is m l s w out target x view way aim)
+    ∙ (offered_cases (sizes_of m) s out x (net_of m) (put_requests (net_of m) s w (drop 1 ((net_of m).requests s w)))).1
+    (λ e. told.0 goes (sym (same_answer (sizes_of m) s out x (net_of m) w (drop 1 ((net_of m).requests s w))) ∙ e))
+    ∙ ap (λ (n : Net). moves.offered (sizes_of m) n n s out x) (sym taken)
+
+pub down_stalled : (m : NetworkLists) (w : ℕ) {s : ℕ} {x : Reply} {b : Bool} → s < m.k → slice_get ((net_of m).replies (suc s) w) 0 ≡ Some x →
+    (IsTrue b → (moves.answer (sizes_of m) (net_of m) (net_of m) s w x (records_of x.leader ((net_of m).records s w))).0 ≡ down.Stalled → ⊥)
+    × (((moves.answer (sizes_of m) (net_of m) (net_of m) s w x (records_of x.leader ((net_of m).records s w))).0 ≡ down.Stalled → ⊥) → IsTrue b)
+    → b ≡ false → moves.moved_down (sizes_of m) (net_of m) s w ≡ (down.Stalled, net_of m)
+down_stalled m w {s} {x} {b} stage found told none =
+    down_is (sizes_of m) (net_of m) s w x stage found
+    ∙ (answer_cases (sizes_of m) s w x (records_of x.leader ((net_of m).records s w)) (net_of m)
+    (put_replies (net_of m) (suc s) w (drop 1 ((net_of m).replies (suc s) w)))).0
+    (same_answer_down (sizes_of m) s w x (records_of x.leader ((net_of m).records s w)) (net_of m) (drop 1 ((net_of m).replies (suc s) w))
+    ∙ go (down_stalls_or_not ((moves.answer (sizes_of m) (net_of m) (net_of m) s w x (records_of x.leader ((net_of m).records s w))).0)))
+  where
+    go : ((moves.answer (sizes_of m) (net_of m) (net_of m) s w x (records_of x.leader ((net_of m).records s w))).0 ≡ down.Stalled)
+        ⊎ ((moves.answer (sizes_of m) (net_of m) (net_of m) s w x (records_of x.leader ((net_of m).records s w))).0 ≡ down.Stalled → ⊥)
+        → (moves.answer (sizes_of m) (net_of m) (net_of m) s w x (records_of x.leader ((net_of m).records s w))).0 ≡ down.Stalled
+    go (inl e) = e
+    go (inr n) = absurd (let no : true ≡ false = sym (told.1 n) ∙ none in cc)
+
+pub down_went : (m : NetworkLists) (w : ℕ) {s : ℕ} {x : Reply} {b : Bool} {net : Net} → s < m.k → slice_get ((net_of m).replies (suc s) w) 0 ≡ Some x →
+    (IsTrue b → (moves.answer (sizes_of m) (net_of m) (net_of m) s w x (records_of x.leader ((net_of m).records s w))).0 ≡ down.Stalled → ⊥)
+    × (((moves.answer (sizes_of m) (net_of m) (net_of m) s w x (records_of x.leader ((net_of m).records s w))).0 ≡ down.Stalled → ⊥) → IsTrue b)
+    → b ≡ true → net ≡ put_replies (net_of m) (suc s) w (drop 1 ((net_of m).replies (suc s) w))
+    → moves.moved_down (sizes_of m) (net_of m) s w ≡ moves.answer (sizes_of m) net net s w x (records_of x.leader (net.records s w))
+down_went m w {s} {x} {b} {net} stage found told goes taken =
+    down_is (sizes_of m) (net_of m) s w x stage found
+    ∙ (answer_cases (sizes_of m) s w x (records_of x.leader ((net_of m).records s w)) (net_of m)
+    (put_replies (net_of m) (suc s) w (drop 1 ((net_of m).replies (suc s) w)))).1
+    (λ e. told.0 goes (sym (same_answer_down (sizes_of m) s w x (records_of x.leader ((net_of m).records s w)) (net_of m)
+    (drop 1 ((net_of m).replies (suc s) w))) ∙ e))
+    ∙ ap (λ (n : Net). moves.answer (sizes_of m) n n s w x (records_of x.leader (n.records s w))) (sym taken)

@@ -1,84 +1,112 @@
 -- The switches of a new network, and that nothing stands in it.
-use Rattle.std.proofs.Common.{◌≡◌, ℕ, zero, suc, ◌+◌, ◌*◌, ◌/◌, ◌^◌, ◌<◌, ◌≤◌, List, [], ◌∷◌, ◌++◌, length, Some, ◌⊎◌, inl, inr, refl, sym, ap, ◌∙◌, subst}
+use Rattle.std.proofs.Common.{◌≡◌, ℕ, zero, suc, ◌+◌, ◌*◌, ◌/◌, ◌%◌, ◌^◌, ◌<◌, ◌≤◌, List, [], ◌∷◌, ◌++◌, length, get_or, Some, ◌⊎◌, inl, inr, refl, sym, ap}
+use Rattle.std.proofs.Common.{◌∙◌, subst}
 use Rattle.std.proofs.Common.{arith, length-append}
-use Rattle.std.specs.Prelude.{All, IsNone, slice_get}
+use Rattle.std.specs.Prelude.{All, replicate, slice_get}
 use Rattle.std.proofs.lemmas.Bool.{cases_lt}
-use Rattle.std.proofs.lemmas.Nat.{div-mul-add}
+use Rattle.std.proofs.lemmas.List.{get_or-replicate, get_or_past, length-replicate}
+use Rattle.std.proofs.lemmas.Nat.{div-mul-add, mod-mul-add}
 use Rattle.std.proofs.lemmas.Option.{get_or_from_slice_get}
-use Rattle.omega_wires.specs.Wires.{bit_of_stage}
-use Rattle.combining_switch.specs.Switches.{IsEmptySwitch, SwitchLists, empty_switch}
+use Rattle.messages.specs.declared.message.Record.{Record}
+use Rattle.messages.specs.declared.message.Reply.{Reply}
+use Rattle.messages.specs.declared.message.Request.{Request}
+use Rattle.messages.specs.Places.{ApartBy, In}
 use Rattle.messages.specs.Network.{IsEmptyNet}
-use Rattle.omega_network.specs.Networks.{IsNetwork, IsSwitchOf, NetworkLists, half, net_of, switch_at}
-use Rattle.omega_network.specs.Changes.{AreNew}
-use Rattle.omega_network.proofs.Kept.{empty_is}
-use Rattle.omega_network.proofs.Switches.{place_within}
+use Rattle.message_cells.specs.Pools.{PoolLists, empty_pool, replies_at, requests_at}
+use Rattle.combining_switch.specs.Switches.{SwitchState, records_at}
+use Rattle.omega_network.specs.Networks.{AreNew, HasNoMessage, HasNoRecord, IsNetwork, NetworkLists, half, net_of, no_switch, records_behind, second_of}
+use Rattle.omega_network.specs.Networks.{switch_at, the_switch}
 use Rattle.omega_network.proofs.Empty.{empty_net}
+use Rattle.omega_network.proofs.Switches.{place_within}
 
 -- the first switches of a new network
-pub record SoFar (k c b count : ℕ) (switches : List SwitchLists) : Type 0 where
+pub record SoFar (k c b r count : ℕ) (switches : List SwitchState) : Type 0 where
   pub all : length switches ≡ count
-  pub each : (place : ℕ) → place < length switches → slice_get switches place ≡ Some (empty_switch c b (bit_of_stage k (place / half k)))
+  pub each : (i : ℕ) → i < length switches → slice_get switches i ≡ Some (the_switch k c b r (i / half k) (i % half k) [] [])
 
-get_left : {X : Type 0} (xs ys : List X) (i : ℕ) → i < length xs → slice_get (xs ++ ys) i ≡ slice_get xs i
+pub get_left : {X : Type 0} (xs ys : List X) (i : ℕ) → i < length xs → slice_get (xs ++ ys) i ≡ slice_get xs i
 get_left [] ys i l = absurd (omega arith)
 get_left (x ∷ xs) ys zero l = refl
 get_left (x ∷ xs) ys (suc i) l = get_left xs ys i (omega arith)
 
-get_last : {X : Type 0} (xs : List X) (x : X) → slice_get (xs ++ x ∷ []) (length xs) ≡ Some x
+pub get_last : {X : Type 0} (xs : List X) (x : X) → slice_get (xs ++ x ∷ []) (length xs) ≡ Some x
 get_last [] x = refl
 get_last (y ∷ ys) x = get_last ys x
 
-pub none_yet : (k c b : ℕ) → SoFar k c b 0 []
-none_yet k c b = record { all = refl; each = λ place l. absurd (omega arith) }
+pub none_yet : (k c b r : ℕ) → SoFar k c b r 0 []
+none_yet k c b r = record { all = refl; each = λ i l. absurd (omega arith) }
 
-pub one_more : (k c b stage number : ℕ) (switches : List SwitchLists) → number < half k → SoFar k c b (stage * half k + number) switches
-    → SoFar k c b (stage * half k + (number + 1)) (switches ++ empty_switch c b (bit_of_stage k stage) ∷ [])
-one_more k c b stage number switches within so_far = record {
-  all = length-append switches (empty_switch c b (bit_of_stage k stage) ∷ []) ∙ (let all = so_far.all in omega arith);
-  each = λ place l. go place l (cases_lt place (length switches));
+pub one_more : (k c b r stage number : ℕ) (switches : List SwitchState) → number < half k → SoFar k c b r (stage * half k + number) switches
+    → SoFar k c b r (stage * half k + (number + 1)) (switches ++ the_switch k c b r stage number [] [] ∷ [])
+one_more k c b r stage number switches within so_far = record {
+  all = length-append switches (the_switch k c b r stage number [] [] ∷ []) ∙ (let all = so_far.all in omega arith);
+  each = λ i l. go i l (cases_lt i (length switches));
 }
   where
     last : (stage * half k + number) / half k ≡ stage
     last = div-mul-add stage (half k) number within
 
-    go : (place : ℕ) → place < length (switches ++ empty_switch c b (bit_of_stage k stage) ∷ []) → (place < length switches) ⊎ (length switches ≤ place)
-        → slice_get (switches ++ empty_switch c b (bit_of_stage k stage) ∷ []) place ≡ Some (empty_switch c b (bit_of_stage k (place / half k)))
-    go place l (inl before) = get_left switches (empty_switch c b (bit_of_stage k stage) ∷ []) place before ∙ so_far.each place before
-    go place l (inr past) =
-        let longer = length-append switches (empty_switch c b (bit_of_stage k stage) ∷ []) in
-        let here : place ≡ length switches = omega arith in
-        let stage_is : place / half k ≡ stage = ap (λ p. p / half k) (here ∙ so_far.all) ∙ last in
-        ap (slice_get (switches ++ empty_switch c b (bit_of_stage k stage) ∷ [])) here ∙ get_last switches (empty_switch c b (bit_of_stage k stage))
-        ∙ ap (λ s. Some (empty_switch c b (bit_of_stage k s))) (sym stage_is)
+    rest : (stage * half k + number) % half k ≡ number
+    rest = mod-mul-add stage (half k) number within
 
-pub stage_done : (k c b stage : ℕ) (switches : List SwitchLists) → SoFar k c b (stage * half k + half k) switches → SoFar k c b ((stage + 1) * half k) switches
-stage_done k c b stage switches so_far = record { all = so_far.all ∙ omega arith; each = so_far.each }
+    go : (i : ℕ) → i < length (switches ++ the_switch k c b r stage number [] [] ∷ []) → (i < length switches) ⊎ (length switches ≤ i)
+        → slice_get (switches ++ the_switch k c b r stage number [] [] ∷ []) i ≡ Some (the_switch k c b r (i / half k) (i % half k) [] [])
+    go i l (inl before) = get_left switches (the_switch k c b r stage number [] [] ∷ []) i before ∙ so_far.each i before
+    go i l (inr past) =
+        let longer = length-append switches (the_switch k c b r stage number [] [] ∷ []) in
+        let here : i ≡ length switches = omega arith in
+        let stage_is : i / half k ≡ stage = ap (λ p. p / half k) (here ∙ so_far.all) ∙ last in
+        let number_is : i % half k ≡ number = ap (λ p. p % half k) (here ∙ so_far.all) ∙ rest in
+        ap (slice_get (switches ++ the_switch k c b r stage number [] [] ∷ [])) here ∙ get_last switches (the_switch k c b r stage number [] [])
+        ∙ (λ j. Some (the_switch k c b r (sym stage_is j) (sym number_is j) [] []))
 
-pub all_done : (k c b count : ℕ) (switches : List SwitchLists) → count ≡ k * half k → SoFar k c b count switches → AreNew k c b switches
-all_done k c b count switches e so_far = record { all = so_far.all ∙ e; each = so_far.each }
+pub stage_done : (k c b r stage : ℕ) (switches : List SwitchState) → SoFar k c b r (stage * half k + half k) switches →
+    SoFar k c b r ((stage + 1) * half k) switches
+stage_done k c b r stage switches so_far = record { all = so_far.all ∙ omega arith; each = so_far.each }
+
+pub all_done : (k c b r count : ℕ) (switches : List SwitchState) → count ≡ k * half k → SoFar k c b r count switches → AreNew k c b r switches
+all_done k c b r count switches e so_far = record { all = so_far.all ∙ e; each = so_far.each }
 
 -- ---- a network of them
 
-module _ (n : NetworkLists) (new : AreNew n.k n.c n.b n.switches) where
-  is_new : (s i : ℕ) → s < n.k → i < half n.k → switch_at n s i ≡ empty_switch n.c n.b (bit_of_stage n.k s)
+empty_at : {X : Type 0} (n q : ℕ) → get_or {A = List X} (replicate n []) q [] ≡ []
+empty_at {X} n q = go (cases_lt q n)
+  where
+    go : (q < n) ⊎ (n ≤ q) → get_or {A = List X} (replicate n []) q [] ≡ []
+    go (inl l) = get_or-replicate n q [] [] l
+    go (inr past) = get_or_past (replicate n []) q [] (let all = length-replicate {A = List X} n [] in omega arith)
+
+module _ (n : NetworkLists) (new : AreNew n.k n.c n.b n.r n.switches) (cells queues : ℕ) (pool : n.pool ≡ empty_pool cells queues queues) where
+  no_message : HasNoMessage n.pool
+  no_message q = subst (λ (p : PoolLists). (requests_at p q ≡ []) × (replies_at p q ≡ [])) (sym pool) (empty_at queues q, empty_at queues q)
+
+  no_record : All HasNoRecord n.switches
+  no_record i d l = subst HasNoRecord (sym (get_or_from_slice_get n.switches i _ d (new.each i l))) (refl, refl)
+
+  pub new_empty : IsEmptyNet (net_of n)
+  new_empty = empty_net n no_message no_record
+
+  is_new : (s i : ℕ) → s < n.k → i < half n.k → switch_at n s i ≡ the_switch n.k n.c n.b n.r s i [] []
   is_new s i l m =
-      get_or_from_slice_get n.switches (s * half n.k + i) _ (empty_switch 0 0 0)
+      get_or_from_slice_get n.switches (s * half n.k + i) _ no_switch
       (new.each (s * half n.k + i) (place_within n.k s i (length n.switches) l m new.all))
-      ∙ ap (λ t. empty_switch n.c n.b (bit_of_stage n.k t)) (div-mul-add s (half n.k) i m)
+      ∙ (λ j. the_switch n.k n.c n.b n.r (div-mul-add s (half n.k) i m j) (mod-mul-add s (half n.k) i m j) [] [])
 
-  pub new_network : n.k ≤ 6 → length n.slots ≡ 2 ^ n.k → length n.module_slots ≡ 2 ^ n.k → IsNetwork n
-  new_network few slots module_slots = record {
+  pub new_network : n.k ≤ 6 → cells ≡ 2 ^ n.k → queues ≡ suc n.k * 2 ^ n.k → IsNetwork n
+  new_network few cells_is queues_is = record {
     few = few;
-    all_slots = slots;
-    all_module_slots = module_slots;
+    all_cells = ap (λ (p : PoolLists). p.cells) pool ∙ cells_is;
+    all_requests = ap (λ (p : PoolLists). length p.requests) pool ∙ length-replicate {A = List Request} queues [] ∙ queues_is;
+    all_replies = ap (λ (p : PoolLists). length p.replies) pool ∙ length-replicate {A = List Reply} queues [] ∙ queues_is;
     all_switches = new.all;
-    each_switch =
-        λ s i l m. subst (λ (t : SwitchLists). IsSwitchOf n.c n.b (bit_of_stage n.k s) t) (sym (is_new s i l m)) (empty_is n.c n.b (bit_of_stage n.k s));
+    each_switch = λ s i l m. subst (λ (t : SwitchState). t ≡ the_switch n.k n.c n.b n.r s i (records_at t 0) (records_at t 1)) (sym (is_new s i l m)) refl;
+    seconds = record {
+      cells = λ s w e m. absurd (none s w e m);
+      free = λ s w e m. absurd (none s w e m);
+      apart = λ s w. subst (ApartBy second_of) (sym ((new_empty s w).1)) tt;
+      once = λ s w s' w' e f m o same. absurd (none s w e m);
+    };
   }
-
-  switches_are_empty : All IsEmptySwitch n.switches
-  switches_are_empty place d l =
-      subst IsEmptySwitch (sym (get_or_from_slice_get n.switches place _ d (new.each place l))) ((refl, refl), (refl, refl), refl, refl)
-
-  pub new_empty : All IsNone n.slots → All IsNone n.module_slots → IsEmptyNet (net_of n)
-  new_empty slots module_slots = empty_net n slots switches_are_empty module_slots
+    where
+      none : (s w : ℕ) (e : Record) → In e (records_behind n s w) → ⊥
+      none s w e m = subst (In e) ((new_empty s w).1) m

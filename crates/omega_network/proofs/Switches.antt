@@ -1,13 +1,19 @@
--- Where the switches of a network stand, and what is read of them after one is replaced.
-use Rattle.std.proofs.Common.{◌≡◌, ℕ, zero, suc, ◌+◌, ◌-◌, ◌*◌, ◌/◌, ◌%◌, ◌^◌, ◌<◌, ◌≤◌, List, length, ◌⊎◌, inl, inr, sym, ap, ◌∙◌, arith, get_or-set_same}
-use Rattle.std.proofs.Common.{get_or-set_other, mul-le-mul_right, pow-suc}
-use Rattle.std.proofs.lemmas.Bool.{cases_eq}
+-- The numbers of queues and switches, and what is read of the switches after one is replaced.
+use Rattle.std.proofs.Common.{◌≡◌, ℕ, zero, suc, ◌+◌, ◌-◌, ◌*◌, ◌/◌, ◌%◌, ◌^◌, ◌<◌, ◌≤◌, List, length, sym, ap, ◌∙◌, arith, get_or-set_same}
+use Rattle.std.proofs.Common.{lit≤, get_or-set_other, mul-le-mul_right, pow-suc}
+use Rattle.std.specs.Prelude.{slice_set}
 use Rattle.std.proofs.lemmas.Nat.{mod-mul-add, div-mul-add}
-use Rattle.combining_switch.specs.Switches.{SwitchLists, empty_switch}
-use Rattle.omega_network.specs.Networks.{NetworkLists, half, switch_at}
-use Rattle.omega_network.specs.Changes.{with_switch}
+use Rattle.message_cells.specs.Pools.{PoolLists}
+use Rattle.combining_switch.specs.Switches.{SwitchState}
+use Rattle.omega_network.specs.Networks.{NetworkLists, half, no_switch, place, switch_at}
 
--- ---- numbers of switches
+abbrev pub with_pool : NetworkLists → PoolLists → NetworkLists
+with_pool n pool = record { k = n.k; c = n.c; b = n.b; r = n.r; pool = pool; switches = n.switches }
+
+abbrev pub with_switch : NetworkLists → (stage number : ℕ) → SwitchState → NetworkLists
+with_switch n s i t = record { k = n.k; c = n.c; b = n.b; r = n.r; pool = n.pool; switches = slice_set n.switches (s * half n.k + i) t }
+
+-- ---- numbers
 
 pub two_halves : (k s : ℕ) → s < k → 2 ^ k ≡ half k * 2
 two_halves zero s l = absurd (omega arith)
@@ -16,11 +22,16 @@ two_halves (suc k) s l = pow-suc 2 k ∙ ap (λ n. 2 ^ n * 2) (less k)
     less : (k : ℕ) → k ≡ suc k - 1
     less k = omega arith
 
-one_place : (n d d' w w' : ℕ) → w < n → w' < n → d' * n + w' ≡ d * n + w → (d' ≡ d) × (w' ≡ w)
+pub one_place : (n d d' w w' : ℕ) → w < n → w' < n → d' * n + w' ≡ d * n + w → (d' ≡ d) × (w' ≡ w)
 one_place n d d' w w' l m e = (
   sym (div-mul-add d' n w' m) ∙ (λ i. e i / n) ∙ div-mul-add d n w l,
   sym (mod-mul-add d' n w' m) ∙ (λ i. e i % n) ∙ mod-mul-add d n w l,
 )
+
+pub queue_within : (k d w n : ℕ) → d ≤ k → w < 2 ^ k → n ≡ suc k * 2 ^ k → place k d w < n
+queue_within k d w n l m e =
+    let up : suc d * 2 ^ k ≤ suc k * 2 ^ k = mul-le-mul_right (2 ^ k) (omega arith) in
+    omega arith
 
 pub place_within : (k s i n : ℕ) → s < k → i < half k → n ≡ k * half k → s * half k + i < n
 place_within k s i n l m e =
@@ -33,27 +44,27 @@ place_is k s w l =
     let f : s * (half k * 2) ≡ s * half k * 2 = omega arith in
     omega (arith, e, f)
 
+pub half_of_wire : (k s w : ℕ) → s < k → w < 2 ^ k → w / 2 < half k
+half_of_wire k s w l m = let e = two_halves k s l in omega arith
+
+-- up to six stages have up to 64 wires
+pub few_wires : (k : ℕ) → k ≤ 6 → 1 * 2 ^ k % 256 ≤ 64
+few_wires zero l = lit≤ tt
+few_wires (suc zero) l = lit≤ tt
+few_wires (suc (suc zero)) l = lit≤ tt
+few_wires (suc (suc (suc zero))) l = lit≤ tt
+few_wires (suc (suc (suc (suc zero)))) l = lit≤ tt
+few_wires (suc (suc (suc (suc (suc zero))))) l = lit≤ tt
+few_wires (suc (suc (suc (suc (suc (suc zero)))))) l = lit≤ tt
+few_wires (suc (suc (suc (suc (suc (suc (suc k))))))) l = absurd (omega arith)
+
 -- ---- one switch replaced
 
-module _ (n : NetworkLists) (s i : ℕ) (t : SwitchLists) (stage : s < n.k) (number : i < half n.k) (all : length n.switches ≡ n.k * half n.k) where
+module _ (n : NetworkLists) (s i : ℕ) (t : SwitchState) (stage : s < n.k) (number : i < half n.k) (all : length n.switches ≡ n.k * half n.k) where
   pub switch_put : switch_at (with_switch n s i t) s i ≡ t
-  switch_put = get_or-set_same n.switches (s * half n.k + i) t (empty_switch 0 0 0) (place_within n.k s i (length n.switches) stage number all)
+  switch_put = get_or-set_same n.switches (s * half n.k + i) t no_switch (place_within n.k s i (length n.switches) stage number all)
 
   pub switch_kept : (s' i' : ℕ) → i' < half n.k → (s' ≡ s → i' ≡ i → ⊥) → switch_at (with_switch n s i t) s' i' ≡ switch_at n s' i'
   switch_kept s' i' l away =
-      get_or-set_other n.switches (s * half n.k + i) (s' * half n.k + i') t (empty_switch 0 0 0)
+      get_or-set_other n.switches (s * half n.k + i) (s' * half n.k + i') t no_switch
       (λ e. let p = one_place (half n.k) s s' i i' number l e in away p.0 p.1)
-
-  -- what is read of the two outputs or inputs of one, where it is the same as before
-  pub read_kept : {X : Type 0} (f : SwitchLists → ℕ → List X) → ((v : ℕ) → v < 2 → f t v ≡ f (switch_at n s i) v)
-      → (s' i' v : ℕ) → i' < half n.k → v < 2 → f (switch_at (with_switch n s i t) s' i') v ≡ f (switch_at n s' i') v
-  read_kept {X} f same s' i' v l m = go (cases_eq s' s) (cases_eq i' i)
-    where
-      go : (s' ≡ s) ⊎ (s' ≡ s → ⊥) → (i' ≡ i) ⊎ (i' ≡ i → ⊥) → f (switch_at (with_switch n s i t) s' i') v ≡ f (switch_at n s' i') v
-      go (inl a) (inl b) =
-          (λ j. f (switch_at (with_switch n s i t) (a j) (b j)) v) ∙ ap (λ u. f u v) switch_put ∙ same v m ∙ (λ j. f (switch_at n (sym a j) (sym b j)) v)
-      go (inl a) (inr b) = ap (λ u. f u v) (switch_kept s' i' l (λ _ e. b e))
-      go (inr a) _ = ap (λ u. f u v) (switch_kept s' i' l (λ e _. a e))
-
-pub half_of_wire : (k s w : ℕ) → s < k → w < 2 ^ k → w / 2 < half k
-half_of_wire k s w l m = let e = two_halves k s l in omega arith

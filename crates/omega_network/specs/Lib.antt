@@ -1,3 +1,2 @@
-pub mod Changes
 pub mod Networks
-pub mod Offers
+pub mod Answers

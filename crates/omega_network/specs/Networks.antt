@@ -1,75 +1,118 @@
 -- What a contract sees of a `Network`, and how its lists are read as a network of places.
-use Rattle.std.specs.Prelude.{◌≡◌, ◌≤◌, ◌<◌, ◌==◌, ℕ, zero, suc, ◌+◌, ◌-◌, ◌*◌, ◌/◌, ◌%◌, ◌^◌, List, [], length, nat_lt, Option, None, slice_index_or}
+use Rattle.std.specs.Prelude.{◌≡◌, ◌==◌, ◌||◌, ◌≤◌, ◌<◌, Bool, Some, slice_get, ℕ, suc, ◌+◌, ◌-◌, ◌*◌, ◌/◌, ◌%◌, ◌^◌, List, [], ◌∷◌, length, nat_lt}
+use Rattle.std.specs.Prelude.{slice_index_or}
 use Rattle.std.specs.Prelude.{if◌then◌else◌}
-use Rattle.std.specs.Option.{option_to_list}
-use Rattle.omega_wires.specs.Wires.{bit_of_stage, input_port, switch_of}
+use Rattle.omega_wires.specs.Wires.{bit_of_stage}
 use Rattle.messages.specs.declared.message.Request.{Request}
 use Rattle.messages.specs.declared.message.Reply.{Reply}
 use Rattle.messages.specs.declared.message.Record.{Record}
+use Rattle.messages.specs.Places.{ApartBy, In}
 use Rattle.messages.specs.Network.{Net, Sizes}
-use Rattle.combining_switch.specs.Outputs.{OutputLists, most_marks}
-use Rattle.combining_switch.specs.Switches.{SwitchLists, empty_switch, records_at, replies_at, requests_at}
+use Rattle.message_cells.specs.Pools.{IsFree, PoolLists, replies_at, requests_at}
+use Rattle.std.specs.List.{list_any}
+use Rattle.combining_switch.specs.Switches.{SwitchState, records_at}
 
--- k stages of switches, each with queues of c messages and wait buffers of b records. The switches stand stage by stage.
+-- k stages of switches, each with queues of c messages and wait buffers of b records, all queues in one pool. An entry of a queue is
+-- combined up to r times. The switches stand stage by stage.
 pub record NetworkLists : Type 0 where
   pub k : ℕ
   pub c : ℕ
   pub b : ℕ
-  pub slots : List (Option Request)
-  pub switches : List SwitchLists
-  pub module_slots : List (Option Reply)
+  pub r : ℕ
+  pub pool : PoolLists
+  pub switches : List SwitchState
 
 abbrev pub sizes_of : NetworkLists → Sizes
-sizes_of n = record { k = n.k; c = n.c; b = n.b; r = most_marks }
+sizes_of n = record { k = n.k; c = n.c; b = n.b; r = n.r }
 
 -- how many switches a stage has
 abbrev pub half : (k : ℕ) → ℕ
 half k = 2 ^ (k - 1)
 
-abbrev pub switch_at : NetworkLists → (stage number : ℕ) → SwitchLists
-switch_at n s i = slice_index_or n.switches (s * half n.k + i) (empty_switch 0 0 0)
+abbrev pub no_switch : SwitchState
+no_switch = record { c = 0; its_bit = 0; outputs = []; inputs = [] }
+
+abbrev pub switch_at : NetworkLists → (stage number : ℕ) → SwitchState
+switch_at n s i = slice_index_or n.switches (s * half n.k + i) no_switch
+
+-- the number of the queues at a depth on a wire
+abbrev pub place : (k depth wire : ℕ) → ℕ
+place k d w = d * 2 ^ k + w
 
 -- ---- what stands at each place
 
-abbrev pub slot_of : {X : Type 0} → List (Option X) → (place : ℕ) → List X
-slot_of slots w = option_to_list (slice_index_or slots w None)
+-- what stands on a wire, where there is one
+abbrev pub on_wire : {X : Type 0} → (k wire : ℕ) → List X → List X
+on_wire k w xs = if nat_lt w (2 ^ k) then xs else []
 
--- a list of the switches' outputs by the wires that go out there
-abbrev pub at_output : {X : Type 0} → (SwitchLists → ℕ → List X) → NetworkLists → (stage wire : ℕ) → List X
-at_output f n s w = if nat_lt w (2 ^ n.k) then f (switch_at n s (w / 2)) (w % 2) else []
-
--- the requests before a stage on a wire: the processor's slot, or the queue at the wire's output of the stage before
 unfoldable pub requests_before : NetworkLists → (depth wire : ℕ) → List Request
-requests_before n zero w = slot_of n.slots w
-requests_before n (suc s) w = at_output requests_at n s w
+requests_before n d w = on_wire n.k w (requests_at n.pool (place n.k d w))
 
 unfoldable pub records_behind : NetworkLists → (stage wire : ℕ) → List Record
-records_behind n s w = at_output records_at n s w
+records_behind n s w = on_wire n.k w (records_at (switch_at n s (w / 2)) (w % 2))
 
--- the replies before a stage on a wire: the queue at the input that the wire goes to, or after the last stage the module's slot
 unfoldable pub replies_before : NetworkLists → (depth wire : ℕ) → List Reply
-replies_before n d w =
-    if d == n.k then slot_of n.module_slots w else
-    if nat_lt w (2 ^ n.k) then replies_at (switch_at n d (switch_of n.k w)).inputs (input_port n.k w) else
-    []
+replies_before n d w = on_wire n.k w (replies_at n.pool (place n.k d w))
 
 abbrev pub net_of : NetworkLists → Net
 net_of n = record { requests = requests_before n; records = records_behind n; replies = replies_before n }
 
 -- ---- what every network keeps
 
--- a switch of these sizes
-pub record IsSwitchOf (c b its_bit : ℕ) (s : SwitchLists) : Type 0 where
-  pub c_is : s.c ≡ c
-  pub bit_is : s.its_bit ≡ its_bit
-  pub two_outputs : length s.outputs ≡ 2
-  pub two_inputs : length s.inputs ≡ 2
-  pub outputs : (out : ℕ) → out < 2 → (d : OutputLists) → ((slice_index_or s.outputs out d).c ≡ c) × ((slice_index_or s.outputs out d).b ≡ b)
+-- The switch of number i in stage s, with these records at its outputs: those are the wires 2 i and 2 i + 1 after it, and its
+-- inputs are the wires that the shuffle brings there.
+abbrev pub the_switch : (k c b r s i : ℕ) → (zero one : List Record) → SwitchState
+the_switch k c b r s i es fs = record {
+  c = c;
+  its_bit = bit_of_stage k s;
+  outputs = record { c = c; b = b; r = r; queue = place k (suc s) (2 * i); records = es }
+      ∷ record { c = c; b = b; r = r; queue = place k (suc s) (2 * i + 1); records = fs } ∷ [];
+  inputs = place k s i ∷ place k s (i + half k) ∷ [];
+}
 
--- up to 64 processors and modules, each with a slot, and the switches of each stage, which go by that stage's bit
+abbrev pub second_of : Record → ℕ
+second_of e = e.second
+
+-- the cells of those who are the second of a record are free, and each is the second of one
+pub record AreSeconds (pool : PoolLists) (records : ℕ → ℕ → List Record) : Type 0 where
+  pub cells : (s w : ℕ) (e : Record) → In e (records s w) → e.second < pool.cells
+  pub free : (s w : ℕ) (e : Record) → In e (records s w) → IsFree pool e.second
+  pub apart : (s w : ℕ) → ApartBy second_of (records s w)
+  pub once : (s w s' w' : ℕ) (e e' : Record) → In e (records s w) → In e' (records s' w') → e.second ≡ e'.second → (s ≡ s') × (w ≡ w')
+
+-- up to 64 processors and modules, a queue of each kind for each depth and wire, and the switches of each stage
 pub record IsNetwork (n : NetworkLists) : Type 0 where
   pub few : n.k ≤ 6
-  pub all_slots : length n.slots ≡ 2 ^ n.k
-  pub all_module_slots : length n.module_slots ≡ 2 ^ n.k
+  pub all_cells : n.pool.cells ≡ 2 ^ n.k
+  pub all_requests : length n.pool.requests ≡ suc n.k * 2 ^ n.k
+  pub all_replies : length n.pool.replies ≡ suc n.k * 2 ^ n.k
   pub all_switches : length n.switches ≡ n.k * half n.k
-  pub each_switch : (s i : ℕ) → s < n.k → i < half n.k → IsSwitchOf n.c n.b (bit_of_stage n.k s) (switch_at n s i)
+  pub each_switch : (s i : ℕ) → s < n.k → i < half n.k →
+      switch_at n s i ≡ the_switch n.k n.c n.b n.r s i (records_at (switch_at n s i) 0) (records_at (switch_at n s i) 1)
+  pub seconds : AreSeconds n.pool (records_behind n)
+
+-- a message that this processor leads may be put somewhere: nothing leads it, and no record has it as its second
+pub record MayLead (n : NetworkLists) (p : ℕ) : Type 0 where
+  pub below : p < n.pool.cells
+  pub free : IsFree n.pool p
+  pub no_second : (s w : ℕ) (e : Record) → In e (records_behind n s w) → e.second ≡ p → ⊥
+
+-- ---- what is looked for in all of it
+
+abbrev pub HasNoMessage : PoolLists → Type 0
+HasNoMessage pool = (q : ℕ) → (requests_at pool q ≡ []) × (replies_at pool q ≡ [])
+
+abbrev pub HasNoRecord : SwitchState → Type 0
+HasNoRecord t = (records_at t 0 ≡ []) × (records_at t 1 ≡ [])
+
+-- whether one of the records names p, either way, and whether one has p as its second
+abbrev pub is_named : (p : ℕ) → List Record → Bool
+is_named p es = list_any (λ e. e.leader == p || e.second == p) es
+
+abbrev pub is_second : (p : ℕ) → List Record → Bool
+is_second p es = list_any (λ e. e.second == p) es
+
+-- a network's switches, all without records
+pub record AreNew (k c b r : ℕ) (switches : List SwitchState) : Type 0 where
+  pub all : length switches ≡ k * half k
+  pub each : (i : ℕ) → i < length switches → slice_get switches i ≡ Some (the_switch k c b r (i / half k) (i % half k) [] [])

@@ -6,9 +6,19 @@
 //! another, and [`Network::down`] takes the first reply on a wire back over a stage, where the
 //! records of combinations give the replies of those that were combined.
 //!
-//! A contract sees a network by `net_of` of `specs/Networks.antt`, as what stands at each place, and
-//! says what each call does by the words of the crate `messages`. Room is made by [`Network::new`]
-//! alone: no other call takes memory.
+//! Before each stage, and behind the last, each wire has a queue of requests and one of replies: the
+//! slots of the processors and of the modules are such queues too. They all stand in one pool with a
+//! cell for each processor (crate `message_cells`), in the order of their depths and wires. A switch has
+//! its records and the numbers of its queues.
+//!
+//! A move asks the switch first, then takes the message out of its old place, and then puts it to the
+//! switch, so that the cell of its leader is free by then. Who is named by a message or a record is
+//! asked before a request or a reply is put in from outside ([`Network::names`],
+//! [`Network::may_reply`]).
+//!
+//! `specs/Networks.antt` says how the lists of a network are read as a network of places (`Net` of the
+//! crate `messages`); each call is what the crate's `Moves.antt` says of the places. Room is made by
+//! [`Network::new`] alone: no other call takes memory.
 //!
 //! Source: the network is that of Gottlieb et al., "The NYU Ultracomputer", IEEE Transactions on
 //! Computers C-32(2), 1983.
@@ -16,6 +26,4 @@
 
 mod network;
 
-pub use combining_switch::MAX_QUEUE;
 pub use network::Network;
-pub use omega_wires::MAX_STAGES;

@@ -1,32 +1,37 @@
 //! Networks.
 
-ghost use Rattle.std.specs.Prelude.{◌≡◌, ◌↔◌, ◌<◌, ◌≤◌, ◌^◌, ◌/◌, ◌%◌, ◌*◌, ◌+◌, suc, [], drop, length, slice_get, is_some, Some, All, IfOk, IsNone, IsTrue};
-ghost use Rattle.std.specs.Option.{option_to_list};
-ghost use Rattle.omega_wires.specs.Wires.{switch_of};
+ghost use Rattle.std.specs.Prelude.{◌≡◌, ◌↔◌, ◌<◌, ◌≤◌, ◌^◌, ◌/◌, ◌*◌, ◌+◌, ◌||◌, suc, [], drop, length, slice_get, is_some, All, IfOk, IfSome, IsTrue};
+ghost use Rattle.messages.specs.declared.moves.UpMove.TheVariants as up;
+ghost use Rattle.messages.specs.declared.moves.DownMove.TheVariants as down;
+ghost use Rattle.messages.specs.Queues.{records_of};
 ghost use Rattle.messages.specs.Network.{IsEmptyNet, Sizes, put_replies, put_requests};
-ghost use Rattle.messages.specs.Moves.{injected, module_replied, module_taken, moved_down, moved_up, port_taken};
-ghost use Rattle.combining_switch.specs.Switches.{IsEmptySwitch};
-ghost use Rattle.omega_network.specs.Networks.{half, net_of, sizes_of};
-ghost use Rattle.omega_network.specs.Changes.{AreNew};
-ghost use Rattle.omega_network.specs.Offers.{accepted_on, answered_on, first_reply_taken, first_request_taken};
+ghost use Rattle.messages.specs.Naming.{Names, Unnamed};
+ghost use Rattle.messages.specs.Moves.{answer, injected, module_replied, module_taken, moved_down, moved_up, offered, port_taken};
+ghost use Rattle.std.specs.List.{list_any};
+ghost use Rattle.combining_switch.specs.Switches.{records_at};
+ghost use Rattle.omega_network.specs.Answers.{down_of, up_of};
+ghost use Rattle.omega_network.specs.Networks.{AreNew, HasNoMessage, HasNoRecord, MayLead, half, is_named, is_second, net_of, place, sizes_of, the_switch};
 
 use combining_switch::{Accepted, Answered, Switch};
+use message_cells::Pool;
 use messages::{DownMove, Record, Reply, Request, UpMove, moves_of_nothing_stall};
-use omega_wires::{input_port, module_of, rotate_left, rotations_are_inverse, wire_after};
+use omega_wires::{module_of, wire_after};
 use phi_algebra::Phi;
 use std::alloc::{AllocError, Global};
 use std::marker::Model;
 
 /// A network of `k` stages, whose queues have room for `c` messages and whose wait buffers have room
-/// for `b` records. Processors, modules and wires are numbered from 0, and stages too.
+/// for `b` records. An entry of a queue is combined up to `r` times. Processors, modules and wires are numbered from 0, and stages too.
 #[derive(Drop)]
 pub struct Network {
-    slots: Vec<Option<Request>>,
+    /// The queues before each stage and behind the last, by depths and then by wires.
+    pool: Pool,
+    /// The switches stage by stage.
     switches: Vec<Switch>,
-    module_slots: Vec<Option<Reply>>,
     k: u8,
     c: u8,
     b: u8,
+    r: u8,
 }
 
 impl Model for Network {
@@ -34,42 +39,36 @@ impl Model for Network {
 
     ghost Value = { NetworkLists };
 
-    ghost view = { λ n. record { k = n.k; c = n.c; b = n.b; slots = n.slots.items; switches = n.switches.items; module_slots = n.module_slots.items } };
+    ghost view = { λ n. record { k = n.k; c = n.c; b = n.b; r = n.r; pool = n.pool; switches = n.switches.items } };
 
-    ghost invariant = { λ n. IsNetwork (record {
-      k = n.k;
-      c = n.c;
-      b = n.b;
-      slots = n.slots.items;
-      switches = n.switches.items;
-      module_slots = n.module_slots.items;
-    }) };
+    ghost invariant = { λ n. IsNetwork (record { k = n.k; c = n.c; b = n.b; r = n.r; pool = n.pool; switches = n.switches.items }) };
 }
 
 impl Network {
     /// An empty network of `k` stages, 0 to 6, with queues of `c` messages, 2 to 16, and wait buffers
-    /// of `b` records, 0 to 16. With no stage the processor's slot is the module's.
+    /// of `b` records, 0 to 16. An entry of a queue is combined up to `r` times, 1 to 3. With no stage the processor's slot is the module's.
     ///
     /// # Errors
     ///
     /// `AllocError` where there is no memory for it.
-    pub fn new(alloc: Global, k: u8, c: u8, b: u8) -> Result<Self, AllocError>
+    pub fn new(alloc: Global, k: u8, c: u8, b: u8, r: u8) -> Result<Self, AllocError>
         requires stages { k ≤ 6 }
         requires queues { (2 ≤ c) × (c ≤ 16) }
         requires records { b ≤ 16 }
+        requires combinations { (1 ≤ r) × (r ≤ 3) }
         ensures empty { IfOk result (λ n. IsEmptyNet (net_of n)) }
-        ensures sizes { IfOk result (λ n. sizes_of n ≡ record { k = k; c = c; b = b; r = 1 }) }
+        ensures sizes { IfOk result (λ n. sizes_of n ≡ record { k = k; c = c; b = b; r = r }) }
     {
         // The proof needs the type of a request's function named.
         let _phi = Phi::identity();
-        let wires = wires_of(k);
+        let queues = queues_of(k);
         Ok(Network {
-            slots: free_slots(alloc, wires)?,
-            switches: new_switches(alloc, k, c, b)?,
-            module_slots: free_slots(alloc, wires)?,
+            pool: Pool::new(alloc, wires_of(k), queues, queues)?,
+            switches: new_switches(alloc, k, c, b, r)?,
             k,
             c,
             b,
+            r,
         })
     }
 
@@ -91,8 +90,23 @@ impl Network {
     pub fn is_empty(&self) -> bool
         ensures { IsTrue result ↔ IsEmptyNet (net_of self.now) }
     {
-        rotations_are_inverse();
-        are_free(&self.slots) && are_empty(&self.switches) && are_free(&self.module_slots)
+        has_no_message(&self.pool, queues_of(self.k)) && have_no_record(&self.switches)
+    }
+
+    /// Whether a message or a record names a processor: as the leader, or as the second of a record.
+    /// It looks through all queues and wait buffers.
+    pub fn names(&self, p: u8) -> bool
+        ensures { IsTrue result ↔ Names (net_of self.now) p }
+    {
+        !self.pool.is_free(p) || are_named(&self.switches, p)
+    }
+
+    /// Whether no message is led by a processor, and no record has it as its second, so that a reply
+    /// for it may be put in. It looks through all queues and wait buffers.
+    pub fn may_reply(&self, p: u8) -> bool
+        ensures { IsTrue result ↔ Unnamed (net_of self.now) p }
+    {
+        self.pool.is_free(p) && !are_second(&self.switches, p)
     }
 
     /// Whether a processor's slot has no request.
@@ -103,16 +117,18 @@ impl Network {
         self.request_before(0, p).is_none()
     }
 
-    /// Puts a processor's request into its slot, which must be free.
+    /// Puts a processor's request into its slot, which must be free. Nothing may name the processor.
     #[tactic(auto, unfolding(messages::specs::Moves::injected))]
     pub fn inject(&mut self, p: u8, request: Request)
         requires processor { p < 2 ^ self.old.k }
         requires leader { request.leader ≡ p }
         requires free { (net_of self.old).requests 0 p ≡ [] }
+        requires unnamed { Names (net_of self.old) p → ⊥ }
         ensures after { net_of self.new ≡ injected (net_of self.old) request }
         ensures sizes { sizes_of self.new ≡ sizes_of self.old }
     {
-        self.put_slot(p, Some(request));
+        let queue = self.place(0, p);
+        self.pool.push_request(queue, request);
     }
 
     /// Moves the first request on a wire before a stage: it is offered to the output that its word's
@@ -142,19 +158,12 @@ impl Network {
         ensures after { net_of self.new ≡ (moved_up (sizes_of self.old) (net_of self.old) stage wire).1 }
         ensures sizes { sizes_of self.new ≡ sizes_of self.old }
     {
-        let (word, second) = (request.word, request.leader);
-        let out = wire_after(self.k, stage, wire, module_of(word, self.k));
-        match self.accept(stage, out, request) {
-            Accepted::Queued => {
-                self.take_request(stage, wire);
-                UpMove::Moved
-            }
-            Accepted::Combined { first } => {
-                self.take_request(stage, wire);
-                UpMove::Combined { first, second }
-            }
-            Accepted::Full => UpMove::Stalled,
+        let out = wire_after(self.k, stage, wire, module_of(request.word, self.k));
+        if !self.would_take(stage, out, &request) {
+            return UpMove::Stalled;
         }
+        self.take_request(stage, wire);
+        self.offer(stage, out, request)
     }
 
     /// Moves the first reply on a wire after a stage back over the stage: it is answered at the
@@ -188,17 +197,11 @@ impl Network {
     {
         // There are few stages.
         let _ = &self.k;
-        match self.answer(stage, wire, reply) {
-            Answered::One => {
-                self.take_reply(stage + 1, wire);
-                DownMove::Moved
-            }
-            Answered::Two { second } => {
-                self.take_reply(stage + 1, wire);
-                DownMove::Answered { to: second }
-            }
-            Answered::NoRoom => DownMove::Stalled,
+        if !self.would_answer(stage, wire, &reply) {
+            return DownMove::Stalled;
         }
+        self.take_reply(stage + 1, wire);
+        self.answer(stage, wire, reply)
     }
 
     /// The first request at a module.
@@ -230,15 +233,19 @@ impl Network {
         self.reply_before(self.k, m).is_none()
     }
 
-    /// Puts a reply into a module's slot, which must be free.
+    /// Puts a reply into a module's slot, which must be free. No message may be led by the reply's
+    /// leader, and no record may have it as its second.
     #[tactic(auto, unfolding(messages::specs::Moves::module_replied))]
     pub fn module_reply(&mut self, m: u8, reply: Reply)
         requires at_module { m < 2 ^ self.old.k }
         requires free { (net_of self.old).replies self.old.k m ≡ [] }
+        requires leader { reply.leader < 2 ^ self.old.k }
+        requires unnamed { Unnamed (net_of self.old) reply.leader }
         ensures after { net_of self.new ≡ module_replied (sizes_of self.old) (net_of self.old) m reply }
         ensures sizes { sizes_of self.new ≡ sizes_of self.old }
     {
-        self.put_module_slot(m, Some(reply));
+        let queue = self.place(self.k, m);
+        self.pool.push_reply(queue, reply);
     }
 
     /// The first reply on a processor's wire.
@@ -257,9 +264,7 @@ impl Network {
         ensures after { net_of self.new ≡ port_taken (net_of self.old) p }
         ensures sizes { sizes_of self.new ≡ sizes_of self.old }
     {
-        let reply = self.port_reply(p);
-        self.take_reply(0, p);
-        reply
+        self.take_reply(0, p)
     }
 
     /// Whether a request stands before a stage on a wire, or at a module for stage `k`.
@@ -280,15 +285,33 @@ impl Network {
         self.reply_before(stage, wire).is_some()
     }
 
+    /// The request that stands at `place` before a stage on a wire, or at a module for stage `k`; the first stands at 0.
+    pub fn request(&self, stage: u8, wire: u8, place: usize) -> Option<Request>
+        requires stage { stage ≤ self.now.k }
+        requires wire { wire < 2 ^ self.now.k }
+        ensures { result ≡ slice_get ((net_of self.now).requests stage wire) place }
+    {
+        let queue = self.place(stage, wire);
+        self.pool.request(queue, place)
+    }
+
+    /// The reply that stands at `place` before a stage on a wire, or at a module for stage `k`; the first stands at 0.
+    pub fn reply(&self, stage: u8, wire: u8, place: usize) -> Option<Reply>
+        requires stage { stage ≤ self.now.k }
+        requires wire { wire < 2 ^ self.now.k }
+        ensures { result ≡ slice_get ((net_of self.now).replies stage wire) place }
+    {
+        let queue = self.place(stage, wire);
+        self.pool.reply(queue, place)
+    }
+
     /// How many requests stand in the queue at the output of a wire after a stage.
     pub fn request_count(&self, stage: u8, wire: u8) -> usize
         requires stage { stage < self.now.k }
         requires wire { wire < 2 ^ self.now.k }
         ensures { result ≡ length ((net_of self.now).requests (suc stage) wire) }
     {
-        rotations_are_inverse();
-        let switch = self.place_behind(stage, wire);
-        self.switches[switch].request_count(wire % 2)
+        usize::from(self.pool.request_count(self.place(stage + 1, wire)))
     }
 
     /// How many replies stand in the queue at the input of a wire before a stage.
@@ -297,9 +320,7 @@ impl Network {
         requires wire { wire < 2 ^ self.now.k }
         ensures { result ≡ length ((net_of self.now).replies stage wire) }
     {
-        rotations_are_inverse();
-        let switch = self.place_before(stage, wire);
-        self.switches[switch].reply_count(input_port(self.k, wire))
+        usize::from(self.pool.reply_count(self.place(stage, wire)))
     }
 
     /// The records of the wait buffer at the output of a wire after a stage, in the order of their combinations.
@@ -308,9 +329,7 @@ impl Network {
         requires wire { wire < 2 ^ self.now.k }
         ensures { result.now ≡ (net_of self.now).records stage wire }
     {
-        rotations_are_inverse();
-        let switch = self.place_behind(stage, wire);
-        self.switches[switch].records(wire % 2)
+        self.switches[self.switch_behind(stage, wire)].records(wire % 2)
     }
 
     /// The first request before a stage on a wire, or at a module for stage `k`.
@@ -319,54 +338,20 @@ impl Network {
         requires wire { wire < 2 ^ self.now.k }
         ensures { result ≡ slice_get ((net_of self.now).requests stage wire) 0 }
     {
-        if stage == 0 {
-            self.slots[usize::from(wire)]
-        } else {
-            rotations_are_inverse();
-            let place = self.place_behind(stage - 1, wire);
-            self.switches[place].front(wire % 2)
-        }
+        self.pool.front_request(self.place(stage, wire))
     }
 
-    /// Takes the first request before a stage on a wire.
-    fn take_request(&mut self, stage: u8, wire: u8)
+    /// Takes the first request before a stage on a wire. Nothing is left that its leader leads.
+    fn take_request(&mut self, stage: u8, wire: u8) -> Option<Request>
         requires stage { stage ≤ self.old.k }
         requires wire { wire < 2 ^ self.old.k }
-        ensures taken { net_of self.new ≡ first_request_taken (net_of self.old) stage wire }
+        ensures first { result ≡ slice_get ((net_of self.old).requests stage wire) 0 }
+        ensures taken { net_of self.new ≡ put_requests (net_of self.old) stage wire (drop 1 ((net_of self.old).requests stage wire)) }
         ensures sizes { sizes_of self.new ≡ sizes_of self.old }
+        ensures unnamed { IfSome result (λ x. MayLead self.new x.leader) }
     {
-        if stage == 0 {
-            self.put_slot(wire, None);
-        } else {
-            self.take_behind(stage - 1, wire);
-        }
-    }
-
-    /// Takes the first request at the output of a wire after a stage.
-    fn take_behind(&mut self, stage: u8, wire: u8)
-        requires stage { stage < self.old.k }
-        requires wire { wire < 2 ^ self.old.k }
-        ensures taken { net_of self.new ≡ first_request_taken (net_of self.old) (suc stage) wire }
-        ensures sizes { sizes_of self.new ≡ sizes_of self.old }
-    {
-        rotations_are_inverse();
-        let place = self.place_behind(stage, wire);
-        self.switches[place].take(wire % 2);
-    }
-
-    /// Offers a request to the output of a wire after a stage.
-    fn accept(&mut self, stage: u8, wire: u8, request: Request) -> Accepted
-        requires stage { stage < self.old.k }
-        requires wire { wire < 2 ^ self.old.k }
-        ensures answer { result ≡ (accepted_on (sizes_of self.old) (net_of self.old) stage wire request).0 }
-        ensures after { net_of self.new ≡ (accepted_on (sizes_of self.old) (net_of self.old) stage wire request).1 }
-        ensures sizes { sizes_of self.new ≡ sizes_of self.old }
-    {
-        // The proof needs the type of this field named.
-        let _phi = request.phi;
-        rotations_are_inverse();
-        let place = self.place_behind(stage, wire);
-        self.switches[place].accept(wire % 2, request)
+        let queue = self.place(stage, wire);
+        self.pool.pop_request(queue)
     }
 
     /// The first reply before a stage on a wire, or at a module for stage `k`.
@@ -375,151 +360,230 @@ impl Network {
         requires wire { wire < 2 ^ self.now.k }
         ensures { result ≡ slice_get ((net_of self.now).replies stage wire) 0 }
     {
-        if stage == self.k {
-            self.module_slots[usize::from(wire)]
-        } else {
-            rotations_are_inverse();
-            let place = self.place_before(stage, wire);
-            self.switches[place].reply_front(input_port(self.k, wire))
-        }
+        self.pool.front_reply(self.place(stage, wire))
     }
 
-    /// Takes the first reply before a stage on a wire.
-    fn take_reply(&mut self, stage: u8, wire: u8)
+    /// Takes the first reply before a stage on a wire. Nothing is left that its leader leads.
+    fn take_reply(&mut self, stage: u8, wire: u8) -> Option<Reply>
         requires stage { stage ≤ self.old.k }
         requires wire { wire < 2 ^ self.old.k }
-        ensures taken { net_of self.new ≡ first_reply_taken (net_of self.old) stage wire }
+        ensures first { result ≡ slice_get ((net_of self.old).replies stage wire) 0 }
+        ensures taken { net_of self.new ≡ put_replies (net_of self.old) stage wire (drop 1 ((net_of self.old).replies stage wire)) }
         ensures sizes { sizes_of self.new ≡ sizes_of self.old }
+        ensures unnamed { IfSome result (λ y. MayLead self.new y.leader) }
     {
-        if stage == self.k {
-            self.put_module_slot(wire, None);
-        } else {
-            self.take_ahead(stage, wire);
-        }
+        let queue = self.place(stage, wire);
+        self.pool.pop_reply(queue)
     }
 
-    /// Takes the first reply at the input that a wire goes to before a stage.
-    fn take_ahead(&mut self, stage: u8, wire: u8)
+    /// Whether a request that is offered to the output of a wire after a stage would be combined or queued.
+    fn would_take(&self, stage: u8, wire: u8, request: &Request) -> bool
+        requires stage { stage < self.now.k }
+        requires wire { wire < 2 ^ self.now.k }
+        ensures { IsTrue result ↔ ((offered (sizes_of self.now) (net_of self.now) (net_of self.now) stage wire request.now).0 ≡ up.Stalled → ⊥) }
+    {
+        self.switches[self.switch_behind(stage, wire)].would_take(&self.pool, wire % 2, request)
+    }
+
+    /// Offers a request, which was taken out of its place, to the output of a wire after a stage.
+    fn offer(&mut self, stage: u8, wire: u8, request: Request) -> UpMove
         requires stage { stage < self.old.k }
         requires wire { wire < 2 ^ self.old.k }
-        ensures taken { net_of self.new ≡ first_reply_taken (net_of self.old) stage wire }
+        requires leader { MayLead self.old request.leader }
+        ensures outcome { result ≡ (offered (sizes_of self.old) (net_of self.old) (net_of self.old) stage wire request).0 }
+        ensures after { net_of self.new ≡ (offered (sizes_of self.old) (net_of self.old) (net_of self.old) stage wire request).1 }
         ensures sizes { sizes_of self.new ≡ sizes_of self.old }
     {
-        rotations_are_inverse();
-        let input = input_port(self.k, wire);
-        let place = self.place_before(stage, wire);
-        self.switches[place].reply_take(input);
+        let second = request.leader;
+        let place = self.switch_behind(stage, wire);
+        let answer = self.switches[place].accept(&mut self.pool, wire % 2, request);
+        up_of(answer, second)
     }
 
-    /// Answers a reply at the output of a wire after a stage.
-    fn answer(&mut self, stage: u8, wire: u8, reply: Reply) -> Answered
+    /// Whether there is room for the replies for a reply at the output of a wire after a stage.
+    fn would_answer(&self, stage: u8, wire: u8, reply: &Reply) -> bool
+        requires stage { stage < self.now.k }
+        requires wire { wire < 2 ^ self.now.k }
+        ensures { IsTrue result ↔ ((answer (sizes_of self.now) (net_of self.now) (net_of self.now) stage wire reply.now
+            (records_of reply.now.leader ((net_of self.now).records stage wire))).0 ≡ down.Stalled → ⊥) }
+    {
+        self.switches[self.switch_behind(stage, wire)].would_answer(&self.pool, wire % 2, reply)
+    }
+
+    /// Answers a reply, which was taken out of its place, at the output of a wire after a stage.
+    fn answer(&mut self, stage: u8, wire: u8, reply: Reply) -> DownMove
         requires stage { stage < self.old.k }
         requires wire { wire < 2 ^ self.old.k }
-        ensures answer { result ≡ (answered_on (sizes_of self.old) (net_of self.old) stage wire reply).0 }
-        ensures after { net_of self.new ≡ (answered_on (sizes_of self.old) (net_of self.old) stage wire reply).1 }
+        requires leader { MayLead self.old reply.leader }
+        ensures outcome { result ≡ (answer (sizes_of self.old) (net_of self.old) (net_of self.old) stage wire reply
+            (records_of reply.leader ((net_of self.old).records stage wire))).0 }
+        ensures after { net_of self.new ≡ (answer (sizes_of self.old) (net_of self.old) (net_of self.old) stage wire reply
+            (records_of reply.leader ((net_of self.old).records stage wire))).1 }
         ensures sizes { sizes_of self.new ≡ sizes_of self.old }
     {
-        rotations_are_inverse();
-        let place = self.place_behind(stage, wire);
-        self.switches[place].answer(wire % 2, reply)
+        let place = self.switch_behind(stage, wire);
+        let answer = self.switches[place].answer(&mut self.pool, wire % 2, reply);
+        down_of(answer)
     }
 
-    /// Replaces what is in a processor's slot.
-    fn put_slot(&mut self, p: u8, request: Option<Request>)
-        requires { p < 2 ^ self.old.k }
-        ensures after { net_of self.new ≡ put_requests (net_of self.old) 0 p (option_to_list request) }
-        ensures sizes { sizes_of self.new ≡ sizes_of self.old }
+    /// The number of the queues before a stage on a wire, or at a module for stage `k`.
+    fn place(&self, stage: u8, wire: u8) -> usize
+        requires stage { stage ≤ self.now.k }
+        requires wire { wire < 2 ^ self.now.k }
+        ensures exact { result ≡ place self.now.k stage wire }
+        ensures requests { result < length self.now.pool.requests }
+        ensures replies { result < length self.now.pool.replies }
     {
-        self.slots[usize::from(p)] = request;
-    }
-
-    /// Replaces what is in a module's slot.
-    fn put_module_slot(&mut self, m: u8, reply: Option<Reply>)
-        requires { m < 2 ^ self.old.k }
-        ensures after { net_of self.new ≡ put_replies (net_of self.old) self.old.k m (option_to_list reply) }
-        ensures sizes { sizes_of self.new ≡ sizes_of self.old }
-    {
-        self.module_slots[usize::from(m)] = reply;
+        usize::from(stage) * usize::from(wires_of(self.k)) + usize::from(wire)
     }
 
     /// Where the switch that a wire comes from after a stage stands among all.
     #[tactic(auto, using(crate::proofs::Switches::place_is, crate::proofs::Switches::half_of_wire, crate::proofs::Switches::place_within))]
-    fn place_behind(&self, stage: u8, wire: u8) -> usize
+    fn switch_behind(&self, stage: u8, wire: u8) -> usize
         requires stage { stage < self.now.k }
         requires wire { wire < 2 ^ self.now.k }
         ensures exact { result ≡ stage * half self.now.k + wire / 2 }
         ensures within { result < length self.now.switches }
     {
-        (usize::from(stage) * wires_of(self.k) + usize::from(wire)) / 2
-    }
-
-    /// Where the switch that a wire goes to before a stage stands among all.
-    #[tactic(auto, using(crate::proofs::Switches::place_is, crate::proofs::Switches::half_of_wire, crate::proofs::Switches::place_within))]
-    fn place_before(&self, stage: u8, wire: u8) -> usize
-        requires stage { stage < self.now.k }
-        requires wire { wire < 2 ^ self.now.k }
-        ensures exact { result ≡ stage * half self.now.k + switch_of self.now.k wire }
-        ensures within { result < length self.now.switches }
-    {
-        (usize::from(stage) * wires_of(self.k) + usize::from(rotate_left(self.k, wire))) / 2
+        (usize::from(stage) * usize::from(wires_of(self.k)) + usize::from(wire)) / 2
     }
 }
 
-/// Slots without a message.
-fn free_slots<T: Drop>(alloc: Global, count: usize) -> Result<Vec<Option<T>>, AllocError>
-    ensures count { IfOk result (λ v. length v.items ≡ count) }
-    ensures free { IfOk result (λ v. All IsNone v.items) }
+/// What a move of a request that `second` leads answers.
+fn up_of(answer: Accepted, second: u8) -> UpMove
+    ensures { result ≡ up_of answer second }
 {
-    let mut slots = Vec::new(alloc);
-    for _ in 0..count {
-        slots.push(None)?;
+    match answer {
+        Accepted::Queued => UpMove::Moved,
+        Accepted::Combined { first } => UpMove::Combined { first, second },
+        Accepted::Full => UpMove::Stalled,
     }
-    Ok(slots)
 }
 
-/// Whether no slot has a message.
-fn are_free<T>(slots: &[Option<T>]) -> bool
-    ensures { IsTrue result ↔ All IsNone slots.now }
+/// What a move of a reply answers.
+fn down_of(answer: Answered) -> DownMove
+    ensures { result ≡ down_of answer }
 {
-    slots.iter().all(|slot| slot.is_none())
+    match answer {
+        Answered::One => DownMove::Moved,
+        Answered::Many { seconds } => DownMove::Answered { to: seconds },
+        Answered::NoRoom => DownMove::Stalled,
+    }
 }
 
-/// Whether no switch has a message or a record.
-fn are_empty(switches: &[Switch]) -> bool
-    ensures { IsTrue result ↔ All IsEmptySwitch switches.now }
+/// Whether none of a pool's queues, of which there are so many of each kind, has a message.
+fn has_no_message(pool: &Pool, queues: u16) -> bool
+    requires requests { length pool.now.requests ≡ queues }
+    requires replies { length pool.now.replies ≡ queues }
+    ensures { IsTrue result ↔ HasNoMessage pool.now }
 {
-    switches.iter().all(Switch::is_empty)
+    for queue in 0..usize::from(queues) {
+        if pool.request_count(queue) != 0 || pool.reply_count(queue) != 0 {
+            return false;
+        }
+    }
+    true
+}
+
+/// Whether no switch has a record.
+fn have_no_record(switches: &[Switch]) -> bool
+    ensures { IsTrue result ↔ All HasNoRecord switches.now }
+{
+    switches.iter().all(has_no_record)
+}
+
+/// Whether a switch has no record.
+fn has_no_record(switch: &Switch) -> bool
+    ensures { IsTrue result ↔ HasNoRecord switch.now }
+{
+    switch.records(0).is_empty() && switch.records(1).is_empty()
+}
+
+/// Whether a record of one of the switches names a processor.
+fn are_named(switches: &[Switch], p: u8) -> bool
+    ensures { result ≡ list_any (λ t. is_named p (records_at t 0) || is_named p (records_at t 1)) switches.now }
+{
+    switches.iter().any(|switch| is_named(p, switch.records(0)) || is_named(p, switch.records(1)))
+}
+
+/// Whether one of the records names a processor, as the leader or as the second.
+fn is_named(p: u8, records: &[Record]) -> bool
+    ensures { result ≡ is_named p records.now }
+{
+    records
+        .iter()
+        .any(|record| record.leader == p || record.second == p)
+}
+
+/// Whether a record of one of the switches has a processor as its second.
+fn are_second(switches: &[Switch], p: u8) -> bool
+    ensures { result ≡ list_any (λ t. is_second p (records_at t 0) || is_second p (records_at t 1)) switches.now }
+{
+    switches.iter().any(|switch| is_second(p, switch.records(0)) || is_second(p, switch.records(1)))
+}
+
+/// Whether one of the records has a processor as its second.
+fn is_second(p: u8, records: &[Record]) -> bool
+    ensures { result ≡ is_second p records.now }
+{
+    records.iter().any(|record| record.second == p)
 }
 
 /// The switches of all stages, one stage after another.
-fn new_switches(alloc: Global, k: u8, c: u8, b: u8) -> Result<Vec<Switch>, AllocError>
+fn new_switches(alloc: Global, k: u8, c: u8, b: u8, r: u8) -> Result<Vec<Switch>, AllocError>
     requires stages { k ≤ 6 }
     requires queues { (2 ≤ c) × (c ≤ 16) }
     requires records { b ≤ 16 }
-    ensures { IfOk result (λ v. AreNew k c b v.items) }
+    requires combinations { (1 ≤ r) × (r ≤ 3) }
+    ensures { IfOk result (λ v. AreNew k c b r v.items) }
 {
-    let per_stage = switches_per_stage(k);
+    let per_stage = wires_of(k) / 2;
     let mut switches = Vec::new(alloc);
     for stage in 0..k {
-        for _ in 0..per_stage {
-            switches.push(Switch::new(alloc, c, b, k - 1 - stage)?)?;
+        for number in 0..per_stage {
+            switches.push(new_switch(k, c, b, r, stage, number))?;
         }
     }
     Ok(switches)
 }
 
+/// The switch of this number in a stage. Its outputs are the wires after it whose numbers are twice its own and one more;
+/// its inputs are the wires before it that the shuffle brings to these.
+fn new_switch(k: u8, c: u8, b: u8, r: u8, stage: u8, number: u8) -> Switch
+    requires stages { k ≤ 6 }
+    requires queues { (2 ≤ c) × (c ≤ 16) }
+    requires records { b ≤ 16 }
+    requires combinations { (1 ≤ r) × (r ≤ 3) }
+    requires stage { stage < k }
+    requires number { number < half k }
+    ensures { result ≡ the_switch k c b r stage number [] [] }
+{
+    let wires = u16::from(wires_of(k));
+    let before = u16::from(stage) * wires + u16::from(number);
+    let behind = (u16::from(stage) + 1) * wires + 2 * u16::from(number);
+    Switch::new(
+        c,
+        b,
+        r,
+        k - 1 - stage,
+        (behind, behind + 1),
+        (before, before + wires / 2),
+    )
+}
+
 /// How many wires there are.
-fn wires_of(k: u8) -> usize
+fn wires_of(k: u8) -> u8
     requires { k ≤ 6 }
-    ensures { result ≡ 2 ^ k }
+    ensures exact { result ≡ 2 ^ k }
+    ensures few { result ≤ 64 }
 {
     1 << k
 }
 
-/// How many switches a stage has, where there is one.
-fn switches_per_stage(k: u8) -> usize
+/// How many queues of requests there are, and as many of replies.
+fn queues_of(k: u8) -> u16
     requires { k ≤ 6 }
-    ensures { 0 < k → result ≡ half k }
+    ensures { result ≡ suc k * 2 ^ k }
 {
-    (1_usize << k) >> 1
+    (u16::from(k) + 1) * u16::from(wires_of(k))
 }

@@ -12,7 +12,7 @@ use Rattle.flat_machine.specs.Memory.{in_local, in_shared}
 use Rattle.flat_machine.specs.State.{FlatState}
 use Rattle.steps.specs.declared.step.Outcome.{Outcome}
 use Rattle.steps.specs.declared.step.Outcome.TheVariants.{Retired, Issued, Stopped, Moved, Combined, Served, Answered, Poked, Stalled}
-use Rattle.machine_program.specs.Processors.{is_lawful_poke}
+use Rattle.machine_runs.specs.machine_program.Processors.{is_lawful_poke}
 use Rattle.machine_runs.specs.Laws.{FlatProcessorsAreRead, FlatWordsAreRead}
 use Rattle.machine_runs.specs.Machines.{MachineLists, IsIdle, IsMachine}
 use Rattle.machine_runs.specs.Runs.{flat_state}

@@ -8,15 +8,15 @@ use Rattle.flat_machine.specs.Flat.{flat_run}
 use Rattle.flat_machine.specs.State.{FlatState, Processor}
 use Rattle.elf_image.specs.Images.{ImageContents}
 use Rattle.elf_image.specs.Openings.{opening as flat_opening}
-use Rattle.serialization.specs.Order.{ran}
+use Rattle.machine_runs.specs.serialization.Order.{ran}
 use Rattle.steps.specs.declared.step.Step.{Step}
-use Rattle.machine_ports.specs.Ports.{PortState}
-use Rattle.machine_program.specs.Processors.{no_port, no_processor, sizes_of, program}
-use Rattle.machine_program.specs.Steps.{named}
-use Rattle.machine_program.specs.Theory as theory
+use Rattle.machine_runs.specs.machine_ports.Ports.{PortState}
+use Rattle.machine_runs.specs.machine_program.Processors.{no_port, no_processor, sizes_of, program}
+use Rattle.machine_runs.specs.machine_program.Steps.{named}
+use Rattle.machine_runs.specs.machine_program.Theory as theory
 use Rattle.machine_runs.specs.Machines.{MachineLists, machine_of}
 use Rattle.machine_runs.specs.Runs.{IsOpening, flat_state, passed}
-use Rattle.machine_sweep.specs.Standing.{HasFaulted, IsFaulted, processor_of}
+use Rattle.run_commands.specs.machine_sweep.Standing.{HasFaulted, IsFaulted, processor_of}
 use Rattle.order_lines.specs.declared.choice.Choice.{Choice}
 use Rattle.order_lines.specs.Lines.{lines_of}
 use Rattle.run_commands.specs.Reports.{HasFlatFaulted, IsExitOf, flat_processor}

@@ -4,17 +4,15 @@ use Rattle.flat_machine.specs.declared.config.Config.{Config}
 use Rattle.flat_machine.specs.declared.poke.Entry.{Entry}
 use Rattle.flat_machine.specs.Flat.{flat_run}
 use Rattle.flat_machine.specs.State.{FlatState}
-use Rattle.elf_image.specs.Files.{IsImageOf}
 use Rattle.elf_image.specs.Images.{ImageContents}
 use Rattle.elf_image.specs.Openings.{opening as flat_opening}
 use Rattle.steps.specs.declared.step.Step.{Step}
-use Rattle.trace_file.specs.Traces.{TraceContents, config_of}
 use Rattle.machine_runs.specs.Machines.{MachineLists, IsIdle}
 use Rattle.machine_runs.specs.Runs.{IsOpening, IsReplay, IsSerialized, passed}
 use Rattle.machine_runs.specs.Draining.{drain_steps}
 use Rattle.order_lines.specs.declared.choice.Choice.{Choice}
 use Rattle.order_lines.specs.Lines.{lines_of}
-use Rattle.run_commands.specs.Commands.{IsTraceOf, StandsAfter}
+use Rattle.run_commands.specs.Commands.{IsAccount, IsSomeAccount, StandsAfter, Telling}
 use Rattle.run_commands.specs.Reports.{HasFlatFaulted}
 
 -- A run of the machine of this size that opens on the image: it has taken these steps, each of which did something, no reference
@@ -51,14 +49,14 @@ pub record AreOrderLines (c : Config) (image : ImageContents) (steps : List Step
   pub home : IsBroughtHome c image steps all
   pub flat : AreFlatLines c (flat_opening c image.layout) (order_of home.run) choice text status
 
+-- what the command tells of steps
+abbrev pub tells_order : Choice → Telling
+tells_order choice c image steps text status = AreOrderLines c image steps choice text status
+
 -- These are the lines of the order of a trace that is replayed, and then drained, on the image that a file means.
-pub record IsOrder (shared_words : ℕ) (choice : Choice) (trace known : Option (List ℕ)) (status : ℕ) (text : List ℕ) : Type 0 where
-  pub steps : TraceContents
-  pub read : IsTraceOf trace steps
-  pub image : ImageContents
-  pub meant : IsImageOf shared_words known image
-  pub lines : AreOrderLines (config_of steps shared_words) image steps.steps choice text status
+abbrev pub IsOrder : (shared_words : ℕ) → Choice → (trace known : Option (List ℕ)) → (status : ℕ) → (text : List ℕ) → Type 0
+IsOrder shared_words choice = IsAccount (tells_order choice) shared_words
 
 -- the lines, with whatever exit status
 abbrev pub IsSomeOrder : (shared_words : ℕ) → Choice → (trace known : Option (List ℕ)) → (text : List ℕ) → Type 0
-IsSomeOrder shared_words choice trace known text = (status : ℕ) × IsOrder shared_words choice trace known status text
+IsSomeOrder shared_words choice = IsSomeAccount (tells_order choice) shared_words

@@ -1,19 +1,19 @@
 //! `ultra order`: from the bytes of a trace and of an image to the lines of a serial order.
 
-ghost use Rattle.std.specs.Prelude.{◌≡◌, ◌≤◌, ◌⊎◌, true, false, IfOk, IfErr, IsErr, IsErrOf, OnErr, string_bytes};
+ghost use Rattle.std.specs.Prelude.{◌≡◌, ◌≤◌, true, false, IfOk, IfErr, IsErr, length, string_bytes};
 ghost use Rattle.command_io.specs.Printing.{IsPrinted, IsTold};
 ghost use Rattle.run_commands.specs.Causes.{IsNotPrinted, IsNotTaken};
 ghost use Rattle.run_commands.specs.Commands.{known_of};
 ghost use Rattle.order_command.specs.Orders.{AreOrderLines, IsOrder, IsSomeOrder};
 
 use crate::lines::order_text;
-use crate::machines::{brought_home, entries_of, opened};
-use command_io::{Fault, image_of, print, tell};
+use crate::machines::{brought_home, entries_of};
+use command_io::Fault;
 use elf_image::Image;
 use flat_machine::Config;
 use link::LinkWrite;
 use order_lines::Choice;
-use run_commands::{exit_status, trace_of};
+use run_commands::{Account, account_command, exit_status, opened};
 use std::alloc::Global;
 use std::io;
 use std::io::{Read, Write};
@@ -45,40 +45,43 @@ pub fn order_command<T: Read + Drop, R: Read + Drop, W: LinkWrite, E: Write>(
         (known_of R.remaining file) (W.contents out.old) (W.contents out.new)) out.old out.new result }
     ensures failed { W.has_failed out.new ≡ true → result ≡ 3 }
 {
-    match carried_out(alloc, trace, file, shared_words, choice, out) {
-        Ok(status) => status,
-        Err(fault) => tell(fault, err),
-    }
+    account_command(
+        alloc,
+        trace,
+        file,
+        shared_words,
+        &OrderLines { choice },
+        out,
+        err,
+    )
 }
 
-/// Carries the command out.
-fn carried_out<T: Read + Drop, R: Read + Drop, W: LinkWrite>(
-    alloc: Global,
-    trace: T,
-    file: io::Result<R>,
-    shared_words: u32,
+/// The chosen lines of the order of the steps and a drain.
+#[derive(Drop)]
+struct OrderLines {
     choice: Choice,
-    out: &mut W,
-) -> Result<u8, Fault>
-    requires { W.has_failed out.old ≡ false }
-    ensures failed { W.has_failed out.new ≡ true → IsErrOf result Fault.Link }
-    ensures link { IsErrOf result Fault.Link → IsErr file ⊎ (W.has_failed out.new ≡ true) }
-    ensures printed { IfOk result (λ status. IsPrinted (IsOrder shared_words choice (T.remaining trace) (known_of R.remaining file) status)
-        (W.contents out.old) (W.contents out.new)) }
-    ensures low { IfOk result (λ status. status ≤ 1) }
-    ensures told { IfErr result (IsNotPrinted (IsSomeOrder shared_words choice (T.remaining trace) (known_of R.remaining file)) shared_words
-        (T.remaining trace) (known_of R.remaining file) (W.contents out.old) (W.contents out.new)) }
-    ensures silent { OnErr result (W.has_failed out.new ≡ false → out.new ≡ out.old) }
-{
-    let trace = trace_of(alloc, trace)?;
-    let config = trace.config(shared_words);
-    let Ok(file) = file else {
-        return Err(Fault::Link);
-    };
-    let image = image_of(alloc, file, &config)?;
-    let (text, status) = ordered(alloc, &image, config, trace.steps(), choice)?;
-    print(out, text.as_str())?;
-    Ok(status)
+}
+
+impl Account for OrderLines {
+    ghost use Rattle.order_command.specs.Orders.{tells_order};
+
+    ghost tells = { λ lines. tells_order lines.choice };
+
+    fn text(
+        &self,
+        alloc: Global,
+        image: Image,
+        config: Config,
+        steps: &[Step],
+    ) -> Result<(String, u8), Fault>
+        requires few { length steps.now ≤ 4194304 }
+        requires words { image.shared_words ≡ config.shared_words }
+        ensures told { IfOk result (λ done. AreOrderLines config image steps.now self.now.choice (string_bytes done.0) done.1) }
+        ensures low { IfOk result (λ done. done.1 ≤ 1) }
+        ensures refused { IfErr result (IsNotTaken config image steps.now) }
+    {
+        ordered(alloc, &image, config, steps, self.choice)
+    }
 }
 
 /// The chosen lines of the order of these steps and a drain, and the exit status.

@@ -11,7 +11,7 @@ use command_io::Fault;
 use elf_image::Image;
 use flat_machine::{Config, Entry};
 use machine_runs::{Machine, drain_step, machine_is_sound, most_moves, order, runs_are_serialized};
-use run_commands::machine_of;
+use run_commands::opened;
 use std::alloc::{AllocError, Global};
 use steps::Step;
 use trace_replay::replay;
@@ -79,13 +79,4 @@ pub fn entries_of(
 {
     let mut machine = opened(alloc, image, config)?;
     Ok(order(&mut machine, alloc, steps)?)
-}
-
-/// A machine of this size that opens on a copy of the image, which was read for as many shared words.
-pub(crate) fn opened(alloc: Global, image: &Image, config: Config) -> Result<Machine, Fault>
-    requires words { image.now.shared_words ≡ config.shared_words }
-    ensures opening { IfOk result (IsOpening config image.now) }
-    ensures refused { IfErr result (IsFaultOfSize config) }
-{
-    machine_of(alloc, image.copy(alloc)?, config)
 }

@@ -2,7 +2,7 @@
 
 ghost use Rattle.std.specs.Prelude.{◌≡◌};
 ghost use Rattle.flat_machine.specs.Flat.{is_lawful};
-ghost use Rattle.machine_program.specs.Processors.{is_lawful_poke};
+ghost use Rattle.machine_runs.specs.machine_program.Processors.{is_lawful_poke};
 ghost use Rattle.machine_runs.specs.Machines.{IsIdle};
 ghost use Rattle.machine_runs.specs.Runs.{flat_state};
 ghost use Rattle.order_command.specs.Taking.{HasTaken};

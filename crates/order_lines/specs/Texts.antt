@@ -1,7 +1,7 @@
 -- The text of a line of a serial order.
 use Rattle.std.specs.Prelude.{ℕ, ◌==◌, List, [], ◌++◌, codes, Option, Some, None, if◌then◌else◌}
 use Rattle.std.specs.Fmt.{decimal}
-use Rattle.disassembler.specs.Written.{text_of}
+use Rattle.disassembler.specs.asm_lines.Written.{text_of}
 use Rattle.flat_machine.specs.declared.event.Event.{Event}
 use Rattle.flat_machine.specs.declared.event.Event.TheVariants.{Retired, Stopped}
 use Rattle.flat_machine.specs.declared.poke.Poke.{Poke}
@@ -39,12 +39,19 @@ turn_line number processor pc event reference =
 abbrev pub register_text : ℕ → List ℕ
 register_text register = if register == 32 then codes "pc" else codes "x" ++ decimal register
 
--- whose the poke is, where it writes, and what
-abbrev pub poke_text : Poke → List ℕ
-poke_text (poke.Register k register value) = decimal k ++ codes " poke " ++ register_text register ++ codes " " ++ hex_of_word value
-poke_text (poke.Local k address value) = decimal k ++ codes " poke " ++ hex_of_word address ++ codes " " ++ hex_of_byte value
-poke_text (poke.Shared address value) = codes "- poke " ++ hex_of_word address ++ codes " " ++ hex_of_byte value
+-- the processor that a poke writes to, or `-` where it writes to a shared word
+abbrev pub owner_text : Poke → List ℕ
+owner_text (poke.Register k register value) = decimal k
+owner_text (poke.Local k address value) = decimal k
+owner_text (poke.Shared address value) = codes "-"
 
--- `N POKE REFERENCE`
+-- which register it writes, or the address of which byte, and what
+abbrev pub written_text : Poke → List ℕ
+written_text (poke.Register k register value) = register_text register ++ codes " " ++ hex_of_word value
+written_text (poke.Local k address value) = hex_of_word address ++ codes " " ++ hex_of_byte value
+written_text (poke.Shared address value) = hex_of_word address ++ codes " " ++ hex_of_byte value
+
+-- `N P poke WRITTEN REFERENCE`
 unfoldable pub poke_line : (number : ℕ) → Poke → Option Reference → List ℕ
-poke_line number q reference = decimal number ++ codes " " ++ poke_text q ++ reference_text reference ++ line_feed
+poke_line number q reference =
+    decimal number ++ codes " " ++ owner_text q ++ codes " poke " ++ written_text q ++ reference_text reference ++ line_feed

@@ -14,5 +14,5 @@ mod words;
 pub use choice::Choice;
 pub use laws::{lines_go_on, turns_have_lines};
 pub use reference::Reference;
-pub use texts::{push_byte_at, push_event, push_poke, push_register, push_turn};
+pub use texts::{push_event, push_owner, push_poke, push_turn, push_written};
 pub use words::{processor_of_poke, word_of_instruction, word_of_poke};

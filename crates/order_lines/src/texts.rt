@@ -2,9 +2,9 @@
 
 ghost use Rattle.std.specs.Prelude.{◌≡◌, ◌∷◌, ◌++◌, [], codes, OnOk, string_bytes};
 ghost use Rattle.std.specs.Fmt.{decimal};
-ghost use Rattle.disassembler.specs.Written.{text_of};
+ghost use Rattle.disassembler.specs.asm_lines.Written.{text_of};
 ghost use Rattle.command_io.specs.Digits.{hex_of_byte, hex_of_word, line_feed};
-ghost use Rattle.order_lines.specs.Texts.{console_text, event_text, poke_line, poke_text, reference_text, register_text, result_text, turn_line};
+ghost use Rattle.order_lines.specs.Texts.{console_text, event_text, owner_text, poke_line, reference_text, register_text, result_text, turn_line, written_text};
 
 use crate::reference::Reference;
 use arrayvec::ArrayString;
@@ -134,47 +134,55 @@ pub fn push_poke(
     ensures { OnOk result (string_bytes text.new ≡ string_bytes text.old ++ poke_line number poke.now reference.now) }
 {
     write!(text, "{number} ")?;
+    push_owner(text, poke)?;
+    text.push_str(" poke ")?;
     push_written(alloc, text, poke)?;
     push_reference(alloc, text, reference)?;
     text.push('\n')
 }
 
-/// Appends where a poke writes, and what.
-fn push_written(alloc: Global, text: &mut String, poke: &Poke) -> Result<(), AllocError>
-    ensures { OnOk result (string_bytes text.new ≡ string_bytes text.old ++ poke_text poke.now) }
+/// Appends the number of the processor that a poke writes to, or `-` where it writes to a shared word.
+///
+/// # Errors
+///
+/// [`AllocError`] where there is no memory for it.
+pub fn push_owner(text: &mut String, poke: &Poke) -> Result<(), AllocError>
+    ensures { OnOk result (string_bytes text.new ≡ string_bytes text.old ++ owner_text poke.now) }
+{
+    match *poke {
+        Poke::Register { processor, .. } | Poke::Local { processor, .. } => {
+            write!(text, "{processor}")
+        }
+        Poke::Shared { .. } => text.push('-'),
+    }
+}
+
+/// Appends which register a poke writes, or the address of which byte, and what.
+///
+/// # Errors
+///
+/// [`AllocError`] where there is no memory for it.
+pub fn push_written(alloc: Global, text: &mut String, poke: &Poke) -> Result<(), AllocError>
+    ensures { OnOk result (string_bytes text.new ≡ string_bytes text.old ++ written_text poke.now) }
 {
     match *poke {
         Poke::Register {
-            processor,
             register,
             value,
+            ..
         } => {
-            write!(text, "{processor} poke ")?;
             push_register(text, register)?;
             text.push(' ')?;
             push_word(alloc, text, value)
         }
-        Poke::Local {
-            processor,
-            address,
-            value,
-        } => {
-            write!(text, "{processor} poke ")?;
-            push_byte_at(alloc, text, address, value)
-        }
-        Poke::Shared { address, value } => {
-            text.push_str("- poke ")?;
+        Poke::Local { address, value, .. } | Poke::Shared { address, value } => {
             push_byte_at(alloc, text, address, value)
         }
     }
 }
 
 /// Appends a register's name, or `pc`.
-///
-/// # Errors
-///
-/// [`AllocError`] where there is no memory for it.
-pub fn push_register(text: &mut String, register: u8) -> Result<(), AllocError>
+fn push_register(text: &mut String, register: u8) -> Result<(), AllocError>
     ensures { OnOk result (string_bytes text.new ≡ string_bytes text.old ++ register_text register) }
 {
     if register == PC {
@@ -185,16 +193,7 @@ pub fn push_register(text: &mut String, register: u8) -> Result<(), AllocError>
 }
 
 /// Appends an address, and a byte that is written there.
-///
-/// # Errors
-///
-/// [`AllocError`] where there is no memory for it.
-pub fn push_byte_at(
-    alloc: Global,
-    text: &mut String,
-    address: u32,
-    value: u8,
-) -> Result<(), AllocError>
+fn push_byte_at(alloc: Global, text: &mut String, address: u32, value: u8) -> Result<(), AllocError>
     ensures { OnOk result (string_bytes text.new ≡ string_bytes text.old ++ hex_of_word address ++ codes " " ++ hex_of_byte value) }
 {
     push_word(alloc, text, address)?;

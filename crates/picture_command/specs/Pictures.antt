@@ -1,13 +1,11 @@
 -- What the command prints: a picture of a machine behind steps. What it shows is not said here.
 use Rattle.std.specs.Prelude.{◌≡◌, ℕ, List, Option, Some, None, take}
 use Rattle.flat_machine.specs.declared.config.Config.{Config}
-use Rattle.elf_image.specs.Files.{IsImageOf}
 use Rattle.elf_image.specs.Images.{ImageContents}
 use Rattle.steps.specs.declared.step.Step.{Step}
-use Rattle.trace_file.specs.Traces.{TraceContents, config_of}
 use Rattle.machine_runs.specs.Machines.{MachineLists}
 use Rattle.machine_runs.specs.Runs.{IsOpening, IsRun}
-use Rattle.run_commands.specs.Commands.{IsTraceOf}
+use Rattle.run_commands.specs.Commands.{IsAccount, IsSomeAccount, Telling}
 use Rattle.run_commands.specs.Reports.{IsExitOf}
 use Rattle.order_command.specs.Orders.{IsBroughtHome}
 
@@ -27,15 +25,14 @@ pub record IsDrawnBehind (c : Config) (image : ImageContents) (steps : List Step
   pub run : IsRun opening (first_of step all) machine
   pub exit : IsExitOf machine status
 
--- This is printed for a trace that is replayed on the image that a file means: a picture, of which nothing is said but what was taken
--- for it.
-pub record IsDrawnFor (shared_words : ℕ) (step : Option ℕ) (trace known : Option (List ℕ)) (status : ℕ) (text : List ℕ) : Type 0 where
-  pub steps : TraceContents
-  pub read : IsTraceOf trace steps
-  pub image : ImageContents
-  pub meant : IsImageOf shared_words known image
-  pub drawn : IsDrawnBehind (config_of steps shared_words) image steps.steps step status
+-- what is printed for steps: a picture, of which nothing is said but what was taken for it
+abbrev pub draws_behind : Option ℕ → Telling
+draws_behind step c image steps text status = IsDrawnBehind c image steps step status
+
+-- This is printed for a trace that is replayed, and then drained, on the image that a file means.
+abbrev pub IsDrawnFor : (shared_words : ℕ) → Option ℕ → (trace known : Option (List ℕ)) → (status : ℕ) → (text : List ℕ) → Type 0
+IsDrawnFor shared_words step = IsAccount (draws_behind step) shared_words
 
 -- so, with whatever exit status
 abbrev pub IsDrawnForSome : (shared_words : ℕ) → Option ℕ → (trace known : Option (List ℕ)) → (text : List ℕ) → Type 0
-IsDrawnForSome shared_words step trace known text = (status : ℕ) × IsDrawnFor shared_words step trace known status text
+IsDrawnForSome shared_words step = IsSomeAccount (draws_behind step) shared_words

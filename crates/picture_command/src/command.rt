@@ -1,20 +1,18 @@
 //! `ultra picture`: from the bytes of a trace and of an image to a picture of the machine.
 
-ghost use Rattle.std.specs.Prelude.{◌≡◌, ◌≤◌, ◌⊎◌, true, false, IfOk, IfErr, IsErr, IsErrOf, OnErr, string_bytes};
+ghost use Rattle.std.specs.Prelude.{◌≡◌, ◌≤◌, true, false, IfOk, IfErr, IsErr, length, string_bytes};
 ghost use Rattle.command_io.specs.Printing.{IsPrinted, IsTold};
-ghost use Rattle.machine_runs.specs.Runs.{IsOpening};
-ghost use Rattle.run_commands.specs.Causes.{IsFaultOfSize, IsNotPrinted, IsNotTaken};
+ghost use Rattle.run_commands.specs.Causes.{IsNotPrinted, IsNotTaken};
 ghost use Rattle.run_commands.specs.Commands.{known_of};
 ghost use Rattle.picture_command.specs.Pictures.{IsDrawnBehind, IsDrawnFor, IsDrawnForSome, first_of};
 
 use crate::drawing::picture_text;
-use command_io::{Fault, image_of, print, tell};
+use command_io::Fault;
 use elf_image::Image;
 use flat_machine::Config;
 use link::LinkWrite;
-use machine_runs::Machine;
 use order_command::brought_home;
-use run_commands::{exit_status, machine_of, trace_of};
+use run_commands::{Account, account_command, exit_status, opened};
 use std::alloc::Global;
 use std::io;
 use std::io::{Read, Write};
@@ -46,40 +44,43 @@ pub fn picture_command<T: Read + Drop, R: Read + Drop, W: LinkWrite, E: Write>(
         (known_of R.remaining file) (W.contents out.old) (W.contents out.new)) out.old out.new result }
     ensures failed { W.has_failed out.new ≡ true → result ≡ 3 }
 {
-    match carried_out(alloc, trace, file, shared_words, step, out) {
-        Ok(status) => status,
-        Err(fault) => tell(fault, err),
-    }
+    account_command(
+        alloc,
+        trace,
+        file,
+        shared_words,
+        &Drawing { step },
+        out,
+        err,
+    )
 }
 
-/// Carries the command out.
-fn carried_out<T: Read + Drop, R: Read + Drop, W: LinkWrite>(
-    alloc: Global,
-    trace: T,
-    file: io::Result<R>,
-    shared_words: u32,
+/// A picture behind so many of the steps and of a drain's.
+#[derive(Drop)]
+struct Drawing {
     step: Option<u32>,
-    out: &mut W,
-) -> Result<u8, Fault>
-    requires { W.has_failed out.old ≡ false }
-    ensures failed { W.has_failed out.new ≡ true → IsErrOf result Fault.Link }
-    ensures link { IsErrOf result Fault.Link → IsErr file ⊎ (W.has_failed out.new ≡ true) }
-    ensures printed { IfOk result (λ status. IsPrinted (IsDrawnFor shared_words step (T.remaining trace) (known_of R.remaining file) status)
-        (W.contents out.old) (W.contents out.new)) }
-    ensures low { IfOk result (λ status. status ≤ 1) }
-    ensures told { IfErr result (IsNotPrinted (IsDrawnForSome shared_words step (T.remaining trace) (known_of R.remaining file)) shared_words
-        (T.remaining trace) (known_of R.remaining file) (W.contents out.old) (W.contents out.new)) }
-    ensures silent { OnErr result (W.has_failed out.new ≡ false → out.new ≡ out.old) }
-{
-    let trace = trace_of(alloc, trace)?;
-    let config = trace.config(shared_words);
-    let Ok(file) = file else {
-        return Err(Fault::Link);
-    };
-    let image = image_of(alloc, file, &config)?;
-    let (text, status) = drawn(alloc, &image, config, trace.steps(), step)?;
-    print(out, text.as_str())?;
-    Ok(status)
+}
+
+impl Account for Drawing {
+    ghost use Rattle.picture_command.specs.Pictures.{draws_behind};
+
+    ghost tells = { λ drawing. draws_behind drawing.step };
+
+    fn text(
+        &self,
+        alloc: Global,
+        image: Image,
+        config: Config,
+        steps: &[Step],
+    ) -> Result<(String, u8), Fault>
+        requires few { length steps.now ≤ 4194304 }
+        requires words { image.shared_words ≡ config.shared_words }
+        ensures told { IfOk result (λ done. IsDrawnBehind config image steps.now self.now.step done.1) }
+        ensures low { IfOk result (λ done. done.1 ≤ 1) }
+        ensures refused { IfErr result (IsNotTaken config image steps.now) }
+    {
+        drawn(alloc, &image, config, steps, self.step)
+    }
 }
 
 /// The picture behind so many of these steps and of a drain's, and the exit status.
@@ -109,13 +110,4 @@ fn first(steps: &[Step], step: Option<u32>) -> &[Step]
         Some(count) => steps.split_at(steps.len().min(count as usize)).0,
         None => steps,
     }
-}
-
-/// A machine of this size that opens on a copy of the image, which was read for as many shared words.
-fn opened(alloc: Global, image: &Image, config: Config) -> Result<Machine, Fault>
-    requires words { image.now.shared_words ≡ config.shared_words }
-    ensures opening { IfOk result (IsOpening config image.now) }
-    ensures refused { IfErr result (IsFaultOfSize config) }
-{
-    machine_of(alloc, image.copy(alloc)?, config)
 }

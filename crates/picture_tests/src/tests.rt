@@ -16,17 +16,6 @@ fn image_of(alloc: Global, text: &str) -> Result<Vec<u8>, Fail> {
     Ok(assemble(alloc, text)?.to_elf(alloc)?)
 }
 
-/// A trace of these records, 255 at most, on a machine of `2^k` processors.
-fn trace_of(alloc: Global, (k, c, b): (u8, u8, u8), records: &[[u8; 12]]) -> Result<Vec<u8>, Fail> {
-    let mut trace = b"ULTR\x01".to_vec(alloc)?;
-    trace.extend_from_slice(&[k, c, b])?;
-    trace.extend_from_slice(&[records.len().min(255) as u8, 0, 0, 0])?;
-    for record in records {
-        trace.extend_from_slice(record)?;
-    }
-    Ok(trace)
-}
-
 /// What the command comes to.
 #[derive(Drop)]
 struct Ran {

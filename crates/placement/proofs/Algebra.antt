@@ -1,10 +1,10 @@
 -- Compositions, of any numbers: each stands for the word that it is modulo 2^32.
 use Rattle.std.proofs.Common.{◌≡◌, ℕ, ◌%◌, ◌^◌, ◌<◌, Some, sym, ap, ◌∙◌, arith, mod-eq_of_lt}
 use Rattle.std.proofs.lemmas.Nat.{mod_below}
-use Rattle.phi_algebra.specs.declared.phi.Phi.{Phi}
-use Rattle.phi_algebra.specs.Functions.{apply, IsInRange}
-use Rattle.phi_algebra.specs.Composition.{composed}
-use Rattle.phi_algebra.proofs.Lemmas.{meaning_of, range_of, value_small}
+use Rattle.messages.specs.phi_algebra.declared.phi.Phi.{Phi}
+use Rattle.messages.specs.phi_algebra.Functions.{apply, IsInRange}
+use Rattle.messages.specs.phi_algebra.Composition.{composed}
+use Rattle.messages.proofs.Lemmas.phi_algebra.{meaning_of, range_of, value_small}
 use Rattle.messages.specs.Queues.{applied}
 
 -- the value is a word

@@ -6,14 +6,14 @@ use Rattle.messages.specs.declared.message.Record.{Record}
 use Rattle.messages.specs.Places.{put, In, Distinct, ApartBy}
 use Rattle.messages.specs.Queues.{Combination, merged, record_of, records_of, records_but, answers}
 use Rattle.messages.specs.Network.{Net, put_records}
+use Rattle.messages.specs.Naming.{Unnamed}
 use Rattle.messages.specs.Moves.{combined}
-use Rattle.placement.specs.Roles.{Role, Idle, Waiting, Told, Placed, RecordPlaced, Unnamed}
+use Rattle.placement.specs.Roles.{Role, Idle, Waiting, Told, Placed, RecordPlaced}
 use Rattle.placement.specs.Meaning.{Means, joined}
 use Rattle.placement.specs.Changes.{CombiningKeepsPlaces, CombiningJoinsGroups, AnsweringKeepsPlaces, AnsweringGivesEachItsOwn}
-use Rattle.messages.proofs.Lemmas.{ApartBy-filter, In-filter, In-map_from, In-put2}
-use Rattle.placement.proofs.Roles.{combine, drop_records, drop_records_unnamed, placed_push_all, below_role, unnamed_fewer, not_led, seconds, from_answers}
+use Rattle.messages.proofs.Lemmas.{ApartBy-filter, In-filter, In-map_from, In-put2, combination_joins, from_answers}
+use Rattle.placement.proofs.Roles.{combine, drop_records, drop_records_unnamed, placed_push_all, below_role, unnamed_fewer, not_led, seconds}
 use Rattle.placement.proofs.Meaning.{means_combine, means_drop, means_push_all, answers_mean}
-use Rattle.placement.proofs.Joining.{combination_joins}
 
 pub combining_places : CombiningKeepsPlaces
 combining_places k path role net b r s w x j e ok free near on =

@@ -1,7 +1,7 @@
 -- A group executed one after another.
 use Rattle.std.proofs.Common.{◌≡◌, ℕ, List, [], ◌∷◌, ◌⊎◌, inl, inr, Some, refl, sym, ap, ◌∙◌, subst}
 use Rattle.std.proofs.lemmas.Bool.{cases_eq}
-use Rattle.phi_algebra.specs.declared.phi.Phi.{Phi}
+use Rattle.messages.specs.phi_algebra.declared.phi.Phi.{Phi}
 use Rattle.messages.specs.Places.{put, In, Distinct}
 use Rattle.messages.specs.Queues.{applied}
 use Rattle.placement.specs.Giving.{finds, leaves}

@@ -2,7 +2,7 @@
 use Rattle.std.proofs.Common.{◌≡◌, ℕ, zero, suc, ◌<◌, List, [], ◌∷◌, ◌++◌, flat_map, ◌⊎◌, inl, inr, refl, sym, ap, ap₂, ◌∙◌, subst, arith, append-nil}
 use Rattle.std.proofs.Common.{append_assoc}
 use Rattle.std.proofs.lemmas.List.Concat.{flat_map-append}
-use Rattle.phi_algebra.specs.declared.phi.Phi.{Phi}
+use Rattle.messages.specs.phi_algebra.declared.phi.Phi.{Phi}
 use Rattle.messages.specs.declared.message.Record.{Record}
 use Rattle.messages.specs.Places.{In}
 use Rattle.messages.specs.Queues.{applied}

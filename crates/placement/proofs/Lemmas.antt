@@ -8,13 +8,14 @@ pub use Rattle.placement.proofs.Changes.{answering_meaning, answering_places, an
 pub use Rattle.placement.proofs.Executing.{executed_mem, executed_other, put_agree}
 -- What a reply gives, and what a group finds, after changes of records and functions.
 pub use Rattle.placement.proofs.Giving.{gives_leads}
--- What a combination is.
-pub use Rattle.placement.proofs.Joining.{Joins, combination_joins}
 -- How single changes keep the meaning.
 pub use Rattle.placement.proofs.Meaning.{groups_change, groups_issue, groups_joined, groups_serve, joined_first, means_change, means_issue, means_nothing}
 pub use Rattle.placement.proofs.Meaning.{means_pop_reply, means_pop_request, means_push_request, means_serve, request_further, request_led}
 -- The records of a leader, after a change of one buffer.
 pub use Rattle.placement.proofs.Records.{records_drop_other, records_none, records_other_stage, records_path, records_push_other, records_push_same}
 -- How single changes keep the places.
-pub use Rattle.placement.proofs.Roles.{below_role, combine, from_answers, not_idle, not_led, others_request, placed_change, placed_nowhere, pop_reply}
+pub use Rattle.placement.proofs.Roles.{below_role, combine, not_idle, not_led, others_request, placed_change, placed_nowhere, pop_reply}
 pub use Rattle.placement.proofs.Roles.{pop_reply_unnamed, pop_request, pop_request_unnamed, push_reply, push_request, small_put, told_other, unnamed_idle}
+-- Lemmas of lower crates, passed on to those above.
+pub use Rattle.messages.proofs.Lemmas.omega_wires as omega_wires
+pub use Rattle.messages.proofs.Lemmas as messages

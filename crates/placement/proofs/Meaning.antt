@@ -2,18 +2,19 @@
 use Rattle.std.proofs.Common.{◌≡◌, ℕ, suc, ◌<◌, Bool, true, false, List, [], ◌∷◌, ◌++◌, map, ◌⊎◌, inl, inr, Option, Some, None, refl, sym, ap, ap₂, ◌∙◌, subst}
 use Rattle.std.proofs.Common.{arith}
 use Rattle.std.proofs.lemmas.Bool.{cases_eq, true≢false}
-use Rattle.phi_algebra.specs.declared.phi.Phi.{Phi}
-use Rattle.phi_algebra.specs.Functions.{IsInRange}
-use Rattle.phi_algebra.specs.Composition.{composed}
+use Rattle.messages.specs.phi_algebra.declared.phi.Phi.{Phi}
+use Rattle.messages.specs.phi_algebra.Functions.{IsInRange}
+use Rattle.messages.specs.phi_algebra.Composition.{composed}
 use Rattle.messages.specs.declared.message.Request.{Request}
 use Rattle.messages.specs.declared.message.Reply.{Reply}
 use Rattle.messages.specs.declared.message.Record.{Record}
 use Rattle.messages.specs.Places.{put, put2, In, Distinct}
 use Rattle.messages.specs.Queues.{applied, records_of, records_but, answers}
 use Rattle.messages.specs.Network.{Net, put_requests, put_records, put_replies, records_on}
+use Rattle.messages.specs.Naming.{Unnamed}
 use Rattle.messages.specs.Moves.{push_all}
 use Rattle.placement.specs.Giving.{gives, finds, leaves}
-use Rattle.placement.specs.Roles.{Role, Idle, Asking, Told, Placed, Unnamed}
+use Rattle.placement.specs.Roles.{Role, Idle, Asking, Told, Placed}
 use Rattle.placement.specs.Changes.{ServingExecutesTheGroup, ServingEndsTheGroup}
 use Rattle.placement.specs.Meaning.{RequestMeans, ReplyMeans, Means, Groups, execute_all, joined}
 use Rattle.placement.proofs.Algebra.{composed_law, composed_in_range}

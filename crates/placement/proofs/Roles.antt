@@ -6,10 +6,11 @@ use Rattle.messages.specs.declared.message.Request.{Request}
 use Rattle.messages.specs.declared.message.Reply.{Reply}
 use Rattle.messages.specs.declared.message.Record.{Record}
 use Rattle.messages.specs.Places.{put, In, Distinct, ApartBy}
-use Rattle.messages.specs.Queues.{applied, answers, records_but}
+use Rattle.messages.specs.Queues.{applied, records_but}
 use Rattle.messages.specs.Network.{Net, put_requests, put_records, put_replies}
+use Rattle.messages.specs.Naming.{Unnamed}
 use Rattle.messages.specs.Moves.{push_all}
-use Rattle.placement.specs.Roles.{Role, Idle, Asking, Waiting, Told, depth, Placed, RequestPlaced, RecordPlaced, ReplyPlaced, Unnamed, told_all}
+use Rattle.placement.specs.Roles.{Role, Idle, Asking, Waiting, Told, depth, Placed, RequestPlaced, RecordPlaced, ReplyPlaced, told_all}
 use Rattle.messages.proofs.Lemmas.{ApartBy-filter, ApartBy-middle, ApartBy-push, ApartBy-same, In-append, In-append_left, In-append_right, In-filter, In-map}
 use Rattle.messages.proofs.Lemmas.{In-put2, each_put2, put_other, put_same}
 
@@ -387,15 +388,3 @@ pub seconds : (x : Reply) (rs : List Record) → map (λ (y : Reply). y.leader) 
 }) rs) ≡ map (λ (r : Record). r.second) rs
 seconds x [] = refl
 seconds x (r ∷ rs) = ap (λ l. r.second ∷ l) (seconds x rs)
-
-pub from_answers : (x y : Reply) (rs : List Record) → In y (answers rs x) → (y.leader ≡ x.leader) ⊎ ((r : Record) × In r rs × (y.leader ≡ r.second))
-from_answers x y rs (inl e) = inl (ap (λ (b : Reply). b.leader) e)
-from_answers x y rs (inr m) = inr (go rs m)
-  where
-    go : (rs : List Record) → In y (map (λ (r : Record). record {
-      leader = r.second;
-      value = applied r.phi x.value;
-    }) rs) → (r : Record) × In r rs × (y.leader ≡ r.second)
-    go [] m = elim m [ ]
-    go (r ∷ rs) (inl e) = (r, inl refl, ap (λ (b : Reply). b.leader) e)
-    go (r ∷ rs) (inr m) = let g = go rs m in (g.0, inr g.1, g.2)

@@ -1,14 +1,15 @@
 -- What combining, answering and serving do to places and meanings. A message that is on its way between two places is
 -- named by nothing: it was taken out of its place before.
 use Rattle.std.specs.Prelude.{◌≡◌, ℕ, suc, ◌<◌, ◌≤◌, Bool, List, [], ◌∷◌, ◌++◌, Option, Some}
-use Rattle.phi_algebra.specs.declared.phi.Phi.{Phi}
+use Rattle.messages.specs.phi_algebra.declared.phi.Phi.{Phi}
 use Rattle.messages.specs.declared.message.Request.{Request}
 use Rattle.messages.specs.declared.message.Reply.{Reply}
 use Rattle.messages.specs.Places.{put}
 use Rattle.messages.specs.Queues.{Combination, combination, records_of, records_but, answers}
 use Rattle.messages.specs.Network.{Net, put_records, put_replies, records_on}
+use Rattle.messages.specs.Naming.{Unnamed}
 use Rattle.messages.specs.Moves.{combined, push_all}
-use Rattle.placement.specs.Roles.{Role, Idle, Waiting, Told, depth, Placed, Unnamed, told_all}
+use Rattle.placement.specs.Roles.{Role, Idle, Waiting, Told, depth, Placed, told_all}
 use Rattle.placement.specs.Meaning.{RequestMeans, ReplyMeans, Means, Groups, Executed, execute_all, joined}
 
 -- ---- combining

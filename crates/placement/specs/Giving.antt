@@ -1,6 +1,6 @@
 -- Who gets what from a reply, and what a list of processors does to a word.
 use Rattle.std.specs.Prelude.{ℕ, zero, suc, List, [], ◌∷◌, ◌++◌, flat_map}
-use Rattle.phi_algebra.specs.declared.phi.Phi.{Phi}
+use Rattle.messages.specs.phi_algebra.declared.phi.Phi.{Phi}
 use Rattle.messages.specs.declared.message.Record.{Record}
 use Rattle.messages.specs.Queues.{applied}
 

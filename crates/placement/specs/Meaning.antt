@@ -3,8 +3,8 @@
 -- `own p` and `word p` are the function and the word of p's open reference, `group p` is whom p's request stands for, and
 -- `owed p` is what p's reference found, once it is served and until it retires.
 use Rattle.std.specs.Prelude.{◌≡◌, ℕ, List, [], ◌∷◌, ◌++◌, Option, Some, None, Bool, true}
-use Rattle.phi_algebra.specs.declared.phi.Phi.{Phi}
-use Rattle.phi_algebra.specs.Functions.{IsInRange}
+use Rattle.messages.specs.phi_algebra.declared.phi.Phi.{Phi}
+use Rattle.messages.specs.phi_algebra.Functions.{IsInRange}
 use Rattle.messages.specs.declared.message.Request.{Request}
 use Rattle.messages.specs.declared.message.Reply.{Reply}
 use Rattle.messages.specs.declared.message.Record.{Record}

@@ -48,12 +48,6 @@ pub record Placed (k : ℕ) (path : ℕ → ℕ → ℕ) (role : ℕ → Role) (
   pub records_apart : (s w : ℕ) → ApartBy (λ (x : Record). x.second) (net.records s w)
   pub replies_apart : (d w : ℕ) → ApartBy (λ (x : Reply). x.leader) (net.replies d w)
 
--- no message is led by p, and no record has p as its second
-pub record Unnamed (net : Net) (p : ℕ) : Type 0 where
-  pub requests : (d w : ℕ) (x : Request) → In x (net.requests d w) → x.leader ≡ p → ⊥
-  pub records : (s w : ℕ) (x : Record) → In x (net.records s w) → x.second ≡ p → ⊥
-  pub replies : (d w : ℕ) (x : Reply) → In x (net.replies d w) → x.leader ≡ p → ⊥
-
 -- the roles after these replies were put at depth s
 unfoldable pub told_all : ℕ → List Reply → (ℕ → Role) → ℕ → Role
 told_all s [] role = role

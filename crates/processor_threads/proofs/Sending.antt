@@ -1,6 +1,6 @@
 -- What a call tells a pass is sent, or is held.
-use Rattle.std.proofs.Common.{◌≡◌, ℕ, Bool, true, false, List, [], ◌∷◌, ◌++◌, refl, sym, ap, ◌∙◌, append_assoc, arith, eq-eqb}
-use Rattle.std.specs.Prelude.{map, Option, Some, None, if◌then◌else◌}
+use Rattle.std.proofs.Common.{◌≡◌, ℕ, Bool, true, false, List, [], ◌∷◌, ◌++◌, refl, sym, ap, ◌∙◌, subst, append_assoc, arith, eq-eqb}
+use Rattle.std.specs.Prelude.{map, Option, Some, None, Result, Ok, Err, if◌then◌else◌}
 use Rattle.std.proofs.lemmas.List.{append-nil, map-append}
 use Rattle.flat_machine.specs.declared.event.Event.{Event}
 use Rattle.steps.specs.declared.step.Step.{Step}
@@ -9,11 +9,12 @@ use Rattle.steps.specs.declared.step.Outcome.{Outcome}
 use Rattle.steps.specs.declared.step.Outcome.TheVariants.{Retired, Issued, Stopped, Moved, Combined, Served, Answered, Poked, Stalled}
 use Rattle.flat_machine.specs.declared.config.Config.{Config}
 use Rattle.console_monitor.specs.Ends.{held_of}
+use Rattle.machine_log.specs.declared.log.LogRefusal.{LogRefusal}
 use Rattle.machine_passes.specs.declared.row.Notice.{Notice}
-use Rattle.machine_passes.specs.Lists.{given_to, shown_at, is_turn_of, is_of_network, is_net}
-use Rattle.machine_passes.specs.Passes.{Held, held, IsTold}
+use Rattle.machine_passes.specs.Lists.{given_to, shown_at, is_turn_of, is_of_network, is_net, is_stop}
+use Rattle.machine_passes.specs.Passes.{Held, held, IsTold, IsAsked, AreTold}
 use Rattle.processor_threads.specs.Consoles.{console_bytes, console_of, byte_of, given_by}
-use Rattle.processor_threads.specs.Endings.{EndsWithStop, is_stop}
+use Rattle.processor_threads.specs.Endings.{EndsWithStop}
 
 abbrev events : List Notice → List Event
 events ns = map (λ n. n.event) ns
@@ -89,3 +90,30 @@ netted c from old new s o net t =
     ∙ ap (λ ns. console_bytes (events (old.row.notices ++ ns)))
     (ap (λ (b : Bool). if b then shown_at t.place o else []) (no_turn old.processor s (of_network c s net)))
     ∙ ap (λ ns. console_bytes (events ns)) (append-nil old.row.notices)
+
+-- ---- a turn, and then a step of the network
+
+-- What is asked for behind the turn gives the processor nothing.
+asked : (c : Config) (from : ℕ) (turn : Outcome) (old new : Held) (s : Step) (net : Option (Result Outcome LogRefusal)) → IsAsked from c turn old s net new →
+    console_of new ≡ console_of old
+asked c from turn old new s None a = ap console_of a.1
+asked c from turn old new s (Some (Ok o)) a = let yes = a.1 in netted c from old new s o (λ no. absurd (cc)) a.2
+asked c from turn old new s (Some (Err e)) a = ap console_of a.2
+
+-- A round holds the byte that its turn gives, where none was held.
+pub turned_round : (c : Config) (from : ℕ) (old new : Held) (o : Outcome) (s : Step) (net : Option (Result Outcome LogRefusal)) (put : List ℕ) →
+    AreTold from c old o s net new → console_of old ≡ put ++ [] → console_of new ≡ put ++ held_of (byte_of o)
+turned_round c from old new o s net put t e = asked c from o t.between new s net t.net_is ∙ turned from old t.between o put t.turn_is e
+
+-- Behind a turn that stops the processor nothing is asked for.
+none_asked : (c : Config) (from : ℕ) (turn : Outcome) (old new : Held) (s : Step) (net : Option (Result Outcome LogRefusal)) →
+    IsAsked from c turn old s net new → is_stop turn ≡ true → new ≡ old
+none_asked c from turn old new s None a stop = a.1
+none_asked c from turn old new s (Some (Ok o)) a stop = let no = a.0 in absurd (cc)
+none_asked c from turn old new s (Some (Err e)) a stop = let no = a.0 in absurd (cc)
+
+-- So a round whose turn stops the processor ends its list with the stop.
+pub stops_round : (c : Config) (from : ℕ) (old new : Held) (o : Outcome) (s : Step) (net : Option (Result Outcome LogRefusal)) →
+    AreTold from c old o s net new → is_stop o ≡ true → EndsWithStop new
+stops_round c from old new o s net t stop =
+    subst EndsWithStop (sym (none_asked c from o t.between new s net t.net_is stop)) (stops from old t.between o t.turn_is stop)

@@ -7,7 +7,7 @@ use Rattle.steps.specs.declared.step.Outcome.{Outcome}
 use Rattle.steps.specs.declared.step.Outcome.TheVariants.{Retired, Issued, Stopped, Moved, Combined, Served, Answered, Poked, Stalled}
 use Rattle.console_monitor.specs.Ends.{held_of, sender_queue}
 use Rattle.console_monitor.specs.declared.monitor.End.{End}
-use Rattle.atomic_table.specs.Seated.{TableId}
+use Rattle.agreed_rows.specs.atomic_table.Seated.{TableId}
 use Rattle.machine_passes.specs.Passes.{Held}
 
 -- what an event gives the console

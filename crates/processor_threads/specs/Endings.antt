@@ -1,9 +1,7 @@
 -- How threads end.
-use Rattle.std.specs.Prelude.{◌≡◌, ◌⊎◌, ℕ, Bool, true, false, List, [], ◌∷◌, ◌++◌, map, Option, Some, None}
+use Rattle.std.specs.Prelude.{◌≡◌, ◌⊎◌, ℕ, List, [], ◌∷◌, ◌++◌, map, Option, Some, None}
 use Rattle.flat_machine.specs.declared.event.Cause.{Cause}
 use Rattle.flat_machine.specs.declared.event.Event.TheVariants.{Stopped}
-use Rattle.steps.specs.declared.step.Outcome.{Outcome}
-use Rattle.steps.specs.declared.step.Outcome.TheVariants as outcome
 use Rattle.console_monitor.specs.Ends.{sent_by, sender_queue}
 use Rattle.console_monitor.specs.declared.monitor.End.{End}
 use Rattle.machine_passes.specs.declared.row.Notice.{Notice}
@@ -19,18 +17,6 @@ pub record EndsWithStop (h : Held) : Type 0 where
   pub place : ℕ
   pub cause : Cause
   pub is : h.row.notices ≡ before ++ record { event = Stopped cause; place = place } ∷ []
-
--- a turn that stops its processor
-abbrev pub is_stop : Outcome → Bool
-is_stop (outcome.Stopped cause) = true
-is_stop (outcome.Retired retired) = false
-is_stop outcome.Issued = false
-is_stop outcome.Moved = false
-is_stop (outcome.Combined first second) = false
-is_stop (outcome.Served leader) = false
-is_stop (outcome.Answered to) = false
-is_stop outcome.Poked = false
-is_stop outcome.Stalled = false
 
 -- ---- one thread
 

@@ -9,7 +9,6 @@ use crate::terms::{LISTENER, Terms};
 use console_monitor::{End, Monitor, Sender, console};
 use std::alloc::{AllocError, Global};
 use std::sync::Wait;
-use std::thread;
 
 /// What takes the bytes of all consoles, with what it has taken.
 #[derive(Drop)]
@@ -86,7 +85,7 @@ impl Listener {
                 break;
             }
             if !self.take_of_each()? {
-                thread::yield_now();
+                terms.wait_for_call(rt);
             }
         }
         Ok(())

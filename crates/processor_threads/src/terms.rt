@@ -2,7 +2,9 @@
 
 ghost use Rattle.std.specs.Prelude.{◌≡◌, ◌≤◌};
 
+use std::sync::Wait;
 use std::sync::atomic::{AtomicU64, Ordering};
+use std::thread::Parker;
 
 /// What holds for all threads of a run, and what they tell each other.
 #[derive(Drop)]
@@ -15,6 +17,8 @@ pub(crate) struct Terms {
     unstarted: AtomicU64,
     /// Not 0 once the threads of all processors have ended.
     ended: AtomicU64,
+    /// Where the thread that listens sleeps, until there is something to listen to.
+    bell: Parker,
     ghost few: { stages ≤ 6 },
 }
 
@@ -34,6 +38,7 @@ impl Terms {
             budget,
             unstarted: AtomicU64::new(NONE),
             ended: AtomicU64::new(0),
+            bell: Parker::new(),
         }
     }
 
@@ -50,10 +55,21 @@ impl Terms {
     /// The threads of all processors have ended.
     pub(crate) fn tell_end(&self) {
         self.ended.store(1, Ordering::SeqCst);
+        self.call_listener();
     }
 
     /// Whether they have.
     pub(crate) fn have_ended(&self) -> bool {
         self.ended.load(Ordering::SeqCst) != 0
+    }
+
+    /// Wakes the thread that listens. Where it does not sleep, it will not the next time.
+    pub(crate) fn call_listener(&self) {
+        self.bell.unpark();
+    }
+
+    /// Sleeps until who listens is called, or has been since it slept last.
+    pub(crate) fn wait_for_call<R: Wait>(&self, rt: &R) {
+        self.bell.park(rt);
     }
 }

@@ -96,8 +96,9 @@ impl<N: Run, A: Arbiter + Drop> Worker<N, A> {
         retired
     }
 
-    /// One round: where a byte is held, it tries to put it, else it passes the gate and takes a turn; then it asks for a step of the
-    /// network. Answers whether the processor has stopped: then it asks for none.
+    /// One round: where a byte is held, it tries to put it, else it passes the gate and takes a turn; then it asks for the step of the
+    /// network that its arbiter names. Answers whether the processor has stopped: then it asks for none. The arbiter, which is not told
+    /// what a turn answers, is asked before, so that the lock is taken once.
     ///
     /// # Errors
     ///
@@ -116,16 +117,14 @@ impl<N: Run, A: Arbiter + Drop> Worker<N, A> {
         ensures turns { self.new.turns ≤ self.old.turns + 1 }
     {
         if self.hand.end.held.is_some() {
-            self.hand.put(rt);
-        } else {
-            gate.before(self.hand.pass.processor(), self.turns);
-            self.turns += 1;
-            if self.hand.turn(rt, shared)? {
-                return Ok(true);
-            }
+            self.hand.put(rt, terms);
+            let step = self.arbiter.next(terms.stages);
+            self.hand.net(rt, shared, step)?;
+            return Ok(false);
         }
+        gate.before(self.hand.pass.processor(), self.turns);
+        self.turns += 1;
         let step = self.arbiter.next(terms.stages);
-        self.hand.net(rt, shared, step)?;
-        Ok(false)
+        self.hand.round(rt, shared, step)
     }
 }

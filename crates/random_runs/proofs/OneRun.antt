@@ -2,14 +2,14 @@
 use Rattle.std.proofs.Common.{◌≡◌, ℕ, ◌+◌, ◌<◌, ◌≤◌, ◌⊎◌, inl, inr, List, [], ◌∷◌, ◌++◌, length, take, refl, sym, ap, ap₂, ◌∙◌, subst, arith}
 use Rattle.std.proofs.lemmas.Bool.{cases_lt}
 use Rattle.std.proofs.lemmas.List.{length-append, take_at}
-use Rattle.machine_sweep.specs.Config.{Config}
-use Rattle.machine_sweep.specs.State.{FlatState}
-use Rattle.machine_sweep.specs.Images.{ImageContents}
-use Rattle.machine_sweep.specs.Openings.{opening as flat_opening}
+use Rattle.machine_log.specs.flat_machine.declared.config.Config.{Config}
+use Rattle.machine_log.specs.flat_machine.State.{FlatState}
+use Rattle.machine_sweep.specs.elf_image.Images.{ImageContents}
+use Rattle.machine_sweep.specs.elf_image.Openings.{opening as flat_opening}
 use Rattle.steps.specs.declared.step.Step.{Step}
-use Rattle.machine_sweep.specs.Draining.{drain_steps}
-use Rattle.machine_sweep.specs.Machines.{MachineLists, machine_of}
-use Rattle.machine_sweep.specs.Runs.{IsReplay, all_after, events_of}
+use Rattle.machine_log.specs.machine_runs.Draining.{drain_steps}
+use Rattle.machine_log.specs.machine_runs.Machines.{MachineLists, machine_of}
+use Rattle.machine_log.specs.machine_runs.Runs.{IsReplay, all_after, events_of}
 use Rattle.machine_sweep.proofs.Lemmas.{retell}
 use Rattle.machine_log.specs.Logs.{Log}
 use Rattle.machine_sweep.specs.Own.{AreOwn}

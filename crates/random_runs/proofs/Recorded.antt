@@ -1,20 +1,20 @@
 -- A trace has a record of each step of a random run and of its drain.
 use Rattle.std.proofs.Common.{◌≡◌, List, [], ◌∷◌, ◌++◌, subst, ℕ}
 use Rattle.steps.specs.declared.step.Step.{Step}
-use Rattle.machine_sweep.specs.Traces.{HaveRecords}
-use Rattle.machine_sweep.specs.Runs.{IsReplay}
+use Rattle.machine_sweep.specs.trace_file.Traces.{HaveRecords}
+use Rattle.machine_log.specs.machine_runs.Runs.{IsReplay}
 use Rattle.machine_log.specs.Logs.{Log}
 use Rattle.machine_sweep.specs.Own.{AreOwn}
 use Rattle.machine_sweep.specs.declared.sweeping.SweepEnd.{SweepEnd}
 use Rattle.machine_sweep.proofs.Lemmas.{drained_has_records}
-use Rattle.random_runs.specs.Runs.{HasRun}
+use Rattle.random_runs.specs.Runs.{HasRunAtRandom}
 use Rattle.random_runs.proofs.Plans.{own_schedule}
 
 pub own_first : (xs ys : List Step) → AreOwn (xs ++ ys) → AreOwn xs
 own_first [] ys own = tt
 own_first (x ∷ xs) ys own = (own.0, own_first xs ys own.1)
 
-pub run_has_records : (number most : ℕ) (old : Log) (end : SweepEnd) (new : Log) → HasRun number most old end new →
+pub run_has_records : (number most : ℕ) (old : Log) (end : SweepEnd) (new : Log) → HasRunAtRandom number most old end new →
     IsReplay new.opening new.steps new.machine → old.machine.config ≡ old.opening.config → HaveRecords old.machine.config.k old.steps →
     HaveRecords new.machine.config.k new.steps
 run_has_records number most old end new ran replay size =

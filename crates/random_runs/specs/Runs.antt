@@ -1,11 +1,11 @@
 -- What a machine's log enters by a schedule, and where a run ends.
 use Rattle.std.specs.Prelude.{◌≡◌, ◌⊎◌, ℕ, ◌+◌, ◌≤◌, ◌<◌, List, [], ◌++◌, length, take}
-use Rattle.machine_sweep.specs.Config.{Config}
-use Rattle.machine_sweep.specs.Images.{ImageContents}
+use Rattle.machine_log.specs.flat_machine.declared.config.Config.{Config}
+use Rattle.machine_sweep.specs.elf_image.Images.{ImageContents}
 use Rattle.steps.specs.declared.step.Step.{Step}
-use Rattle.machine_sweep.specs.Draining.{drain_steps}
-use Rattle.machine_sweep.specs.Machines.{MachineLists, IsIdle}
-use Rattle.machine_sweep.specs.Runs.{IsOpening, IsReplay}
+use Rattle.machine_log.specs.machine_runs.Draining.{drain_steps}
+use Rattle.machine_log.specs.machine_runs.Machines.{MachineLists, IsIdle}
+use Rattle.machine_log.specs.machine_runs.Runs.{IsOpening, IsReplay}
 use Rattle.machine_log.specs.Logs.{Log}
 use Rattle.machine_sweep.specs.Sweeps.{IsOver, entered_of, opened}
 use Rattle.machine_sweep.specs.declared.sweeping.SweepEnd.{SweepEnd}
@@ -32,7 +32,7 @@ pub record WasAsked (plan : List Step) (limit : ℕ) (old : Log) (end : SweepEnd
   pub ends : EndsWith old.opening (length old.steps) limit new.steps unasked end
 
 -- A log has run by the schedule of this number, for so many steps and turns at most, and was then drained.
-pub record HasRun (number most : ℕ) (old : Log) (end : SweepEnd) (new : Log) : Type 0 where
+pub record HasRunAtRandom (number most : ℕ) (old : Log) (end : SweepEnd) (new : Log) : Type 0 where
   pub middle : Log
   pub asked : WasAsked (schedule old.machine.config.k number most) (length old.steps + most) old end middle
   pub opening : new.opening ≡ old.opening
@@ -43,4 +43,4 @@ pub record HasRun (number most : ℕ) (old : Log) (end : SweepEnd) (new : Log) :
 pub record IsRandomRun (c : Config) (image : ImageContents) (number most : ℕ) (end : SweepEnd) (log : Log) : Type 0 where
   pub opens : IsOpening c image log.opening
   pub replay : IsReplay log.opening log.steps log.machine
-  pub ran : HasRun number most (opened log.opening) end log
+  pub ran : HasRunAtRandom number most (opened log.opening) end log

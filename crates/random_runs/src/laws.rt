@@ -1,8 +1,8 @@
 //! What holds of random runs: the contract of a function that does nothing.
 
 ghost use Rattle.std.specs.Prelude.{◌≡◌, ℕ};
-ghost use Rattle.machine_sweep.specs.Config.{Config};
-ghost use Rattle.machine_sweep.specs.Images.{ImageContents};
+ghost use Rattle.machine_log.specs.flat_machine.declared.config.Config.{Config};
+ghost use Rattle.machine_sweep.specs.elf_image.Images.{ImageContents};
 ghost use Rattle.machine_log.specs.Logs.{Log};
 ghost use Rattle.machine_sweep.specs.declared.sweeping.SweepEnd.{SweepEnd};
 ghost use Rattle.random_runs.specs.Runs.{IsRandomRun};

@@ -8,8 +8,6 @@
 mod laws;
 mod running;
 mod schedule;
-#[cfg(test)]
-mod tests;
 
 pub use laws::random_runs_have_one_log;
 pub use running::random_run;

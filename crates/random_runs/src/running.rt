@@ -1,11 +1,11 @@
 //! Running a machine by a random schedule.
 
 ghost use Rattle.std.specs.Prelude.{◌≡◌, ◌≤◌, ◌<◌, ◌+◌, ◌↔◌, Err, IfOk, OnErr, OnOk, length};
-ghost use Rattle.machine_sweep.specs.Draining.{drain_bound};
+ghost use Rattle.machine_log.specs.machine_runs.Draining.{drain_bound};
 ghost use Rattle.machine_sweep.specs.Own.{AreOwn};
 ghost use Rattle.machine_sweep.specs.Sweeps.{most_of};
-ghost use Rattle.random_runs.specs.Runs.{HasRun, WasAsked};
-ghost use Rattle.machine_sweep.specs.Traces.{HaveRecords};
+ghost use Rattle.random_runs.specs.Runs.{HasRunAtRandom, WasAsked};
+ghost use Rattle.machine_sweep.specs.trace_file.Traces.{HaveRecords};
 
 use crate::schedule::Schedule;
 use machine_log::{LogRefusal, Logged, Roomy, roomy_is_kept};
@@ -20,7 +20,7 @@ use machine_sweep::{MOST_STEPS, SweepEnd, any_runs, is_over, most_steps};
 /// [`LogRefusal::Full`] where the log would pass [`steps::MAX_STEPS`] steps with as many, else [`LogRefusal::Memory`] where there
 /// is no memory for them. Each leaves all as it was.
 pub fn random_run(log: &mut Logged, number: u32, budget: u32) -> Result<SweepEnd, LogRefusal>
-    ensures ran { IfOk result (λ end. HasRun number (most_of budget) log.old end log.new) }
+    ensures ran { IfOk result (λ end. HasRunAtRandom number (most_of budget) log.old end log.new) }
     ensures records { OnOk result (HaveRecords log.old.machine.config.k log.old.steps → HaveRecords log.new.machine.config.k log.new.steps) }
     ensures full { (result ≡ Err LogRefusal.Full) ↔ (4194304 < length log.old.steps + (most_of budget + drain_bound log.old.machine.config)) }
     ensures named { result ≡ Err LogRefusal.Unnamed → ⊥ }
@@ -35,7 +35,7 @@ pub fn random_run(log: &mut Logged, number: u32, budget: u32) -> Result<SweepEnd
 fn run(log: &mut Roomy, number: u32, most: u32) -> SweepEnd
     requires few { most ≤ 4000000 }
     requires room { most + drain_bound log.old.log.machine.config ≤ log.old.places }
-    ensures ran { HasRun number most log.old.log result log.new.log }
+    ensures ran { HasRunAtRandom number most log.old.log result log.new.log }
     ensures records { HaveRecords log.old.log.machine.config.k log.old.log.steps → HaveRecords log.new.log.machine.config.k log.new.log.steps }
 {
     roomy_is_kept(log);

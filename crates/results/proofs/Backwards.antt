@@ -5,34 +5,34 @@ use Rattle.std.specs.Prelude.{slice_get, slice_index, slice_index_or}
 use Rattle.std.proofs.lemmas.Bool.{true≢false}
 use Rattle.std.proofs.lemmas.List.{append-nil}
 use mathlib.Core.Path.{fun_ext}
-use Rattle.flat_machine.specs.declared.config.Config.{Config}
-use Rattle.flat_machine.specs.declared.event.Event.{Event}
-use Rattle.flat_machine.specs.declared.poke.Entry.{Entry}
-use Rattle.flat_machine.specs.declared.poke.Entry.TheVariants as entry
-use Rattle.flat_machine.specs.State.{FlatState, Processor, is_running}
-use Rattle.flat_machine.specs.Limits.{IsWithinLimits}
-use Rattle.flat_machine.specs.Laws.{AreBelow}
-use Rattle.flat_machine.specs.Turns.{Turn, Retires, Reaches, Stops}
-use Rattle.flat_machine.specs.Flat.{flat_step, flat_event, flat_run, flat_events, turned, turn_event, with_processor_number}
-use Rattle.placement.specs.Roles.{Role}
-use Rattle.abstract_machine.specs.Program.{Rests}
-use Rattle.abstract_machine.specs.Steadiness.{Steady}
-use Rattle.abstract_machine.specs.Draining as draining
-use Rattle.abstract_machine.proofs.Lemmas.{drain_ends, steady_after}
-use Rattle.serialization.specs.Order.{pass, passes, from_machine}
-use Rattle.steps.specs.declared.step.Step.{Step}
-use Rattle.steps.specs.declared.step.Step.TheVariants as step
-use Rattle.machine_program.specs.Theory as theory
-use Rattle.machine_program.specs.Processors.{Told, sizes_of, next, kind_of, program, no_processor}
-use Rattle.machine_program.specs.Steps.{named, after, machine_of_parts}
-use Rattle.machine_program.specs.FlatSizes.{IsSoundFlat}
-use Rattle.machine_theorem.specs.Order.{Passed, passed_by}
-use Rattle.machine_theorem.specs.Flatness.{with_events}
-use Rattle.machine_theorem.specs.Explained.{Opens, IsExplained}
-use Rattle.machine_theorem.proofs.Lemmas.{means_change, run_sound, runs_are_explained}
-use Rattle.machine.specs.Machines.{MachineLists, machine_of, IsIdle, IsMachine}
-use Rattle.machine.specs.Openings.{flat_state}
-use Rattle.machine.proofs.Lemmas.{all_shut, sound}
+use Rattle.alone.specs.flat_machine.declared.config.Config.{Config}
+use Rattle.alone.specs.flat_machine.declared.event.Event.{Event}
+use Rattle.alone.specs.flat_machine.declared.poke.Entry.{Entry}
+use Rattle.alone.specs.flat_machine.declared.poke.Entry.TheVariants as entry
+use Rattle.alone.specs.flat_machine.State.{FlatState, Processor, is_running}
+use Rattle.alone.specs.flat_machine.Limits.{IsWithinLimits}
+use Rattle.alone.specs.flat_machine.Laws.{AreBelow}
+use Rattle.alone.specs.flat_machine.Turns.{Turn, Retires, Reaches, Stops}
+use Rattle.alone.specs.flat_machine.Flat.{flat_step, flat_event, flat_run, flat_events, turned, turn_event, with_processor_number}
+use Rattle.machine_runs.specs.placement.Roles.{Role}
+use Rattle.machine_runs.specs.abstract_machine.Program.{Rests}
+use Rattle.machine_runs.specs.abstract_machine.Steadiness.{Steady}
+use Rattle.machine_runs.specs.abstract_machine.Draining as draining
+use Rattle.machine_runs.proofs.Lemmas.abstract_machine.{drain_ends, steady_after}
+use Rattle.machine_runs.specs.serialization.Order.{pass, passes, from_machine}
+use Rattle.machine_runs.specs.steps.declared.step.Step.{Step}
+use Rattle.machine_runs.specs.steps.declared.step.Step.TheVariants as step
+use Rattle.machine_runs.specs.machine_program.Theory as theory
+use Rattle.machine_runs.specs.machine_program.Processors.{Told, sizes_of, next, kind_of, program, no_processor}
+use Rattle.machine_runs.specs.machine_program.Steps.{named, after, machine_of_parts}
+use Rattle.machine_runs.specs.machine_program.FlatSizes.{IsSoundFlat}
+use Rattle.machine_runs.specs.machine_theorem.Order.{Passed, passed_by}
+use Rattle.machine_runs.specs.machine_theorem.Flatness.{with_events}
+use Rattle.machine_runs.specs.machine_theorem.Explained.{Opens, IsExplained}
+use Rattle.machine_runs.proofs.Lemmas.machine_theorem.{means_change, run_sound, runs_are_explained}
+use Rattle.machine_runs.specs.machine.Machines.{MachineLists, machine_of, IsIdle, IsMachine}
+use Rattle.machine_runs.specs.machine.Openings.{flat_state}
+use Rattle.machine_runs.proofs.Lemmas.machine.{all_shut, sound}
 use Rattle.machine_runs.specs.Runs.{all_after, events_of}
 use Rattle.machine_runs.specs.Draining.{step_of}
 use Rattle.machine_runs.proofs.Lemmas.{FirstTurn, IsAnswered, IsAsking, IsLone, Named, drain_named, first_turn, lone_goes_on as goes_on, named_again, starts}
@@ -154,7 +154,7 @@ module _ (c : Config) (code : List ℕ) (limits : IsWithinLimits c) (bytes : Are
         last_shut p =
             ap (λ (M : theory.Machine Told). M.is_open p) (passes_after sts first_of)
             ∙ ap (λ ss. (theory.machine_after (sizes_of c) (program c code) ss first_of.machine).is_open p) all
-            ∙ drain_ends (sizes_of c) (program c code) first_of.machine lone.role lone.steady limits.some_capacity p
+            ∙ drain_ends (sizes_of c) (program c code) first_of.machine lone.role lone.steady limits.answers p
 
         there_shut : (p : ℕ) → (all_after c code (theory.step (sizes_of c) (program c code) N (theory.Turn k)).machine (map step_of sts)).is_open p ≡ false
         there_shut p =

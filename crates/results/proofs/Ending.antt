@@ -6,13 +6,13 @@ use Rattle.std.specs.List.{range_with_len}
 use Rattle.std.proofs.lemmas.Bool.{cases_lt, cases_eq}
 use Rattle.std.proofs.lemmas.List.FromFn.{length-map-range_with_len, get_or-map-range_with_len}
 use mathlib.Core.Path.{fun_ext}
-use Rattle.flat_machine.specs.declared.config.Config.{Config}
-use Rattle.flat_machine.specs.declared.event.Event.{Event}
-use Rattle.flat_machine.specs.State.{FlatState, Processor, is_running}
-use Rattle.messages.specs.Places.{put}
-use Rattle.machine_program.specs.Theory as theory
-use Rattle.machine_program.specs.Processors.{Told, no_processor}
-use Rattle.machine_theorem.specs.Flatness.{with_events}
+use Rattle.alone.specs.flat_machine.declared.config.Config.{Config}
+use Rattle.alone.specs.flat_machine.declared.event.Event.{Event}
+use Rattle.alone.specs.flat_machine.State.{FlatState, Processor, is_running}
+use Rattle.machine_runs.specs.messages.Places.{put}
+use Rattle.machine_runs.specs.machine_program.Theory as theory
+use Rattle.machine_runs.specs.machine_program.Processors.{Told, no_processor}
+use Rattle.machine_runs.specs.machine_theorem.Flatness.{with_events}
 use Rattle.alone.specs.Stations.{printed_after, console_after, consoles_after}
 use Rattle.alone.specs.Closing.{HasStopped}
 use Rattle.results.specs.Results.{result_with, result_of, printed_by, machine_result, NoneRuns}

@@ -2,38 +2,38 @@
 use Rattle.std.proofs.Common.{◌≡◌, ◌⊎◌, inl, inr, ℕ, ◌<◌, ◌^◌, Bool, true, false, List, [], ◌∷◌, ◌++◌, map, refl, sym, ap, subst, ◌∙◌, nat_lt}
 use Rattle.std.specs.Prelude.{if◌then◌else◌, slice_index, slice_index_or}
 use Rattle.std.proofs.lemmas.Bool.{cases_Bool, true≢false}
-use Rattle.flat_machine.specs.declared.config.Config.{Config}
-use Rattle.flat_machine.specs.declared.poke.Entry.{Entry}
-use Rattle.flat_machine.specs.declared.poke.Entry.TheVariants as entry
-use Rattle.flat_machine.specs.State.{is_running}
-use Rattle.flat_machine.specs.Turns.{Turn}
-use Rattle.flat_machine.specs.Flat.{flat_run, flat_events}
-use Rattle.messages.specs.Network.{Net}
-use Rattle.messages.specs.declared.message.Request.{Request}
-use Rattle.messages.specs.declared.message.Reply.{Reply}
-use Rattle.messages.specs.declared.moves.UpMove.{UpMove}
-use Rattle.messages.specs.declared.moves.UpMove.TheVariants as up
-use Rattle.messages.specs.declared.moves.DownMove.{DownMove}
-use Rattle.messages.specs.declared.moves.DownMove.TheVariants as down
-use Rattle.messages.specs.Moves.{moved_up, moved_down}
-use Rattle.placement.specs.Roles.{Role, Idle}
-use Rattle.abstract_machine.specs.Program.{Kind, Rests, Alone, Refers}
-use Rattle.abstract_machine.specs.Steadiness.{Steady}
-use Rattle.abstract_machine.proofs.Lemmas.{steady_after}
-use Rattle.serialization.specs.Order.{pass, passes, from_machine}
-use Rattle.steps.specs.declared.step.Step.{Step}
-use Rattle.steps.specs.declared.step.Step.TheVariants as step
-use Rattle.machine_program.specs.Theory as theory
-use Rattle.machine_program.specs.Processors.{Told, sizes_of, next, kind_of, program, no_processor}
-use Rattle.machine_program.specs.Steps.{named, after}
-use Rattle.machine_program.specs.FlatSizes.{IsSoundFlat}
-use Rattle.machine_theorem.specs.Order.{Passed, segment}
-use Rattle.machine_theorem.specs.Flatness.{AreLawful, with_events}
-use Rattle.machine_theorem.specs.Explained.{IsExplained}
-use Rattle.machine_theorem.proofs.Lemmas.{means_change, run_sound, runs_are_explained}
-use Rattle.machine.specs.Machines.{MachineLists, machine_of, IsIdle, IsMachine}
-use Rattle.machine.specs.Openings.{flat_state}
-use Rattle.machine.proofs.Lemmas.{sound}
+use Rattle.alone.specs.flat_machine.declared.config.Config.{Config}
+use Rattle.alone.specs.flat_machine.declared.poke.Entry.{Entry}
+use Rattle.alone.specs.flat_machine.declared.poke.Entry.TheVariants as entry
+use Rattle.alone.specs.flat_machine.State.{is_running}
+use Rattle.alone.specs.flat_machine.Turns.{Turn}
+use Rattle.alone.specs.flat_machine.Flat.{flat_run, flat_events}
+use Rattle.machine_runs.specs.messages.Network.{Net}
+use Rattle.machine_runs.specs.messages.declared.message.Request.{Request}
+use Rattle.machine_runs.specs.messages.declared.message.Reply.{Reply}
+use Rattle.machine_runs.specs.messages.declared.moves.UpMove.{UpMove}
+use Rattle.machine_runs.specs.messages.declared.moves.UpMove.TheVariants as up
+use Rattle.machine_runs.specs.messages.declared.moves.DownMove.{DownMove}
+use Rattle.machine_runs.specs.messages.declared.moves.DownMove.TheVariants as down
+use Rattle.machine_runs.specs.messages.Moves.{moved_up, moved_down}
+use Rattle.machine_runs.specs.placement.Roles.{Role, Idle}
+use Rattle.machine_runs.specs.abstract_machine.Program.{Kind, Rests, Alone, Refers}
+use Rattle.machine_runs.specs.abstract_machine.Steadiness.{Steady}
+use Rattle.machine_runs.proofs.Lemmas.abstract_machine.{steady_after}
+use Rattle.machine_runs.specs.serialization.Order.{pass, passes, from_machine}
+use Rattle.machine_runs.specs.steps.declared.step.Step.{Step}
+use Rattle.machine_runs.specs.steps.declared.step.Step.TheVariants as step
+use Rattle.machine_runs.specs.machine_program.Theory as theory
+use Rattle.machine_runs.specs.machine_program.Processors.{Told, sizes_of, next, kind_of, program, no_processor}
+use Rattle.machine_runs.specs.machine_program.Steps.{named, after}
+use Rattle.machine_runs.specs.machine_program.FlatSizes.{IsSoundFlat}
+use Rattle.machine_runs.specs.machine_theorem.Order.{Passed, segment}
+use Rattle.machine_runs.specs.machine_theorem.Flatness.{AreLawful, with_events}
+use Rattle.machine_runs.specs.machine_theorem.Explained.{IsExplained}
+use Rattle.machine_runs.proofs.Lemmas.machine_theorem.{means_change, run_sound, runs_are_explained}
+use Rattle.machine_runs.specs.machine.Machines.{MachineLists, machine_of, IsIdle, IsMachine}
+use Rattle.machine_runs.specs.machine.Openings.{flat_state}
+use Rattle.machine_runs.proofs.Lemmas.machine.{sound}
 use Rattle.machine_runs.specs.Runs.{all_after, passed}
 use Rattle.machine_runs.proofs.Lemmas.{opens}
 use Rattle.alone.specs.Stations.{turns}

@@ -5,29 +5,29 @@ use Rattle.std.specs.Prelude.{if◌then◌else◌}
 use Rattle.std.proofs.lemmas.Bool.{cases_eq}
 use Rattle.std.proofs.lemmas.List.{append-nil}
 use mathlib.Core.Path.{fun_ext}
-use Rattle.flat_machine.specs.declared.config.Config.{Config}
-use Rattle.flat_machine.specs.declared.event.Event.{Event}
-use Rattle.flat_machine.specs.declared.event.Event.TheVariants as event
-use Rattle.flat_machine.specs.declared.event.Retired as retirement
-use Rattle.flat_machine.specs.State.{Processor, status_of}
-use Rattle.flat_machine.specs.Turns.{Turn, Retires, Reaches, Stops}
-use Rattle.hart.specs.Deciding.{after_reply}
-use Rattle.messages.specs.declared.message.Request.{Request}
-use Rattle.messages.specs.declared.message.Reply.{Reply}
-use Rattle.messages.specs.declared.moves.UpMove.{UpMove}
-use Rattle.messages.specs.declared.moves.UpMove.TheVariants as up
-use Rattle.messages.specs.declared.moves.DownMove.{DownMove}
-use Rattle.messages.specs.declared.moves.DownMove.TheVariants as down
-use Rattle.messages.specs.Moves.{moved_up, moved_down, port_taken}
-use Rattle.messages.specs.Network.{Net}
-use Rattle.messages.specs.Places.{put}
-use Rattle.abstract_machine.specs.Program.{Kind, Rests, Alone, Refers}
-use Rattle.steps.specs.declared.step.Step.{Step}
-use Rattle.steps.specs.declared.step.Step.TheVariants as step
-use Rattle.machine_program.specs.Theory as theory
-use Rattle.machine_program.specs.Processors.{Told, sizes_of, next, alone_by, retired_by, program}
-use Rattle.machine_program.specs.Steps.{after}
-use Rattle.machine_theorem.specs.Flatness.{with_events}
+use Rattle.alone.specs.flat_machine.declared.config.Config.{Config}
+use Rattle.alone.specs.flat_machine.declared.event.Event.{Event}
+use Rattle.alone.specs.flat_machine.declared.event.Event.TheVariants as event
+use Rattle.alone.specs.flat_machine.declared.event.Retired as retirement
+use Rattle.alone.specs.flat_machine.State.{Processor, status_of}
+use Rattle.alone.specs.flat_machine.Turns.{Turn, Retires, Reaches, Stops}
+use Rattle.machine_runs.specs.hart.Deciding.{after_reply}
+use Rattle.machine_runs.specs.messages.declared.message.Request.{Request}
+use Rattle.machine_runs.specs.messages.declared.message.Reply.{Reply}
+use Rattle.machine_runs.specs.messages.declared.moves.UpMove.{UpMove}
+use Rattle.machine_runs.specs.messages.declared.moves.UpMove.TheVariants as up
+use Rattle.machine_runs.specs.messages.declared.moves.DownMove.{DownMove}
+use Rattle.machine_runs.specs.messages.declared.moves.DownMove.TheVariants as down
+use Rattle.machine_runs.specs.messages.Moves.{moved_up, moved_down, port_taken}
+use Rattle.machine_runs.specs.messages.Network.{Net}
+use Rattle.machine_runs.specs.messages.Places.{put}
+use Rattle.machine_runs.specs.abstract_machine.Program.{Kind, Rests, Alone, Refers}
+use Rattle.machine_runs.specs.steps.declared.step.Step.{Step}
+use Rattle.machine_runs.specs.steps.declared.step.Step.TheVariants as step
+use Rattle.machine_runs.specs.machine_program.Theory as theory
+use Rattle.machine_runs.specs.machine_program.Processors.{Told, sizes_of, next, alone_by, retired_by, program}
+use Rattle.machine_runs.specs.machine_program.Steps.{after}
+use Rattle.machine_runs.specs.machine_theorem.Flatness.{with_events}
 use Rattle.machine_runs.specs.Runs.{all_after, events_of}
 use Rattle.results.specs.Results.{IsOfTheMachine, AreOfTheMachine}
 

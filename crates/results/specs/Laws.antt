@@ -1,7 +1,7 @@
 -- What the laws of results speak of.
 use Rattle.std.specs.Prelude.{◌↔◌}
-use Rattle.machine.specs.Machines.{MachineLists, IsIdle, IsMachine}
-use Rattle.machine.specs.Openings.{flat_state}
+use Rattle.machine_runs.specs.machine.Machines.{MachineLists, IsIdle, IsMachine}
+use Rattle.machine_runs.specs.machine.Openings.{flat_state}
 use Rattle.results.specs.Results.{FinalResult, IsFlatResult, IsMachineResult}
 
 -- A machine in which no reference is open has the results of the flat machine that it is, and no others.

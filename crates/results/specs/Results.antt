@@ -1,16 +1,16 @@
 -- Final results: what is left of a machine in which no processor runs any more.
 use Rattle.std.specs.Prelude.{◌≡◌, ℕ, ◌^◌, ◌<◌, false, List, [], ◌∷◌, length, map, slice_index_or}
 use Rattle.std.specs.List.{range_with_len}
-use Rattle.flat_machine.specs.declared.config.Config.{Config}
-use Rattle.flat_machine.specs.declared.event.Event.{Event}
-use Rattle.flat_machine.specs.declared.event.Status.{Status}
-use Rattle.flat_machine.specs.State.{FlatState, Processor, is_running}
-use Rattle.flat_machine.specs.Flat.{flat_run, flat_events}
-use Rattle.machine_program.specs.Theory as theory
-use Rattle.steps.specs.declared.step.Step.{Step}
-use Rattle.steps.specs.declared.step.Step.TheVariants as step
-use Rattle.machine_program.specs.Processors.{Told, no_processor}
-use Rattle.machine.specs.Machines.{MachineLists, machine_of}
+use Rattle.alone.specs.flat_machine.declared.config.Config.{Config}
+use Rattle.alone.specs.flat_machine.declared.event.Event.{Event}
+use Rattle.alone.specs.flat_machine.declared.event.Status.{Status}
+use Rattle.alone.specs.flat_machine.State.{FlatState, Processor, is_running}
+use Rattle.alone.specs.flat_machine.Flat.{flat_run, flat_events}
+use Rattle.machine_runs.specs.machine_program.Theory as theory
+use Rattle.machine_runs.specs.steps.declared.step.Step.{Step}
+use Rattle.machine_runs.specs.steps.declared.step.Step.TheVariants as step
+use Rattle.machine_runs.specs.machine_program.Processors.{Told, no_processor}
+use Rattle.machine_runs.specs.machine.Machines.{MachineLists, machine_of}
 use Rattle.machine_runs.specs.Runs.{all_after}
 use Rattle.alone.specs.Stations.{printed_after, consoles_after, turns}
 use Rattle.alone.specs.Closing.{HasStopped}

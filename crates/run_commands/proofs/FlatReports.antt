@@ -10,13 +10,13 @@ use Rattle.flat_machine.specs.Flat.{flat_events, flat_run}
 use Rattle.flat_machine.specs.State.{FlatState, Processor}
 use Rattle.elf_image.specs.Images.{ImageContents}
 use Rattle.elf_image.specs.Openings.{opening as flat_opening}
-use Rattle.machine_sweep.specs.Theory as theory
-use Rattle.serialization.specs.Order.{from_machine}
+use Rattle.machine_runs.specs.machine_program.Theory as theory
+use Rattle.machine_runs.specs.serialization.Order.{from_machine}
 use Rattle.steps.specs.declared.step.Step.{Step}
-use Rattle.machine_ports.specs.Ports.{PortState}
+use Rattle.machine_runs.specs.machine_ports.Ports.{PortState}
 use Rattle.machine_runs.specs.Runs.{with_events}
-use Rattle.machine_sweep.specs.Processors.{Told, no_port, no_processor, word_at}
-use Rattle.machine_sweep.specs.Steps.{machine_of_parts}
+use Rattle.machine_runs.specs.machine_program.Processors.{Told, no_port, no_processor, word_at}
+use Rattle.machine_runs.specs.machine_program.Steps.{machine_of_parts}
 use Rattle.machine_runs.specs.Machines.{MachineLists, machine_of, IsIdle}
 use Rattle.machine_runs.specs.Runs.{IsOpening, IsReplay, IsSerialized, events_of, flat_state, passed}
 use Rattle.machine_runs.proofs.Lemmas.{passes_machine}

@@ -1,4 +1,6 @@
 -- The lemmas that crates above may cite.
 
+-- What the log of a run tells.
+pub use Rattle.run_commands.proofs.Logging.{is_spelled}
 -- Lemmas of lower crates, passed on.
 pub use Rattle.trace_replay.proofs.Lemmas.{none_stalls}

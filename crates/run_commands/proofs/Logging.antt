@@ -1,5 +1,5 @@
 -- What the log of a run tells of its machine's size and image.
-use Rattle.std.proofs.Common.{◌≡◌, ℕ, List, Option, ◌∙◌, ap, refl, sym, subst, arith}
+use Rattle.std.proofs.Common.{◌≡◌, ◌≤◌, ℕ, List, length, Option, ◌∙◌, ap, refl, sym, subst, arith}
 use Rattle.flat_machine.specs.declared.config.Config.{Config}
 use Rattle.flat_machine.specs.Limits.{IsWithinLimits}
 use Rattle.elf_image.specs.Images.{ImageContents}
@@ -46,6 +46,22 @@ not_stalled log c image steps second new one replay size same all two (retake.St
     (subst (λ (xs : List Step). StallsAt second xs place new) all h))
 not_stalled log c image steps second new one replay size same all two retake.Memory h = refl
 
+-- Steps that can be recorded make a trace that has a spelling, where the machine's size is within the limits.
+pub is_spelled : (c : Config) (steps : List Step) → IsWithinLimits c → length steps ≤ 4194304 → HaveRecords c.k steps → IsTrace (trace_of c steps)
+is_spelled c steps limits few records = record {
+  header = record {
+    stages = limits.stages;
+    some_capacity = limits.some_capacity;
+    capacity = limits.capacity;
+    records = limits.records;
+    some_combinations = limits.some_combinations;
+    combinations = limits.combinations;
+    answers = limits.answers;
+    count = few;
+  };
+  records = records;
+}
+
 -- ---- a run, from its machine's opening on
 
 module _ (c : Config) (budget : ℕ) (known : Option (List ℕ)) (image : ImageContents) (meant : IsImageOf c.shared_words known image) (m : MachineLists)
@@ -70,10 +86,6 @@ module _ (c : Config) (budget : ℕ) (known : Option (List ℕ)) (image : ImageC
 
   pub trace_is : (HaveRecords old.machine.config.k old.steps → HaveRecords log.machine.config.k log.steps) → IsTrace (trace_of c log.steps)
   trace_is records =
-      let limits : IsWithinLimits c = subst IsWithinLimits config_is kept.sound.limits in
-      record {
-        header =
-            record { stages = limits.stages; some_capacity = limits.some_capacity; capacity = limits.capacity; records = limits.records; count = kept.room };
-        records = subst (λ (d : Config). HaveRecords d.k log.steps) config_is
-            (records (subst (λ (l : Log). HaveRecords l.machine.config.k l.steps) (sym starts) (λ p d inside. absurd (omega (arith, inside)))));
-      }
+      is_spelled c log.steps (subst IsWithinLimits config_is kept.sound.limits) kept.room
+      (subst (λ (d : Config). HaveRecords d.k log.steps) config_is
+      (records (subst (λ (l : Log). HaveRecords l.machine.config.k l.steps) (sym starts) (λ p d inside. absurd (omega (arith, inside))))))

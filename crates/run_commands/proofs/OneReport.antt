@@ -5,10 +5,10 @@ use Rattle.std.proofs.lemmas.Bool.{cases_eq}
 use Rattle.flat_machine.specs.declared.config.Config.{Config}
 use Rattle.flat_machine.specs.State.{Processor}
 use Rattle.elf_image.specs.Images.{ImageContents}
-use Rattle.machine_sweep.specs.Theory as theory
+use Rattle.machine_runs.specs.machine_program.Theory as theory
 use Rattle.steps.specs.declared.step.Step.{Step}
-use Rattle.machine_sweep.specs.Processors.{Told, word_at}
-use Rattle.machine_sweep.specs.Steps.{machine_of_parts}
+use Rattle.machine_runs.specs.machine_program.Processors.{Told, word_at}
+use Rattle.machine_runs.specs.machine_program.Steps.{machine_of_parts}
 use Rattle.machine_runs.specs.Machines.{MachineLists, machine_of}
 use Rattle.machine_runs.specs.Runs.{all_after, events_of}
 use Rattle.trace_replay.proofs.Lemmas.{alike}

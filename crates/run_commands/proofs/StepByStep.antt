@@ -3,13 +3,13 @@ use Rattle.std.proofs.Common.{◌≡◌, ℕ, ◌+◌, ◌^◌, ◌<◌, List, [
 use Rattle.std.specs.Prelude.{replicate}
 use Rattle.std.proofs.lemmas.List.{length-append, append-nil, append_assoc}
 use Rattle.flat_machine.specs.declared.event.Event.{Event}
-use Rattle.machine_sweep.specs.Networks.{net_of}
-use Rattle.machine_sweep.specs.Theory as theory
+use Rattle.machine_runs.specs.omega_network.Networks.{net_of}
+use Rattle.machine_runs.specs.machine_program.Theory as theory
 use Rattle.steps.specs.declared.step.Step.{Step}
 use Rattle.steps.specs.declared.step.Outcome.{Outcome}
 use Rattle.steps.specs.declared.step.Outcome.TheVariants.{Stalled}
-use Rattle.machine_sweep.specs.Processors.{Told}
-use Rattle.machine_sweep.specs.Steps.{after, with_shown, machine_of_parts}
+use Rattle.machine_runs.specs.machine_program.Processors.{Told}
+use Rattle.machine_runs.specs.machine_program.Steps.{after, with_shown, machine_of_parts}
 use Rattle.machine_runs.specs.Machines.{MachineLists, machine_of, IsIdle, IsMachine, IsStep}
 use Rattle.machine_runs.specs.Runs.{all_after, events_of, IsRun}
 use Rattle.machine_runs.specs.Draining.{drain_step, GoesOn, drain_bound, drain_steps}

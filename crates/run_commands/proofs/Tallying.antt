@@ -11,9 +11,9 @@ use Rattle.steps.specs.declared.step.Step.{Step}
 use Rattle.steps.specs.declared.step.Step.TheVariants as step
 use Rattle.steps.specs.declared.step.Outcome.{Outcome}
 use Rattle.steps.specs.declared.step.Outcome.TheVariants.{Retired, Issued, Stopped, Moved, Combined, Served, Answered, Poked, Stalled}
-use Rattle.machine_sweep.specs.Places.{put}
+use Rattle.machine_runs.specs.messages.Places.{put}
 use Rattle.machine_sweep.proofs.Lemmas.{put_other, put_same}
-use Rattle.machine_sweep.specs.Steps.{with_shown}
+use Rattle.machine_runs.specs.machine_program.Steps.{with_shown}
 use Rattle.run_report.specs.Tallies.{ShownBy, TallyState, nothing_shown, with_retired, retired_at, noted_after}
 use Rattle.run_report.specs.Events.{with_event, shown_from, shown_by, IsTally}
 

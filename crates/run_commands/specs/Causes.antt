@@ -17,7 +17,7 @@ use Rattle.machine_sweep.specs.declared.sweeping.SweepEnd.TheVariants.{Budget}
 use Rattle.command_io.specs.declared.fault.Fault.{Fault}
 use Rattle.command_io.specs.declared.fault.Fault.TheVariants as fault
 use Rattle.command_io.specs.Printing.{IsPartPrinted}
-use Rattle.run_commands.specs.Commands.{IsTraceOf, IsPartSaved, IsFinishedRun, IsRunOf, IsSomeReplayReport, IsSomeRunReport}
+use Rattle.run_commands.specs.Commands.{IsTraceOf, IsPartSaved, IsFinishedRun, IsRunOf, IsDrainedReport, IsSomeAccount, IsSomeRunReport, Telling}
 
 -- ---- the files
 
@@ -95,9 +95,13 @@ IsNotPrinted is_to_be_printed shared_words trace known out out' fault.Link = IsU
 IsNotPrinted is_to_be_printed shared_words trace known out out' fault.Memory = Unit {0}
 IsNotPrinted is_to_be_printed shared_words trace known out out' other = ⊥
 
+-- why it is not told of a trace
+abbrev pub IsNoAccount : Telling → (shared_words : ℕ) → (trace known : Option (List ℕ)) → (out out' : Option (List ℕ)) → Fault → Type 0
+IsNoAccount tells shared_words trace known = IsNotPrinted (IsSomeAccount tells shared_words trace known) shared_words trace known
+
 -- why a replay is not reported
 abbrev pub IsNoReplay : (shared_words : ℕ) → (trace known : Option (List ℕ)) → (out out' : Option (List ℕ)) → Fault → Type 0
-IsNoReplay shared_words trace known out out' f = IsNotPrinted (IsSomeReplayReport shared_words trace known) shared_words trace known out out' f
+IsNoReplay = IsNoAccount IsDrainedReport
 
 -- ---- the parts
 

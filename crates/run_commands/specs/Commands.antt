@@ -52,17 +52,27 @@ pub record IsDrainedReport (c : Config) (image : ImageContents) (steps : List St
   pub stands : StandsAfter c image steps before
   pub report : IsReportOf c image (steps ++ drain_steps before) text status
 
--- This is the report of a trace that is replayed, and then drained, on the image that a file means, and this its exit status.
-pub record IsReplayReport (shared_words : ℕ) (trace known : Option (List ℕ)) (status : ℕ) (text : List ℕ) : Type 0 where
+-- ---- what is told of a trace
+
+-- What a command tells: a text and an exit status are told of these steps, on the machine of this size that opens on the image.
+abbrev pub Telling : Type 1
+Telling = Config → ImageContents → (steps : List Step) → (text : List ℕ) → (status : ℕ) → Type 0
+
+-- This is told of the steps of a trace, on the image that a file means, and this is the exit status.
+pub record IsAccount (tells : Telling) (shared_words : ℕ) (trace known : Option (List ℕ)) (status : ℕ) (text : List ℕ) : Type 0 where
   pub steps : TraceContents
   pub read : IsTraceOf trace steps
   pub image : ImageContents
   pub meant : IsImageOf shared_words known image
-  pub report : IsDrainedReport (config_of steps shared_words) image steps.steps text status
+  pub told : tells (config_of steps shared_words) image steps.steps text status
 
--- the report of a replay, with whatever exit status
-abbrev pub IsSomeReplayReport : (shared_words : ℕ) → (trace known : Option (List ℕ)) → (text : List ℕ) → Type 0
-IsSomeReplayReport shared_words trace known text = (status : ℕ) × IsReplayReport shared_words trace known status text
+-- this is told, with whatever exit status
+abbrev pub IsSomeAccount : Telling → (shared_words : ℕ) → (trace known : Option (List ℕ)) → (text : List ℕ) → Type 0
+IsSomeAccount tells shared_words trace known text = (status : ℕ) × IsAccount tells shared_words trace known status text
+
+-- This is the report of a trace that is replayed, and then drained, on the image that a file means, and this its exit status.
+abbrev pub IsReplayReport : (shared_words : ℕ) → (trace known : Option (List ℕ)) → (status : ℕ) → (text : List ℕ) → Type 0
+IsReplayReport = IsAccount IsDrainedReport
 
 -- what is known of a file's bytes, where it could be opened
 abbrev pub known_of : {R E : Type 0} → (R → Option (List ℕ)) → Result R E → Option (List ℕ)

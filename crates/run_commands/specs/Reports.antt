@@ -8,7 +8,7 @@ use Rattle.flat_machine.specs.declared.poke.Entry.{Entry}
 use Rattle.flat_machine.specs.Flat.{flat_events, flat_run}
 use Rattle.flat_machine.specs.State.{FlatState, Processor}
 use Rattle.machine_runs.specs.Runs.{with_events}
-use Rattle.machine_sweep.specs.Processors.{no_processor, word_at}
+use Rattle.machine_runs.specs.machine_program.Processors.{no_processor, word_at}
 use Rattle.machine_runs.specs.Machines.{MachineLists}
 use Rattle.machine_sweep.specs.Standing.{HasFaulted, IsFaulted, processor_of}
 use Rattle.run_report.specs.Events.{shown_by}

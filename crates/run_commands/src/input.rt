@@ -42,3 +42,16 @@ pub fn machine_of(alloc: Global, image: Image, config: Config) -> Result<Machine
         Err(NewError::Memory) => Err(Fault::Memory),
     }
 }
+
+/// A machine of this size that opens on a copy of the image, which was read for as many shared words.
+///
+/// # Errors
+///
+/// [`Fault::Size`] where the size is out of its limits, and [`Fault::Memory`].
+pub fn opened(alloc: Global, image: &Image, config: Config) -> Result<Machine, Fault>
+    requires words { image.now.shared_words ≡ config.shared_words }
+    ensures opening { IfOk result (IsOpening config image.now) }
+    ensures refused { IfErr result (IsFaultOfSize config) }
+{
+    machine_of(alloc, image.copy(alloc)?, config)
+}

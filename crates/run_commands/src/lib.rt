@@ -6,6 +6,7 @@
 //! made whole before its first byte is written.
 #![tactic(auto)]
 
+mod account;
 mod fault;
 mod input;
 mod laws;
@@ -16,7 +17,8 @@ mod run;
 mod states;
 mod taking;
 
-pub use input::{machine_of, trace_of};
+pub use account::{Account, account_command};
+pub use input::{machine_of, opened, trace_of};
 pub use laws::{runs_have_one_report, steps_have_one_report};
 pub use output::save;
 pub use replay::replay_command;

@@ -1,15 +1,16 @@
 //! `ultra replay`: from the bytes of a trace and of an image to the report of the machine.
 
-ghost use Rattle.std.specs.Prelude.{◌≡◌, ◌≤◌, ◌⊎◌, true, false, IfOk, IfErr, IsErr, IsErrOf, OnErr, length, string_bytes};
+ghost use Rattle.std.specs.Prelude.{◌≡◌, ◌≤◌, true, false, IfOk, IfErr, IsErr, length, string_bytes};
 ghost use Rattle.run_commands.specs.Causes.{IsNoReplay, IsNotTaken};
-ghost use Rattle.run_commands.specs.Commands.{IsDrainedReport, IsReplayReport, known_of};
+ghost use Rattle.run_commands.specs.Commands.{IsReplayReport, known_of};
 ghost use Rattle.command_io.specs.Printing.{IsPrinted, IsTold};
 
-use crate::input::{machine_of, trace_of};
+use crate::account::{Account, account_command};
+use crate::input::machine_of;
 use crate::reporting::report;
 use crate::states::exit_status;
 use crate::taking::{drained, retaken};
-use command_io::{Fault, image_of, print, tell};
+use command_io::Fault;
 use elf_image::Image;
 use flat_machine::Config;
 use link::LinkWrite;
@@ -42,58 +43,37 @@ pub fn replay_command<T: Read + Drop, R: Read + Drop, W: LinkWrite, E: Write>(
         (IsNoReplay shared_words (T.remaining trace) (known_of R.remaining file) (W.contents out.old) (W.contents out.new)) out.old out.new result }
     ensures failed { W.has_failed out.new ≡ true → result ≡ 3 }
 {
-    match carried_out(alloc, trace, file, shared_words, out) {
-        Ok(status) => status,
-        Err(fault) => tell(fault, err),
+    account_command(alloc, trace, file, shared_words, &Report, out, err)
+}
+
+/// The report of the machine after the steps and a drain.
+#[derive(Drop)]
+struct Report;
+
+impl Account for Report {
+    ghost use Rattle.run_commands.specs.Commands.{IsDrainedReport};
+
+    ghost tells = { λ report. IsDrainedReport };
+
+    fn text(
+        &self,
+        alloc: Global,
+        image: Image,
+        config: Config,
+        steps: &[Step],
+    ) -> Result<(String, u8), Fault>
+        requires few { length steps.now ≤ 4194304 }
+        requires words { image.shared_words ≡ config.shared_words }
+        ensures told { IfOk result (λ done. IsDrainedReport config image steps.now (string_bytes done.0) done.1) }
+        ensures low { IfOk result (λ done. done.1 ≤ 1) }
+        ensures refused { IfErr result (IsNotTaken config image steps.now) }
+    {
+        let mut machine = machine_of(alloc, image, config)?;
+        machine_is_sound(&machine);
+        let mut tally = retaken(alloc, &mut machine, steps)?;
+        drained(&mut machine, &mut tally)?;
+        runs_are_serialized();
+        let text = report(alloc, &machine, &tally, None)?;
+        Ok((text, exit_status(&machine)))
     }
-}
-
-/// Carries the command out.
-fn carried_out<T: Read + Drop, R: Read + Drop, W: LinkWrite>(
-    alloc: Global,
-    trace: T,
-    file: io::Result<R>,
-    shared_words: u32,
-    out: &mut W,
-) -> Result<u8, Fault>
-    requires { W.has_failed out.old ≡ false }
-    ensures failed { W.has_failed out.new ≡ true → IsErrOf result Fault.Link }
-    ensures link { IsErrOf result Fault.Link → IsErr file ⊎ (W.has_failed out.new ≡ true) }
-    ensures replayed { IfOk result (λ status. IsPrinted (IsReplayReport shared_words (T.remaining trace) (known_of R.remaining file) status)
-        (W.contents out.old) (W.contents out.new)) }
-    ensures low { IfOk result (λ status. status ≤ 1) }
-    ensures told { IfErr result (IsNoReplay shared_words (T.remaining trace) (known_of R.remaining file) (W.contents out.old) (W.contents out.new)) }
-    ensures silent { OnErr result (W.has_failed out.new ≡ false → out.new ≡ out.old) }
-{
-    let trace = trace_of(alloc, trace)?;
-    let config = trace.config(shared_words);
-    let Ok(file) = file else {
-        return Err(Fault::Link);
-    };
-    let image = image_of(alloc, file, &config)?;
-    let (text, status) = reported(alloc, image, config, trace.steps())?;
-    print(out, text.as_str())?;
-    Ok(status)
-}
-
-/// The report of the machine after these steps and a drain, and its exit status.
-fn reported(
-    alloc: Global,
-    image: Image,
-    config: Config,
-    steps: &[Step],
-) -> Result<(String, u8), Fault>
-    requires few { length steps.now ≤ 4194304 }
-    requires words { image.shared_words ≡ config.shared_words }
-    ensures report { IfOk result (λ done. IsDrainedReport config image steps.now (string_bytes done.0) done.1) }
-    ensures low { IfOk result (λ done. done.1 ≤ 1) }
-    ensures refused { IfErr result (IsNotTaken config image steps.now) }
-{
-    let mut machine = machine_of(alloc, image, config)?;
-    machine_is_sound(&machine);
-    let mut tally = retaken(alloc, &mut machine, steps)?;
-    drained(&mut machine, &mut tally)?;
-    runs_are_serialized();
-    let text = report(alloc, &machine, &tally, None)?;
-    Ok((text, exit_status(&machine)))
 }

@@ -6,3 +6,6 @@ pub use Rattle.serialization.proofs.Moments.{at_the_moment}
 pub use Rattle.serialization.proofs.Once.{served_once}
 -- The machine is the flat one after the order, at each moment.
 pub use Rattle.serialization.proofs.Serial.{follows}
+-- Lemmas of lower crates, passed on to those above.
+pub use Rattle.abstract_machine.proofs.Lemmas.messages as messages
+pub use Rattle.abstract_machine.proofs.Lemmas as abstract_machine

@@ -2,14 +2,14 @@
 use Rattle.std.proofs.Common.{◌≡◌, ℕ, Bool, true, false, ◌&&◌, List, [], ◌∷◌, nat_lt, inl, inr, Option, Some, None, refl, sym, ap, ◌∙◌, subst}
 use Rattle.std.specs.Prelude.{if◌then◌else◌}
 use Rattle.std.proofs.lemmas.Bool.{cases_Bool, true≢false}
-use Rattle.messages.specs.declared.message.Request.{Request}
-use Rattle.messages.specs.declared.message.Reply.{Reply}
-use Rattle.messages.specs.Network.{Sizes, wires, Net}
-use Rattle.messages.specs.declared.moves.UpMove.{UpMove}
-use Rattle.messages.specs.declared.moves.UpMove.TheVariants as up
-use Rattle.messages.specs.declared.moves.DownMove.{DownMove}
-use Rattle.messages.specs.declared.moves.DownMove.TheVariants as down
-use Rattle.messages.specs.Moves.{moved_up, moved_down}
+use Rattle.abstract_machine.specs.messages.declared.message.Request.{Request}
+use Rattle.abstract_machine.specs.messages.declared.message.Reply.{Reply}
+use Rattle.abstract_machine.specs.messages.Network.{Sizes, wires, Net}
+use Rattle.abstract_machine.specs.messages.declared.moves.UpMove.{UpMove}
+use Rattle.abstract_machine.specs.messages.declared.moves.UpMove.TheVariants as up
+use Rattle.abstract_machine.specs.messages.declared.moves.DownMove.{DownMove}
+use Rattle.abstract_machine.specs.messages.declared.moves.DownMove.TheVariants as down
+use Rattle.abstract_machine.specs.messages.Moves.{moved_up, moved_down}
 use Rattle.abstract_machine.specs.Program.{Program, Kind, Rests, Alone, Refers}
 use Rattle.abstract_machine.specs.Machine.{Machine, Step, Turn, Up, Serve, Down, Poke, Issued, Retired, stalled, retire_from, begin, turned, went_up}
 use Rattle.abstract_machine.specs.Machine.{went_down, serve_from, all_shut, poked, step, IsIdle}

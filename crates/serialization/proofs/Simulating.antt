@@ -1,28 +1,32 @@
 -- Each step keeps how the machine stands to the flat one.
 use Rattle.std.proofs.Common.{◌≡◌, ℕ, ◌%◌, ◌^◌, ◌<◌, true, false, List, [], ◌∷◌, map, inl, inr, Option, Some, None, refl, sym, ap, ap₂, ◌∙◌, subst, arith, drop}
 use Rattle.std.proofs.lemmas.Bool.{cases_eq, cases_Bool, true≢false}
-use Rattle.phi_algebra.specs.declared.phi.Phi.{Phi}
-use Rattle.phi_algebra.specs.Functions.{IsInRange}
-use Rattle.messages.specs.declared.message.Request.{Request}
-use Rattle.messages.specs.declared.message.Reply.{Reply}
-use Rattle.messages.specs.Places.{put, In, Distinct}
-use Rattle.messages.specs.Queues.{applied}
-use Rattle.messages.specs.Network.{Sizes, wires, Net, put_requests, put_replies, records_on}
-use Rattle.messages.specs.Moves.{injected, module_taken, module_replied, port_taken}
-use Rattle.omega_wires.specs.Wires.{path as way}
-use Rattle.omega_wires.proofs.Lemmas.{path_zero}
-use Rattle.placement.specs.Giving.{leaves}
-use Rattle.placement.specs.Roles.{Role, Idle, Asking, Told, Placed, Unnamed}
-use Rattle.placement.specs.Meaning.{Means, Executed, execute, execute_all}
+use Rattle.abstract_machine.specs.phi_algebra.declared.phi.Phi.{Phi}
+use Rattle.abstract_machine.specs.phi_algebra.Functions.{IsInRange}
+use Rattle.abstract_machine.specs.messages.declared.message.Request.{Request}
+use Rattle.abstract_machine.specs.messages.declared.message.Reply.{Reply}
+use Rattle.abstract_machine.specs.messages.Places.{put, In, Distinct}
+use Rattle.abstract_machine.specs.messages.Queues.{applied}
+use Rattle.abstract_machine.specs.messages.Network.{Sizes, wires, Net, put_requests, put_replies, records_on}
+use Rattle.abstract_machine.specs.messages.Naming.{Unnamed}
+use Rattle.abstract_machine.specs.messages.Moves.{injected, module_taken, module_replied, port_taken}
+use Rattle.abstract_machine.specs.omega_wires.Wires.{path as way}
+use Rattle.abstract_machine.proofs.Lemmas.omega_wires.{path_zero}
+use Rattle.abstract_machine.specs.placement.Giving.{leaves}
+use Rattle.abstract_machine.specs.placement.Roles.{Role, Idle, Asking, Told, Placed}
+use Rattle.abstract_machine.specs.placement.Meaning.{Means, Executed, execute, execute_all}
 use Rattle.abstract_machine.specs.Program.{Program, Alone, Refers, Keeps, own_of, word_of, path_of}
 use Rattle.abstract_machine.specs.Machine.{Machine, stalled, with_net, retire_from, request_of, issue, advance, serve_from, poked}
 use Rattle.serialization.specs.Order.{FlatMachine, flat_turn, flat_taken, flat_step, flat_run}
 use Rattle.serialization.specs.Simulation.{shows, Simulates, Kept}
-use Rattle.messages.proofs.Lemmas.{put_other, put_same}
-use Rattle.placement.proofs.Lemmas.{applied_small, below_role, executed_mem, executed_other, gives_leads, groups_change, groups_issue, groups_serve}
-use Rattle.placement.proofs.Lemmas.{means_change, means_issue, means_nothing, means_pop_reply, means_pop_request, means_serve, not_idle, placed_change}
-use Rattle.placement.proofs.Lemmas.{placed_nowhere, pop_reply, pop_reply_unnamed, pop_request, pop_request_unnamed, push_reply, push_request, put_agree}
-use Rattle.placement.proofs.Lemmas.{request_led, small_put, unnamed_idle}
+use Rattle.abstract_machine.proofs.Lemmas.messages.{put_other, put_same}
+use Rattle.abstract_machine.proofs.Lemmas.placement.{applied_small, below_role, executed_mem, executed_other, gives_leads, groups_change, groups_issue}
+use Rattle.abstract_machine.proofs.Lemmas.placement.{groups_serve}
+use Rattle.abstract_machine.proofs.Lemmas.placement.{means_change, means_issue, means_nothing, means_pop_reply, means_pop_request, means_serve, not_idle}
+use Rattle.abstract_machine.proofs.Lemmas.placement.{placed_change}
+use Rattle.abstract_machine.proofs.Lemmas.placement.{placed_nowhere, pop_reply, pop_reply_unnamed, pop_request, pop_request_unnamed, push_reply, push_request}
+use Rattle.abstract_machine.proofs.Lemmas.placement.{put_agree}
+use Rattle.abstract_machine.proofs.Lemmas.placement.{request_led, small_put, unnamed_idle}
 
 pub kept_stalled : {Core Pokes Entry : Type 0}
     → (z : Sizes) (P : Program Core Pokes Entry) (good : ℕ → Core → Type 0) (M : Machine Core) (group : ℕ → List ℕ) (owed : ℕ → Option ℕ)

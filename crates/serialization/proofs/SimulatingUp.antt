@@ -1,25 +1,28 @@
 -- A request goes up.
-use Rattle.placement.specs.Meaning.{Groups, joined}
-use Rattle.placement.proofs.Lemmas.{below_role, combination_joins, combining_meaning, combining_places, groups_joined, means_pop_request, means_push_request}
-use Rattle.placement.proofs.Lemmas.{not_idle, pop_request, pop_request_unnamed, push_request, records_none, request_further, request_led, small_put}
+use Rattle.abstract_machine.specs.placement.Meaning.{Groups, joined}
+use Rattle.abstract_machine.proofs.Lemmas.placement.{below_role, combining_meaning, combining_places, groups_joined, means_pop_request}
+use Rattle.abstract_machine.proofs.Lemmas.placement.{means_push_request}
+use Rattle.abstract_machine.proofs.Lemmas.placement.{not_idle, pop_request, pop_request_unnamed, push_request, records_none, request_further, request_led}
+use Rattle.abstract_machine.proofs.Lemmas.placement.{small_put}
 use Rattle.std.proofs.Common.{◌≡◌, ℕ, suc, ◌%◌, ◌<◌, ◌≤◌, true, false, List, [], ◌∷◌, ◌++◌, length, nat_lt, inl, inr, Option, Some, None, refl, sym, ap₂, ◌∙◌}
 use Rattle.std.proofs.Common.{subst, arith, ap}
 use Rattle.std.specs.Prelude.{if◌then◌else◌}
-use Rattle.messages.specs.declared.message.Request.{Request}
-use Rattle.messages.specs.declared.message.Record.{Record}
-use Rattle.messages.specs.Places.{put, In}
-use Rattle.messages.specs.Queues.{Combination, combination, unmarked}
-use Rattle.messages.specs.Network.{Sizes, wires, Net, put_requests, records_on}
-use Rattle.messages.specs.declared.moves.UpMove.TheVariants as up
-use Rattle.messages.specs.Moves.{queued, combined, accepted, up_from}
-use Rattle.omega_wires.specs.Wires.{wire_after}
-use Rattle.omega_wires.proofs.Lemmas.{path_suc}
-use Rattle.placement.specs.Roles.{Asking, Waiting, depth, Unnamed}
+use Rattle.abstract_machine.specs.messages.declared.message.Request.{Request}
+use Rattle.abstract_machine.specs.messages.declared.message.Record.{Record}
+use Rattle.abstract_machine.specs.messages.Places.{put, In}
+use Rattle.abstract_machine.specs.messages.Queues.{Combination, combination, unmarked}
+use Rattle.abstract_machine.specs.messages.Network.{Sizes, wires, Net, put_requests, records_on}
+use Rattle.abstract_machine.specs.messages.declared.moves.UpMove.TheVariants as up
+use Rattle.abstract_machine.specs.messages.Naming.{Unnamed}
+use Rattle.abstract_machine.specs.messages.Moves.{queued, combined, accepted, up_from}
+use Rattle.abstract_machine.specs.omega_wires.Wires.{wire_after}
+use Rattle.abstract_machine.proofs.Lemmas.omega_wires.{path_suc}
+use Rattle.abstract_machine.specs.placement.Roles.{Asking, Waiting, depth}
 use Rattle.abstract_machine.specs.Program.{Program, own_of, word_of, path_of}
 use Rattle.abstract_machine.specs.Machine.{Machine, Moved, with_net, went_up}
 use Rattle.serialization.specs.Order.{FlatMachine, flat_run}
 use Rattle.serialization.specs.Simulation.{Simulates, Kept}
-use Rattle.messages.proofs.Lemmas.{In-append_right, put_other}
+use Rattle.abstract_machine.proofs.Lemmas.messages.{In-append_right, combination_joins, put_other}
 use Rattle.serialization.proofs.Simulating.{kept_stalled, kept_plain}
 
 kept_moved : {Core Pokes Entry : Type 0}

@@ -1,9 +1,9 @@
 -- The serial order that the outcomes of steps give, and the flat machine that takes it.
 use Rattle.std.specs.Prelude.{ℕ, suc, List, [], ◌∷◌, ◌++◌, map, length, Option, Some, None}
-use Rattle.messages.specs.Places.{put}
-use Rattle.messages.specs.Queues.{applied}
-use Rattle.messages.specs.Network.{Sizes}
-use Rattle.placement.specs.Meaning.{joined}
+use Rattle.abstract_machine.specs.messages.Places.{put}
+use Rattle.abstract_machine.specs.messages.Queues.{applied}
+use Rattle.abstract_machine.specs.messages.Network.{Sizes}
+use Rattle.abstract_machine.specs.placement.Meaning.{joined}
 use Rattle.abstract_machine.specs.Program.{Program, Kind, Rests, Alone, Refers, Content, TurnOf, PokeOf, Entries}
 use Rattle.abstract_machine.specs.Machine.{Machine, Step, Outcome, Issued, Advanced, Retired, Combined, Served, Poked, Result, step}
 

@@ -1,7 +1,7 @@
 -- Serialization: the machine is the flat one that takes the serial order.
 use Rattle.std.specs.Prelude.{◌≡◌, ℕ, ◌+◌, ◌^◌, ◌<◌, ◌≤◌, Bool, true, false, ◌==◌, ◌||◌, List, [], ◌∷◌, ◌++◌, length, Some, None, if◌then◌else◌}
-use Rattle.messages.specs.Network.{Sizes}
-use Rattle.placement.specs.Roles.{Role}
+use Rattle.abstract_machine.specs.messages.Network.{Sizes}
+use Rattle.abstract_machine.specs.placement.Roles.{Role}
 use Rattle.abstract_machine.specs.Program.{Program, Keeps}
 use Rattle.abstract_machine.specs.Machine.{Machine, Step, Turn, Outcome, Issued, Retired, Served, step, IsIdle}
 use Rattle.serialization.specs.Order.{group_after, groups_after, Passed, FlatMachine, flat_run, flat_of, ran, outcomes, serial_order}

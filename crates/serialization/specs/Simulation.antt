@@ -1,9 +1,9 @@
 -- How a machine stands to the flat machine at any moment.
 use Rattle.std.specs.Prelude.{◌≡◌, ℕ, ◌^◌, ◌<◌, true, false, List, Option, Some, None, ◌⊎◌}
-use Rattle.messages.specs.Places.{put}
-use Rattle.messages.specs.Network.{Sizes, wires}
-use Rattle.placement.specs.Roles.{Role, Idle, Placed}
-use Rattle.placement.specs.Meaning.{Means, Groups, execute_all}
+use Rattle.abstract_machine.specs.messages.Places.{put}
+use Rattle.abstract_machine.specs.messages.Network.{Sizes, wires}
+use Rattle.abstract_machine.specs.placement.Roles.{Role, Idle, Placed}
+use Rattle.abstract_machine.specs.placement.Meaning.{Means, Groups, execute_all}
 use Rattle.abstract_machine.specs.Program.{Program, Refers, own_of, path_of, word_of}
 use Rattle.abstract_machine.specs.Machine.{Machine, Outcome, Served, Retired, Result}
 use Rattle.serialization.specs.Order.{FlatMachine, group_after, segment, flat_run}

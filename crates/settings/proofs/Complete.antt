@@ -13,10 +13,11 @@ use Rattle.clap.specs.Simple.{App, Shape, argument_words, built, built_leaf, ent
 use Rattle.clap.specs.Simple.{subcommand_of}
 use Rattle.clap.specs.Takes.{is_given}
 use Rattle.clap.specs.Walk.{Row, Text, answers_to, finished, nothing_held, rows_after, settled, walk, walk_from}
-use Rattle.settings.specs.Lines.{Bounds, asm_command, budget, check_command, debug_command, dis_command, explain_command, explore_command, hunt_command}
+use Rattle.settings.specs.Lines.{Bounds, asm_command, budget, check_command, combinations, debug_command, dis_command, explain_command, explore_command}
+use Rattle.settings.specs.Lines.{hunt_command}
 use Rattle.settings.specs.Lines.{order_command, port, processor, queue, records, picture_command, replay_command, run_command}
 use Rattle.settings.specs.Lines.{runs, shared_word, shared_words, stages, start, states}
-use Rattle.settings.specs.Lines.{stats_command, step, steps, story_command, ultra_command, words_command}
+use Rattle.settings.specs.Lines.{stats_command, step, steps, story_command, ultra_command, witness, words_command}
 use Rattle.settings.specs.Given.{HasAsm, HasDebug, HasDis, HasExplore, HasHunt, HasOrder, HasPath, HasPicture, HasReplay, HasRun, HasSizes, IsComplete, IsOneOf}
 use Rattle.settings.specs.Given.{IsWhole, command_names}
 use Rattle.settings.proofs.NoHelp.{IsNoHelp, StopsAtNoHelp, walk_stops}
@@ -154,12 +155,13 @@ dis_provided words e = whole (codes "dis") _ refl (
 abbrev Takes : Shape → Bounds → Type 0
 Takes s o = list_all (is_apart_or_number o.name o.low o.high) s.rules ≡ true
 
-sizes_there : (s : Shape) (words : List Text) → Takes s stages.bounds → Takes s queue.bounds → Takes s records.bounds → Takes s shared_words.bounds
-    → level_fault s [] nothing_held words false [] ≡ [] → HasSizes (rows_after s.rules [] words)
-sizes_there s words k c b n e = (
+sizes_there : (s : Shape) (words : List Text) → Takes s stages.bounds → Takes s queue.bounds → Takes s records.bounds
+    → Takes s combinations.bounds → Takes s shared_words.bounds → level_fault s [] nothing_held words false [] ≡ [] → HasSizes (rows_after s.rules [] words)
+sizes_there s words k c b r n e = (
   number_there s stages.bounds words k e,
   number_there s queue.bounds words c e,
   number_there s records.bounds words b e,
+  number_there s combinations.bounds words r e,
   number_there s shared_words.bounds words n e,
 )
 
@@ -167,7 +169,7 @@ run_provided : IsProvided (built_leaf run_command.top)
 unfolding commands
 run_provided words e = whole (codes "run") _ refl (
   required_there (built_leaf run_command.top) (codes "FILE") words refl (λ rows. required (is_given (codes "FILE") rows)) e,
-  sizes_there (built_leaf run_command.top) words refl refl refl refl e,
+  sizes_there (built_leaf run_command.top) words refl refl refl refl refl e,
   number_there (built_leaf run_command.top) budget.bounds words refl e,
   number_there (built_leaf run_command.top) start.bounds words refl e,
 )
@@ -205,7 +207,7 @@ debug_provided : IsProvided (built_leaf debug_command.top)
 unfolding commands
 debug_provided words e = whole (codes "debug") _ refl (
   required_there (built_leaf debug_command.top) (codes "FILE") words refl (λ rows. required (is_given (codes "FILE") rows)) e,
-  sizes_there (built_leaf debug_command.top) words refl refl refl refl e,
+  sizes_there (built_leaf debug_command.top) words refl refl refl refl refl e,
   number_there (built_leaf debug_command.top) steps.bounds words refl e,
   number_there (built_leaf debug_command.top) port.bounds words refl e,
 )
@@ -231,15 +233,16 @@ explore_provided : IsProvided (built_leaf explore_command.top)
 unfolding commands
 explore_provided words e = whole (codes "explore") _ refl (
   required_there (built_leaf explore_command.top) (codes "FILE") words refl (λ rows. required (is_given (codes "FILE") rows)) e,
-  sizes_there (built_leaf explore_command.top) words refl refl refl refl e,
+  sizes_there (built_leaf explore_command.top) words refl refl refl refl refl e,
   number_there (built_leaf explore_command.top) states.bounds words refl e,
+  number_there (built_leaf explore_command.top) witness words refl e,
 )
 
 hunt_provided : IsProvided (built_leaf hunt_command.top)
 unfolding commands
 hunt_provided words e = whole (codes "hunt") _ refl (
   required_there (built_leaf hunt_command.top) (codes "FILE") words refl (λ rows. required (is_given (codes "FILE") rows)) e,
-  sizes_there (built_leaf hunt_command.top) words refl refl refl refl e,
+  sizes_there (built_leaf hunt_command.top) words refl refl refl refl refl e,
   number_there (built_leaf hunt_command.top) steps.bounds words refl e,
   number_there (built_leaf hunt_command.top) runs.bounds words refl e,
   number_there (built_leaf hunt_command.top) start.bounds words refl e,

@@ -240,7 +240,7 @@ run_are file (asked.Run r) said =
       no_text r.trace said.1.1,
       unset r.sweep said.1.2.0,
       unset r.quiet said.1.3.0,
-      (sizes.0.0, sizes.1.0, sizes.2.0, sizes.3.0),
+      (sizes.0.0, sizes.1.0, sizes.2.0, sizes.3.0, sizes.4.0),
       budget.0,
       start.0,
     )
@@ -341,7 +341,7 @@ debug_are file (asked.Debug d) said =
     let sizes = said.1.1 in
     let budget = said.1.2 in
     let port = said.1.3 in
-    (same_text file d.file.now said.1.0, (sizes.0.0, sizes.1.0, sizes.2.0, sizes.3.0), budget.0, port.0)
+    (same_text file d.file.now said.1.0, (sizes.0.0, sizes.1.0, sizes.2.0, sizes.3.0, sizes.4.0), budget.0, port.0)
 debug_are file other said = apart (name_of other) (codes "debug") refl said.0
 
 -- `debug FILE` gives the file, and each number its default
@@ -389,22 +389,31 @@ stats_given trace file words named =
 
 -- ---- `explore FILE`
 
-explore_met : (program file : Text) → IsPlain file → Meets (program ∷ codes "explore" ∷ file ∷ []) (codes "explore") (file_rows file)
-unfolding row file_rows clap_on_literals commands
+explore_rows : (file : Text) → List Row
+explore_rows file = row (codes "FILE") file CommandLine ∷ row (codes "quiet") (codes "false") DefaultValue ∷ []
+
+explore_met : (program file : Text) → IsPlain file → Meets (program ∷ codes "explore" ∷ file ∷ []) (codes "explore") (explore_rows file)
+unfolding row explore_rows clap_on_literals commands
 explore_met program file h = rw (no_hyphens file h, no_hyphen file h, no_hyphen file h) (refl, refl)
 
-explore_are : (file : Text) (s : Settings) → (name_of s ≡ codes "explore") × AreOf (file_rows file) s → AreExploreOf file s
-unfolding name_of row file_rows
+explore_are : (file : Text) (s : Settings) → (name_of s ≡ codes "explore") × AreOf (explore_rows file) s → AreExploreOf file s
+unfolding name_of row explore_rows
 explore_are file (asked.Explore x) said =
-    let sizes = said.1.1 in
-    let states = said.1.2 in
-    (same_text file x.file.now said.1.0, (sizes.0.0, sizes.1.0, sizes.2.0, sizes.3.0), states.0)
+    let sizes = said.1.3 in
+    let states = said.1.4 in (
+      same_text file x.file.now said.1.0,
+      no_text x.trace said.1.1,
+      unset x.quiet said.1.2.0,
+      (sizes.0.0, sizes.1.0, sizes.2.0, sizes.3.0, sizes.4.0),
+      states.0,
+      said.1.5,
+    )
 explore_are file other said = apart (name_of other) (codes "explore") refl said.0
 
--- `explore FILE` gives the file, and each number its default
+-- `explore FILE` gives the file, no trace, no flag, no witness, and each number its default
 pub explore_given : (file : Text) (words : List Text) → NamesFile (codes "explore") file words → Give words (AreExploreOf file)
 explore_given file words named =
-    give (AreExploreOf file) words (codes "explore") (file_rows file) (rw named.1 (explore_met named.0 file named.2)) (explore_are file)
+    give (AreExploreOf file) words (codes "explore") (explore_rows file) (rw named.1 (explore_met named.0 file named.2)) (explore_are file)
 
 -- ---- `hunt FILE`
 
@@ -419,7 +428,7 @@ hunt_are file (asked.Hunt h) said =
     let budget = said.1.3 in
     let runs = said.1.4 in
     let start = said.1.5 in
-    (same_text file h.file.now said.1.0, no_text h.trace said.1.1, (sizes.0.0, sizes.1.0, sizes.2.0, sizes.3.0), budget.0, runs.0, start.0)
+    (same_text file h.file.now said.1.0, no_text h.trace said.1.1, (sizes.0.0, sizes.1.0, sizes.2.0, sizes.3.0, sizes.4.0), budget.0, runs.0, start.0)
 hunt_are file other said = apart (name_of other) (codes "hunt") refl said.0
 
 -- `hunt FILE` gives the file, no trace, and each number its default

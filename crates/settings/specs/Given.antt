@@ -2,8 +2,8 @@
 use Rattle.std.specs.Prelude.{◌≡◌, ◌⊎◌, pos, true, List, [], ◌∷◌, codes, Option, is_some, option_map}
 use Rattle.std.specs.Prelude.{IfSome, IsSomeAnd}
 use Rattle.clap.specs.Words.{IsSignedIn, Row, Text, first_of, one_of, without_minus}
-use Rattle.settings.specs.Lines.{Bounds, budget, port, processor, queue, records, runs, shared_word, shared_words, stages, start, states}
-use Rattle.settings.specs.Lines.{step, steps}
+use Rattle.settings.specs.Lines.{Bounds, budget, combinations, port, processor, queue, records, runs, shared_word, shared_words, stages, start, states}
+use Rattle.settings.specs.Lines.{step, steps, witness}
 
 abbrev pub HasPath : Text → List Row → Type 0
 HasPath id rows = is_some (first_of id rows) ≡ true
@@ -20,7 +20,8 @@ abbrev pub HasDis : List Row → Type 0
 HasDis rows = HasPath (codes "FILE") rows × HasNumber shared_words.bounds rows
 
 abbrev pub HasSizes : List Row → Type 0
-HasSizes rows = HasNumber stages.bounds rows × HasNumber queue.bounds rows × HasNumber records.bounds rows × HasNumber shared_words.bounds rows
+HasSizes rows = HasNumber stages.bounds rows × HasNumber queue.bounds rows × HasNumber records.bounds rows × HasNumber combinations.bounds rows
+    × HasNumber shared_words.bounds rows
 
 abbrev pub HasRun : List Row → Type 0
 HasRun rows = HasPath (codes "FILE") rows × HasSizes rows × HasNumber budget.bounds rows × HasNumber start.bounds rows
@@ -38,7 +39,7 @@ abbrev pub HasDebug : List Row → Type 0
 HasDebug rows = HasPath (codes "FILE") rows × HasSizes rows × HasNumber steps.bounds rows × HasNumber port.bounds rows
 
 abbrev pub HasExplore : List Row → Type 0
-HasExplore rows = HasPath (codes "FILE") rows × HasSizes rows × HasNumber states.bounds rows
+HasExplore rows = HasPath (codes "FILE") rows × HasSizes rows × HasNumber states.bounds rows × HasNumber witness rows
 
 abbrev pub HasHunt : List Row → Type 0
 HasHunt rows =

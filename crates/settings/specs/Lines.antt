@@ -47,6 +47,10 @@ queue = record { bounds = record { name = codes "c"; low = 2; high = 16 }; defau
 abbrev pub records : Ranged
 records = record { bounds = record { name = codes "b"; low = 0; high = 16 }; default = 4 }
 
+-- how often an entry of a queue is combined
+abbrev pub combinations : Ranged
+combinations = record { bounds = record { name = codes "r"; low = 1; high = 3 }; default = 1 }
+
 -- how many shared words the machine has
 abbrev pub shared_words : Ranged
 shared_words = record { bounds = record { name = codes "words"; low = 1; high = 262144 }; default = 1024 }
@@ -82,6 +86,10 @@ processor = record { name = codes "processor"; low = 0; high = 63 }
 -- the shared word on which the entries act that are asked for
 abbrev pub shared_word : Bounds
 shared_word = record { name = codes "word"; low = 0; high = 262143 }
+
+-- the result that a witness ends in
+abbrev pub witness : Bounds
+witness = record { name = codes "witness"; low = 0; high = 4294967295 }
 
 -- how many steps the machine has taken that is drawn
 abbrev pub step : Bounds
@@ -125,7 +133,7 @@ dis_command = with_number shared_words (with_file (new_app (codes "dis")))
 
 -- a machine's sizes
 abbrev pub with_sizes : App → App
-with_sizes a = with_number shared_words (with_number records (with_number queue (with_number stages a)))
+with_sizes a = with_number shared_words (with_number combinations (with_number records (with_number queue (with_number stages a))))
 
 unfoldable pub run_command : App
 run_command =
@@ -158,7 +166,9 @@ unfoldable pub picture_command : App
 picture_command = with_rule (replaying (codes "picture")) (number step)
 
 unfoldable pub explore_command : App
-explore_command = with_number states (with_sizes (with_file (new_app (codes "explore"))))
+explore_command =
+    with_rule (with_number states
+    (with_sizes (with_rule (with_rule (with_file (new_app (codes "explore"))) (option (codes "trace"))) (flag (codes "quiet"))))) (number witness)
 
 unfoldable pub hunt_command : App
 hunt_command =
@@ -216,7 +226,8 @@ IsChoice o rows n = MatchOption (first_of o.name rows) (n ≡ None)
 
 -- a machine's sizes
 abbrev pub AreSizes : List Row → Sizes → Type 0
-AreSizes rows s = IsNumber stages rows s.k × IsNumber queue rows s.c × IsNumber records rows s.b × IsNumber shared_words rows s.words
+AreSizes rows s = IsNumber stages rows s.k × IsNumber queue rows s.c × IsNumber records rows s.b × IsNumber combinations rows s.r
+    × IsNumber shared_words rows s.words
 
 abbrev pub IsWords : List Row → Words → Type 0
 IsWords rows w = IsPath (codes "FILE") rows w.file.now
@@ -250,7 +261,8 @@ abbrev pub IsSession : List Row → Session → Type 0
 IsSession rows d = IsPath (codes "FILE") rows d.file.now × AreSizes rows d.sizes × IsNumber steps rows d.budget × IsNumber port rows d.port
 
 abbrev pub IsExplore : List Row → Explore → Type 0
-IsExplore rows x = IsPath (codes "FILE") rows x.file.now × AreSizes rows x.sizes × IsNumber states rows x.states
+IsExplore rows x = IsPath (codes "FILE") rows x.file.now × IsOption (codes "trace") rows (option_map (λ t. t.now) x.trace)
+    × IsFlag (codes "quiet") rows x.quiet × AreSizes rows x.sizes × IsNumber states rows x.states × IsChoice witness rows x.witness
 
 abbrev pub IsHunt : List Row → Hunt → Type 0
 IsHunt rows h = IsPath (codes "FILE") rows h.file.now × IsOption (codes "trace") rows (option_map (λ prefix. prefix.now) h.trace) × AreSizes rows h.sizes

@@ -41,7 +41,7 @@ AreDisOf file other = ⊥
 
 -- a machine's sizes where none is given
 abbrev pub AreUsual : Sizes → Type 0
-AreUsual s = (s.k ≡ 2) × (s.c ≡ 4) × (s.b ≡ 4) × (s.words ≡ 1024)
+AreUsual s = (s.k ≡ 2) × (s.c ≡ 4) × (s.b ≡ 4) × (s.r ≡ 1) × (s.words ≡ 1024)
 
 -- the settings are those of `run FILE`: no trace, no flag, each number its default
 abbrev pub AreRunOf : Text → Settings → Type 0
@@ -93,9 +93,10 @@ abbrev pub ArePictureOf : (trace file : Text) → Settings → Type 0
 ArePictureOf trace file (asked.Picture p) = IsReplayOf trace file p.replay × (p.step ≡ None)
 ArePictureOf trace file other = ⊥
 
--- the settings are those of `explore FILE`: each number its default
+-- the settings are those of `explore FILE`: no trace, no flag, no witness, each number its default
 abbrev pub AreExploreOf : Text → Settings → Type 0
-AreExploreOf file (asked.Explore x) = (x.file.now ≡ file) × AreUsual x.sizes × (x.states ≡ 1000000)
+AreExploreOf file (asked.Explore x) = (x.file.now ≡ file) × (x.trace ≡ None) × (x.quiet ≡ false) × AreUsual x.sizes × (x.states ≡ 1000000)
+    × (x.witness ≡ None)
 AreExploreOf file other = ⊥
 
 -- the settings are those of `hunt FILE`: no trace, each number its default

@@ -28,6 +28,8 @@ pub struct Sizes {
     pub c: u8,
     /// How many records a wait buffer of a switch holds, from 0 to 16.
     pub b: u8,
+    /// How often an entry of a queue is combined, from 1 to 3.
+    pub r: u8,
     /// How many shared words the machine has, from 1 to 262,144.
     pub words: u32,
 }
@@ -138,10 +140,16 @@ pub struct Session<'a> {
 pub struct Explore<'a> {
     /// The image.
     pub file: &'a str,
+    /// Where the trace of a witness is written, if anywhere.
+    pub trace: Option<&'a str>,
+    /// Whether nothing is to be told of how far the search is.
+    pub quiet: bool,
     /// The sizes of the machine.
     pub sizes: Sizes,
     /// With how many states the search is given up, from 1.
     pub states: u32,
+    /// The number of the result that the witness ends in, or 0 for a state without a way to an end, if a witness is asked for.
+    pub witness: Option<u32>,
 }
 
 /// `hunt FILE`.

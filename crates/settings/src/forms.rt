@@ -11,8 +11,8 @@ use crate::help::{
     PICTURE_ENDS, REPLAY_ENDS, RUN_ENDS, STATS_ENDS, STORY_ENDS, WORDS_ENDS,
 };
 use crate::ranges::{
-    BUDGET, ChoiceOption, FIRST_START, NumberOption, PORT, PROCESSOR, QUEUE, RECORDS, RUN_STEPS,
-    RUNS, SHARED_WORD, SHARED_WORDS, STAGES, START, STATES, STEP, STEPS,
+    BUDGET, COMBINATIONS, ChoiceOption, FIRST_START, NumberOption, PORT, PROCESSOR, QUEUE, RECORDS,
+    RUN_STEPS, RUNS, SHARED_WORD, SHARED_WORDS, STAGES, START, STATES, STEP, STEPS, WITNESS,
 };
 
 /// A command of the program.
@@ -141,6 +141,7 @@ const RUN: CommandForm = CommandForm {
         Argument::Number(STAGES),
         Argument::Number(QUEUE),
         Argument::Number(RECORDS),
+        Argument::Number(COMBINATIONS),
         Argument::Number(SHARED_WORDS),
         Argument::Number(BUDGET),
         Argument::Number(START),
@@ -161,6 +162,7 @@ const HUNT: CommandForm = CommandForm {
         Argument::Number(STAGES),
         Argument::Number(QUEUE),
         Argument::Number(RECORDS),
+        Argument::Number(COMBINATIONS),
         Argument::Number(SHARED_WORDS),
         Argument::Number(RUN_STEPS),
         Argument::Number(RUNS),
@@ -174,11 +176,22 @@ const EXPLORE: CommandForm = CommandForm {
     about: "Print every final result that an image's program can have, on any schedule of the machine's steps",
     arguments: &[
         IMAGE,
+        Argument::Text {
+            name: "trace",
+            value: "OUT",
+            help: "Where to write the steps to the result that --witness names, for `ultra replay`; opened only once they are there",
+        },
+        Argument::Flag {
+            name: "quiet",
+            help: "Tell nothing of how far the search is, where standard error is a terminal",
+        },
         Argument::Number(STAGES),
         Argument::Number(QUEUE),
         Argument::Number(RECORDS),
+        Argument::Number(COMBINATIONS),
         Argument::Number(SHARED_WORDS),
         Argument::Number(STATES),
+        Argument::Choice(WITNESS),
     ],
     ends: EXPLORE_ENDS,
 };
@@ -237,6 +250,7 @@ const DEBUG: CommandForm = CommandForm {
         Argument::Number(STAGES),
         Argument::Number(QUEUE),
         Argument::Number(RECORDS),
+        Argument::Number(COMBINATIONS),
         Argument::Number(SHARED_WORDS),
         Argument::Number(STEPS),
         Argument::Number(PORT),

@@ -40,6 +40,15 @@ pub(crate) const RECORDS: NumberOption = NumberOption {
     help: "Records of combined requests that an output of a switch holds, 0 to 16; with 0 nothing is combined [default: 4]",
 };
 
+/// How often an entry of a queue is combined.
+pub(crate) const COMBINATIONS: NumberOption = NumberOption {
+    name: "r",
+    default: 1,
+    low: 1,
+    high: 3,
+    help: "Times that a request in a queue of a switch is combined, 1 to 3, and fewer than --c [default: 1]",
+};
+
 /// How many shared words the machine has.
 pub(crate) const SHARED_WORDS: NumberOption = NumberOption {
     name: "words",
@@ -138,6 +147,14 @@ pub(crate) const PROCESSOR: ChoiceOption = ChoiceOption {
     low: 0,
     high: 63,
     help: "Print the lines of this processor alone, 0 to 63",
+};
+
+/// The result that a witness ends in.
+pub(crate) const WITNESS: ChoiceOption = ChoiceOption {
+    name: "witness",
+    low: 0,
+    high: u32::MAX,
+    help: "Write the trace of a way to the result of this number, or with 0 to the first state without a way to an end; goes with --trace",
 };
 
 /// How many steps the machine has taken that is drawn.

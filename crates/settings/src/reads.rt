@@ -12,8 +12,8 @@ use crate::choice::{
     Words,
 };
 use crate::ranges::{
-    BUDGET, ChoiceOption, FIRST_START, NumberOption, PORT, PROCESSOR, QUEUE, RECORDS, RUN_STEPS,
-    RUNS, SHARED_WORD, SHARED_WORDS, STAGES, START, STATES, STEP, STEPS,
+    BUDGET, COMBINATIONS, ChoiceOption, FIRST_START, NumberOption, PORT, PROCESSOR, QUEUE, RECORDS,
+    RUN_STEPS, RUNS, SHARED_WORD, SHARED_WORDS, STAGES, START, STATES, STEP, STEPS, WITNESS,
 };
 use clap::ArgMatches;
 
@@ -165,6 +165,7 @@ fn sizes(matches: &ArgMatches<'_>) -> Sizes
         k: byte(matches, STAGES),
         c: byte(matches, QUEUE),
         b: byte(matches, RECORDS),
+        r: byte(matches, COMBINATIONS),
         words: number(matches, SHARED_WORDS),
     }
 }
@@ -242,8 +243,11 @@ fn explore<'a>(matches: &ArgMatches<'a>) -> Explore<'a>
 {
     Explore {
         file: path(matches, "FILE"),
+        trace: option(matches, "trace"),
+        quiet: flag(matches, "quiet"),
         sizes: sizes(matches),
         states: number(matches, STATES),
+        witness: choice(matches, WITNESS),
     }
 }
 

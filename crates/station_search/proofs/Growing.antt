@@ -1,36 +1,39 @@
 -- Rows mean the same in tables that have grown.
-use Rattle.std.proofs.Common.{◌≡◌, ℕ, List, [], ◌∷◌, ◌++◌, refl, sym, ap, ◌∙◌, arith, length-append}
+use Rattle.std.proofs.Common.{◌≡◌, ℕ, Bool, List, [], ◌∷◌, ◌++◌, refl, sym, ap, ◌∙◌, arith, length-append}
 use Rattle.std.specs.Prelude.{slice_index}
 use Rattle.std.proofs.lemmas.List.{get_or_append_left}
-use Rattle.alone.specs.Closing.{if_running}
+use Rattle.live_registers.specs.Forgetting.{kept_by}
 use Rattle.station_search.specs.declared.tables.Extent.{Extent}
 use Rattle.station_search.specs.Placed.{Placed}
 use Rattle.station_search.specs.Tables.{TableLists, nowhere, placed_at, words_at, IsKept, means, IsRow}
 use Rattle.station_search.proofs.Lemmas.{listed_same}
 
 pub kept_all : (t : TableLists) → IsKept t t
-kept_all t = record { stations = omega arith; words = omega arith; same_station = λ i l. refl; same_words = λ i l. refl }
+kept_all t = record { live = refl; stations = omega arith; words = omega arith; same_station = λ i l. refl; same_words = λ i l. refl }
 
 pub kept_on : (t u v : TableLists) → IsKept t u → IsKept u v → IsKept t v
 kept_on t u v h k = record {
+  live = k.live ∙ h.live;
   stations = omega (arith, h.stations, k.stations);
   words = omega (arith, h.words, k.words);
   same_station = λ i l. k.same_station i (omega (arith, l, h.stations)) ∙ h.same_station i l;
   same_words = λ i l. k.same_words i (omega (arith, l, h.words)) ∙ h.same_words i l;
 }
 
-pub station_pushed : (stations : List Placed) (words : List (List ℕ)) (a : Placed) →
-    IsKept (record { stations = stations; words = words }) (record { stations = stations ++ a ∷ []; words = words })
-station_pushed stations words a = record {
+pub station_pushed : (live : List (List Bool)) (stations : List Placed) (words : List (List ℕ)) (a : Placed) →
+    IsKept (record { live = live; stations = stations; words = words }) (record { live = live; stations = stations ++ a ∷ []; words = words })
+station_pushed live stations words a = record {
+  live = refl;
   stations = omega (arith, length-append stations (a ∷ []));
   words = omega arith;
   same_station = λ i l. get_or_append_left stations (a ∷ []) nowhere i l;
   same_words = λ i l. refl;
 }
 
-pub words_pushed : (stations : List Placed) (words : List (List ℕ)) (list : List ℕ) →
-    IsKept (record { stations = stations; words = words }) (record { stations = stations; words = words ++ list ∷ [] })
-words_pushed stations words list = record {
+pub words_pushed : (live : List (List Bool)) (stations : List Placed) (words : List (List ℕ)) (list : List ℕ) →
+    IsKept (record { live = live; stations = stations; words = words }) (record { live = live; stations = stations; words = words ++ list ∷ [] })
+words_pushed live stations words list = record {
+  live = refl;
   stations = omega arith;
   words = omega (arith, length-append words (list ∷ []));
   same_station = λ i l. refl;
@@ -47,9 +50,9 @@ module _ (e : Extent) (t u : TableLists) (row : List ℕ) (kept : IsKept t u) (h
 
   pub means_kept : means e t row ≡ means e u row
   means_kept =
-      let stations = listed_same (λ p. if_running (placed_at u (slice_index row p)).station) e.processors
-      (λ p. if_running (placed_at t (slice_index row p)).station)
-      (λ p l. ap (λ (a : Placed). if_running a.station) (sym (kept.same_station (slice_index row p) (h.there p l)))) in
+      let stations = listed_same (λ p. kept_by u.live (placed_at u (slice_index row p)).station) e.processors
+      (λ p. kept_by t.live (placed_at t (slice_index row p)).station)
+      (λ p l. λ i. kept_by (sym kept.live i) (sym (kept.same_station (slice_index row p) (h.there p l)) i).station) in
       let shared = listed_same (slice_index (words_at u (slice_index row 8))) e.shared_words (slice_index (words_at t (slice_index row 8)))
       (λ i l. ap (λ list. slice_index list i) (sym (kept.same_words (slice_index row 8) h.words))) in
       λ i. record { stations = stations i; shared = shared i }

@@ -1,9 +1,12 @@
--- Lists of what a function gives at each place, and places of lists.
-use Rattle.std.proofs.Common.{◌≡◌, ◌≢◌, ◌⊎◌, inl, inr, ℕ, ◌<◌, ◌≤◌, zero, suc, List, [], ◌∷◌, Some, None, length, map, refl, sym, ap, subst, ◌∙◌, arith}
+-- Lists of what a function gives at each place, places of lists, and ways that go on.
+use Rattle.std.proofs.Common.{◌≡◌, ◌≢◌, ◌⊎◌, inl, inr, ℕ, ◌<◌, ◌≤◌, zero, suc, List, [], ◌∷◌, ◌++◌, Some, None, length, map, refl, sym, ap, subst, ◌∙◌, arith}
 use Rattle.std.specs.Prelude.{slice_get, slice_set, slice_index_or}
 use Rattle.std.specs.List.{range_with_len}
 use Rattle.std.proofs.lemmas.Bool.{cases_eq}
 use Rattle.std.proofs.lemmas.List.{length-set, get_or-set_same, get_or-set_other}
+use Rattle.flat_machine.specs.declared.setting.Setting.{Setting}
+use Rattle.alone.specs.Stations.{Station}
+use Rattle.alone.specs.Closing.{Standing, IsMove, IsWay}
 use Rattle.std.proofs.lemmas.List.FromFn.{length-map-range_with_len, get_or-map-range_with_len, fill_by_all}
 
 pub there : {X : Type 0} (xs : List X) (k : ℕ) (d : X) → k < length xs → slice_get xs k ≡ Some (slice_index_or xs k d)
@@ -61,3 +64,10 @@ module _ {X : Type 0} (f : ℕ → X) (n : ℕ) where
           ap (λ j. slice_index_or (slice_set listed k x) j x) same
           ∙ (get_or-set_same listed k x x (subst (λ m. k < m) (sym (length-map-range_with_len f 0 n)) within) ∙ (sym here ∙ ap g (sym same)))
       at i l (inr other) = get_or-set_other listed k i x x other ∙ (listed_at i x l ∙ sym (others i other l))
+
+-- a way with one move behind it
+module _ (at : ℕ → Setting) (code : List ℕ) (kept : Station → Station) where
+  pub way_on : (way : List (ℕ × Standing)) (s u t : Standing) (k : ℕ) → IsWay at code kept s way u → IsMove at code kept u k t →
+      IsWay at code kept s (way ++ (k, t) ∷ []) t
+  way_on [] s u t k w m = (subst (λ v. IsMove at code kept v k t) (sym w) m, refl)
+  way_on ((j, v) ∷ way) s u t k w m = (w.0, way_on way v u t k w.1 m)

@@ -7,3 +7,5 @@ pub mod Moving
 pub mod Searching
 pub mod Ending
 pub mod Opened
+pub mod Scheduling
+pub mod Clearing

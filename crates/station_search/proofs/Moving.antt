@@ -4,8 +4,8 @@ use Rattle.std.proofs.Common.{true≢false, List, [], Some, length, refl, sym, a
 use Rattle.std.specs.Prelude.{slice_set, slice_index}
 use Rattle.std.proofs.lemmas.Bool.{cases_eq}
 use Rattle.std.proofs.lemmas.List.{length-set, get_or-set_same, get_or-set_other}
-use Rattle.phi_algebra.specs.declared.phi.Phi.{Phi}
-use Rattle.phi_algebra.specs.Functions.{apply}
+use Rattle.hart.specs.phi_algebra.declared.phi.Phi.{Phi}
+use Rattle.hart.specs.phi_algebra.Functions.{apply}
 use Rattle.flat_machine.specs.declared.setting.Setting.{Setting}
 use Rattle.flat_machine.specs.declared.event.Retired.{Retired}
 use Rattle.flat_machine.specs.State.{Processor, is_running}
@@ -15,7 +15,10 @@ use Rattle.hart.specs.declared.decision.Decision.{Decision}
 use Rattle.hart.specs.declared.decision.Decision.TheVariants.{Local, Refer, Halt, Fault}
 use Rattle.hart.specs.Deciding.{Decides, after_reply}
 use Rattle.alone.specs.Stations.{Station, behind, alone, IsSettled, IsReference}
-use Rattle.alone.specs.Closing.{if_running, Standing, gone}
+use Rattle.alone.specs.Closing.{IsAlike, IsForgetful, Standing, gone, IsMove}
+use Rattle.alone.specs.Laws.{MovesOfWhatIsKept}
+use Rattle.live_registers.specs.Live.{HasAllLive}
+use Rattle.live_registers.specs.Forgetting.{with_live, kept_by, DeadAreForgotten}
 use Rattle.station_search.specs.declared.tables.Extent.{Extent}
 use Rattle.station_search.specs.Placed.{Placed}
 use Rattle.station_search.specs.Words.{IsWritten}
@@ -24,8 +27,22 @@ use Rattle.station_search.specs.Search.{IsNext, MayMove}
 use Rattle.station_search.proofs.Lemmas.{listed_at, listed_there, listed_is, listed_set}
 use Rattle.station_search.proofs.Growing.{kept_on}
 
-pub running_kept : (a : Station) → is_running a.processor.status ≡ true → if_running a ≡ a
-running_kept a r = rw r refl
+-- of two turns that go the same way both refer to a word, or none does
+pub refers_too : (kept : Station → Station) (a b : Station) (x y : Turn) → IsAlike kept a b x y → IsReference x → IsReference y
+refers_too kept a b (Retires p r) y h w = absurd w
+refers_too kept a b (Reaches w c f) (Retires p r) h i = absurd h
+refers_too kept a b (Reaches w c f) (Reaches v d g) h i = tt
+refers_too kept a b (Reaches w c f) (Stops d) h i = absurd h
+refers_too kept a b (Stops c) y h w = absurd w
+
+pub referred_too : (kept : Station → Station) (a b : Station) (x y : Turn) → IsAlike kept a b x y → IsReference y → IsReference x
+referred_too kept a b (Retires p r) (Retires q o) h w = absurd w
+referred_too kept a b (Retires p r) (Reaches w c f) h i = absurd h
+referred_too kept a b (Retires p r) (Stops d) h i = absurd h
+referred_too kept a b (Reaches w c f) y h i = tt
+referred_too kept a b (Stops c) (Retires p r) h i = absurd h
+referred_too kept a b (Stops c) (Reaches w d f) h i = absurd h
+referred_too kept a b (Stops c) (Stops d) h i = absurd i
 
 -- what a core decides of a turn that refers to a word
 pub record IsReferred (word before value : ℕ) (turn : Turn) : Type 0 where
@@ -138,19 +155,24 @@ module _ (e : Extent) (code : List ℕ) (t u v : TableLists) (row next : List �
     settled : IsSettled (setting_at e p) code (turned (setting_at e p, slice_index s.shared word)).processor
     settled = subst (λ (z : Setting × ℕ). IsSettled z.0 code (turned z).processor) both (h.behind.settled (h.refers.after before) replied)
 
-    here_after : if_running (placed_at v (slice_index next p)).station ≡ if_running (turned (setting_at e p, slice_index s.shared word))
-    here_after =
-        ap (λ i. if_running (placed_at v i).station) next_own
-        ∙ (ap (λ (a : Placed). if_running a.station) at_number
-        ∙ (h.behind.gone (h.refers.after before) replied ∙ ap (λ z. if_running (turned z)) both))
+    gone_there : kept_by v.live (placed_at u number).station ≡ kept_by v.live (turned (here.setting, before))
+    gone_there =
+        subst (λ live. kept_by live (placed_at u number).station ≡ kept_by live (turned (here.setting, before))) (sym h.then_kept.live)
+        (h.behind.gone (h.refers.after before) replied)
 
-    leaves : means e v next ≡ gone s p (if_running (turned (setting_at e p, slice_index s.shared word))) word (h.refers.change (slice_index s.shared word))
+    here_after : kept_by v.live (placed_at v (slice_index next p)).station ≡ kept_by v.live (turned (setting_at e p, slice_index s.shared word))
+    here_after =
+        ap (λ i. kept_by v.live (placed_at v i).station) next_own
+        ∙ (ap (λ (a : Placed). kept_by v.live a.station) at_number ∙ (gone_there ∙ ap (λ z. kept_by v.live (turned z)) both))
+
+    leaves : means e v next
+        ≡ gone s p (kept_by v.live (turned (setting_at e p, slice_index s.shared word))) word (h.refers.change (slice_index s.shared word))
     unfolding s
     leaves =
-        let stations = listed_set (λ q. if_running (placed_at t (slice_index row q)).station) e.processors
-        (λ q. if_running (placed_at v (slice_index next q)).station) p
-        (if_running (turned (setting_at e p, slice_index s.shared word))) h.few here_after
-        (λ q other few. ap (λ (a : Placed). if_running a.station) (at_other q other few)) in
+        let stations = listed_set (λ q. kept_by t.live (placed_at t (slice_index row q)).station) e.processors
+        (λ q. kept_by v.live (placed_at v (slice_index next q)).station) p
+        (kept_by v.live (turned (setting_at e p, slice_index s.shared word))) h.few here_after
+        (λ q other few. λ i. kept_by (kept.live i) (at_other q other few i).station) in
         let lists : words_at u (slice_index row 8) ≡ words_at t (slice_index row 8) = h.first_kept.same_words (slice_index row 8) h.row_is.words in
         let shared = listed_set (slice_index (words_at t (slice_index row 8))) e.shared_words
         (slice_index (words_at v (slice_index next 8))) word (h.refers.change (slice_index s.shared word)) named
@@ -160,34 +182,27 @@ module _ (e : Extent) (code : List ℕ) (t u v : TableLists) (row next : List �
         ∙ (h.written_is.others i other ∙ ap (λ list. slice_index list i) lists)) in
         λ i. record { stations = stations i; shared = shared i }
 
-    pub looked : IsNext e code v (means e t row) p (Some next)
+    pub looked : MovesOfWhatIsKept → DeadAreForgotten → HasAllLive code t.live → IsNext e code v (means e t row) p (Some next)
     unfolding s
-    looked = (
+    looked moves forgotten right = (
       next_row,
-      record {
-        station = here.station;
-        there = listed_there (λ q. if_running (placed_at t (slice_index row q)).station) e.processors p h.few
-            ∙ ap Some (running_kept here.station h.runs);
-        runs = h.runs;
-        word = word;
-        change = h.refers.change;
-        after = h.refers.after;
-        turn = ap (λ z. turn_of z code here.station.processor) (sym own) ∙ h.refers.is;
-        count = h.behind.count;
-        settled = settled;
-        leaves = leaves;
-      },
+      subst (IsMove (setting_at e) code (kept_by v.live) s p) (sym leaves)
+          (moves (setting_at e) code (kept_by v.live) s p here.station word h.refers.change h.refers.after h.behind.count
+          (forgotten (setting_at e) code v.live (subst (HasAllLive code) (sym kept.live) right))
+          (listed_there (λ q. kept_by t.live (placed_at t (slice_index row q)).station) e.processors p h.few
+          ∙ ap (λ live. Some (kept_by live here.station)) (sym kept.live))
+          h.runs (ap (λ z. turn_of z code here.station.processor) (sym own) ∙ h.refers.is) settled),
     )
 
 -- ---- no move
 
-pub kept_runs : (a : Station) → is_running (if_running a).processor.status ≡ is_running a.processor.status
-kept_runs a = by (is_running a.processor.status)
+pub kept_runs : (live : List (List Bool)) (a : Station) → is_running (kept_by live a).processor.status ≡ is_running a.processor.status
+kept_runs live a = by (is_running a.processor.status)
   where
     forgotten : Station
     forgotten = record a { processor = record a.processor { registers = []; local = [] } }
 
-    by : (b : Bool) → is_running (cond b a forgotten).processor.status ≡ is_running a.processor.status
+    by : (b : Bool) → is_running (cond b (with_live live a) forgotten).processor.status ≡ is_running a.processor.status
     by true = refl
     by false = refl
 
@@ -208,16 +223,20 @@ module _ (e : Extent) (code : List ℕ) (t : TableLists) (row : List ℕ) (p : �
   abbrev stands : Placed
   stands = placed_at t (slice_index row p)
 
-  station_is : (m : MayMove e code (means e t row) p) → if_running stands.station ≡ m.station
-  station_is m = (listed_is (λ q. if_running (placed_at t (slice_index row q)).station) e.processors p m.station m.there).1
+  station_is : (m : MayMove e code (means e t row) p) → kept_by t.live stands.station ≡ m.station
+  station_is m = (listed_is (λ q. kept_by t.live (placed_at t (slice_index row q)).station) e.processors p m.station m.there).1
 
   runs : (m : MayMove e code (means e t row) p) → is_running stands.station.processor.status ≡ true
-  runs m = sym (kept_runs stands.station) ∙ (ap (λ (a : Station). is_running a.processor.status) (station_is m) ∙ m.runs)
+  runs m = sym (kept_runs t.live stands.station) ∙ (ap (λ (a : Station). is_running a.processor.status) (station_is m) ∙ m.runs)
 
   pub stopped_has_none : is_running stands.station.processor.status ≡ false → MayMove e code (means e t row) p → ⊥
   stopped_has_none stopped m = true≢false (sym (runs m) ∙ stopped)
 
-  pub local_has_none : (IsReference (turn_of stands.setting code stands.station.processor) → ⊥) → MayMove e code (means e t row) p → ⊥
-  local_has_none local m =
-      let is : m.station ≡ stands.station = sym (station_is m) ∙ running_kept stands.station (runs m) in
-      local (subst (λ (z : Setting × Station). IsReference (turn_of z.0 code z.1.processor)) (λ i. (sym (h.own p few) i, is i)) m.refers)
+  pub local_has_none : IsForgetful (setting_at e) code (kept_by t.live) → (IsReference (turn_of stands.setting code stands.station.processor) → ⊥) →
+      MayMove e code (means e t row) p → ⊥
+  local_has_none forgets local m =
+      let kept : IsReference (turn_of (setting_at e p) code (kept_by t.live stands.station).processor) =
+      subst (λ (a : Station). IsReference (turn_of (setting_at e p) code a.processor)) (sym (station_is m)) m.refers in
+      let own : IsReference (turn_of (setting_at e p) code stands.station.processor) =
+      refers_too (kept_by t.live) (kept_by t.live stands.station) stands.station _ _ (forgets.turn p stands.station (runs m)) kept in
+      local (subst (λ (z : Setting). IsReference (turn_of z code stands.station.processor)) (sym (h.own p few)) own)

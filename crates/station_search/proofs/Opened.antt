@@ -8,9 +8,10 @@ use Rattle.flat_machine.specs.declared.setting.Setting.{Setting}
 use Rattle.flat_machine.specs.State.{Processor}
 use Rattle.hart.specs.State.{CoreState}
 use Rattle.alone.specs.Stations.{alone, IsSettled}
-use Rattle.alone.specs.Closing.{if_running, station_of, Settles}
+use Rattle.alone.specs.Closing.{station_of, Settles}
+use Rattle.live_registers.specs.Forgetting.{kept_by}
 use Rattle.station_search.specs.declared.tables.Extent.{Extent}
-use Rattle.station_search.specs.Placed.{Placed}
+use Rattle.station_search.specs.Placed.{Placed, placed_of}
 use Rattle.station_search.specs.Words.{HasSameWords}
 use Rattle.station_search.specs.Tables.{TableLists, placed_at, words_at, IsKept, setting_at, means, IsRow}
 use Rattle.station_search.specs.Opening.{AreOfExtent, flat_of, IsOpened}
@@ -37,7 +38,8 @@ opened_kept code c t u number kept h =
       there = omega (arith, h.there, kept.stations);
       setting = ap (λ (a : Placed). a.setting) same ∙ h.setting;
       count = h.count;
-      gone = ap (λ (a : Placed). if_running a.station) same ∙ h.gone;
+      gone = subst (λ live. kept_by live (placed_at u number).station ≡ kept_by live (alone h.count c.setting code (placed_of c).station)) (sym kept.live)
+          (ap (λ (a : Placed). kept_by t.live a.station) same ∙ h.gone);
       settled = h.settled;
     }
 
@@ -97,7 +99,7 @@ module _ (e : Extent) (code : List ℕ) (cores : List CoreState) (words : List �
     words = subst (λ i. i < length u.words) (sym at_words) words_there;
   }
 
-  pub first_settles : Settles (setting_at e) code if_running (flat_of code cores words) (λ k. []) (means e u (slice_set row 8 number))
+  pub first_settles : Settles (setting_at e) code (kept_by u.live) (flat_of code cores words) (λ k. []) (means e u (slice_set row 8 number))
   unfolding first
   first_settles = record {
     settings = λ k. (λ i. record {
@@ -108,20 +110,20 @@ module _ (e : Extent) (code : List ℕ) (cores : List CoreState) (words : List �
     code_is = refl;
     shared = sym (fill_by_all (slice_index (words_at u (slice_index first 8))) words e.shared_words 0 wide
         (λ k l. sym (ap (λ i. slice_index (words_at u i) k) at_words ∙ same.same k)));
-    all = length-map-range_with_len (λ p. if_running (placed_at u (slice_index first p)).station) 0 e.processors
+    all = length-map-range_with_len (λ p. kept_by u.live (placed_at u (slice_index first p)).station) 0 e.processors
         ∙ (sym of_extent.all ∙ sym (length-map cores (λ (c : CoreState). c.state)));
     each = λ k p found. by k p (unmapped (λ (c : CoreState). c.state) cores k p found);
   }
     where
       by : (k : ℕ) (p : Processor) → (c : CoreState) × (slice_get cores k ≡ Some c) × (c.state ≡ p) →
-          (n : ℕ) × (slice_get (means e u first).stations k ≡ Some (if_running (alone n (setting_at e k) code (station_of p []))))
+          (n : ℕ) × (slice_get (means e u first).stations k ≡ Some (kept_by u.live (alone n (setting_at e k) code (station_of p []))))
           × IsSettled (setting_at e k) code (alone n (setting_at e k) code (station_of p [])).processor
       by k p x =
           let few : k < e.processors = subst (λ n. k < n) of_extent.all (found_at cores k x.0 x.0 x.1).0 in
           let o = opened_at k x.0 few x.1 in
           let both : (x.0.setting, x.0.state) ≡ (setting_at e k, p) = λ i. (of_extent.settings k x.0 x.1 i, x.2 i) in (
             o.count,
-            listed_there (λ q. if_running (placed_at u (slice_index first q)).station) e.processors k few
-                ∙ ap Some (o.gone ∙ ap (λ (z : Setting × Processor). if_running (alone o.count z.0 code (station_of z.1 []))) both),
+            listed_there (λ q. kept_by u.live (placed_at u (slice_index first q)).station) e.processors k few
+                ∙ ap Some (o.gone ∙ ap (λ (z : Setting × Processor). kept_by u.live (alone o.count z.0 code (station_of z.1 []))) both),
             subst (λ (z : Setting × Processor). IsSettled z.0 code (alone o.count z.0 code (station_of z.1 [])).processor) both o.settled,
           )

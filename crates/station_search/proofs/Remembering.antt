@@ -6,7 +6,10 @@ use Rattle.std.proofs.lemmas.Bool.Decides.{Decides-eqb}
 use Rattle.std.proofs.lemmas.Slice.Eq.{slice_eq-Decides}
 use Rattle.std.specs.Prelude.{slice_index}
 use Rattle.std.specs.Map.{lookup, KeepsOthers}
-use Rattle.alone.specs.Closing.{if_running}
+use Rattle.flat_machine.specs.declared.event.Retired.{Retired}
+use Rattle.flat_machine.specs.State.{Processor}
+use Rattle.alone.specs.Stations.{behind, alone}
+use Rattle.live_registers.specs.Forgetting.{kept_by}
 use Rattle.station_search.specs.Placed.{Placed}
 use Rattle.station_search.specs.Words.{IsWritten}
 use Rattle.station_search.specs.Tables.{TableLists, placed_at, words_at, IsKept, IsBehind}
@@ -20,7 +23,9 @@ behind_kept code before old t u number kept h =
       there = omega (arith, h.there, kept.stations);
       setting = ap (λ (a : Placed). a.setting) same ∙ h.setting;
       count = h.count;
-      gone = λ done is. ap (λ (a : Placed). if_running a.station) same ∙ h.gone done is;
+      gone = λ (done : Processor × Retired) is.
+          subst (λ live. kept_by live (placed_at u number).station ≡ kept_by live (alone h.count old.setting code (behind old.station done))) (sym kept.live)
+          (ap (λ (a : Placed). kept_by t.live a.station) same ∙ h.gone done is);
       settled = h.settled;
     }
 

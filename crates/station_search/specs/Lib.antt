@@ -5,3 +5,4 @@ pub mod Memo
 pub mod Search
 pub mod Ends
 pub mod Opening
+pub mod Scheduled

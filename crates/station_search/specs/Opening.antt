@@ -3,7 +3,7 @@ use Rattle.std.specs.Prelude.{◌≡◌, ℕ, ◌<◌, List, length, map, slice_
 use Rattle.flat_machine.specs.State.{FlatState}
 use Rattle.hart.specs.State.{CoreState}
 use Rattle.alone.specs.Stations.{alone, IsSettled}
-use Rattle.alone.specs.Closing.{if_running}
+use Rattle.live_registers.specs.Forgetting.{kept_by}
 use Rattle.station_search.specs.declared.tables.Extent.{Extent}
 use Rattle.station_search.specs.Placed.{placed_of}
 use Rattle.station_search.specs.Tables.{TableLists, placed_at, setting_at}
@@ -22,5 +22,5 @@ pub record IsOpened (code : List ℕ) (c : CoreState) (t : TableLists) (number :
   pub there : number < length t.stations
   pub setting : (placed_at t number).setting ≡ c.setting
   pub count : ℕ
-  pub gone : if_running (placed_at t number).station ≡ if_running (alone count c.setting code (placed_of c).station)
+  pub gone : kept_by t.live (placed_at t number).station ≡ kept_by t.live (alone count c.setting code (placed_of c).station)
   pub settled : IsSettled c.setting code (alone count c.setting code (placed_of c).station).processor

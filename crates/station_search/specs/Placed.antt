@@ -1,5 +1,5 @@
 -- Stations with what their processors know of their machine, and what they do.
-use Rattle.std.specs.Prelude.{◌≡◌, ℕ, List, [], Some}
+use Rattle.std.specs.Prelude.{◌≡◌, ℕ, Bool, List, [], Some}
 use Rattle.flat_machine.specs.declared.setting.Setting.{Setting}
 use Rattle.flat_machine.specs.declared.event.Retired.{Retired}
 use Rattle.flat_machine.specs.State.{Processor}
@@ -8,6 +8,7 @@ use Rattle.hart.specs.State.{CoreState}
 use Rattle.hart.specs.Deciding.{after_reply}
 use Rattle.alone.specs.Stations.{Station, behind, with_byte, alone, alone_once, IsSettled}
 use Rattle.alone.specs.Closing.{if_running}
+use Rattle.live_registers.specs.Forgetting.{kept_by}
 
 pub record Placed : Type 0 where
   pub setting : Setting
@@ -21,10 +22,15 @@ placed_of c = record { setting = c.setting; station = record { processor = c.sta
 abbrev pub printing : Placed → Retired → Placed
 printing a retired = record a { station = record a.station { console = with_byte a.station.console retired.out } }
 
--- They are of one processor, and the same is kept of them.
-pub record IsSame (a b : Placed) : Type 0 where
+-- They are of one processor, and equal but for what is held by one that has stopped.
+pub record IsEqual (a b : Placed) : Type 0 where
   pub setting : a.setting ≡ b.setting
-  pub kept : if_running a.station ≡ if_running b.station
+  pub equal : if_running a.station ≡ if_running b.station
+
+-- They are of one processor, and the same is kept of them.
+pub record IsSame (live : List (List Bool)) (a b : Placed) : Type 0 where
+  pub setting : a.setting ≡ b.setting
+  pub kept : kept_by live a.station ≡ kept_by live b.station
 
 -- A reference to a word that had this value before leads from the old to the new.
 pub record HasRetired (code : List ℕ) (before : ℕ) (old new : Placed) : Type 0 where

@@ -1,5 +1,5 @@
 -- Tables of stations and of lists of words, and what rows of their numbers mean.
-use Rattle.std.specs.Prelude.{◌≡◌, ℕ, ◌<◌, ◌≤◌, List, [], Some, length, map, slice_index, slice_index_or}
+use Rattle.std.specs.Prelude.{◌≡◌, ℕ, ◌<◌, ◌≤◌, Bool, List, [], Some, length, map, slice_index, slice_index_or}
 use Rattle.std.specs.List.{range_with_len}
 use Rattle.flat_machine.specs.declared.setting.Setting.{Setting}
 use Rattle.flat_machine.specs.declared.event.Retired.{Retired}
@@ -8,11 +8,14 @@ use Rattle.flat_machine.specs.State.{Processor}
 use Rattle.flat_machine.specs.Turns.{turn_of}
 use Rattle.hart.specs.Deciding.{after_reply}
 use Rattle.alone.specs.Stations.{behind, alone, IsSettled}
-use Rattle.alone.specs.Closing.{if_running, Standing}
+use Rattle.alone.specs.Closing.{Standing}
+use Rattle.live_registers.specs.Forgetting.{kept_by}
 use Rattle.station_search.specs.declared.tables.Extent.{Extent}
 use Rattle.station_search.specs.Placed.{Placed}
 
+-- Beside them which registers are live at each word of code: what the others hold is not kept of a station.
 pub record TableLists : Type 0 where
+  pub live : List (List Bool)
   pub stations : List Placed
   pub words : List (List ℕ)
 
@@ -33,6 +36,7 @@ words_at t i = slice_index_or t.words i []
 
 -- What has a number in the old tables has it in the new ones.
 pub record IsKept (old new : TableLists) : Type 0 where
+  pub live : new.live ≡ old.live
   pub stations : length old.stations ≤ length new.stations
   pub words : length old.words ≤ length new.words
   pub same_station : (i : ℕ) → i < length old.stations → placed_at new i ≡ placed_at old i
@@ -47,7 +51,7 @@ setting_at e p = record { number = p; processors = e.processors; shared_words = 
 -- the state that a row means
 abbrev pub means : Extent → TableLists → (row : List ℕ) → Standing
 means e t row = record {
-  stations = map (λ p. if_running (placed_at t (slice_index row p)).station) (range_with_len 0 e.processors);
+  stations = map (λ p. kept_by t.live (placed_at t (slice_index row p)).station) (range_with_len 0 e.processors);
   shared = map (slice_index (words_at t (slice_index row 8))) (range_with_len 0 e.shared_words);
 }
 
@@ -64,6 +68,6 @@ pub record IsBehind (code : List ℕ) (before : ℕ) (old : Placed) (t : TableLi
   pub setting : (placed_at t number).setting ≡ old.setting
   pub count : ℕ
   pub gone : (done : Processor × Retired) → after_reply (turn_of old.setting code old.station.processor) before ≡ Some done →
-      if_running (placed_at t number).station ≡ if_running (alone count old.setting code (behind old.station done))
+      kept_by t.live (placed_at t number).station ≡ kept_by t.live (alone count old.setting code (behind old.station done))
   pub settled : (done : Processor × Retired) → after_reply (turn_of old.setting code old.station.processor) before ≡ Some done →
       IsSettled old.setting code (alone count old.setting code (behind old.station done)).processor

@@ -1,44 +1,63 @@
 //! The search.
 
-ghost use Rattle.std.specs.Prelude.{◌≡◌, ◌+◌, ◌<◌, ◌≤◌, [], length, slice_index_or, IfOk, OnOk};
+ghost use Rattle.std.specs.Prelude.{◌≡◌, ◌+◌, ◌<◌, ◌≤◌, [], ◌∷◌, ◌++◌, List, ℕ, length, slice_index_or, IfOk, OnOk};
 ghost use Rattle.alone.specs.Closing.{Standing};
-ghost use Rattle.station_search.specs.Ends.{AreRows, AreTurns, HaveAllEnds};
+ghost use Rattle.live_registers.specs.Live.{HasAllLive};
+ghost use Rattle.move_ranks.specs.Ranks.{no_move};
+ghost use Rattle.station_search.specs.Ends.{AreMoves, AreReached, AreRows, AreTurns, HaveAllEnds};
 ghost use Rattle.station_search.specs.Memo.{KnowsLists, KnowsStations};
-ghost use Rattle.station_search.specs.Search.{Searched};
+ghost use Rattle.station_search.specs.Search.{IsNoted, IsPlaced, Searched};
 ghost use Rattle.station_search.specs.Tables.{IsKept, IsRow, means};
 
 use crate::memo::Memos;
 use crate::refusal::Refusal;
 use crate::tables::{Extent, Row, Tables};
-use alone::{closed_sets_have_all_ends, moves_are_turns, stopped_processors_can_be_forgotten};
+use crate::watch::Watch;
+use alone::{closed_sets_have_all_ends, moves_are_turns};
 use indexmap::IndexSet;
+use live_registers::dead_registers_can_be_forgotten;
 use local_memory::Code;
+use move_ranks::{NO_MOVE, Targets};
 use std::alloc::Global;
 
-/// All rows to which references lead from a first one, in the order in which they are found.
+/// All rows that a search has found, and where the references of each lead.
+#[derive(Drop)]
+pub struct Found {
+    /// In the order in which they are found.
+    pub rows: IndexSet<Row>,
+    /// For each row.
+    pub moves: Vec<Targets>,
+}
+
+/// All rows to which references lead from a first one, in the order in which they are found. How many there are is told as they are
+/// found.
 ///
 /// # Errors
 ///
-/// [`Refusal::States`] where these are more than `limit`, [`Refusal::Alone`] and [`Refusal::Memory`].
-pub fn search(
+/// [`Refusal::States`] where these are as many as `limit`, or more, [`Refusal::Alone`] and [`Refusal::Memory`].
+pub fn search<G: Watch>(
     alloc: Global,
     tables: &mut Tables,
     code: &Code,
     extent: Extent,
     first: Row,
     limit: u32,
-) -> Result<IndexSet<Row>, Refusal>
+    watch: &mut G,
+) -> Result<Found, Refusal>
+    requires live { HasAllLive code.now tables.old.live }
     requires row { IsRow extent tables.old first }
     requires room { extent.processors ≤ 8 }
     ensures kept { OnOk result (IsKept tables.old tables.new) }
-    ensures rows { IfOk result (λ found. AreRows extent tables.new found.keys) }
-    ensures ends { IfOk result (λ found. HaveAllEnds extent code.now tables.new found.keys (means extent tables.old first)) }
-    ensures turns { IfOk result (λ found. AreTurns extent code.now tables.new found.keys (means extent tables.old first)) }
+    ensures rows { IfOk result (λ found. AreRows extent tables.new found.rows.keys) }
+    ensures ends { IfOk result (λ found. HaveAllEnds extent code.now tables.new found.rows.keys (means extent tables.old first)) }
+    ensures turns { IfOk result (λ found. AreTurns extent code.now tables.new found.rows.keys (means extent tables.old first)) }
+    ensures reached { IfOk result (λ found. AreReached extent code.now tables.new found.rows.keys (means extent tables.old first)) }
+    ensures moves { IfOk result (λ found. AreMoves extent code.now tables.new found.rows.keys found.moves.items (means extent tables.old first)) }
 {
     closed_sets_have_all_ends();
     moves_are_turns();
-    stopped_processors_can_be_forgotten();
-    let found = find_all(alloc, tables, code, extent, first, limit)?;
+    dead_registers_can_be_forgotten();
+    let found = find_all(alloc, tables, code, extent, first, limit, watch)?;
     Ok(found)
 }
 
@@ -46,46 +65,56 @@ pub fn search(
 ///
 /// # Errors
 ///
-/// [`Refusal::States`] where these are more than `limit`, [`Refusal::Alone`] and [`Refusal::Memory`].
-fn find_all(
+/// [`Refusal::States`] where these are as many as `limit`, or more, [`Refusal::Alone`] and [`Refusal::Memory`].
+fn find_all<G: Watch>(
     alloc: Global,
     tables: &mut Tables,
     code: &Code,
     extent: Extent,
     first: Row,
     limit: u32,
-) -> Result<IndexSet<Row>, Refusal>
+    watch: &mut G,
+) -> Result<Found, Refusal>
+    requires live { HasAllLive code.now tables.old.live }
     requires row { IsRow extent tables.old first }
     requires room { extent.processors ≤ 8 }
     ensures kept { OnOk result (IsKept tables.old tables.new) }
-    ensures searched { IfOk result (λ found. Searched extent code.now tables.new found.keys (means extent tables.old first) (length found.keys)) }
+    ensures searched { IfOk result (λ found. Searched extent code.now tables.new found.rows.keys found.moves.items (means extent tables.old first)
+        (length found.rows.keys)) }
+    ensures few { IfOk result (λ found. length found.rows.keys ≤ no_move) }
 {
-    let mut found = IndexSet::new(alloc);
+    let mut rows = IndexSet::new(alloc);
+    let mut moves = Vec::new(alloc);
     let mut memos = Memos::new(alloc);
-    let Ok(_) = found.insert(first) else {
+    let Ok(_) = rows.insert(first) else {
         return Err(Refusal::Memory);
     };
     for at in 0..limit {
-        let Some(row) = found.get_index(at as usize).copied() else {
-            return Ok(found);
+        let Some(row) = rows.get_index(at as usize).copied() else {
+            return Ok(Found { rows, moves });
         };
-        expand(tables, &mut memos, code, extent, &mut found, at, row)?;
+        watch.found(rows.len());
+        let targets = expand(tables, &mut memos, code, extent, &mut rows, at, row)?;
+        let Ok(()) = moves.push(targets) else {
+            return Err(Refusal::Memory);
+        };
     }
     Err(Refusal::States)
 }
 
-/// Adds the rows to which one reference of each processor leads from the row at a place.
+/// Adds the rows to which one reference of each processor leads from the row at a place, and gives their places.
 fn expand(
     tables: &mut Tables,
     memos: &mut Memos,
     code: &Code,
     extent: Extent,
-    found: &mut IndexSet<Row>,
+    rows: &mut IndexSet<Row>,
     at: u32,
     row: Row,
-) -> Result<(), Refusal>
-    requires there { at < length found.old.keys }
-    requires row { slice_index_or found.old.keys at [] ≡ row }
+) -> Result<Targets, Refusal>
+    requires live { HasAllLive code.now tables.old.live }
+    requires there { at < length rows.old.keys }
+    requires row { slice_index_or rows.old.keys at [] ≡ row }
     requires is_row { IsRow extent tables.old row }
     requires room { extent.processors ≤ 8 }
     requires stations { KnowsStations code.now tables.old memos.old.stations }
@@ -93,15 +122,39 @@ fn expand(
     ensures kept { OnOk result (IsKept tables.old tables.new) }
     ensures stations { OnOk result (KnowsStations code.now tables.new memos.new.stations) }
     ensures lists { OnOk result (KnowsLists tables.new memos.new.lists) }
-    ensures searched { OnOk result ((first : Standing) → Searched extent code.now tables.old found.old.keys first at
-        → Searched extent code.now tables.new found.new.keys first (at + 1)) }
+    ensures searched { IfOk result (λ targets. (first : Standing) (moves : List (List ℕ)) → Searched extent code.now tables.old rows.old.keys moves first at
+        → Searched extent code.now tables.new rows.new.keys (moves ++ targets ∷ []) first (at + 1)) }
 {
+    let mut targets = [NO_MOVE; 8];
     for p in 0..extent.processors {
-        if let Some(next) = tables.next(memos, code, extent, row, p)? {
-            let Ok(_) = found.insert(next) else {
-                return Err(Refusal::Memory);
-            };
-        }
+        let next = tables.next(memos, code, extent, row, p)?;
+        targets[usize::from(p)] = target_of(rows, next)?;
     }
-    Ok(())
+    Ok(targets)
+}
+
+/// The place of the row to which a move leads, which is added where it is not there; [`NO_MOVE`] where there is none.
+fn target_of(rows: &mut IndexSet<Row>, next: Option<Row>) -> Result<u32, Refusal>
+    ensures { IfOk result (IsNoted rows.old.keys next rows.new.keys) }
+{
+    match next {
+        Some(row) => place_of(rows, row),
+        None => Ok(NO_MOVE),
+    }
+}
+
+/// The place of a row, which is added where it is not there.
+fn place_of(rows: &mut IndexSet<Row>, row: Row) -> Result<u32, Refusal>
+    ensures { IfOk result (IsPlaced rows.old.keys row rows.new.keys) }
+{
+    let Ok((place, _)) = rows.insert_full(row) else {
+        return Err(Refusal::Memory);
+    };
+    let Ok(place) = u32::try_from(place) else {
+        return Err(Refusal::Memory);
+    };
+    if place == NO_MOVE {
+        return Err(Refusal::Memory);
+    }
+    Ok(place)
 }

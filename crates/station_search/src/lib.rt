@@ -7,15 +7,19 @@
 #![tactic(auto)]
 
 mod finding;
+mod laws;
 mod memo;
 mod moves;
 mod opening;
 mod refusal;
 mod station;
 mod tables;
+mod watch;
 mod words;
 
-pub use finding::search;
+pub use finding::{Found, search};
+pub use laws::moves_tell_of_schedules;
 pub use refusal::Refusal;
 pub use station::Station;
 pub use tables::{Extent, Row, Tables, WORDS_PLACE};
+pub use watch::{Unwatched, Watch};

@@ -3,6 +3,7 @@
 ghost use Rattle.std.specs.Prelude.{◌≡◌, ◌<◌, ◌≤◌, length, IfOk, OnOk};
 ghost use Rattle.flat_machine.specs.Turns.{turn_of};
 ghost use Rattle.hart.specs.Deciding.{IsReference};
+ghost use Rattle.live_registers.specs.Live.{HasAllLive};
 ghost use Rattle.station_search.specs.Memo.{KnowsLists, KnowsStations};
 ghost use Rattle.station_search.specs.Search.{IsNext};
 ghost use Rattle.station_search.specs.Tables.{IsBehind, IsKept, IsRow, means, placed_at, words_at};
@@ -12,7 +13,9 @@ use crate::memo::{Memo, Memos};
 use crate::refusal::Refusal;
 use crate::tables::{Extent, Row, Tables, WORDS_PLACE};
 use crate::words::{with_word, word_of};
+use alone::moves_are_of_what_is_kept;
 use hart::Decision;
+use live_registers::dead_registers_can_be_forgotten;
 use local_memory::Code;
 
 impl Tables {
@@ -30,6 +33,7 @@ impl Tables {
         row: Row,
         p: u8,
     ) -> Result<Option<Row>, Refusal>
+        requires live { HasAllLive code.now self.old.live }
         requires row { IsRow extent self.old row }
         requires there { p < extent.processors }
         requires room { extent.processors ≤ 8 }
@@ -40,6 +44,8 @@ impl Tables {
         ensures lists { OnOk result (KnowsLists self.new memos.new.lists) }
         ensures next { IfOk result (IsNext extent code.now self.new (means extent self.old row) p) }
     {
+        moves_are_of_what_is_kept();
+        dead_registers_can_be_forgotten();
         let number = row[usize::from(p)];
         let station = self.station(number);
         if !station.is_running() {

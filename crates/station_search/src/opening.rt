@@ -1,7 +1,8 @@
 //! The first row: where processors settle that have printed nothing.
 
 ghost use Rattle.std.specs.Prelude.{◌≡◌, ◌<◌, ◌≤◌, [], length, IfOk, OnOk};
-ghost use Rattle.alone.specs.Closing.{if_running, Settles};
+ghost use Rattle.alone.specs.Closing.{Settles};
+ghost use Rattle.live_registers.specs.Forgetting.{kept_by};
 ghost use Rattle.station_search.specs.Opening.{AreOfExtent, IsOpened, flat_of};
 ghost use Rattle.station_search.specs.Tables.{IsKept, IsRow, means, setting_at, words_at};
 ghost use Rattle.station_search.specs.Words.{HasSameWords};
@@ -35,7 +36,7 @@ impl Tables {
         ensures kept { OnOk result (IsKept self.old self.new) }
         ensures row { IfOk result (IsRow extent self.new) }
         ensures settles { IfOk result (λ row.
-            Settles (setting_at extent) code.now if_running (flat_of code.now cores.now words.items) (λ k. []) (means extent self.new row)) }
+            Settles (setting_at extent) code.now (kept_by self.new.live) (flat_of code.now cores.now words.items) (λ k. []) (means extent self.new row)) }
     {
         let mut row = [0; 9];
         for (p, core) in cores.iter().enumerate() {

@@ -5,7 +5,7 @@
 pub enum Refusal {
     /// There is no memory for what is found.
     Memory,
-    /// There are more states than the limit.
+    /// There are as many states as the limit, or more.
     States,
     /// A processor goes on for 1,000,000 instructions without a reference.
     Alone,

@@ -4,12 +4,14 @@ ghost use Rattle.std.specs.Prelude.{◌≡◌, IfOk, IsTrue, OnOk};
 ghost use Rattle.flat_machine.specs.State.{is_running};
 ghost use Rattle.flat_machine.specs.Turns.{turn_of};
 ghost use Rattle.hart.specs.Deciding.{IsReference};
-ghost use Rattle.station_search.specs.Placed.{placed_of, printing, IsSame, IsStill, HasGone, HasRetired, HasTurned};
+ghost use Rattle.station_search.specs.Placed.{placed_of, printing, IsEqual, IsSame, IsStill, HasGone, HasRetired, HasTurned};
 
 use crate::refusal::Refusal;
 use flat_machine::{Cause, Retired, Status};
 use hart::{Core, Taken};
+use live_registers::{LiveTable, dead_registers_are_not_kept};
 use local_memory::Code;
+use rv_table::Register;
 use std::alloc::{AllocError, Global};
 use std::marker::Model;
 
@@ -80,12 +82,26 @@ impl Station {
     }
 
     /// Whether both are equal, but for registers and local memory where they have stopped.
-    pub fn is_same(&self, other: &Station) -> bool
-        ensures { IsTrue result → IsSame self.now other.now }
+    pub fn is_equal(&self, other: &Station) -> bool
+        ensures { IsTrue result → IsEqual self.now other.now }
     {
         self.core.stands_as(&other.core)
             && self.console.as_slice() == other.console.as_slice()
             && (!self.is_running() || self.core.equals(&other.core))
+    }
+
+    /// Sets the registers to 0 that are not live.
+    pub fn forget(&mut self, live: &LiveTable)
+        ensures { IsSame live.now self.new self.old }
+    {
+        dead_registers_are_not_kept();
+        let pc = self.core.pc();
+        for number in 1..32 {
+            let register = Register::new(number);
+            if !live.has(pc, register) {
+                self.core.set_register(register, 0);
+            }
+        }
     }
 
     /// Takes a turn that refers to a shared word, which had this value before.

@@ -1,12 +1,13 @@
 //! Tables of stations and of lists of words, and rows that name them.
 
 ghost use Rattle.std.specs.Prelude.{◌≡◌, ◌<◌, [], length, IfOk, IfSome, OnOk};
-ghost use Rattle.station_search.specs.Placed.{IsSame};
+ghost use Rattle.station_search.specs.Placed.{IsEqual, IsSame};
 ghost use Rattle.station_search.specs.Tables.{IsKept, placed_at, words_at};
 
 use crate::refusal::Refusal;
 use crate::station::Station;
 use indexmap::IndexSet;
+use live_registers::LiveTable;
 use std::alloc::Global;
 use std::marker::Model;
 
@@ -28,9 +29,10 @@ pub const MAX_PROCESSORS: u8 = 8;
 pub type Row = [u32; 9];
 
 /// Stations and lists of shared words, each with a number. They only grow, so a row means the same in
-/// all that they become.
+/// all that they become. What registers hold that are not live is not kept of a station.
 #[derive(Drop)]
 pub struct Tables {
+    live: LiveTable,
     stations: Vec<Station>,
     words: IndexSet<Vec<u32>>,
 }
@@ -41,15 +43,16 @@ impl Model for Tables {
 
     ghost Value = { TableLists };
 
-    ghost view = { λ t. record { stations = t.stations.items; words = map (λ list. list.items) t.words.keys } };
+    ghost view = { λ t. record { live = t.live; stations = t.stations.items; words = map (λ list. list.items) t.words.keys } };
 }
 
 impl Tables {
-    /// Tables with nothing in them.
-    pub fn new(alloc: Global) -> Self
-        ensures { result ≡ record { stations = []; words = [] } }
+    /// Tables with nothing in them, of which stations are to have these live registers.
+    pub fn new(alloc: Global, live: LiveTable) -> Self
+        ensures { result ≡ record { live = live; stations = []; words = [] } }
     {
         Tables {
+            live,
             stations: Vec::new(alloc),
             words: IndexSet::new(alloc),
         }
@@ -74,7 +77,7 @@ impl Tables {
         }
     }
 
-    /// The number of a station, which is added where there is no other that is the same.
+    /// The number of a station, which is added where there is no other that is the same. It is brought to its least form first.
     ///
     /// # Errors
     ///
@@ -82,21 +85,23 @@ impl Tables {
     pub fn station_number(&mut self, station: Station) -> Result<u32, Refusal>
         ensures kept { OnOk result (IsKept self.old self.new) }
         ensures there { IfOk result (λ number. number < length self.new.stations) }
-        ensures same { IfOk result (λ number. IsSame (placed_at self.new number) station) }
+        ensures same { IfOk result (λ number. IsSame self.new.live (placed_at self.new number) station) }
     {
+        let mut station = station;
+        station.forget(&self.live);
         match self.known(&station) {
             Some(number) => Ok(number),
             None => self.add(station),
         }
     }
 
-    /// The number of a station that is the same.
+    /// The number of a station that is equal.
     fn known(&self, station: &Station) -> Option<u32>
         ensures there { IfSome result (λ number. number < length self.now.stations) }
-        ensures same { IfSome result (λ number. IsSame (placed_at self.now number) station.now) }
+        ensures equal { IfSome result (λ number. IsEqual (placed_at self.now number) station.now) }
     {
         for (number, known) in self.stations.iter().enumerate() {
-            if known.is_same(station) {
+            if known.is_equal(station) {
                 return u32::try_from(number).ok();
             }
         }

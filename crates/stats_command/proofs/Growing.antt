@@ -3,28 +3,28 @@
 use Rattle.std.proofs.Common.{◌≡◌, ℕ, suc, ◌<◌, ◌≤◌, ◌%◌, Bool, true, false, ◌⊎◌, inl, inr, nat_lt, List, [], ◌∷◌, ◌++◌, length, drop}
 use Rattle.std.proofs.Common.{Option, Some, None, refl, sym, ap, ◌∙◌, subst, arith}
 use Rattle.std.specs.Prelude.{◌==◌, filter, if◌then◌else◌, not}
-use Rattle.omega_wires.specs.Wires.{wire_after, wire_before}
+use Rattle.indexed_network.specs.omega_wires.Wires.{wire_after, wire_before}
 use Rattle.flat_machine.specs.declared.config.Config.{Config}
-use Rattle.messages.specs.declared.message.Request.{Request}
-use Rattle.messages.specs.declared.message.Reply.{Reply}
-use Rattle.messages.specs.declared.message.Record.{Record}
-use Rattle.messages.specs.declared.moves.UpMove.{UpMove}
-use Rattle.messages.specs.declared.moves.UpMove.TheVariants as up
-use Rattle.messages.specs.declared.moves.DownMove.{DownMove}
-use Rattle.messages.specs.declared.moves.DownMove.TheVariants as down
-use Rattle.messages.specs.Places.{put2}
-use Rattle.messages.specs.Queues.{Combination, answers, combination, records_but, records_of}
-use Rattle.messages.specs.Network.{Net, Sizes, put_records, put_replies, put_requests, wires}
-use Rattle.messages.specs.Moves.{accepted, answer, down_from, has_room, injected, module_replied, module_taken, moved_down, moved_up}
-use Rattle.messages.specs.Moves.{port_taken, push_all, up_from}
-use Rattle.messages.proofs.Lemmas.{at_put2, put2_other}
+use Rattle.machine_runs.specs.messages.declared.message.Request.{Request}
+use Rattle.machine_runs.specs.messages.declared.message.Reply.{Reply}
+use Rattle.machine_runs.specs.messages.declared.message.Record.{Record}
+use Rattle.machine_runs.specs.messages.declared.moves.UpMove.{UpMove}
+use Rattle.machine_runs.specs.messages.declared.moves.UpMove.TheVariants as up
+use Rattle.machine_runs.specs.messages.declared.moves.DownMove.{DownMove}
+use Rattle.machine_runs.specs.messages.declared.moves.DownMove.TheVariants as down
+use Rattle.machine_runs.specs.messages.Places.{put2}
+use Rattle.machine_runs.specs.messages.Queues.{Combination, answers, combination, records_but, records_of}
+use Rattle.machine_runs.specs.messages.Network.{Net, Sizes, put_records, put_replies, put_requests, wires}
+use Rattle.machine_runs.specs.messages.Moves.{accepted, answer, down_from, has_room, injected, module_replied, module_taken, moved_down, moved_up}
+use Rattle.machine_runs.specs.messages.Moves.{port_taken, push_all, up_from}
+use Rattle.machine_runs.proofs.Lemmas.messages.{at_put2, put2_other}
 use Rattle.indexed_network.proofs.Lemmas.{down_requests, up_replies}
-use Rattle.abstract_machine.specs.Program.{Kind, Rests, Alone, Refers}
-use Rattle.abstract_machine.specs.Machine.{begin, request_of, retire_from, turned}
-use Rattle.machine_program.specs.Theory as theory
-use Rattle.machine_program.specs.Theory.{serve_from, stalled, went_down, went_up}
-use Rattle.machine_program.specs.Processors.{Told, program, sizes_of}
-use Rattle.machine_program.specs.Steps.{after}
+use Rattle.machine_runs.specs.abstract_machine.Program.{Kind, Rests, Alone, Refers}
+use Rattle.machine_runs.specs.abstract_machine.Machine.{begin, request_of, retire_from, turned}
+use Rattle.machine.specs.machine_program.Theory as theory
+use Rattle.machine.specs.machine_program.Theory.{serve_from, stalled, went_down, went_up}
+use Rattle.machine.specs.machine_program.Processors.{Told, program, sizes_of}
+use Rattle.machine.specs.machine_program.Steps.{after}
 use Rattle.steps.specs.declared.step.Step.{Step}
 use Rattle.steps.specs.declared.step.Step.TheVariants as step
 use Rattle.run_counts.specs.declared.longest.Held.{Held}

@@ -7,14 +7,14 @@ use Rattle.std.proofs.lemmas.Nat.{pow_pos}
 use Rattle.std.proofs.Math.Seq.{take-nil}
 use Rattle.std.specs.Prelude.{slice_index, slice_set, if◌then◌else◌}
 use Rattle.flat_machine.specs.declared.config.Config.{Config}
-use Rattle.messages.specs.Network.{Net, IsEmptyNet}
-use Rattle.omega_network.specs.Networks.{net_of}
+use Rattle.machine_runs.specs.messages.Network.{Net, IsEmptyNet}
+use Rattle.indexed_network.specs.omega_network.Networks.{net_of}
 use Rattle.steps.specs.declared.step.Step.{Step}
 use Rattle.steps.specs.declared.step.Step.TheVariants as step
 use Rattle.steps.specs.declared.step.Outcome.{Outcome}
-use Rattle.machine_program.specs.Theory as theory
-use Rattle.machine_program.specs.Processors.{Told}
-use Rattle.machine_program.specs.Steps.{after, machine_of_parts}
+use Rattle.machine.specs.machine_program.Theory as theory
+use Rattle.machine.specs.machine_program.Processors.{Told}
+use Rattle.machine.specs.machine_program.Steps.{after, machine_of_parts}
 use Rattle.machine_runs.specs.Machines.{MachineLists, IsStep, machine_of}
 use Rattle.machine_runs.specs.Runs.{IsRun, all_after}
 use Rattle.run_counts.specs.Longest.{at_stage, no_longest, of_held, with_longest}

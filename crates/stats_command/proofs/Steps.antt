@@ -13,8 +13,8 @@ use Rattle.run_counts.specs.Counts.{AreCounts, CountsGoOn, CountsState, counts_a
 use Rattle.run_counts.specs.Longest.{no_longest}
 use Rattle.run_counts.specs.declared.longest.Held.TheVariants.{Requests, Records, Replies}
 use Rattle.run_counts.specs.declared.longest.Longest.{Longest}
-use Rattle.messages.specs.Network.{IsEmptyNet}
-use Rattle.omega_network.specs.Networks.{net_of}
+use Rattle.machine_runs.specs.messages.Network.{IsEmptyNet}
+use Rattle.indexed_network.specs.omega_network.Networks.{net_of}
 use Rattle.flat_machine.specs.declared.config.Config.{Config}
 use Rattle.stats_command.specs.Longest.{AreLongest, longest_after}
 use Rattle.stats_command.proofs.Passing.{HaveSix, longest_on, none_longest, sizes_on}

@@ -1,6 +1,6 @@
 -- The longest queues of the networks that a run passes.
 use Rattle.std.specs.Prelude.{◌≡◌, ◌≤◌, ◌<◌, ◌^◌, ℕ, zero, suc, List, [], length, max, nat_lt, take, if◌then◌else◌}
-use Rattle.messages.specs.Network.{Net}
+use Rattle.machine_runs.specs.messages.Network.{Net}
 use Rattle.run_counts.specs.Longest.{at_stage, with_longest}
 use Rattle.run_counts.specs.declared.longest.Held.{Held}
 use Rattle.run_counts.specs.declared.longest.Held.TheVariants.{Requests, Records, Replies}

@@ -1,10 +1,8 @@
 -- What the command prints: from the bytes of files to counts of what the steps of a run did.
 use Rattle.std.specs.Prelude.{◌≡◌, ℕ, List, Option}
 use Rattle.flat_machine.specs.declared.config.Config.{Config}
-use Rattle.elf_image.specs.Files.{IsImageOf}
 use Rattle.elf_image.specs.Images.{ImageContents}
 use Rattle.steps.specs.declared.step.Step.{Step}
-use Rattle.trace_file.specs.Traces.{TraceContents, config_of}
 use Rattle.machine_runs.specs.Machines.{MachineLists}
 use Rattle.machine_runs.specs.Runs.{IsOpening, IsRun}
 use Rattle.step_answers.specs.Answers.{answers_of}
@@ -14,7 +12,7 @@ use Rattle.run_counts.specs.Lines.{lines_of}
 use Rattle.run_counts.specs.Rounds.{rounds_of}
 use Rattle.run_counts.specs.declared.longest.Longest.{Longest}
 use Rattle.stats_command.specs.Longest.{AreLongest}
-use Rattle.run_commands.specs.Commands.{IsTraceOf}
+use Rattle.run_commands.specs.Commands.{IsAccount, IsSomeAccount}
 use Rattle.run_commands.specs.Reports.{IsExitOf}
 use Rattle.order_command.specs.Orders.{IsBroughtHome}
 
@@ -40,13 +38,9 @@ pub record AreStatsLines (c : Config) (image : ImageContents) (steps : List Step
   pub counted : AreCountedSteps c image all text status
 
 -- These are the counts of a trace that is replayed, and then drained, on the image that a file means.
-pub record AreStats (shared_words : ℕ) (trace known : Option (List ℕ)) (status : ℕ) (text : List ℕ) : Type 0 where
-  pub steps : TraceContents
-  pub read : IsTraceOf trace steps
-  pub image : ImageContents
-  pub meant : IsImageOf shared_words known image
-  pub lines : AreStatsLines (config_of steps shared_words) image steps.steps text status
+abbrev pub AreStats : (shared_words : ℕ) → (trace known : Option (List ℕ)) → (status : ℕ) → (text : List ℕ) → Type 0
+AreStats = IsAccount AreStatsLines
 
 -- the counts, with whatever exit status
 abbrev pub AreSomeStats : (shared_words : ℕ) → (trace known : Option (List ℕ)) → (text : List ℕ) → Type 0
-AreSomeStats shared_words trace known text = (status : ℕ) × AreStats shared_words trace known status text
+AreSomeStats = IsSomeAccount AreStatsLines

@@ -4,8 +4,8 @@ ghost use Rattle.std.specs.Prelude.{◌≡◌, IfOk, OnOk};
 ghost use Rattle.machine_runs.specs.Runs.{IsRun};
 ghost use Rattle.run_counts.specs.Counting.{noted_of, size_of};
 ghost use Rattle.run_counts.specs.Counts.{AreCounts};
-ghost use Rattle.messages.specs.Network.{IsEmptyNet};
-ghost use Rattle.omega_network.specs.Networks.{net_of};
+ghost use Rattle.machine_runs.specs.messages.Network.{IsEmptyNet};
+ghost use Rattle.indexed_network.specs.omega_network.Networks.{net_of};
 ghost use Rattle.step_answers.specs.Answers.{answers_of};
 ghost use Rattle.stats_command.specs.Longest.{AreLongest};
 

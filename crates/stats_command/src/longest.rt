@@ -1,8 +1,8 @@
 //! The longest queues of a machine's network.
 
 ghost use Rattle.std.specs.Prelude.{◌≡◌, ◌<◌, ◌^◌};
-ghost use Rattle.messages.specs.Network.{Net};
-ghost use Rattle.omega_network.specs.Networks.{net_of};
+ghost use Rattle.machine_runs.specs.messages.Network.{Net};
+ghost use Rattle.indexed_network.specs.omega_network.Networks.{net_of};
 ghost use Rattle.stats_command.specs.Longest.{count_of, longest_after, most_of, raised};
 
 use indexed_network::IndexedNetwork;

@@ -1,14 +1,14 @@
 -- The lemmas that crates above may cite: answers begin with none, and go on with the outcome of each
 -- step that is taken next.
 use Rattle.std.proofs.Common.{◌≡◌, ℕ, suc, List, [], ◌∷◌, ◌++◌, length, refl, sym, ap, ap₂, ◌∙◌}
-use Rattle.flat_machine.specs.declared.config.Config.{Config}
-use Rattle.flat_machine.specs.declared.event.Event.{Event}
-use Rattle.omega_network.specs.Networks.{net_of}
-use Rattle.machine_program.specs.Theory as theory
-use Rattle.steps.specs.declared.step.Step.{Step}
-use Rattle.steps.specs.declared.step.Outcome.{Outcome}
-use Rattle.machine_program.specs.Processors.{Told}
-use Rattle.machine_program.specs.Steps.{outcome_of, after, with_shown, machine_of_parts}
+use Rattle.machine_runs.specs.flat_machine.declared.config.Config.{Config}
+use Rattle.machine_runs.specs.flat_machine.declared.event.Event.{Event}
+use Rattle.machine_runs.specs.omega_network.Networks.{net_of}
+use Rattle.machine_runs.specs.machine_program.Theory as theory
+use Rattle.machine_runs.specs.steps.declared.step.Step.{Step}
+use Rattle.machine_runs.specs.steps.declared.step.Outcome.{Outcome}
+use Rattle.machine_runs.specs.machine_program.Processors.{Told}
+use Rattle.machine_runs.specs.machine_program.Steps.{outcome_of, after, with_shown, machine_of_parts}
 use Rattle.machine_runs.specs.Machines.{MachineLists, machine_of, IsStep}
 use Rattle.machine_runs.specs.Runs.{all_after, events_of, IsRun}
 use Rattle.machine_runs.proofs.Lemmas.{all_after_more, outcome_there, replay_begins, shown_is}

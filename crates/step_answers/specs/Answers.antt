@@ -1,12 +1,12 @@
 -- What a machine answers to steps that it takes, one after another.
 use Rattle.std.specs.Prelude.{◌≡◌, ℕ, List, [], ◌∷◌, ◌++◌, length}
-use Rattle.flat_machine.specs.declared.config.Config.{Config}
-use Rattle.machine_program.specs.Theory as theory
-use Rattle.steps.specs.declared.step.Step.{Step}
-use Rattle.steps.specs.declared.step.Outcome.{Outcome}
+use Rattle.machine_runs.specs.flat_machine.declared.config.Config.{Config}
+use Rattle.machine_runs.specs.machine_program.Theory as theory
+use Rattle.machine_runs.specs.steps.declared.step.Step.{Step}
+use Rattle.machine_runs.specs.steps.declared.step.Outcome.{Outcome}
 use Rattle.told_steps.specs.Answers.{Answer, answer}
-use Rattle.machine_program.specs.Processors.{Told}
-use Rattle.machine_program.specs.Steps.{outcome_of, after}
+use Rattle.machine_runs.specs.machine_program.Processors.{Told}
+use Rattle.machine_runs.specs.machine_program.Steps.{outcome_of, after}
 use Rattle.machine_runs.specs.Machines.{MachineLists, machine_of, IsStep}
 use Rattle.machine_runs.specs.Runs.{IsRun}
 

@@ -4,6 +4,7 @@ ghost use Rattle.std.specs.Prelude.{◌≡◌};
 ghost use Rattle.steps.specs.Answers.{is_stalled};
 
 use flat_machine::{Cause, Poke, Retired};
+use messages::Seconds;
 
 /// The most steps that a trace has.
 pub const MAX_STEPS: usize = 4_194_304;
@@ -45,10 +46,10 @@ pub enum Outcome {
     Served {
         leader: u8,
     },
-    /// A reply was split in two: the leader's went on, and so did that of the second.
+    /// A reply was split: the leader's went on, and so did those of the seconds.
     Answered {
-        /// The second.
-        to: u8,
+        /// The seconds, in the order of their combinations.
+        to: Seconds,
     },
     /// The poke is written.
     Poked,

@@ -1,20 +1,18 @@
 //! `ultra story`: from the bytes of a trace and of an image to the lines of the steps.
 
-ghost use Rattle.std.specs.Prelude.{◌≡◌, ◌≤◌, ◌⊎◌, true, false, IfOk, IfErr, IsErr, IsErrOf, OnErr, string_bytes};
+ghost use Rattle.std.specs.Prelude.{◌≡◌, ◌≤◌, true, false, IfOk, IfErr, IsErr, length, string_bytes};
 ghost use Rattle.command_io.specs.Printing.{IsPrinted, IsTold};
-ghost use Rattle.machine_runs.specs.Runs.{IsOpening};
-ghost use Rattle.run_commands.specs.Causes.{IsFaultOfSize, IsNotPrinted, IsNotTaken};
+ghost use Rattle.run_commands.specs.Causes.{IsNotPrinted, IsNotTaken};
 ghost use Rattle.run_commands.specs.Commands.{known_of};
 ghost use Rattle.story_command.specs.Stories.{AreStoryLines, IsSomeStory, IsStory};
 
 use crate::telling::story_text;
-use command_io::{Fault, image_of, print, tell};
+use command_io::Fault;
 use elf_image::Image;
 use flat_machine::Config;
 use link::LinkWrite;
-use machine_runs::Machine;
 use order_command::brought_home;
-use run_commands::{exit_status, machine_of, trace_of};
+use run_commands::{Account, account_command, exit_status, opened};
 use std::alloc::Global;
 use std::io;
 use std::io::{Read, Write};
@@ -44,39 +42,33 @@ pub fn story_command<T: Read + Drop, R: Read + Drop, W: LinkWrite, E: Write>(
         (known_of R.remaining file) (W.contents out.old) (W.contents out.new)) out.old out.new result }
     ensures failed { W.has_failed out.new ≡ true → result ≡ 3 }
 {
-    match carried_out(alloc, trace, file, shared_words, out) {
-        Ok(status) => status,
-        Err(fault) => tell(fault, err),
-    }
+    account_command(alloc, trace, file, shared_words, &StoryLines, out, err)
 }
 
-/// Carries the command out.
-fn carried_out<T: Read + Drop, R: Read + Drop, W: LinkWrite>(
-    alloc: Global,
-    trace: T,
-    file: io::Result<R>,
-    shared_words: u32,
-    out: &mut W,
-) -> Result<u8, Fault>
-    requires { W.has_failed out.old ≡ false }
-    ensures failed { W.has_failed out.new ≡ true → IsErrOf result Fault.Link }
-    ensures link { IsErrOf result Fault.Link → IsErr file ⊎ (W.has_failed out.new ≡ true) }
-    ensures printed { IfOk result (λ status. IsPrinted (IsStory shared_words (T.remaining trace) (known_of R.remaining file) status)
-        (W.contents out.old) (W.contents out.new)) }
-    ensures low { IfOk result (λ status. status ≤ 1) }
-    ensures told { IfErr result (IsNotPrinted (IsSomeStory shared_words (T.remaining trace) (known_of R.remaining file)) shared_words
-        (T.remaining trace) (known_of R.remaining file) (W.contents out.old) (W.contents out.new)) }
-    ensures silent { OnErr result (W.has_failed out.new ≡ false → out.new ≡ out.old) }
-{
-    let trace = trace_of(alloc, trace)?;
-    let config = trace.config(shared_words);
-    let Ok(file) = file else {
-        return Err(Fault::Link);
-    };
-    let image = image_of(alloc, file, &config)?;
-    let (text, status) = told(alloc, &image, config, trace.steps())?;
-    print(out, text.as_str())?;
-    Ok(status)
+/// The lines of the steps and of a drain's.
+#[derive(Drop)]
+struct StoryLines;
+
+impl Account for StoryLines {
+    ghost use Rattle.story_command.specs.Stories.{AreStoryLines};
+
+    ghost tells = { λ lines. AreStoryLines };
+
+    fn text(
+        &self,
+        alloc: Global,
+        image: Image,
+        config: Config,
+        steps: &[Step],
+    ) -> Result<(String, u8), Fault>
+        requires few { length steps.now ≤ 4194304 }
+        requires words { image.shared_words ≡ config.shared_words }
+        ensures told { IfOk result (λ done. AreStoryLines config image steps.now (string_bytes done.0) done.1) }
+        ensures low { IfOk result (λ done. done.1 ≤ 1) }
+        ensures refused { IfErr result (IsNotTaken config image steps.now) }
+    {
+        told(alloc, &image, config, steps)
+    }
 }
 
 /// The lines of these steps and of a drain's, and the exit status.
@@ -90,13 +82,4 @@ fn told(alloc: Global, image: &Image, config: Config, steps: &[Step]) -> Result<
     let mut machine = opened(alloc, image, config)?;
     let text = story_text(alloc, &mut machine, all.as_slice())?;
     Ok((text, exit_status(&machine)))
-}
-
-/// A machine of this size that opens on a copy of the image, which was read for as many shared words.
-fn opened(alloc: Global, image: &Image, config: Config) -> Result<Machine, Fault>
-    requires words { image.now.shared_words ≡ config.shared_words }
-    ensures opening { IfOk result (IsOpening config image.now) }
-    ensures refused { IfErr result (IsFaultOfSize config) }
-{
-    machine_of(alloc, image.copy(alloc)?, config)
 }

@@ -1,7 +1,7 @@
 -- The lines of a run's story: a line for each step, read off the step, its outcome and the groups of requests before it.
 use Rattle.std.specs.Prelude.{◌≡◌, ℕ, ◌+◌, List, [], ◌∷◌, ◌++◌, codes, length}
 use Rattle.std.specs.Fmt.{decimal}
-use Rattle.command_io.specs.Digits.{line_feed}
+use Rattle.order_lines.specs.command_io.Digits.{line_feed}
 use Rattle.steps.specs.declared.step.Step.{Step}
 use Rattle.steps.specs.declared.step.Outcome.{Outcome}
 use Rattle.told_steps.specs.Answers.{Answer}

@@ -2,10 +2,8 @@
 use Rattle.std.specs.Prelude.{ℕ, ◌+◌, List, [], ◌∷◌, ◌++◌, codes, length}
 use Rattle.std.specs.Fmt.{decimal}
 use Rattle.flat_machine.specs.declared.event.Event.TheVariants as event
-use Rattle.flat_machine.specs.declared.poke.Poke.{Poke}
-use Rattle.flat_machine.specs.declared.poke.Poke.TheVariants as poke
-use Rattle.command_io.specs.Digits.{hex_of_byte, hex_of_word}
-use Rattle.order_lines.specs.Texts.{event_text, register_text}
+use Rattle.messages.specs.Seconds.{seconds_of}
+use Rattle.order_lines.specs.Texts.{event_text, owner_text, written_text}
 use Rattle.steps.specs.declared.step.Step.{Step}
 use Rattle.steps.specs.declared.step.Step.TheVariants as step
 use Rattle.steps.specs.declared.step.Outcome.{Outcome}
@@ -14,19 +12,13 @@ use Rattle.told_steps.specs.Groups.{group_in}
 
 -- ---- the step
 
--- whose register is written, or which byte, and what
-abbrev pub poke_text : Poke → List ℕ
-poke_text (poke.Register p register value) = decimal p ++ codes " " ++ register_text register ++ codes " " ++ hex_of_word value
-poke_text (poke.Local p address value) = decimal p ++ codes " " ++ hex_of_word address ++ codes " " ++ hex_of_byte value
-poke_text (poke.Shared address value) = codes "- " ++ hex_of_word address ++ codes " " ++ hex_of_byte value
-
--- `turn P`, `up S W`, `serve M`, `down S W` or `poke ..`
+-- `turn P`, `up S W`, `serve M`, `down S W`, or `poke P ..` with whose register is written, or which byte, and what
 abbrev pub step_text : Step → List ℕ
 step_text (step.Turn p) = codes "turn " ++ decimal p
 step_text (step.Up s w) = codes "up " ++ decimal s ++ codes " " ++ decimal w
 step_text (step.Serve m) = codes "serve " ++ decimal m
 step_text (step.Down s w) = codes "down " ++ decimal s ++ codes " " ++ decimal w
-step_text (step.Poke q) = codes "poke " ++ poke_text q
+step_text (step.Poke q) = codes "poke " ++ owner_text q ++ codes " " ++ written_text q
 
 -- ---- what it did
 
@@ -46,7 +38,7 @@ stage_of (step.Up s w) = s
 stage_of (step.Down s w) = s
 stage_of _ = 0
 
--- ` P` for each processor of a group
+-- ` P` for each processor of a list
 abbrev pub members_text : List ℕ → List ℕ
 members_text [] = []
 members_text (p ∷ ps) = codes " " ++ decimal p ++ members_text ps
@@ -64,6 +56,6 @@ outcome_text groups s Moved = depth_text s
 outcome_text groups s (Combined first second) =
     decimal second ++ codes " joins " ++ decimal first ++ codes " at stage " ++ decimal (stage_of s)
 outcome_text groups s (Served leader) = codes "serves " ++ group_text (group_in groups leader)
-outcome_text groups s (Answered to) = codes "answers " ++ decimal to ++ codes " at stage " ++ decimal (stage_of s)
+outcome_text groups s (Answered to) = codes "answers" ++ members_text (seconds_of to) ++ codes " at stage " ++ decimal (stage_of s)
 outcome_text groups s Poked = codes "writes"
 outcome_text groups s Stalled = codes "stalls"

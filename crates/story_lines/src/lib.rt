@@ -5,7 +5,6 @@
 
 mod laws;
 mod lines;
-mod pokes;
 
 pub use laws::stories_go_on;
 pub use lines::push_line;

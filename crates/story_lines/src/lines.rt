@@ -1,12 +1,14 @@
 //! The line of a step.
 
-ghost use Rattle.std.specs.Prelude.{◌≡◌, ◌++◌, OnOk, string_bytes};
+ghost use Rattle.std.specs.Prelude.{◌≡◌, ◌++◌, OnOk, codes, string_bytes};
+ghost use Rattle.std.specs.Fmt.{decimal};
+ghost use Rattle.messages.specs.Seconds.{seconds_of};
 ghost use Rattle.story_lines.specs.Lines.{line_of};
 ghost use Rattle.story_lines.specs.Texts.{depth_behind, depth_text, group_text, members_text, outcome_text, stage_of, step_text};
 
-use crate::pokes::push_poke;
 use flat_machine::Event;
-use order_lines::push_event;
+use messages::Seconds;
+use order_lines::{push_event, push_owner, push_written};
 use std::alloc::{AllocError, Global};
 use std::fmt::Write;
 use steps::{Outcome, Step};
@@ -46,7 +48,9 @@ fn push_step(alloc: Global, text: &mut String, step: &Step) -> Result<(), AllocE
         Step::Down { stage, wire } => write!(text, "down {stage} {wire}"),
         Step::Poke(poke) => {
             text.push_str("poke ")?;
-            push_poke(alloc, text, &poke)
+            push_owner(text, &poke)?;
+            text.push(' ')?;
+            push_written(alloc, text, &poke)
         }
     }
 }
@@ -80,10 +84,7 @@ fn push_outcome(
             text.push_str("serves ")?;
             push_group(text, groups.of(*leader))
         }
-        Outcome::Answered { to } => {
-            let stage = stage_of(step);
-            write!(text, "answers {to} at stage {stage}")
-        }
+        Outcome::Answered { to } => push_answered(text, to, stage_of(step)),
         Outcome::Poked => text.push_str("writes"),
         Outcome::Stalled => text.push_str("stalls"),
     }
@@ -115,6 +116,27 @@ fn stage_of(step: &Step) -> u8
     match *step {
         Step::Up { stage, .. } | Step::Down { stage, .. } => stage,
         _ => 0,
+    }
+}
+
+/// Appends who is answered at a stage.
+fn push_answered(text: &mut String, to: &Seconds, stage: u8) -> Result<(), AllocError>
+    ensures { OnOk result (string_bytes text.new
+        ≡ string_bytes text.old ++ codes "answers" ++ members_text (seconds_of to.now) ++ codes " at stage " ++ decimal stage) }
+{
+    text.push_str("answers")?;
+    push_seconds(text, to)?;
+    write!(text, " at stage {stage}")
+}
+
+/// Appends the seconds of a leader.
+fn push_seconds(text: &mut String, seconds: &Seconds) -> Result<(), AllocError>
+    ensures { OnOk result (string_bytes text.new ≡ string_bytes text.old ++ members_text (seconds_of seconds.now)) }
+{
+    match *seconds {
+        Seconds::One(first) => write!(text, " {first}"),
+        Seconds::Two(first, second) => write!(text, " {first} {second}"),
+        Seconds::Three(first, second, third) => write!(text, " {first} {second} {third}"),
     }
 }
 

@@ -19,3 +19,9 @@ loop: amoadd.w x8, x7, (x5)
  ecall
 bad: ebreak
 ";
+
+/// Adds `x11` to the word at `x12`, and halts.
+pub const ADD_AT_X12: &str = "
+ amoadd.w x10, x11, (x12)
+ ecall
+";

@@ -1,7 +1,7 @@
 //! Laws of what is listed.
 
 ghost use Rattle.std.specs.Prelude.{◌≡◌, ℕ, List, [], Contains};
-ghost use Rattle.elf_image.specs.declared.layout.Layout.{Layout};
+ghost use Rattle.assembler.specs.elf_image.declared.layout.Layout.{Layout};
 ghost use Rattle.assembler.specs.declared.fault.AsmError.{AsmError};
 ghost use Rattle.assembler.specs.Meaning.{IsMeaning, IsPresent};
 ghost use Rattle.text_faults.specs.Listing.{errors_of};

@@ -1,8 +1,8 @@
 //! Where the next line of a text stands, whatever the lines before it.
 
-ghost use Rattle.std.specs.Prelude.{◌≡◌, ◌≤◌, ◌+◌, ◌-◌, ◌^◌, min, IfOk, IfErr, OnOk, Ok, Err, Some};
+ghost use Rattle.std.specs.Prelude.{◌≡◌, ◌≤◌, ◌+◌, ◌-◌, ◌^◌, IfOk, IfErr, OnOk, Ok, Err, Some};
 ghost use Rattle.asm_lines.specs.Statements.{stmt_of, said_of};
-ghost use Rattle.assembler.specs.Meaning.{start, address, base_of, room_of, count_of, size_of, misplaced, place_statement};
+ghost use Rattle.assembler.specs.Meaning.{start, address, count_of, place_statement};
 ghost use Rattle.assembler.specs.Meaning.{labelled, after_statement, after_said};
 ghost use Rattle.assembler.specs.Passes.{name_of};
 ghost use Rattle.text_faults.specs.Listing.{said_fault};
@@ -12,62 +12,12 @@ use crate::cursor::Cursor;
 use crate::labels::Label;
 use crate::values::statement_fault;
 use asm_lines::{Line, Section, Statement};
-use assembler::AsmFault;
-use flat_machine::{CODE_START, LOCAL_START, SHARED_START};
+use assembler::{AsmFault, base_of, misplaced, room_of, size_of};
 use std::alloc::{AllocError, Global};
 use std::collections::BTreeMap;
 
 /// More bytes than a text that fits into memory gives a section.
 const MOST: u64 = 0x4000_0000_0000_0000;
-
-fn base_of(section: Section) -> u32
-    ensures { result ≡ base_of section }
-{
-    match section {
-        Section::Code => CODE_START,
-        Section::Local => LOCAL_START,
-        Section::Shared => SHARED_START,
-    }
-}
-
-/// How many bytes a section may have.
-pub fn room_of(section: Section) -> u32
-    ensures { result ≡ room_of section }
-{
-    match section {
-        Section::Code | Section::Local => 65_536,
-        Section::Shared => 786_432,
-    }
-}
-
-/// How many bytes a statement places.
-fn size_of(statement: &Statement<'_>) -> u64
-    ensures { result ≡ min (size_of (stmt_of statement.now)) (2 ^ 64 - 1) }
-{
-    match statement {
-        Statement::Section(_) => 0,
-        Statement::Words(values) => (values.len() as u64).saturating_mul(4),
-        Statement::Bytes(bytes) => bytes.len() as u64,
-        Statement::Zeros(count) => u64::from(*count),
-        Statement::Instruction(_) => 4,
-    }
-}
-
-fn misplaced(section: Section, address: u64, statement: &Statement<'_>) -> Option<AsmFault>
-    ensures { result ≡ misplaced section address (stmt_of statement.now) }
-{
-    match (section, statement) {
-        (Section::Local | Section::Shared, Statement::Instruction(_)) => Some(AsmFault::Form),
-        (Section::Code, Statement::Instruction(_)) | (_, Statement::Words(_)) => {
-            if address % 4 == 0 {
-                None
-            } else {
-                Some(AsmFault::Range)
-            }
-        }
-        _ => None,
-    }
-}
 
 /// How many bytes there are with so many more.
 fn more(count: u64, size: u64) -> Result<u64, AllocError>

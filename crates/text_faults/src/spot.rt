@@ -6,10 +6,9 @@ use crate::labels::{Label, Search};
 use crate::operands::wrong_operand;
 use crate::parts::Parts;
 use crate::piece::Piece;
-use crate::places::room_of;
 use crate::shape::Shape;
 use crate::words::unknown_word;
-use assembler::AsmFault;
+use assembler::{AsmFault, room_of};
 use std::alloc::{AllocError, Global};
 use std::collections::BTreeMap;
 

@@ -8,11 +8,11 @@ use Rattle.std.proofs.lemmas.Option.{get_or_from_slice_get, none-some, slice_get
 use Rattle.flat_machine.specs.declared.config.Config.{Config}
 use Rattle.flat_machine.specs.declared.event.Event.{Event}
 use Rattle.flat_machine.specs.declared.event.Event.TheVariants as event
-use Rattle.machine_program.specs.Theory as theory
-use Rattle.machine_program.specs.Processors.{Told, open_at}
-use Rattle.machine_program.specs.Steps.{machine_of_parts}
-use Rattle.serialization.specs.Order.{from_machine}
-use Rattle.steps.specs.declared.step.Step.{Step}
+use Rattle.machine_runs.specs.machine_program.Theory as theory
+use Rattle.machine_runs.specs.machine_program.Processors.{Told, open_at}
+use Rattle.machine_runs.specs.machine_program.Steps.{machine_of_parts}
+use Rattle.machine_runs.specs.serialization.Order.{from_machine}
+use Rattle.machine_runs.specs.steps.declared.step.Step.{Step}
 use Rattle.machine_runs.specs.Machines.{MachineLists, machine_of, IsIdle}
 use Rattle.machine_runs.specs.Runs.{all_after, events_of, passed}
 use Rattle.machine_runs.specs.Laws.{EventsAreTold, RunsAreSerialized, told_of_steps}
@@ -24,13 +24,13 @@ use Rattle.machine_passes.specs.Passes.{Held, IsWhole, rows_of}
 use Rattle.machine_passes.specs.Rows.{Fits, machine_after}
 use Rattle.machine_passes.specs.declared.row.Notice.{Notice}
 use Rattle.machine_passes.specs.declared.row.Row.{Row}
-use Rattle.console_monitor.specs.Ends.{held_of}
+use Rattle.processor_threads.specs.console_monitor.Ends.{held_of}
 use Rattle.processor_threads.specs.Consoles.{console_bytes, console_of}
 use Rattle.processor_threads.specs.Endings.{EndsWithStop, IsOfMemory, WereMade}
 use Rattle.processor_threads.specs.declared.fault.RunFault.{RunFault}
 use Rattle.processor_threads.specs.declared.fault.RunFault.TheVariants as run
-use Rattle.run_report.specs.Events.{shown_by, shown_from, with_event}
-use Rattle.run_report.specs.Tallies.{ShownBy, nothing_shown, with_byte}
+use Rattle.run_commands.specs.run_report.Events.{shown_by, shown_from, with_event}
+use Rattle.run_commands.specs.run_report.Tallies.{ShownBy, nothing_shown, with_byte}
 use Rattle.run_commands.specs.Retaking.{AreConsoles, events_in}
 use Rattle.threaded_run.specs.Runs.{EndInStop, HasEnded}
 

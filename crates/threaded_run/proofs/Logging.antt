@@ -2,15 +2,16 @@
 use Rattle.std.proofs.Common.{◌≡◌, ℕ, List, Option, ◌∙◌, ap, sym, subst}
 use Rattle.flat_machine.specs.declared.config.Config.{Config}
 use Rattle.flat_machine.specs.Limits.{IsWithinLimits}
-use Rattle.elf_image.specs.Files.{IsImageOf}
-use Rattle.elf_image.specs.Images.{ImageContents}
-use Rattle.trace_file.specs.Traces.{HaveRecords}
+use Rattle.machine_runs.specs.elf_image.Files.{IsImageOf}
+use Rattle.machine_runs.specs.elf_image.Images.{ImageContents}
+use Rattle.command_io.specs.trace_file.Traces.{HaveRecords}
 use Rattle.machine_runs.specs.Machines.{MachineLists}
 use Rattle.machine_runs.specs.Runs.{IsOpening}
 use Rattle.machine_log.specs.Logs.{Log}
 use Rattle.command_io.specs.declared.fault.Fault.{Fault}
 use Rattle.command_io.specs.declared.fault.Fault.TheVariants as fault
 use Rattle.run_commands.specs.Commands.{IsReportOf}
+use Rattle.run_commands.proofs.Lemmas.{is_spelled}
 use Rattle.threaded_run.specs.Faults.{IsOfRun}
 use Rattle.threaded_run.specs.Runs.{HasBegun, HasEnded, IsNotThreaded, IsThreaded}
 use Rattle.threaded_run.proofs.Records.{have_records}
@@ -49,17 +50,10 @@ threaded_is c known image meant opening opens log consoles ended =
       opening = opening;
       opens = opens;
       ended = ended;
-      trace = record {
-        header = record {
-          stages = limits.stages;
-          some_capacity = limits.some_capacity;
-          capacity = limits.capacity;
-          records = limits.records;
-          count = ended.kept.room;
-        };
-        records = subst (λ (d : Config). HaveRecords d.k log.steps) opening_config
-            (have_records log.opening.config log.steps ended.no_pokes ended.named);
-      };
+      trace =
+          is_spelled c log.steps limits ended.kept.room
+          (subst (λ (d : Config). HaveRecords d.k log.steps) opening_config
+          (have_records log.opening.config log.steps ended.no_pokes ended.named));
     }
 
 -- a fault of the run

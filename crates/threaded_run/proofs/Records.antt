@@ -3,10 +3,10 @@ use Rattle.std.proofs.Common.{◌≡◌, true, not, List, [], ◌∷◌}
 use Rattle.std.proofs.lemmas.Bool.{and_parts}
 use Rattle.std.proofs.lemmas.List.Elements.{All-cons, All-nil}
 use Rattle.flat_machine.specs.declared.config.Config.{Config}
-use Rattle.steps.specs.declared.step.Step.{Step}
-use Rattle.steps.specs.declared.step.Step.TheVariants as step
-use Rattle.trace_file.specs.Records.{HasRecord}
-use Rattle.trace_file.specs.Traces.{HaveRecords}
+use Rattle.machine_runs.specs.steps.declared.step.Step.{Step}
+use Rattle.machine_runs.specs.steps.declared.step.Step.TheVariants as step
+use Rattle.command_io.specs.trace_file.Records.{HasRecord}
+use Rattle.command_io.specs.trace_file.Traces.{HaveRecords}
 use Rattle.machine_log.specs.Logs.{is_named}
 use Rattle.machine_passes.specs.Lists.{all_named, is_poke, no_poke}
 

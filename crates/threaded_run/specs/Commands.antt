@@ -1,8 +1,8 @@
 -- What the command does: from the bytes of a file to the bytes of a report.
 use Rattle.std.specs.Prelude.{◌≡◌, ℕ, List, Option}
 use Rattle.flat_machine.specs.declared.config.Config.{Config}
-use Rattle.trace_file.specs.declared.error.TraceError.TheVariants as of_trace
-use Rattle.trace_file.specs.Traces.{trace_bytes, trace_of}
+use Rattle.command_io.specs.trace_file.declared.error.TraceError.TheVariants as of_trace
+use Rattle.command_io.specs.trace_file.Traces.{trace_bytes, trace_of}
 use Rattle.machine_log.specs.Logs.{Log}
 use Rattle.command_io.specs.declared.fault.Fault.{Fault}
 use Rattle.command_io.specs.declared.fault.Fault.TheVariants as fault

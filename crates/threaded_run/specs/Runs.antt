@@ -5,9 +5,9 @@ use Rattle.flat_machine.specs.declared.event.Cause.{Cause}
 use Rattle.flat_machine.specs.declared.event.Event.{Event}
 use Rattle.flat_machine.specs.declared.event.Event.TheVariants.{Stopped}
 use Rattle.flat_machine.specs.Limits.{IsWithinLimits}
-use Rattle.elf_image.specs.Files.{IsImageOf, IsImageRefusal}
-use Rattle.elf_image.specs.Images.{ImageContents}
-use Rattle.trace_file.specs.Traces.{IsTrace, trace_of}
+use Rattle.machine_runs.specs.elf_image.Files.{IsImageOf, IsImageRefusal}
+use Rattle.machine_runs.specs.elf_image.Images.{ImageContents}
+use Rattle.command_io.specs.trace_file.Traces.{IsTrace, trace_of}
 use Rattle.machine_runs.specs.Machines.{MachineLists, IsIdle}
 use Rattle.machine_runs.specs.Runs.{IsOpening}
 use Rattle.machine_log.specs.Logs.{Log, IsKept}

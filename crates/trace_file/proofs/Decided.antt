@@ -1,9 +1,10 @@
 -- Bytes spell a trace, or have a fault.
-use Rattle.std.proofs.Common.{◌≡◌, ◌≢◌, ◌⊎◌, ℕ, zero, suc, ◌+◌, ◌*◌, ◌<◌, ◌≤◌, Bool, true, false, ◌&&◌, nat_eq, nat_le, List, [], ◌∷◌, ◌++◌, length, take}
-use Rattle.std.proofs.Common.{drop, Option, Some, None, sym, ap, subst, refl, ◌∙◌, arith, inl, inr, append_assoc, append-nil}
+use Rattle.std.proofs.Common.{◌≡◌, ◌≢◌, ◌⊎◌, ℕ, zero, suc, ◌+◌, ◌*◌, ◌<◌, ◌≤◌, Bool, true, false, ◌&&◌, nat_eq, nat_le, nat_lt, List, [], ◌∷◌, ◌++◌, length}
+use Rattle.std.proofs.Common.{take, drop, Option, Some, None, sym, ap, subst, refl, ◌∙◌, arith, inl, inr, append_assoc, append-nil}
 use Rattle.std.specs.Prelude.{slice_index}
-use Rattle.std.specs.List.{starts_with}
-use Rattle.std.proofs.lemmas.Bool.{cases_lt, and_parts, and_from, eqb-true, leb-true, le-leb}
+use Rattle.std.specs.Cmp.Lexicographic.{pointwise, same_text}
+use Rattle.std.proofs.lemmas.Bool.{cases_lt, and_parts, and_from, eqb-true, leb-true, le-leb, lt-ltb, ltb-true}
+use Rattle.std.proofs.lemmas.Cmp.{nat_list_eq_equiv}
 use Rattle.std.proofs.lemmas.List.{take-append-drop, length-take-le, get_or-take, get_or-drop, get_or_past}
 use Rattle.std.proofs.lemmas.List.Elements.{All-nil, All-cons}
 use Rattle.steps.specs.declared.step.Step.{Step}
@@ -12,11 +13,11 @@ use Rattle.trace_file.specs.declared.header.Header.{Header}
 use Rattle.trace_file.specs.declared.error.TraceError.{TraceError}
 use Rattle.trace_file.specs.declared.error.TraceError.TheVariants as error
 use Rattle.trace_file.specs.Records.{fields_of, field_bytes, record_bytes, named_step, has_record, HasRecord}
-use Rattle.trace_file.specs.Traces.{TraceContents, header_of, header_bytes, records_bytes, IsHeader, IsTrace, HaveRecords}
-use Rattle.trace_file.specs.Faults.{BeginsWith, RecordFault}
-use Rattle.trace_file.specs.Reading.{fields_in}
+use Rattle.trace_file.specs.Traces.{TraceContents, header_of, header_bytes, header_length, records_bytes, IsHeader, IsTrace, HaveRecords}
+use Rattle.trace_file.specs.Faults.{BeginsWith, RecordFault, header_size}
+use Rattle.trace_file.specs.Reading.{fields_in, header_in}
 use Rattle.trace_file.specs.Laws.{Spells, HasFault, AreBytes}
-use Rattle.trace_file.proofs.Numbers.{field_bytes-fields_in, header_in, header_in-header_bytes, header_bytes-header_in, header_bytes-starts, same_fields}
+use Rattle.trace_file.proofs.Numbers.{field_bytes-fields_in, header_in-header_bytes, same_fields}
 use Rattle.trace_file.proofs.Named.{only_named}
 use Rattle.trace_file.proofs.Pieces.{no_record}
 
@@ -92,13 +93,17 @@ module _ (k : ℕ) (bytes : List ℕ) (size : length bytes ≡ 12) (small : Smal
 -- ---- the header
 
 abbrev in_range : Header → Bool
-in_range h = nat_le h.k 6 && (nat_le 2 h.c && (nat_le h.c 16 && (nat_le h.b 16 && nat_le h.count 4194304)))
+in_range h =
+    nat_le h.k 6 && (nat_le 2 h.c && (nat_le h.c 16 && (nat_le h.b 16 && (nat_le 1 h.r && (nat_le h.r 3 && (nat_lt h.r h.c && nat_le h.count 4194304))))))
 
 range_true : (h : Header) → IsHeader h → in_range h ≡ true
 range_true h is =
     and_from _ _ (le-leb h.k 6 is.stages)
     (and_from _ _ (le-leb 2 h.c is.some_capacity)
-    (and_from _ _ (le-leb h.c 16 is.capacity) (and_from _ _ (le-leb h.b 16 is.records) (le-leb h.count 4194304 is.count))))
+    (and_from _ _ (le-leb h.c 16 is.capacity)
+    (and_from _ _ (le-leb h.b 16 is.records)
+    (and_from _ _ (le-leb 1 h.r is.some_combinations)
+    (and_from _ _ (le-leb h.r 3 is.combinations) (and_from _ _ (lt-ltb h.r h.c is.answers) (le-leb h.count 4194304 is.count)))))))
 
 range_holds : (h : Header) → in_range h ≡ true → IsHeader h
 range_holds h t =
@@ -106,35 +111,42 @@ range_holds h t =
     let q = and_parts (nat_le 2 h.c) _ p.1 in
     let r = and_parts (nat_le h.c 16) _ q.1 in
     let s = and_parts (nat_le h.b 16) _ r.1 in
+    let u = and_parts (nat_le 1 h.r) _ s.1 in
+    let v = and_parts (nat_le h.r 3) _ u.1 in
+    let w = and_parts (nat_lt h.r h.c) _ v.1 in
     record {
       stages = leb-true h.k 6 p.0;
       some_capacity = leb-true 2 h.c q.0;
       capacity = leb-true h.c 16 r.0;
       records = leb-true h.b 16 s.0;
-      count = leb-true h.count 4194304 s.1;
+      some_combinations = leb-true 1 h.r u.0;
+      combinations = leb-true h.r 3 v.0;
+      answers = ltb-true h.r h.c w.0;
+      count = leb-true h.count 4194304 w.1;
     }
-
-abbrev magic : List ℕ
-magic = 0x55 ∷ 0x4C ∷ 0x54 ∷ 0x52 ∷ 1 ∷ []
 
 abbrev IsHeaded : List ℕ → Type 0
 IsHeaded bytes = ((h : Header) × IsHeader h × (bytes ≡ header_bytes h)) ⊎ ((h : Header) → IsHeader h → bytes ≢ header_bytes h)
 
-with_tests : (bytes : List ℕ) → length bytes ≡ 12 → Small bytes → (test : Bool) → test ≡ (starts_with nat_eq bytes magic && in_range (header_in bytes)) →
-    IsHeaded bytes
-with_tests bytes size small true t =
-    let parts = and_parts (starts_with nat_eq bytes magic) (in_range (header_in bytes)) (sym t) in
-    inl (header_in bytes, range_holds (header_in bytes) parts.1, sym (header_bytes-header_in bytes size small parts.0))
-with_tests bytes size small false t =
+-- the numbers that stand there are in range, and their header has these bytes
+abbrev is_headed : List ℕ → Bool
+is_headed bytes = in_range (header_in bytes) && pointwise nat_eq (header_bytes (header_in bytes)) bytes
+
+with_tests : (bytes : List ℕ) → (test : Bool) → test ≡ is_headed bytes → IsHeaded bytes
+with_tests bytes true t =
+    let parts = and_parts (in_range (header_in bytes)) (pointwise nat_eq (header_bytes (header_in bytes)) bytes) (sym t) in
+    inl (header_in bytes, range_holds (header_in bytes) parts.0, sym (same_text (header_bytes (header_in bytes)) bytes (sym parts.1)))
+with_tests bytes false t =
     inr (λ h is same.
     let few = is.count in
     let one : header_in bytes ≡ h = ap header_in same ∙ header_in-header_bytes h (omega arith) in
-    let starts : starts_with nat_eq bytes magic ≡ true = ap (λ (x : List ℕ). starts_with nat_eq x magic) same ∙ header_bytes-starts h in
-    let passes = and_from (starts_with nat_eq bytes magic) (in_range (header_in bytes)) starts (ap in_range one ∙ range_true h is) in
+    let equal : pointwise nat_eq (header_bytes (header_in bytes)) bytes ≡ true =
+    ap (λ (x : List ℕ). pointwise nat_eq x bytes) (ap header_bytes one ∙ sym same) ∙ nat_list_eq_equiv.refl bytes in
+    let passes = and_from (in_range (header_in bytes)) (pointwise nat_eq (header_bytes (header_in bytes)) bytes) (ap in_range one ∙ range_true h is) equal in
     cc)
 
-header_or_none : (bytes : List ℕ) → length bytes ≡ 12 → Small bytes → IsHeaded bytes
-header_or_none bytes size small = with_tests bytes size small (starts_with nat_eq bytes magic && in_range (header_in bytes)) refl
+header_or_none : (bytes : List ℕ) → IsHeaded bytes
+header_or_none bytes = with_tests bytes (is_headed bytes) refl
 
 -- ---- records in a row
 
@@ -183,9 +195,9 @@ module _ (bytes : List ℕ) (h : Header) (is : IsHeader h) (steps : List Step) (
   ended : (rest : List ℕ) → length steps ≡ h.count → bytes ≡ header_bytes h ++ (records_bytes steps ++ rest) →
       ((t : TraceContents) × Spells bytes t) ⊎ HasFault bytes
   ended [] whole spelled =
-      let same : header_of (record { k = h.k; c = h.c; b = h.b; steps = steps }) ≡ h =
-      ap (λ (n : ℕ). let x : Header = record { k = h.k; c = h.c; b = h.b; count = n } in x) whole in
-      let t : TraceContents = record { k = h.k; c = h.c; b = h.b; steps = steps } in
+      let same : header_of (record { k = h.k; c = h.c; b = h.b; r = h.r; steps = steps }) ≡ h =
+      ap (λ (n : ℕ). let x : Header = record { k = h.k; c = h.c; b = h.b; r = h.r; count = n } in x) whole in
+      let t : TraceContents = record { k = h.k; c = h.c; b = h.b; r = h.r; steps = steps } in
       let is_trace : IsTrace t = record { header = subst IsHeader (sym same) is; records = records } in
       inl (
         t,
@@ -197,26 +209,27 @@ module _ (bytes : List ℕ) (h : Header) (is : IsHeader h) (steps : List Step) (
       )
   ended (b ∷ rest) whole spelled =
       let begins : BeginsWith h steps (b ∷ rest) bytes = record { header = is; records = records; few = omega arith; spelled = spelled } in
-      inr (12 + 12 * length steps, error.Trailing, inr (h, steps, b ∷ rest, begins, refl, inr (whole, omega arith, refl)))
+      inr (header_length h + 12 * length steps, error.Trailing, inr (h, steps, b ∷ rest, begins, refl, inr (whole, omega arith, refl)))
 
 pub spelled_or_faulty : (bytes : List ℕ) → AreBytes bytes → ((t : TraceContents) × Spells bytes t) ⊎ HasFault bytes
 spelled_or_faulty bytes are =
     let small = small_bytes bytes are in
-    elim (cases_lt (length bytes) 12) [
+    let size = header_size bytes in
+    elim (cases_lt (length bytes) size) [
       | inl short ↦ inr (0, error.Truncated, inl (refl, short))
-      | inr long ↦ elim (header_or_none (take 12 bytes) (length-take-le 12 bytes long) (small_take 12 bytes long small)) [
+      | inr long ↦ elim (header_or_none (take size bytes)) [
         | inr none ↦ inr (0, error.Header, inl (refl, (long, none)))
         | inl x ↦
             let h = x.0 in
-            let body = body_of h.k h.count (drop 12 bytes) (small_drop 12 bytes small) in
+            let body = body_of h.k h.count (drop size bytes) (small_drop size bytes small) in
             let spelled : bytes ≡ header_bytes h ++ (records_bytes body.steps ++ body.rest) =
-            sym (take-append-drop 12 bytes) ∙ ap (λ (y : List ℕ). y ++ drop 12 bytes) x.2 ∙ ap (λ (y : List ℕ). header_bytes h ++ y) body.spelled in
+            sym (take-append-drop size bytes) ∙ ap (λ (y : List ℕ). y ++ drop size bytes) x.2 ∙ ap (λ (y : List ℕ). header_bytes h ++ y) body.spelled in
             elim body.state [
               | inl whole ↦ ended bytes h x.1 body.steps body.records body.rest whole spelled
               | inr y ↦
                   let begins : BeginsWith h body.steps body.rest bytes =
                   record { header = x.1; records = body.records; few = omega (arith, y.0); spelled = spelled } in
-                  inr (12 + 12 * length body.steps, y.1.0, inr (h, body.steps, body.rest, begins, refl, inl (y.0, y.1.1)))
+                  inr (header_length h + 12 * length body.steps, y.1.0, inr (h, body.steps, body.rest, begins, refl, inl (y.0, y.1.1)))
             ]
       ]
     ]

@@ -8,16 +8,17 @@ use Rattle.trace_file.specs.declared.header.Header.{Header}
 use Rattle.trace_file.specs.declared.error.TraceError.{TraceError}
 use Rattle.trace_file.specs.declared.error.TraceError.TheVariants as error
 use Rattle.trace_file.specs.Records.{fields_of, record_bytes, HasRecord}
-use Rattle.trace_file.specs.Traces.{TraceContents, header_of, header_bytes, records_bytes, HaveRecords}
-use Rattle.trace_file.specs.Faults.{BeginsWith, HeaderFault, RecordFault, BodyFault, FaultAt}
+use Rattle.trace_file.specs.Traces.{TraceContents, header_of, header_bytes, header_length, records_bytes, HaveRecords}
+use Rattle.trace_file.specs.Faults.{BeginsWith, HeaderFault, RecordFault, BodyFault, FaultAt, header_size}
 use Rattle.trace_file.specs.Laws.{Spells}
-use Rattle.trace_file.proofs.Records.{length-field_bytes, length-header_bytes}
-use Rattle.trace_file.proofs.Uniqueness.{same_parts, same_header, same_first, same_steps}
+use Rattle.trace_file.proofs.Numbers.{length-header_bytes, size_is, size_stays, size_within}
+use Rattle.trace_file.proofs.Records.{length-field_bytes}
+use Rattle.trace_file.proofs.Uniqueness.{same_headers, same_first, same_steps}
 
 -- ---- each fault by itself
 
 header_kind : (bytes : List ℕ) (f : TraceError) → HeaderFault bytes f →
-    ((f ≡ error.Truncated) × (length bytes < 12)) ⊎ ((f ≡ error.Header) × (12 ≤ length bytes))
+    ((f ≡ error.Truncated) × (length bytes < header_size bytes)) ⊎ ((f ≡ error.Header) × (header_size bytes ≤ length bytes))
 header_kind bytes error.Truncated h = inl (refl, h)
 header_kind bytes error.Header h = inr (refl, h.0)
 header_kind bytes error.Record h = absurd h
@@ -71,12 +72,14 @@ no_more k (s ∷ ss) (t ∷ ts) us vs f p q e h =
 
 -- ---- two faults
 
-begins_header : (h : Header) (steps : List Step) (rest bytes : List ℕ) → BeginsWith h steps rest bytes → (12 ≤ length bytes) × (take 12 bytes ≡ header_bytes h)
+begins_header : (h : Header) (steps : List Step) (rest bytes : List ℕ) → BeginsWith h steps rest bytes →
+    (header_size bytes ≤ length bytes) × (take (header_size bytes) bytes ≡ header_bytes h)
 begins_header h steps rest bytes b =
-    let size = length-header_bytes h in (
+    let length_is = length-header_bytes h in
+    let size : header_size bytes ≡ header_length h = ap header_size b.spelled ∙ size_is h (records_bytes steps ++ rest) in (
       omega (arith, ap length b.spelled, length-append (header_bytes h) (records_bytes steps ++ rest)),
-      ap (take 12) b.spelled
-          ∙ take_at (header_bytes h) (records_bytes steps ++ rest) 12 size,
+      ap (λ n. take n bytes) size ∙ ap (take (header_length h)) b.spelled
+          ∙ take_at (header_bytes h) (records_bytes steps ++ rest) (header_length h) length_is,
     )
 
 no_header_fault : (h : Header) (steps : List Step) (rest bytes : List ℕ) (f : TraceError) → BeginsWith h steps rest bytes → HeaderFault bytes f → ⊥
@@ -90,9 +93,7 @@ no_header_fault h steps rest bytes error.Memory b fault = fault
 same_beginning : (h g : Header) (ss ts : List Step) (us vs bytes : List ℕ) → BeginsWith h ss us bytes → BeginsWith g ts vs bytes →
     (h ≡ g) × (records_bytes ss ++ us ≡ records_bytes ts ++ vs)
 same_beginning h g ss ts us vs bytes a b =
-    let parts = same_parts 12 (header_bytes h) (records_bytes ss ++ us) (header_bytes g) (records_bytes ts ++ vs) (length-header_bytes h)
-    (length-header_bytes g) (sym a.spelled ∙ b.spelled) in
-    (same_header h g a.header b.header parts.0, parts.1)
+    same_headers h g (records_bytes ss ++ us) (records_bytes ts ++ vs) a.header b.header (sym a.spelled ∙ b.spelled)
 
 body_once : (h : Header) (ss ts : List Step) (us vs : List ℕ) (f g : TraceError) → HaveRecords h.k ss → HaveRecords h.k ts →
     records_bytes ss ++ us ≡ records_bytes ts ++ vs → BodyFault h ss us f → BodyFault h ts vs g →
@@ -127,7 +128,7 @@ one_fault bytes m n f g p q = elim p [
         let body = subst (λ (h : Header). BodyFault h b.1 b.2 g) (sym same.0) b.5 in
         let once = body_once a.0 a.1 b.1 a.2 b.2 f g a.3.records records same.1 a.5 body in
         let size = once.0 in
-        (a.4 ∙ ap (λ (x : ℕ). 12 + 12 * x) size ∙ sym b.4, once.1)
+        (a.4 ∙ (λ i. header_length (same.0 i) + 12 * size i) ∙ sym b.4, once.1)
   ]
 ]
 
@@ -164,8 +165,9 @@ no_fault bytes t n f s p =
 header_stays : (bytes more : List ℕ) (f : TraceError) → f ≢ error.Truncated → HeaderFault bytes f → HeaderFault (bytes ++ more) f
 header_stays bytes more error.Truncated other h = absurd (other refl)
 header_stays bytes more error.Header other h =
-    let front = take-append-le 12 bytes more h.0 in
     let long = h.0 in
+    let size = size_stays bytes more (omega (arith, (size_within bytes).0)) in
+    let front = ap (λ n. take n (bytes ++ more)) size ∙ take-append-le (header_size bytes) bytes more h.0 in
     (omega (arith, length-append bytes more), λ g is same. h.1 g is (sym front ∙ same))
 header_stays bytes more error.Record other h = absurd h
 header_stays bytes more error.Trailing other h = absurd h

@@ -1,16 +1,17 @@
--- Twelve bytes and the fields that they hold, there and back.
-use Rattle.std.proofs.Common.{◌≡◌, ℕ, true, nat_eq, take, ◌&&◌, zero, suc, ◌<◌, ◌^◌, List, [], ◌∷◌, ◌++◌, length, refl, sym, ap, ◌∙◌, arith}
-use Rattle.std.specs.Prelude.{slice_index}
-use Rattle.std.specs.List.{starts_with}
+-- Twelve bytes and the fields that they hold, there and back; a header, and how many bytes it has.
+use Rattle.std.proofs.Common.{◌≡◌, ℕ, Bool, true, false, nat_eq, ◌&&◌, zero, suc, ◌<◌, ◌≤◌, ◌^◌, List, [], ◌∷◌, ◌++◌, length, refl, sym, ap, ◌∙◌}
+use Rattle.std.proofs.Common.{arith, eqb-true}
+use Rattle.std.specs.Prelude.{slice_index, ◌==◌, if◌then◌else◌}
 use Rattle.std.proofs.lemmas.Bool.{and_from, eq-eqb}
-use Rattle.std.specs.Cmp.Lexicographic.{same_text}
 use Rattle.std.specs.Int.{w32, to_le_bytes, from_le_bytes}
+use Rattle.std.proofs.lemmas.List.{get_or_append_left}
 use Rattle.std.proofs.lemmas.Nat.{le_bytes_4, from_le_bytes-to_le_bytes_4}
 use Rattle.trace_file.specs.declared.fields.Fields.{Fields}
 use Rattle.trace_file.specs.declared.header.Header.{Header}
 use Rattle.trace_file.specs.Records.{field_bytes}
-use Rattle.trace_file.specs.Traces.{header_bytes}
-use Rattle.trace_file.specs.Reading.{word_in, fields_in}
+use Rattle.trace_file.specs.Traces.{header_bytes, header_length, long_header, short_header}
+use Rattle.trace_file.specs.Faults.{header_size}
+use Rattle.trace_file.specs.Reading.{word_in, fields_in, header_in}
 
 twelve : (xs : List ℕ) → length xs ≡ 12 → xs ≡ slice_index xs 0 ∷ slice_index xs 1 ∷ slice_index xs 2 ∷ slice_index xs 3 ∷ slice_index xs 4 ∷ slice_index xs 5
     ∷ slice_index xs 6 ∷ slice_index xs 7 ∷ slice_index xs 8 ∷ slice_index xs 9 ∷ slice_index xs 10 ∷ slice_index xs 11 ∷ []
@@ -66,32 +67,94 @@ fields_in-field_bytes f p q =
     ∙ ap (λ (n : ℕ). let x : Fields = record { kind = f.kind; a = f.a; b = f.b; unused = f.unused; address = f.address; value = n } in
     x) (from_le_bytes-to_le_bytes_4 f.value q)
 
--- the numbers of a header of twelve bytes
-unfoldable pub header_in : List ℕ → Header
-header_in xs = record { k = slice_index xs 5; c = slice_index xs 6; b = slice_index xs 7; count = word_in xs 8 9 10 11 }
+-- ---- a header
+
+-- its bytes, by its format
+short_is : (h : Header) → (h.r == 1) ≡ true → header_bytes h ≡ short_header h
+unfolding header_bytes
+short_is h e = ap (λ (b : Bool). if b then short_header h else long_header h) e
+
+long_is : (h : Header) → (h.r == 1) ≡ false → header_bytes h ≡ long_header h
+unfolding header_bytes
+long_is h e = ap (λ (b : Bool). if b then short_header h else long_header h) e
+
+header : (k c b r count : ℕ) → Header
+header k c b r count = record { k = k; c = c; b = b; r = r; count = count }
+
+short_in : (h : Header) → h.count < 2 ^ 32 → h.r ≡ 1 → header_in (short_header h) ≡ h
+unfolding header_in header
+short_in h p one = ap (header h.k h.c h.b 1) (from_le_bytes-to_le_bytes_4 h.count p) ∙ ap (λ r. header h.k h.c h.b r h.count) (sym one)
+
+long_in : (h : Header) → h.count < 2 ^ 32 → header_in (long_header h) ≡ h
+unfolding header_in header
+long_in h p = ap (header h.k h.c h.b h.r) (from_le_bytes-to_le_bytes_4 h.count p)
 
 pub header_in-header_bytes : (h : Header) → h.count < 2 ^ 32 → header_in (header_bytes h) ≡ h
-unfolding header_bytes header_in
-header_in-header_bytes h p =
-    ap (λ (n : ℕ). let x : Header = record { k = h.k; c = h.c; b = h.b; count = n } in x) (from_le_bytes-to_le_bytes_4 h.count p)
+header_in-header_bytes h p = go (h.r == 1) refl
+  where
+    go : (b : Bool) → (h.r == 1) ≡ b → header_in (header_bytes h) ≡ h
+    go true e = ap header_in (short_is h e) ∙ short_in h p (eqb-true h.r 1 e)
+    go false e = ap header_in (long_is h e) ∙ long_in h p
 
--- ---- the first bytes of a header
+-- ---- how long a header is
 
-pub header_bytes-header_in : (xs : List ℕ) → length xs ≡ 12 → ((p : ℕ) → slice_index xs p < 256) →
-    starts_with nat_eq xs (0x55 ∷ 0x4C ∷ 0x54 ∷ 0x52 ∷ 1 ∷ []) ≡ true → header_bytes (header_in xs) ≡ xs
-unfolding header_bytes header_in
-header_bytes-header_in xs e h starts =
-    let parts = twelve xs e in
-    let first = same_text (0x55 ∷ 0x4C ∷ 0x54 ∷ 0x52 ∷ 1 ∷ []) (take 5 xs) (sym starts) ∙ ap (take 5) parts in
-    let word = word_back xs 8 9 10 11 _ h refl in
-    ap (λ (ys : List ℕ). 0x55 ∷ 0x4C ∷ 0x54 ∷ 0x52 ∷ 1 ∷ slice_index xs 5 ∷ slice_index xs 6 ∷ slice_index xs 7 ∷ ys) word
-    ∙ ap (λ (ys : List ℕ). ys ++ (slice_index xs 5 ∷ slice_index xs 6 ∷ slice_index xs 7 ∷ slice_index xs 8 ∷ slice_index xs 9 ∷ slice_index xs 10
-    ∷ slice_index xs 11 ∷ [])) first
-    ∙ sym parts
+short_length : (h : Header) → (h.r == 1) ≡ true → header_length h ≡ 12
+unfolding header_length
+short_length h e = ap (λ (b : Bool). if b then 12 else 16) e
 
-pub header_bytes-starts : (h : Header) → starts_with nat_eq (header_bytes h) (0x55 ∷ 0x4C ∷ 0x54 ∷ 0x52 ∷ 1 ∷ []) ≡ true
-unfolding header_bytes
-header_bytes-starts h = refl
+long_length : (h : Header) → (h.r == 1) ≡ false → header_length h ≡ 16
+unfolding header_length
+long_length h e = ap (λ (b : Bool). if b then 12 else 16) e
+
+short_size : (h : Header) (rest : List ℕ) → header_size (short_header h ++ rest) ≡ 12
+unfolding header_size
+short_size h rest = refl
+
+long_size : (h : Header) (rest : List ℕ) → header_size (long_header h ++ rest) ≡ 16
+unfolding header_size
+long_size h rest = refl
+
+pub length-header_bytes : (h : Header) → length (header_bytes h) ≡ header_length h
+length-header_bytes h = go (h.r == 1) refl
+  where
+    go : (b : Bool) → (h.r == 1) ≡ b → length (header_bytes h) ≡ header_length h
+    go true e = ap length (short_is h e) ∙ sym (short_length h e)
+    go false e = ap length (long_is h e) ∙ sym (long_length h e)
+
+-- the number of its format tells how long it is
+pub size_is : (h : Header) (rest : List ℕ) → header_size (header_bytes h ++ rest) ≡ header_length h
+size_is h rest = go (h.r == 1) refl
+  where
+    go : (b : Bool) → (h.r == 1) ≡ b → header_size (header_bytes h ++ rest) ≡ header_length h
+    go true e = ap (λ (x : List ℕ). header_size (x ++ rest)) (short_is h e) ∙ short_size h rest ∙ sym (short_length h e)
+    go false e = ap (λ (x : List ℕ). header_size (x ++ rest)) (long_is h e) ∙ long_size h rest ∙ sym (long_length h e)
+
+pub length_within : (h : Header) → (12 ≤ header_length h) × (header_length h ≤ 16)
+length_within h = go (h.r == 1) refl
+  where
+    go : (b : Bool) → (h.r == 1) ≡ b → (12 ≤ header_length h) × (header_length h ≤ 16)
+    go true e = let is = short_length h e in (omega arith, omega arith)
+    go false e = let is = long_length h e in (omega arith, omega arith)
+
+by_format : (byte : ℕ) (b : Bool) → (byte == 2) ≡ b → (12 ≤ (if byte == 2 then 16 else 12)) × ((if byte == 2 then 16 else 12) ≤ 16)
+by_format byte true e = rw e (omega arith, omega arith)
+by_format byte false e = rw e (omega arith, omega arith)
+
+pub size_within : (bytes : List ℕ) → (12 ≤ header_size bytes) × (header_size bytes ≤ 16)
+unfolding header_size
+size_within bytes = by_format (slice_index bytes 4) (slice_index bytes 4 == 2) refl
+
+pub long_format : (bytes : List ℕ) → slice_index bytes 4 ≡ 2 → header_size bytes ≡ 16
+unfolding header_size
+long_format bytes two = ap (λ (x : ℕ). if x == 2 then 16 else 12) two
+
+-- bytes with the same format
+pub same_size : (xs ys : List ℕ) → slice_index xs 4 ≡ slice_index ys 4 → header_size xs ≡ header_size ys
+unfolding header_size
+same_size xs ys same = ap (λ (x : ℕ). if x == 2 then 16 else 12) same
+
+pub size_stays : (bytes more : List ℕ) → 4 < length bytes → header_size (bytes ++ more) ≡ header_size bytes
+size_stays bytes more long = same_size (bytes ++ more) bytes (get_or_append_left bytes more 0 4 long)
 
 -- equal fields pass the test for equality
 pub same_fields : (f g : Fields) → f ≡ g →

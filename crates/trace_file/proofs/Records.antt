@@ -4,17 +4,12 @@ use Rattle.std.proofs.lemmas.Grind.{flat_map-append}
 use Rattle.std.proofs.lemmas.List.Elements.{All-append, All-nil, All-cons}
 use Rattle.steps.specs.declared.step.Step.{Step}
 use Rattle.trace_file.specs.declared.fields.Fields.{Fields}
-use Rattle.trace_file.specs.declared.header.Header.{Header}
 use Rattle.trace_file.specs.Records.{fields_of, field_bytes, record_bytes, HasRecord}
-use Rattle.trace_file.specs.Traces.{header_bytes, records_bytes, HaveRecords}
+use Rattle.trace_file.specs.Traces.{records_bytes, HaveRecords}
 
 pub length-field_bytes : (f : Fields) → length (field_bytes f) ≡ 12
 unfolding field_bytes
 length-field_bytes f = refl
-
-pub length-header_bytes : (h : Header) → length (header_bytes h) ≡ 12
-unfolding header_bytes
-length-header_bytes h = refl
 
 pub length-records_bytes : (steps : List Step) → length (records_bytes steps) ≡ 12 * length steps
 length-records_bytes [] = refl

@@ -5,11 +5,12 @@ use Rattle.std.proofs.lemmas.List.Elements.{All-head, All-tail}
 use Rattle.steps.specs.declared.step.Step.{Step}
 use Rattle.trace_file.specs.declared.header.Header.{Header}
 use Rattle.trace_file.specs.Records.{fields_of, record_bytes, named_step, HasRecord}
-use Rattle.trace_file.specs.Traces.{TraceContents, header_of, header_bytes, records_bytes, trace_bytes, IsHeader, IsTrace, HaveRecords}
-use Rattle.trace_file.specs.Reading.{fields_in}
-use Rattle.trace_file.proofs.Numbers.{fields_in-field_bytes, header_in, header_in-header_bytes}
+use Rattle.trace_file.specs.Traces.{TraceContents, header_of, header_bytes, header_length, records_bytes, trace_bytes, IsHeader, IsTrace, HaveRecords}
+use Rattle.trace_file.specs.Faults.{header_size}
+use Rattle.trace_file.specs.Reading.{fields_in, header_in}
+use Rattle.trace_file.proofs.Numbers.{fields_in-field_bytes, header_in-header_bytes, length-header_bytes, size_is}
 use Rattle.trace_file.proofs.Named.{named_step-fields_of, fields_fit}
-use Rattle.trace_file.proofs.Records.{length-field_bytes, length-header_bytes}
+use Rattle.trace_file.proofs.Records.{length-field_bytes}
 
 -- two lists that are cut at one place
 pub same_parts : (n : ℕ) (xs us ys vs : List ℕ) → length xs ≡ n → length ys ≡ n → xs ++ us ≡ ys ++ vs → (xs ≡ ys) × (us ≡ vs)
@@ -52,22 +53,22 @@ same_steps k (s ∷ ss) (t ∷ ts) us vs p q n e =
     let others = same_steps k ss ts us vs (All-tail (HasRecord k) s ss p) (All-tail (HasRecord k) t ts q) (omega arith) first.1 in
     (ap (λ (x : Step). x ∷ ss) first.0 ∙ ap (λ (xs : List Step). t ∷ xs) others.0, others.1)
 
-contents : (k c b : ℕ) → List Step → TraceContents
-contents k c b steps = record { k = k; c = c; b = b; steps = steps }
+-- two beginnings of the same bytes that are headers, and what follows them
+pub same_headers : (h g : Header) (us vs : List ℕ) → IsHeader h → IsHeader g → header_bytes h ++ us ≡ header_bytes g ++ vs → (h ≡ g) × (us ≡ vs)
+same_headers h g us vs p q e =
+    let lengths = sym (size_is h us) ∙ ap header_size e ∙ size_is g vs in
+    let parts = same_parts (header_length h) (header_bytes h) us (header_bytes g) vs (length-header_bytes h) (length-header_bytes g ∙ sym lengths) e in
+    (same_header h g p q parts.0, parts.1)
 
-same_contents : (t u : TraceContents) → t.k ≡ u.k → t.c ≡ u.c → t.b ≡ u.b → t.steps ≡ u.steps → t ≡ u
-unfolding contents
-same_contents t u k c b steps =
-    ap (λ (x : ℕ). contents x t.c t.b t.steps) k ∙ ap (λ (x : ℕ). contents u.k x t.b t.steps) c ∙ ap (λ (x : ℕ). contents u.k u.c x t.steps) b
-    ∙ ap (contents u.k u.c u.b) steps
+same_contents : (t u : TraceContents) → header_of t ≡ header_of u → t.steps ≡ u.steps → t ≡ u
+same_contents t u same steps = λ i. record { k = (same i).k; c = (same i).c; b = (same i).b; r = (same i).r; steps = steps i }
 
 pub one_trace : (t u : TraceContents) → IsTrace t → IsTrace u → trace_bytes t ≡ trace_bytes u → t ≡ u
 one_trace t u p q e =
-    let parts = same_parts 12 (header_bytes (header_of t)) (records_bytes t.steps) (header_bytes (header_of u)) (records_bytes u.steps)
-    (length-header_bytes (header_of t)) (length-header_bytes (header_of u)) e in
-    let header = same_header (header_of t) (header_of u) p.header q.header parts.0 in
+    let parts = same_headers (header_of t) (header_of u) (records_bytes t.steps) (records_bytes u.steps) p.header q.header e in
+    let header = parts.0 in
     let k : t.k ≡ u.k = ap (λ (h : Header). h.k) header in
     let records = subst (λ (n : ℕ). HaveRecords n u.steps) (sym k) q.records in
     let all : records_bytes t.steps ++ [] ≡ records_bytes u.steps ++ [] = ap (λ (x : List ℕ). x ++ []) parts.1 in
     let steps = same_steps t.k t.steps u.steps [] [] p.records records (ap (λ (h : Header). h.count) header) all in
-    same_contents t u k (ap (λ (h : Header). h.c) header) (ap (λ (h : Header). h.b) header) steps.0
+    same_contents t u header steps.0

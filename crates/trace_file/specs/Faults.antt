@@ -1,5 +1,5 @@
 -- What is wrong with bytes that spell no trace, and where.
-use Rattle.std.specs.Prelude.{◌≡◌, ◌≢◌, ◌⊎◌, ℕ, ◌+◌, ◌*◌, ◌<◌, ◌≤◌, List, ◌++◌, length, take, Option}
+use Rattle.std.specs.Prelude.{◌≡◌, ◌≢◌, ◌⊎◌, ℕ, ◌+◌, ◌*◌, ◌<◌, ◌≤◌, List, ◌++◌, length, slice_index, take, Option, ◌==◌, if◌then◌else◌}
 use Rattle.std.specs.Io.KnownBytes.{Consumes}
 use Rattle.link.specs.Transfer.{ConsumesAll, ConsumesAtMost}
 use Rattle.steps.specs.declared.step.Step.{Step}
@@ -7,7 +7,7 @@ use Rattle.trace_file.specs.declared.header.Header.{Header}
 use Rattle.trace_file.specs.declared.error.TraceError.{TraceError}
 use Rattle.trace_file.specs.declared.error.TraceError.TheVariants as error
 use Rattle.trace_file.specs.Records.{record_bytes, HasRecord}
-use Rattle.trace_file.specs.Traces.{header_bytes, records_bytes, IsHeader, HaveRecords}
+use Rattle.trace_file.specs.Traces.{header_bytes, header_length, records_bytes, IsHeader, HaveRecords}
 
 -- The bytes begin with this header and with the records of these steps, each as it must be. The rest stands behind them.
 pub record BeginsWith (h : Header) (steps : List Step) (rest bytes : List ℕ) : Type 0 where
@@ -16,10 +16,14 @@ pub record BeginsWith (h : Header) (steps : List Step) (rest bytes : List ℕ) :
   pub few : length steps ≤ h.count
   pub spelled : bytes ≡ header_bytes h ++ (records_bytes steps ++ rest)
 
+-- how many bytes a header has, by the number of its format: byte 4, and 0 where there is none
+unfoldable pub header_size : List ℕ → ℕ
+header_size bytes = if slice_index bytes 4 == 2 then 16 else 12
+
 -- what is wrong with the header: it is cut short, whatever its bytes; it is no trace's
 abbrev pub HeaderFault : List ℕ → TraceError → Type 0
-HeaderFault bytes error.Truncated = length bytes < 12
-HeaderFault bytes error.Header = (12 ≤ length bytes) × ((h : Header) → IsHeader h → take 12 bytes ≢ header_bytes h)
+HeaderFault bytes error.Truncated = length bytes < header_size bytes
+HeaderFault bytes error.Header = (header_size bytes ≤ length bytes) × ((h : Header) → IsHeader h → take (header_size bytes) bytes ≢ header_bytes h)
 HeaderFault bytes error.Record = ⊥
 HeaderFault bytes error.Trailing = ⊥
 HeaderFault bytes error.Link = ⊥
@@ -43,14 +47,15 @@ BodyFault h steps rest fault =
 abbrev pub FaultAt : (place : ℕ) → List ℕ → TraceError → Type 0
 FaultAt place bytes fault =
     ((place ≡ 0) × HeaderFault bytes fault)
-    ⊎ ((h : Header) × (steps : List Step) × (rest : List ℕ) × BeginsWith h steps rest bytes × (place ≡ 12 + 12 * length steps) × BodyFault h steps rest fault)
+    ⊎ ((h : Header) × (steps : List Step) × (rest : List ℕ) × BeginsWith h steps rest bytes × (place ≡ header_length h + 12 * length steps)
+    × BodyFault h steps rest fault)
 
 -- ---- what reading gives
 
 -- how many bytes are taken, at most, from the place of a fault on
 abbrev pub taken_at_most : TraceError → ℕ
-taken_at_most error.Truncated = 11
-taken_at_most error.Header = 12
+taken_at_most error.Truncated = 15
+taken_at_most error.Header = 16
 taken_at_most error.Record = 4092
 taken_at_most error.Trailing = 1
 taken_at_most error.Link = 0
@@ -58,7 +63,7 @@ taken_at_most error.Memory = 0
 
 -- how many bytes the longest trace has
 abbrev pub most_trace_bytes : ℕ
-most_trace_bytes = 12 + 12 * 4194304
+most_trace_bytes = 16 + 12 * 4194304
 
 -- Why there is no trace, and what the reader has given. Of bytes that were cut short it has no more. Where the link failed, of
 -- which another clause speaks, or memory was short, a beginning of its bytes was read, of no more than a trace has.

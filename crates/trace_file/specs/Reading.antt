@@ -1,5 +1,5 @@
 -- What the parts of reading give.
-use Rattle.std.specs.Prelude.{◌≡◌, ℕ, ◌*◌, ◌<◌, ◌≤◌, Bool, true, false, List, [], ◌∷◌, ◌++◌, length, slice_index, Option, Result, Ok, Err}
+use Rattle.std.specs.Prelude.{◌≡◌, ℕ, ◌*◌, ◌<◌, ◌≤◌, Bool, true, false, List, [], ◌∷◌, ◌++◌, length, slice_index, Option, Result, Ok, Err, ◌==◌, if◌then◌else◌}
 use Rattle.std.specs.Int.{w32, from_le_bytes}
 use Rattle.std.specs.Io.KnownBytes.{Consumes}
 use Rattle.link.specs.Transfer.{ConsumesAll, ConsumesAtMost, ConsumesLess}
@@ -7,12 +7,20 @@ use Rattle.steps.specs.declared.step.Step.{Step}
 use Rattle.trace_file.specs.declared.error.TraceError.{TraceError}
 use Rattle.trace_file.specs.declared.error.TraceError.TheVariants as error
 use Rattle.trace_file.specs.declared.fields.Fields.{Fields}
+use Rattle.trace_file.specs.declared.header.Header.{Header}
 use Rattle.trace_file.specs.Traces.{records_bytes, HaveRecords}
 use Rattle.trace_file.specs.Faults.{RecordFault}
 
 -- the number of four bytes of a list, the lowest first
 abbrev pub word_in : List ℕ → (i j k l : ℕ) → ℕ
 word_in xs i j k l = from_le_bytes w32 (slice_index xs i ∷ slice_index xs j ∷ slice_index xs k ∷ slice_index xs l ∷ [])
+
+-- the numbers of a header of either format
+unfoldable pub header_in : List ℕ → Header
+header_in xs =
+    if slice_index xs 4 == 2
+    then record { k = slice_index xs 5; c = slice_index xs 6; b = slice_index xs 7; r = slice_index xs 8; count = word_in xs 12 13 14 15 }
+    else record { k = slice_index xs 5; c = slice_index xs 6; b = slice_index xs 7; r = 1; count = word_in xs 8 9 10 11 }
 
 -- the fields of twelve bytes
 unfoldable pub fields_in : List ℕ → Fields

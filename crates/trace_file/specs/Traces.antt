@@ -1,5 +1,5 @@
--- Traces, and their one spelling: a header of 12 bytes, and then the record of each step.
-use Rattle.std.specs.Prelude.{ℕ, ◌≤◌, All, List, ◌∷◌, ◌++◌, length}
+-- Traces, and their one spelling: a header of 12 or 16 bytes, and then the record of each step.
+use Rattle.std.specs.Prelude.{ℕ, ◌≤◌, ◌<◌, ◌==◌, All, List, ◌∷◌, ◌++◌, length, if◌then◌else◌}
 use Rattle.std.specs.Int.{w32, to_le_bytes}
 use Rattle.std.specs.List.{flat_map}
 use Rattle.flat_machine.specs.declared.config.Config.{Config}
@@ -12,22 +12,34 @@ pub record TraceContents : Type 0 where
   pub k : ℕ
   pub c : ℕ
   pub b : ℕ
+  pub r : ℕ
   pub steps : List Step
 
 -- the trace of a machine of this size
 abbrev pub trace_of : Config → List Step → TraceContents
-trace_of config steps = record { k = config.k; c = config.c; b = config.b; steps = steps }
+trace_of config steps = record { k = config.k; c = config.c; b = config.b; r = config.r; steps = steps }
 
 -- the size of a machine with a trace's network and so many shared words
 abbrev pub config_of : TraceContents → (shared_words : ℕ) → Config
-config_of t shared_words = record { k = t.k; c = t.c; b = t.b; shared_words = shared_words }
+config_of t shared_words = record { k = t.k; c = t.c; b = t.b; r = t.r; shared_words = shared_words }
 
 abbrev pub header_of : TraceContents → Header
-header_of t = record { k = t.k; c = t.c; b = t.b; count = length t.steps }
+header_of t = record { k = t.k; c = t.c; b = t.b; r = t.r; count = length t.steps }
 
--- "ULTR"; 1; k, c and b; how many records there are, four bytes, the lowest first
+-- Where r is 1, format 1: "ULTR"; 1; k, c and b; how many records there are, four bytes, the lowest first.
+abbrev pub short_header : Header → List ℕ
+short_header h = 0x55 ∷ 0x4C ∷ 0x54 ∷ 0x52 ∷ 1 ∷ h.k ∷ h.c ∷ h.b ∷ to_le_bytes w32 h.count
+
+-- Else format 2: "ULTR"; 2; k, c, b and r; three zeros; how many records there are.
+abbrev pub long_header : Header → List ℕ
+long_header h = 0x55 ∷ 0x4C ∷ 0x54 ∷ 0x52 ∷ 2 ∷ h.k ∷ h.c ∷ h.b ∷ h.r ∷ 0 ∷ 0 ∷ 0 ∷ to_le_bytes w32 h.count
+
 unfoldable pub header_bytes : Header → List ℕ
-header_bytes h = 0x55 ∷ 0x4C ∷ 0x54 ∷ 0x52 ∷ 1 ∷ h.k ∷ h.c ∷ h.b ∷ to_le_bytes w32 h.count
+header_bytes h = if h.r == 1 then short_header h else long_header h
+
+-- how many bytes that are
+unfoldable pub header_length : Header → ℕ
+header_length h = if h.r == 1 then 12 else 16
 
 -- the records of the steps, in order
 abbrev pub records_bytes : List Step → List ℕ
@@ -43,6 +55,9 @@ pub record IsHeader (h : Header) : Type 0 where
   pub some_capacity : 2 ≤ h.c
   pub capacity : h.c ≤ 16
   pub records : h.b ≤ 16
+  pub some_combinations : 1 ≤ h.r
+  pub combinations : h.r ≤ 3
+  pub answers : h.r < h.c
   pub count : h.count ≤ 4194304
 
 -- Each step is one that a machine of this size may be asked for.

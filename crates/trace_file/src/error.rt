@@ -13,8 +13,8 @@ pub enum TraceError {
     /// The bytes end within the header or within a record, whatever these have before the end.
     #[error("X1")]
     Truncated,
-    /// The header is no trace's: its first five bytes, a size out of its range, or a number of
-    /// records over 4,194,304.
+    /// The header is no trace's: its first five bytes, a size out of its range, an unused byte that is
+    /// not 0, or a number of records over 4,194,304.
     #[error("X2")]
     Header,
     /// A record is no step's: its kind, a number out of its range, or an unused byte that is not 0.

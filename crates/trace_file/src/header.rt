@@ -1,17 +1,24 @@
 //! The header of a trace.
 
-ghost use Rattle.std.specs.Prelude.{◌≡◌, ◌≢◌, ◌≤◌, ◌↔◌, IsTrue, IfSome, IfNone, length};
-ghost use Rattle.trace_file.specs.Traces.{header_bytes, header_of, trace_of, IsHeader};
+ghost use Rattle.std.specs.Prelude.{◌≡◌, ◌≢◌, ◌≤◌, ◌↔◌, ◌==◌, IsTrue, IfSome, IfNone, length, slice_index, if◌then◌else◌};
+ghost use Rattle.trace_file.specs.Traces.{header_bytes, header_of, long_header, short_header, trace_of, IsHeader};
+ghost use Rattle.trace_file.specs.Faults.{header_size};
+ghost use Rattle.trace_file.specs.Reading.{header_in};
 
-use byteorder::{ByteOrder, LittleEndian};
-use flat_machine::{Config, MAX_QUEUE_CAPACITY, MAX_STAGES, MAX_WAIT_RECORDS, MIN_QUEUE_CAPACITY};
+use arrayvec::ArrayVec;
+use flat_machine::{
+    Config, MAX_COMBINATIONS, MAX_QUEUE_CAPACITY, MAX_STAGES, MAX_WAIT_RECORDS, MIN_QUEUE_CAPACITY,
+};
 use steps::{MAX_STEPS, Step};
 
-/// How many bytes the header has.
-pub const HEADER_BYTES: usize = 12;
+/// How many bytes the longest header has.
+pub const MAX_HEADER_BYTES: usize = 16;
 
-/// The first bytes of a trace, and the number of the format.
-const MAGIC: [u8; 5] = [b'U', b'L', b'T', b'R', 1];
+/// The bytes of a header.
+pub type HeaderBytes = ArrayVec<u8, MAX_HEADER_BYTES>;
+
+/// The first bytes of a trace. The number of its format follows.
+const MAGIC: [u8; 4] = [b'U', b'L', b'T', b'R'];
 
 /// The sizes of the network, and how many records follow.
 #[derive(Clone, Copy, Debug, PartialEq, Eq, Drop)]
@@ -19,7 +26,17 @@ pub struct Header {
     pub k: u8,
     pub c: u8,
     pub b: u8,
+    pub r: u8,
     pub count: u32,
+}
+
+/// How many bytes a header has whose format has this number.
+pub fn header_size(format: u8) -> usize
+    ensures exact { result ≡ (if format == 2 then 16 else 12) }
+    ensures least { 12 ≤ result }
+    ensures most { result ≤ 16 }
+{
+    if format == 2 { 16 } else { 12 }
 }
 
 impl Header {
@@ -32,37 +49,91 @@ impl Header {
             k: config.k,
             c: config.c,
             b: config.b,
+            r: config.r,
             count: steps.len() as u32,
         }
     }
 
-    /// The bytes of the header.
+    /// The bytes of the header: those of format 1 where an entry of a queue is combined once, else those of format 2.
     #[tactic(auto, unfolding(crate::specs::Traces::header_bytes))]
-    pub fn bytes(&self) -> [u8; HEADER_BYTES]
-        ensures { result ≡ header_bytes self.now }
+    pub fn bytes(&self) -> HeaderBytes
+        ensures { result.items ≡ header_bytes self.now }
     {
-        let [u, l, t, r, version] = MAGIC;
-        let mut bytes = [u, l, t, r, version, self.k, self.c, self.b, 0, 0, 0, 0];
-        LittleEndian::write_u32(&mut bytes[8..], self.count);
+        if self.r == 1 {
+            self.short_bytes()
+        } else {
+            self.long_bytes()
+        }
+    }
+
+    /// The bytes of format 1.
+    fn short_bytes(&self) -> HeaderBytes
+        ensures { result.items ≡ short_header self.now }
+    {
+        let [u, l, t, r] = MAGIC;
+        let mut bytes = HeaderBytes::new();
+        bytes
+            .try_extend_from_slice(&[u, l, t, r, 1, self.k, self.c, self.b])
+            .unwrap();
+        bytes
+            .try_extend_from_slice(&self.count.to_le_bytes())
+            .unwrap();
+        bytes
+    }
+
+    /// The bytes of format 2.
+    fn long_bytes(&self) -> HeaderBytes
+        ensures { result.items ≡ long_header self.now }
+    {
+        let [u, l, t, r] = MAGIC;
+        let mut bytes = HeaderBytes::new();
+        bytes
+            .try_extend_from_slice(&[u, l, t, r, 2, self.k, self.c, self.b, self.r, 0, 0, 0])
+            .unwrap();
+        bytes
+            .try_extend_from_slice(&self.count.to_le_bytes())
+            .unwrap();
         bytes
     }
 
     /// The header in range with these bytes, where there is one.
     pub fn of(bytes: &[u8]) -> Option<Self>
-        requires { length bytes.now ≡ 12 }
+        requires { length bytes.now ≡ header_size bytes.now }
         ensures some { IfSome result (λ header. IsHeader header × (header_bytes header ≡ bytes.now)) }
         ensures none { IfNone result ((h : Header) → IsHeader h → bytes.now ≢ header_bytes h) }
     {
-        let header = Header {
-            k: bytes[5],
-            c: bytes[6],
-            b: bytes[7],
-            count: u32::from_le_bytes([bytes[8], bytes[9], bytes[10], bytes[11]]),
-        };
-        if bytes.starts_with(&MAGIC) && header.is_in_range() {
+        let header = Header::in_bytes(bytes);
+        if header.is_in_range() && header.bytes().as_slice() == bytes {
             Some(header)
         } else {
             None
+        }
+    }
+
+    /// The numbers that stand where a header has its own.
+    #[tactic(auto, unfolding(crate::specs::Reading::header_in))]
+    fn in_bytes(bytes: &[u8]) -> Self
+        requires short { 12 ≤ length bytes.now }
+        requires long { slice_index bytes.now 4 ≡ 2 → 16 ≤ length bytes.now }
+        ensures { result ≡ header_in bytes.now }
+    {
+        let (k, c, b) = (bytes[5], bytes[6], bytes[7]);
+        if bytes[4] == 2 {
+            Header {
+                k,
+                c,
+                b,
+                r: bytes[8],
+                count: u32::from_le_bytes([bytes[12], bytes[13], bytes[14], bytes[15]]),
+            }
+        } else {
+            Header {
+                k,
+                c,
+                b,
+                r: 1,
+                count: u32::from_le_bytes([bytes[8], bytes[9], bytes[10], bytes[11]]),
+            }
         }
     }
 
@@ -74,6 +145,9 @@ impl Header {
             && MIN_QUEUE_CAPACITY <= self.c
             && self.c <= MAX_QUEUE_CAPACITY
             && self.b <= MAX_WAIT_RECORDS
+            && 1 <= self.r
+            && self.r <= MAX_COMBINATIONS
+            && self.r < self.c
             && self.count as usize <= MAX_STEPS
     }
 }

@@ -1,20 +1,23 @@
 //! Reading a trace.
 
-ghost use Rattle.std.specs.Prelude.{◌≡◌, ℕ, ◌≤◌, ◌<◌, ◌↔◌, ◌/◌, ◌%◌, true, false, List, [], length, OnOk, IfOk, IfErr, IsErrOf};
+ghost use Rattle.std.specs.Prelude.{◌≡◌, ℕ, ◌≤◌, ◌<◌, ◌↔◌, ◌/◌, ◌%◌, true, false, List, [], length, take, OnOk, IfOk, IfErr, IsErrOf};
 ghost use Rattle.std.specs.Io.KnownBytes.{Consumes};
 ghost use Rattle.link.specs.Transfer.{ConsumesAll};
 ghost use Rattle.trace_file.specs.Traces.{header_bytes, trace_bytes, IsHeader, IsTrace};
-ghost use Rattle.trace_file.specs.Faults.{IsRefused};
+ghost use Rattle.trace_file.specs.Faults.{IsRefused, header_size};
 ghost use Rattle.trace_file.specs.Reading.{is_link_fault, Adds, AddsRead, IsNotAdded, IsStopped, IsNoEnd};
 
 use crate::error::TraceError;
 use crate::fields::{Fields, RECORD_BYTES};
-use crate::header::{HEADER_BYTES, Header};
+use crate::header::{Header, MAX_HEADER_BYTES, header_size};
 use crate::trace::Trace;
 use crate::write::{PIECE_BYTES, RECORDS_IN_PIECE};
 use link::{LinkRead, fill};
 use std::alloc::Global;
 use steps::Step;
+
+/// How many bytes end with the number of the format.
+const FORMAT_BYTES: usize = 5;
 
 /// Reads a trace: all that the reader has.
 ///
@@ -39,7 +42,7 @@ pub fn read_trace<R: LinkRead>(alloc: Global, reader: &mut R) -> Result<Trace, T
     let header = read_header(reader)?;
     let steps = read_records(alloc, reader, &header)?;
     read_end(reader)?;
-    Ok(Trace::new(header.k, header.c, header.b, steps))
+    Ok(Trace::new(&header, steps))
 }
 
 /// Reads the header.
@@ -49,14 +52,33 @@ fn read_header<R: LinkRead>(reader: &mut R) -> Result<Header, TraceError>
     ensures ok { IfOk result (λ header. IsHeader header × Consumes (R.remaining reader.old) (R.remaining reader.new) (header_bytes header)) }
     ensures refused { IfErr result (IsRefused (R.remaining reader.old) (R.remaining reader.new)) }
 {
-    let mut bytes = [0; HEADER_BYTES];
-    if fill(reader, &mut bytes)? < HEADER_BYTES {
-        return Err(TraceError::Truncated);
-    }
-    let Some(header) = Header::of(&bytes) else {
+    let mut bytes = [0; MAX_HEADER_BYTES];
+    let size = fill_header(reader, &mut bytes)?;
+    let Some(header) = Header::of(&bytes[..size]) else {
         return Err(TraceError::Header);
     };
     Ok(header)
+}
+
+/// Reads as many bytes as a header of the format has whose number it reads: how many these are.
+fn fill_header<R: LinkRead>(
+    reader: &mut R,
+    bytes: &mut [u8; MAX_HEADER_BYTES],
+) -> Result<usize, TraceError>
+    requires { R.has_failed reader.old ≡ false }
+    ensures failed { R.has_failed reader.new ≡ is_link_fault result }
+    ensures ok { IfOk result (λ size. (size ≤ 16) × (size ≡ header_size (take size bytes.new))
+        × Consumes (R.remaining reader.old) (R.remaining reader.new) (take size bytes.new)) }
+    ensures refused { IfErr result (IsRefused (R.remaining reader.old) (R.remaining reader.new)) }
+{
+    if fill(reader, &mut bytes[..FORMAT_BYTES])? < FORMAT_BYTES {
+        return Err(TraceError::Truncated);
+    }
+    let size = header_size(bytes[FORMAT_BYTES - 1]);
+    if fill(reader, &mut bytes[FORMAT_BYTES..size])? < size - FORMAT_BYTES {
+        return Err(TraceError::Truncated);
+    }
+    Ok(size)
 }
 
 /// Reads the records that the header tells of.

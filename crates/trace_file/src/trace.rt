@@ -3,6 +3,7 @@
 ghost use Rattle.std.specs.Prelude.{◌≡◌};
 ghost use Rattle.trace_file.specs.Traces.{TraceContents, config_of};
 
+use crate::header::Header;
 use flat_machine::Config;
 use std::marker::Model;
 use steps::Step;
@@ -13,6 +14,7 @@ pub struct Trace {
     k: u8,
     c: u8,
     b: u8,
+    r: u8,
     steps: Vec<Step>,
 }
 
@@ -21,15 +23,21 @@ impl Model for Trace {
 
     ghost Value = { TraceContents };
 
-    ghost view = { λ t. record { k = t.k; c = t.c; b = t.b; steps = t.steps.items } };
+    ghost view = { λ t. record { k = t.k; c = t.c; b = t.b; r = t.r; steps = t.steps.items } };
 }
 
 impl Trace {
-    /// The trace of these steps, on a network of these sizes.
-    pub(crate) fn new(k: u8, c: u8, b: u8, steps: Vec<Step>) -> Self
-        ensures { result ≡ record { k = k; c = c; b = b; steps = steps.items } }
+    /// The trace of these steps, on a network of the header's sizes.
+    pub(crate) fn new(header: &Header, steps: Vec<Step>) -> Self
+        ensures { result ≡ record { k = header.now.k; c = header.now.c; b = header.now.b; r = header.now.r; steps = steps.items } }
     {
-        Trace { k, c, b, steps }
+        Trace {
+            k: header.k,
+            c: header.c,
+            b: header.b,
+            r: header.r,
+            steps,
+        }
     }
 
     /// The size of a machine with the trace's network, and with so many shared words, of which a
@@ -41,6 +49,7 @@ impl Trace {
             k: self.k,
             c: self.c,
             b: self.b,
+            r: self.r,
             shared_words,
         }
     }

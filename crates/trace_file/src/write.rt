@@ -46,12 +46,12 @@ pub fn write_trace<W: LinkWrite>(
 {
     // A law of what is written in parts, for the proof alone.
     parts_make_a_beginning();
-    write_whole(writer, &Header::new(config, steps).bytes())?;
+    write_whole(writer, Header::new(config, steps).bytes().as_slice())?;
     write_records(writer, steps)?;
     Ok(())
 }
 
-/// Whether the steps have a trace on a machine of this size: its `k`, `c` and `b` are in range, each
+/// Whether the steps have a trace on a machine of this size: its `k`, `c`, `b` and `r` are in range, each
 /// step has a record, and there are at most 4,194,304.
 pub fn is_trace(config: &Config, steps: &[Step]) -> bool
     ensures { IsTrue result ↔ IsTrace (trace_of config.now steps.now) }

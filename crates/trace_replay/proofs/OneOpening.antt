@@ -1,16 +1,16 @@
 -- All machines that open on one image are one: they stand alike after the same steps, and none of the steps that one of them
 -- takes stalls in another.
 use Rattle.std.proofs.Common.{◌≡◌, ℕ, zero, suc, ◌<◌, List, [], ◌∷◌, length, take, slice_index_or, sym, ap, ◌∙◌, subst, arith}
-use Rattle.flat_machine.specs.declared.config.Config.{Config}
-use Rattle.flat_machine.specs.declared.event.Event.{Event}
-use Rattle.flat_machine.specs.State.{FlatState}
-use Rattle.elf_image.specs.Images.{ImageContents}
-use Rattle.machine_program.specs.Theory as theory
+use Rattle.machine_runs.specs.flat_machine.declared.config.Config.{Config}
+use Rattle.machine_runs.specs.flat_machine.declared.event.Event.{Event}
+use Rattle.machine_runs.specs.flat_machine.State.{FlatState}
+use Rattle.machine_runs.specs.elf_image.Images.{ImageContents}
+use Rattle.machine_runs.specs.machine_program.Theory as theory
 use Rattle.steps.specs.declared.step.Step.{Step}
 use Rattle.steps.specs.declared.step.Step.TheVariants as step
 use Rattle.steps.specs.declared.step.Outcome.TheVariants.{Stalled}
-use Rattle.machine_program.specs.Processors.{Told}
-use Rattle.machine_program.specs.Steps.{outcome_of, after}
+use Rattle.machine_runs.specs.machine_program.Processors.{Told}
+use Rattle.machine_runs.specs.machine_program.Steps.{outcome_of, after}
 use Rattle.machine_runs.specs.Machines.{MachineLists, machine_of}
 use Rattle.machine_runs.specs.Runs.{IsOpening, IsReplay, NoneStalls, all_after}
 use Rattle.machine_runs.proofs.Lemmas.{outcome_there}

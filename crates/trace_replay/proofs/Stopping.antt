@@ -1,11 +1,11 @@
 -- Where a replay stops.
 use Rattle.std.proofs.Common.{◌≡◌, ℕ, ◌<◌, List, [], length, take, slice_index_or, sym, ap, ap₂, ◌∙◌, subst}
-use Rattle.flat_machine.specs.declared.event.Event.{Event}
+use Rattle.machine_runs.specs.flat_machine.declared.event.Event.{Event}
 use Rattle.steps.specs.declared.step.Step.{Step}
 use Rattle.steps.specs.declared.step.Step.TheVariants as step
 use Rattle.steps.specs.declared.step.Outcome.{Outcome}
 use Rattle.steps.specs.declared.step.Outcome.TheVariants.{Stalled}
-use Rattle.machine_program.specs.Steps.{outcome_of}
+use Rattle.machine_runs.specs.machine_program.Steps.{outcome_of}
 use Rattle.machine_runs.specs.Machines.{MachineLists, machine_of, IsStep}
 use Rattle.machine_runs.specs.Runs.{IsReplay}
 use Rattle.machine_runs.proofs.Lemmas.{replay_kept}

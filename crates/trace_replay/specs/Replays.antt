@@ -3,7 +3,7 @@ use Rattle.std.specs.Prelude.{◌≡◌, ℕ, ◌<◌, List, [], length, take, s
 use Rattle.steps.specs.declared.step.Step.{Step}
 use Rattle.steps.specs.declared.step.Step.TheVariants as step
 use Rattle.steps.specs.declared.step.Outcome.TheVariants.{Stalled}
-use Rattle.machine_program.specs.Steps.{outcome_of}
+use Rattle.machine_runs.specs.machine_program.Steps.{outcome_of}
 use Rattle.machine_runs.specs.Machines.{MachineLists, machine_of}
 use Rattle.machine_runs.specs.Runs.{IsReplay}
 

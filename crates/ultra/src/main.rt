@@ -18,7 +18,7 @@ use command_io::{CreateAt, Fault, OnFirstWrite, REFUSED, tell};
 use debug_command::debug_command;
 use dis_command::dis_command;
 use explain_command::{all_topics, explain_command};
-use explore_command::explore_command;
+use explore_command::{Search, SearchProgress, Unwatched, explore_command};
 use flat_machine::Config;
 use hunt_command::{Hunt as Hunted, hunt_command};
 use link::{LinkWrite, Meter};
@@ -86,7 +86,7 @@ fn carry_out<
         },
         Ok(Settings::Run(run)) => run_file(rt, &run, terminal, out, err),
         Ok(Settings::Hunt(hunt)) => hunt_file(rt, &hunt, out, err),
-        Ok(Settings::Explore(explore)) => explore_file(rt, &explore, out, err),
+        Ok(Settings::Explore(explore)) => explore_file(rt, &explore, terminal, out, err),
         Ok(Settings::Replay(replay)) => tell_steps(rt, &replay, Telling::Report, out, err),
         Ok(Settings::Order(order)) => {
             let choice = Choice {
@@ -195,24 +195,77 @@ fn config_of(sizes: &Sizes) -> Config {
         k: sizes.k,
         c: sizes.c,
         b: sizes.b,
+        r: sizes.r,
         shared_words: sizes.words,
     }
 }
 
-/// Does what `explore FILE` asks for.
-fn explore_file<R: Files + AllocGlobal, W: LinkWrite, E: Write>(
+/// Does what `explore FILE` asks for. OUT is opened by the first write to it.
+fn explore_file<R: Files + Clock + Eprint + AllocGlobal, W: LinkWrite, E: Write>(
     rt: &R,
     explore: &Explore<'_>,
+    terminal: bool,
     out: &mut W,
     err: &mut E,
 ) -> u8
     requires works { W.has_failed out.old ≡ false }
 {
+    if explore.witness.is_some() != explore.trace.is_some() {
+        return refuse_half(err);
+    }
+    if explore
+        .trace
+        .is_some_and(|out| are_one_file(rt, explore.file, out))
+    {
+        return refuse_out(err);
+    }
     let Ok(file) = fs::open(rt, explore.file) else {
         return tell(Fault::Link, err);
     };
+    match explore.trace {
+        Some(path) => {
+            let writer = OnFirstWrite::new(CreateAt { files: rt, path });
+            let mut trace = Some(Meter::new(writer));
+            explore_image(rt, file, explore, terminal, &mut trace, out, err)
+        }
+        None => {
+            let mut trace: Option<Meter<Vec<u8>>> = None;
+            explore_image(rt, file, explore, terminal, &mut trace, out, err)
+        }
+    }
+}
+
+/// Explores an image. How far the search is is told on a terminal.
+fn explore_image<
+    F: Read + Drop,
+    T: LinkWrite,
+    R: Clock + Eprint + AllocGlobal,
+    W: LinkWrite,
+    E: Write,
+>(
+    rt: &R,
+    file: F,
+    explore: &Explore<'_>,
+    terminal: bool,
+    trace: &mut Option<T>,
+    out: &mut W,
+    err: &mut E,
+) -> u8
+    requires saves { IsWorking T.has_failed trace.old }
+    requires works { W.has_failed out.old ≡ false }
+{
+    let alloc = rt.alloc();
     let config = config_of(&explore.sizes);
-    explore_command(rt.alloc(), file, config, explore.states, out, err)
+    let search = Search {
+        limit: explore.states,
+        witness: explore.witness.unwrap_or(0),
+    };
+    if terminal && !explore.quiet {
+        let mut watch = SearchProgress::new(rt, rt);
+        explore_command(alloc, file, config, search, trace, &mut watch, out, err)
+    } else {
+        explore_command(alloc, file, config, search, trace, &mut Unwatched, out, err)
+    }
 }
 
 /// Does what `hunt FILE` asks for. Each trace is opened by the first write to it.
@@ -282,6 +335,12 @@ fn are_one_file<R: Files>(files: &R, one: &str, other: &str) -> bool {
 /// Tells that OUT is the file that is to be read. Neither is opened.
 fn refuse_out<E: Write>(err: &mut E) -> u8 {
     let _ = writeln!(err, "error: OUT is the same file as FILE");
+    REFUSED
+}
+
+/// Tells that a witness is asked for, and not where its trace goes, or the other way round.
+fn refuse_half<E: Write>(err: &mut E) -> u8 {
+    let _ = writeln!(err, "error: --witness and --trace go together");
     REFUSED
 }
 

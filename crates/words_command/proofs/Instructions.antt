@@ -15,12 +15,12 @@ use Rattle.flat_machine.specs.Turns.{Turn, Retires, Reaches, Stops, turn_of}
 use Rattle.flat_machine.specs.Flat.{flat_run, flat_step, flat_event, flat_events, taken, with_taken, step_of, turned, turn_event, with_processor_number}
 use Rattle.steps.specs.declared.step.Outcome.{Outcome}
 use Rattle.steps.specs.declared.step.Outcome.TheVariants as outcome
-use Rattle.machine_program.specs.Processors.{no_processor}
-use Rattle.machine_program.proofs.Lemmas.{read_found}
+use Rattle.machine_runs.specs.machine_program.Processors.{no_processor}
+use Rattle.machine_runs.proofs.Lemmas.machine_program.{read_found}
 use Rattle.machine_runs.specs.Machines.{MachineLists, IsMachine}
 use Rattle.machine_runs.specs.Runs.{flat_state}
 use Rattle.machine_runs.specs.Whole.{event_of, IsOne}
-use Rattle.machine.proofs.Lemmas.{count_is, state_at}
+use Rattle.machine_runs.proofs.Lemmas.machine.{count_is, state_at}
 use Rattle.words_command.specs.Command.{HasProcessor}
 use Rattle.words_command.specs.Running.{HasRunAlone, is_retirement, is_retired, retirements, turns_of_zero, processor_of}
 

@@ -11,7 +11,7 @@ use Rattle.flat_machine.specs.declared.event.Status.TheVariants.{Running}
 use Rattle.flat_machine.specs.Limits.{IsWithinLimits}
 use Rattle.flat_machine.specs.Memory.{number_at}
 use Rattle.flat_machine.specs.State.{FlatState}
-use Rattle.local_memory.specs.Accesses.{region_of_bytes}
+use Rattle.elf_image.specs.local_memory.Accesses.{region_of_bytes}
 use Rattle.elf_image.specs.declared.error.ImageError.{ImageError}
 use Rattle.elf_image.specs.declared.error.ImageError.TheVariants as because
 use Rattle.elf_image.specs.declared.layout.Layout.{Layout}
@@ -99,7 +99,7 @@ zeros start (suc count) = ap₂ (λ w ws. w ∷ ws) (no_bytes (4 * start)) (zero
 
 -- the size of the machine
 abbrev size : Config
-size = record { k = 0; c = 2; b = 0; shared_words = 1024 }
+size = record { k = 0; c = 2; b = 0; r = 1; shared_words = 1024 }
 
 open_on : (words : List ℕ) → opening size (layout_of_words words) ≡ flat_of_words words
 open_on words = ap (λ (shared : List ℕ). with_shared shared) (zeros 0 1024)
@@ -119,7 +119,17 @@ words_open words layout image m is read opens = opens ∙ ap (λ (i : ImageConte
 pub made_for : (layout : Layout) (image : ImageContents) → image ≡ record { layout = layout; shared_words = 1024 } →
     IsWithinLimits size × (image.shared_words ≡ size.shared_words)
 made_for layout image read = (
-  record { stages = omega arith; some_capacity = omega arith; capacity = omega arith; records = omega arith; some_words = omega arith; words = omega arith },
+  record {
+    stages = omega arith;
+    some_capacity = omega arith;
+    capacity = omega arith;
+    records = omega arith;
+    some_combinations = omega arith;
+    combinations = omega arith;
+    answers = omega arith;
+    some_words = omega arith;
+    words = omega arith;
+  },
   ap (λ (i : ImageContents). i.shared_words) read,
 )
 

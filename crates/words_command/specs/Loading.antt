@@ -3,7 +3,7 @@ use Rattle.std.specs.Int.{w32, to_le_bytes}
 use Rattle.std.specs.Prelude.{ℕ, ◌^◌, List, [], ◌∷◌, ◌++◌, replicate}
 use Rattle.flat_machine.specs.declared.event.Status.TheVariants.{Running}
 use Rattle.flat_machine.specs.State.{FlatState}
-use Rattle.local_memory.specs.Accesses.{region_of_bytes}
+use Rattle.elf_image.specs.local_memory.Accesses.{region_of_bytes}
 use Rattle.elf_image.specs.declared.error.ImageError.{ImageError}
 use Rattle.elf_image.specs.declared.error.ImageError.TheVariants as error
 use Rattle.elf_image.specs.declared.layout.Layout.{Layout}

@@ -19,6 +19,7 @@ const SIZE: Config = Config {
     k: 0,
     c: 2,
     b: 0,
+    r: 1,
     shared_words: 1024,
 };
 

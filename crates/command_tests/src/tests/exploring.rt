@@ -4,9 +4,10 @@
 mod devices;
 mod ends;
 mod programs;
+mod witnesses;
 
 use super::image_of;
-use explore_command::explore_command;
+use explore_command::{Search, Unwatched, explore_command};
 use flat_machine::Config;
 use link::Meter;
 use std::alloc::Global;
@@ -17,6 +18,7 @@ fn config_of(k: u8) -> Config {
         k,
         c: 4,
         b: 4,
+        r: 1,
         shared_words: 16,
     }
 }
@@ -33,7 +35,18 @@ struct Ran {
 fn explore(alloc: Global, file: &[u8], config: Config, limit: u32) -> Ran {
     let mut out = Meter::new(Vec::new(alloc));
     let mut err = Vec::new(alloc);
-    let status = explore_command(alloc, file, config, limit, &mut out, &mut err);
+    let search = Search { limit, witness: 0 };
+    let mut trace: Option<Meter<Vec<u8>>> = None;
+    let status = explore_command(
+        alloc,
+        file,
+        config,
+        search,
+        &mut trace,
+        &mut Unwatched,
+        &mut out,
+        &mut err,
+    );
     Ran {
         status,
         out: out.device,

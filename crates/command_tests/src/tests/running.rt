@@ -21,6 +21,7 @@ const fn size(k: u8) -> Config {
         k,
         c: 4,
         b: 4,
+        r: 1,
         shared_words: 1024,
     }
 }

@@ -12,6 +12,7 @@ const TWO: Config = Config {
     k: 1,
     c: 2,
     b: 0,
+    r: 1,
     shared_words: 5,
 };
 

@@ -1,6 +1,7 @@
 //! Rows of the table, and the small types that all parts share: sizes, faults, causes, outcomes.
 
 use flat_machine::{Cause, Config, Fault, MAX_STAGES, Size, Status};
+use messages::Seconds;
 use rv_table::{AmoOp, Format, Immediate, Insn, Register, RegisterOp, Row, ShiftOp, row_of};
 use std::test::Fail;
 use steps::Outcome;
@@ -59,22 +60,31 @@ fn rows_of_instructions(rt: HostRuntime) -> Result<(), Fail> {
 /// Each number at its limits, and one past them.
 #[test]
 fn limits(rt: HostRuntime) {
-    for (k, c, b, shared_words, is_within) in [
-        (0, 2, 0, 1, true),
-        (6, 16, 16, 262_144, true),
-        (7, 2, 0, 1, false),
-        (255, 2, 0, 1, false),
-        (0, 1, 0, 1, false),
-        (0, 0, 0, 1, false),
-        (0, 17, 0, 1, false),
-        (0, 2, 17, 1, false),
-        (0, 2, 0, 0, false),
-        (0, 2, 0, 262_145, false),
+    for (k, c, b, r, shared_words, is_within) in [
+        (0, 2, 0, 1, 1, true),
+        (6, 16, 16, 1, 262_144, true),
+        (7, 2, 0, 1, 1, false),
+        (255, 2, 0, 1, 1, false),
+        (0, 1, 0, 1, 1, false),
+        (0, 0, 0, 1, 1, false),
+        (0, 17, 0, 1, 1, false),
+        (0, 2, 17, 1, 1, false),
+        (0, 2, 0, 1, 0, false),
+        (0, 2, 0, 1, 262_145, false),
+        (0, 3, 0, 2, 1, true),
+        (0, 4, 0, 3, 1, true),
+        (6, 16, 16, 3, 262_144, true),
+        (0, 2, 0, 0, 1, false),
+        (0, 2, 0, 2, 1, false),
+        (0, 3, 0, 3, 1, false),
+        (0, 16, 0, 4, 1, false),
+        (0, 16, 0, 255, 1, false),
     ] {
         let config = Config {
             k,
             c,
             b,
+            r,
             shared_words,
         };
         assert_eq!(rt; config.is_within_limits(), is_within, "{config:?}");
@@ -90,6 +100,7 @@ fn processors(rt: HostRuntime) {
             k,
             c: 4,
             b: 4,
+            r: 1,
             shared_words: 1024,
         };
         assert_eq!(rt; config.processors(), processors, "{k} stages");
@@ -155,7 +166,9 @@ fn one_outcome_is_stalled(rt: HostRuntime) {
             second: 2,
         },
         Outcome::Served { leader: 0 },
-        Outcome::Answered { to: 1 },
+        Outcome::Answered {
+            to: Seconds::One(1),
+        },
         Outcome::Poked,
     ] {
         assert!(rt; !outcome.is_stalled(), "{outcome:?}");

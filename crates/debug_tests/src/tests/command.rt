@@ -59,6 +59,7 @@ const FOUR: Config = Config {
     k: 2,
     c: 4,
     b: 4,
+    r: 1,
     shared_words: 1024,
 };
 

@@ -22,6 +22,7 @@ fn two(rt: &(impl Abort + AllocGlobal)) -> Result<Machine, Fail> {
         k: 1,
         c: 2,
         b: 0,
+        r: 1,
         shared_words: 2,
     };
     let mut layout = Layout {

@@ -44,6 +44,7 @@ fn log_of(rt: &(impl Abort + AllocGlobal), text: &str, k: u8) -> Result<Logged, 
         k,
         c: 4,
         b: 4,
+        r: 1,
         shared_words: 1024,
     };
     let file = assemble(alloc, text)?.to_elf(alloc)?;

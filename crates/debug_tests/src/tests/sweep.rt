@@ -19,6 +19,7 @@ fn log_of(rt: &impl Abort, alloc: Global, text: &str, k: u8) -> Result<Logged, F
         k,
         c: 2,
         b: 1,
+        r: 1,
         shared_words: 1024,
     };
     let file = assemble(alloc, text)?.to_elf(alloc)?;

@@ -35,6 +35,7 @@ fn config(shared_words: u32) -> Config
         k: 0,
         c: 2,
         b: 0,
+        r: 1,
         shared_words,
     }
 }

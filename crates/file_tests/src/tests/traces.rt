@@ -2,6 +2,7 @@
 
 ghost use Rattle.std.specs.Prelude.{◌≡◌};
 
+mod combinations;
 mod devices;
 mod limits;
 mod refusing;
@@ -26,6 +27,7 @@ fn config(k: u8) -> Config {
         k,
         c: 4,
         b: 4,
+        r: 1,
         shared_words: 1024,
     }
 }

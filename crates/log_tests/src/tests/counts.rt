@@ -1,6 +1,7 @@
 //! Counts by hand.
 
 use flat_machine::Poke;
+use messages::Seconds;
 use run_counts::{Counts, Held, Longest, counts_text, rounds_of};
 use std::test::Fail;
 use steps::{Outcome, Step};
@@ -25,7 +26,9 @@ fn requests_that_meet(rt: HostRuntime) -> Result<(), Fail> {
         (Step::Serve(1), Outcome::Served { leader: 1 }, 2),
         (
             Step::Down { stage: 0, wire: 1 },
-            Outcome::Answered { to: 0 },
+            Outcome::Answered {
+                to: Seconds::One(0),
+            },
             0,
         ),
         (Step::Serve(1), Outcome::Served { leader: 1 }, 1),

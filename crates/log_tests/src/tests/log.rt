@@ -2,6 +2,7 @@
 //! values are worked out by hand.
 
 mod limits;
+mod memory;
 mod pokes;
 mod steps_taken;
 mod whole;
@@ -21,6 +22,7 @@ const ONE: Config = Config {
     k: 0,
     c: 2,
     b: 0,
+    r: 1,
     shared_words: 1024,
 };
 
@@ -29,6 +31,7 @@ const FOUR: Config = Config {
     k: 2,
     c: 4,
     b: 4,
+    r: 1,
     shared_words: 1024,
 };
 

@@ -16,6 +16,7 @@ const TWO: Config = Config {
     k: 1,
     c: 2,
     b: 1,
+    r: 1,
     shared_words: 4,
 };
 

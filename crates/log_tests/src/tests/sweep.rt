@@ -25,6 +25,7 @@ fn machine(alloc: Global, file: &[u8], k: u8) -> Result<Machine, Fail> {
         k,
         c: 2,
         b: 1,
+        r: 1,
         shared_words: 1024,
     };
     let image = read_image(alloc, &mut Meter::new(file), &size)?;

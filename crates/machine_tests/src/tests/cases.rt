@@ -18,7 +18,7 @@ use steps::Step;
 pub struct Case {
     /// What the case shows.
     pub name: &'static str,
-    /// `machine`, and its `k`, `c`, `b` and number of shared words.
+    /// `machine`, and its `k`, `c`, `b` and number of shared words. Its `r` is 1, that of `machine_2` is 2, and that of `machine_3` 3.
     pub machine: &'static str,
     pub program: &'static Program<'static>,
     /// What is poked before all else. Beside the pokes of steps, `word I V` writes shared word I, byte by byte.
@@ -86,11 +86,18 @@ fn opened(rt: &(impl Abort + AllocGlobal), case: &Case) -> Result<Machine, Fail>
 }
 
 fn config_of(text: &str) -> Result<Config, Fail> {
-    let [k, c, b, shared_words] = read_words(text)?.numbers;
+    let asked = read_words(text)?;
+    let [k, c, b, shared_words] = asked.numbers;
+    let r = match asked.verb {
+        "machine_2" => 2,
+        "machine_3" => 3,
+        _ => 1,
+    };
     Ok(Config {
         k: low(k),
         c: low(c),
         b: low(b),
+        r,
         shared_words,
     })
 }

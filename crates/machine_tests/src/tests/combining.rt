@@ -21,7 +21,7 @@ pub const ADD_AND_SWAP: &str = "
     poke 0 11 5, poke 0 12 0x80000000,
     poke 2 11 100, poke 2 12 0x80000000, poke 2 32 0x10004";
 
-static CASES: [Case; 11] = [
+static CASES: [Case; 13] = [
     // Two adds combine at each stage, so that one request at the module serves all four.
     Case {
         name: "two adds combine",
@@ -120,6 +120,59 @@ static CASES: [Case; 11] = [
             word 0: is 4",
         ],
         order: "turn 0, turn 2",
+    },
+    // Three requests combine with the first, and its reply is split in four, in the order of the combinations. Each second gets what
+    // the functions before it make of the word.
+    Case {
+        name: "an entry is combined three times",
+        machine: "machine_3 2 4 4 1024",
+        program: &REFERENCES,
+        pokes: &[FOUR_ADDS],
+        calls: &[
+            "
+            turn 0, turn 1, turn 2, turn 3: issued
+            up 0 0, up 1 0, up 0 2: moved
+            up 1 0: combined 0 2
+            up 0 1: moved
+            up 1 2: combined 0 1
+            up 0 3: moved
+            up 1 2: combined 0 3
+            serve 0: served 0
+            down 1 0: answered_three 2 1 3
+            down 0 0, down 0 0, down 0 2, down 0 2: moved
+            turn 0: wrote 0x10000 0x00B6252F 0
+            turn 1: wrote 0x10000 0x00B6252F 5
+            turn 2: wrote 0x10000 0x00B6252F 1
+            turn 3: wrote 0x10000 0x00B6252F 7
+            word 0: is 15",
+        ],
+        order: "turn 0, turn 2, turn 1, turn 3",
+    },
+    // Where two combinations are the most, the third request goes by itself.
+    Case {
+        name: "an entry is combined twice at most",
+        machine: "machine_2 2 4 4 1024",
+        program: &REFERENCES,
+        pokes: &[FOUR_ADDS],
+        calls: &[
+            "
+            turn 0, turn 1, turn 2, turn 3: issued
+            up 0 0, up 1 0, up 0 2: moved
+            up 1 0: combined 0 2
+            up 0 1: moved
+            up 1 2: combined 0 1
+            up 0 3, up 1 2: moved
+            serve 0: served 0
+            down 1 0: answered_two 2 1
+            serve 0: served 3
+            down 1 0, down 0 0, down 0 0, down 0 2, down 0 2: moved
+            turn 0: wrote 0x10000 0x00B6252F 0
+            turn 1: wrote 0x10000 0x00B6252F 5
+            turn 2: wrote 0x10000 0x00B6252F 1
+            turn 3: wrote 0x10000 0x00B6252F 7
+            word 0: is 15",
+        ],
+        order: "turn 0, turn 2, turn 1, turn 3",
     },
     // Where no record is free, a request goes by itself that a record more would have combined.
     Case {

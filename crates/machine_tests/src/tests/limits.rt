@@ -16,6 +16,7 @@ fn image(rt: &(impl Abort + AllocGlobal), shared_words: u32) -> Result<Image, Fa
         k: 2,
         c: 4,
         b: 4,
+        r: 1,
         shared_words,
     };
     image_of(rt, &layout, &config)
@@ -25,26 +26,33 @@ fn image(rt: &(impl Abort + AllocGlobal), shared_words: u32) -> Result<Image, Fa
 /// words than the configuration's.
 #[test]
 fn limits_of_a_machine(rt: HostRuntime) -> Result<(), Fail> {
-    for (k, c, b, shared_words, read_for, refusal) in [
-        (0, 2, 0, 1, 1, None),
-        (6, 16, 16, 262_144, 262_144, None),
-        (7, 2, 0, 1, 1, Some(NewError::Config)),
-        (255, 2, 0, 1, 1, Some(NewError::Config)),
-        (0, 1, 0, 1, 1, Some(NewError::Config)),
-        (0, 0, 0, 1, 1, Some(NewError::Config)),
-        (0, 17, 0, 1, 1, Some(NewError::Config)),
-        (0, 2, 17, 1, 1, Some(NewError::Config)),
-        (0, 2, 0, 0, 0, Some(NewError::Config)),
-        (0, 2, 0, 262_145, 262_145, Some(NewError::Config)),
-        (2, 4, 4, 1024, 1024, None),
-        (2, 4, 4, 1024, 1023, Some(NewError::Config)),
-        (2, 4, 4, 1024, 1025, Some(NewError::Config)),
-        (2, 4, 4, 1, 1024, Some(NewError::Config)),
+    for (k, c, b, r, shared_words, read_for, refusal) in [
+        (0, 2, 0, 1, 1, 1, None),
+        (6, 16, 16, 1, 262_144, 262_144, None),
+        (7, 2, 0, 1, 1, 1, Some(NewError::Config)),
+        (255, 2, 0, 1, 1, 1, Some(NewError::Config)),
+        (0, 1, 0, 1, 1, 1, Some(NewError::Config)),
+        (0, 0, 0, 1, 1, 1, Some(NewError::Config)),
+        (0, 17, 0, 1, 1, 1, Some(NewError::Config)),
+        (0, 2, 17, 1, 1, 1, Some(NewError::Config)),
+        (0, 2, 0, 1, 0, 0, Some(NewError::Config)),
+        (0, 2, 0, 1, 262_145, 262_145, Some(NewError::Config)),
+        (2, 4, 4, 1, 1024, 1024, None),
+        (2, 4, 4, 1, 1024, 1023, Some(NewError::Config)),
+        (2, 4, 4, 1, 1024, 1025, Some(NewError::Config)),
+        (2, 4, 4, 1, 1, 1024, Some(NewError::Config)),
+        (0, 3, 0, 2, 1, 1, None),
+        (0, 4, 0, 3, 1, 1, None),
+        (0, 2, 0, 0, 1, 1, Some(NewError::Config)),
+        (0, 2, 0, 2, 1, 1, Some(NewError::Config)),
+        (0, 3, 0, 3, 1, 1, Some(NewError::Config)),
+        (0, 16, 0, 4, 1, 1, Some(NewError::Config)),
     ] {
         let config = Config {
             k,
             c,
             b,
+            r,
             shared_words,
         };
         let found = refusal_of(&rt, config, read_for)?;

@@ -160,6 +160,7 @@ fn largest_machine(rt: HostRuntime) -> Result<(), Fail> {
         k: 6,
         c: 2,
         b: 0,
+        r: 1,
         shared_words: 64,
     };
     let mut machine = machine_of(&rt, &WORDS_OF_THEIR_OWN, config)?;

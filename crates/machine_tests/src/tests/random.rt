@@ -12,7 +12,7 @@ use std::test::Fail;
 use steps::Step;
 
 /// How many lists are run for each configuration, and how many steps each has.
-const LISTS: u32 = 84;
+const LISTS: u32 = 42;
 
 const STEPS: u32 = 10_000;
 
@@ -227,15 +227,16 @@ fn take_steps(watched: &mut Watched, random: &mut Random, k: u8) -> Result<bool,
     Ok(has_combined)
 }
 
-/// Runs the lists of machines of so many stages, with wait buffers of 0, 1 and 4 records. Requests are
-/// combined exactly where there is a switch with a record.
+/// Runs the lists of machines of so many stages, with wait buffers of 0, 1 and 4 records, whose entries of a queue are combined up to
+/// once, twice and three times. Requests are combined exactly where there is a switch with a record.
 fn run_lists(rt: &(impl Abort + AllocGlobal), k: u8, seed: u32) -> Result<(), Fail> {
     let mut random = Random { state: seed };
-    for b in [0, 1, 4] {
+    for (b, r) in [(0, 1), (1, 1), (1, 2), (4, 1), (4, 2), (4, 3)] {
         let config = Config {
             k,
             c: 2 + b,
             b,
+            r,
             shared_words: 4,
         };
         let mut has_combined = false;

@@ -2,7 +2,8 @@
 //!
 //! - Steps: `turn P`, `up S W`, `serve M`, `down S W`, `poke P R V` of register R, or of `pc` as 32, `poke_local P A V`,
 //!   `poke_shared A V`.
-//! - What they do: `issued`, `moved`, `combined FIRST SECOND`, `served LEADER`, `answered TO`, `poked`, `stalled`;
+//! - What they do: `issued`, `moved`, `combined FIRST SECOND`, `served LEADER`, `answered TO`, `answered_two TO TO`,
+//!   `answered_three TO TO TO`, `poked`, `stalled`;
 //!   `wrote A W V` where the instruction at A, whose word is W, has retired and written V to a register, `retired A W`
 //!   where it has written none, `printed A W V` where it has given V to the console; `halted V`, `faulted N`.
 //! - Further calls: `whole P` takes a whole instruction, `drain` drains at once, `drain_by_steps` by the steps that the
@@ -12,6 +13,7 @@
 
 use decode::encode;
 use flat_machine::{Cause, Poke, Retired, Status};
+use messages::Seconds;
 use std::num::ParseIntError;
 use std::test::Fail;
 use steps::{Outcome, Step};
@@ -100,9 +102,21 @@ pub fn outcome_words(outcome: Outcome) -> Words<'static> {
             said("combined", [u32::from(first), u32::from(second), 0, 0])
         }
         Outcome::Served { leader } => said("served", [u32::from(leader), 0, 0, 0]),
-        Outcome::Answered { to } => said("answered", [u32::from(to), 0, 0, 0]),
+        Outcome::Answered { to } => seconds_words(to),
         Outcome::Poked => said("poked", [0; 4]),
         Outcome::Stalled => said("stalled", [0; 4]),
+    }
+}
+
+/// Who is answered beside a leader.
+fn seconds_words(seconds: Seconds) -> Words<'static> {
+    match seconds {
+        Seconds::One(a) => said("answered", [u32::from(a), 0, 0, 0]),
+        Seconds::Two(a, b) => said("answered_two", [u32::from(a), u32::from(b), 0, 0]),
+        Seconds::Three(a, b, c) => {
+            let numbers = [u32::from(a), u32::from(b), u32::from(c), 0];
+            said("answered_three", numbers)
+        }
     }
 }
 

@@ -4,14 +4,14 @@ use super::random::{Random, phi_of};
 use super::request;
 use messages::Reply;
 use omega_network::Network;
-use pooled_network::Network as Pooled;
+use ring_network::Network as RingNetwork;
 use std::test::Fail;
 
 /// The two networks, with the words of their modules and which processors wait for a reply.
 #[derive(Drop)]
 struct Both {
-    rings: Network,
-    pooled: Pooled,
+    rings: RingNetwork,
+    pool: Network,
     random: Random,
     words: [u32; 256],
     is_open: [bool; 64],
@@ -43,15 +43,15 @@ impl Both {
     /// Puts a request into its leader's slot. Nothing names who waits for nothing.
     fn inject_into_both(&mut self, p: u8, word: u32, kind: u32, value: u32) -> bool {
         if p >= self.rings.wires()
-            || p >= self.pooled.wires()
+            || p >= self.pool.wires()
             || !self.rings.slot_is_free(p)
-            || !self.pooled.slot_is_free(p)
-            || self.pooled.names(p)
+            || !self.pool.slot_is_free(p)
+            || self.pool.names(p)
         {
             return false;
         }
         self.rings.inject(p, request(p, word, phi_of(kind, value)));
-        self.pooled.inject(p, request(p, word, phi_of(kind, value)));
+        self.pool.inject(p, request(p, word, phi_of(kind, value)));
         true
     }
 
@@ -64,31 +64,31 @@ impl Both {
         }
         let stage = (self.random.below(u32::from(stages)) & 7) as u8;
         if stage >= stages
-            || stage >= self.pooled.stages()
+            || stage >= self.pool.stages()
             || wire >= self.rings.wires()
-            || wire >= self.pooled.wires()
+            || wire >= self.pool.wires()
         {
             return false;
         }
         if self.random.below(2) == 0 {
-            self.rings.up(stage, wire) == self.pooled.up(stage, wire)
+            self.rings.up(stage, wire) == self.pool.up(stage, wire)
         } else {
-            self.rings.down(stage, wire) == self.pooled.down(stage, wire)
+            self.rings.down(stage, wire) == self.pool.down(stage, wire)
         }
     }
 
     /// A module serves a request, if it has one and its slot is free.
     fn serve(&mut self) -> bool {
         let m = self.wire();
-        if m >= self.rings.wires() || m >= self.pooled.wires() {
+        if m >= self.rings.wires() || m >= self.pool.wires() {
             return false;
         }
-        if !self.rings.module_is_free(m) || !self.pooled.module_is_free(m) {
-            return self.rings.module_is_free(m) == self.pooled.module_is_free(m);
+        if !self.rings.module_is_free(m) || !self.pool.module_is_free(m) {
+            return self.rings.module_is_free(m) == self.pool.module_is_free(m);
         }
-        let shown = self.pooled.module_front(m);
+        let shown = self.pool.module_front(m);
         let taken = self.rings.module_take(m);
-        if self.pooled.module_take(m) != taken || shown != taken {
+        if self.pool.module_take(m) != taken || shown != taken {
             return false;
         }
         let Some(request) = taken else {
@@ -106,31 +106,31 @@ impl Both {
     /// Puts a reply into a module's slot.
     fn reply_to_both(&mut self, m: u8, reply: Reply) -> bool {
         if m >= self.rings.wires()
-            || m >= self.pooled.wires()
+            || m >= self.pool.wires()
             || !self.rings.module_is_free(m)
-            || !self.pooled.module_is_free(m)
-            || reply.leader >= self.pooled.wires()
-            || !self.pooled.may_reply(reply.leader)
+            || !self.pool.module_is_free(m)
+            || reply.leader >= self.pool.wires()
+            || !self.pool.may_reply(reply.leader)
         {
             return false;
         }
         self.rings.module_reply(m, reply);
-        self.pooled.module_reply(m, reply);
+        self.pool.module_reply(m, reply);
         true
     }
 
     /// A processor takes the reply on its wire, if there is one.
     fn take(&mut self) -> bool {
         let p = self.wire();
-        if p >= self.rings.wires() || p >= self.pooled.wires() {
+        if p >= self.rings.wires() || p >= self.pool.wires() {
             return false;
         }
-        let shown = self.pooled.port_reply(p);
+        let shown = self.pool.port_reply(p);
         let taken = self.rings.port_take(p);
         if let Some(reply) = taken {
             self.is_open[usize::from(reply.leader & 63)] = false;
         }
-        self.pooled.port_take(p) == taken && shown == taken
+        self.pool.port_take(p) == taken && shown == taken
     }
 
     /// Whether both answer the same.
@@ -143,10 +143,10 @@ impl Both {
     fn is_same(&self) -> bool {
         for stage in 0..=self.rings.stages() {
             for wire in 0..self.rings.wires() {
-                if stage > self.pooled.stages()
-                    || wire >= self.pooled.wires()
-                    || self.rings.has_request(stage, wire) != self.pooled.has_request(stage, wire)
-                    || self.rings.has_reply(stage, wire) != self.pooled.has_reply(stage, wire)
+                if stage > self.pool.stages()
+                    || wire >= self.pool.wires()
+                    || self.rings.has_request(stage, wire) != self.pool.has_request(stage, wire)
+                    || self.rings.has_reply(stage, wire) != self.pool.has_reply(stage, wire)
                 {
                     return false;
                 }
@@ -154,31 +154,39 @@ impl Both {
         }
         for p in 0..self.rings.wires() {
             let is_open = self.is_open[usize::from(p & 63)];
-            if self.pooled.names(p) != is_open || self.pooled.may_reply(p) == is_open {
+            if self.pool.names(p) != is_open || self.pool.may_reply(p) == is_open {
                 return false;
             }
         }
-        self.rings.is_empty() == self.pooled.is_empty()
+        self.rings.is_empty() == self.pool.is_empty()
     }
 }
 
-/// The room of the queues and of the wait buffers, by the number of stages.
-static SIZES: [(u8, u8); 7] = [(2, 1), (2, 1), (2, 0), (2, 1), (3, 2), (16, 16), (4, 4)];
+/// The room of the queues and of the wait buffers, and how often an entry is combined, by the number of stages.
+static SIZES: [(u8, u8, u8); 7] = [
+    (2, 1, 1),
+    (2, 1, 1),
+    (2, 0, 1),
+    (4, 4, 3),
+    (3, 2, 2),
+    (16, 16, 3),
+    (4, 4, 1),
+];
 
 #[test]
 fn rings_and_a_pool_move_alike(rt: HostRuntime) -> Result<(), Fail> {
     let mut random = Random::new(0x9E37_79B9);
     for k in 0..7_u8 {
-        let (c, b) = SIZES[usize::from(k)];
-        assert!(rt; k <= 6 && c >= 2 && c <= 16 && b <= 16);
+        let (c, b, r) = SIZES[usize::from(k)];
+        assert!(rt; k <= 6 && c >= 2 && c <= 16 && b <= 16 && r >= 1 && r <= 3);
         let mut both = Both {
-            rings: Network::new(rt.alloc(), k, c, b)?,
-            pooled: Pooled::new(rt.alloc(), k, c, b)?,
+            rings: RingNetwork::new(rt.alloc(), k, c, b, r)?,
+            pool: Network::new(rt.alloc(), k, c, b, r)?,
             random,
             words: [0; 256],
             is_open: [false; 64],
         };
-        assert!(rt; both.pooled.is_empty());
+        assert!(rt; both.pool.is_empty());
         for i in 0..10_000 {
             assert!(rt; both.step(true), "step {i} with k {k}");
             if i % 500 == 0 {
@@ -189,12 +197,12 @@ fn rings_and_a_pool_move_alike(rt: HostRuntime) -> Result<(), Fail> {
             assert!(rt; both.step(false), "the end with k {k}");
             if i % 500 == 0 {
                 assert!(rt; both.is_same(), "the end with k {k}");
-                if both.pooled.is_empty() {
+                if both.pool.is_empty() {
                     break;
                 }
             }
         }
-        assert!(rt; both.pooled.is_empty(), "with k {k}");
+        assert!(rt; both.pool.is_empty(), "with k {k}");
         random = both.random;
     }
     Ok(())

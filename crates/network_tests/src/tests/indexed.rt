@@ -24,6 +24,7 @@ enum Step {
 
 use Answer::{Answered, Combined, Moved, Stalled};
 use Step::{Down, Inject, Serve, Take, Up};
+use messages::Seconds::One;
 
 /// The first eight wires as bits, wire 0 lowest.
 fn bits(set: WireSet) -> u8 {
@@ -52,10 +53,10 @@ static FOUR_ADDS: [(Step, [u8; 3], [u8; 3]); 18] = [
     (Up(1, 2, Combined(0, 1)), [0, 0, 0b0001], [0; 3]),
     (Serve, [0; 3], [0; 3]),
     (Step::Reply(10), [0; 3], [0, 0, 0b0001]),
-    (Down(1, 0, Answered(1)), [0; 3], [0, 0b0101, 0]),
+    (Down(1, 0, Answered(One(1))), [0; 3], [0, 0b0101, 0]),
     (Down(1, 0, Stalled), [0; 3], [0, 0b0101, 0]),
-    (Down(0, 0, Answered(2)), [0; 3], [0b0101, 0b0100, 0]),
-    (Down(0, 2, Answered(3)), [0; 3], [0b1111, 0, 0]),
+    (Down(0, 0, Answered(One(2))), [0; 3], [0b0101, 0b0100, 0]),
+    (Down(0, 2, Answered(One(3))), [0; 3], [0b1111, 0, 0]),
     (Take(2, 11), [0; 3], [0b1011, 0, 0]),
 ];
 
@@ -66,7 +67,7 @@ fn answers(network: &mut IndexedNetwork, step: Step) -> bool {
     }
     match step {
         Inject(p) => {
-            let fits = p < 4 && network.slot_is_free(p);
+            let fits = p < 4 && network.slot_is_free(p) && !network.names(p);
             if fits {
                 network.inject(p, request(p, 0, Phi::Add(1)));
             }
@@ -77,7 +78,7 @@ fn answers(network: &mut IndexedNetwork, step: Step) -> bool {
             && Some(network.up(stage, wire)) == answer.up(),
         Serve => serves(network),
         Step::Reply(value) => {
-            let fits = network.module_is_free(0);
+            let fits = network.module_is_free(0) && network.may_reply(0);
             if fits {
                 network.module_reply(0, Reply { leader: 0, value });
             }
@@ -113,7 +114,7 @@ fn serves(network: &mut IndexedNetwork) -> bool {
 
 #[test]
 fn wires_of_four_adds(rt: HostRuntime) -> Result<(), Fail> {
-    let mut network = IndexedNetwork::new(rt.alloc(), 2, 4, 4)?;
+    let mut network = IndexedNetwork::new(rt.alloc(), 2, 4, 4, 1)?;
     for (step, requests, replies) in &FOUR_ADDS {
         assert!(rt; answers(&mut network, *step), "{step:?}");
         assert_eq!(rt; network.stages(), 2);

@@ -1,7 +1,7 @@
 //! A plain network, by lists, to compare the network with: what the moves are said to do, with no
 //! rings and no proof. Its calls give None where a number names no place.
 
-use messages::{DownMove, Record, Reply, Request, UpMove};
+use messages::{DownMove, Record, Reply, Request, Seconds, UpMove};
 use phi_algebra::{Phi, compose};
 use std::alloc::{AllocError, Global};
 
@@ -11,6 +11,8 @@ pub struct Plain {
     stages: usize,
     queue: usize,
     buffer: usize,
+    most_marks: u8,
+    alloc: Global,
     slots: Vec<Vec<Request>>,
     /// By the wires that go out.
     requests: Vec<Vec<Request>>,
@@ -22,7 +24,7 @@ pub struct Plain {
 }
 
 impl Plain {
-    pub fn new(alloc: Global, k: u8, c: u8, b: u8) -> Result<Self, AllocError> {
+    pub fn new(alloc: Global, k: u8, c: u8, b: u8, r: u8) -> Result<Self, AllocError> {
         let stages = usize::from(k);
         let wires = 1_usize.wrapping_shl(u32::from(k));
         let all = stages.wrapping_mul(wires);
@@ -30,6 +32,8 @@ impl Plain {
             stages,
             queue: usize::from(c),
             buffer: usize::from(b),
+            most_marks: r,
+            alloc,
             slots: Vec::new(alloc),
             requests: Vec::new(alloc),
             records: Vec::new(alloc),
@@ -135,7 +139,8 @@ impl Plain {
         let queue = self.requests.get_mut(out)?;
         for entry in queue.iter_mut() {
             let joint = compose(&entry.phi, &request.phi);
-            if records.len() < self.buffer && entry.marks == 0 && entry.word == request.word {
+            let may = records.len() < self.buffer && entry.marks < self.most_marks;
+            if may && entry.word == request.word {
                 if let Some(joint) = joint {
                     let record = Record {
                         leader: entry.leader,
@@ -144,7 +149,7 @@ impl Plain {
                     };
                     records.push(record).ok()?;
                     entry.phi = joint;
-                    entry.marks = 1;
+                    entry.marks = entry.marks.wrapping_add(1);
                     return Some(UpMove::Combined {
                         first: entry.leader,
                         second: request.leader,
@@ -181,38 +186,47 @@ impl Plain {
     }
 
     fn answered(&mut self, stage: usize, wire: usize, reply: Reply) -> Option<DownMove> {
-        let own = self.place(stage, self.routed(wire, stage, usize::from(reply.leader)));
         let out = self.place(stage, wire);
-        let records = self.records.get(out)?;
-        let at = records
-            .iter()
-            .position(|record| record.leader == reply.leader);
-        let free = self.queue.wrapping_sub(self.replies.get(own)?.len());
-        let Some(at) = at else {
-            if free == 0 {
-                return Some(DownMove::Stalled);
+        let mut replies = Vec::new(self.alloc);
+        replies.push(reply).ok()?;
+        for record in self.records.get(out)?.iter() {
+            if record.leader == reply.leader {
+                let value = record.phi.apply(reply.value);
+                let leader = record.second;
+                replies.push(Reply { leader, value }).ok()?;
             }
-            self.replies.get_mut(own)?.push(reply).ok()?;
-            return Some(DownMove::Moved);
-        };
-        let record = *records.get(at)?;
-        let seconds = self.place(stage, self.routed(wire, stage, usize::from(record.second)));
-        let free_there = self.queue.wrapping_sub(self.replies.get(seconds)?.len());
-        let needed = if seconds == own { 2 } else { 1 };
-        if free < needed || free_there < needed {
+        }
+        if !self.have_room(stage, wire, replies.as_slice())? {
             return Some(DownMove::Stalled);
         }
-        self.replies.get_mut(own)?.push(reply).ok()?;
-        let second = Reply {
-            leader: record.second,
-            value: record.phi.apply(reply.value),
-        };
-        self.replies.get_mut(seconds)?.push(second).ok()?;
-        let records = self.records.get_mut(out)?;
-        if at < records.len() {
-            records.remove(at);
+        for reply in replies.iter() {
+            let place = self.input(stage, wire, reply);
+            self.replies.get_mut(place)?.push(*reply).ok()?;
         }
-        Some(DownMove::Answered { to: record.second })
+        self.records
+            .get_mut(out)?
+            .retain(|record| record.leader != reply.leader);
+        Some(answer_of(replies.as_slice()))
+    }
+
+    /// The input of a stage where a reply goes that comes from a wire.
+    fn input(&self, stage: usize, wire: usize, reply: &Reply) -> usize {
+        self.place(stage, self.routed(wire, stage, usize::from(reply.leader)))
+    }
+
+    /// Whether all these replies still fit at their inputs.
+    fn have_room(&self, stage: usize, wire: usize, replies: &[Reply]) -> Option<bool> {
+        for reply in replies {
+            let place = self.input(stage, wire, reply);
+            let needed = replies
+                .iter()
+                .filter(|other| self.input(stage, wire, other) == place)
+                .count();
+            if self.queue.wrapping_sub(self.replies.get(place)?.len()) < needed {
+                return Some(false);
+            }
+        }
+        Some(true)
     }
 
     /// The first request at a module, if there is one.
@@ -245,4 +259,15 @@ impl Plain {
         replies.remove(0);
         Some(reply)
     }
+}
+
+/// What a move answers whose replies these are.
+fn answer_of(replies: &[Reply]) -> DownMove {
+    let to = match replies {
+        [_, first] => Seconds::One(first.leader),
+        [_, first, second] => Seconds::Two(first.leader, second.leader),
+        [_, first, second, third] => Seconds::Three(first.leader, second.leader, third.leader),
+        _ => return DownMove::Moved,
+    };
+    DownMove::Answered { to }
 }

@@ -72,6 +72,9 @@ impl Pair {
             _ => 0,
         };
         let (kind, value) = (self.random.below(5), self.random.below(100));
+        if self.network.names(p) {
+            return Some(false);
+        }
         self.network
             .inject(p, request(p, word, phi_of(kind, value)));
         self.plain.inject(p, word, phi_of(kind, value))?;
@@ -113,7 +116,10 @@ impl Pair {
             value: *word,
         };
         *word = request.phi.apply(*word);
-        if !self.network.module_is_free(m) {
+        if !self.network.module_is_free(m)
+            || reply.leader >= self.network.wires()
+            || !self.network.may_reply(reply.leader)
+        {
             return Some(false);
         }
         self.network.module_reply(m, reply);
@@ -189,26 +195,33 @@ fn shows_same_messages(network: &Network, plain: &mut Plain) -> Option<bool> {
 fn moves_as_a_plain_network_does(rt: HostRuntime) -> Result<(), Fail> {
     let mut random = Random::new(0x9E37_79B9);
     for k in 0..7_u8 {
-        for (c, b) in [(2_u8, 0_u8), (2, 1), (3, 2), (4, 4), (16, 16)] {
-            assert!(rt; k <= 6 && c >= 2 && c <= 16 && b <= 16);
+        for (c, b, r) in [
+            (2_u8, 0_u8, 1_u8),
+            (2, 1, 1),
+            (3, 2, 2),
+            (4, 4, 3),
+            (16, 16, 1),
+            (16, 16, 3),
+        ] {
+            assert!(rt; k <= 6 && c >= 2 && c <= 16 && b <= 16 && r >= 1 && r <= 3);
             let mut pair = Pair {
-                network: Network::new(rt.alloc(), k, c, b)?,
-                plain: Plain::new(rt.alloc(), k, c, b)?,
+                network: Network::new(rt.alloc(), k, c, b, r)?,
+                plain: Plain::new(rt.alloc(), k, c, b, r)?,
                 random,
                 words: [0; 256],
                 is_open: [false; 64],
             };
-            for i in 0..10_000 {
+            for i in 0..8_000 {
                 assert_eq!(rt;
                     pair.step(true),
                     Some(true),
-                    "step {i} with k {k}, c {c}, b {b}"
+                    "step {i} with k {k}, c {c}, b {b}, r {r}"
                 );
                 if i % 16 == 0 {
                     assert_eq!(rt;
                         pair.is_same(),
                         Some(true),
-                        "after {i} with k {k}, c {c}, b {b}"
+                        "after {i} with k {k}, c {c}, b {b}, r {r}"
                     );
                 }
             }
@@ -217,19 +230,19 @@ fn moves_as_a_plain_network_does(rt: HostRuntime) -> Result<(), Fail> {
                     assert_eq!(rt;
                         pair.step(false),
                         Some(true),
-                        "the end with k {k}, c {c}, b {b}"
+                        "the end with k {k}, c {c}, b {b}, r {r}"
                     );
                 }
                 assert_eq!(rt;
                     pair.is_same(),
                     Some(true),
-                    "the end with k {k}, c {c}, b {b}"
+                    "the end with k {k}, c {c}, b {b}, r {r}"
                 );
                 if pair.network.is_empty() {
                     break;
                 }
             }
-            assert!(rt; pair.network.is_empty(), "with k {k}, c {c}, b {b}");
+            assert!(rt; pair.network.is_empty(), "with k {k}, c {c}, b {b}, r {r}");
             random = pair.random;
         }
     }

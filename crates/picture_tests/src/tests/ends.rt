@@ -1,13 +1,13 @@
 //! What is told where there is no picture, and the exit statuses.
 
-use super::{image_of, run, trace_of};
+use super::{image_of, run};
 use link::Meter;
 use picture_command::picture_command;
 use std::alloc::Global;
 use std::io::{self, ErrorKind};
 use std::process::Abort;
 use std::test::Fail;
-use test_devices::{Deaf, EBREAK, Sink, Source};
+use test_devices::{Deaf, EBREAK, Sink, Source, trace_of};
 
 /// A turn of processor 0.
 const TURN: [u8; 12] = [1, 0, 0, 0, 0, 0, 0, 0, 0, 0, 0, 0];

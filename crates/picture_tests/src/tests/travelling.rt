@@ -1,47 +1,10 @@
 //! Which messages stand where.
 
-use super::{Ran, image_of, run, trace_of};
+use super::{Ran, image_of, run};
 use machine_picture::push_escaped;
 use std::alloc::Global;
 use std::test::Fail;
-
-/// Adds `x11` to the word at `x12`, and halts.
-const ADD_AT_X12: &str = "
- amoadd.w x10, x11, (x12)
- ecall
-";
-
-/// Four processors add 1, 2, 4 and 8 to shared word 0, which is 10. The requests of 0 and 2 meet at stage 0, those of 1 and 3
-/// do, and both groups meet at stage 1.
-const FOUR_ADDS: [[u8; 12]; 27] = [
-    [5, 0, 11, 0, 0, 0, 0, 0, 1, 0, 0, 0],
-    [5, 1, 11, 0, 0, 0, 0, 0, 2, 0, 0, 0],
-    [5, 2, 11, 0, 0, 0, 0, 0, 4, 0, 0, 0],
-    [5, 3, 11, 0, 0, 0, 0, 0, 8, 0, 0, 0],
-    [5, 0, 12, 0, 0, 0, 0, 0, 0, 0, 0, 0x80],
-    [5, 1, 12, 0, 0, 0, 0, 0, 0, 0, 0, 0x80],
-    [5, 2, 12, 0, 0, 0, 0, 0, 0, 0, 0, 0x80],
-    [5, 3, 12, 0, 0, 0, 0, 0, 0, 0, 0, 0x80],
-    [7, 0, 0, 0, 0, 0, 0, 0x80, 10, 0, 0, 0],
-    [1, 0, 0, 0, 0, 0, 0, 0, 0, 0, 0, 0],
-    [1, 1, 0, 0, 0, 0, 0, 0, 0, 0, 0, 0],
-    [1, 2, 0, 0, 0, 0, 0, 0, 0, 0, 0, 0],
-    [1, 3, 0, 0, 0, 0, 0, 0, 0, 0, 0, 0],
-    [2, 0, 0, 0, 0, 0, 0, 0, 0, 0, 0, 0],
-    [2, 0, 2, 0, 0, 0, 0, 0, 0, 0, 0, 0],
-    [2, 0, 1, 0, 0, 0, 0, 0, 0, 0, 0, 0],
-    [2, 0, 3, 0, 0, 0, 0, 0, 0, 0, 0, 0],
-    [2, 1, 0, 0, 0, 0, 0, 0, 0, 0, 0, 0],
-    [2, 1, 2, 0, 0, 0, 0, 0, 0, 0, 0, 0],
-    [3, 0, 0, 0, 0, 0, 0, 0, 0, 0, 0, 0],
-    [4, 1, 0, 0, 0, 0, 0, 0, 0, 0, 0, 0],
-    [4, 0, 0, 0, 0, 0, 0, 0, 0, 0, 0, 0],
-    [4, 0, 2, 0, 0, 0, 0, 0, 0, 0, 0, 0],
-    [1, 0, 0, 0, 0, 0, 0, 0, 0, 0, 0, 0],
-    [1, 1, 0, 0, 0, 0, 0, 0, 0, 0, 0, 0],
-    [1, 2, 0, 0, 0, 0, 0, 0, 0, 0, 0, 0],
-    [1, 3, 0, 0, 0, 0, 0, 0, 0, 0, 0, 0],
-];
+use test_devices::{ADD_AT_X12, FOUR_ADDS, trace_of};
 
 /// The texts of a class, in the order of the picture: from left to right by columns, and in each from the top. `|` stands between
 /// two.

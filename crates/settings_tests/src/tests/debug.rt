@@ -2,11 +2,11 @@
 
 /// Ways to ask for `debug`.
 pub const TAKEN: &str = r#"$ ultra debug a.elf
-Debug(Session { file: "a.elf", sizes: Sizes { k: 2, c: 4, b: 4, words: 1024 }, budget: 100000, port: 3333 })
+Debug(Session { file: "a.elf", sizes: Sizes { k: 2, c: 4, b: 4, r: 1, words: 1024 }, budget: 100000, port: 3333 })
 $ ultra debug --port 1 a.elf --budget 4000000
-Debug(Session { file: "a.elf", sizes: Sizes { k: 2, c: 4, b: 4, words: 1024 }, budget: 4000000, port: 1 })
-$ ultra debug a.elf --port=65535 --k 0 --c 16 --b 0 --words 262144 --budget 1
-Debug(Session { file: "a.elf", sizes: Sizes { k: 0, c: 16, b: 0, words: 262144 }, budget: 1, port: 65535 })
+Debug(Session { file: "a.elf", sizes: Sizes { k: 2, c: 4, b: 4, r: 1, words: 1024 }, budget: 4000000, port: 1 })
+$ ultra debug a.elf --port=65535 --k 0 --c 16 --b 0 --r 2 --words 262144 --budget 1
+Debug(Session { file: "a.elf", sizes: Sizes { k: 0, c: 16, b: 0, r: 2, words: 262144 }, budget: 1, port: 65535 })
 "#;
 
 /// What is wrong in other words.

@@ -2,11 +2,17 @@
 
 /// Ways to ask for `explore`.
 pub const TAKEN: &str = r#"$ ultra explore a.elf
-Explore(Explore { file: "a.elf", sizes: Sizes { k: 2, c: 4, b: 4, words: 1024 }, states: 1000000 })
+Explore(Explore { file: "a.elf", trace: None, quiet: false, sizes: Sizes { k: 2, c: 4, b: 4, r: 1, words: 1024 }, states: 1000000, witness: None })
 $ ultra explore --states 1 a.elf --k 3
-Explore(Explore { file: "a.elf", sizes: Sizes { k: 3, c: 4, b: 4, words: 1024 }, states: 1 })
+Explore(Explore { file: "a.elf", trace: None, quiet: false, sizes: Sizes { k: 3, c: 4, b: 4, r: 1, words: 1024 }, states: 1, witness: None })
 $ ultra explore a.elf --states=4294967295 --k 0 --c 16 --b 0 --words 262144
-Explore(Explore { file: "a.elf", sizes: Sizes { k: 0, c: 16, b: 0, words: 262144 }, states: 4294967295 })
+Explore(Explore { file: "a.elf", trace: None, quiet: false, sizes: Sizes { k: 0, c: 16, b: 0, r: 1, words: 262144 }, states: 4294967295, witness: None })
+$ ultra explore a.elf --quiet
+Explore(Explore { file: "a.elf", trace: None, quiet: true, sizes: Sizes { k: 2, c: 4, b: 4, r: 1, words: 1024 }, states: 1000000, witness: None })
+$ ultra explore a.elf --witness 0 --trace t
+Explore(Explore { file: "a.elf", trace: Some("t"), quiet: false, sizes: Sizes { k: 2, c: 4, b: 4, r: 1, words: 1024 }, states: 1000000, witness: Some(0) })
+$ ultra explore --trace=t a --witness=4294967295 --quiet --states 9
+Explore(Explore { file: "a", trace: Some("t"), quiet: true, sizes: Sizes { k: 2, c: 4, b: 4, r: 1, words: 1024 }, states: 9, witness: Some(4294967295) })
 "#;
 
 /// What is wrong in other words.
@@ -26,6 +32,18 @@ error: invalid value '4294967296' for '--states <NUMBER>': 4294967296 is not in 
 $ ultra explore a.elf --states 1 --states 1
 ArgumentConflict
 error: the argument '--states <NUMBER>' cannot be used multiple times
+$ ultra explore a.elf --witness 4294967296 --trace t
+ValueValidation
+error: invalid value '4294967296' for '--witness <NUMBER>': 4294967296 is not in 0..=4294967295
+$ ultra explore a.elf --witness=-1 --trace t
+ValueValidation
+error: invalid value '-1' for '--witness <NUMBER>': -1 is not in 0..=4294967295
+$ ultra explore a.elf --witness 1 --witness 2 --trace t
+ArgumentConflict
+error: the argument '--witness <NUMBER>' cannot be used multiple times
+$ ultra explore a.elf --trace
+InvalidValue
+error: a value is required for '--trace <OUT>' but none was supplied
 $ ultra explore a.elf --k 7
 ValueValidation
 error: invalid value '7' for '--k <NUMBER>': 7 is not in 0..=6
@@ -41,8 +59,11 @@ DisplayHelp
 Usage: ultra explore [OPTIONS] <FILE>
 $ ultra help explore
 DisplayHelp
---states <NUMBER>  Give up where as many states as this are found, 1 to 4294967295 [default: 1000000]
+--states <NUMBER>   Give up where as many states as this are found, 1 to 4294967295 [default: 1000000]
 $ ultra explore --help
 DisplayHelp
-Exit status: 0 done, 1 in a result a fault has stopped a processor,\
+--witness <NUMBER>  Write the trace of a way to the result of this number,\
+$ ultra explore --help
+DisplayHelp
+Exit status: 0 done, 1 in a result a fault has stopped a processor or from a state no end can be reached,\
 ";

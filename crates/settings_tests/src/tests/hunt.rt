@@ -2,13 +2,13 @@
 
 /// Ways to ask for `hunt`.
 pub const TAKEN: &str = r#"$ ultra hunt a.elf
-Hunt(Hunt { file: "a.elf", trace: None, sizes: Sizes { k: 2, c: 4, b: 4, words: 1024 }, budget: 100000, runs: 1000, start: 1 })
+Hunt(Hunt { file: "a.elf", trace: None, sizes: Sizes { k: 2, c: 4, b: 4, r: 1, words: 1024 }, budget: 100000, runs: 1000, start: 1 })
 $ ultra hunt --runs 1 a.elf --start 0
-Hunt(Hunt { file: "a.elf", trace: None, sizes: Sizes { k: 2, c: 4, b: 4, words: 1024 }, budget: 100000, runs: 1, start: 0 })
+Hunt(Hunt { file: "a.elf", trace: None, sizes: Sizes { k: 2, c: 4, b: 4, r: 1, words: 1024 }, budget: 100000, runs: 1, start: 0 })
 $ ultra hunt a.elf --trace late- --budget 4000000
-Hunt(Hunt { file: "a.elf", trace: Some("late-"), sizes: Sizes { k: 2, c: 4, b: 4, words: 1024 }, budget: 4000000, runs: 1000, start: 1 })
+Hunt(Hunt { file: "a.elf", trace: Some("late-"), sizes: Sizes { k: 2, c: 4, b: 4, r: 1, words: 1024 }, budget: 4000000, runs: 1000, start: 1 })
 $ ultra hunt a.elf --runs=1000000 --start=4294967295 --k 1 --c 2 --b 0 --words 7 --budget 1
-Hunt(Hunt { file: "a.elf", trace: None, sizes: Sizes { k: 1, c: 2, b: 0, words: 7 }, budget: 1, runs: 1000000, start: 4294967295 })
+Hunt(Hunt { file: "a.elf", trace: None, sizes: Sizes { k: 1, c: 2, b: 0, r: 1, words: 7 }, budget: 1, runs: 1000000, start: 4294967295 })
 "#;
 
 /// What is wrong in other words.

@@ -2,61 +2,65 @@
 
 /// Ways to ask for `run`.
 pub const TAKEN: &str = r#"$ ultra run a.elf
-Run(Run { file: "a.elf", trace: None, sweep: false, quiet: false, sizes: Sizes { k: 2, c: 4, b: 4, words: 1024 }, budget: 10000000, start: 1 })
+Run(Run { file: "a.elf", trace: None, sweep: false, quiet: false, sizes: Sizes { k: 2, c: 4, b: 4, r: 1, words: 1024 }, budget: 10000000, start: 1 })
 $ ultra run --k 0 a.elf
-Run(Run { file: "a.elf", trace: None, sweep: false, quiet: false, sizes: Sizes { k: 0, c: 4, b: 4, words: 1024 }, budget: 10000000, start: 1 })
+Run(Run { file: "a.elf", trace: None, sweep: false, quiet: false, sizes: Sizes { k: 0, c: 4, b: 4, r: 1, words: 1024 }, budget: 10000000, start: 1 })
 $ ultra run a.elf --k 6
-Run(Run { file: "a.elf", trace: None, sweep: false, quiet: false, sizes: Sizes { k: 6, c: 4, b: 4, words: 1024 }, budget: 10000000, start: 1 })
+Run(Run { file: "a.elf", trace: None, sweep: false, quiet: false, sizes: Sizes { k: 6, c: 4, b: 4, r: 1, words: 1024 }, budget: 10000000, start: 1 })
 $ ultra run --k=3 a.elf
-Run(Run { file: "a.elf", trace: None, sweep: false, quiet: false, sizes: Sizes { k: 3, c: 4, b: 4, words: 1024 }, budget: 10000000, start: 1 })
+Run(Run { file: "a.elf", trace: None, sweep: false, quiet: false, sizes: Sizes { k: 3, c: 4, b: 4, r: 1, words: 1024 }, budget: 10000000, start: 1 })
 $ ultra run a.elf --k=+5
-Run(Run { file: "a.elf", trace: None, sweep: false, quiet: false, sizes: Sizes { k: 5, c: 4, b: 4, words: 1024 }, budget: 10000000, start: 1 })
+Run(Run { file: "a.elf", trace: None, sweep: false, quiet: false, sizes: Sizes { k: 5, c: 4, b: 4, r: 1, words: 1024 }, budget: 10000000, start: 1 })
 $ ultra run a.elf --k=-0
-Run(Run { file: "a.elf", trace: None, sweep: false, quiet: false, sizes: Sizes { k: 0, c: 4, b: 4, words: 1024 }, budget: 10000000, start: 1 })
+Run(Run { file: "a.elf", trace: None, sweep: false, quiet: false, sizes: Sizes { k: 0, c: 4, b: 4, r: 1, words: 1024 }, budget: 10000000, start: 1 })
 $ ultra run --c 2 a.elf
-Run(Run { file: "a.elf", trace: None, sweep: false, quiet: false, sizes: Sizes { k: 2, c: 2, b: 4, words: 1024 }, budget: 10000000, start: 1 })
+Run(Run { file: "a.elf", trace: None, sweep: false, quiet: false, sizes: Sizes { k: 2, c: 2, b: 4, r: 1, words: 1024 }, budget: 10000000, start: 1 })
 $ ultra run a.elf --c=16
-Run(Run { file: "a.elf", trace: None, sweep: false, quiet: false, sizes: Sizes { k: 2, c: 16, b: 4, words: 1024 }, budget: 10000000, start: 1 })
+Run(Run { file: "a.elf", trace: None, sweep: false, quiet: false, sizes: Sizes { k: 2, c: 16, b: 4, r: 1, words: 1024 }, budget: 10000000, start: 1 })
 $ ultra run --b 0 a.elf
-Run(Run { file: "a.elf", trace: None, sweep: false, quiet: false, sizes: Sizes { k: 2, c: 4, b: 0, words: 1024 }, budget: 10000000, start: 1 })
+Run(Run { file: "a.elf", trace: None, sweep: false, quiet: false, sizes: Sizes { k: 2, c: 4, b: 0, r: 1, words: 1024 }, budget: 10000000, start: 1 })
 $ ultra run a.elf --b 0016
-Run(Run { file: "a.elf", trace: None, sweep: false, quiet: false, sizes: Sizes { k: 2, c: 4, b: 16, words: 1024 }, budget: 10000000, start: 1 })
+Run(Run { file: "a.elf", trace: None, sweep: false, quiet: false, sizes: Sizes { k: 2, c: 4, b: 16, r: 1, words: 1024 }, budget: 10000000, start: 1 })
+$ ultra run --r 1 a.elf
+Run(Run { file: "a.elf", trace: None, sweep: false, quiet: false, sizes: Sizes { k: 2, c: 4, b: 4, r: 1, words: 1024 }, budget: 10000000, start: 1 })
+$ ultra run a.elf --r=3 --c 3
+Run(Run { file: "a.elf", trace: None, sweep: false, quiet: false, sizes: Sizes { k: 2, c: 3, b: 4, r: 3, words: 1024 }, budget: 10000000, start: 1 })
 $ ultra run --words 1 a.elf
-Run(Run { file: "a.elf", trace: None, sweep: false, quiet: false, sizes: Sizes { k: 2, c: 4, b: 4, words: 1 }, budget: 10000000, start: 1 })
+Run(Run { file: "a.elf", trace: None, sweep: false, quiet: false, sizes: Sizes { k: 2, c: 4, b: 4, r: 1, words: 1 }, budget: 10000000, start: 1 })
 $ ultra run a.elf --words 262144
-Run(Run { file: "a.elf", trace: None, sweep: false, quiet: false, sizes: Sizes { k: 2, c: 4, b: 4, words: 262144 }, budget: 10000000, start: 1 })
+Run(Run { file: "a.elf", trace: None, sweep: false, quiet: false, sizes: Sizes { k: 2, c: 4, b: 4, r: 1, words: 262144 }, budget: 10000000, start: 1 })
 $ ultra run --budget 1 a.elf
-Run(Run { file: "a.elf", trace: None, sweep: false, quiet: false, sizes: Sizes { k: 2, c: 4, b: 4, words: 1024 }, budget: 1, start: 1 })
+Run(Run { file: "a.elf", trace: None, sweep: false, quiet: false, sizes: Sizes { k: 2, c: 4, b: 4, r: 1, words: 1024 }, budget: 1, start: 1 })
 $ ultra run a.elf --budget=4294967295
-Run(Run { file: "a.elf", trace: None, sweep: false, quiet: false, sizes: Sizes { k: 2, c: 4, b: 4, words: 1024 }, budget: 4294967295, start: 1 })
+Run(Run { file: "a.elf", trace: None, sweep: false, quiet: false, sizes: Sizes { k: 2, c: 4, b: 4, r: 1, words: 1024 }, budget: 4294967295, start: 1 })
 $ ultra run --start 0 a.elf
-Run(Run { file: "a.elf", trace: None, sweep: false, quiet: false, sizes: Sizes { k: 2, c: 4, b: 4, words: 1024 }, budget: 10000000, start: 0 })
+Run(Run { file: "a.elf", trace: None, sweep: false, quiet: false, sizes: Sizes { k: 2, c: 4, b: 4, r: 1, words: 1024 }, budget: 10000000, start: 0 })
 $ ultra run a.elf --start 4294967295
-Run(Run { file: "a.elf", trace: None, sweep: false, quiet: false, sizes: Sizes { k: 2, c: 4, b: 4, words: 1024 }, budget: 10000000, start: 4294967295 })
+Run(Run { file: "a.elf", trace: None, sweep: false, quiet: false, sizes: Sizes { k: 2, c: 4, b: 4, r: 1, words: 1024 }, budget: 10000000, start: 4294967295 })
 $ ultra run --sweep a.elf
-Run(Run { file: "a.elf", trace: None, sweep: true, quiet: false, sizes: Sizes { k: 2, c: 4, b: 4, words: 1024 }, budget: 10000000, start: 1 })
+Run(Run { file: "a.elf", trace: None, sweep: true, quiet: false, sizes: Sizes { k: 2, c: 4, b: 4, r: 1, words: 1024 }, budget: 10000000, start: 1 })
 $ ultra run a.elf --sweep
-Run(Run { file: "a.elf", trace: None, sweep: true, quiet: false, sizes: Sizes { k: 2, c: 4, b: 4, words: 1024 }, budget: 10000000, start: 1 })
+Run(Run { file: "a.elf", trace: None, sweep: true, quiet: false, sizes: Sizes { k: 2, c: 4, b: 4, r: 1, words: 1024 }, budget: 10000000, start: 1 })
 $ ultra run --quiet a.elf
-Run(Run { file: "a.elf", trace: None, sweep: false, quiet: true, sizes: Sizes { k: 2, c: 4, b: 4, words: 1024 }, budget: 10000000, start: 1 })
+Run(Run { file: "a.elf", trace: None, sweep: false, quiet: true, sizes: Sizes { k: 2, c: 4, b: 4, r: 1, words: 1024 }, budget: 10000000, start: 1 })
 $ ultra run a.elf --quiet --sweep
-Run(Run { file: "a.elf", trace: None, sweep: true, quiet: true, sizes: Sizes { k: 2, c: 4, b: 4, words: 1024 }, budget: 10000000, start: 1 })
+Run(Run { file: "a.elf", trace: None, sweep: true, quiet: true, sizes: Sizes { k: 2, c: 4, b: 4, r: 1, words: 1024 }, budget: 10000000, start: 1 })
 $ ultra run --trace t a.elf
-Run(Run { file: "a.elf", trace: Some("t"), sweep: false, quiet: false, sizes: Sizes { k: 2, c: 4, b: 4, words: 1024 }, budget: 10000000, start: 1 })
+Run(Run { file: "a.elf", trace: Some("t"), sweep: false, quiet: false, sizes: Sizes { k: 2, c: 4, b: 4, r: 1, words: 1024 }, budget: 10000000, start: 1 })
 $ ultra run a.elf --trace=t
-Run(Run { file: "a.elf", trace: Some("t"), sweep: false, quiet: false, sizes: Sizes { k: 2, c: 4, b: 4, words: 1024 }, budget: 10000000, start: 1 })
+Run(Run { file: "a.elf", trace: Some("t"), sweep: false, quiet: false, sizes: Sizes { k: 2, c: 4, b: 4, r: 1, words: 1024 }, budget: 10000000, start: 1 })
 $ ultra run a.elf --trace=--t
-Run(Run { file: "a.elf", trace: Some("--t"), sweep: false, quiet: false, sizes: Sizes { k: 2, c: 4, b: 4, words: 1024 }, budget: 10000000, start: 1 })
+Run(Run { file: "a.elf", trace: Some("--t"), sweep: false, quiet: false, sizes: Sizes { k: 2, c: 4, b: 4, r: 1, words: 1024 }, budget: 10000000, start: 1 })
 $ ultra run --trace sweep a.elf
-Run(Run { file: "a.elf", trace: Some("sweep"), sweep: false, quiet: false, sizes: Sizes { k: 2, c: 4, b: 4, words: 1024 }, budget: 10000000, start: 1 })
+Run(Run { file: "a.elf", trace: Some("sweep"), sweep: false, quiet: false, sizes: Sizes { k: 2, c: 4, b: 4, r: 1, words: 1024 }, budget: 10000000, start: 1 })
 $ ultra run --k 3 -- --a
-Run(Run { file: "--a", trace: None, sweep: false, quiet: false, sizes: Sizes { k: 3, c: 4, b: 4, words: 1024 }, budget: 10000000, start: 1 })
+Run(Run { file: "--a", trace: None, sweep: false, quiet: false, sizes: Sizes { k: 3, c: 4, b: 4, r: 1, words: 1024 }, budget: 10000000, start: 1 })
 $ ultra run -- --sweep
-Run(Run { file: "--sweep", trace: None, sweep: false, quiet: false, sizes: Sizes { k: 2, c: 4, b: 4, words: 1024 }, budget: 10000000, start: 1 })
-$ ultra run --k 1 --c 2 --b 3 a.elf --words 4 --budget 5 --start 6 --sweep --trace 7
-Run(Run { file: "a.elf", trace: Some("7"), sweep: true, quiet: false, sizes: Sizes { k: 1, c: 2, b: 3, words: 4 }, budget: 5, start: 6 })
-$ ultra run --trace 7 --start 6 --budget 5 --words 4 --b 3 --c 2 --k 1 --sweep a.elf
-Run(Run { file: "a.elf", trace: Some("7"), sweep: true, quiet: false, sizes: Sizes { k: 1, c: 2, b: 3, words: 4 }, budget: 5, start: 6 })
+Run(Run { file: "--sweep", trace: None, sweep: false, quiet: false, sizes: Sizes { k: 2, c: 4, b: 4, r: 1, words: 1024 }, budget: 10000000, start: 1 })
+$ ultra run --k 1 --c 2 --b 3 --r 2 a.elf --words 4 --budget 5 --start 6 --sweep --trace 7
+Run(Run { file: "a.elf", trace: Some("7"), sweep: true, quiet: false, sizes: Sizes { k: 1, c: 2, b: 3, r: 2, words: 4 }, budget: 5, start: 6 })
+$ ultra run --trace 7 --start 6 --budget 5 --words 4 --r 2 --b 3 --c 2 --k 1 --sweep a.elf
+Run(Run { file: "a.elf", trace: Some("7"), sweep: true, quiet: false, sizes: Sizes { k: 1, c: 2, b: 3, r: 2, words: 4 }, budget: 5, start: 6 })
 "#;
 
 /// What is wrong in other words.
@@ -76,6 +80,12 @@ error: invalid value '17' for '--c <NUMBER>': 17 is not in 2..=16
 $ ultra run --b 17 a.elf
 ValueValidation
 error: invalid value '17' for '--b <NUMBER>': 17 is not in 0..=16
+$ ultra run --r 0 a.elf
+ValueValidation
+error: invalid value '0' for '--r <NUMBER>': 0 is not in 1..=3
+$ ultra run --r 4 a.elf
+ValueValidation
+error: invalid value '4' for '--r <NUMBER>': 4 is not in 1..=3
 $ ultra run a.elf --b=-1
 ValueValidation
 error: invalid value '-1' for '--b <NUMBER>': -1 is not in 0..=16
@@ -221,6 +231,9 @@ DisplayHelp
 $ ultra run --help
 DisplayHelp
 , 0 to 16; with 0 nothing is combined [default: 4]
+$ ultra run --help
+DisplayHelp
+, 1 to 3, and fewer than --c [default: 1]
 $ ultra run --help
 DisplayHelp
 --words <NUMBER>   Shared words of four bytes that the machine has, 1 to 262144 [default: 1024]

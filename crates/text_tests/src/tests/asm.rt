@@ -1,12 +1,13 @@
 //! The command, from the bytes of a text to the bytes of an image: what no clause says of it.
 
-ghost use Rattle.std.specs.Prelude.{◌≡◌, [], false};
+ghost use Rattle.std.specs.Prelude.{◌≡◌, false};
 
+use super::door::Door;
 use asm_command::asm_command;
-use command_io::{OnFirstWrite, Open};
+use command_io::OnFirstWrite;
 use link::{Link, Meter};
 use std::alloc::Global;
-use std::io::{self, ErrorKind, Read, Write};
+use std::io::{Read, Write};
 use std::test::Fail;
 use test_devices::{Deaf, EBREAK, Endless, Sink, Source};
 
@@ -133,29 +134,6 @@ fn tells_by_its_status(rt: HostRuntime) {
         let status = asm_command(rt.alloc(), text, &mut out, &mut Deaf);
         assert_eq!(rt; status, told);
         assert_eq!(rt; out.device.len(), 0);
-    }
-}
-
-/// Opens a buffer, or fails, and counts the openings.
-#[derive(Drop)]
-struct Door {
-    alloc: Global,
-    is_shut: bool,
-    openings: usize,
-}
-
-impl Open for Door {
-    type Device = Vec<u8>;
-
-    ghost opens = { λ d bytes. bytes.items ≡ [] };
-
-    fn open(&mut self) -> io::Result<Vec<u8>> {
-        self.openings = self.openings.saturating_add(1);
-        if self.is_shut {
-            Err(ErrorKind::PermissionDenied.into())
-        } else {
-            Ok(Vec::new(self.alloc))
-        }
     }
 }
 

@@ -1,7 +1,8 @@
 //! Texts of numbers, and a writer that is opened by its first write.
 
-ghost use Rattle.std.specs.Prelude.{◌≡◌, [], ⊤, None};
+ghost use Rattle.std.specs.Prelude.{⊤, None};
 
+use super::door::Door;
 use command_io::{Fault, OnFirstWrite, Open, print, push_bytes, push_status, push_word};
 use flat_machine::{Fault as ProcessorFault, Status};
 use link::{Link, Meter};
@@ -34,29 +35,6 @@ fn statuses(rt: HostRuntime) -> Result<(), Fail> {
         assert_eq!(rt; text.as_str(), is);
     }
     Ok(())
-}
-
-/// Opens a buffer, or fails, and counts the openings.
-#[derive(Drop)]
-struct Door {
-    alloc: Global,
-    is_shut: bool,
-    openings: usize,
-}
-
-impl Open for Door {
-    type Device = Vec<u8>;
-
-    ghost opens = { λ d bytes. bytes.items ≡ [] };
-
-    fn open(&mut self) -> io::Result<Vec<u8>> {
-        self.openings = self.openings.saturating_add(1);
-        if self.is_shut {
-            Err(ErrorKind::PermissionDenied.into())
-        } else {
-            Ok(Vec::new(self.alloc))
-        }
-    }
 }
 
 #[test]

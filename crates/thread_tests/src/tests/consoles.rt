@@ -1,6 +1,6 @@
 //! Bytes through the queues.
 
-use console_monitor::console;
+use console_monitor::{CAPACITY, console};
 use std::test::*;
 
 /// Bytes come in order, each from its own sender.
@@ -15,5 +15,23 @@ fn two_senders(rt: HostRuntime) -> Result<(), Fail> {
     assert_eq!(rt; monitor.take(1), None);
     assert_eq!(rt; monitor.take(0), Some(b'b'));
     assert_eq!(rt; monitor.take(0), None);
+    Ok(())
+}
+
+/// A full queue gives the byte back, which is put once there is room, and no byte is lost.
+#[test]
+fn full_queue(rt: HostRuntime) -> Result<(), Fail> {
+    let alloc = rt.alloc();
+    let (mut senders, mut monitor) = console(alloc, 1)?;
+    let Some(mut sender) = senders.pop() else {
+        return Err(Fail::new("no sender"));
+    };
+    for _ in 0..CAPACITY {
+        assert_eq!(rt; sender.put(&rt, b'a'), Ok(()));
+    }
+    assert_eq!(rt; sender.put(&rt, b'b'), Err(b'b'));
+    assert_eq!(rt; monitor.take(0), Some(b'a'));
+    assert_eq!(rt; sender.put(&rt, b'b'), Ok(()));
+    assert_eq!(rt; sender.put(&rt, b'c'), Err(b'c'));
     Ok(())
 }

@@ -11,7 +11,7 @@ use machine_log::Logged;
 use machine_passes::{Pass, Row, Run};
 use machine_runs::Machine;
 use processor_threads::{Gate, Open, RunFault, run_threads};
-use shuffled::Shuffled;
+use shuffled::{Arbiter, Shuffled};
 use std::alloc::Global;
 use std::marker::Brand;
 use std::process::Abort;
@@ -24,11 +24,12 @@ use std::time::{Clock, Duration};
 use test_devices::HUNDRED_ADDS;
 
 /// The log of a machine of `k` stages that opens on the image of a text.
-fn log_of(rt: &impl Abort, alloc: Global, text: &str, k: u8) -> Result<Logged, Fail> {
+pub(super) fn log_of(rt: &impl Abort, alloc: Global, text: &str, k: u8) -> Result<Logged, Fail> {
     let size = Config {
         k,
         c: 4,
         b: 4,
+        r: 1,
         shared_words: 1024,
     };
     let file = assemble(alloc, text)?.to_elf(alloc)?;
@@ -51,21 +52,26 @@ fn arbiters(alloc: Global, logged: &Logged) -> Result<Vec<Shuffled>, Fail>
 
 /// What tests look at once a run has ended.
 #[derive(Drop)]
-struct Seen {
-    logged: Logged,
-    fault: Option<RunFault>,
-    consoles: Vec<Vec<u8>>,
+pub(super) struct Seen {
+    pub(super) logged: Logged,
+    pub(super) fault: Option<RunFault>,
+    pub(super) consoles: Vec<Vec<u8>>,
     /// How many instructions each processor has retired, as its pass has them.
-    retired: Vec<usize>,
+    pub(super) retired: Vec<usize>,
 }
 
 /// Runs a log on threads.
-fn run<N: Run + Send + Sync, G: Gate + Sync, R: Threads + Wait + Sync>(
+pub(super) fn run<
+    N: Run + Send + Sync,
+    A: Arbiter + Send + Drop,
+    G: Gate + Sync,
+    R: Threads + Wait + Sync,
+>(
     rt: &R,
     alloc: Global,
     room: Room<Row>,
     logged: Logged,
-    arbiters: Vec<Shuffled>,
+    arbiters: Vec<A>,
     gate: &G,
     budget: u32,
 ) -> Result<Seen, Fail>
@@ -75,7 +81,7 @@ fn run<N: Run + Send + Sync, G: Gate + Sync, R: Threads + Wait + Sync>(
     requires count { N.count ≡ 2 ^ N.opening.config.k }
     requires arbiters { vec_len arbiters ≡ N.count }
 {
-    let ended = run_threads::<N, Shuffled, G, R>(rt, alloc, room, logged, arbiters, gate, budget);
+    let ended = run_threads::<N, A, G, R>(rt, alloc, room, logged, arbiters, gate, budget);
     let mut retired = Vec::new(alloc);
     for pass in &ended.passes {
         retired.push(retired_by(pass))?;
@@ -109,7 +115,7 @@ fn run_text<G: Gate + Sync, R: Threads + Wait + Abort + Sync>(
     let logged = log_of(rt, alloc, text, k)?;
     let room = Room::new(alloc)?;
     let arbiters = arbiters(alloc, &logged)?;
-    run::<Brand, G, R>(rt, alloc, room, logged, arbiters, gate, budget)
+    run::<Brand, Shuffled, G, R>(rt, alloc, room, logged, arbiters, gate, budget)
 }
 
 /// A budget that no program here uses up, unless a thread cannot go on.

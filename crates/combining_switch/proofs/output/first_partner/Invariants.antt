@@ -1,7 +1,12 @@
-use Rattle.combining_switch.specs.Outputs.{most_marks}
-use Rattle.combining_switch.proofs.Combinations.{NoneBefore}
+use Rattle.std.proofs.Common.{◌≡◌}
+use Rattle.std.specs.Prelude.{slice_get}
+use Rattle.message_cells.specs.Pools.{requests_at}
+use Rattle.messages.proofs.Lemmas.{NoneBefore}
 use Rattle.combining_switch.proofs.output.first_partner.Given as goal
 
--- no entry so far combines with the request
+-- the next entry is at hand, and none before it combines with the request
 abbrev pub invariant-loop-place : goal.invariant-loop-place
-invariant-loop-place l = NoneBefore most_marks l.request l.queue.items l.place
+invariant-loop-place l = record {
+  here : l.next ≡ slice_get (requests_at l.pool l.queue) l.place;
+  none : NoneBefore l.most_marks l.request (requests_at l.pool l.queue) l.place;
+}

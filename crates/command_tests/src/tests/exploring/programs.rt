@@ -24,6 +24,7 @@ processor 0 pc 00010010 halt 00 console -
 processor 1 pc 00010010 halt 00 console -
 word 0 00000001
 2 results, 12 states
+every schedule ends
 ";
 
 /// Prints a byte, and faults.
@@ -38,14 +39,20 @@ const FAULT: &str = "\
 result 1
 processor 0 pc 0001000c fault 8 console 41
 1 result, 1 state
+every schedule ends
 ";
 
-/// Waits for a word that nobody writes.
+/// Waits for a word that nobody writes, so that no turn leads to an end.
 const DEADLOCK: &str = "
  lui x1, 0x80000
 wait: lw x2, 0(x1)
  beq x2, x0, wait
  ecall
+";
+
+const WAITS: &str = "\
+0 results, 1 state
+from 1 state no end can be reached
 ";
 
 #[test]
@@ -54,7 +61,7 @@ fn results_are_printed(rt: HostRuntime) -> Result<(), Fail> {
     for (text, k, out, status) in [
         (LOST_SUM, 1, SUMS, 0),
         (PRINTED, 0, FAULT, 1),
-        (DEADLOCK, 0, "0 results, 1 state\n", 0),
+        (DEADLOCK, 0, WAITS, 1),
     ] {
         let image = image_of(alloc, text)?;
         let ran = explore(alloc, image.as_slice(), config_of(k), 100);

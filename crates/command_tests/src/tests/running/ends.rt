@@ -1,14 +1,13 @@
 //! How runs end, and what is told where there is no report.
 
 use super::{AMPLE, Ran, image_of, replay, run, run_text, size};
-use crate::tests::ONE_TURN;
 use command_io::Fault;
 use flat_machine::Config;
 use link::Meter;
 use std::io::{self, ErrorKind};
 use std::process::Abort;
 use std::test::Fail;
-use test_devices::{EBREAK, Endless};
+use test_devices::{EBREAK, Endless, ONE_TURN};
 
 /// Nothing is printed and no trace is written, and this is told.
 fn assert_told(rt: &impl Abort, ran: &Ran, told: &str, status: u8) {

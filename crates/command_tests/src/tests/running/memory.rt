@@ -2,11 +2,10 @@
 //! that there is none.
 
 use super::{AMPLE, size};
-use crate::tests::ONE_TURN;
 use link::Meter;
 use run_commands::{replay_command, run_command};
 use std::test::Fail;
-use test_devices::{EBREAK, Sink};
+use test_devices::{EBREAK, ONE_TURN, Sink};
 
 /// The report of an image of `ebreak` on one processor.
 const STOPPED: &[u8] = b"processor 0 pc 00010000 fault 8 retired 0 console -\n";

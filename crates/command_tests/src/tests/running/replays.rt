@@ -1,8 +1,8 @@
 //! Replays of traces by hand.
 
 use super::{AMPLE, image_of, replay, run_text, size};
-use crate::tests::ONE_TURN;
 use std::test::Fail;
+use test_devices::ONE_TURN;
 
 /// The trace of a run of one `ecall`, and its replay.
 #[test]

@@ -1,5 +1,5 @@
 use Rattle.std.proofs.Common.{◌<◌, ◌≤◌, ◌^◌, ◌∙◌, sym, arith}
-use Rattle.machine_program.specs.Processors.{port_at}
+use Rattle.machine_runs.specs.machine_program.Processors.{port_at}
 use Rattle.debug_sweep.proofs.Few.{below_64, is_there}
 use Rattle.debug_sweep.proofs.sweep.is_at_break.Goals as goal
 

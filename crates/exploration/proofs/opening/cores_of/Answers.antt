@@ -2,7 +2,7 @@ use Rattle.std.proofs.Common.{◌≡◌, ℕ, ◌∷◌, [], ◌++◌, nat_lt, �
 use Rattle.std.specs.List.{range_with_len}
 use Rattle.std.proofs.lemmas.List.FromFn.{map-range_with_len_more}
 use Rattle.hart.specs.State.{CoreState}
-use Rattle.machine_program.specs.Processors.{port_at}
+use Rattle.machine.specs.machine_program.Processors.{port_at}
 use Rattle.exploration.proofs.Exploring.{picked}
 use Rattle.exploration.proofs.opening.cores_of.Goals as goal
 

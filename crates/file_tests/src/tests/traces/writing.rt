@@ -97,6 +97,7 @@ fn no_steps(rt: HostRuntime) -> Result<(), Fail> {
             k,
             c,
             b,
+            r: 1,
             shared_words: 7,
         };
         let bytes = written(&rt, rt.alloc(), &config, &[]);

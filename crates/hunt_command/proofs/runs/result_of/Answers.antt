@@ -1,6 +1,6 @@
 use Rattle.std.proofs.Common.{List, sym, subst}
 use Rattle.std.proofs.lemmas.Result.{err_from_is_err_and}
-use Rattle.random_runs.specs.Step.{Step}
+use Rattle.machine_runs.specs.steps.declared.step.Step.{Step}
 use Rattle.machine_sweep.specs.Sweeps.{most_of}
 use Rattle.run_commands.specs.Causes.{IsFaultOfSize}
 use Rattle.run_commands.specs.Retaking.{IsRetaken}

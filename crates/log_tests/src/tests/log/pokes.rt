@@ -9,7 +9,7 @@ use std::test::Fail;
 use steps::{Outcome, Step};
 
 /// Writes these, which the machine has.
-fn write(rt: &impl Abort, log: &mut Logged, pokes: &[Poke]) -> Result<(), LogRefusal> {
+pub(super) fn write(rt: &impl Abort, log: &mut Logged, pokes: &[Poke]) -> Result<(), LogRefusal> {
     let machine = log.machine();
     assert!(rt; machine.is_idle());
     let lawful = pokes.iter().all(|poke| machine.is_lawful(*poke));

@@ -1,5 +1,5 @@
 use Rattle.std.proofs.Common.{[], ◌∙◌, sym, ap}
-use Rattle.machine_program.specs.Steps.{outcome_of}
+use Rattle.machine_theorem.specs.machine_program.Steps.{outcome_of}
 use Rattle.machine.specs.Machines.{machine_of}
 use Rattle.machine_runs.specs.Laws.{AnswersForgetEvents, AnswersAreOfTheSteps}
 use Rattle.machine_runs.proofs.Replaying.{outcome_there}

@@ -1,7 +1,7 @@
 use Rattle.std.proofs.Common.{◌≤◌, ◌<◌, Some, sym, ap, ◌∙◌, subst}
 use Rattle.std.proofs.lemmas.List.FromFn.{length-map-range_with_len}
-use Rattle.machine_program.specs.Processors.{no_processor, word_at}
-use Rattle.machine_program.proofs.Lemmas.{found_within}
+use Rattle.machine_theorem.specs.machine_program.Processors.{no_processor, word_at}
+use Rattle.machine_theorem.proofs.Lemmas.machine_program.{found_within}
 use Rattle.machine.specs.Openings.{flat_state}
 use Rattle.machine_runs.specs.Laws.{FlatProcessorsAreRead, FlatWordsAreRead}
 use Rattle.machine.proofs.Lemmas.{count_is, none_past, state_at, word_is}

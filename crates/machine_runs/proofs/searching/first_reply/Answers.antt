@@ -1,4 +1,4 @@
-use Rattle.omega_network.specs.Networks.{net_of}
+use Rattle.indexed_network.specs.omega_network.Networks.{net_of}
 use Rattle.machine_runs.proofs.Draining.{first_is_least}
 use Rattle.machine_runs.proofs.searching.first_reply.Goals as goal
 

@@ -1,6 +1,6 @@
 use Rattle.std.proofs.Common.{◌+◌, refl, arith}
-use Rattle.omega_network.specs.Networks.{net_of, sizes_of}
-use Rattle.abstract_machine.specs.Draining.{least}
+use Rattle.indexed_network.specs.omega_network.Networks.{net_of, sizes_of}
+use Rattle.machine_theorem.specs.abstract_machine.Draining.{least}
 use Rattle.machine_runs.proofs.Draining.{down_found, down_more, down_none}
 use Rattle.machine_runs.proofs.searching.next_down.Goals as goal
 

@@ -1,6 +1,6 @@
 use Rattle.std.proofs.Common.{◌≡◌, None}
-use Rattle.omega_network.specs.Networks.{net_of, sizes_of}
-use Rattle.abstract_machine.specs.Draining.{least}
+use Rattle.indexed_network.specs.omega_network.Networks.{net_of, sizes_of}
+use Rattle.machine_theorem.specs.abstract_machine.Draining.{least}
 use Rattle.machine_runs.proofs.Draining.{down_at}
 use Rattle.machine_runs.proofs.searching.next_down.Given as goal
 

@@ -1,6 +1,6 @@
 use Rattle.std.proofs.Common.{◌+◌, ◌*◌, ◌^◌}
 use Rattle.wire_sets.specs.Members.{members}
-use Rattle.machine.proofs.Lemmas.{count_small}
+use Rattle.machine_runs.proofs.Lemmas.machine.{count_small}
 use Rattle.machine_sweep.proofs.Rows.{first_found, none_found, row_ends}
 use Rattle.machine_sweep.proofs.round.first_from.Goals as goal
 

@@ -1,7 +1,7 @@
 use Rattle.std.proofs.Common.{◌≡◌, ◌+◌, ◌-◌, ◌≤◌, ◌<◌, ◌∙◌, false, sym, ap, subst, arith}
 use Rattle.std.specs.Prelude.{is_some, slice_get}
 use Rattle.flat_machine.specs.declared.config.Config.{Config}
-use Rattle.omega_network.specs.Networks.{net_of}
+use Rattle.machine_runs.specs.omega_network.Networks.{net_of}
 use Rattle.machine_sweep.proofs.Quiet.{up_quiet, serve_quiet, down_quiet}
 use Rattle.machine_sweep.proofs.round.wires_of.Goals as goal
 

@@ -1,9 +1,9 @@
 use Rattle.std.proofs.Common.{◌≡◌, ◌+◌, ◌∙◌, List, length, sym, ap, subst}
-use Rattle.machine_sweep.specs.Config.{Config}
+use Rattle.machine_log.specs.flat_machine.declared.config.Config.{Config}
 use Rattle.steps.specs.declared.step.Step.{Step}
-use Rattle.machine_sweep.specs.Machines.{MachineLists}
+use Rattle.machine_log.specs.machine_runs.Machines.{MachineLists}
 use Rattle.machine_sweep.specs.Own.{AreOwn}
-use Rattle.random_runs.specs.Runs.{HasRun, WasAsked}
+use Rattle.random_runs.specs.Runs.{HasRunAtRandom, WasAsked}
 use Rattle.random_runs.specs.Schedules.{schedule}
 use Rattle.random_runs.proofs.Plans.{own_schedule}
 use Rattle.random_runs.proofs.Recorded.{run_has_records}
@@ -40,7 +40,7 @@ returns-clause-records c =
     ∙ ap (λ (m : MachineLists). m.config) c.machine.ensures.machine) in
     let asked = subst (λ (x : List Step × List Step). WasAsked x.0 (length x.1 + c.args.most) old c.ask-end.result middle)
     (λ i. (plan i, c.steps.ensures.steps i)) c.ask-end.ensures.asked in
-    let ran : HasRun c.args.number c.args.most old c.ask-end.result new =
+    let ran : HasRunAtRandom c.args.number c.args.most old c.ask-end.result new =
     record {
       middle = middle;
       asked = asked;

@@ -80,3 +80,9 @@ returns-in_err-print-clause-told g c =
       );
       part = subst (λ bytes. AppendsPart (g.W.Write.contents c.args.out.now) (g.W.Write.contents c.print.new.out) bytes) c.as_str.ensures.value f.1;
     })
+
+pub returns-in_err-print-clause-failed : goal.returns-in_err-print-clause-failed
+returns-in_err-print-clause-failed g c =
+    let p = err_from_is_err_and c.from_residual-in_err-print.result c.from_residual-in_err-print.ensures.1 in
+    let f = c.in_err-print.ensures.begun in
+    rw (p.1, p.2, f.0) ((λ e. c.in_err-print.ensures.failed), (λ e. refl))

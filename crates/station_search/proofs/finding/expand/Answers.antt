@@ -1,13 +1,17 @@
-use Rattle.std.proofs.Common.{◌≡◌, ℕ, ◌+◌, ◌<◌, true, nat_eq, List, [], Some, None, length, refl, sym, ap, subst, ◌∙◌, arith}
-use Rattle.std.specs.Prelude.{slice_index_or}
-use Rattle.std.proofs.lemmas.Bool.Decides.{Decides-eqb}
-use Rattle.std.proofs.lemmas.Slice.Eq.{slice_eq-Decides}
-use Rattle.station_search.specs.Search.{IsNext, Expanded}
-use Rattle.station_search.specs.Tables.{means}
+use Rattle.std.proofs.Common.{◌≡◌, ℕ, ◌+◌, ◌<◌, List, [], Option, Some, None, length, sym, ap, subst, ◌∙◌, arith}
+use Rattle.std.specs.Prelude.{slice_set, slice_index_or}
+use Rattle.std.proofs.lemmas.List.{length-set}
+use Rattle.live_registers.specs.Live.{HasAllLive}
+use Rattle.station_search.specs.Search.{IsNoted, Expanded}
 use Rattle.station_search.proofs.Growing.{kept_on, row_kept}
-use Rattle.station_search.proofs.Searching.{IsInserted, inserted, stood, went, completed}
+use Rattle.station_search.proofs.Searching.{noted_on, completed}
 use Rattle.station_search.proofs.finding.expand.Goals as goal
-use Rattle.station_search.proofs.finding.expand.Goals.{in-Some+in-Ok, in_default}
+
+still_there : (rows : List (List ℕ)) (next : Option (List ℕ)) (new : List (List ℕ)) (target at : ℕ) (row : List ℕ) → IsNoted rows next new target →
+    at < length rows → slice_index_or rows at [] ≡ row → (at < length new) × (slice_index_or new at [] ≡ row)
+still_there rows None new target at row noted l is =
+    (subst (λ (ks : List (List ℕ)). at < length ks) (sym noted.0) l, ap (λ (ks : List (List ℕ)). slice_index_or ks at []) noted.0 ∙ is)
+still_there rows (Some next) new target at row ins l is = (omega (arith, l, ins.longer), ins.same at l ∙ is)
 
 pub loop-p-preserved : goal.loop-p-preserved
 loop-p-preserved c =
@@ -16,42 +20,32 @@ loop-p-preserved c =
     let t = c.loop-p.tables in
     let u = c.next.new.self in
     let kept = c.in_ok-next.ensures.kept in
-    elim c.match-branch-2.branch [
-      | in-Some+in-Ok w ↦
-          let ins : IsInserted c.loop-p.found.keys w.in-Some.next c.match-branch-2.found.keys =
-          subst (IsInserted c.loop-p.found.keys w.in-Some.next) (sym w.in-Ok.ensures.keys ∙ sym (ap (λ f. f.keys) w.found-is))
-          (inserted _ (λ x y h. (slice_eq-Decides {E = nat_eq} Decides-eqb x y true (sym h)).0 refl) c.loop-p.found.keys w.in-Some.next) in
-          let moved : IsNext e code u (means e t c.args.row) c.loop-p.p (Some w.in-Some.next) =
-          subst (IsNext e code u (means e t c.args.row) c.loop-p.p) w.in-Some.is c.in_ok-next.ensures.next in
-          record {
-            kept = kept_on _ _ _ c.loop-p.invariant.kept kept;
-            stations = c.in_ok-next.ensures.stations;
-            lists = c.in_ok-next.ensures.lists;
-            there = omega (arith, c.loop-p.invariant.there, ins.longer);
-            row_is = ins.same c.args.at c.loop-p.invariant.there ∙ c.loop-p.invariant.row_is;
-            is_row = row_kept e t u c.args.row kept c.loop-p.invariant.is_row;
-            expanded = λ first h. went e code t u kept c.loop-p.found.keys first c.args.at c.loop-p.p c.args.row w.in-Some.next c.match-branch-2.found.keys
-                (c.loop-p.invariant.expanded first h) c.loop-p.invariant.row_is moved ins;
-          }
-      | in_default w ↦
-          let keys : c.loop-p.found.keys ≡ c.match-branch-2.found.keys = sym (ap (λ f. f.keys) w.found-is) in
-          let moved : IsNext e code u (means e t c.args.row) c.loop-p.p None =
-          subst (IsNext e code u (means e t c.args.row) c.loop-p.p) w.in_default.is c.in_ok-next.ensures.next in
-          record {
-            kept = kept_on _ _ _ c.loop-p.invariant.kept kept;
-            stations = c.in_ok-next.ensures.stations;
-            lists = c.in_ok-next.ensures.lists;
-            there = subst (λ (ks : List (List ℕ)). c.args.at < length ks) keys c.loop-p.invariant.there;
-            row_is = ap (λ (ks : List (List ℕ)). slice_index_or ks c.args.at []) (sym keys) ∙ c.loop-p.invariant.row_is;
-            is_row = row_kept e t u c.args.row kept c.loop-p.invariant.is_row;
-            expanded = λ first h. subst (λ ks. Expanded e code u ks first c.args.at (c.loop-p.p + 1)) keys
-                (stood e code t u kept c.loop-p.found.keys first c.args.at c.loop-p.p c.args.row (c.loop-p.invariant.expanded first h)
-                c.loop-p.invariant.row_is moved);
-          }
-    ]
+    let target = c.in_ok-targets.field-0 in
+    let wide : c.loop-p.p < length c.loop-p.targets = omega (arith, c.loop-p.invariant.wide, c.requires.room) in
+    let there = still_there c.loop-p.rows.keys c.in_ok-next.next c.target_of.new.rows.keys target c.args.at c.args.row c.in_ok-targets.ensures
+    c.loop-p.invariant.there c.loop-p.invariant.row_is in
+    record {
+      kept = kept_on _ _ _ c.loop-p.invariant.kept kept;
+      stations = c.in_ok-next.ensures.stations;
+      lists = c.in_ok-next.ensures.lists;
+      wide = length-set c.loop-p.targets c.from.result target ∙ c.loop-p.invariant.wide;
+      there = there.0;
+      row_is = there.1;
+      is_row = row_kept e t u c.args.row kept c.loop-p.invariant.is_row;
+      expanded = λ first moves h.
+          subst (λ i. Expanded e code u c.target_of.new.rows.keys moves first (slice_set c.loop-p.targets i target) c.args.at (c.loop-p.p + 1))
+          (sym c.from.ensures)
+          (noted_on e code t u kept c.loop-p.rows.keys moves first c.loop-p.targets c.args.at c.loop-p.p target c.args.row wide
+          (c.loop-p.invariant.expanded first moves h) c.loop-p.invariant.row_is c.in_ok-next.next c.target_of.new.rows.keys c.in_ok-next.ensures.next
+          c.in_ok-targets.ensures);
+    }
 
 pub returns-clause-searched : goal.returns-clause-searched
 returns-clause-searched c =
     let all : c.loop-p.p ≡ c.args.extent.processors = omega arith in
-    λ first h. completed c.args.extent c.args.code.now c.loop-p.tables c.loop-p.found.keys first c.args.at
-    (subst (Expanded c.args.extent c.args.code.now c.loop-p.tables c.loop-p.found.keys first c.args.at) all (c.loop-p.invariant.expanded first h))
+    λ first moves h. completed c.args.extent c.args.code.now c.loop-p.tables c.loop-p.rows.keys moves first c.loop-p.targets c.args.at
+    (subst (Expanded c.args.extent c.args.code.now c.loop-p.tables c.loop-p.rows.keys moves first c.loop-p.targets c.args.at) all
+    (c.loop-p.invariant.expanded first moves h))
+
+pub next-requires-clause-live : goal.next-requires-clause-live
+next-requires-clause-live c = subst (HasAllLive c.args.code.now) (sym c.loop-p.invariant.kept.live) c.requires.live

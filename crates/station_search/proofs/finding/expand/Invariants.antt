@@ -1,4 +1,4 @@
-use Rattle.std.proofs.Common.{◌≡◌, ◌<◌, [], length}
+use Rattle.std.proofs.Common.{◌≡◌, ℕ, ◌<◌, List, [], length}
 use Rattle.std.specs.Prelude.{slice_index_or}
 use Rattle.alone.specs.Closing.{Standing}
 use Rattle.station_search.specs.Search.{Searched, Expanded}
@@ -11,9 +11,10 @@ invariant-loop-p l = record {
   kept : IsKept l.fn.tables l.tables;
   stations : KnowsStations l.code l.tables l.memos.stations;
   lists : KnowsLists l.tables l.memos.lists;
-  there : l.at < length l.found.keys;
-  row_is : slice_index_or l.found.keys l.at [] ≡ l.row;
+  wide : length l.targets ≡ 8;
+  there : l.at < length l.rows.keys;
+  row_is : slice_index_or l.rows.keys l.at [] ≡ l.row;
   is_row : IsRow l.extent l.tables l.row;
-  expanded : (first : Standing) → Searched l.extent l.code l.fn.tables l.fn.found.keys first l.at →
-      Expanded l.extent l.code l.tables l.found.keys first l.at l.p;
+  expanded : (first : Standing) (moves : List (List ℕ)) → Searched l.extent l.code l.fn.tables l.fn.rows.keys moves first l.at →
+      Expanded l.extent l.code l.tables l.rows.keys moves first l.targets l.at l.p;
 }

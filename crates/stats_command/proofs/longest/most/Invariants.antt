@@ -1,5 +1,5 @@
 use Rattle.std.proofs.Common.{◌≡◌}
-use Rattle.omega_network.specs.Networks.{net_of}
+use Rattle.indexed_network.specs.omega_network.Networks.{net_of}
 use Rattle.stats_command.specs.Longest.{count_of, most_of}
 use Rattle.stats_command.proofs.longest.most.Given as goal
 

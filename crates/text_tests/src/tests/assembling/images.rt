@@ -29,6 +29,7 @@ fn read_back(
         k: 0,
         c: 2,
         b: 0,
+        r: 1,
         shared_words,
     };
     Ok(read_image(rt.alloc(), &mut Meter::new(file.as_slice()), &config))

@@ -3,7 +3,7 @@ use Rattle.std.specs.Prelude.{string_bytes}
 use Rattle.std.specs.Io.KnownBytes.{Appends}
 use Rattle.std.proofs.lemmas.Result.{err_from_is_err_and}
 use Rattle.link.specs.Transfer.{AppendsPart}
-use Rattle.trace_file.specs.Traces.{trace_bytes, trace_of}
+use Rattle.command_io.specs.trace_file.Traces.{trace_bytes, trace_of}
 use Rattle.processor_threads.specs.Consoles.{bytes_of}
 use Rattle.run_commands.specs.Commands.{IsPartSaved, IsSaved}
 use Rattle.run_commands.specs.Retaking.{AreConsoles}
@@ -90,3 +90,9 @@ returns-in_err-print-clause-told g c =
       );
       part = subst (λ bytes. AppendsPart (g.W.Write.contents c.args.out.now) (g.W.Write.contents c.print.new.out) bytes) c.as_str.ensures.value f.1;
     })
+
+pub returns-in_err-print-clause-failed : goal.returns-in_err-print-clause-failed
+returns-in_err-print-clause-failed g c =
+    let p = err_from_is_err_and c.from_residual-in_err-print.result c.from_residual-in_err-print.ensures.1 in
+    let f = c.in_err-print.ensures.begun in
+    rw (p.1, p.2, f.0) ((λ e. c.in_err-print.ensures.failed), (λ e. refl))

@@ -1,8 +1,9 @@
 use Rattle.std.proofs.Common.{subst}
-use Rattle.machine_program.specs.Steps.{machine_of_parts}
+use Rattle.machine_opening.specs.machine_program.Steps.{machine_of_parts}
 use Rattle.machine.specs.Machines.{IsStep}
 use Rattle.machine.proofs.Stalling.{stalled_keeps}
 use Rattle.machine.proofs.Poking.{poke_whole}
+use Rattle.machine.proofs.Telling.{tells_all}
 use Rattle.machine.proofs.machine.Machine.apply.Goals as goal
 
 pub returns-clause-stalled : goal.returns-clause-stalled
@@ -17,3 +18,8 @@ returns-clause-poked c idle poke e =
 pub returns-clause-few : goal.returns-clause-few
 unfolding machine_of_parts
 returns-clause-few c = c.machine_is_sound-2.ensures.steady.few
+
+pub returns-clause-told : goal.returns-clause-told
+returns-clause-told c =
+    tells_all c.args.self.now c.machine_is_sound.ensures c.seconds_are_told.ensures c.args.step c.take-outcome.result
+    (c.take-outcome.ensures.step.outcome)

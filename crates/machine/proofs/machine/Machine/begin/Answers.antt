@@ -1,12 +1,17 @@
 use Rattle.std.proofs.Common.{◌≡◌, ◌<◌, ◌^◌, true, false, refl, sym, subst}
-use Rattle.machine_program.specs.Processors.{port_at}
+use Rattle.machine_opening.specs.machine_program.Processors.{port_at}
 use Rattle.flat_machine.specs.State.{is_running}
 use Rattle.machine.specs.Machines.{MachineLists}
 use Rattle.machine.proofs.Handling.{step_by, turn_slot_free, begin_there}
+use Rattle.machine.proofs.Naming.{not_named}
 use Rattle.machine.proofs.machine.Machine.begin.Goals as goal
 
 pub begin-requires-clause-free : goal.begin-requires-clause-free
 begin-requires-clause-free c = turn_slot_free _ c.self.invariant c.args.p
+    (subst (λ (m : MachineLists). (port_at m.ports c.args.p).is_open ≡ false) (sym c.self.view_is) c.requires.closed)
+
+pub begin-requires-clause-unnamed : goal.begin-requires-clause-unnamed
+begin-requires-clause-unnamed c = not_named _ c.self.invariant c.args.p
     (subst (λ (m : MachineLists). (port_at m.ports c.args.p).is_open ≡ false) (sym c.self.view_is) c.requires.closed)
 
 pub invariant_of-self : goal.invariant_of-self

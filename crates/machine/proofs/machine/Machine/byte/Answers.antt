@@ -2,7 +2,7 @@ use Rattle.std.proofs.Common.{◌∙◌, ◌^◌, ap}
 use Rattle.std.proofs.Common.{nat_lt}
 use Rattle.std.specs.Result.{result_ok}
 use Rattle.flat_machine.specs.Memory.{in_local}
-use Rattle.machine_program.specs.Processors.{port_at}
+use Rattle.machine_opening.specs.machine_program.Processors.{port_at}
 use Rattle.machine.proofs.LocalBytes.{byte_of_core}
 use Rattle.machine.proofs.machine.Machine.byte.Goals as goal
 

@@ -1,5 +1,5 @@
 use Rattle.std.proofs.Common.{◌≡◌, ◌<◌, ◌^◌, true, refl, sym, subst}
-use Rattle.machine_program.specs.Processors.{port_at}
+use Rattle.machine_opening.specs.machine_program.Processors.{port_at}
 use Rattle.machine.specs.Machines.{MachineLists}
 use Rattle.machine.proofs.Handling.{step_by, port_refers, finish_there}
 use Rattle.machine.proofs.machine.Machine.finish.Goals as goal

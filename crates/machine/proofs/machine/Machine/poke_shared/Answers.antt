@@ -2,7 +2,7 @@ use Rattle.std.proofs.Common.{◌≡◌, ◌<◌, ◌^◌, refl, sym, subst}
 use Rattle.machine.specs.Machines.{MachineLists, IsIdle}
 use Rattle.std.proofs.Common.{ℕ, ◌%◌}
 use Rattle.flat_machine.specs.Words.{with_part}
-use Rattle.phi_algebra.specs.Functions.{apply}
+use Rattle.messages.specs.phi_algebra.Functions.{apply}
 use Rattle.machine.proofs.Handling.{same_by, step_by, below, beyond, shared_unnamed, shared_there}
 use Rattle.machine.proofs.machine.Machine.poke_shared.Goals as goal
 

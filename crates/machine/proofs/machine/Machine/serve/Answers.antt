@@ -1,5 +1,6 @@
 use Rattle.std.proofs.Common.{refl, arith}
 use Rattle.machine.proofs.Handling.{same_by, step_by, serve_unnamed, request_place, serve_there}
+use Rattle.machine.proofs.Naming.{taken_unnamed}
 use Rattle.machine.proofs.machine.Machine.serve.Goals as goal
 
 pub returns-then-place-len : goal.returns-then-place-len
@@ -9,6 +10,9 @@ returns-then-place-len c =
 pub execute-requires-clause-place : goal.execute-requires-clause-place
 execute-requires-clause-place c = request_place _ c.self.invariant c.args.m c.from-place.result c.from-place.ensures (let all = c.self.invariant.modules.all in
     omega (arith, all, c.if-place-len.false, c.from-place.ensures, c.len.ensures)) c.index_mut.result.now c.index_mut.ensures.value
+
+pub execute-requires-clause-leader : goal.execute-requires-clause-leader
+execute-requires-clause-leader c = taken_unnamed _ c.self.invariant c.args.m
 
 pub invariant_of-self : goal.invariant_of-self
 invariant_of-self c = (serve_there _ c.self.invariant c.args.m c.from-place.result c.from-place.ensures (let all = c.self.invariant.modules.all in

@@ -1,7 +1,7 @@
 use Rattle.std.proofs.Common.{◌∙◌, ◌<◌, length, sym, ap, arith}
 use Rattle.flat_machine.specs.State.{is_running}
 use Rattle.machine_ports.specs.Ports.{PortState}
-use Rattle.machine_program.specs.Processors.{no_port}
+use Rattle.machine_opening.specs.machine_program.Processors.{no_port}
 use Rattle.machine.proofs.Handling.{same_by, found, turn_unnamed, turn_rests}
 use Rattle.machine.proofs.machine.Machine.turn.Goals as goal
 

@@ -1,7 +1,7 @@
 use Rattle.std.proofs.Common.{◌∙◌, sym, ap}
 use Rattle.std.proofs.Common.{Some, None, nat_lt, lt-ltb}
 use Rattle.std.specs.Prelude.{if◌then◌else◌}
-use Rattle.machine_program.specs.Processors.{word_at}
+use Rattle.machine_opening.specs.machine_program.Processors.{word_at}
 use Rattle.machine.specs.Machines.{MachineLists}
 use Rattle.machine.proofs.Handling.{word_there_is}
 use Rattle.machine.proofs.machine.Machine.word.Goals as goal

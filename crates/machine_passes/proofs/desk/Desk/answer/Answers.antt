@@ -1,8 +1,9 @@
-use Rattle.std.proofs.Common.{◌≡◌, List, length, Some, slice_get, slice_set, sym, ◌∙◌, ap, subst, arith}
+use Rattle.std.proofs.Common.{◌≡◌, List, length, Some, slice_get, slice_set, sym, ◌∙◌, ap, subst, true, arith}
 use Rattle.steps.specs.declared.step.Step.{Step}
-use Rattle.machine_runs.specs.Runs.{answer_after}
+use Rattle.machine_log.specs.Logs.{is_named}
+use Rattle.machine_log.specs.machine_runs.Runs.{answer_after}
 use Rattle.machine_passes.specs.declared.row.Row.{Row}
-use Rattle.machine_passes.specs.Rows.{told, Fits, Follows}
+use Rattle.machine_passes.specs.Rows.{answer, told, Fits, Follows}
 use Rattle.machine_passes.specs.Passes.{Sheet, Held, held, row_of}
 use Rattle.machine_passes.proofs.Fitting.{answered, follows_last, long, steps_of-get}
 use Rattle.machine_passes.proofs.desk.Desk.answer.Goals as goal
@@ -11,31 +12,32 @@ pub invariant_of-self-2 : goal.invariant_of-self-2
 invariant_of-self-2 g c =
     let p = c.pass.inside in
     let r = row_of p.stored in
-    let o = c.in_ok-outcome.outcome in
-    let t = c.in_ok-outcome.ensures.taken in
+    let a = c.in_ok-take.ensures.answered in
     let w = c.note.ensures p.processor r c.pass.invariant in
     let i = c.self.invariant in
     let l = c.self.inside.logged in
-    let st = c.steps-place.ensures.steps in
-    let new = c.tell.ensures ∙ (λ k. told p.processor (c.make_room.ensures.kept k) c.args.step o (length (st k))) in
+    let new = a.row ∙ ap (λ steps. told p.processor r c.args.step a.outcome (length steps)) c.steps-place.ensures.steps in
     let keeper = w.keeper ∙ ap (slice_set c.self.inside.keeper p.processor) new in
-    let out = c.in_ok-outcome.ensures.answer ∙ ap (λ m. answer_after m l.steps c.args.step) i.opening in
+    let out = a.answer ∙ ap (λ m. answer_after m l.steps c.args.step) i.opening in
     let all =
-    answered g.N.Run.opening g.N.Run.first g.N.Run.count l.steps c.self.inside.keeper p.processor r c.args.step o i.fits
+    answered g.N.Run.opening g.N.Run.first g.N.Run.count l.steps c.self.inside.keeper p.processor r c.args.step a.outcome i.fits
     w.agreed c.requires.poke c.requires.named
     (λ q h. c.requires.turn q h ∙ sym (ap (λ h. h.processor) c.pass.view_is)) out in
     record {
-      opening = t.opening ∙ i.opening;
-      config = t.step.config ∙ i.config;
+      opening = a.opening ∙ i.opening;
+      config = a.config ∙ i.config;
       count = i.count;
-      fits = subst (λ (x : List Step × List Row). Fits g.N.Run.opening g.N.Run.first g.N.Run.count x.0 x.1) (λ k. (sym t.steps k, sym keeper k)) all;
+      fits = subst (λ (x : List Step × List Row). Fits g.N.Run.opening g.N.Run.first g.N.Run.count x.0 x.1) (λ k. (sym a.steps k, sym keeper k)) all;
     }
 
 pub invariant_of-pass-2 : goal.invariant_of-pass-2
 invariant_of-pass-2 g c = (c.note.ensures c.pass.inside.processor (row_of c.pass.inside.stored) c.pass.invariant).claim
 
-pub tell-requires-clause-steps : goal.tell-requires-clause-steps
-tell-requires-clause-steps g c =
+pub take-requires-clause-named : goal.take-requires-clause-named
+take-requires-clause-named g c = subst (λ k. is_named k c.args.step ≡ true) (sym c.self.invariant.config) c.requires.named
+
+pub take-requires-clause-steps : goal.take-requires-clause-steps
+take-requires-clause-steps g c =
     let p = c.pass.inside in
     let met : slice_get c.self.inside.keeper p.processor ≡ Some (row_of p.stored) =
     subst (λ (x : Sheet × Held). slice_get x.0.rows x.1.processor ≡ Some x.1.row) (λ i. (sym c.self.view_is i, sym c.pass.view_is i)) c.requires.met in
@@ -43,24 +45,25 @@ tell-requires-clause-steps g c =
     let total = c.self.invariant.fits.total in
     let room = c.steps-place.ensures.room in
     let same = ap length c.steps-place.ensures.steps in
-    let kept = ap (λ (r : Row). r.steps) c.make_room.ensures.kept in
     omega arith
 
 pub returns-clause-told : goal.returns-clause-told
 returns-clause-told g c =
     let p = c.pass.inside in
     let r = row_of p.stored in
-    let o = c.in_ok-outcome.outcome in
+    let a = c.in_ok-take.ensures.answered in
     let l = c.self.inside.logged in
     let met : slice_get c.self.inside.keeper p.processor ≡ Some r =
     subst (λ (x : Sheet × Held). slice_get x.0.rows x.1.processor ≡ Some x.1.row) (λ i. (sym c.self.view_is i, sym c.pass.view_is i)) c.requires.met in
-    let st = c.steps-place.ensures.steps in
     let f = c.self.invariant.fits.each p.processor r met in
     let far = follows_last g.N.Run.opening (length g.N.Run.first) l.steps p.processor p.stored.last f.last in
-    let new = c.tell.ensures ∙ (λ k. told p.processor (c.make_room.ensures.kept k) c.args.step o (length (st k))) in
+    let new = a.row ∙ ap (λ steps. told p.processor r c.args.step a.outcome (length steps)) c.steps-place.ensures.steps in
+    let same = c.outcome.ensures (answer c.args.step a.outcome (length l.steps)) (ap (λ (r : Row). r.last) new) in
+    let row = new ∙ ap (λ o. told p.processor r c.args.step o (length l.steps)) (sym same) in
     record {
       place = length l.steps;
       low = (long g.N.Run.opening g.N.Run.first g.N.Run.count l.steps c.self.inside.keeper c.self.invariant.fits).1;
       follows = subst (λ (h : Held). Follows h.row.last (length l.steps)) c.pass.view_is far;
-      pass = ap (held p.processor) new ∙ ap (λ (h : Held). held h.processor (told h.processor h.row c.args.step o (length l.steps))) c.pass.view_is;
+      pass = ap (held p.processor) row
+          ∙ ap (λ (h : Held). held h.processor (told h.processor h.row c.args.step c.outcome.result (length l.steps))) c.pass.view_is;
     }

@@ -28,3 +28,11 @@ returns-clause-whole g c =
     let n = e ∙ c.processors-count.ensures ∙ ap (λ x. 2 ^ x.k) (c.config.ensures.config ∙ ap (λ m. m.config) c.machine.ensures.machine ∙ config)
     ∙ sym c.requires.count in
     subst (IsWhole g.N.Run.count) (sym (c.loop-p.invariant.1 ∙ ap new_passes n)) (whole-new g.N.Run.count)
+
+pub returns-clause-passes : goal.returns-clause-passes
+returns-clause-passes g c =
+    let e : c.loop-p.p ≡ c.processors-count.result = (let a = c.loop-p.auto.p-end in let b = c.loop-p-test.false in omega arith) in
+    let config = c.machine.ensures.replay.run.config ∙ ap (λ m. m.config) c.requires.opening in
+    let n = e ∙ c.processors-count.ensures ∙ ap (λ x. 2 ^ x.k) (c.config.ensures.config ∙ ap (λ m. m.config) c.machine.ensures.machine ∙ config)
+    ∙ sym c.requires.count in
+    c.loop-p.invariant.1 ∙ ap new_passes n

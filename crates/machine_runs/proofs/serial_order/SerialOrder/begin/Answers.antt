@@ -1,6 +1,6 @@
 use Rattle.std.proofs.Common.{◌∙◌, ◌∷◌, [], sym, ap, subst, arith}
 use Rattle.std.specs.Prelude.{slice_set}
-use Rattle.machine_program.specs.Theory as theory
+use Rattle.machine_theorem.specs.machine_program.Theory as theory
 use Rattle.machine_runs.specs.Ordering.{IsEntered}
 use Rattle.machine_runs.proofs.Grouping.{enters_issue}
 use Rattle.machine_runs.proofs.serial_order.SerialOrder.begin.Goals as goal

@@ -1,7 +1,7 @@
 use Rattle.std.proofs.Common.{◌≡◌, ◌∙◌, ◌≤◌, ◌<◌, ◌++◌, ℕ, length, sym, ap, ap₂, subst, arith}
 use Rattle.std.specs.Prelude.{slice_set}
-use Rattle.placement.specs.Meaning.{joined}
-use Rattle.machine_program.specs.Theory as theory
+use Rattle.machine_theorem.specs.placement.Meaning.{joined}
+use Rattle.machine_theorem.specs.machine_program.Theory as theory
 use Rattle.machine_runs.specs.Ordering.{group_in, IsEntered}
 use Rattle.machine_runs.proofs.Grouping.{group_at, enters_combined}
 use Rattle.machine_runs.proofs.serial_order.SerialOrder.join.Goals as goal

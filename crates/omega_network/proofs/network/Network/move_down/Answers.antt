@@ -1,33 +1,47 @@
-use Rattle.std.proofs.Common.{◌≡◌, ◌∙◌, ◌+◌, suc, ap, arith}
-use Rattle.omega_network.specs.Networks.{net_of}
-use Rattle.omega_network.specs.Offers.{first_reply_taken}
-use Rattle.omega_network.proofs.Moves.{down_ends}
+use Rattle.std.proofs.Common.{◌≡◌, ◌+◌, suc, drop, Option, sym, ap, subst, ◌∙◌, arith}
+use Rattle.std.specs.Prelude.{IfSome, slice_get}
+use Rattle.messages.specs.declared.message.Reply.{Reply}
+use Rattle.messages.specs.declared.moves.DownMove.{DownMove}
+use Rattle.messages.specs.Network.{Net, Sizes, put_replies}
+use Rattle.messages.specs.Moves.{answer}
+use Rattle.messages.specs.Queues.{records_of}
+use Rattle.omega_network.specs.Networks.{MayLead, net_of}
+use Rattle.omega_network.proofs.Moves.{down_stalled, down_went}
 use Rattle.omega_network.proofs.network.Network.move_down.Goals as goal
 
-pub returns-in-One-clause-outcome : goal.returns-in-One-clause-outcome
-returns-in-One-clause-outcome c =
-    (down_ends c.args.self.now c.args.wire c.requires.stage c.requires.first c.answer.ensures.answer c.answer.ensures.after c.in-One.is).0
+pub returns-then-not-would_answer-clause-outcome : goal.returns-then-not-would_answer-clause-outcome
+returns-then-not-would_answer-clause-outcome c =
+    sym (ap (λ (r : DownMove × Net). r.0) (down_stalled c.args.self.now c.args.wire c.requires.stage c.requires.first c.would_answer.ensures
+    c.if-not-would_answer.true))
 
-pub returns-in-One-clause-after : goal.returns-in-One-clause-after
-returns-in-One-clause-after c =
+pub returns-then-not-would_answer-clause-after : goal.returns-then-not-would_answer-clause-after
+returns-then-not-would_answer-clause-after c =
+    sym (ap (λ (r : DownMove × Net). r.1) (down_stalled c.args.self.now c.args.wire c.requires.stage c.requires.first c.would_answer.ensures
+    c.if-not-would_answer.true))
+
+pub answer-requires-clause-leader : goal.answer-requires-clause-leader
+answer-requires-clause-leader c =
     let next : c.args.stage + 1 ≡ suc c.args.stage = omega arith in
-    c.take_reply.ensures.taken ∙ ap (λ d. first_reply_taken (net_of c.answer.new.self) d c.args.wire) next
-    ∙ (down_ends c.args.self.now c.args.wire c.requires.stage c.requires.first c.answer.ensures.answer c.answer.ensures.after c.in-One.is).1
+    subst (λ (o : Option Reply). IfSome o (λ y. MayLead c.take_reply.new.self y.leader))
+    (c.take_reply.ensures.first ∙ ap (λ d. slice_get ((net_of c.args.self.now).replies d c.args.wire) 0) next ∙ c.requires.first)
+    c.take_reply.ensures.unnamed
 
-pub returns-in-Two-clause-outcome : goal.returns-in-Two-clause-outcome
-returns-in-Two-clause-outcome c =
-    (down_ends c.args.self.now c.args.wire c.requires.stage c.requires.first c.answer.ensures.answer c.answer.ensures.after c.in-Two.is).0
-
-pub returns-in-Two-clause-after : goal.returns-in-Two-clause-after
-returns-in-Two-clause-after c =
+pub returns-clause-outcome : goal.returns-clause-outcome
+returns-clause-outcome c =
     let next : c.args.stage + 1 ≡ suc c.args.stage = omega arith in
-    c.take_reply-in-Two.ensures.taken ∙ ap (λ d. first_reply_taken (net_of c.answer.new.self) d c.args.wire) next
-    ∙ (down_ends c.args.self.now c.args.wire c.requires.stage c.requires.first c.answer.ensures.answer c.answer.ensures.after c.in-Two.is).1
+    c.answer.ensures.outcome
+    ∙ ap (λ (z : Sizes). (answer z (net_of c.take_reply.new.self) (net_of c.take_reply.new.self) c.args.stage c.args.wire c.args.reply
+    (records_of c.args.reply.leader ((net_of c.take_reply.new.self).records c.args.stage c.args.wire))).0) c.take_reply.ensures.sizes
+    ∙ sym (ap (λ (r : DownMove × Net). r.0) (down_went c.args.self.now c.args.wire c.requires.stage c.requires.first c.would_answer.ensures
+    c.if-not-would_answer.false (c.take_reply.ensures.taken ∙ ap
+    (λ d. put_replies (net_of c.args.self.now) d c.args.wire (drop 1 ((net_of c.args.self.now).replies d c.args.wire))) next)))
 
-pub returns-in-NoRoom-clause-outcome : goal.returns-in-NoRoom-clause-outcome
-returns-in-NoRoom-clause-outcome c =
-    (down_ends c.args.self.now c.args.wire c.requires.stage c.requires.first c.answer.ensures.answer c.answer.ensures.after c.in-NoRoom.is).0
-
-pub returns-in-NoRoom-clause-after : goal.returns-in-NoRoom-clause-after
-returns-in-NoRoom-clause-after c =
-    (down_ends c.args.self.now c.args.wire c.requires.stage c.requires.first c.answer.ensures.answer c.answer.ensures.after c.in-NoRoom.is).1
+pub returns-clause-after : goal.returns-clause-after
+returns-clause-after c =
+    let next : c.args.stage + 1 ≡ suc c.args.stage = omega arith in
+    c.answer.ensures.after
+    ∙ ap (λ (z : Sizes). (answer z (net_of c.take_reply.new.self) (net_of c.take_reply.new.self) c.args.stage c.args.wire c.args.reply
+    (records_of c.args.reply.leader ((net_of c.take_reply.new.self).records c.args.stage c.args.wire))).1) c.take_reply.ensures.sizes
+    ∙ sym (ap (λ (r : DownMove × Net). r.1) (down_went c.args.self.now c.args.wire c.requires.stage c.requires.first c.would_answer.ensures
+    c.if-not-would_answer.false (c.take_reply.ensures.taken ∙ ap
+    (λ d. put_replies (net_of c.args.self.now) d c.args.wire (drop 1 ((net_of c.args.self.now).replies d c.args.wire))) next)))

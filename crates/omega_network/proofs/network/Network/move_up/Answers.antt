@@ -1,33 +1,40 @@
-use Rattle.std.proofs.Common.{◌∙◌}
-use Rattle.omega_network.proofs.Moves.{up_ends}
+use Rattle.std.proofs.Common.{Option, sym, ap, subst, ◌∙◌}
+use Rattle.std.specs.Prelude.{IfSome}
+use Rattle.messages.specs.declared.message.Request.{Request}
+use Rattle.messages.specs.declared.moves.UpMove.{UpMove}
+use Rattle.messages.specs.Network.{Net, Sizes}
+use Rattle.messages.specs.Moves.{offered}
+use Rattle.omega_network.specs.Networks.{MayLead, net_of}
+use Rattle.omega_network.proofs.Moves.{up_stalled, up_went}
 use Rattle.omega_network.proofs.network.Network.move_up.Goals as goal
 
-pub returns-in-Queued-clause-outcome : goal.returns-in-Queued-clause-outcome
-returns-in-Queued-clause-outcome c =
-    (up_ends c.args.self.now c.args.wire c.self.view_is c.requires.stage c.requires.first
-    c.wire_after-out.ensures.exact c.module_of.ensures.exact c.accept.ensures.answer c.accept.ensures.after c.in-Queued.is).0
+pub returns-then-not-would_take-clause-outcome : goal.returns-then-not-would_take-clause-outcome
+returns-then-not-would_take-clause-outcome c =
+    sym (ap (λ (r : UpMove × Net). r.0) (up_stalled c.args.self.now c.args.wire c.self.view_is c.requires.stage c.requires.first
+    c.wire_after-out.ensures.exact c.module_of.ensures.exact c.would_take.ensures c.if-not-would_take.true))
 
-pub returns-in-Queued-clause-after : goal.returns-in-Queued-clause-after
-returns-in-Queued-clause-after c =
-    c.take_request.ensures.taken ∙ (up_ends c.args.self.now c.args.wire c.self.view_is c.requires.stage c.requires.first
-    c.wire_after-out.ensures.exact c.module_of.ensures.exact c.accept.ensures.answer c.accept.ensures.after c.in-Queued.is).1
+pub returns-then-not-would_take-clause-after : goal.returns-then-not-would_take-clause-after
+returns-then-not-would_take-clause-after c =
+    sym (ap (λ (r : UpMove × Net). r.1) (up_stalled c.args.self.now c.args.wire c.self.view_is c.requires.stage c.requires.first
+    c.wire_after-out.ensures.exact c.module_of.ensures.exact c.would_take.ensures c.if-not-would_take.true))
 
-pub returns-in-Combined-clause-outcome : goal.returns-in-Combined-clause-outcome
-returns-in-Combined-clause-outcome c =
-    (up_ends c.args.self.now c.args.wire c.self.view_is c.requires.stage c.requires.first
-    c.wire_after-out.ensures.exact c.module_of.ensures.exact c.accept.ensures.answer c.accept.ensures.after c.in-Combined.is).0
+pub offer-requires-clause-leader : goal.offer-requires-clause-leader
+offer-requires-clause-leader c =
+    subst (λ (o : Option Request). IfSome o (λ y. MayLead c.take_request.new.self y.leader)) (c.take_request.ensures.first ∙ c.requires.first)
+    c.take_request.ensures.unnamed
 
-pub returns-in-Combined-clause-after : goal.returns-in-Combined-clause-after
-returns-in-Combined-clause-after c =
-    c.take_request-in-Combined.ensures.taken ∙ (up_ends c.args.self.now c.args.wire c.self.view_is c.requires.stage c.requires.first
-    c.wire_after-out.ensures.exact c.module_of.ensures.exact c.accept.ensures.answer c.accept.ensures.after c.in-Combined.is).1
+pub returns-clause-outcome : goal.returns-clause-outcome
+returns-clause-outcome c =
+    c.offer.ensures.outcome
+    ∙ ap (λ (z : Sizes). (offered z (net_of c.take_request.new.self) (net_of c.take_request.new.self) c.args.stage c.wire_after-out.result c.args.request).0)
+    c.take_request.ensures.sizes
+    ∙ sym (ap (λ (r : UpMove × Net). r.0) (up_went c.args.self.now c.args.wire c.self.view_is c.requires.stage c.requires.first c.wire_after-out.ensures.exact
+    c.module_of.ensures.exact c.would_take.ensures c.if-not-would_take.false c.take_request.ensures.taken))
 
-pub returns-in-Full-clause-outcome : goal.returns-in-Full-clause-outcome
-returns-in-Full-clause-outcome c =
-    (up_ends c.args.self.now c.args.wire c.self.view_is c.requires.stage c.requires.first
-    c.wire_after-out.ensures.exact c.module_of.ensures.exact c.accept.ensures.answer c.accept.ensures.after c.in-Full.is).0
-
-pub returns-in-Full-clause-after : goal.returns-in-Full-clause-after
-returns-in-Full-clause-after c =
-    (up_ends c.args.self.now c.args.wire c.self.view_is c.requires.stage c.requires.first
-    c.wire_after-out.ensures.exact c.module_of.ensures.exact c.accept.ensures.answer c.accept.ensures.after c.in-Full.is).1
+pub returns-clause-after : goal.returns-clause-after
+returns-clause-after c =
+    c.offer.ensures.after
+    ∙ ap (λ (z : Sizes). (offered z (net_of c.take_request.new.self) (net_of c.take_request.new.self) c.args.stage c.wire_after-out.result c.args.request).1)
+    c.take_request.ensures.sizes
+    ∙ sym (ap (λ (r : UpMove × Net). r.1) (up_went c.args.self.now c.args.wire c.self.view_is c.requires.stage c.requires.first c.wire_after-out.ensures.exact
+    c.module_of.ensures.exact c.would_take.ensures c.if-not-would_take.false c.take_request.ensures.taken))

@@ -1,17 +1,9 @@
-use Rattle.std.proofs.Common.{◌≡◌, length, ◌∙◌, ap}
-use Rattle.omega_wires.specs.Wires.{input_port}
-use Rattle.combining_switch.specs.Switches.{replies_at}
-use Rattle.omega_network.specs.Networks.{NetworkLists}
-use Rattle.omega_network.proofs.Kept.{found_before}
-use Rattle.omega_network.proofs.Slots.{reply_front_net}
+use Rattle.std.proofs.Common.{◌≤◌, length, ap, ◌∙◌, arith}
+use Rattle.omega_network.proofs.Taken.{replies_there}
 use Rattle.omega_network.proofs.network.Network.reply_count.Goals as goal
 
 pub returns : goal.returns
 returns c =
-    let k : c.self.inside.k ≡ c.args.self.now.k = ap (λ (m : NetworkLists). m.k) c.self.view_is in
-    c.reply_count.ensures
-    ∙ ap (λ v. length (replies_at c.index.result.now.inputs v)) (c.input_port.ensures.exact ∙ ap (λ h. input_port h c.args.wire) k)
-    ∙ ap length (reply_front_net c.rotations_are_inverse.ensures.inverse c.rotations_are_inverse.ensures.small _ c.args.self.now c.args.stage c.args.wire
-    c.place_before-switch.result c.index.result.now
-    (found_before c.rotations_are_inverse.ensures.small c.self.view_is c.self.invariant c.requires.stage c.requires.wire
-    c.place_before-switch.ensures.exact c.index.ensures) c.requires.wire)
+    let stage : c.args.stage ≤ c.args.self.now.k = (let below = c.requires.stage in omega arith) in
+    c.from.ensures ∙ c.reply_count.ensures ∙ ap length
+    (replies_there _ c.args.self.now c.self.view_is c.self.invariant c.args.stage c.args.wire c.place.result stage c.requires.wire c.place.ensures.exact)

@@ -1,11 +1,11 @@
-use Rattle.std.proofs.Common.{length, ◌∙◌, ap}
-use Rattle.omega_network.proofs.Kept.{found_behind}
-use Rattle.omega_network.proofs.Slots.{front_net}
+use Rattle.std.proofs.Common.{◌≡◌, ◌+◌, length, suc, ap, ◌∙◌, arith}
+use Rattle.omega_network.specs.Networks.{place}
+use Rattle.omega_network.proofs.Taken.{requests_there}
 use Rattle.omega_network.proofs.network.Network.request_count.Goals as goal
 
 pub returns : goal.returns
 returns c =
-    c.request_count.ensures
-    ∙ ap length (front_net c.rotations_are_inverse.ensures.inverse c.rotations_are_inverse.ensures.small _ c.args.self.now c.args.stage c.args.wire
-    c.place_behind-switch.result c.index.result.now
-    (found_behind c.self.view_is c.self.invariant c.requires.stage c.requires.wire c.place_behind-switch.ensures.exact c.index.ensures) c.requires.wire)
+    let next : c.args.stage + 1 ≡ suc c.args.stage = omega arith in
+    c.from.ensures ∙ c.request_count.ensures ∙ ap length
+    (requests_there _ c.args.self.now c.self.view_is c.self.invariant (suc c.args.stage) c.args.wire c.place.result c.requires.stage c.requires.wire
+    (c.place.ensures.exact ∙ ap (λ d. place c.args.self.now.k d c.args.wire) next))

@@ -1,10 +1,26 @@
-use Rattle.std.proofs.Common.{◌∙◌, ap, sym}
-use Rattle.omega_network.specs.Networks.{net_of}
-use Rattle.omega_network.specs.Offers.{first_request_taken}
-use Rattle.omega_network.proofs.Slots.{slot_taken}
+use Rattle.std.proofs.Common.{ap, ◌∙◌}
+use Rattle.std.specs.Prelude.{slice_get}
+use Rattle.omega_network.proofs.Taken.{request_leader, request_place, request_taken_kept, request_taken_net, requests_there}
 use Rattle.omega_network.proofs.network.Network.take_request.Goals as goal
 
-pub returns-then-stage-eq0-clause-taken : goal.returns-then-stage-eq0-clause-taken
-returns-then-stage-eq0-clause-taken c =
-    c.put_slot.ensures.after ∙ slot_taken c.args.self.now c.args.wire
-    ∙ ap (λ d. first_request_taken (net_of c.args.self.now) d c.args.wire) (sym c.if-stage-eq0.true)
+pub pop_request-requires : goal.pop_request-requires
+pop_request-requires c = request_place _ c.args.self.now c.self.view_is c.self.invariant c.args.stage c.args.wire c.place-queue.result c.requires.stage
+    c.requires.wire c.place-queue.ensures.exact
+
+pub invariant_of-self : goal.invariant_of-self
+invariant_of-self c = request_taken_kept _ c.args.self.now c.self.view_is c.self.invariant c.args.stage c.args.wire c.place-queue.result c.requires.stage
+    c.requires.wire c.place-queue.ensures.exact c.pop_request.new.self c.pop_request.ensures.after
+
+pub returns-clause-first : goal.returns-clause-first
+returns-clause-first c = c.pop_request.ensures.first ∙ ap (λ xs. slice_get xs 0)
+    (requests_there _ c.args.self.now c.self.view_is c.self.invariant c.args.stage c.args.wire c.place-queue.result c.requires.stage c.requires.wire
+    c.place-queue.ensures.exact)
+
+pub returns-clause-taken : goal.returns-clause-taken
+returns-clause-taken c = request_taken_net _ c.args.self.now c.self.view_is c.self.invariant c.args.stage c.args.wire c.place-queue.result c.requires.stage
+    c.requires.wire c.place-queue.ensures.exact c.pop_request.new.self c.pop_request.ensures.after
+
+pub returns-clause-unnamed : goal.returns-clause-unnamed
+returns-clause-unnamed c = request_leader _ c.args.self.now c.self.view_is c.self.invariant c.args.stage c.args.wire c.place-queue.result c.requires.stage
+    c.requires.wire c.place-queue.ensures.exact c.pop_request.new.self c.pop_request.ensures.after c.pop_request.result
+    c.pop_request.ensures.first c.pop_request.ensures.cell c.pop_request.ensures.freed

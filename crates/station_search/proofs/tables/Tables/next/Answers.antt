@@ -6,7 +6,7 @@ use Rattle.hart.specs.declared.decision.Decision.TheVariants.{Refer}
 use Rattle.hart.specs.State.{CoreState}
 use Rattle.hart.specs.Deciding.{Decides}
 use Rattle.station_search.specs.Placed.{Placed}
-use Rattle.station_search.specs.Tables.{placed_at, IsBehind}
+use Rattle.station_search.specs.Tables.{placed_at, setting_at, IsBehind}
 use Rattle.station_search.proofs.Growing.{kept_all}
 use Rattle.station_search.proofs.Moving.{IsReferred, looked, referred, undecided, stopped_has_none, local_has_none}
 use Rattle.station_search.proofs.Remembering.{stations_kept, lists_kept}
@@ -33,6 +33,7 @@ returns-in_default c =
       stations = c.requires.stations;
       lists = c.requires.lists;
       next = local_has_none c.args.extent c.args.code.now c.args.self.now c.args.row c.args.p c.requires.row c.requires.there
+          (c.dead_registers_can_be_forgotten.ensures.forgotten (setting_at c.args.extent) c.args.code.now c.args.self.now.live c.requires.live)
           (undecided c.decide.result _
           (subst (λ (k : CoreState). Decides c.decide.result (turn_of k.setting c.args.code.now k.state)) core c.decide.ensures.turn)
           c.in_default.not-Refer);
@@ -70,6 +71,7 @@ returns-clause-next c =
       written_is = c.in_ok-written.ensures.written;
       next_is = ap (λ i. slice_set (slice_set c.args.row i c.in_ok-after.after) 8 c.in_ok-written.written) c.from-2.ensures;
     })
+    c.moves_are_of_what_is_kept.ensures.made c.dead_registers_can_be_forgotten.ensures.forgotten c.requires.live
 
 pub rewritten-requires-clause-known : goal.rewritten-requires-clause-known
 rewritten-requires-clause-known c =

@@ -1,33 +1,31 @@
-use Rattle.std.proofs.Common.{◌≡◌, ℕ, ◌<◌, sym, ap, subst, ◌∙◌, rules, arith}
-use Rattle.std.specs.Prelude.{slice_index}
-use Rattle.trace_file.specs.Traces.{IsHeader}
-use Rattle.trace_file.proofs.Numbers.{header_in, header_in-header_bytes, header_bytes-header_in, header_bytes-starts}
+use Rattle.std.proofs.Common.{◌≡◌, ◌≤◌, ℕ, List, length, nat_eq, true, sym, ap, subst, ◌∙◌, arith}
+use Rattle.std.specs.Cmp.Lexicographic.{pointwise}
+use Rattle.std.proofs.lemmas.Cmp.{nat_list_eq_equiv}
+use Rattle.trace_file.specs.Traces.{header_bytes, IsHeader}
+use Rattle.trace_file.specs.Reading.{header_in}
+use Rattle.trace_file.proofs.Numbers.{header_in-header_bytes, long_format, size_within}
 use Rattle.trace_file.proofs.header.Header.of.Goals as goal
-use Rattle.trace_file.proofs.header.Header.of.Goals.{else-starts_with-via-then-starts_with+else-is_in_range, else-starts_with-via-else-starts_with}
+use Rattle.trace_file.proofs.header.Header.of.Goals.{else-is_in_range-via-then-is_in_range+else-eq, else-is_in_range-via-else-is_in_range}
 
-pub returns-then-is_in_range-clause-some : goal.returns-then-is_in_range-clause-some
-unfolding header_in
-returns-then-is_in_range-clause-some c =
-    let bytes = c.args.bytes.now in
-    let small : (p : ℕ) → slice_index bytes p < 256 = search rules in
-    let starts = sym c.starts_with.ensures.value ∙ c.if-starts_with.true in
-    (c.is_in_range.ensures.0 c.if-is_in_range.true, rw c.from_le_bytes.ensures (header_bytes-header_in bytes c.requires small starts))
+pub in_bytes-header-requires-clause-short : goal.in_bytes-header-requires-clause-short
+in_bytes-header-requires-clause-short c = omega (arith, c.requires, (size_within c.args.bytes.now).0)
 
-pub returns-else-starts_with-clause-none : goal.returns-else-starts_with-clause-none
-unfolding header_in
-returns-else-starts_with-clause-none c = λ h is same.
+pub in_bytes-header-requires-clause-long : goal.in_bytes-header-requires-clause-long
+in_bytes-header-requires-clause-long c = λ two. omega (arith, c.requires, long_format c.args.bytes.now two)
+
+pub returns-else-is_in_range-clause-none : goal.returns-else-is_in_range-clause-none
+returns-else-is_in_range-clause-none c = λ h is same.
+    let few = is.count in
     let bytes = c.args.bytes.now in
-    let fits = is.count in
-    let whole : header_in bytes ≡ h = ap header_in same ∙ header_in-header_bytes h (omega arith) in
-    elim c.else-starts_with.branch [
-      | else-starts_with-via-then-starts_with+else-is_in_range w ↦
-          let test = w.if-is_in_range.false in
-          let holds = w.is_in_range.ensures.1 (rw c.from_le_bytes.ensures (subst IsHeader (sym whole) is)) in
+    let one : c.in_bytes-header.result ≡ h = c.in_bytes-header.ensures ∙ ap header_in same ∙ header_in-header_bytes h (omega arith) in
+    elim c.else-is_in_range.branch [
+      | else-is_in_range-via-then-is_in_range+else-eq w ↦
+          let equal : w.as_slice.result.now ≡ bytes = w.as_slice.ensures.value ∙ w.bytes.ensures ∙ ap header_bytes one ∙ sym same in
+          let passes : w.eq.result ≡ true = w.eq.ensures ∙ ap (λ (x : List ℕ). pointwise nat_eq x bytes) equal ∙ nat_list_eq_equiv.refl bytes in
+          let test = w.if-eq.false in
           cc
-      | else-starts_with-via-else-starts_with w ↦
-          let test = w.if-starts_with.false in
-          let value = c.starts_with.ensures.value in
-          let starts = header_bytes-starts h in
-          let there = rw (sym same) at starts in
+      | else-is_in_range-via-else-is_in_range w ↦
+          let test = w.if-is_in_range.false in
+          let holds = c.is_in_range.ensures.1 (subst IsHeader (sym one) is) in
           cc
     ]

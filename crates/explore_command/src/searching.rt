@@ -1,0 +1,98 @@
+//! The search, its lines and its witness.
+
+ghost use Rattle.std.specs.Prelude.{◌≡◌, ◌≤◌, IfOk, IfErr, OnOk, string_bytes};
+ghost use Rattle.machine_runs.specs.machine.Openings.{flat_state};
+ghost use Rattle.machine_runs.specs.Machines.{IsIdle};
+ghost use Rattle.exploration.specs.station_search.Scheduled.{AreSchedulesOf};
+ghost use Rattle.run_commands.specs.Commands.{IsWorking};
+ghost use Rattle.explore_command.specs.Causes.{IsNotFound, IsNotSaved, IsNotSearched};
+ghost use Rattle.explore_command.specs.Explorations.{AreExplored, AreResultsOf, IsWitnessed};
+
+use crate::command::Search;
+use crate::lines::results_text;
+use crate::status::exit_status;
+use command_io::Fault;
+use elf_image::Image;
+use exploration::{Explored, Refusal, Watch, explore};
+use flat_machine::Config;
+use link::LinkWrite;
+use machine_runs::Machine;
+use result_witness::{Refused, witness_of};
+use run_commands::{machine_of, save};
+use std::alloc::Global;
+
+/// The most stages of switches of a machine that is explored: it has 8 processors then.
+pub const MAX_STAGES: u8 = 3;
+
+/// The lines of the results, and the exit status. Where a trace is asked for, that of a witness is written.
+pub(crate) fn explored<T: LinkWrite, G: Watch>(
+    alloc: Global,
+    image: Image,
+    config: Config,
+    search: Search,
+    trace: &mut Option<T>,
+    watch: &mut G,
+) -> Result<(String, u8), Refused>
+    requires words { image.shared_words ≡ config.shared_words }
+    requires works { IsWorking T.has_failed trace.old }
+    ensures lines { IfOk result (λ done. AreExplored T.contents config image search.witness trace.old trace.new (string_bytes done.0) done.1) }
+    ensures low { IfOk result (λ done. done.1 ≤ 1) }
+    ensures refused { IfErr result (IsNotFound T.contents config image search.witness trace.old trace.new) }
+{
+    if config.k > MAX_STAGES {
+        return Err(Refused::Fault(Fault::Size));
+    }
+    let machine = machine_of(alloc, image, config)?;
+    let found = found(alloc, &machine, search.limit, watch)?;
+    let results = found.results.as_slice();
+    let text = results_text(alloc, results, found.moves.len(), found.schedules)?;
+    save_witness(alloc, machine.image(), config, &found, search, trace)?;
+    Ok((text, exit_status(results, found.schedules)))
+}
+
+/// The results of a machine that has just opened.
+fn found<G: Watch>(
+    alloc: Global,
+    machine: &Machine,
+    limit: u32,
+    watch: &mut G,
+) -> Result<Explored, Fault>
+    requires idle { IsIdle machine.now }
+    requires few { machine.now.config.k ≤ 3 }
+    ensures results { IfOk result (λ found. AreResultsOf machine.now found.results.items) }
+    ensures schedules { IfOk result (λ found. AreSchedulesOf (flat_state machine.now) found.schedules) }
+    ensures refused { IfErr result IsNotSearched }
+{
+    let found = explore(alloc, machine, limit, watch);
+    watch.over();
+    match found {
+        Ok(found) => Ok(found),
+        Err(Refusal::Memory) => Err(Fault::Memory),
+        Err(Refusal::States) => Err(Fault::States),
+        Err(Refusal::Alone) => Err(Fault::Alone),
+    }
+}
+
+/// Writes the trace of a witness, where a trace is asked for.
+fn save_witness<T: LinkWrite>(
+    alloc: Global,
+    image: &Image,
+    config: Config,
+    found: &Explored,
+    search: Search,
+    trace: &mut Option<T>,
+) -> Result<(), Refused>
+    requires words { image.now.shared_words ≡ config.shared_words }
+    requires few { config.k ≤ 3 }
+    requires works { IsWorking T.has_failed trace.old }
+    ensures saved { OnOk result (IsWitnessed T.contents config image.now found.now.results.items search.witness trace.old trace.new) }
+    ensures refused { IfErr result
+        (IsNotSaved T.contents config image.now found.now.results.items found.now.schedules search.witness trace.old trace.new) }
+{
+    if trace.is_none() {
+        return Ok(());
+    }
+    let log = witness_of(alloc, image, config, found, search.witness, search.limit)?;
+    save(trace, &config, log.steps())?;
+    Ok(())
+}

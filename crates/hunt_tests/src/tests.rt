@@ -1,0 +1,2 @@
+mod hunting;
+mod schedules;

@@ -1,0 +1,118 @@
+//! Schedules and runs by hand. The states of the generator were computed apart.
+
+ghost use Rattle.std.specs.Prelude.{◌≤◌};
+
+use assembler::assemble;
+use elf_image::read_image;
+use flat_machine::Config;
+use link::Meter;
+use machine_log::Logged;
+use machine_runs::Machine;
+use machine_sweep::SweepEnd;
+use random_runs::{Schedule, random_run};
+use std::alloc::Global;
+use std::process::Abort;
+use std::test::Fail;
+use steps::Step;
+
+/// The schedule has these turns, each with whether the network moves behind it, and no more.
+fn compare(rt: &impl Abort, k: u8, number: u32, turns: &[(u8, bool)])
+    requires { k ≤ 6 }
+{
+    let mut schedule = Schedule::new(k, number, turns.len().min(255) as u32);
+    for (p, moves) in turns {
+        assert_eq!(rt; schedule.next(), Some(Step::Turn(*p)), "{number}");
+        if *moves {
+            assert_eq!(rt; schedule.next(), Some(Step::Up { stage: 0, wire: 0 }));
+            for _ in 2..(2_u32 * u32::from(k) + 1) << k {
+                assert!(rt; !matches!(schedule.next(), Some(Step::Turn(_)) | None));
+            }
+            let last = Step::Down {
+                stage: k.saturating_sub(1),
+                wire: (1 << k) - 1,
+            };
+            assert_eq!(rt; schedule.next(), Some(last));
+        }
+    }
+    assert_eq!(rt; schedule.next(), None);
+}
+
+/// Run 6 chooses a processor in each turn, run 1 where the upper half of the state is even, and run 8 where 4 divides it.
+#[test]
+fn schedules(rt: HostRuntime) {
+    compare(
+        &rt,
+        1,
+        1,
+        &[(1, true), (1, true), (1, true), (1, false), (1, false)],
+    );
+    compare(
+        &rt,
+        2,
+        6,
+        &[
+            (2, true),
+            (2, true),
+            (2, false),
+            (2, false),
+            (2, true),
+            (0, false),
+            (0, true),
+            (1, false),
+        ],
+    );
+    compare(
+        &rt,
+        2,
+        8,
+        &[
+            (0, false),
+            (0, true),
+            (0, true),
+            (0, true),
+            (0, true),
+            (0, true),
+            (0, false),
+            (3, false),
+        ],
+    );
+}
+
+/// The log of a machine that opens on the image of a text.
+fn log_of(rt: &impl Abort, alloc: Global, text: &str, k: u8) -> Result<Logged, Fail> {
+    let size = Config {
+        k,
+        c: 2,
+        b: 1,
+        r: 1,
+        shared_words: 1024,
+    };
+    let file = assemble(alloc, text)?.to_elf(alloc)?;
+    let image = read_image(alloc, &mut Meter::new(file.as_slice()), &size)?;
+    let machine = Machine::new(alloc, image, size)?;
+    assert!(rt; machine.is_idle());
+    Ok(Logged::new(alloc, machine))
+}
+
+/// In run 1 the network moves behind each of the first three turns. A budget of two steps ends while the request is on its way.
+#[test]
+fn runs_of_one_processor(rt: HostRuntime) -> Result<(), Fail> {
+    let text = "lui x5, 0x80000\nlw x6, 0(x5)\necall";
+    let (turn, serve) = (Step::Turn(0), Step::Serve(0));
+    let mut log = log_of(&rt, rt.alloc(), text, 0)?;
+    assert_eq!(rt; random_run(&mut log, 1, 100), Ok(SweepEnd::Over));
+    assert_eq!(rt; log.steps(), [turn, turn, serve, turn, turn].as_slice());
+    let mut log = log_of(&rt, rt.alloc(), text, 0)?;
+    assert_eq!(rt; random_run(&mut log, 1, 2), Ok(SweepEnd::Budget));
+    assert_eq!(rt; log.steps(), [turn, turn, serve, turn].as_slice());
+    Ok(())
+}
+
+/// In run 1 processor 1 has the first turns, and halts in the first. Turns that stall count for the budget too.
+#[test]
+fn turns_are_bounded(rt: HostRuntime) -> Result<(), Fail> {
+    let mut log = log_of(&rt, rt.alloc(), "ecall", 1)?;
+    assert_eq!(rt; random_run(&mut log, 1, 4), Ok(SweepEnd::Budget));
+    assert_eq!(rt; log.steps(), [Step::Turn(1)].as_slice());
+    Ok(())
+}

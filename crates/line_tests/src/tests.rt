@@ -1,0 +1,5 @@
+//! Lines are worked out by hand.
+
+mod explain;
+mod order;
+mod story;

@@ -1,0 +1,4 @@
+mod Putting
+mod Noticing
+mod CatchingUp
+mod Lending

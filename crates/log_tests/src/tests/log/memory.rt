@@ -1,0 +1,91 @@
+//! Each allocation of these tests is to be refused in turn. Then a call tells that there is no memory, which ends the test, or
+//! its answer is that of ample memory.
+
+use super::pokes::write;
+use super::room_for;
+use assembler::assemble;
+use elf_image::read_image;
+use flat_machine::{Cause, Config, Poke, SHARED_START};
+use link::Meter;
+use machine_log::{LogRefusal, Logged};
+use machine_runs::{Machine, order};
+use machine_sweep::{SweepEnd, follow_sweep};
+use std::alloc::Global;
+use std::test::Fail;
+use steps::{Outcome, Step};
+
+/// A machine of two processors.
+const TWO: Config = Config {
+    k: 1,
+    c: 2,
+    b: 1,
+    r: 1,
+    shared_words: 4,
+};
+
+/// A machine of which each processor is to add to shared word 0, and to halt.
+fn machine(alloc: Global) -> Result<Machine, Fail> {
+    let program = assemble(alloc, "amoadd.w a0, a1, (a2)\necall")?;
+    let file = program.to_elf(alloc)?;
+    let image = read_image(alloc, &mut Meter::new(file.as_slice()), &TWO)?;
+    Ok(Machine::new(alloc, image.copy(alloc)?, TWO)?)
+}
+
+/// The writes by which processor 0 adds 5.
+const POKES: [Poke; 2] = [
+    Poke::Register {
+        processor: 0,
+        register: 11,
+        value: 5,
+    },
+    Poke::Register {
+        processor: 0,
+        register: 12,
+        value: SHARED_START,
+    },
+];
+
+/// Takes a step, and answers whether that did this.
+fn does(log: &mut Logged, step: Step, outcome: Outcome) -> Result<bool, LogRefusal> {
+    match log.step(step) {
+        Ok(answer) => Ok(answer == outcome),
+        Err(refusal) => Err(refusal),
+    }
+}
+
+/// Takes an instruction of a processor, and answers whether that has halted it with 0.
+fn halts(log: &mut Logged, processor: u8) -> Result<bool, LogRefusal> {
+    match log.one(processor) {
+        Ok(answer) => Ok(answer == Outcome::Stopped(Cause::Halt(0))),
+        Err(refusal) => Err(refusal),
+    }
+}
+
+/// Behind its turn a reference through one stage takes two moves, the module's service and the turn that retires it. Then processor 0
+/// halts, and processor 1 stops by a fault, since its address is 0.
+#[test]
+fn log_is_short_of_memory(rt: HostRuntime) -> Result<(), Fail> {
+    let machine = machine(rt.alloc())?;
+    assert!(rt; machine.is_idle());
+    let mut log = Logged::new(rt.alloc(), machine);
+    write(&rt, &mut log, &POKES)?;
+    assert!(rt; does(&mut log, Step::Turn(0), Outcome::Issued)?);
+    assert_eq!(rt; log.drain()?, 4);
+    assert_eq!(rt; log.machine().word(0), Some(5));
+    room_for(&mut log, 100)?;
+    assert!(rt; halts(&mut log, 0)?);
+    assert_eq!(rt; follow_sweep(&mut log, 100)?, SweepEnd::Over);
+    assert_eq!(rt; log.steps().len(), 9);
+    Ok(())
+}
+
+/// The two writes are the order: no reference is served.
+#[test]
+fn order_is_short_of_memory(rt: HostRuntime) -> Result<(), Fail> {
+    let steps = [Step::Poke(POKES[0]), Step::Poke(POKES[1]), Step::Turn(0)];
+    let mut machine = machine(rt.alloc())?;
+    assert!(rt; machine.is_idle());
+    let entries = order(&mut machine, rt.alloc(), &steps)?;
+    assert_eq!(rt; entries.len(), 2);
+    Ok(())
+}

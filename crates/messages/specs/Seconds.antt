@@ -1,0 +1,18 @@
+-- Who is answered beside a leader.
+use Rattle.std.specs.Prelude.{ℕ, List, [], ◌∷◌}
+use Rattle.messages.specs.declared.message.Record.{Record}
+use Rattle.messages.specs.declared.seconds.Seconds.{Seconds}
+use Rattle.messages.specs.declared.seconds.Seconds.TheVariants.{One, Two, Three}
+
+-- the processors that it names, in their order
+abbrev pub seconds_of : Seconds → List ℕ
+seconds_of (One p) = p ∷ []
+seconds_of (Two p q) = p ∷ q ∷ []
+seconds_of (Three p q v) = p ∷ q ∷ v ∷ []
+
+-- Who is told, where a leader has these records: all of their seconds, up to three. No buffer has more, as an entry is combined three
+-- times at most.
+abbrev pub seconds_told : Record → List Record → Seconds
+seconds_told e [] = One e.second
+seconds_told e (f ∷ []) = Two e.second f.second
+seconds_told e (f ∷ g ∷ rest) = Three e.second f.second g.second

@@ -1,0 +1,18 @@
+//! Each allocation of these tests is to be refused in turn. Then what is made tells that there is no memory, which ends the test, or it
+//! is as with ample memory.
+
+use indexed_network::IndexedNetwork;
+use message_cells::Pool;
+use omega_network::Network;
+use std::test::Fail;
+
+#[test]
+fn networks_are_short_of_memory(rt: HostRuntime) -> Result<(), Fail> {
+    let pool = Pool::new(rt.alloc(), 4, 2, 1)?;
+    assert!(rt; pool.is_free(3));
+    let network = Network::new(rt.alloc(), 2, 4, 1, 1)?;
+    assert!(rt; network.is_empty());
+    let network = IndexedNetwork::new(rt.alloc(), 2, 4, 1, 1)?;
+    assert!(rt; network.slot_is_free(3));
+    Ok(())
+}

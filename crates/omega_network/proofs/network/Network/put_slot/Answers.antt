@@ -1,5 +1,0 @@
-use Rattle.omega_network.proofs.Slots.{put_slot_net}
-use Rattle.omega_network.proofs.network.Network.put_slot.Goals as goal
-
-pub returns-clause-after : goal.returns-clause-after
-returns-clause-after c = put_slot_net _ c.args.self.now c.self.view_is c.self.invariant c.args.p c.requires c.from.result c.from.ensures c.args.request

@@ -1,6 +1,0 @@
-pub mod Accepting
-pub mod Combinations
-pub mod Rooms
-pub mod Queueing
-pub mod Taking
-pub mod Answering

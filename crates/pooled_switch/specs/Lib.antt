@@ -1,5 +1,0 @@
-pub mod Outputs
-pub mod Accepting
-pub mod Partners
-pub mod Switches
-pub mod Waiting

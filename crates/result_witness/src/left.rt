@@ -1,0 +1,87 @@
+//! What a machine leaves in which no processor runs.
+
+ghost use Rattle.std.specs.Prelude.{◌≡◌, ◌<◌, ◌^◌, IfOk, IsTrue, length, map};
+ghost use Rattle.std.specs.List.{range_with_len};
+ghost use Rattle.result_witness.specs.Witnesses.{NoneRunsIn, left_by, processor_left};
+
+use exploration::{FinalResult, ProcessorResult, words_of};
+use flat_machine::Status;
+use machine_runs::Machine;
+use run_report::Tally;
+use std::alloc::{AllocError, Global};
+
+/// What a machine leaves whose processors have shown this.
+pub(crate) fn left_by(
+    alloc: Global,
+    machine: &Machine,
+    tally: &Tally,
+) -> Result<FinalResult, AllocError>
+    requires all { length tally.now.shown ≡ 2 ^ machine.now.config.k }
+    ensures { IfOk result (λ last. last ≡ left_by machine.now tally.now.shown) }
+{
+    let processors = processors_left(alloc, machine, tally)?;
+    let words = words_of(alloc, machine)?;
+    Ok(FinalResult {
+        processors,
+        words,
+        shared_words: machine.config().shared_words,
+        place: 0,
+    })
+}
+
+/// That of each of its processors.
+fn processors_left(
+    alloc: Global,
+    machine: &Machine,
+    tally: &Tally,
+) -> Result<Vec<ProcessorResult>, AllocError>
+    requires all { length tally.now.shown ≡ 2 ^ machine.now.config.k }
+    ensures { IfOk result (λ all. all.items ≡ map (processor_left machine.now tally.now.shown) (range_with_len 0 (2 ^ machine.now.config.k))) }
+{
+    let mut processors = Vec::new(alloc);
+    for p in 0..machine.config().processors() {
+        processors.push(processor_left(alloc, machine, tally, p)?)?;
+    }
+    Ok(processors)
+}
+
+/// Where a processor stands that the machine has, its status, and the bytes that it has printed.
+fn processor_left(
+    alloc: Global,
+    machine: &Machine,
+    tally: &Tally,
+    p: u8,
+) -> Result<ProcessorResult, AllocError>
+    requires there { p < 2 ^ machine.now.config.k }
+    requires all { length tally.now.shown ≡ 2 ^ machine.now.config.k }
+    ensures { IfOk result (λ last. last ≡ processor_left machine.now tally.now.shown p) }
+{
+    let Some(pc) = machine.pc(p) else {
+        unreachable!()
+    };
+    let Some(status) = machine.status(p) else {
+        unreachable!()
+    };
+    let Some(shown) = tally.of(p) else {
+        unreachable!()
+    };
+    let mut console = Vec::new(alloc);
+    console.extend_from_slice(shown.console())?;
+    Ok(ProcessorResult {
+        pc,
+        status,
+        console,
+    })
+}
+
+/// Whether no processor of a machine runs.
+pub(crate) fn none_runs(machine: &Machine) -> bool
+    ensures { IsTrue result → NoneRunsIn machine.now }
+{
+    for p in 0..machine.config().processors() {
+        if let Some(Status::Running) = machine.status(p) {
+            return false;
+        }
+    }
+    true
+}

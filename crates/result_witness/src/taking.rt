@@ -1,0 +1,36 @@
+//! Steps that are taken once more, on a machine that has just opened.
+
+ghost use Rattle.std.specs.Prelude.{◌≡◌, ◌≤◌, length, IfErr, IfOk};
+ghost use Rattle.result_witness.specs.Refusals.{IsNotTaken};
+ghost use Rattle.result_witness.specs.Witnesses.{AreTaken};
+
+use crate::refused::Refused;
+use command_io::Fault;
+use elf_image::Image;
+use flat_machine::Config;
+use machine_runs::Machine;
+use run_commands::{RetakeError, opened, retaken};
+use run_report::Tally;
+use std::alloc::Global;
+use steps::Step;
+
+/// The machine behind these steps, which opened on a copy of the image, and what its processors have shown in them.
+#[tactic(auto, using(crate::proofs::Refusing::size_refuses))]
+pub(crate) fn taken(
+    alloc: Global,
+    image: &Image,
+    config: Config,
+    steps: &[Step],
+) -> Result<(Machine, Tally), Refused>
+    requires words { image.now.shared_words ≡ config.shared_words }
+    requires few { length steps.now ≤ 4194304 }
+    ensures taken { IfOk result (λ done. AreTaken config image.now steps.now done.0 done.1) }
+    ensures refused { IfErr result (IsNotTaken config) }
+{
+    let mut machine = opened(alloc, image, config)?;
+    match retaken(alloc, &mut machine, steps) {
+        Ok(tally) => Ok((machine, tally)),
+        Err(RetakeError::Stalled(_)) => Err(Refused::Missed),
+        Err(RetakeError::Memory) => Err(Refused::Fault(Fault::Memory)),
+    }
+}

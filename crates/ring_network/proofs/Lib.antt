@@ -1,0 +1,9 @@
+pub mod Changes
+pub mod Empty
+pub mod Kept
+pub mod Moves
+pub mod New
+pub mod Replies
+pub mod Requests
+pub mod Slots
+pub mod Switches

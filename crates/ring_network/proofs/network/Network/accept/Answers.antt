@@ -1,0 +1,24 @@
+use Rattle.std.proofs.Common.{◌%◌, ◌/◌, arith}
+use Rattle.ring_network.proofs.Kept.{accept_stays, found_behind}
+use Rattle.ring_network.proofs.Requests.{accept_net}
+use Rattle.ring_network.proofs.network.Network.accept.Goals as goal
+
+pub invariant_of-self : goal.invariant_of-self
+invariant_of-self c =
+    accept_stays _ c.args.self.now c.args.stage (c.args.wire / 2) c.place_behind-place.result c.index_mut.result.now
+    (found_behind c.self.view_is c.self.invariant c.requires.stage c.requires.wire c.place_behind-place.ensures.exact c.index_mut.ensures.value)
+    (c.args.wire % 2) c.args.request c.accept.new.self (omega arith) c.accept.ensures.after
+
+pub returns-clause-answer : goal.returns-clause-answer
+returns-clause-answer c =
+    (accept_net c.rotations_are_inverse.ensures.inverse c.rotations_are_inverse.ensures.small _ c.args.self.now c.args.stage c.args.wire
+    c.place_behind-place.result c.index_mut.result.now
+    (found_behind c.self.view_is c.self.invariant c.requires.stage c.requires.wire c.place_behind-place.ensures.exact c.index_mut.ensures.value)
+    c.requires.wire c.args.request c.accept.new.self c.accept.result c.accept.ensures.answer c.accept.ensures.after).0
+
+pub returns-clause-after : goal.returns-clause-after
+returns-clause-after c =
+    (accept_net c.rotations_are_inverse.ensures.inverse c.rotations_are_inverse.ensures.small _ c.args.self.now c.args.stage c.args.wire
+    c.place_behind-place.result c.index_mut.result.now
+    (found_behind c.self.view_is c.self.invariant c.requires.stage c.requires.wire c.place_behind-place.ensures.exact c.index_mut.ensures.value)
+    c.requires.wire c.args.request c.accept.new.self c.accept.result c.accept.ensures.answer c.accept.ensures.after).1

@@ -1,0 +1,13 @@
+use Rattle.std.proofs.Common.{◌<◌, ◌*◌, ◌+◌}
+use Rattle.omega_network.specs.Networks.{half}
+use Rattle.ring_network.proofs.New.{SoFar}
+use Rattle.ring_network.proofs.network.new_switches.Given as goal
+
+abbrev pub invariant-loop : goal.invariant-loop
+invariant-loop l = record {
+  stage : l.stage < l.k;
+  so_far : SoFar l.k l.c l.b l.r (l.stage * half l.k + l.counter) l.switches.items;
+}
+
+abbrev pub invariant-loop-stage : goal.invariant-loop-stage
+invariant-loop-stage l = SoFar l.k l.c l.b l.r (l.stage * half l.k) l.switches.items

@@ -1,0 +1,81 @@
+//! The commands that tell what is in a trace, from its bytes and those of an image to the bytes of the lines.
+
+ghost use Rattle.std.specs.Prelude.{◌≡◌, false};
+
+mod counts;
+mod devices;
+mod ends;
+mod orders;
+mod stories;
+
+use assembler::assemble;
+use link::{LinkWrite, Meter};
+use order_command::order_command;
+use order_lines::Choice;
+use stats_command::stats_command;
+use std::alloc::Global;
+use std::io::{self, Read, Write};
+use std::test::Fail;
+use story_command::story_command;
+
+/// The image of a text.
+fn image_of(alloc: Global, text: &str) -> Result<Vec<u8>, Fail> {
+    Ok(assemble(alloc, text)?.to_elf(alloc)?)
+}
+
+/// No entry is left out.
+const ALL: Choice = Choice {
+    processor: None,
+    word: None,
+};
+
+/// What is to be told of a trace.
+#[derive(Clone, Copy, Debug)]
+enum Told {
+    /// The chosen lines of its serial order.
+    Order(Choice),
+    Story,
+    Stats,
+}
+
+/// All that the commands tell.
+const WHOLE: [Told; 3] = [Told::Order(ALL), Told::Story, Told::Stats];
+
+/// Carries the command out.
+fn tell<T: Read + Drop, R: Read + Drop, W: LinkWrite, E: Write>(
+    alloc: Global,
+    told: Told,
+    trace: T,
+    file: io::Result<R>,
+    shared_words: u32,
+    out: &mut W,
+    err: &mut E,
+) -> u8
+    requires { W.has_failed out.old ≡ false }
+{
+    match told {
+        Told::Order(choice) => { order_command(alloc, trace, file, shared_words, choice, out, err) }
+        Told::Story => story_command(alloc, trace, file, shared_words, out, err),
+        Told::Stats => stats_command(alloc, trace, file, shared_words, out, err),
+    }
+}
+
+/// What the command comes to.
+#[derive(Drop)]
+struct Ran {
+    status: u8,
+    out: Vec<u8>,
+    err: Vec<u8>,
+}
+
+/// What is told of a trace on an image.
+fn run(alloc: Global, told: Told, trace: &[u8], file: io::Result<&[u8]>, shared_words: u32) -> Ran {
+    let mut out = Meter::new(Vec::new(alloc));
+    let mut err = Vec::new(alloc);
+    let status = tell(alloc, told, trace, file, shared_words, &mut out, &mut err);
+    Ran {
+        status,
+        out: out.device,
+        err,
+    }
+}

@@ -1,0 +1,145 @@
+//! Counts of small traces, by hand, and of a hot spot.
+
+use super::{Told, image_of, run};
+use flat_machine::Config;
+use link::Meter;
+use run_commands::run_command;
+use std::alloc::Global;
+use std::test::Fail;
+use test_devices::{ADD_AT_X12, FOUR_ADDS, trace_of};
+
+/// The counts of the trace, but for the rounds.
+const COUNTS: &str = "steps 27 turns 8 up 6 serve 1 down 3 poke 9 rounds ";
+
+/// Requests that meet stand alone in their queues, and so do the replies of those that were split.
+const PARTS: &str = "
+stage 0 up 2 combined 2 down 0 split 2 requests 1 records 1 replies 1
+stage 1 up 1 combined 1 down 0 split 1 requests 1 records 1 replies 1
+module 0 serves 1 4x1
+module 1 serves 0
+module 2 serves 0
+module 3 serves 0
+processor 0 turns 2 retired 1
+processor 1 turns 2 retired 1
+processor 2 turns 2 retired 1
+processor 3 turns 2 retired 1
+";
+
+/// The whole trace; and cut behind the service, so that a drain brings all home. Of the first stage's four requests two move in the
+/// first round, and two that stand on smaller wires than the last in the second; in the third both requests of the second stage move,
+/// the module serves, and the reply goes down; in the fourth both replies do, and in the fifth all retire. A drain takes a turn as soon as
+/// a reply has come: so it needs one round for the first of the two replies, and two more for the turns that the second is between.
+#[test]
+fn four_adds(rt: HostRuntime) -> Result<(), Fail> {
+    let alloc = rt.alloc();
+    let image = image_of(alloc, ADD_AT_X12)?;
+    for (steps, rounds) in [(27, "5"), (20, "6")] {
+        let trace = trace_of(alloc, (2, 4, 4), &FOUR_ADDS[..steps])?;
+        let ran = run(
+            alloc,
+            Told::Stats,
+            trace.as_slice(),
+            Ok(image.as_slice()),
+            1,
+        );
+        let text = str::from_utf8(ran.out.as_slice())?;
+        let rest = text.strip_prefix(COUNTS).unwrap_or("");
+        assert_eq!(rt; rest.strip_prefix(rounds).unwrap_or(""), PARTS);
+        assert_eq!(rt; ran.err.len(), 0);
+        assert_eq!(rt; ran.status, 0);
+    }
+    Ok(())
+}
+
+/// A hundred times each processor adds 1 to word 0 and then reads it.
+const HOT_SPOT: &str = "
+start: lui s2, 0x80000
+ addi s3, x0, 100
+ addi s5, x0, 1
+again: amoadd.w t0, s5, (s2)
+ bltu t0, s4, bad
+ lw s4, 0(s2)
+ bgeu t0, s4, bad
+ addi s3, s3, -1
+ bne s3, x0, again
+ addi a7, x0, 0
+ addi a0, x0, 0
+ ecall
+bad: ebreak
+";
+
+/// The trace of a run of the hot spot by the sweep, on eight processors.
+fn hot_spot(alloc: Global, image: &[u8], b: u8) -> Result<Vec<u8>, Fail> {
+    let config = Config {
+        k: 3,
+        c: 4,
+        b,
+        r: 1,
+        shared_words: 1024,
+    };
+    let mut trace = Some(Meter::new(Vec::new(alloc)));
+    let mut out = Meter::new(Vec::new(alloc));
+    run_command(
+        alloc,
+        image,
+        config,
+        20_000,
+        &mut trace,
+        &mut out,
+        &mut Vec::new(alloc),
+    );
+    match trace {
+        Some(trace) => Ok(trace.device),
+        None => Ok(Vec::new(alloc)),
+    }
+}
+
+/// All eight processors meet at one word 200 times. Without combining each reference takes three moves there, a service and three moves
+/// back. With combining half of the requests that come to a stage go on from there, one of eight comes to the module, and its reply is
+/// split again at each stage. A processor retires 605 instructions, of which 200 take two turns, and halts in one turn more. The longest
+/// queues and the rounds are those of a simulator of the sweep that was written for this test alone.
+#[test]
+fn all_meet_at_one_word(rt: HostRuntime) -> Result<(), Fail> {
+    let alloc = rt.alloc();
+    let image = image_of(alloc, HOT_SPOT)?;
+    for (b, first) in [
+        (
+            0,
+            "steps 17648 turns 6448 up 4800 serve 1600 down 4800 poke 0 rounds 1716
+stage 0 up 1600 combined 0 down 1600 split 0 requests 2 records 0 replies 1
+stage 1 up 1600 combined 0 down 1600 split 0 requests 3 records 0 replies 1
+stage 2 up 1600 combined 0 down 1600 split 0 requests 4 records 0 replies 1
+module 0 serves 1600 1x1600
+module 1 serves 0
+",
+        ),
+        (
+            4,
+            "steps 10848 turns 6448 up 2800 serve 200 down 1400 poke 0 rounds 1606
+stage 0 up 800 combined 800 down 0 split 800 requests 1 records 1 replies 1
+stage 1 up 400 combined 400 down 0 split 400 requests 1 records 1 replies 1
+stage 2 up 200 combined 200 down 0 split 200 requests 1 records 1 replies 1
+module 0 serves 200 8x200
+module 1 serves 0
+",
+        ),
+    ] {
+        let trace = hot_spot(alloc, image.as_slice(), b)?;
+        let ran = run(
+            alloc,
+            Told::Stats,
+            trace.as_slice(),
+            Ok(image.as_slice()),
+            1024,
+        );
+        let text = str::from_utf8(ran.out.as_slice())?;
+        assert!(rt; text.starts_with(first), "{text}");
+        assert!(rt;
+            text.ends_with("processor 7 turns 806 retired 605\n"),
+            "{text}"
+        );
+        assert_eq!(rt; text.lines().count(), 20);
+        assert_eq!(rt; ran.status, 0);
+    }
+    Ok(())
+}

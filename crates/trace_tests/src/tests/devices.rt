@@ -1,0 +1,90 @@
+//! A write that fails, at each call; and each allocation of a test is to be refused in turn.
+
+use super::{Told, WHOLE, tell};
+use link::Meter;
+use std::test::Fail;
+use test_devices::{Deaf, EBREAK, ONE_TURN, Sink, Source};
+
+/// What is told of an image of `ebreak` on one processor.
+fn stopped(told: Told) -> &'static [u8] {
+    match told {
+        Told::Order(_) => b"0 0 00010000 fault 8\n",
+        Told::Story => b"0 turn 0: stops fault 8\n",
+        Told::Stats => {
+            b"steps 1 turns 1 up 0 serve 0 down 0 poke 0 rounds 1
+module 0 serves 0
+processor 0 turns 1 retired 0
+"
+        }
+    }
+}
+
+/// A beginning of the lines is printed, and standard output comes before the processor's fault.
+#[test]
+fn lines_that_cannot_be_printed(rt: HostRuntime) {
+    let alloc = rt.alloc();
+    for told in WHOLE {
+        let lines = stopped(told);
+        for fails_at in [0, 1, 2, lines.len() / 2, lines.len(), lines.len() + 1] {
+            let mut out = Meter::new(Sink::new(Vec::new(alloc), fails_at));
+            let mut err = Sink::new(Vec::new(alloc), 0);
+            let trace = ONE_TURN.as_slice();
+            let file = Ok(EBREAK.as_slice());
+            let status = tell(alloc, told, trace, file, 1, &mut out, &mut err);
+            if 1 <= fails_at && fails_at <= lines.len() {
+                assert_eq!(rt;
+                    Some(out.device.bytes.as_slice()),
+                    lines.get(..fails_at - 1)
+                );
+                assert_eq!(rt; err.bytes.as_slice(), b"ultra: link\n".as_slice());
+                assert_eq!(rt; status, 3, "{told:?}, call {fails_at}");
+            } else {
+                assert_eq!(rt; out.device.bytes.as_slice(), lines);
+                assert_eq!(rt; status, 1, "{told:?}, call {fails_at}");
+            }
+        }
+    }
+}
+
+/// A trace and an image that cannot be read. Where standard error fails too, the exit status alone tells the fault.
+#[test]
+fn files_that_cannot_be_read(rt: HostRuntime) {
+    let alloc = rt.alloc();
+    for told in WHOLE {
+        let mut out = Meter::new(Sink::new(Vec::new(alloc), 0));
+        let mut err = Sink::new(Vec::new(alloc), 0);
+        let trace = Source::new(&ONE_TURN, 5);
+        let file = Ok(EBREAK.as_slice());
+        let status = tell(alloc, told, trace, file, 1, &mut out, &mut err);
+        assert_eq!(rt; err.bytes.as_slice(), b"ultra: X5\n".as_slice());
+        assert_eq!(rt; out.device.bytes.len(), 0);
+        assert_eq!(rt; status, 3);
+        let mut out = Meter::new(Sink::new(Vec::new(alloc), 0));
+        let trace = ONE_TURN.as_slice();
+        let file = Ok(Source::new(&EBREAK, 5));
+        let status = tell(alloc, told, trace, file, 1, &mut out, &mut Deaf);
+        assert_eq!(rt; out.device.bytes.len(), 0);
+        assert_eq!(rt; status, 3);
+    }
+}
+
+#[test]
+fn short_of_memory(rt: HostRuntime) -> Result<(), Fail> {
+    let alloc = rt.alloc();
+    for told in WHOLE {
+        let mut out = Meter::new(Sink::new(Vec::with_capacity(alloc, 128)?, 0));
+        let mut err = Sink::new(Vec::with_capacity(alloc, 128)?, 0);
+        let trace = ONE_TURN.as_slice();
+        let file = Ok(EBREAK.as_slice());
+        let status = tell(alloc, told, trace, file, 1, &mut out, &mut err);
+        if status == 1 {
+            assert_eq!(rt; out.device.bytes.as_slice(), stopped(told));
+            assert_eq!(rt; err.bytes.len(), 0);
+        } else {
+            assert_eq!(rt; status, 4);
+            assert_eq!(rt; out.device.bytes.len(), 0);
+            assert_eq!(rt; err.bytes.as_slice(), b"ultra: memory\n".as_slice());
+        }
+    }
+    Ok(())
+}

@@ -1,0 +1,257 @@
+//! Orders of small traces, an entry at a time.
+
+use super::{ALL, Told, image_of, run};
+use flat_machine::Config;
+use link::Meter;
+use order_lines::Choice;
+use run_commands::run_command;
+use std::fmt::Write;
+use std::test::Fail;
+use test_devices::{HUNDRED_ADDS, ONE_TURN, trace_of};
+
+/// Adds `x7` to shared word 0, and halts.
+const ONE_ADD: &str = "
+ lui x5, 0x80000
+ amoadd.w x8, x7, (x5)
+ ecall
+";
+
+/// `x7` of processor 0 is made 5, that of processor 1 is made 7, and shared word 0 is made 0x100. Processor 0 sends its
+/// request first. That of processor 1 is moved first, so that of processor 0 is combined into it: processor 1 leads, and
+/// finds what was there. It takes its reply and halts. Processor 0 takes its own in the drain.
+const COMBINED: [[u8; 12]; 13] = [
+    [5, 0, 7, 0, 0, 0, 0, 0, 5, 0, 0, 0],
+    [5, 1, 7, 0, 0, 0, 0, 0, 7, 0, 0, 0],
+    [7, 0, 0, 0, 1, 0, 0, 0x80, 1, 0, 0, 0],
+    [1, 0, 0, 0, 0, 0, 0, 0, 0, 0, 0, 0],
+    [1, 1, 0, 0, 0, 0, 0, 0, 0, 0, 0, 0],
+    [1, 0, 0, 0, 0, 0, 0, 0, 0, 0, 0, 0],
+    [1, 1, 0, 0, 0, 0, 0, 0, 0, 0, 0, 0],
+    [2, 0, 1, 0, 0, 0, 0, 0, 0, 0, 0, 0],
+    [2, 0, 0, 0, 0, 0, 0, 0, 0, 0, 0, 0],
+    [3, 0, 0, 0, 0, 0, 0, 0, 0, 0, 0, 0],
+    [4, 0, 0, 0, 0, 0, 0, 0, 0, 0, 0, 0],
+    [1, 1, 0, 0, 0, 0, 0, 0, 0, 0, 0, 0],
+    [1, 1, 0, 0, 0, 0, 0, 0, 0, 0, 0, 0],
+];
+
+/// A turn of processor 0.
+const TURN: [u8; 12] = [1, 0, 0, 0, 0, 0, 0, 0, 0, 0, 0, 0];
+
+/// A service by module 0.
+const SERVE: [u8; 12] = [3, 0, 0, 0, 0, 0, 0, 0, 0, 0, 0, 0];
+
+/// The lines of the trace. 0x100 and 7 are 0x107, and 0x107 and 5 are 0x10c.
+const LINES: [&str; 8] = [
+    "0 0 poke x7 00000005\n",
+    "1 1 poke x7 00000007\n",
+    "2 - poke 80000001 01 word 0 00000000 00000100\n",
+    "3 0 00010000 lui x5, 524288 = 80000000\n",
+    "4 1 00010000 lui x5, 524288 = 80000000\n",
+    "5 1 00010004 amoadd.w x8, x7, (x5) = 00000100 word 0 00000100 00000107\n",
+    "6 0 00010004 amoadd.w x8, x7, (x5) = 00000107 word 0 00000107 0000010c\n",
+    "7 1 00010008 halt 00\n",
+];
+
+/// The order is that in which the group is served, and no order in which the requests were sent. The lines keep their
+/// numbers where not all are chosen.
+#[test]
+fn two_adds_combine(rt: HostRuntime) -> Result<(), Fail> {
+    let alloc = rt.alloc();
+    let image = image_of(alloc, ONE_ADD)?;
+    let trace = trace_of(alloc, (1, 2, 1), &COMBINED)?;
+    for (processor, word, chosen) in [
+        (None, None, [0, 1, 2, 3, 4, 5, 6, 7].as_slice()),
+        (Some(0), None, [0, 3, 6].as_slice()),
+        (Some(1), None, [1, 4, 5, 7].as_slice()),
+        (Some(2), None, [].as_slice()),
+        (None, Some(0), [2, 5, 6].as_slice()),
+        (None, Some(1), [].as_slice()),
+        (Some(0), Some(0), [6].as_slice()),
+        (Some(1), Some(1), [].as_slice()),
+    ] {
+        let mut lines = String::new(alloc);
+        for number in chosen {
+            if let Some(line) = LINES.get(*number) {
+                lines.push_str(line)?;
+            }
+        }
+        let choice = Choice { processor, word };
+        let ran = run(
+            alloc,
+            Told::Order(choice),
+            trace.as_slice(),
+            Ok(image.as_slice()),
+            1,
+        );
+        assert_eq!(rt; ran.out.as_slice(), lines.as_bytes(), "{choice:?}");
+        assert_eq!(rt; ran.err.len(), 0, "{choice:?}");
+        assert_eq!(rt; ran.status, 0, "{choice:?}");
+    }
+    Ok(())
+}
+
+/// Cut behind the two requests: in the drain that of processor 0 goes up and is served, before that of processor 1
+/// does.
+#[test]
+fn served_in_the_drain(rt: HostRuntime) -> Result<(), Fail> {
+    let alloc = rt.alloc();
+    let image = image_of(alloc, ONE_ADD)?;
+    let trace = trace_of(alloc, (1, 2, 1), &COMBINED[..7])?;
+    let on_the_word = Choice {
+        processor: None,
+        word: Some(0),
+    };
+    let ran = run(
+        alloc,
+        Told::Order(on_the_word),
+        trace.as_slice(),
+        Ok(image.as_slice()),
+        1,
+    );
+    let lines = "2 - poke 80000001 01 word 0 00000000 00000100
+5 0 00010004 amoadd.w x8, x7, (x5) = 00000100 word 0 00000100 00000105
+6 1 00010004 amoadd.w x8, x7, (x5) = 00000105 word 0 00000105 0000010c
+";
+    assert_eq!(rt; ran.out.as_slice(), lines.as_bytes());
+    assert_eq!(rt; ran.status, 0);
+    Ok(())
+}
+
+/// A byte to the console, a store and a load of half a word, a load to a register that is always 0, a byte of local
+/// memory and a jump; then a fault.
+#[test]
+fn what_a_line_tells(rt: HostRuntime) -> Result<(), Fail> {
+    let alloc = rt.alloc();
+    let text = "
+ addi x17, x0, 1
+ addi x10, x0, 0x41
+ ecall
+ lui x5, 0x80000
+ sh x10, 6(x5)
+ lh x6, 6(x5)
+ lw x0, 4(x5)
+ lui x7, 0x20
+ sb x10, 3(x7)
+ jal x1, on
+ ecall
+on: ebreak
+";
+    let image = image_of(alloc, text)?;
+    let mut records = Vec::new(alloc);
+    for _ in 0..4 {
+        records.push(TURN)?;
+    }
+    for _ in 0..3 {
+        // A reference: it is sent, served and taken.
+        records.push(TURN)?;
+        records.push(SERVE)?;
+        records.push(TURN)?;
+    }
+    for _ in 0..4 {
+        records.push(TURN)?;
+    }
+    let trace = trace_of(alloc, (0, 2, 1), records.as_slice())?;
+    let ran = run(
+        alloc,
+        Told::Order(ALL),
+        trace.as_slice(),
+        Ok(image.as_slice()),
+        1024,
+    );
+    let lines = "0 0 00010000 addi x17, x0, 1 = 00000001
+1 0 00010004 addi x10, x0, 65 = 00000041
+2 0 00010008 ecall console 41
+3 0 0001000c lui x5, 524288 = 80000000
+4 0 00010010 sh x10, 6(x5) word 1 00000000 00410000
+5 0 00010014 lh x6, 6(x5) = 00000041 word 1 00410000 00410000
+6 0 00010018 lw x0, 4(x5) word 1 00410000 00410000
+7 0 0001001c lui x7, 32 = 00020000
+8 0 00010020 sb x10, 3(x7)
+9 0 00010024 jal x1, 8 = 00010028
+10 0 0001002c fault 8
+";
+    assert_eq!(rt; ran.out.as_slice(), lines.as_bytes());
+    assert_eq!(rt; ran.err.len(), 0);
+    assert_eq!(rt; ran.status, 1);
+    Ok(())
+}
+
+/// Nothing is printed of a machine as it opens.
+#[test]
+fn no_steps(rt: HostRuntime) -> Result<(), Fail> {
+    let alloc = rt.alloc();
+    let image = image_of(alloc, "ebreak")?;
+    let trace = trace_of(alloc, (6, 2, 1), &[])?;
+    let ran = run(
+        alloc,
+        Told::Order(ALL),
+        trace.as_slice(),
+        Ok(image.as_slice()),
+        1,
+    );
+    assert_eq!(rt; ran.out.len(), 0);
+    assert_eq!(rt; ran.err.len(), 0);
+    assert_eq!(rt; ran.status, 0);
+    let ran = run(alloc, Told::Order(ALL), &ONE_TURN, Ok(image.as_slice()), 1);
+    assert_eq!(rt; ran.out.as_slice(), b"0 0 00010000 fault 8\n".as_slice());
+    assert_eq!(rt; ran.status, 1);
+    Ok(())
+}
+
+/// However the requests of 64 processors combine, each of the 6,400 adds finds what the one before it left; and behind
+/// them each processor loads the word.
+#[test]
+fn each_add_goes_on_from_the_last(rt: HostRuntime) -> Result<(), Fail> {
+    let alloc = rt.alloc();
+    let image = image_of(alloc, HUNDRED_ADDS)?;
+    let config = Config {
+        k: 6,
+        c: 4,
+        b: 4,
+        r: 1,
+        shared_words: 1024,
+    };
+    let mut trace = Some(Meter::new(Vec::new(alloc)));
+    let status = run_command(
+        alloc,
+        image.as_slice(),
+        config,
+        200_000,
+        &mut trace,
+        &mut Meter::new(Vec::new(alloc)),
+        &mut Vec::new(alloc),
+    );
+    assert_eq!(rt; status, 0);
+    let Some(trace) = trace else {
+        return Ok(());
+    };
+    let on_the_word = Choice {
+        processor: None,
+        word: Some(0),
+    };
+    let ran = run(
+        alloc,
+        Told::Order(on_the_word),
+        trace.device.as_slice(),
+        Ok(image.as_slice()),
+        1024,
+    );
+    assert_eq!(rt; ran.status, 0);
+    let text = str::from_utf8(ran.out.as_slice())?;
+    let (mut adds, mut loads) = (0_u32, 0_u32);
+    for line in text.lines() {
+        let mut end = String::new(alloc);
+        if line.contains(" amoadd.w ") {
+            let next = adds.saturating_add(1);
+            write!(end, " = {adds:08x} word 0 {adds:08x} {next:08x}")?;
+            adds = next;
+        } else {
+            write!(end, " = {adds:08x} word 0 {adds:08x} {adds:08x}")?;
+            loads = loads.saturating_add(1);
+        }
+        assert!(rt; line.ends_with(end.as_str()), "{line}");
+    }
+    assert_eq!(rt; (adds, loads), (6400, 64));
+    Ok(())
+}

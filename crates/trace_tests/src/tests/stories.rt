@@ -1,0 +1,102 @@
+//! Stories of small traces, step by step.
+
+use super::{Told, image_of, run};
+use std::test::Fail;
+use test_devices::{ADD_AT_X12, FOUR_ADDS, trace_of};
+
+/// The lines up to the service.
+const GOING_UP: &str = "0 poke 0 x11 00000001: writes
+1 poke 1 x11 00000002: writes
+2 poke 2 x11 00000004: writes
+3 poke 3 x11 00000008: writes
+4 poke 0 x12 80000000: writes
+5 poke 1 x12 80000000: writes
+6 poke 2 x12 80000000: writes
+7 poke 3 x12 80000000: writes
+8 poke - 80000000 0a: writes
+9 turn 0: sends
+10 turn 1: sends
+11 turn 2: sends
+12 turn 3: sends
+13 up 0 0: moves to depth 1
+14 up 0 2: 2 joins 0 at stage 0
+15 up 0 1: moves to depth 1
+16 up 0 3: 3 joins 1 at stage 0
+17 up 1 0: moves to depth 2
+18 up 1 2: 1 joins 0 at stage 1
+19 serve 0: serves 4: 0 2 1 3
+";
+
+/// Behind it the trace answers all, and then takes all turns.
+const BY_THE_TRACE: &str = "20 down 1 0: answers 1 at stage 1
+21 down 0 0: answers 2 at stage 0
+22 down 0 2: answers 3 at stage 0
+23 turn 0: retires amoadd.w x10, x11, (x12) = 0000000a
+24 turn 1: retires amoadd.w x10, x11, (x12) = 0000000f
+25 turn 2: retires amoadd.w x10, x11, (x12) = 0000000b
+26 turn 3: retires amoadd.w x10, x11, (x12) = 00000011
+";
+
+/// A drain has a processor take its reply as soon as it is there.
+const BY_A_DRAIN: &str = "20 down 1 0: answers 1 at stage 1
+21 down 0 0: answers 2 at stage 0
+22 turn 0: retires amoadd.w x10, x11, (x12) = 0000000a
+23 turn 2: retires amoadd.w x10, x11, (x12) = 0000000b
+24 down 0 2: answers 3 at stage 0
+25 turn 1: retires amoadd.w x10, x11, (x12) = 0000000f
+26 turn 3: retires amoadd.w x10, x11, (x12) = 00000011
+";
+
+/// The whole trace; and cut behind the service, so that a drain brings all home.
+#[test]
+fn four_adds(rt: HostRuntime) -> Result<(), Fail> {
+    let alloc = rt.alloc();
+    let image = image_of(alloc, ADD_AT_X12)?;
+    for (steps, rest) in [(27, BY_THE_TRACE), (20, BY_A_DRAIN)] {
+        let trace = trace_of(alloc, (2, 4, 4), &FOUR_ADDS[..steps])?;
+        let ran = run(
+            alloc,
+            Told::Story,
+            trace.as_slice(),
+            Ok(image.as_slice()),
+            1,
+        );
+        let mut lines = String::new(alloc);
+        lines.push_str(GOING_UP)?;
+        lines.push_str(rest)?;
+        assert_eq!(rt; str::from_utf8(ran.out.as_slice())?, lines.as_str());
+        assert_eq!(rt; ran.err.len(), 0);
+        assert_eq!(rt; ran.status, 0);
+    }
+    Ok(())
+}
+
+/// A byte to the console, and a fault.
+#[test]
+fn console_and_fault(rt: HostRuntime) -> Result<(), Fail> {
+    let alloc = rt.alloc();
+    let text = "
+ addi x17, x0, 1
+ addi x10, x0, 0x41
+ ecall
+ ebreak
+";
+    let image = image_of(alloc, text)?;
+    let turn = [1, 0, 0, 0, 0, 0, 0, 0, 0, 0, 0, 0];
+    let trace = trace_of(alloc, (0, 4, 4), &[turn, turn, turn, turn])?;
+    let ran = run(
+        alloc,
+        Told::Story,
+        trace.as_slice(),
+        Ok(image.as_slice()),
+        1024,
+    );
+    let lines = "0 turn 0: retires addi x17, x0, 1 = 00000001
+1 turn 0: retires addi x10, x0, 65 = 00000041
+2 turn 0: retires ecall console 41
+3 turn 0: stops fault 8
+";
+    assert_eq!(rt; str::from_utf8(ran.out.as_slice())?, lines);
+    assert_eq!(rt; ran.status, 1);
+    Ok(())
+}

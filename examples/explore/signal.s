@@ -1,0 +1,15 @@
+# A signal that can be missed: processor 0 sets word 0 to 1, and then back to 0, while the others wait for the 1. Who looks too late waits
+# for ever.
+ addi a7, x0, 2                 # call 2: the processor's own number
+ ecall
+ lui s2, 0x80000                # the address of shared word 0
+ addi s5, x0, 1
+ bne a0, x0, wait
+ sw s5, 0(s2)
+ sw x0, 0(s2)
+ jal x0, done
+wait: lw t0, 0(s2)
+ beq t0, x0, wait
+done: addi a7, x0, 0           # call 0: halt
+ addi a0, x0, 0
+ ecall
