@@ -1,8 +1,10 @@
--- A core is taken out of a machine, or put into it.
-use Rattle.std.proofs.Common.{◌≡◌, ℕ, ◌^◌, ◌<◌, Bool, true, false, List, [], length, refl, sym, ap, ap₂, ◌∙◌, subst, arith}
-use Rattle.std.specs.Prelude.{◌==◌, slice_index_or, slice_set}
+-- A core is taken out of a machine, or put into it, and what is read where cores are at home.
+use Rattle.std.proofs.Common.{◌≡◌, ℕ, ◌^◌, ◌<◌, Bool, true, false, List, [], length, nat_lt, refl, sym, ap, ap₂, ◌∙◌, subst, lt-ltb}
+use Rattle.std.proofs.Common.{ltb-true, arith}
+use Rattle.std.specs.Prelude.{◌==◌, ◌&&◌, not, slice_index_or, slice_set}
 use Rattle.std.proofs.lemmas.Bool.{true≢false}
 use Rattle.flat_machine.specs.declared.event.Event.{Event}
+use Rattle.flat_machine.specs.State.{is_running}
 use Rattle.flat_machine.specs.Laws.{HasWords}
 use Rattle.hart.specs.State.{CoreState}
 use Rattle.machine_ports.specs.Ports.{PortState, is_away, no_processor, with_state}
@@ -13,9 +15,9 @@ use Rattle.machine_opening.specs.machine_program.Processors.{Told, sizes_of, pro
 use Rattle.machine_opening.specs.machine_program.Cores as cores
 use Rattle.machine_opening.specs.machine_program.Steps.{machine_of_parts}
 use Rattle.machine_opening.proofs.Lemmas.machine_program.{core_changed, open_kept, steady_with}
-use Rattle.machine.specs.Machines.{MachineLists, IsMachine, away_at, machine_of, with_core_at}
+use Rattle.machine.specs.Machines.{MachineLists, AreHome, IsMachine, away_at, is_there, machine_of, with_core_at}
 use Rattle.machine.proofs.Handling.{port_is, turn_refers}
-use Rattle.machine.proofs.Keeping.{home_referring, ports_set}
+use Rattle.machine.proofs.Keeping.{home_referring, home_running, ports_set}
 
 -- ---- the machine with another core
 
@@ -104,3 +106,18 @@ module _ (m : MachineLists) (is : IsMachine m) (p place : ℕ) (same : place ≡
     taken_keeps shut = subst IsMachine (sym (left_is none becomes_none))
         (put_is_machine m is p within none (ap (λ (q : PortState). q.is_open) (sym found_port) ∙ shut) refl
         (record { pc = omega arith; registers = λ r. omega arith; local = λ r. omega arith }) (λ e. refl))
+
+-- ---- what is read of cores
+
+-- where no core is away, each processor is there
+pub home_there : (m : MachineLists) → AreHome m → (p : ℕ) → is_there m p ≡ nat_lt p (2 ^ m.config.k)
+home_there m home p = by (nat_lt p (2 ^ m.config.k)) refl
+  where
+    by : (b : Bool) → nat_lt p (2 ^ m.config.k) ≡ b → (b && not (away_at m p)) ≡ b
+    by true e = ap not (home p (ltb-true p (2 ^ m.config.k) e))
+    by false e = refl
+
+-- and so is each that runs
+pub running_there : (m : MachineLists) → IsMachine m → (p : ℕ) → p < 2 ^ m.config.k → is_running (port_at m.ports p).core.state.status ≡ true →
+    is_there m p ≡ true
+running_there m is p within runs = ap₂ (λ a b. a && not b) (lt-ltb p (2 ^ m.config.k) within) (home_running m.config m.ports is.ports p runs)
