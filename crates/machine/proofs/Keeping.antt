@@ -74,7 +74,7 @@ module _ (c : Config) (ports : List PortState) (all : ArePorts c ports) (p : ℕ
 -- ---- a core that is at home
 
 module _ (c : Config) (ports : List PortState) (all : ArePorts c ports) (p : ℕ) where
-  home_unless : ((port_at ports p).core.state ≡ no_processor → ⊥) → is_away (port_at ports p).core.state ≡ false
+  pub home_unless : ((port_at ports p).core.state ≡ no_processor → ⊥) → is_away (port_at ports p).core.state ≡ false
   home_unless some = at (is_away (port_at ports p).core.state) refl
     where
       at : (b : Bool) → is_away (port_at ports p).core.state ≡ b → is_away (port_at ports p).core.state ≡ false

@@ -5,7 +5,7 @@ pub use Rattle.machine.proofs.Flattening.{all_shut, count_is, flat_is, none_past
 -- What holds of every machine is kept where a port, a module or the network changes.
 pub use Rattle.machine.proofs.Keeping.{count_small}
 -- Cores that are taken out and put in, and what is read where cores are at home.
-pub use Rattle.machine.proofs.Lending.{away_shut, core_put, home_there, put_is_machine, running_there}
+pub use Rattle.machine.proofs.Lending.{away_shut, core_put, home_there, put_is_machine, there_unless}
 -- A step that stalls changes nothing.
 pub use Rattle.machine.proofs.Stalling.{keeps, retell, retold, stalled_keeps}
 -- Lemmas of lower crates, passed on to those above.

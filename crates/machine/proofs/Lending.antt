@@ -4,7 +4,6 @@ use Rattle.std.proofs.Common.{ltb-true, arith}
 use Rattle.std.specs.Prelude.{◌==◌, ◌&&◌, not, slice_index_or, slice_set}
 use Rattle.std.proofs.lemmas.Bool.{true≢false}
 use Rattle.flat_machine.specs.declared.event.Event.{Event}
-use Rattle.flat_machine.specs.State.{is_running}
 use Rattle.flat_machine.specs.Laws.{HasWords}
 use Rattle.hart.specs.State.{CoreState}
 use Rattle.machine_ports.specs.Ports.{PortState, is_away, no_processor, with_state}
@@ -17,7 +16,7 @@ use Rattle.machine_opening.specs.machine_program.Steps.{machine_of_parts}
 use Rattle.machine_opening.proofs.Lemmas.machine_program.{core_changed, open_kept, steady_with}
 use Rattle.machine.specs.Machines.{MachineLists, AreHome, IsMachine, away_at, is_there, machine_of, with_core_at}
 use Rattle.machine.proofs.Handling.{port_is, turn_refers}
-use Rattle.machine.proofs.Keeping.{home_referring, home_running, ports_set}
+use Rattle.machine.proofs.Keeping.{home_referring, home_unless, ports_set}
 
 -- ---- the machine with another core
 
@@ -117,7 +116,6 @@ home_there m home p = by (nat_lt p (2 ^ m.config.k)) refl
     by true e = ap not (home p (ltb-true p (2 ^ m.config.k) e))
     by false e = refl
 
--- and so is each that runs
-pub running_there : (m : MachineLists) → IsMachine m → (p : ℕ) → p < 2 ^ m.config.k → is_running (port_at m.ports p).core.state.status ≡ true →
-    is_there m p ≡ true
-running_there m is p within runs = ap₂ (λ a b. a && not b) (lt-ltb p (2 ^ m.config.k) within) (home_running m.config m.ports is.ports p runs)
+-- and so is each that is not read as one whose core is away
+pub there_unless : (m : MachineLists) → IsMachine m → (p : ℕ) → p < 2 ^ m.config.k → ((port_at m.ports p).core.state ≡ no_processor → ⊥) → is_there m p ≡ true
+there_unless m is p within some = ap₂ (λ a b. a && not b) (lt-ltb p (2 ^ m.config.k) within) (home_unless m.config m.ports is.ports p some)

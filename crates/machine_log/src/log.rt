@@ -2,7 +2,7 @@
 
 ghost use Rattle.std.specs.Prelude.{◌≡◌, ◌≤◌, ◌<◌, ◌+◌, ◌*◌, ◌^◌, ◌↔◌, ◌++◌, [], length, nat_lt, true, false, Err, IfOk, OnOk, OnErr};
 ghost use Rattle.std.specs.Borrow.{sem};
-ghost use Rattle.machine_runs.specs.Machines.{IsIdle};
+ghost use Rattle.machine_runs.specs.Machines.{AreHome, IsIdle};
 ghost use Rattle.machine_runs.specs.Draining.{drain_bound, drain_steps, IsDrained};
 ghost use Rattle.machine_runs.specs.Runs.{answer_after, IsReplay, IsSerialized};
 ghost use Rattle.machine_runs.specs.Whole.{one_steps, IsOne, IsPoked};
@@ -46,10 +46,11 @@ impl Model for Logged {
 }
 
 impl Logged {
-    /// The log of a machine in which no reference is open, and which has taken no step: it becomes the
-    /// opening.
+    /// The log of a machine in which no reference is open and no core away, and which has taken no step:
+    /// it becomes the opening.
     pub fn new(alloc: Global, machine: Machine) -> Self
         requires idle { IsIdle machine }
+        requires home { AreHome machine }
         ensures { result ≡ record { opening = machine; steps = []; machine = machine } }
     {
         Logged {
@@ -58,9 +59,10 @@ impl Logged {
     }
 
     /// The machine. It is the replay of its opening over the steps, and one serial order of whole
-    /// instructions explains what it did.
+    /// instructions explains what it did. No core is away.
     pub fn machine(&self) -> &Machine
         ensures machine { result.now ≡ self.now.machine }
+        ensures home { AreHome self.now.machine }
         ensures kept { IsKept self.now }
         ensures replay { IsReplay self.now.opening self.now.steps self.now.machine }
         ensures explained { IsSerialized self.now.opening self.now.steps self.now.machine }
@@ -206,6 +208,7 @@ impl Logged {
 /// What holds of every log: each proof about one may cite it, at the cost of nothing.
 pub fn log_is_kept(log: &Logged)
     ensures kept { IsKept log.now }
+    ensures home { AreHome log.now.machine }
     ensures replay { IsReplay log.now.opening log.now.steps log.now.machine }
 {
     roomy_is_kept(&log.log);

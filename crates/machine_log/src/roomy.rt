@@ -1,7 +1,7 @@
 //! A log with room for steps.
 
 ghost use Rattle.std.specs.Prelude.{◌≡◌, ◌≤◌, ◌<◌, ◌+◌, ◌*◌, ◌↔◌, ◌++◌, [], length, Err, OnOk};
-ghost use Rattle.machine_runs.specs.Machines.{IsIdle};
+ghost use Rattle.machine_runs.specs.Machines.{AreHome, IsIdle};
 ghost use Rattle.machine_runs.specs.Draining.{drain_bound, drain_steps, IsDrained};
 ghost use Rattle.machine_runs.specs.Runs.{answer_after, IsReplay, IsSerialized};
 ghost use Rattle.machine_runs.specs.Whole.{one_steps, IsOne, IsPoked};
@@ -43,6 +43,7 @@ impl Roomy {
     /// The log of a machine that has taken no step.
     pub(crate) fn new(alloc: Global, machine: Machine) -> Self
         requires idle { IsIdle machine }
+        requires home { AreHome machine }
         ensures { result.log ≡ record { opening = machine; steps = []; machine = machine } }
     {
         machine_is_sound(&machine);
@@ -76,9 +77,10 @@ impl Roomy {
     }
 
     /// The machine. It is the replay of its opening over the steps, and one serial order of whole
-    /// instructions explains what it did.
+    /// instructions explains what it did. No core is away.
     pub fn machine(&self) -> &Machine
         ensures machine { result.now ≡ self.now.log.machine }
+        ensures home { AreHome self.now.log.machine }
         ensures kept { IsKept self.now.log }
         ensures replay { IsReplay self.now.log.opening self.now.log.steps self.now.log.machine }
         ensures explained { IsSerialized self.now.log.opening self.now.log.steps self.now.log.machine }
@@ -152,6 +154,7 @@ impl Roomy {
 /// What holds of every log with room: each proof about one may cite it, at the cost of nothing.
 pub fn roomy_is_kept(roomy: &Roomy)
     ensures kept { IsKept roomy.now.log }
+    ensures home { AreHome roomy.now.log.machine }
     ensures replay { IsReplay roomy.now.log.opening roomy.now.log.steps roomy.now.log.machine }
 {
     let _ = &roomy.steps;
