@@ -1,7 +1,7 @@
 //! The machine.
 
 ghost use Rattle.std.specs.Prelude.{◌≡◌, ◌↔◌, ◌<◌, ◌≤◌, ◌*◌, ◌+◌, ◌-◌, ◌/◌, ◌%◌, ◌^◌, ◌&&◌, ℕ, List, [], true, false, nat_lt, is_some, slice_get, slice_index};
-ghost use Rattle.std.specs.Prelude.{Some, None, Err, IfOk, IsTrue, if◌then◌else◌};
+ghost use Rattle.std.specs.Prelude.{Some, None, Err, IfNone, IfOk, IsTrue, if◌then◌else◌};
 ghost use Rattle.std.specs.Arc.{arc_value};
 ghost use Rattle.std.specs.Option.{option_copied};
 ghost use Rattle.flat_machine.specs.declared.event.Event.{Event};
@@ -14,7 +14,7 @@ ghost use Rattle.flat_machine.specs.Words.{part_of};
 ghost use Rattle.wire_sets.specs.Members.{members};
 ghost use Rattle.indexed_network.specs.omega_network.Networks.{net_of};
 ghost use Rattle.machine_opening.specs.abstract_machine.Steadiness.{Few};
-ghost use Rattle.machine_opening.specs.machine_program.Processors.{is_lawful_poke, open_at, port_at, setting_of, word_at, sizes_of};
+ghost use Rattle.machine_opening.specs.machine_program.Processors.{is_lawful_poke, no_processor, open_at, port_at, setting_of, word_at, sizes_of};
 ghost use Rattle.machine_opening.specs.machine_program.Cores.{with_core, without};
 ghost use Rattle.machine_opening.specs.machine_program.Steps.{outcome_of};
 ghost use Rattle.machine_opening.specs.machine_program.Turning.{told_of_down, told_of_up};
@@ -118,7 +118,8 @@ impl Machine {
     /// Where a processor stands: the address of its next instruction. None where the machine has no
     /// processor of this number, or its core is away.
     pub fn pc(&self, processor: u8) -> Option<u32>
-        ensures { result ≡ (if is_there self.now processor then Some (port_at self.now.ports processor).core.state.pc else None) }
+        ensures value { result ≡ (if is_there self.now processor then Some (port_at self.now.ports processor).core.state.pc else None) }
+        ensures none { IfNone result ((port_at self.now.ports processor).core.state ≡ no_processor) }
     {
         Some(self.core(processor)?.pc())
     }
@@ -144,7 +145,8 @@ impl Machine {
     /// What a processor is doing. None where the machine has no processor of this number, or its core is
     /// away.
     pub fn status(&self, processor: u8) -> Option<Status>
-        ensures { result ≡ (if is_there self.now processor then Some (port_at self.now.ports processor).core.state.status else None) }
+        ensures value { result ≡ (if is_there self.now processor then Some (port_at self.now.ports processor).core.state.status else None) }
+        ensures none { IfNone result ((port_at self.now.ports processor).core.state ≡ no_processor) }
     {
         Some(self.core(processor)?.status())
     }
@@ -267,7 +269,8 @@ impl Machine {
     /// The core of a processor. None where the machine has no processor of this number, or its core is
     /// away.
     pub fn core(&self, processor: u8) -> Option<&Core>
-        ensures { option_copied result ≡ (if is_there self.now processor then Some (port_at self.now.ports processor).core else None) }
+        ensures value { option_copied result ≡ (if is_there self.now processor then Some (port_at self.now.ports processor).core else None) }
+        ensures none { IfNone result ((port_at self.now.ports processor).core.state ≡ no_processor) }
     {
         match self.ports.get(usize::from(processor)) {
             Some(port) => port.core(),

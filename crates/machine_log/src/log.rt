@@ -62,7 +62,7 @@ impl Logged {
     /// instructions explains what it did. No core is away.
     pub fn machine(&self) -> &Machine
         ensures machine { result.now ≡ self.now.machine }
-        ensures home { AreHome self.now.machine }
+        ensures home { AreHome result.now }
         ensures kept { IsKept self.now }
         ensures replay { IsReplay self.now.opening self.now.steps self.now.machine }
         ensures explained { IsSerialized self.now.opening self.now.steps self.now.machine }

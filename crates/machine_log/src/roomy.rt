@@ -80,7 +80,7 @@ impl Roomy {
     /// instructions explains what it did. No core is away.
     pub fn machine(&self) -> &Machine
         ensures machine { result.now ≡ self.now.log.machine }
-        ensures home { AreHome self.now.log.machine }
+        ensures home { AreHome result.now }
         ensures kept { IsKept self.now.log }
         ensures replay { IsReplay self.now.log.opening self.now.log.steps self.now.log.machine }
         ensures explained { IsSerialized self.now.log.opening self.now.log.steps self.now.log.machine }

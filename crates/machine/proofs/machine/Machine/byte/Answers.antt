@@ -10,4 +10,4 @@ pub returns : goal.returns
 returns c =
     c.ok.ensures.value ∙ ap result_ok c.byte.ensures
     ∙ byte_of_core (is_there c.args.self.now c.args.processor) (in_local c.args.address)
-    (port_at c.args.self.now.ports c.args.processor).core c.in_ok-core.field-0.now c.args.address c.in_ok-core.ensures
+    (port_at c.args.self.now.ports c.args.processor).core c.in_ok-core.field-0.now c.args.address c.in_ok-core.ensures.value

@@ -1,7 +1,6 @@
 use Rattle.std.proofs.Common.{subst}
 use Rattle.machine_runs.specs.Runs.{IsSerialized}
 use Rattle.machine_runs.proofs.Lemmas.{serialized}
-use Rattle.machine_runs.specs.Machines.{AreHome}
 use Rattle.machine_log.specs.Logs.{RoomyLog}
 use Rattle.machine_log.proofs.Taking.{kept_home}
 use Rattle.machine_log.proofs.roomy.Roomy.machine.Goals as goal
@@ -13,4 +12,4 @@ returns-clause-explained c =
     (serialized c.self.inside.opening.value c.self.inside.steps.items c.self.inside.machine k.opens k.idle k.sound k.replay.run)
 
 pub returns-clause-home : goal.returns-clause-home
-returns-clause-home c = subst (λ (l : RoomyLog). AreHome l.log.machine) c.self.view_is (kept_home _ c.self.invariant)
+returns-clause-home c = kept_home _ c.self.invariant
