@@ -44,7 +44,7 @@ pub fn show(machine: &Machine, command: &Command, text: &mut ArrayVec<u8, 1024>)
 #[tactic(auto, unfolding(crate::specs::Texts::state_text))]
 fn show_state(machine: &Machine, processor: u32, text: &mut ArrayVec<u8, 1024>)
     requires home { AreHome machine.now }
-    requires { array_vec_len text.old ≡ 0 }
+    requires empty { array_vec_len text.old ≡ 0 }
     ensures { text.new.items ≡ state_text (slice_get (flat_state machine.now).processors processor) }
 {
     if let Some(status) = status(machine, processor) {
@@ -56,7 +56,7 @@ fn show_state(machine: &Machine, processor: u32, text: &mut ArrayVec<u8, 1024>)
 #[tactic(auto, unfolding(crate::specs::Texts::registers_text))]
 fn show_registers(machine: &Machine, processor: u32, text: &mut ArrayVec<u8, 1024>)
     requires home { AreHome machine.now }
-    requires { array_vec_len text.old ≡ 0 }
+    requires empty { array_vec_len text.old ≡ 0 }
     ensures { text.new.items ≡ registers_text (slice_get (flat_state machine.now).processors processor) }
 {
     if let (Some(registers), Some(pc)) = (registers(machine, processor), pc(machine, processor)) {
@@ -69,7 +69,7 @@ fn show_registers(machine: &Machine, processor: u32, text: &mut ArrayVec<u8, 102
 #[tactic(auto, unfolding(crate::specs::Texts::register_text))]
 fn show_register(machine: &Machine, processor: u32, register: u32, text: &mut ArrayVec<u8, 1024>)
     requires home { AreHome machine.now }
-    requires { array_vec_len text.old ≡ 0 }
+    requires empty { array_vec_len text.old ≡ 0 }
     ensures { text.new.items ≡ register_text (slice_get (flat_state machine.now).processors processor) register }
 {
     if let Some(value) = register_value(machine, processor, register) {
@@ -87,7 +87,7 @@ fn show_memory(
     text: &mut ArrayVec<u8, 1024>,
 )
     requires home { AreHome machine.now }
-    requires { array_vec_len text.old ≡ 0 }
+    requires empty { array_vec_len text.old ≡ 0 }
     ensures { text.new.items ≡ memory_text (flat_state machine.now) processor address length }
 {
     if length > MAX_SHOWN || u64::from(address) + u64::from(length) > 1 << 32 {

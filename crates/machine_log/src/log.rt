@@ -14,6 +14,7 @@ use flat_machine::Poke;
 use machine_runs::{Machine, most_moves};
 use std::alloc::Global;
 use std::marker::Model;
+use std::snapshot::Snapshot;
 use steps::{Outcome, Step};
 use thiserror::Error;
 
@@ -56,6 +57,26 @@ impl Logged {
         Logged {
             log: Roomy::new(alloc, machine),
         }
+    }
+
+    /// The log of a machine that stands after these steps since its opening.
+    pub fn of_parts(machine: Machine, steps: Vec<Step>, opening: Snapshot<Machine>) -> Self
+        requires kept { IsKept (record { opening = opening.value; steps = steps.items; machine = machine }) }
+        ensures { result ≡ record { opening = opening.value; steps = steps.items; machine = machine } }
+    {
+        Logged {
+            log: Roomy::of_parts(machine, steps, opening),
+        }
+    }
+
+    /// The machine, the steps that it has taken, and the opening, which proofs know.
+    pub fn into_parts(self) -> (Machine, Vec<Step>, Snapshot<Machine>)
+        ensures machine { result.0 ≡ self.machine }
+        ensures steps { result.1.items ≡ self.steps }
+        ensures opening { result.2.value ≡ self.opening }
+        ensures kept { IsKept self }
+    {
+        self.log.into_parts()
     }
 
     /// The machine. It is the replay of its opening over the steps, and one serial order of whole

@@ -55,6 +55,37 @@ impl Roomy {
         }
     }
 
+    /// The log of a machine that stands after these steps since its opening.
+    pub(crate) fn of_parts(
+        machine: Machine,
+        steps: Vec<Step>,
+        opening: Snapshot<Machine>,
+    ) -> Self
+        requires kept { IsKept (record { opening = opening.value; steps = steps.items; machine = machine }) }
+        ensures { result.log ≡ record { opening = opening.value; steps = steps.items; machine = machine } }
+    {
+        Roomy {
+            machine,
+            steps,
+            opening,
+        }
+    }
+
+    /// The machine, the steps that it has taken, and the opening.
+    pub(crate) fn into_parts(self) -> (Machine, Vec<Step>, Snapshot<Machine>)
+        ensures machine { result.0 ≡ self.log.machine }
+        ensures steps { result.1.items ≡ self.log.steps }
+        ensures opening { result.2.value ≡ self.log.opening }
+        ensures kept { IsKept self.log }
+    {
+        let Roomy {
+            machine,
+            steps,
+            opening,
+        } = self;
+        (machine, steps, opening)
+    }
+
     /// Makes room for more steps.
     ///
     /// # Errors

@@ -1,6 +1,7 @@
 //! Turns and pokes of one port. The words and the values come from the manual.
 
 use flat_machine::{CODE_START, Cause, Fault, Retired, Setting, Status};
+use hart::{Core, Taken};
 use local_memory::Code;
 use machine_ports::{Begun, Port};
 use phi_algebra::Phi;
@@ -34,10 +35,11 @@ fn before(rt: &(impl Abort + AllocGlobal), word: u32) -> Result<Rig, Fail> {
         shared_words: 16,
     };
     let code = Code::new(rt.alloc(), &word.to_le_bytes())?;
-    let mut port = Port::new(rt.alloc(), setting, CODE_START, &[])?;
-    assert!(rt; port.poke_register(1, 0x8000_0008));
-    assert!(rt; port.poke_register(2, 5));
-    Ok(Rig { code, port })
+    let port = Port::new(rt.alloc(), setting, CODE_START, &[])?;
+    let mut rig = Rig { code, port };
+    assert!(rt; rig.poke_register(rt, 1, 0x8000_0008));
+    assert!(rt; rig.poke_register(rt, 2, 5));
+    Ok(rig)
 }
 
 impl Rig {
@@ -46,6 +48,23 @@ impl Rig {
         assert!(rt; self.port.is_running());
         assert!(rt; !self.port.is_open());
         self.port.begin(&self.code)
+    }
+
+    /// The core, which is here.
+    fn core(&self, rt: &impl Abort) -> &Core {
+        self.port.core().expect(rt, "the core is here")
+    }
+
+    /// Writes a register of the core, which is here.
+    fn poke_register(&mut self, rt: &impl Abort, register: u8, value: u32) -> bool {
+        assert!(rt; !self.port.is_away());
+        self.port.poke_register(register, value)
+    }
+
+    /// Writes a byte of the local memory of the core, which is here.
+    fn poke_byte(&mut self, rt: &impl Abort, address: u32, value: u8) -> bool {
+        assert!(rt; !self.port.is_away());
+        self.port.poke_byte(address, value)
     }
 }
 
@@ -66,8 +85,8 @@ fn local_instruction(rt: HostRuntime) -> Result<(), Fail> {
     };
     assert_eq!(rt; rig.begin(&rt), Begun::Retired(retired));
     assert!(rt; !rig.port.is_open());
-    assert_eq!(rt; rig.port.core().pc(), 0x0001_0004);
-    assert_eq!(rt; rig.port.core().registers()[3], 0x8000_000F);
+    assert_eq!(rt; rig.core(&rt).pc(), 0x0001_0004);
+    assert_eq!(rt; rig.core(&rt).registers()[3], 0x8000_000F);
     Ok(())
 }
 
@@ -82,8 +101,8 @@ fn reference(rt: HostRuntime) -> Result<(), Fail> {
     assert_eq!(rt; rig.begin(&rt), referred);
     assert!(rt; rig.port.is_open());
     assert!(rt; rig.port.is_running());
-    assert_eq!(rt; rig.port.core().pc(), 0x0001_0000);
-    assert_eq!(rt; rig.port.core().registers()[3], 0);
+    assert_eq!(rt; rig.core(&rt).pc(), 0x0001_0000);
+    assert_eq!(rt; rig.core(&rt).registers()[3], 0);
     Ok(())
 }
 
@@ -103,8 +122,8 @@ fn stops(rt: HostRuntime) -> Result<(), Fail> {
         assert_eq!(rt; rig.begin(&rt), Begun::Stopped(cause), "{word:08x}");
         assert!(rt; !rig.port.is_running(), "{word:08x}");
         assert!(rt; !rig.port.is_open(), "{word:08x}");
-        assert_eq!(rt; rig.port.core().status(), status, "{word:08x}");
-        assert_eq!(rt; rig.port.core().pc(), 0x0001_0000, "{word:08x}");
+        assert_eq!(rt; rig.core(&rt).status(), status, "{word:08x}");
+        assert_eq!(rt; rig.core(&rt).pc(), 0x0001_0000, "{word:08x}");
     }
     Ok(())
 }
@@ -127,13 +146,13 @@ fn registers_are_poked(rt: HostRuntime) -> Result<(), Fail> {
         (255, 4, false, 0xFFFF_FFFC),
     ] {
         assert_eq!(rt;
-            rig.port.poke_register(register, value),
+            rig.poke_register(&rt, register, value),
             is_written,
             "{register} {value}"
         );
-        assert_eq!(rt; rig.port.core().pc(), pc, "{register} {value}");
+        assert_eq!(rt; rig.core(&rt).pc(), pc, "{register} {value}");
     }
-    let registers = rig.port.core().registers();
+    let registers = rig.core(&rt).registers();
     assert_eq!(rt;
         (registers[0], registers[1], registers[2]),
         (0, 0xFFFF_FFFF, 5)
@@ -154,13 +173,31 @@ fn bytes_are_poked(rt: HostRuntime) -> Result<(), Fail> {
         (0x8000_0000, false),
     ] {
         assert_eq!(rt;
-            rig.port.poke_byte(address, 0xA5),
+            rig.poke_byte(&rt, address, 0xA5),
             is_written,
             "{address:08x}"
         );
-        let byte = rig.port.core().byte(address).ok();
+        let byte = rig.core(&rt).byte(address).ok();
         assert_eq!(rt; byte, is_written.then_some(0xA5), "{address:08x}");
     }
-    assert_eq!(rt; rig.port.core().byte(0x0002_0001).ok(), Some(0));
+    assert_eq!(rt; rig.core(&rt).byte(0x0002_0001).ok(), Some(0));
+    Ok(())
+}
+
+/// A core that is taken out of its port is no longer there. It goes on by itself, and can be put back.
+#[test]
+fn cores_are_taken_and_put(rt: HostRuntime) -> Result<(), Fail> {
+    let mut rig = before(&rt, ADDI)?;
+    let mut core = rig.port.take_core().expect(&rt, "the core is here");
+    assert!(rt; rig.port.is_away());
+    assert!(rt; rig.port.core().is_none());
+    assert!(rt; rig.port.take_core().is_none());
+    assert!(rt; !rig.port.is_running());
+    assert!(rt; matches!(core.take(&rig.code), Taken::Retired(_)));
+    rig.port.put_core(core);
+    assert!(rt; !rig.port.is_away());
+    assert!(rt; rig.port.is_running());
+    assert_eq!(rt; rig.core(&rt).pc(), 0x0001_0004);
+    assert_eq!(rt; rig.core(&rt).registers()[3], 0x8000_000F);
     Ok(())
 }
