@@ -13,9 +13,9 @@ use flat_machine::Poke;
 use machine_runs::{Machine, drain_step, machine_is_sound};
 use steps::{Outcome, Step};
 
-/// Takes a step, and enters it unless it stalls. There is room for it.
+/// Takes a step, and enters it in a list unless it stalls. There is room for it.
 #[inline(always)]
-pub(crate) fn enter(machine: &mut Machine, steps: &mut Vec<Step>, step: Step) -> Outcome
+pub fn enter(machine: &mut Machine, steps: &mut Vec<Step>, step: Step) -> Outcome
     requires room { length steps.old.items < vec_capacity steps.old }
     ensures step { IsStep machine.old step result machine.new }
     ensures answer { result ≡ outcome_of machine.old.config machine.old.code (machine_of machine.old (λ p. [])) step }

@@ -11,7 +11,7 @@ pub loop-p-preserved : goal.loop-p-preserved
 loop-p-preserved c =
     let core : ℕ → CoreState = λ q. (port_at c.args.machine.now.ports q).core in
     let is : c.in-Some.core.now ≡ core c.loop-p.p =
-    picked (is_there c.args.machine.now c.loop-p.p) c.in-Some.core.now (core c.loop-p.p) c.in-Some.ensures in
+    picked (is_there c.args.machine.now c.loop-p.p) c.in-Some.core.now (core c.loop-p.p) c.in-Some.ensures.value in
     c.in_ok-push-in-Some.ensures.items
     ∙ (ap (λ xs. xs ++ c.in_ok-copy-in-Some.field-0 ∷ []) c.loop-p.invariant
     ∙ (ap (λ x. map core (range_with_len 0 c.loop-p.p) ++ x ∷ []) (c.in_ok-copy-in-Some.ensures ∙ is)

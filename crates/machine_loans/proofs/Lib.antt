@@ -1,0 +1,4 @@
+pub mod Backing
+pub mod Noticing
+pub mod Stepping
+pub mod Lemmas

@@ -1,0 +1,149 @@
+//! A log that lends cores.
+
+ghost use Rattle.std.specs.Prelude.{◌≡◌, ◌≢◌, ◌≤◌, ◌<◌, ◌+◌, ◌^◌, ◌↔◌, ◌++◌, ℕ, [], ◌∷◌, true, false, length, Some, None, Err, IfOk, IfErr, OnOk, OnErr};
+ghost use Rattle.std.specs.Prelude.{replicate, slice_set};
+ghost use Rattle.std.specs.Arc.{arc_value};
+ghost use Rattle.machine.specs.machine_program.Processors.{port_at, setting_of};
+ghost use Rattle.machine.specs.Machines.{AreHome, IsMachine};
+ghost use Rattle.machine_log.specs.machine_runs.Runs.{answer_after, IsReplay};
+ghost use Rattle.machine_log.specs.Logs.{HasTaken, IsKept};
+ghost use Rattle.loan_theory.specs.Loans.{IsOfOthers};
+ghost use Rattle.machine_loans.specs.Lendings.{LentCore, lent_at, may_lend, promised};
+
+use hart::Core;
+use loan_theory::others_do_not_notice;
+use machine::Machine;
+use machine_log::{LogRefusal, Logged, enter};
+use std::alloc::Global;
+use std::marker::Model;
+use std::snapshot::Snapshot;
+use steps::{MAX_STEPS, Outcome, Step};
+use thiserror::Error;
+
+/// Why a core was not lent. Nothing is changed then.
+#[derive(Clone, Copy, Debug, PartialEq, Eq, Drop, Error)]
+pub enum LendRefusal {
+    /// There was no memory for the records of the loan, or for the places that it is promised.
+    #[error("L1")]
+    Memory,
+    /// The log would pass [`steps::MAX_STEPS`] steps with the places that are promised.
+    #[error("L2")]
+    Full,
+    /// The processor has a reference open, does not run, or its core is lent.
+    #[error("L4")]
+    NotFree,
+}
+
+/// A core that is away, as it was lent, and how many instructions it may take.
+#[derive(Drop)]
+pub struct Lent {
+    core: Core,
+    most: u32,
+}
+
+impl Model for Lent {
+    ghost use Rattle.machine_loans.specs.Lendings.{LentCore};
+
+    ghost Value = { LentCore };
+
+    ghost view = { λ l. record { core = l.core; most = l.most } };
+}
+
+/// A machine with the log of its steps, some of whose cores may be away. Contracts see the log as it is with
+/// each of these back, as it was lent.
+#[derive(Drop)]
+pub struct Lending {
+    machine: Machine,
+    steps: Vec<Step>,
+    opening: Snapshot<Machine>,
+    lent: Vec<Option<Lent>>,
+    promises: usize,
+}
+
+impl Model for Lending {
+    ghost use Rattle.std.specs.Prelude.{◌≡◌};
+    ghost use Rattle.std.specs.Vec.{vec_capacity};
+    ghost use Rattle.machine_loans.specs.Lendings.{LendingLog, IsLending, promised, whole};
+
+    ghost Value = { LendingLog };
+
+    ghost view = { λ l. record {
+      log = record { opening = l.opening.value; steps = l.steps.items; machine = whole l.machine l.lent.items };
+      lent = l.lent.items;
+    } };
+
+    ghost invariant = { λ l. IsLending l.opening.value l.machine l.steps.items (vec_capacity l.steps) l.lent.items × (l.promises ≡ promised l.lent.items) };
+}
+
+impl Lending {
+    /// A log none of whose cores is lent. Where there is no memory, the log is handed back as it was.
+    pub fn new(alloc: Global, logged: Logged) -> Result<Self, Logged>
+        ensures lending { IfOk result (λ l. l ≡ record { log = logged; lent = replicate (2 ^ logged.machine.config.k) None }) }
+        ensures refused { IfErr result (λ l. l ≡ logged) }
+    {
+        let count = logged.machine().config().processors();
+        let mut lent = Vec::new(alloc);
+        if lent.reserve(usize::from(count)).is_err() {
+            return Err(logged);
+        }
+        for _ in 0..count {
+            lent.push_reserved(None);
+        }
+        let (machine, steps, opening) = logged.into_parts();
+        Ok(Lending {
+            machine,
+            steps,
+            opening,
+            lent,
+            promises: 0,
+        })
+    }
+
+    /// The machine, without the cores that are away.
+    pub fn machine(&self) -> &Machine
+        ensures { result.now.config ≡ self.now.log.machine.config }
+    {
+        &self.machine
+    }
+
+    /// The steps that the machine has taken, in order. None of them stalled.
+    pub fn steps(&self) -> &[Step]
+        ensures { result.now ≡ self.now.log.steps }
+    {
+        self.steps.as_slice()
+    }
+
+    /// Takes a step, and enters it unless it stalled. It is neither a turn of a processor whose core is lent nor,
+    /// where one is, a write from outside.
+    ///
+    /// # Errors
+    ///
+    /// [`LogRefusal::Full`] where the log would pass [`MAX_STEPS`] steps with this one and those that are
+    /// promised, else [`LogRefusal::Memory`] where there is no memory. Each leaves all as it was.
+    pub fn step(&mut self, step: Step) -> Result<Outcome, LogRefusal>
+        requires others { (p : ℕ) (l : LentCore) → lent_at self.old.lent p ≡ Some l → IsOfOthers p step }
+        ensures taken { IfOk result (λ o. HasTaken self.old.log step o self.new.log) }
+        ensures answer { IfOk result (λ o. o ≡ answer_after self.old.log.opening self.old.log.steps step) }
+        ensures lent { self.new.lent ≡ self.old.lent }
+        ensures full { (result ≡ Err LogRefusal.Full) ↔ (4194304 ≤ length self.old.log.steps + promised self.old.lent) }
+        ensures named { result ≡ Err LogRefusal.Unnamed → ⊥ }
+        ensures refused { OnErr result (self.new ≡ self.old) }
+    {
+        others_do_not_notice();
+        if self.steps.len() + self.promises >= MAX_STEPS {
+            return Err(LogRefusal::Full);
+        }
+        match self.steps.reserve(self.promises + 1) {
+            Ok(()) => Ok(enter(&mut self.machine, &mut self.steps, step)),
+            Err(_) => Err(LogRefusal::Memory),
+        }
+    }
+}
+
+/// What holds of every log that lends: each proof about one may cite it, at the cost of nothing.
+pub fn lending_is_kept(lending: &Lending)
+    ensures kept { IsKept lending.now.log }
+    ensures room { length lending.now.log.steps + promised lending.now.lent ≤ 4194304 }
+{
+    let _ = &lending.steps;
+}
