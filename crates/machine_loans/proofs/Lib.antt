@@ -1,4 +1,5 @@
 pub mod Backing
 pub mod Noticing
 pub mod Stepping
+pub mod Changing
 pub mod Lemmas

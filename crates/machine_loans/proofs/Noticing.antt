@@ -21,7 +21,8 @@ use Rattle.machine.specs.machine_program.Steps.{after, machine_of_parts, outcome
 use Rattle.machine.specs.Machines.{MachineLists, IsStep, away_at}
 use Rattle.loan_theory.specs.Laws.{OthersDoNotNotice}
 use Rattle.loan_theory.specs.Loans.{IsOfOthers, with_core, with_cores}
-use Rattle.machine_loans.specs.Lendings.{LentCore, all_back, lent_at, whole, with_lent}
+use Rattle.machine_loans.specs.Lendings.{all_back, lent_at, whole, with_lent}
+use Rattle.machine_loans.specs.declared.lent.Lent.{Lent}
 use Rattle.machine_loans.proofs.Backing.{back_at}
 
 -- ---- cores that are put in
@@ -33,13 +34,13 @@ cores_alone M [] = refl
 cores_alone M ((p, core) ∷ more) =
     ap (λ (N : theory.Machine Told). record { net = N.net; mem = N.mem; core = put (with_cores M more).core p core; is_open = N.is_open }) (cores_alone M more)
 
-module _ (lent : List (Option LentCore)) (shown : ℕ → List Event) where
+module _ (lent : List (Option Lent)) (shown : ℕ → List Event) where
   -- a lent core, whose processor has shown these events
-  abbrev told_lent : ℕ → LentCore → Told
+  abbrev told_lent : ℕ → Lent → Told
   told_lent p l = record { state = l.core.state; events = shown p }
 
   -- in front of others, if it is lent
-  abbrev behind : ℕ → Option LentCore → List (ℕ × Told) → List (ℕ × Told)
+  abbrev behind : ℕ → Option Lent → List (ℕ × Told) → List (ℕ × Told)
   behind p None cores = cores
   behind p (Some l) cores = (p, told_lent p l) ∷ cores
 
@@ -49,17 +50,17 @@ module _ (lent : List (Option LentCore)) (shown : ℕ → List Event) where
   cores_of (suc n) = behind n (lent_at lent n) (cores_of n)
 
   -- what stands at p: the lent core, if there is one
-  abbrev standing : Told → ℕ → Option LentCore → Told
+  abbrev standing : Told → ℕ → Option Lent → Told
   standing g p None = g
   standing g p (Some l) = told_lent p l
 
   module _ (M : theory.Machine Told) where
-    behind_here : (p : ℕ) (l : Option LentCore) (cores : List (ℕ × Told)) →
+    behind_here : (p : ℕ) (l : Option Lent) (cores : List (ℕ × Told)) →
         (with_cores M (behind p l cores)).core p ≡ standing ((with_cores M cores).core p) p l
     behind_here p None cores = refl
     behind_here p (Some l) cores = put_same (with_cores M cores).core p (told_lent p l)
 
-    behind_there : (p q : ℕ) (l : Option LentCore) (cores : List (ℕ × Told)) → q ≢ p →
+    behind_there : (p q : ℕ) (l : Option Lent) (cores : List (ℕ × Told)) → q ≢ p →
         (with_cores M (behind p l cores)).core q ≡ (with_cores M cores).core q
     behind_there p q None cores apart = refl
     behind_there p q (Some l) cores apart = put_other (with_cores M cores).core p (told_lent p l) q apart
@@ -88,12 +89,12 @@ module _ (lent : List (Option LentCore)) (shown : ℕ → List Event) where
 
 -- ---- the machine with all cores back
 
-module _ (c : Config) (net : Net) (ports : List PortState) (modules : List (List ℕ)) (lent : List (Option LentCore)) (same : length lent ≡ length ports)
+module _ (c : Config) (net : Net) (ports : List PortState) (modules : List (List ℕ)) (lent : List (Option Lent)) (same : length lent ≡ length ports)
     (shown : ℕ → List Event) where
   abbrev M : theory.Machine Told
   M = machine_of_parts c net ports modules shown
 
-  core_is : (q : ℕ) (l : Option LentCore) → lent_at lent q ≡ l →
+  core_is : (q : ℕ) (l : Option Lent) → lent_at lent q ≡ l →
       told_at (all_back ports lent) shown q ≡ standing lent shown (told_at ports shown q) q l
   core_is q None e = ap (λ (port : PortState). record { state = port.core.state; events = shown q }) (back_at ports lent q same ∙ ap (with_lent (port_at ports q)) e)
   core_is q (Some l) e =
@@ -107,7 +108,7 @@ module _ (c : Config) (net : Net) (ports : List PortState) (modules : List (List
       at (inl within) = core_is q (lent_at lent q) refl ∙ sym (first_stand lent shown M (length lent) q within)
       at (inr past) = core_is q None (past_end lent q None past) ∙ sym (later_stand lent shown M (length lent) q past)
 
-  open_is : (q : ℕ) (l : Option LentCore) → (with_lent (port_at ports q) l).is_open ≡ open_at ports q
+  open_is : (q : ℕ) (l : Option Lent) → (with_lent (port_at ports q) l).is_open ≡ open_at ports q
   open_is q None = refl
   open_is q (Some l) = refl
 
@@ -121,10 +122,10 @@ module _ (c : Config) (net : Net) (ports : List PortState) (modules : List (List
 -- ---- a step
 
 -- the step is of none whose core is lent
-abbrev pub OfOthers : List (Option LentCore) → Step → Type 0
-OfOthers lent s = (p : ℕ) (l : LentCore) → lent_at lent p ≡ Some l → IsOfOthers p s
+abbrev pub OfOthers : List (Option Lent) → Step → Type 0
+OfOthers lent s = (p : ℕ) (l : Lent) → lent_at lent p ≡ Some l → IsOfOthers p s
 
-module _ (laws : OthersDoNotNotice) (c : Config) (code : List ℕ) (M : theory.Machine Told) (lent : List (Option LentCore)) (shown : ℕ → List Event)
+module _ (laws : OthersDoNotNotice) (c : Config) (code : List ℕ) (M : theory.Machine Told) (lent : List (Option Lent)) (shown : ℕ → List Event)
     (s : Step) (others : OfOthers lent s) where
   abbrev Unnoticed : List (ℕ × Told) → Type 0
   Unnoticed cores =
@@ -135,7 +136,7 @@ module _ (laws : OthersDoNotNotice) (c : Config) (code : List ℕ) (M : theory.M
   unnoticed zero = (refl, refl)
   unnoticed (suc n) = at (lent_at lent n) refl (unnoticed n)
     where
-      at : (l : Option LentCore) → lent_at lent n ≡ l → Unnoticed (cores_of lent shown n) → Unnoticed (behind lent shown n l (cores_of lent shown n))
+      at : (l : Option Lent) → lent_at lent n ≡ l → Unnoticed (cores_of lent shown n) → Unnoticed (behind lent shown n l (cores_of lent shown n))
       at None e h = h
       at (Some l) e h =
           let core = told_lent lent shown n l in
@@ -143,13 +144,13 @@ module _ (laws : OthersDoNotNotice) (c : Config) (code : List ℕ) (M : theory.M
           (one.0 ∙ h.0, one.1 ∙ ap (λ N. with_core N n core) h.1)
 
 -- what other processors have shown does not count
-shown_alike : (lent : List (Option LentCore)) (shown shown' : ℕ → List Event) → ((p : ℕ) (l : LentCore) → lent_at lent p ≡ Some l → shown' p ≡ shown p) →
+shown_alike : (lent : List (Option Lent)) (shown shown' : ℕ → List Event) → ((p : ℕ) (l : Lent) → lent_at lent p ≡ Some l → shown' p ≡ shown p) →
     (n : ℕ) → cores_of lent shown' n ≡ cores_of lent shown n
 unfolding cores_of
 shown_alike lent shown shown' same zero = refl
 shown_alike lent shown shown' same (suc n) = at (lent_at lent n) refl (shown_alike lent shown shown' same n)
   where
-    at : (l : Option LentCore) → lent_at lent n ≡ l → cores_of lent shown' n ≡ cores_of lent shown n →
+    at : (l : Option Lent) → lent_at lent n ≡ l → cores_of lent shown' n ≡ cores_of lent shown n →
         behind lent shown' n l (cores_of lent shown' n) ≡ behind lent shown n l (cores_of lent shown n)
     at None e h = h
     at (Some l) e h = ap₂ (λ es (cores : List (ℕ × Told)). (n, record { state = l.core.state; events = es }) ∷ cores) (same n l e) h
@@ -171,7 +172,7 @@ shown_so p shown (step.Down t w) o apart = refl
 shown_so p shown (step.Poke poke) o apart = absurd apart
 
 module _ (laws : OthersDoNotNotice) (c : Config) (code : List ℕ) (net net' : Net) (ports ports' : List PortState) (modules modules' : List (List ℕ))
-    (lent : List (Option LentCore)) (same : length lent ≡ length ports) (same' : length lent ≡ length ports') (s : Step) (o : Outcome)
+    (lent : List (Option Lent)) (same : length lent ≡ length ports) (same' : length lent ≡ length ports') (s : Step) (o : Outcome)
     (others : OfOthers lent s) where
   before : (ℕ → List Event) → theory.Machine Told
   before shown = machine_of_parts c net ports modules shown
@@ -195,9 +196,9 @@ module _ (laws : OthersDoNotNotice) (c : Config) (code : List ℕ) (net net' : N
         ∙ ap (λ W. after c code W s) (sym (back_is c net ports modules lent same shown));
   }
 
-module _ (laws : OthersDoNotNotice) (m m' : MachineLists) (lent : List (Option LentCore)) (same : length lent ≡ length m.ports)
+module _ (laws : OthersDoNotNotice) (m m' : MachineLists) (lent : List (Option Lent)) (same : length lent ≡ length m.ports)
     (same' : length lent ≡ length m'.ports) (s : Step) (o : Outcome) (others : OfOthers lent s) where
-  away_is : (x : PortState) (l : Option LentCore) (x' : PortState) → is_away x'.core.state ≡ is_away x.core.state →
+  away_is : (x : PortState) (l : Option Lent) (x' : PortState) → is_away x'.core.state ≡ is_away x.core.state →
       is_away (with_lent x' l).core.state ≡ is_away (with_lent x l).core.state
   away_is x None x' stays = stays
   away_is x (Some l) x' stays = refl

@@ -19,15 +19,16 @@ use Rattle.machine_log.specs.Logs.{HasTaken, IsEntered, IsKept, entered}
 use Rattle.machine_log.proofs.Lemmas.{entered_one, kept_after}
 use Rattle.machine_log.proofs.Lemmas.machine_runs.{outcome_there}
 use Rattle.loan_theory.specs.Laws.{OthersDoNotNotice}
-use Rattle.machine_loans.specs.Lendings.{LentCore, IsLending, IsLent, all_back, lent_at, promised, whole, with_lent}
+use Rattle.machine_loans.specs.Lendings.{IsLending, IsLent, all_back, lent_at, promised, whole, with_lent}
+use Rattle.machine_loans.specs.declared.lent.Lent.{Lent}
 use Rattle.machine_loans.proofs.Backing.{back_at, back_length, back_none, none_promised, replicate_none}
 use Rattle.machine_loans.proofs.Noticing.{OfOthers, step_back}
 
 -- the ports with all cores back
-module _ (c : Config) (ports : List PortState) (are : ArePorts c ports) (lent : List (Option LentCore)) (all : length lent ≡ length ports)
-    (setting : (p : ℕ) (l : LentCore) → lent_at lent p ≡ Some l → l.core.setting ≡ setting_of c p)
-    (words : (p : ℕ) (l : LentCore) → lent_at lent p ≡ Some l → HasWords l.core.state)
-    (home : (p : ℕ) (l : LentCore) → lent_at lent p ≡ Some l → is_away l.core.state ≡ false) where
+module _ (c : Config) (ports : List PortState) (are : ArePorts c ports) (lent : List (Option Lent)) (all : length lent ≡ length ports)
+    (setting : (p : ℕ) (l : Lent) → lent_at lent p ≡ Some l → l.core.setting ≡ setting_of c p)
+    (words : (p : ℕ) (l : Lent) → lent_at lent p ≡ Some l → HasWords l.core.state)
+    (home : (p : ℕ) (l : Lent) → lent_at lent p ≡ Some l → is_away l.core.state ≡ false) where
   back : (P : PortState → Type 0) (p : ℕ) → P (with_lent (port_at ports p) (lent_at lent p)) → P (port_at (all_back ports lent) p)
   back P p = subst P (sym (back_at ports lent p all))
 
@@ -39,15 +40,15 @@ module _ (c : Config) (ports : List PortState) (are : ArePorts c ports) (lent : 
     rest = λ p. back (λ x. is_away x.core.state ≡ true → x.core.state ≡ no_processor) p (rest_at p (lent_at lent p) refl);
   }
     where
-      setting_at : (p : ℕ) → p < 2 ^ c.k → (l : Option LentCore) → lent_at lent p ≡ l → (with_lent (port_at ports p) l).core.setting ≡ setting_of c p
+      setting_at : (p : ℕ) → p < 2 ^ c.k → (l : Option Lent) → lent_at lent p ≡ l → (with_lent (port_at ports p) l).core.setting ≡ setting_of c p
       setting_at p within None e = are.settings p within
       setting_at p within (Some l) e = setting p l e
 
-      words_at : (p : ℕ) (l : Option LentCore) → lent_at lent p ≡ l → HasWords (with_lent (port_at ports p) l).core.state
+      words_at : (p : ℕ) (l : Option Lent) → lent_at lent p ≡ l → HasWords (with_lent (port_at ports p) l).core.state
       words_at p None e = are.words p
       words_at p (Some l) e = words p l e
 
-      rest_at : (p : ℕ) (l : Option LentCore) → lent_at lent p ≡ l → is_away (with_lent (port_at ports p) l).core.state ≡ true →
+      rest_at : (p : ℕ) (l : Option Lent) → lent_at lent p ≡ l → is_away (with_lent (port_at ports p) l).core.state ≡ true →
           (with_lent (port_at ports p) l).core.state ≡ no_processor
       rest_at p None e = are.rest p
       rest_at p (Some l) e = λ away. absurd (true≢false (sym away ∙ home p l e))
@@ -58,7 +59,7 @@ whole_none m n = ap (λ ports. record m { ports = ports }) (back_none m.ports (r
 
 -- ---- a step
 
-module _ (laws : OthersDoNotNotice) (opening m m' : MachineLists) (steps : List Step) (capacity : ℕ) (lent : List (Option LentCore))
+module _ (laws : OthersDoNotNotice) (opening m m' : MachineLists) (steps : List Step) (capacity : ℕ) (lent : List (Option Lent))
     (is : IsLending opening m steps capacity lent) (s : Step) (o : Outcome) (others : OfOthers lent s) (st : IsStep m s o m') (sound' : IsMachine m') where
   same : length lent ≡ length m.ports
   same = is.all ∙ sym is.sound.ports.all
@@ -66,7 +67,7 @@ module _ (laws : OthersDoNotNotice) (opening m m' : MachineLists) (steps : List 
   same' : length lent ≡ length m'.ports
   same' = is.all ∙ ap (λ (c : Config). 2 ^ c.k) (sym st.config) ∙ sym sound'.ports.all
 
-  still : (p : ℕ) (l : LentCore) → lent_at lent p ≡ Some l → IsLent m' p l
+  still : (p : ℕ) (l : Lent) → lent_at lent p ≡ Some l → IsLent m' p l
   still p l e =
       let lent = is.away p l e in
       record {

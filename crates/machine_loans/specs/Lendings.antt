@@ -2,40 +2,35 @@
 use Rattle.std.specs.Prelude.{◌≡◌, ℕ, ◌+◌, ◌-◌, ◌^◌, ◌≤◌, Bool, true, false, not, ◌&&◌, nat_lt, is_some, List, [], ◌∷◌, length, Option, Some, None, slice_index_or}
 use Rattle.flat_machine.specs.State.{is_running}
 use Rattle.flat_machine.specs.Laws.{HasWords}
-use Rattle.hart.specs.State.{CoreState}
 use Rattle.steps.specs.declared.step.Step.{Step}
 use Rattle.machine.specs.machine_ports.Ports.{PortState, is_away}
 use Rattle.machine.specs.machine_program.Processors.{open_at, port_at, setting_of}
 use Rattle.machine.specs.Machines.{MachineLists, IsMachine, away_at}
 use Rattle.machine_log.specs.Logs.{Log, IsKept}
-
--- What is known of a core that is away: how it was lent, and for how many instructions at most.
-pub record LentCore : Type 0 where
-  pub core : CoreState
-  pub most : ℕ
+use Rattle.machine_loans.specs.declared.lent.Lent.{Lent}
 
 -- what is known of the core of processor p; None where it is not away
-abbrev pub lent_at : List (Option LentCore) → (p : ℕ) → Option LentCore
+abbrev pub lent_at : List (Option Lent) → (p : ℕ) → Option Lent
 lent_at lent p = slice_index_or lent p None
 
 -- ---- the machine with all cores back
 
 -- a port with its core back, as it was lent
-abbrev pub with_lent : PortState → Option LentCore → PortState
+abbrev pub with_lent : PortState → Option Lent → PortState
 with_lent port None = port
 with_lent port (Some l) = record port { core = l.core }
 
-unfoldable pub all_back : List PortState → List (Option LentCore) → List PortState
+unfoldable pub all_back : List PortState → List (Option Lent) → List PortState
 all_back [] lent = []
 all_back (port ∷ ports) [] = port ∷ ports
 all_back (port ∷ ports) (l ∷ lent) = with_lent port l ∷ all_back ports lent
 
 -- the machine with each core back that is away, as it was lent
-abbrev pub whole : MachineLists → List (Option LentCore) → MachineLists
+abbrev pub whole : MachineLists → List (Option Lent) → MachineLists
 whole m lent = record m { ports = all_back m.ports lent }
 
 -- how many steps are promised to the cores that are away
-unfoldable pub promised : List (Option LentCore) → ℕ
+unfoldable pub promised : List (Option Lent) → ℕ
 promised [] = 0
 promised (None ∷ lent) = promised lent
 promised (Some l ∷ lent) = l.most + promised lent
@@ -43,12 +38,12 @@ promised (Some l ∷ lent) = l.most + promised lent
 pub record LendingLog : Type 0 where
   -- as it is with each core back that is away, as it was lent
   pub log : Log
-  pub lent : List (Option LentCore)
+  pub lent : List (Option Lent)
 
 -- ---- what always holds
 
 -- The core of processor p is away, and can be put back as it was lent.
-pub record IsLent (m : MachineLists) (p : ℕ) (l : LentCore) : Type 0 where
+pub record IsLent (m : MachineLists) (p : ℕ) (l : Lent) : Type 0 where
   pub away : away_at m p ≡ true
   pub setting : l.core.setting ≡ setting_of m.config p
   pub words : HasWords l.core.state
@@ -56,11 +51,11 @@ pub record IsLent (m : MachineLists) (p : ℕ) (l : LentCore) : Type 0 where
 
 -- The log is kept, as if no core were away; the cores that are away are those that are known; and there is room for the steps
 -- that are promised.
-pub record IsLending (opening m : MachineLists) (steps : List Step) (capacity : ℕ) (lent : List (Option LentCore)) : Type 0 where
+pub record IsLending (opening m : MachineLists) (steps : List Step) (capacity : ℕ) (lent : List (Option Lent)) : Type 0 where
   pub sound : IsMachine m
   pub kept : IsKept (record { opening = opening; steps = steps; machine = whole m lent })
   pub all : length lent ≡ 2 ^ m.config.k
-  pub away : (p : ℕ) (l : LentCore) → lent_at lent p ≡ Some l → IsLent m p l
+  pub away : (p : ℕ) (l : Lent) → lent_at lent p ≡ Some l → IsLent m p l
   pub places : promised lent ≤ capacity - length steps
   pub room : length steps + promised lent ≤ 4194304
 

@@ -8,11 +8,13 @@ ghost use Rattle.machine.specs.Machines.{AreHome, IsMachine};
 ghost use Rattle.machine_log.specs.machine_runs.Runs.{answer_after, IsReplay};
 ghost use Rattle.machine_log.specs.Logs.{HasTaken, IsKept};
 ghost use Rattle.loan_theory.specs.Loans.{IsOfOthers};
-ghost use Rattle.machine_loans.specs.Lendings.{LentCore, lent_at, may_lend, promised};
+ghost use Rattle.machine_loans.specs.Lendings.{lent_at, may_lend, promised};
+ghost use Rattle.machine_loans.specs.declared.lent.Lent.{Lent};
 
+use crate::lent::Lent;
 use hart::Core;
 use loan_theory::others_do_not_notice;
-use machine::Machine;
+use machine::{Machine, machine_is_sound};
 use machine_log::{LogRefusal, Logged, enter};
 use std::alloc::Global;
 use std::marker::Model;
@@ -32,21 +34,6 @@ pub enum LendRefusal {
     /// The processor has a reference open, does not run, or its core is lent.
     #[error("L4")]
     NotFree,
-}
-
-/// A core that is away, as it was lent, and how many instructions it may take.
-#[derive(Drop)]
-pub struct Lent {
-    core: Core,
-    most: u32,
-}
-
-impl Model for Lent {
-    ghost use Rattle.machine_loans.specs.Lendings.{LentCore};
-
-    ghost Value = { LentCore };
-
-    ghost view = { λ l. record { core = l.core; most = l.most } };
 }
 
 /// A machine with the log of its steps, some of whose cores may be away. Contracts see the log as it is with
@@ -121,7 +108,7 @@ impl Lending {
     /// [`LogRefusal::Full`] where the log would pass [`MAX_STEPS`] steps with this one and those that are
     /// promised, else [`LogRefusal::Memory`] where there is no memory. Each leaves all as it was.
     pub fn step(&mut self, step: Step) -> Result<Outcome, LogRefusal>
-        requires others { (p : ℕ) (l : LentCore) → lent_at self.old.lent p ≡ Some l → IsOfOthers p step }
+        requires others { (p : ℕ) (l : Lent) → lent_at self.old.lent p ≡ Some l → IsOfOthers p step }
         ensures taken { IfOk result (λ o. HasTaken self.old.log step o self.new.log) }
         ensures answer { IfOk result (λ o. o ≡ answer_after self.old.log.opening self.old.log.steps step) }
         ensures lent { self.new.lent ≡ self.old.lent }
@@ -137,6 +124,37 @@ impl Lending {
             Ok(()) => Ok(enter(&mut self.machine, &mut self.steps, step)),
             Err(_) => Err(LogRefusal::Memory),
         }
+    }
+}
+
+impl Lending {
+    /// The log, once each core is back that was away, as it was lent.
+    pub fn into_logged(mut self) -> Logged
+        ensures { result ≡ self.log }
+    {
+        for p in 0..self.machine.config().processors() {
+            self.bring_back(p);
+        }
+        let Lending {
+            machine,
+            steps,
+            opening,
+            ..
+        } = self;
+        Logged::of_parts(machine, steps, opening)
+    }
+
+    /// Puts the core of a processor back as it was lent, if it is away.
+    fn bring_back(&mut self, p: u8)
+        requires there { p < 2 ^ self.old.log.machine.config.k }
+        ensures { self.new ≡ record self.old { lent = slice_set self.old.lent p None } }
+    {
+        let Some(Lent { core, most }) = self.lent[usize::from(p)].take() else {
+            return;
+        };
+        self.machine.put_core(p, core);
+        machine_is_sound(&self.machine);
+        self.promises -= most as usize;
     }
 }
 

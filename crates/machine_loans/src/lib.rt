@@ -10,5 +10,7 @@
 #![tactic(auto)]
 
 mod lending;
+mod lent;
 
 pub use lending::{LendRefusal, Lending, lending_is_kept};
+pub use lent::Lent;

@@ -4,7 +4,8 @@ use Rattle.machine_log.specs.machine_runs.Runs.{answer_after}
 use Rattle.machine_log.specs.Logs.{HasTaken, entered}
 use Rattle.machine_log.proofs.Lemmas.{entered_length}
 use Rattle.loan_theory.specs.Loans.{IsOfOthers}
-use Rattle.machine_loans.specs.Lendings.{LendingLog, LentCore, lent_at, whole}
+use Rattle.machine_loans.specs.Lendings.{LendingLog, lent_at, whole}
+use Rattle.machine_loans.specs.declared.lent.Lent.{Lent}
 use Rattle.machine_loans.proofs.Stepping.{answer_there, lends_on, taken_there}
 use Rattle.machine_loans.proofs.lending.Lending.step.Goals as goal
 
@@ -14,7 +15,7 @@ invariant_of-self c =
     let e = c.enter.ensures in
     let entered_in = e.steps ∙ ap (λ xs. entered xs c.args.step c.enter.result) c.reserve.ensures.items in
     let steps = l.steps.items in
-    let others = subst (λ (l : LendingLog). (p : ℕ) (k : LentCore) → lent_at l.lent p ≡ Some k → IsOfOthers p c.args.step) (sym c.self.view_is) c.requires.others in
+    let others = subst (λ (l : LendingLog). (p : ℕ) (k : Lent) → lent_at l.lent p ≡ Some k → IsOfOthers p c.args.step) (sym c.self.view_is) c.requires.others in
     let is = c.self.invariant.0 in
     let room = is.room in
     let promises = c.self.invariant.1 in
@@ -31,7 +32,7 @@ returns-in-Ok-clause-taken c =
     let l = c.self.inside in
     let e = c.enter.ensures in
     let entered_in = e.steps ∙ ap (λ xs. entered xs c.args.step c.enter.result) c.reserve.ensures.items in
-    let others = subst (λ (l : LendingLog). (p : ℕ) (k : LentCore) → lent_at l.lent p ≡ Some k → IsOfOthers p c.args.step) (sym c.self.view_is) c.requires.others in
+    let others = subst (λ (l : LendingLog). (p : ℕ) (k : Lent) → lent_at l.lent p ≡ Some k → IsOfOthers p c.args.step) (sym c.self.view_is) c.requires.others in
     subst (λ (x : LendingLog). HasTaken x.log c.args.step c.enter.result
     (record { opening = l.opening.value; steps = c.enter.new.steps.items; machine = whole c.enter.new.machine l.lent.items })) c.self.view_is
     (taken_there c.others_do_not_notice.ensures.step l.opening.value l.machine c.enter.new.machine l.steps.items (vec_capacity l.steps) l.lent.items c.self.invariant.0 c.args.step
@@ -42,7 +43,7 @@ returns-in-Ok-clause-answer c =
     let l = c.self.inside in
     let e = c.enter.ensures in
     let entered_in = e.steps ∙ ap (λ xs. entered xs c.args.step c.enter.result) c.reserve.ensures.items in
-    let others = subst (λ (l : LendingLog). (p : ℕ) (k : LentCore) → lent_at l.lent p ≡ Some k → IsOfOthers p c.args.step) (sym c.self.view_is) c.requires.others in
+    let others = subst (λ (l : LendingLog). (p : ℕ) (k : Lent) → lent_at l.lent p ≡ Some k → IsOfOthers p c.args.step) (sym c.self.view_is) c.requires.others in
     subst (λ (x : LendingLog). c.enter.result ≡ answer_after x.log.opening x.log.steps c.args.step) c.self.view_is
     (answer_there c.others_do_not_notice.ensures.step l.opening.value l.machine c.enter.new.machine l.steps.items (vec_capacity l.steps) l.lent.items c.self.invariant.0 c.args.step
     c.enter.result others e.step e.entered.sound)
