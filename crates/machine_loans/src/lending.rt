@@ -4,7 +4,7 @@ ghost use Rattle.std.specs.Prelude.{◌≡◌, ◌≢◌, ◌≤◌, ◌<◌, �
 ghost use Rattle.std.specs.Prelude.{replicate, slice_set};
 ghost use Rattle.std.specs.Arc.{arc_value};
 ghost use Rattle.machine.specs.machine_program.Processors.{port_at, setting_of};
-ghost use Rattle.machine.specs.Machines.{AreHome, IsMachine};
+ghost use Rattle.machine.specs.Machines.{is_free, without_core_at};
 ghost use Rattle.machine_log.specs.machine_runs.Runs.{answer_after, IsReplay};
 ghost use Rattle.machine_log.specs.Logs.{HasTaken, IsKept};
 ghost use Rattle.loan_theory.specs.Loans.{IsOfOthers};
@@ -12,11 +12,12 @@ ghost use Rattle.machine_loans.specs.Lendings.{lent_at, may_lend, promised};
 ghost use Rattle.machine_loans.specs.declared.lent.Lent.{Lent};
 
 use crate::lent::Lent;
+use flat_machine::Status;
 use hart::Core;
 use loan_theory::others_do_not_notice;
 use machine::{Machine, machine_is_sound};
 use machine_log::{LogRefusal, Logged, enter};
-use std::alloc::Global;
+use std::alloc::{AllocError, Global};
 use std::marker::Model;
 use std::snapshot::Snapshot;
 use steps::{MAX_STEPS, Outcome, Step};
@@ -128,6 +129,53 @@ impl Lending {
 }
 
 impl Lending {
+    /// Whether the core of a processor can be lent: the machine has the processor, which runs and has no
+    /// reference open, and its core is not lent.
+    pub fn may_lend(&self, p: u8) -> bool
+        ensures { result ≡ may_lend self.now p }
+    {
+        is_free(&self.machine, p)
+    }
+
+    /// Lends the core of a processor for so many instructions at most, and promises as many places in the log.
+    /// The record of the loan comes with it; another one is kept.
+    ///
+    /// # Errors
+    ///
+    /// [`LendRefusal::NotFree`] where the machine has no processor of this number, or the processor has a
+    /// reference open, does not run, or its core is lent; else [`LendRefusal::Full`] where the log would pass
+    /// [`MAX_STEPS`] steps with all that are promised; else [`LendRefusal::Memory`] where there is no memory for
+    /// the records or the places. Each leaves all as it was.
+    pub fn lend(&mut self, p: u8, most: u32) -> Result<(Core, Lent), LendRefusal>
+        ensures loan { IfOk result (λ loan. (loan.1 ≡ record { core = (port_at self.old.log.machine.ports p).core; most = most }) × (loan.0 ≡ loan.1.core)) }
+        ensures lent { OnOk result (self.new ≡ record self.old {
+            lent = slice_set self.old.lent p (Some (record { core = (port_at self.old.log.machine.ports p).core; most = most }))
+        }) }
+        ensures free { (result ≡ Err LendRefusal.NotFree) ↔ (may_lend self.old p ≡ false) }
+        ensures full { (result ≡ Err LendRefusal.Full)
+            ↔ ((may_lend self.old p ≡ true) × (4194304 < length self.old.log.steps + (promised self.old.lent + most))) }
+        ensures refused { OnErr result (self.new ≡ self.old) }
+    {
+        if !self.may_lend(p) {
+            return Err(LendRefusal::NotFree);
+        }
+        let promises = self.promises + most as usize;
+        if promises > MAX_STEPS - self.steps.len() {
+            return Err(LendRefusal::Full);
+        }
+        let Ok((kept, given)) = records(&self.machine, p, most) else {
+            return Err(LendRefusal::Memory);
+        };
+        let Ok(()) = self.steps.reserve(promises) else {
+            return Err(LendRefusal::Memory);
+        };
+        let core = taken_out(&mut self.machine, p);
+        machine_is_sound(&self.machine);
+        self.lent[usize::from(p)] = Some(kept);
+        self.promises = promises;
+        Ok((core, given))
+    }
+
     /// The log, once each core is back that was away, as it was lent.
     pub fn into_logged(mut self) -> Logged
         ensures { result ≡ self.log }
@@ -156,6 +204,38 @@ impl Lending {
         machine_is_sound(&self.machine);
         self.promises -= most as usize;
     }
+}
+
+/// Whether a core can be taken out of a machine.
+fn is_free(machine: &Machine, p: u8) -> bool
+    ensures { result ≡ is_free machine.now p }
+{
+    machine.status(p) == Some(Status::Running) && machine.is_open(p) == Some(false)
+}
+
+/// The records of a loan.
+fn records(machine: &Machine, p: u8, most: u32) -> Result<(Lent, Lent), AllocError>
+    requires { is_free machine.now p ≡ true }
+    ensures { IfOk result (λ both. (both.0 ≡ record { core = (port_at machine.now.ports p).core; most = most }) × (both.1 ≡ both.0)) }
+{
+    let Some(core) = machine.core(p) else {
+        unreachable!()
+    };
+    let kept = core.copy()?;
+    let given = core.copy()?;
+    Ok((Lent { core: kept, most }, Lent { core: given, most }))
+}
+
+/// Takes a core out that can be.
+fn taken_out(machine: &mut Machine, p: u8) -> Core
+    requires { is_free machine.old p ≡ true }
+    ensures core { result ≡ (port_at machine.old.ports p).core }
+    ensures away { machine.new ≡ without_core_at machine.old p }
+{
+    let Some(core) = machine.take_core(p) else {
+        unreachable!()
+    };
+    core
 }
 
 /// What holds of every log that lends: each proof about one may cite it, at the cost of nothing.
