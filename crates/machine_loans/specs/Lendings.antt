@@ -1,11 +1,15 @@
 -- A machine with the log of its steps, some of whose cores are away.
-use Rattle.std.specs.Prelude.{◌≡◌, ℕ, ◌+◌, ◌-◌, ◌^◌, ◌≤◌, Bool, true, false, not, ◌&&◌, nat_lt, is_some, List, [], ◌∷◌, length, Option, Some, None, slice_index_or}
+use Rattle.std.specs.Prelude.{◌≡◌, ℕ, ◌+◌, ◌-◌, ◌^◌, ◌≤◌, Bool, true, false, not, ◌&&◌, nat_lt, is_some, List, [], ◌∷◌, ◌++◌, length, Option, Some, None, slice_index_or, slice_set}
+use Rattle.flat_machine.specs.declared.event.Retired.{Retired}
 use Rattle.flat_machine.specs.State.{is_running}
 use Rattle.flat_machine.specs.Laws.{HasWords}
+use Rattle.hart.specs.State.{CoreState}
 use Rattle.steps.specs.declared.step.Step.{Step}
 use Rattle.machine.specs.machine_ports.Ports.{PortState, is_away}
 use Rattle.machine.specs.machine_program.Processors.{open_at, port_at, setting_of}
-use Rattle.machine.specs.Machines.{MachineLists, IsMachine, away_at}
+use Rattle.machine.specs.Machines.{MachineLists, IsMachine, away_at, machine_of, with_core_at}
+use Rattle.machine_log.specs.machine_runs.Runs.{IsReplay}
+use Rattle.loan_theory.specs.Loans.{answers_of, told_of, turns_of}
 use Rattle.machine_log.specs.Logs.{Log, IsKept}
 use Rattle.machine_loans.specs.declared.lent.Lent.{Lent}
 
@@ -65,3 +69,13 @@ pub record IsLending (opening m : MachineLists) (steps : List Step) (capacity : 
 abbrev pub may_lend : LendingLog → (p : ℕ) → Bool
 may_lend l p = nat_lt p (2 ^ l.log.machine.config.k) && (not (is_some (lent_at l.lent p))
     && (is_running (port_at l.log.machine.ports p).core.state.status && not (open_at l.log.machine.ports p)))
+
+-- The core of processor p has come back, as it is after these local instructions since it was lent: a turn was entered for each,
+-- and answers it.
+pub record IsBack (old : LendingLog) (p : ℕ) (core : CoreState) (taken : List Retired) (new : LendingLog) : Type 0 where
+  pub opening : new.log.opening ≡ old.log.opening
+  pub machine : new.log.machine ≡ with_core_at old.log.machine p core
+  pub steps : new.log.steps ≡ old.log.steps ++ turns_of p (length taken)
+  pub replay : IsReplay old.log.machine (turns_of p (length taken)) new.log.machine
+  pub told : answers_of old.log.machine.config old.log.machine.code (machine_of old.log.machine (λ q. [])) (turns_of p (length taken)) ≡ told_of taken
+  pub lent : new.lent ≡ slice_set old.lent p None

@@ -1,22 +1,25 @@
 //! A log that lends cores.
 
-ghost use Rattle.std.specs.Prelude.{◌≡◌, ◌≢◌, ◌≤◌, ◌<◌, ◌+◌, ◌^◌, ◌↔◌, ◌++◌, ℕ, [], ◌∷◌, true, false, length, Some, None, Err, IfOk, IfErr, OnOk, OnErr};
+ghost use Rattle.std.specs.Prelude.{◌≡◌, ◌≢◌, ◌≤◌, ◌<◌, ◌+◌, ◌^◌, ◌↔◌, ◌++◌, ℕ, [], ◌∷◌, true, false, length, Some, None, Err, IfOk, IfErr, IsTrue, OnOk, OnErr};
 ghost use Rattle.std.specs.Prelude.{replicate, slice_set};
 ghost use Rattle.std.specs.Arc.{arc_value};
 ghost use Rattle.machine.specs.machine_program.Processors.{port_at, setting_of};
 ghost use Rattle.machine.specs.Machines.{is_free, without_core_at};
 ghost use Rattle.machine_log.specs.machine_runs.Runs.{answer_after, IsReplay};
 ghost use Rattle.machine_log.specs.Logs.{HasTaken, IsKept};
-ghost use Rattle.loan_theory.specs.Loans.{IsOfOthers};
-ghost use Rattle.machine_loans.specs.Lendings.{lent_at, may_lend, promised};
+ghost use Rattle.loan_theory.specs.Loans.{IsOfOthers, turns_of};
+ghost use Rattle.loan_theory.specs.local_runs.LocalRuns.{TakesLocal};
+ghost use Rattle.std.specs.Vec.{vec_capacity};
+ghost use Rattle.machine_loans.specs.Lendings.{IsBack, lent_at, may_lend, promised};
 ghost use Rattle.machine_loans.specs.declared.lent.Lent.{Lent};
 
 use crate::lent::Lent;
-use flat_machine::Status;
-use hart::Core;
-use loan_theory::others_do_not_notice;
+use flat_machine::{Retired, Status};
+use hart::{Core, core_has_registers};
+use loan_theory::{local_turns_catch_up, others_do_not_notice};
 use machine::{Machine, machine_is_sound};
 use machine_log::{LogRefusal, Logged, enter};
+use machine_runs::runs_are_joined;
 use std::alloc::{AllocError, Global};
 use std::marker::Model;
 use std::snapshot::Snapshot;
@@ -176,6 +179,51 @@ impl Lending {
         Ok((core, given))
     }
 
+    /// Puts the core of a processor back, which has retired these local instructions since it was lent as the
+    /// record says, and enters a turn of the processor for each of them.
+    ///
+    /// # Errors
+    ///
+    /// The core, where it was not lent as the record says. Then nothing is changed.
+    pub fn give_back(
+        &mut self,
+        p: u8,
+        record: &Lent,
+        core: Core,
+        taken: &[Retired],
+    ) -> Result<(), Core>
+        requires there { p < 2 ^ self.old.log.machine.config.k }
+        requires turns { TakesLocal record.now.core.setting self.old.log.machine.code record.now.core.state taken.now core.state }
+        requires setting { core.setting ≡ record.now.core.setting }
+        requires few { length taken.now ≤ record.now.most }
+        ensures back { OnOk result (IsBack self.old p core taken.now self.new) }
+        ensures refused { OnErr result (self.new ≡ self.old) }
+        ensures differs { IfErr result (λ handed. (handed ≡ core) × (lent_at self.old.lent p ≡ Some record.now → ⊥)) }
+    {
+        if !self.is_record(p, record) {
+            return Err(core);
+        }
+        local_turns_catch_up();
+        runs_are_joined();
+        core_has_registers(&core);
+        self.machine.put_core(p, core);
+        machine_is_sound(&self.machine);
+        self.lent[usize::from(p)] = None;
+        self.promises -= record.most as usize;
+        enter_turns(&mut self.steps, p, taken.len());
+        Ok(())
+    }
+
+    /// Whether a core is away that was lent as the record says.
+    fn is_record(&self, p: u8, record: &Lent) -> bool
+        ensures { IsTrue result ↔ (lent_at self.now.lent p ≡ Some record.now) }
+    {
+        match self.lent.get(usize::from(p)) {
+            Some(Some(kept)) => kept.most == record.most && kept.core.equals(&record.core),
+            _ => false,
+        }
+    }
+
     /// The log, once each core is back that was away, as it was lent.
     pub fn into_logged(mut self) -> Logged
         ensures { result ≡ self.log }
@@ -203,6 +251,17 @@ impl Lending {
         self.machine.put_core(p, core);
         machine_is_sound(&self.machine);
         self.promises -= most as usize;
+    }
+}
+
+/// Enters so many turns of a processor. There is room for them.
+fn enter_turns(steps: &mut Vec<Step>, p: u8, count: usize)
+    requires room { length steps.old.items + count ≤ vec_capacity steps.old }
+    ensures entered { steps.new.items ≡ steps.old.items ++ turns_of p count }
+    ensures capacity { vec_capacity steps.new ≡ vec_capacity steps.old }
+{
+    for _ in 0..count {
+        steps.push_reserved(Step::Turn(p));
     }
 }
 
