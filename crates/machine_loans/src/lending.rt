@@ -152,7 +152,7 @@ impl Lending {
     pub fn lend(&mut self, p: u8, most: u32) -> Result<(Core, Lent), LendRefusal>
         ensures loan { IfOk result (λ loan. (loan.1 ≡ record { core = (port_at self.old.log.machine.ports p).core; most = most }) × (loan.0 ≡ loan.1.core)) }
         ensures lent { OnOk result (self.new ≡ record self.old {
-            lent = slice_set self.old.lent p (Some (record { core = (port_at self.old.log.machine.ports p).core; most = most }))
+          lent = slice_set self.old.lent p (Some (record { core = (port_at self.old.log.machine.ports p).core; most = most }));
         }) }
         ensures free { (result ≡ Err LendRefusal.NotFree) ↔ (may_lend self.old p ≡ false) }
         ensures full { (result ≡ Err LendRefusal.Full)

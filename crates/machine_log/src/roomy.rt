@@ -56,11 +56,7 @@ impl Roomy {
     }
 
     /// The log of a machine that stands after these steps since its opening.
-    pub(crate) fn of_parts(
-        machine: Machine,
-        steps: Vec<Step>,
-        opening: Snapshot<Machine>,
-    ) -> Self
+    pub(crate) fn of_parts(machine: Machine, steps: Vec<Step>, opening: Snapshot<Machine>) -> Self
         requires kept { IsKept (record { opening = opening.value; steps = steps.items; machine = machine }) }
         ensures { result.log ≡ record { opening = opening.value; steps = steps.items; machine = machine } }
     {

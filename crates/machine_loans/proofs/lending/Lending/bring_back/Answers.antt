@@ -54,9 +54,10 @@ invariant_of-self-2 c =
     let promises = c.self.invariant.1 in
     let kept = brought_back l.opening.value l.machine l.steps.items (vec_capacity l.steps) l.lent.items c.self.invariant.0 c.args.p within c.in-Some.field-0 lent
     c.put_core.new.self c.put_core.ensures.put c.machine_is_sound.ensures in
-    let places = ap (λ i. slice_set l.lent.items i None) (sym c.from.ensures) ∙ ap (slice_set l.lent.items c.from.result) (sym c.take.ensures.after) in
-    (subst (IsLending l.opening.value c.put_core.new.self l.steps.items (vec_capacity l.steps)) places kept,
-    (omega (arith, less, promises)) ∙ ap promised places)
+    let places = ap (λ i. slice_set l.lent.items i None) (sym c.from.ensures) ∙ ap (slice_set l.lent.items c.from.result) (sym c.take.ensures.after) in (
+      subst (IsLending l.opening.value c.put_core.new.self l.steps.items (vec_capacity l.steps)) places kept,
+      (omega (arith, less, promises)) ∙ ap promised places,
+    )
 
 pub returns : goal.returns
 returns c =

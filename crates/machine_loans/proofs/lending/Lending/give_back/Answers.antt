@@ -75,12 +75,14 @@ invariant_of-self c =
     let less = promise_less l.lent.items c.args.p c.args.record.now e in
     let promises = c.self.invariant.1 in
     let lent = ap (λ i. slice_set l.lent.items i None) (sym c.from.ensures) in
-    let fits = l.steps.ok in
-    (subst (IsLending l.opening.value c.put_core.new.self c.enter_turns.new.steps.items (vec_capacity c.enter_turns.new.steps)) lent
-    (returned c.local_turns_catch_up.ensures.turns c.runs_are_joined.ensures.replays l.opening.value l.machine l.steps.items (vec_capacity l.steps)
-    l.lent.items is c.args.p within c.args.record.now e c.args.core c.args.taken.now c.requires.setting home local c.requires.few c.put_core.new.self
-    c.enter_turns.new.steps.items (vec_capacity c.enter_turns.new.steps) c.put_core.ensures.put c.machine_is_sound.ensures c.enter_turns.ensures.entered
-    c.enter_turns.ensures.capacity (omega (arith, fits))), omega (arith, less, promises) ∙ ap promised lent)
+    let fits = l.steps.ok in (
+      subst (IsLending l.opening.value c.put_core.new.self c.enter_turns.new.steps.items (vec_capacity c.enter_turns.new.steps)) lent
+          (returned c.local_turns_catch_up.ensures.turns c.runs_are_joined.ensures.replays l.opening.value l.machine l.steps.items (vec_capacity l.steps)
+          l.lent.items is c.args.p within c.args.record.now e c.args.core c.args.taken.now c.requires.setting home local c.requires.few c.put_core.new.self
+          c.enter_turns.new.steps.items (vec_capacity c.enter_turns.new.steps) c.put_core.ensures.put c.machine_is_sound.ensures c.enter_turns.ensures.entered
+          c.enter_turns.ensures.capacity (omega (arith, fits))),
+      omega (arith, less, promises) ∙ ap promised lent,
+    )
 
 pub returns-clause-back : goal.returns-clause-back
 returns-clause-back c =

@@ -41,9 +41,11 @@ invariant_of-self-2 c =
     let lending = lent_out l.opening.value l.machine l.steps.items (vec_capacity l.steps) l.lent.items is c.args.p free kept core c.taken_out-core.new.machine
     (vec_capacity c.reserve.new.self) c.taken_out-core.ensures.away c.machine_is_sound.ensures (omega (arith, promises, most, places, len))
     (omega (arith, promises, most, room, count, c.if-promises-len.false)) in
-    let lent = ap (λ i. slice_set l.lent.items i (Some kept)) (sym c.from.ensures) in
-    (subst (λ (x : List Step × List (Option Lent)). IsLending l.opening.value c.taken_out-core.new.machine x.0 (vec_capacity c.reserve.new.self) x.1)
-    (λ i. (sym c.reserve.ensures.items i, lent i)) lending, omega (arith, promises, most, more) ∙ ap promised lent)
+    let lent = ap (λ i. slice_set l.lent.items i (Some kept)) (sym c.from.ensures) in (
+      subst (λ (x : List Step × List (Option Lent)). IsLending l.opening.value c.taken_out-core.new.machine x.0 (vec_capacity c.reserve.new.self) x.1)
+          (λ i. (sym c.reserve.ensures.items i, lent i)) lending,
+      omega (arith, promises, most, more) ∙ ap promised lent,
+    )
 
 pub returns-clause-loan : goal.returns-clause-loan
 returns-clause-loan c =
@@ -72,8 +74,10 @@ returns-clause-lent c =
     c.taken_out-core.ensures.away in
     let there = sym (free_core l.opening.value l.machine l.steps.items (vec_capacity l.steps) l.lent.items is c.args.p free) in
     (λ i. record { log = record { opening = l.opening.value; steps = c.reserve.ensures.items i; machine = machine i }; lent = lent i })
-    ∙ ap (λ (k : Lent). record { log = record { opening = l.opening.value; steps = l.steps.items; machine = whole l.machine l.lent.items };
-    lent = slice_set l.lent.items c.args.p (Some k) }) (c.in-Ok.ensures.0 ∙ ap (λ (x : CoreState). record { core = x; most = c.args.most }) there)
+    ∙ ap (λ (k : Lent). record {
+      log = record { opening = l.opening.value; steps = l.steps.items; machine = whole l.machine l.lent.items };
+      lent = slice_set l.lent.items c.args.p (Some k);
+    }) (c.in-Ok.ensures.0 ∙ ap (λ (x : CoreState). record { core = x; most = c.args.most }) there)
     ∙ ap (λ (x : LendingLog).
     record { log = x.log; lent = slice_set x.lent c.args.p (Some (record { core = (port_at x.log.machine.ports c.args.p).core; most = c.args.most })) })
     c.self.view_is
