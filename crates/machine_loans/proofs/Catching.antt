@@ -1,6 +1,6 @@
 -- The turns of a core that has come back.
 use Rattle.std.proofs.Common.{◌≡◌, ◌≢◌, ℕ, zero, suc, ◌+◌, ◌-◌, ◌^◌, ◌<◌, ◌≤◌, Bool, true, false, List, [], ◌∷◌, ◌++◌, length, map, Option, Some, None, ◌⊎◌, inl, inr}
-use Rattle.std.proofs.Common.{refl, sym, ap, ap₂, ◌∙◌, subst, arith}
+use Rattle.std.proofs.Common.{refl, sym, ap, ap₂, ◌∙◌, subst, get_or-set_same, arith}
 use Rattle.std.specs.Prelude.{replicate, slice_set}
 use Rattle.std.proofs.lemmas.Bool.{cases_eq, true≢false}
 use Rattle.std.proofs.lemmas.List.{length-append, length-replicate}
@@ -16,23 +16,26 @@ use Rattle.flat_machine.specs.Turns.{Turn, turn_of}
 use Rattle.flat_machine.proofs.Lemmas.{turn_words}
 use Rattle.hart.specs.State.{CoreState}
 use Rattle.steps.specs.declared.step.Step.{Step}
+use Rattle.steps.specs.declared.step.Step.TheVariants as step
 use Rattle.steps.specs.declared.step.Outcome.{Outcome}
 use Rattle.steps.specs.declared.step.Outcome.TheVariants as outcome
 use Rattle.machine.specs.messages.Places.{put}
 use Rattle.machine.proofs.Lemmas.messages.{put_other, put_same}
-use Rattle.machine.proofs.Lemmas.{away_shut, core_put, count_small, put_is_machine}
+use Rattle.machine.proofs.Lemmas.{away_shut, core_put, count_small, home_running, put_is_machine}
 use Rattle.machine.specs.machine_ports.Ports.{PortState, is_away}
 use Rattle.machine.specs.machine_program.Theory as theory
-use Rattle.machine.specs.machine_program.Processors.{Told, open_at, port_at, setting_of, told_at}
+use Rattle.machine.specs.machine_program.Processors.{Told, no_port, open_at, port_at, setting_of, told_at}
 use Rattle.machine.specs.machine_program.Steps.{after, machine_of_parts, outcome_of}
 use Rattle.machine.specs.Machines.{MachineLists, IsMachine, machine_of, with_core_at}
+use Rattle.machine.proofs.Lemmas.machine_ports.{retires_stays}
+use Rattle.machine_log.proofs.Lemmas.machine_runs.{outcome_there}
 use Rattle.machine_log.specs.machine_runs.Laws.{ReplaysAreJoined}
 use Rattle.machine_log.specs.machine_runs.Runs.{NoneStalls, all_after, events_of, IsReplay, IsRun}
 use Rattle.machine_log.specs.Logs.{IsKept}
 use Rattle.loan_theory.specs.Laws.{LocalTurnsCatchUp}
 use Rattle.loan_theory.specs.Loans.{after_all, answers_of, gone_on, told_of, turns_of, with_core}
 use Rattle.loan_theory.specs.local_runs.LocalRuns.{TakesLocal}
-use Rattle.machine_loans.specs.Lendings.{IsLending, lent_at, promised, whole, with_lent}
+use Rattle.machine_loans.specs.Lendings.{AreAnswered, IsLending, lent_at, promised, whole, with_lent}
 use Rattle.machine_loans.specs.declared.lent.Lent.{Lent}
 use Rattle.machine_loans.proofs.Backing.{promise_less}
 use Rattle.machine_loans.proofs.Changing.{as_long, back_port, lends_so, whole_set}
@@ -119,6 +122,31 @@ module _ (catches : LocalTurnsCatchUp) (V : MachineLists) (is : IsMachine V) (p 
   pub turns_told : answers_of V.config V.code (machine_of V (λ q. [])) turns ≡ told_of taken
   turns_told = (caught (λ q. [])).0
 
+-- ---- one turn after another
+
+module _ (catches : LocalTurnsCatchUp) (joined : ReplaysAreJoined) (opening : MachineLists) where
+  pub each_answers : (V : MachineLists) (steps : List Step) (p : ℕ) (setting : Setting) (last : Processor) (taken : List retirement.Retired) → IsMachine V →
+      p < 2 ^ V.config.k → open_at V.ports p ≡ false → setting ≡ (port_at V.ports p).core.setting → IsReplay opening steps V →
+      TakesLocal (setting_of V.config p) V.code (port_at V.ports p).core.state taken last → AreAnswered opening steps p taken
+  each_answers V steps p setting last [] is within shut same replay local = tt
+  each_answers V steps p setting last (retired ∷ later) is within shut same replay (next, one, more) =
+      let core : CoreState = record { setting = setting; state = next } in
+      let first : TakesLocal (setting_of V.config p) V.code (port_at V.ports p).core.state (retired ∷ []) next = (next, one, refl) in
+      let told = turns_told catches V is p within shut core (retired ∷ []) first in
+      let here : outcome_of V.config V.code (machine_of V (λ q. [])) (step.Turn p) ≡ outcome.Retired retired = cc in
+      let words = words_kept V.config p V.code (port_at V.ports p).core.state next (retired ∷ []) is.limits.stages within is.code (is.ports.words p) first in
+      let runs = home_running V.config V.ports is.ports p one.runs in
+      let stays = retires_stays (setting_of V.config p) V.code (port_at V.ports p).core.state next retired one.turn ∙ runs in
+      let sound = put_is_machine V is p within core shut same words (λ away. absurd (true≢false (sym away ∙ stays))) in
+      let inside = subst (λ n. p < n) (sym is.ports.all) within in
+      let there = get_or-set_same V.ports p (record (port_at V.ports p) { core = core }) no_port inside in
+      let after = joined opening V (with_core_at V p core) steps (step.Turn p ∷ []) replay (turns_replay catches V is p within shut core (retired ∷ []) first) in (
+        outcome_there opening V steps replay.run (step.Turn p) ∙ here,
+        each_answers (with_core_at V p core) (steps ++ step.Turn p ∷ []) p setting last later sound within
+            (ap (λ (x : PortState). x.is_open) there ∙ shut) (ap (λ (x : PortState). x.core.setting) (sym there)) after
+            (subst (λ s. TakesLocal (setting_of V.config p) V.code s later last) (ap (λ (x : PortState). x.core.state) (sym there)) more),
+      )
+
 -- ---- a core that has come back
 
 module _ (catches : LocalTurnsCatchUp) (joined : ReplaysAreJoined) (opening m : MachineLists) (steps : List Step) (capacity : ℕ) (lent : List (Option Lent))
@@ -154,8 +182,10 @@ module _ (catches : LocalTurnsCatchUp) (joined : ReplaysAreJoined) (opening m : 
   pub back_replay : IsReplay V (turns_of p (length taken)) (with_core_at V p core)
   back_replay = turns_replay catches V is.kept.sound p within shut core taken local_there
 
-  pub back_told : answers_of V.config V.code (machine_of V (λ q. [])) (turns_of p (length taken)) ≡ told_of taken
-  back_told = turns_told catches V is.kept.sound p within shut core taken local_there
+  pub back_answered : AreAnswered opening steps p taken
+  back_answered =
+      each_answers catches joined opening V steps p core.setting core.state taken is.kept.sound within shut
+      (setting ∙ setting_is ∙ sym (is.kept.sound.ports.settings p within)) is.kept.replay local_there
 
   back_sound : IsMachine (with_core_at V p core)
   back_sound = put_is_machine V is.kept.sound p within core shut (setting ∙ setting_is ∙ sym (is.kept.sound.ports.settings p within)) core_words

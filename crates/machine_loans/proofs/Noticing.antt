@@ -18,10 +18,10 @@ use Rattle.machine.specs.machine_ports.Ports.{PortState, is_away}
 use Rattle.machine.specs.machine_program.Theory as theory
 use Rattle.machine.specs.machine_program.Processors.{Told, open_at, port_at, told_at, word_at}
 use Rattle.machine.specs.machine_program.Steps.{after, machine_of_parts, outcome_of, with_shown, IsStepOf}
-use Rattle.machine.specs.Machines.{MachineLists, IsStep, away_at}
+use Rattle.machine.specs.Machines.{MachineLists, IsStep, away_at, machine_of}
 use Rattle.loan_theory.specs.Laws.{OthersDoNotNotice}
 use Rattle.loan_theory.specs.Loans.{IsOfOthers, with_core, with_cores}
-use Rattle.machine_loans.specs.Lendings.{all_back, lent_at, whole, with_lent}
+use Rattle.machine_loans.specs.Lendings.{OfOthers, all_back, lent_at, whole, with_lent}
 use Rattle.machine_loans.specs.declared.lent.Lent.{Lent}
 use Rattle.machine_loans.proofs.Backing.{back_at}
 
@@ -121,10 +121,6 @@ module _ (c : Config) (net : Net) (ports : List PortState) (modules : List (List
 
 -- ---- a step
 
--- the step is of none whose core is lent
-abbrev pub OfOthers : List (Option Lent) → Step → Type 0
-OfOthers lent s = (p : ℕ) (l : Lent) → lent_at lent p ≡ Some l → IsOfOthers p s
-
 module _ (laws : OthersDoNotNotice) (c : Config) (code : List ℕ) (M : theory.Machine Told) (lent : List (Option Lent)) (shown : ℕ → List Event)
     (s : Step) (others : OfOthers lent s) where
   abbrev Unnoticed : List (ℕ × Told) → Type 0
@@ -214,3 +210,10 @@ module _ (laws : OthersDoNotNotice) (m m' : MachineLists) (lent : List (Option L
         ∙ ap (λ (x : PortState). is_away x.core.state) (sym (back_at m.ports lent p same));
     step = parts_back laws m.config m.code (net_of m.network) (net_of m'.network) m.ports m'.ports m.modules m'.modules lent same same' s o others st.step;
   }
+
+-- what a step of others answers
+pub answers_back : OthersDoNotNotice → (m : MachineLists) (lent : List (Option Lent)) → length lent ≡ length m.ports → (s : Step) → OfOthers lent s →
+    outcome_of m.config m.code (machine_of m (λ p. [])) s ≡ outcome_of m.config m.code (machine_of (whole m lent) (λ p. [])) s
+answers_back laws m lent same s others =
+    sym (ap (λ W. outcome_of m.config m.code W s) (back_is m.config (net_of m.network) m.ports m.modules lent same (λ p. []))
+    ∙ (unnoticed laws m.config m.code (machine_of m (λ p. [])) lent (λ p. []) s others (length lent)).0)

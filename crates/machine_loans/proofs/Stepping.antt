@@ -19,10 +19,10 @@ use Rattle.machine_log.specs.Logs.{HasTaken, IsEntered, IsKept, entered}
 use Rattle.machine_log.proofs.Lemmas.{entered_one, kept_after}
 use Rattle.machine_log.proofs.Lemmas.machine_runs.{outcome_there}
 use Rattle.loan_theory.specs.Laws.{OthersDoNotNotice}
-use Rattle.machine_loans.specs.Lendings.{IsLending, IsLent, all_back, lent_at, promised, whole, with_lent}
+use Rattle.machine_loans.specs.Lendings.{IsLending, IsLent, OfOthers, all_back, lent_at, promised, whole, with_lent}
 use Rattle.machine_loans.specs.declared.lent.Lent.{Lent}
 use Rattle.machine_loans.proofs.Backing.{back_at, back_length, back_none, none_promised, replicate_none}
-use Rattle.machine_loans.proofs.Noticing.{OfOthers, step_back}
+use Rattle.machine_loans.proofs.Noticing.{step_back}
 
 -- the ports with all cores back
 module _ (c : Config) (ports : List PortState) (are : ArePorts c ports) (lent : List (Option Lent)) (all : length lent ≡ length ports)

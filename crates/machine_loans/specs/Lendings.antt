@@ -5,11 +5,13 @@ use Rattle.flat_machine.specs.State.{is_running}
 use Rattle.flat_machine.specs.Laws.{HasWords}
 use Rattle.hart.specs.State.{CoreState}
 use Rattle.steps.specs.declared.step.Step.{Step}
+use Rattle.steps.specs.declared.step.Step.TheVariants as step
+use Rattle.steps.specs.declared.step.Outcome.TheVariants as outcome
 use Rattle.machine.specs.machine_ports.Ports.{PortState, is_away}
 use Rattle.machine.specs.machine_program.Processors.{open_at, port_at, setting_of}
-use Rattle.machine.specs.Machines.{MachineLists, IsMachine, away_at, machine_of, with_core_at}
-use Rattle.machine_log.specs.machine_runs.Runs.{IsReplay}
-use Rattle.loan_theory.specs.Loans.{answers_of, told_of, turns_of}
+use Rattle.machine.specs.Machines.{MachineLists, IsMachine, away_at, with_core_at}
+use Rattle.machine_log.specs.machine_runs.Runs.{answer_after, IsReplay}
+use Rattle.loan_theory.specs.Loans.{IsOfOthers, turns_of}
 use Rattle.machine_log.specs.Logs.{Log, IsKept}
 use Rattle.machine_loans.specs.declared.lent.Lent.{Lent}
 
@@ -63,6 +65,12 @@ pub record IsLending (opening m : MachineLists) (steps : List Step) (capacity : 
   pub places : promised lent ≤ capacity - length steps
   pub room : length steps + promised lent ≤ 4194304
 
+-- ---- steps while cores are away
+
+-- The step is neither a turn of a processor whose core is away nor, where one is, a write from outside.
+abbrev pub OfOthers : List (Option Lent) → Step → Type 0
+OfOthers lent s = (p : ℕ) (l : Lent) → lent_at lent p ≡ Some l → IsOfOthers p s
+
 -- ---- lending
 
 -- whether the core of processor p can be lent: it is there and not away, and its processor runs and has no reference open
@@ -70,12 +78,18 @@ abbrev pub may_lend : LendingLog → (p : ℕ) → Bool
 may_lend l p = nat_lt p (2 ^ l.log.machine.config.k) && (not (is_some (lent_at l.lent p))
     && (is_running (port_at l.log.machine.ports p).core.state.status && not (open_at l.log.machine.ports p)))
 
+-- Turns of processor p, one after another behind these steps, retire these instructions.
+abbrev pub AreAnswered : (opening : MachineLists) → (steps : List Step) → (p : ℕ) → List Retired → Type 0
+AreAnswered opening steps p [] = Unit {0}
+AreAnswered opening steps p (retired ∷ later) =
+    (answer_after opening steps (step.Turn p) ≡ outcome.Retired retired) × AreAnswered opening (steps ++ step.Turn p ∷ []) p later
+
 -- The core of processor p has come back, as it is after these local instructions since it was lent: a turn was entered for each,
--- and answers it.
+-- which retires it.
 pub record IsBack (old : LendingLog) (p : ℕ) (core : CoreState) (taken : List Retired) (new : LendingLog) : Type 0 where
   pub opening : new.log.opening ≡ old.log.opening
   pub machine : new.log.machine ≡ with_core_at old.log.machine p core
   pub steps : new.log.steps ≡ old.log.steps ++ turns_of p (length taken)
   pub replay : IsReplay old.log.machine (turns_of p (length taken)) new.log.machine
-  pub told : answers_of old.log.machine.config old.log.machine.code (machine_of old.log.machine (λ q. [])) (turns_of p (length taken)) ≡ told_of taken
+  pub answered : AreAnswered old.log.opening old.log.steps p taken
   pub lent : new.lent ≡ slice_set old.lent p None

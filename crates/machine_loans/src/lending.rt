@@ -1,28 +1,31 @@
 //! A log that lends cores.
 
 ghost use Rattle.std.specs.Prelude.{◌≡◌, ◌≢◌, ◌≤◌, ◌<◌, ◌+◌, ◌^◌, ◌↔◌, ◌++◌, ℕ, [], ◌∷◌, true, false, length, Some, None, Err, IfOk, IfErr, IsTrue, OnOk, OnErr};
-ghost use Rattle.std.specs.Prelude.{replicate, slice_set};
+ghost use Rattle.std.specs.Prelude.{is_some, replicate, slice_set};
 ghost use Rattle.std.specs.Arc.{arc_value};
-ghost use Rattle.machine.specs.machine_program.Processors.{port_at, setting_of};
-ghost use Rattle.machine.specs.Machines.{is_free, without_core_at};
+ghost use Rattle.machine.specs.machine_program.Processors.{port_at};
+ghost use Rattle.machine.specs.machine_program.Steps.{outcome_of};
+ghost use Rattle.machine.specs.Machines.{is_free, machine_of, without_core_at};
 ghost use Rattle.machine_log.specs.machine_runs.Runs.{answer_after, IsReplay};
 ghost use Rattle.machine_log.specs.Logs.{HasTaken, IsKept};
-ghost use Rattle.loan_theory.specs.Loans.{IsOfOthers, turns_of};
+ghost use Rattle.loan_theory.specs.Loans.{turns_of};
 ghost use Rattle.loan_theory.specs.local_runs.LocalRuns.{TakesLocal};
 ghost use Rattle.std.specs.Vec.{vec_capacity};
-ghost use Rattle.machine_loans.specs.Lendings.{IsBack, lent_at, may_lend, promised};
+ghost use Rattle.machine_loans.specs.Lendings.{IsBack, OfOthers, lent_at, may_lend, promised};
 ghost use Rattle.machine_loans.specs.declared.lent.Lent.{Lent};
 
 use crate::lent::Lent;
 use flat_machine::{Retired, Status};
 use hart::{Core, core_has_registers};
 use loan_theory::{local_turns_catch_up, others_do_not_notice};
+use local_memory::Code;
 use machine::{Machine, machine_is_sound};
 use machine_log::{LogRefusal, Logged, enter};
 use machine_runs::runs_are_joined;
 use std::alloc::{AllocError, Global};
 use std::marker::Model;
 use std::snapshot::Snapshot;
+use std::sync::Arc;
 use steps::{MAX_STEPS, Outcome, Step};
 use thiserror::Error;
 
@@ -90,11 +93,28 @@ impl Lending {
         })
     }
 
-    /// The machine, without the cores that are away.
+    /// The machine, without the cores that are away. A step of others answers as it would with all cores back.
     pub fn machine(&self) -> &Machine
-        ensures { result.now.config ≡ self.now.log.machine.config }
+        ensures config { result.now.config ≡ self.now.log.machine.config }
+        ensures answers { (s : Step) → OfOthers self.now.lent s → outcome_of result.now.config result.now.code (machine_of result.now (λ p. [])) s
+            ≡ outcome_of self.now.log.machine.config self.now.log.machine.code (machine_of self.now.log.machine (λ p. [])) s }
     {
+        others_do_not_notice();
         &self.machine
+    }
+
+    /// The code that all processors share.
+    pub fn code(&self) -> &Arc<Code, Global>
+        ensures { arc_value result.now ≡ self.now.log.machine.code }
+    {
+        self.machine.code()
+    }
+
+    /// Whether the core of a processor is lent.
+    pub fn is_lent(&self, p: u8) -> bool
+        ensures { result ≡ is_some (lent_at self.now.lent p) }
+    {
+        matches!(self.lent.get(usize::from(p)), Some(Some(_)))
     }
 
     /// The steps that the machine has taken, in order. None of them stalled.
@@ -112,7 +132,7 @@ impl Lending {
     /// [`LogRefusal::Full`] where the log would pass [`MAX_STEPS`] steps with this one and those that are
     /// promised, else [`LogRefusal::Memory`] where there is no memory. Each leaves all as it was.
     pub fn step(&mut self, step: Step) -> Result<Outcome, LogRefusal>
-        requires others { (p : ℕ) (l : Lent) → lent_at self.old.lent p ≡ Some l → IsOfOthers p step }
+        requires others { OfOthers self.old.lent step }
         ensures taken { IfOk result (λ o. HasTaken self.old.log step o self.new.log) }
         ensures answer { IfOk result (λ o. o ≡ answer_after self.old.log.opening self.old.log.steps step) }
         ensures lent { self.new.lent ≡ self.old.lent }

@@ -10,7 +10,7 @@ use Rattle.loan_theory.specs.local_runs.LocalRuns.{TakesLocal}
 use Rattle.machine_loans.specs.Lendings.{IsBack, IsLending, LendingLog, lent_at, promised, whole}
 use Rattle.machine_loans.specs.declared.lent.Lent.{Lent}
 use Rattle.machine_loans.proofs.Backing.{promise_less}
-use Rattle.machine_loans.proofs.Catching.{back_replay, back_told, core_words, returned, whole_returned}
+use Rattle.machine_loans.proofs.Catching.{back_answered, back_replay, core_words, returned, whole_returned}
 use Rattle.machine_loans.proofs.lending.Lending.give_back.Goals as goal
 
 pub put_core-requires-clause-away : goal.put_core-requires-clause-away
@@ -100,7 +100,7 @@ returns-clause-back c =
     c.put_core.ensures.put in
     let replay = back_replay c.local_turns_catch_up.ensures.turns c.runs_are_joined.ensures.replays l.opening.value l.machine l.steps.items
     (vec_capacity l.steps) l.lent.items is c.args.p within c.args.record.now e c.args.core c.args.taken.now c.requires.setting home local c.requires.few in
-    let told = back_told c.local_turns_catch_up.ensures.turns c.runs_are_joined.ensures.replays l.opening.value l.machine l.steps.items (vec_capacity l.steps)
+    let answered = back_answered c.local_turns_catch_up.ensures.turns c.runs_are_joined.ensures.replays l.opening.value l.machine l.steps.items (vec_capacity l.steps)
     l.lent.items is c.args.p within c.args.record.now e c.args.core c.args.taken.now c.requires.setting home local c.requires.few in
     subst (λ (x : LendingLog). IsBack x c.args.p c.args.core c.args.taken.now (record {
       log = record { opening = l.opening.value; steps = c.enter_turns.new.steps.items; machine = whole c.put_core.new.self (slice_set l.lent.items c.from.result None) };
@@ -110,6 +110,6 @@ returns-clause-back c =
       machine = machine;
       steps = c.enter_turns.ensures.entered;
       replay = subst (IsReplay (whole l.machine l.lent.items) (turns_of c.args.p (length c.args.taken.now))) (sym machine) replay;
-      told = told;
+      answered = answered;
       lent = lent;
     })
