@@ -8,6 +8,7 @@ use rv_table::{AmoOp, Immediate, ImmediateOp, Insn, Register};
 use std::alloc::AllocGlobal;
 use std::process::Abort;
 use std::test::Fail;
+use test_devices::assert_same;
 
 /// `addi x3, x1, 7`.
 const ADDI: u32 = 0x0070_8193;
@@ -64,10 +65,10 @@ fn local_instruction(rt: HostRuntime) -> Result<(), Fail> {
         result: Some(0x8000_000F),
         out: None,
     };
-    assert_eq!(rt; rig.begin(&rt), Begun::Retired(retired));
+    assert_same!(rt; rig.begin(&rt), Begun::Retired(retired));
     assert!(rt; !rig.port.is_open());
-    assert_eq!(rt; rig.port.core().pc(), 0x0001_0004);
-    assert_eq!(rt; rig.port.core().registers()[3], 0x8000_000F);
+    assert_same!(rt; rig.port.core().pc(), 0x0001_0004);
+    assert_same!(rt; rig.port.core().registers()[3], 0x8000_000F);
     Ok(())
 }
 
@@ -79,11 +80,11 @@ fn reference(rt: HostRuntime) -> Result<(), Fail> {
         word: 2,
         phi: Phi::Add(5),
     };
-    assert_eq!(rt; rig.begin(&rt), referred);
+    assert_same!(rt; rig.begin(&rt), referred);
     assert!(rt; rig.port.is_open());
     assert!(rt; rig.port.is_running());
-    assert_eq!(rt; rig.port.core().pc(), 0x0001_0000);
-    assert_eq!(rt; rig.port.core().registers()[3], 0);
+    assert_same!(rt; rig.port.core().pc(), 0x0001_0000);
+    assert_same!(rt; rig.port.core().registers()[3], 0);
     Ok(())
 }
 
@@ -100,11 +101,11 @@ fn stops(rt: HostRuntime) -> Result<(), Fail> {
         ),
     ] {
         let mut rig = before(&rt, word)?;
-        assert_eq!(rt; rig.begin(&rt), Begun::Stopped(cause), "{word:08x}");
+        assert_same!(rt; rig.begin(&rt), Begun::Stopped(cause), word);
         assert!(rt; !rig.port.is_running(), "{word:08x}");
         assert!(rt; !rig.port.is_open(), "{word:08x}");
-        assert_eq!(rt; rig.port.core().status(), status, "{word:08x}");
-        assert_eq!(rt; rig.port.core().pc(), 0x0001_0000, "{word:08x}");
+        assert_same!(rt; rig.port.core().status(), status, word);
+        assert_same!(rt; rig.port.core().pc(), 0x0001_0000, word);
     }
     Ok(())
 }
@@ -126,19 +127,12 @@ fn registers_are_poked(rt: HostRuntime) -> Result<(), Fail> {
         (33, 4, false, 0xFFFF_FFFC),
         (255, 4, false, 0xFFFF_FFFC),
     ] {
-        assert_eq!(rt;
-            rig.port.poke_register(register, value),
-            is_written,
-            "{register} {value}"
-        );
-        assert_eq!(rt; rig.port.core().pc(), pc, "{register} {value}");
+        assert_same!(rt; rig.port.poke_register(register, value), is_written, (&register, &value));
+        assert_same!(rt; rig.port.core().pc(), pc, (&register, &value));
     }
     let registers = rig.port.core().registers();
-    assert_eq!(rt;
-        (registers[0], registers[1], registers[2]),
-        (0, 0xFFFF_FFFF, 5)
-    );
-    assert_eq!(rt; (registers[30], registers[31]), (0, 3));
+    assert_same!(rt; (registers[0], registers[1], registers[2]), (0, 0xFFFF_FFFF, 5));
+    assert_same!(rt; (registers[30], registers[31]), (0, 3));
     Ok(())
 }
 
@@ -153,14 +147,10 @@ fn bytes_are_poked(rt: HostRuntime) -> Result<(), Fail> {
         (0x0003_0000, false),
         (0x8000_0000, false),
     ] {
-        assert_eq!(rt;
-            rig.port.poke_byte(address, 0xA5),
-            is_written,
-            "{address:08x}"
-        );
+        assert_same!(rt; rig.port.poke_byte(address, 0xA5), is_written, address);
         let byte = rig.port.core().byte(address).ok();
-        assert_eq!(rt; byte, is_written.then_some(0xA5), "{address:08x}");
+        assert_same!(rt; byte, is_written.then_some(0xA5), address);
     }
-    assert_eq!(rt; rig.port.core().byte(0x0002_0001).ok(), Some(0));
+    assert_same!(rt; rig.port.core().byte(0x0002_0001).ok(), Some(0));
     Ok(())
 }

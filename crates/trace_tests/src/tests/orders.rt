@@ -7,7 +7,7 @@ use order_lines::Choice;
 use run_commands::run_command;
 use std::fmt::Write;
 use std::test::Fail;
-use test_devices::{HUNDRED_ADDS, ONE_TURN, trace_of};
+use test_devices::{HUNDRED_ADDS, ONE_TURN, assert_same, trace_of};
 
 /// Adds `x7` to shared word 0, and halts.
 const ONE_ADD: &str = "
@@ -84,9 +84,9 @@ fn two_adds_combine(rt: HostRuntime) -> Result<(), Fail> {
             Ok(image.as_slice()),
             1,
         );
-        assert_eq!(rt; ran.out.as_slice(), lines.as_bytes(), "{choice:?}");
-        assert_eq!(rt; ran.err.len(), 0, "{choice:?}");
-        assert_eq!(rt; ran.status, 0, "{choice:?}");
+        assert_same!(rt; ran.out.as_slice(), lines.as_bytes(), choice);
+        assert_same!(rt; ran.err.len(), 0, choice);
+        assert_same!(rt; ran.status, 0, choice);
     }
     Ok(())
 }
@@ -113,8 +113,8 @@ fn served_in_the_drain(rt: HostRuntime) -> Result<(), Fail> {
 5 0 00010004 amoadd.w x8, x7, (x5) = 00000100 word 0 00000100 00000105
 6 1 00010004 amoadd.w x8, x7, (x5) = 00000105 word 0 00000105 0000010c
 ";
-    assert_eq!(rt; ran.out.as_slice(), lines.as_bytes());
-    assert_eq!(rt; ran.status, 0);
+    assert_same!(rt; ran.out.as_slice(), lines.as_bytes());
+    assert_same!(rt; ran.status, 0);
     Ok(())
 }
 
@@ -171,9 +171,9 @@ on: ebreak
 9 0 00010024 jal x1, 8 = 00010028
 10 0 0001002c fault 8
 ";
-    assert_eq!(rt; ran.out.as_slice(), lines.as_bytes());
-    assert_eq!(rt; ran.err.len(), 0);
-    assert_eq!(rt; ran.status, 1);
+    assert_same!(rt; ran.out.as_slice(), lines.as_bytes());
+    assert_same!(rt; ran.err.len(), 0);
+    assert_same!(rt; ran.status, 1);
     Ok(())
 }
 
@@ -190,12 +190,12 @@ fn no_steps(rt: HostRuntime) -> Result<(), Fail> {
         Ok(image.as_slice()),
         1,
     );
-    assert_eq!(rt; ran.out.len(), 0);
-    assert_eq!(rt; ran.err.len(), 0);
-    assert_eq!(rt; ran.status, 0);
+    assert_same!(rt; ran.out.len(), 0);
+    assert_same!(rt; ran.err.len(), 0);
+    assert_same!(rt; ran.status, 0);
     let ran = run(alloc, Told::Order(ALL), &ONE_TURN, Ok(image.as_slice()), 1);
-    assert_eq!(rt; ran.out.as_slice(), b"0 0 00010000 fault 8\n".as_slice());
-    assert_eq!(rt; ran.status, 1);
+    assert_same!(rt; ran.out.as_slice(), b"0 0 00010000 fault 8\n".as_slice());
+    assert_same!(rt; ran.status, 1);
     Ok(())
 }
 
@@ -222,7 +222,7 @@ fn each_add_goes_on_from_the_last(rt: HostRuntime) -> Result<(), Fail> {
         &mut Meter::new(Vec::new(alloc)),
         &mut Vec::new(alloc),
     );
-    assert_eq!(rt; status, 0);
+    assert_same!(rt; status, 0);
     let Some(trace) = trace else {
         return Ok(());
     };
@@ -237,7 +237,7 @@ fn each_add_goes_on_from_the_last(rt: HostRuntime) -> Result<(), Fail> {
         Ok(image.as_slice()),
         1024,
     );
-    assert_eq!(rt; ran.status, 0);
+    assert_same!(rt; ran.status, 0);
     let text = str::from_utf8(ran.out.as_slice())?;
     let (mut adds, mut loads) = (0_u32, 0_u32);
     for line in text.lines() {
@@ -252,6 +252,6 @@ fn each_add_goes_on_from_the_last(rt: HostRuntime) -> Result<(), Fail> {
         }
         assert!(rt; line.ends_with(end.as_str()), "{line}");
     }
-    assert_eq!(rt; (adds, loads), (6400, 64));
+    assert_same!(rt; (adds, loads), (6400, 64));
     Ok(())
 }
