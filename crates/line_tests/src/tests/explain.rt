@@ -112,14 +112,13 @@ fn lists_each_name(rt: HostRuntime) -> Result<(), Fail> {
     assert_same!(rt; ran.status, 0);
     assert_same!(rt; ran.err.len(), 0);
     let text = str::from_utf8(ran.out.as_slice())?;
-    let mut named = 0;
+    let mut names = NAMES.iter();
     for line in text.lines() {
         if let Some((name, _)) = line.split_once(": ") {
-            assert_same!(rt; Some(&name), NAMES.get(named), line);
-            named += 1;
+            assert_same!(rt; Some(&name), names.next(), line);
         }
     }
-    assert_same!(rt; named, NAMES.len());
+    assert!(rt; names.next().is_none());
     Ok(())
 }
 
@@ -141,6 +140,11 @@ fn texts_are_laid_out(rt: HostRuntime) {
     }
 }
 
+/// What a word that names nothing is answered.
+fn refusal_of(alloc: Global, word: &str) -> Result<String, AllocError> {
+    format!(in alloc; "error: unrecognized code '{word}'\n\n`ultra explain` lists what there is.\n")
+}
+
 /// Words that name nothing, though a part of them, or of what they are cut from, does.
 #[test]
 fn refuses_an_unknown_word(rt: HostRuntime) -> Result<(), Fail> {
@@ -160,9 +164,7 @@ fn refuses_an_unknown_word(rt: HostRuntime) -> Result<(), Fail> {
     ] {
         assert!(rt; all_topics().named(word).is_none(), "{word}");
         let ran = run(rt.alloc(), Some(word));
-        let told = format!(in rt.alloc();
-            "error: unrecognized code '{word}'\n\n`ultra explain` lists what there is.\n"
-        )?;
+        let told = refusal_of(rt.alloc(), word)?;
         assert_same!(rt; ran.err.as_slice(), told.as_bytes());
         assert_same!(rt; ran.out.len(), 0, word);
         assert_same!(rt; ran.status, 2, word);
