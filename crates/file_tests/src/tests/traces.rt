@@ -17,7 +17,7 @@ use test_devices::assert_same;
 use trace_file::{Trace, TraceError, is_trace, read_trace, write_trace};
 
 /// The trace of one turn of the one processor, on a machine with `c` and `b` of 4.
-const ONE_TURN: [u8; 24] = [
+static ONE_TURN: [u8; 24] = [
     0x55, 0x4C, 0x54, 0x52, 1, 0, 4, 4, 1, 0, 0, 0, // the header
     1, 0, 0, 0, 0, 0, 0, 0, 0, 0, 0, 0, // the record
 ];

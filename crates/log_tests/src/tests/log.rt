@@ -37,7 +37,7 @@ const FOUR: Config = Config {
 };
 
 /// An instruction that refers to the shared word at `a2`, one that refers to none, and a stop.
-const CODE: [u32; 3] = [
+static CODE: [u32; 3] = [
     0x00B6_252F, // amoadd.w a0, a1, (a2)
     0x0015_0513, // addi a0, a0, 1
     0x0010_0073, // ebreak

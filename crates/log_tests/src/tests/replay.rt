@@ -59,7 +59,7 @@ fn two_adds(rt: &(impl Abort + AllocGlobal)) -> Result<Machine, Fail> {
 }
 
 /// Both requests combine at the stage, and come back. The second finds what the first left.
-const COMBINED: [Step; 8] = [
+static COMBINED: [Step; 8] = [
     Step::Turn(0),
     Step::Turn(1),
     Step::Up { stage: 0, wire: 1 },

@@ -19,7 +19,7 @@ fn a_request_goes_and_its_reply_comes(rt: HostRuntime) -> Result<(), Fail> {
     assert_same!(rt; switch.accept(&mut pool, 1, add), Accepted::Queued);
     assert_same!(rt; (switch.front(&pool, 0), switch.front(&pool, 1)), (None, Some(add)));
     assert_same!(rt; switch.take(&mut pool, 1), Some(add));
-    assert_same!(rt; switch.records(1).len(), 0);
+    assert!(rt; switch.records(1).is_empty());
     let reply = Reply {
         leader: 3,
         value: 9,

@@ -10,7 +10,7 @@ use std::test::Fail;
 use test_devices::{Deaf, EBREAK, Sink, Source, assert_same, trace_of};
 
 /// A turn of processor 0.
-const TURN: [u8; 12] = [1, 0, 0, 0, 0, 0, 0, 0, 0, 0, 0, 0];
+static TURN: [u8; 12] = [1, 0, 0, 0, 0, 0, 0, 0, 0, 0, 0, 0];
 
 /// Of a trace on an image nothing is printed, and this is told.
 fn assert_told(

@@ -21,7 +21,7 @@ fn texts_of(alloc: Global, picture: &str, class: &str) -> Result<String, Fail> {
 }
 
 /// How many steps, and the texts of requests, wait records and replies behind them.
-const FOUR_STANDS: [(u32, &str, &str, &str); 13] = [
+static FOUR_STANDS: [(u32, &str, &str, &str); 13] = [
     (0, "", "", ""),
     (9, "", "", ""),
     (13, "0|1|2|3", "", ""),

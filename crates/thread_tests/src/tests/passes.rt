@@ -73,7 +73,7 @@ fn added_to(value: u32) -> Outcome {
 }
 
 /// The steps.
-const STEPS: [Step; 18] = [
+static STEPS: [Step; 18] = [
     Step::Turn(0),
     Step::Turn(1),
     Step::Turn(2),

@@ -19,7 +19,7 @@ const ONE_ADD: &str = "
 /// `x7` of processor 0 is made 5, that of processor 1 is made 7, and shared word 0 is made 0x100. Processor 0 sends its
 /// request first. That of processor 1 is moved first, so that of processor 0 is combined into it: processor 1 leads, and
 /// finds what was there. It takes its reply and halts. Processor 0 takes its own in the drain.
-const COMBINED: [[u8; 12]; 13] = [
+static COMBINED: [[u8; 12]; 13] = [
     [5, 0, 7, 0, 0, 0, 0, 0, 5, 0, 0, 0],
     [5, 1, 7, 0, 0, 0, 0, 0, 7, 0, 0, 0],
     [7, 0, 0, 0, 1, 0, 0, 0x80, 1, 0, 0, 0],
@@ -36,13 +36,13 @@ const COMBINED: [[u8; 12]; 13] = [
 ];
 
 /// A turn of processor 0.
-const TURN: [u8; 12] = [1, 0, 0, 0, 0, 0, 0, 0, 0, 0, 0, 0];
+static TURN: [u8; 12] = [1, 0, 0, 0, 0, 0, 0, 0, 0, 0, 0, 0];
 
 /// A service by module 0.
-const SERVE: [u8; 12] = [3, 0, 0, 0, 0, 0, 0, 0, 0, 0, 0, 0];
+static SERVE: [u8; 12] = [3, 0, 0, 0, 0, 0, 0, 0, 0, 0, 0, 0];
 
 /// The lines of the trace. 0x100 and 7 are 0x107, and 0x107 and 5 are 0x10c.
-const LINES: [&str; 8] = [
+static LINES: [&str; 8] = [
     "0 0 poke x7 00000005\n",
     "1 1 poke x7 00000007\n",
     "2 - poke 80000001 01 word 0 00000000 00000100\n",

@@ -7,7 +7,7 @@ use steps::{Outcome, Step};
 use test_devices::assert_same;
 
 /// A session on a new machine of four processors, or of one, with its replies.
-const FOUR: &[(&str, &str)] = &[
+static FOUR: &[(&str, &str)] = &[
     // The reference is at address 0, where there is no memory.
     (
         "step 0\nstate 0\nstate 3\nstate 4\n",
@@ -68,7 +68,7 @@ fn replies_of_four(rt: HostRuntime) -> Result<(), Fail> {
 }
 
 /// Breaks that are set and cleared, and where `cont` stops.
-const ONE: &[(&str, &str)] = &[
+static ONE: &[(&str, &str)] = &[
     (
         "break 10004\ncont\nreg 0 20\ncont\nstate 0\n",
         "ok\nat 0\n00010004\nhalted\nhalt 00\n",

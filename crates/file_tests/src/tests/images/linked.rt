@@ -7,7 +7,7 @@ use test_devices::assert_same;
 
 /// `examples/c/sum.c` and `start.S`, as GNU ld 2.40 linked them with `image.ld`, `-n` and `-s`. Behind
 /// the three segments stand section names and section headers.
-const SUM: [u8; 544] = [
+static SUM: [u8; 544] = [
     0x7F, 0x45, 0x4C, 0x46, 1, 1, 1, 0, 0, 0, 0, 0, 0, 0, 0, 0, 2, 0, 0xF3, 0, 1, 0, 0, 0, 0, 0, 1,
     0, 0x34, 0, 0, 0, 0x30, 1, 0, 0, 0, 0, 0, 0, 0x34, 0, 0x20, 0, 3, 0, 0x28, 0, 6, 0, 5, 0, 1, 0,
     0, 0, 0x94, 0, 0, 0, 0, 0, 1, 0, 0, 0, 1, 0, 0x70, 0, 0, 0, 0x70, 0, 0, 0, 5, 0, 0, 0, 4, 0, 0,

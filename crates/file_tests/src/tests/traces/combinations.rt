@@ -10,7 +10,7 @@ use test_devices::assert_same;
 use trace_file::{TraceError, is_trace};
 
 /// The trace of no steps of a machine of four processors, which combines an entry three times.
-const NO_STEPS: [u8; 16] = [0x55, 0x4C, 0x54, 0x52, 2, 2, 4, 4, 3, 0, 0, 0, 0, 0, 0, 0];
+static NO_STEPS: [u8; 16] = [0x55, 0x4C, 0x54, 0x52, 2, 2, 4, 4, 3, 0, 0, 0, 0, 0, 0, 0];
 
 /// The size of that machine, but for how often it combines an entry.
 fn config(r: u8) -> Config {

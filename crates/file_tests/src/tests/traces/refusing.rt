@@ -79,7 +79,7 @@ fn records(rt: HostRuntime) {
 
 /// Records of a machine of four processors, and whether they are a step's: an entry at its limit, and
 /// one past it; a number where the kind has none.
-const ENTRIES: [([u8; 12], bool); 29] = [
+static ENTRIES: [([u8; 12], bool); 29] = [
     ([1, 3, 0, 0, 0, 0, 0, 0, 0, 0, 0, 0], true),
     ([1, 4, 0, 0, 0, 0, 0, 0, 0, 0, 0, 0], false),
     ([2, 1, 3, 0, 0, 0, 0, 0, 0, 0, 0, 0], true),

@@ -8,7 +8,7 @@ use test_devices::assert_same;
 use trace_file::is_trace;
 
 /// A step of each kind on a machine of four processors, and its record by hand.
-const KINDS: [(Step, [u8; 12]); 12] = [
+static KINDS: [(Step, [u8; 12]); 12] = [
     (Step::Turn(3), [1, 3, 0, 0, 0, 0, 0, 0, 0, 0, 0, 0]),
     (
         Step::Up { stage: 0, wire: 2 },

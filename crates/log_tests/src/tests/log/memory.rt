@@ -33,7 +33,7 @@ fn machine(alloc: Global) -> Result<Machine, Fail> {
 }
 
 /// The writes by which processor 0 adds 5.
-const POKES: [Poke; 2] = [
+static POKES: [Poke; 2] = [
     Poke::Register {
         processor: 0,
         register: 11,

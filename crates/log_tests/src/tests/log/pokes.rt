@@ -19,7 +19,7 @@ pub(super) fn write(rt: &impl Abort, log: &mut Logged, pokes: &[Poke]) -> Result
 }
 
 /// Writes of all kinds, on a machine of four processors with 1,024 shared words.
-const POKES: [Poke; 5] = [
+static POKES: [Poke; 5] = [
     Poke::Register {
         processor: 2,
         register: 5,
@@ -46,7 +46,7 @@ const POKES: [Poke; 5] = [
 ];
 
 /// What a processor sees at an address then.
-const SEEN: [(u8, u32, Option<u8>); 15] = [
+static SEEN: [(u8, u32, Option<u8>); 15] = [
     (1, 0x0002_0007, Some(200)),
     (0, 0x0002_0007, Some(0)),
     (0, 0x0002_FFFF, Some(0)),
@@ -65,7 +65,7 @@ const SEEN: [(u8, u32, Option<u8>); 15] = [
 ];
 
 /// Writes that this machine has, and writes that it has not.
-const LAWFUL: [(Poke, bool); 14] = [
+static LAWFUL: [(Poke, bool); 14] = [
     (
         Poke::Register {
             processor: 3,

@@ -50,7 +50,7 @@ fn stalls_are_not_entered(rt: HostRuntime) -> Result<(), Fail> {
 }
 
 /// Four adds of which each pair combines, and then both pairs.
-const COMBINED: [Step; 18] = [
+static COMBINED: [Step; 18] = [
     Step::Turn(0),
     Step::Turn(1),
     Step::Turn(2),
