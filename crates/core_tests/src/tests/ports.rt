@@ -9,6 +9,7 @@ use rv_table::{AmoOp, Immediate, ImmediateOp, Insn, Register};
 use std::alloc::AllocGlobal;
 use std::process::Abort;
 use std::test::Fail;
+use test_devices::assert_same;
 
 /// `addi x3, x1, 7`.
 const ADDI: u32 = 0x0070_8193;
@@ -83,10 +84,10 @@ fn local_instruction(rt: HostRuntime) -> Result<(), Fail> {
         result: Some(0x8000_000F),
         out: None,
     };
-    assert_eq!(rt; rig.begin(&rt), Begun::Retired(retired));
+    assert_same!(rt; rig.begin(&rt), Begun::Retired(retired));
     assert!(rt; !rig.port.is_open());
-    assert_eq!(rt; rig.core(&rt).pc(), 0x0001_0004);
-    assert_eq!(rt; rig.core(&rt).registers()[3], 0x8000_000F);
+    assert_same!(rt; rig.core(&rt).pc(), 0x0001_0004);
+    assert_same!(rt; rig.core(&rt).registers()[3], 0x8000_000F);
     Ok(())
 }
 
@@ -98,11 +99,11 @@ fn reference(rt: HostRuntime) -> Result<(), Fail> {
         word: 2,
         phi: Phi::Add(5),
     };
-    assert_eq!(rt; rig.begin(&rt), referred);
+    assert_same!(rt; rig.begin(&rt), referred);
     assert!(rt; rig.port.is_open());
     assert!(rt; rig.port.is_running());
-    assert_eq!(rt; rig.core(&rt).pc(), 0x0001_0000);
-    assert_eq!(rt; rig.core(&rt).registers()[3], 0);
+    assert_same!(rt; rig.core(&rt).pc(), 0x0001_0000);
+    assert_same!(rt; rig.core(&rt).registers()[3], 0);
     Ok(())
 }
 
@@ -119,11 +120,11 @@ fn stops(rt: HostRuntime) -> Result<(), Fail> {
         ),
     ] {
         let mut rig = before(&rt, word)?;
-        assert_eq!(rt; rig.begin(&rt), Begun::Stopped(cause), "{word:08x}");
+        assert_same!(rt; rig.begin(&rt), Begun::Stopped(cause), word);
         assert!(rt; !rig.port.is_running(), "{word:08x}");
         assert!(rt; !rig.port.is_open(), "{word:08x}");
-        assert_eq!(rt; rig.core(&rt).status(), status, "{word:08x}");
-        assert_eq!(rt; rig.core(&rt).pc(), 0x0001_0000, "{word:08x}");
+        assert_same!(rt; rig.core(&rt).status(), status, word);
+        assert_same!(rt; rig.core(&rt).pc(), 0x0001_0000, word);
     }
     Ok(())
 }
@@ -145,19 +146,12 @@ fn registers_are_poked(rt: HostRuntime) -> Result<(), Fail> {
         (33, 4, false, 0xFFFF_FFFC),
         (255, 4, false, 0xFFFF_FFFC),
     ] {
-        assert_eq!(rt;
-            rig.poke_register(&rt, register, value),
-            is_written,
-            "{register} {value}"
-        );
-        assert_eq!(rt; rig.core(&rt).pc(), pc, "{register} {value}");
+        assert_same!(rt; rig.poke_register(&rt, register, value), is_written, (&register, &value));
+        assert_same!(rt; rig.core(&rt).pc(), pc, (&register, &value));
     }
     let registers = rig.core(&rt).registers();
-    assert_eq!(rt;
-        (registers[0], registers[1], registers[2]),
-        (0, 0xFFFF_FFFF, 5)
-    );
-    assert_eq!(rt; (registers[30], registers[31]), (0, 3));
+    assert_same!(rt; (registers[0], registers[1], registers[2]), (0, 0xFFFF_FFFF, 5));
+    assert_same!(rt; (registers[30], registers[31]), (0, 3));
     Ok(())
 }
 
@@ -172,15 +166,11 @@ fn bytes_are_poked(rt: HostRuntime) -> Result<(), Fail> {
         (0x0003_0000, false),
         (0x8000_0000, false),
     ] {
-        assert_eq!(rt;
-            rig.poke_byte(&rt, address, 0xA5),
-            is_written,
-            "{address:08x}"
-        );
+        assert_same!(rt; rig.poke_byte(&rt, address, 0xA5), is_written, address);
         let byte = rig.core(&rt).byte(address).ok();
-        assert_eq!(rt; byte, is_written.then_some(0xA5), "{address:08x}");
+        assert_same!(rt; byte, is_written.then_some(0xA5), address);
     }
-    assert_eq!(rt; rig.core(&rt).byte(0x0002_0001).ok(), Some(0));
+    assert_same!(rt; rig.core(&rt).byte(0x0002_0001).ok(), Some(0));
     Ok(())
 }
 
@@ -197,7 +187,7 @@ fn cores_are_taken_and_put(rt: HostRuntime) -> Result<(), Fail> {
     rig.port.put_core(core);
     assert!(rt; !rig.port.is_away());
     assert!(rt; rig.port.is_running());
-    assert_eq!(rt; rig.core(&rt).pc(), 0x0001_0004);
-    assert_eq!(rt; rig.core(&rt).registers()[3], 0x8000_000F);
+    assert_same!(rt; rig.core(&rt).pc(), 0x0001_0004);
+    assert_same!(rt; rig.core(&rt).registers()[3], 0x8000_000F);
     Ok(())
 }
