@@ -17,7 +17,7 @@ use Rattle.steps.specs.Answers.{is_stalled}
 use Rattle.machine_runs.specs.Machines.{MachineLists, machine_of, AreHome, IsIdle, IsMachine, IsStep}
 use Rattle.machine_runs.specs.machine_program.Processors.{is_lawful_poke}
 use Rattle.machine_runs.specs.Runs.{flat_state, IsReplay}
-use Rattle.machine_runs.specs.Draining.{drain_step, GoesOn, drain_bound, drain_steps, IsDrained}
+use Rattle.machine_runs.specs.Draining.{drain_step, BringsNearer, drain_bound, drain_steps, IsDrained}
 use Rattle.machine_runs.specs.Whole.{steps_from, one_steps, IsOne, IsPoked, IsSent}
 use Rattle.machine_runs.proofs.Lemmas.{IsGoingHome, home_begins, home_goes_on, home_in_time, home_now, replay_begins, replay_kept, replay_more, stalled_is}
 use Rattle.machine_runs.proofs.Lemmas.{run_home, steps_back}
@@ -113,7 +113,8 @@ entering_begins m steps is = record { tail = []; home = home_begins m is; is = s
 
 module _ (old : MachineLists) (steps : List Step) (i : ℕ) (m : MachineLists) (steps' : List Step) (last : Outcome)
     (b : IsHomeEntered old steps i m steps' last) where
-  pub entering_goes_on : (s : Step) (o : Outcome) (new : MachineLists) (steps2 : List Step) → i < drain_bound old.config → drain_step m ≡ Some s → GoesOn m s →
+  pub entering_goes_on : (s : Step) (o : Outcome) (new : MachineLists) (steps2 : List Step) → i < drain_bound old.config → drain_step m ≡ Some s
+      → BringsNearer m s →
       IsStep m s o new →
       steps2 ≡ entered steps' s o → IsEntered m steps' 1 new steps2 → IsHomeEntered old steps (i + 1) new steps2 o
   entering_goes_on s o new steps2 within names goes st is e =
