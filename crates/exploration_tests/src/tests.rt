@@ -177,7 +177,7 @@ fn schedules_are_told(rt: HostRuntime) -> Result<(), Fail> {
         (MISSED, 1, stuck(1, 3)),
     ] {
         match explored(&rt, rt.alloc(), text, k, 1000)? {
-            Ok(found) => assert_same!(rt; found.schedules, schedules, text),
+            Ok(found) => assert_eq!(rt; found.schedules, schedules, "{text}"),
             Err(_) => assert!(rt; false, "{text}"),
         }
     }
