@@ -34,7 +34,8 @@ use Rattle.machine_opening.specs.machine_program.Processors.{sizes_of, no_port, 
 use Rattle.machine_opening.specs.machine_program.Steps.{IsStepOf}
 use Rattle.machine_opening.proofs.Lemmas.machine_program.{at_its_module, begins, byte_poked, finishes, found_within, goes_down, goes_up, no_module, no_place}
 use Rattle.machine_opening.proofs.Lemmas.machine_program.{no_request}
-use Rattle.machine_opening.proofs.Lemmas.machine_program.{no_stage_down, no_stage_up, no_wire_down, no_wire_up, not_home, not_idle, ports_stay, refers, register_poked, rests, serves}
+use Rattle.machine_opening.proofs.Lemmas.machine_program.{no_stage_down, no_stage_up, no_wire_down, no_wire_up, not_home, not_idle, ports_stay}
+use Rattle.machine_opening.proofs.Lemmas.machine_program.{refers, register_poked, rests, serves}
 use Rattle.machine_opening.proofs.Lemmas.machine_program.{slot_free}
 use Rattle.machine_opening.proofs.Lemmas.machine_program.{unlawful, unnamed, word_poked, word_there}
 use Rattle.machine_opening.specs.machine_program.Turning.{IsBegun, IsFinishedBy, told_of_up, told_of_down}
@@ -71,7 +72,14 @@ module _ (m : MachineLists) (is : IsMachine m) where
       IsStepOf c m.code (net_of m.network) m.ports m.modules s o (net_of net') ports' modules' →
       Done m s o (record { config = m.config; image = m.image; network = net'; ports = ports'; modules = modules'; code = m.code })
   done s o net' ports' modules' sizes ports modules st = (
-    record { config = refl; image = refl; code = refl; cores = ports_stay c m.code (net_of m.network) (net_of net') m.ports ports' m.modules modules' s o st; step = st },
+    record {
+      config = refl;
+      image = refl;
+      code = refl;
+      cores = ports_stay c m.code (net_of m.network) (net_of net') m.ports ports' m.modules modules'
+          s o st;
+      step = st;
+    },
     parts_kept m.config m.code m.image m.network net' m.ports ports' m.modules modules' s o is st sizes ports modules,
   )
 

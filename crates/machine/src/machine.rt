@@ -66,7 +66,14 @@ impl Model for Machine {
 
     ghost Value = { MachineLists };
 
-    ghost view = { λ m. record { config = m.config; image = m.image; network = m.network; ports = m.ports.items; modules = m.modules.items; code = arc_value m.code } };
+    ghost view = { λ m. record {
+      config = m.config;
+      image = m.image;
+      network = m.network;
+      ports = m.ports.items;
+      modules = m.modules.items;
+      code = arc_value m.code;
+    } };
 
     ghost invariant = { λ m. ArePartsOfOne m.config m.image m.network m.ports.items m.modules.items (arc_value m.code) };
 }

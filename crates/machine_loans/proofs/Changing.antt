@@ -1,5 +1,6 @@
 -- What always holds of a log that lends, where a core is taken out or put in.
-use Rattle.std.proofs.Common.{◌≡◌, ◌≢◌, ℕ, ◌+◌, ◌-◌, ◌^◌, ◌<◌, ◌≤◌, Bool, true, false, List, length, Option, Some, None, ◌⊎◌, inl, inr, refl, sym, ap, ap₂, ◌∙◌, subst}
+use Rattle.std.proofs.Common.{◌≡◌, ◌≢◌, ℕ, ◌+◌, ◌-◌, ◌^◌, ◌<◌, ◌≤◌, Bool, true, false, List, length, Option, Some, None, ◌⊎◌, inl, inr, refl, sym, ap}
+use Rattle.std.proofs.Common.{ap₂, ◌∙◌, subst}
 use Rattle.std.proofs.Common.{get_or-set_same, get_or-set_other, length-set, arith}
 use Rattle.std.specs.Prelude.{◌&&◌, is_some, nat_lt, not, slice_set}
 use Rattle.std.proofs.lemmas.Bool.{and_parts, cases_eq, ltb-true, true≢false}

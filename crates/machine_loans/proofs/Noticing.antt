@@ -96,7 +96,8 @@ module _ (c : Config) (net : Net) (ports : List PortState) (modules : List (List
 
   core_is : (q : ℕ) (l : Option Lent) → lent_at lent q ≡ l →
       told_at (all_back ports lent) shown q ≡ standing lent shown (told_at ports shown q) q l
-  core_is q None e = ap (λ (port : PortState). record { state = port.core.state; events = shown q }) (back_at ports lent q same ∙ ap (with_lent (port_at ports q)) e)
+  core_is q None e = ap (λ (port : PortState). record { state = port.core.state; events = shown q }) (back_at ports lent q same
+      ∙ ap (with_lent (port_at ports q)) e)
   core_is q (Some l) e =
       ap (λ (port : PortState). record { state = port.core.state; events = shown q }) (back_at ports lent q same ∙ ap (with_lent (port_at ports q)) e)
 

@@ -64,7 +64,8 @@ module _ (c : Config) (code : List ℕ) (M : Machine Told) where
 
   begin_stays : (p : ℕ) (k : Kind) → StayBy (begin (program c code) M p k)
   begin_stays p Rests q = refl
-  begin_stays p Alone q = put_stay M.core p (alone_by (M.core p) (next c code p (M.core p).state)) (alone_stays p (M.core p) (next c code p (M.core p).state) refl) q
+  begin_stays p Alone q = put_stay M.core p (alone_by (M.core p) (next c code p (M.core p).state))
+      (alone_stays p (M.core p) (next c code p (M.core p).state) refl) q
   begin_stays p Refers q = refl
 
   retire_stays : (p : ℕ) (replies : List Reply) → StayBy (retire_from (program c code) M p replies)

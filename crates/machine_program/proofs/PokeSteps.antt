@@ -97,7 +97,8 @@ module _ (c : Config) (code : List ℕ) (net : Net) (ports : List PortState) (mo
   module _ (idle : (p : ℕ) → p < 2 ^ c.k → open_at ports p ≡ false) (at_home : (p : ℕ) → p < 2 ^ c.k → is_away (port_at ports p).core.state ≡ false) where
     may : (q : Poke) (b : Bool) → is_lawful_poke c q ≡ b → (all_shut (2 ^ c.k) (open_at ports) && (all_home && is_lawful_poke c q)) ≡ b
     may q b e =
-        ap₂ (λ x y. x && (y && is_lawful_poke c q)) (shut_all (2 ^ c.k) (open_at ports) idle) (home_all (2 ^ c.k) (λ p. (port_at ports p).core.state) at_home) ∙ e
+        ap₂ (λ x y. x && (y && is_lawful_poke c q)) (shut_all (2 ^ c.k) (open_at ports) idle)
+        (home_all (2 ^ c.k) (λ p. (port_at ports p).core.state) at_home) ∙ e
 
     pub unlawful : (q : Poke) → is_lawful_poke c q ≡ false → IsStepOf c code net ports modules (step.Poke q) Stalled net ports modules
     unlawful q e = poke_refused q (may q false e)

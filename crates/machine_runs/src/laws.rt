@@ -1,6 +1,7 @@
 //! What holds of all runs. Each law is the contract of a function that does nothing.
 
-ghost use Rattle.machine_runs.specs.Laws.{AnswersAreOfTheSteps, AnswersForgetEvents, CoresStay, CoresStayHome, EventsAreTold, FlatProcessorsAreRead, FlatWordsAreRead, ReplaysAreCut};
+ghost use Rattle.machine_runs.specs.Laws.{AnswersAreOfTheSteps, AnswersForgetEvents, CoresStay, CoresStayHome, EventsAreTold, FlatProcessorsAreRead};
+ghost use Rattle.machine_runs.specs.Laws.{FlatWordsAreRead, ReplaysAreCut};
 ghost use Rattle.machine_runs.specs.Laws.{ReplaysAreJoined, ReplaysBegin, RunsAreJoined, RunsAreSerialized, StallsAreNotEntered, StepsAreEntered};
 
 /// A replay begins with no step, and a step that is taken next stands at its end, unless it stalls.

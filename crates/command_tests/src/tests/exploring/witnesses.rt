@@ -101,6 +101,9 @@ fn deadlock_is_come_to(rt: HostRuntime) -> Result<(), Fail> {
     let file = image_of(alloc, MISSED)?;
     let ran = explored(alloc, file.as_slice(), 0);
     assert_same!(rt; ran.status, 1);
-    assert_same!(rt; replayed(alloc, ran.trace.as_slice(), file.as_slice()).as_slice(), b"processor 0 pc 00010000 run retired 0 console -\nprocessor 1 pc 0001001c run retired 7 console -\n".as_slice());
+    let report = replayed(alloc, ran.trace.as_slice(), file.as_slice());
+    let told =
+        b"processor 0 pc 00010000 run retired 0 console -\nprocessor 1 pc 0001001c run retired 7 console -\n";
+    assert_same!(rt; report.as_slice(), told.as_slice());
     Ok(())
 }

@@ -34,7 +34,8 @@ loop-poke-preserved c =
           (sym (take_more pokes i (poke.Register 0 0 0) c.loop-poke-test.true))
           (poked_more c.args.machine.now c.loop-poke.machine c.enter.new.machine c.args.steps.now.items c.loop-poke.steps.items c.enter.new.steps.items
           (take i pokes) q c.enter.result w.poked
-          (c.requires.lawful i (poke.Register 0 0 0) c.loop-poke-test.true) e.step (e.poked w.poked.idle (run_home c.args.machine.now c.loop-poke.machine _ w.poked.replay.run c.requires.home) q refl) e.steps e.entered);
+          (c.requires.lawful i (poke.Register 0 0 0) c.loop-poke-test.true) e.step
+          (e.poked w.poked.idle (run_home c.args.machine.now c.loop-poke.machine _ w.poked.replay.run c.requires.home) q refl) e.steps e.entered);
       capacity = e.capacity ∙ w.capacity;
     }
 

@@ -8,7 +8,8 @@ use Rattle.machine.proofs.machine.Machine.poke_shared.Goals as goal
 
 pub returns-then-address-lt-SHARED_START : goal.returns-then-address-lt-SHARED_START
 returns-then-address-lt-SHARED_START c =
-    shared_unnamed c.args.self.now c.machine_is_sound.ensures c.requires.idle c.requires.home c.args.address c.args.value (below c.args.address _ c.if-address-lt-SHARED_START.true)
+    shared_unnamed c.args.self.now c.machine_is_sound.ensures c.requires.idle c.requires.home c.args.address c.args.value
+    (below c.args.address _ c.if-address-lt-SHARED_START.true)
 
 pub returns-then-word-self : goal.returns-then-word-self
 returns-then-word-self c =

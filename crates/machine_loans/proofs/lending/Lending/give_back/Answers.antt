@@ -100,10 +100,16 @@ returns-clause-back c =
     c.put_core.ensures.put in
     let replay = back_replay c.local_turns_catch_up.ensures.turns c.runs_are_joined.ensures.replays l.opening.value l.machine l.steps.items
     (vec_capacity l.steps) l.lent.items is c.args.p within c.args.record.now e c.args.core c.args.taken.now c.requires.setting home local c.requires.few in
-    let answered = back_answered c.local_turns_catch_up.ensures.turns c.runs_are_joined.ensures.replays l.opening.value l.machine l.steps.items (vec_capacity l.steps)
+    let answered = back_answered c.local_turns_catch_up.ensures.turns c.runs_are_joined.ensures.replays l.opening.value l.machine l.steps.items
+    (vec_capacity l.steps)
     l.lent.items is c.args.p within c.args.record.now e c.args.core c.args.taken.now c.requires.setting home local c.requires.few in
     subst (λ (x : LendingLog). IsBack x c.args.p c.args.core c.args.taken.now (record {
-      log = record { opening = l.opening.value; steps = c.enter_turns.new.steps.items; machine = whole c.put_core.new.self (slice_set l.lent.items c.from.result None) };
+      log = record {
+        opening = l.opening.value;
+        steps = c.enter_turns.new.steps.items;
+        machine = whole c.put_core.new.self
+            (slice_set l.lent.items c.from.result None);
+      };
       lent = slice_set l.lent.items c.from.result None;
     })) c.self.view_is (record {
       opening = refl;

@@ -10,4 +10,5 @@ unreachable-requires c =
     let code = c.args.code.now in
     let setting = c.self.inside.setting in
     let refers = subst (λ (p : PortState). IsReference (turn p code)) (sym c.self.view_is) c.requires in
-    no_reference setting code (subst (λ core. IsReference (turn_of (seen_core setting core).setting code (seen_core setting core).state)) c.in_default.is refers)
+    no_reference setting code (subst (λ core. IsReference (turn_of (seen_core setting core).setting code (seen_core setting core).state))
+    c.in_default.is refers)
