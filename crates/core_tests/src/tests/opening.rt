@@ -35,14 +35,15 @@ fn ports(rt: HostRuntime) -> Result<(), Fail> {
     assert_same!(rt; ports.len(), 2);
     for (number, port) in ports.iter().enumerate() {
         assert!(rt; !port.is_open(), "{number}");
-        assert_same!(rt; port.core().pc(), 0x0001_0008, number);
-        assert_same!(rt; port.core().status(), Status::Running, number);
-        assert_same!(rt; *port.core().registers(), [0; 32], number);
-        assert_same!(rt; port.core().setting().number, number as u8, number);
-        assert_same!(rt; port.core().setting().processors, 2, number);
-        assert_same!(rt; port.core().setting().shared_words, 5, number);
-        assert_same!(rt; port.core().byte(0x0002_0000), Ok(0xA5), number);
-        assert_same!(rt; port.core().byte(0x0002_0001), Ok(0), number);
+        let core = port.core().expect(&rt, "no core is away");
+        assert_same!(rt; core.pc(), 0x0001_0008, number);
+        assert_same!(rt; core.status(), Status::Running, number);
+        assert_same!(rt; *core.registers(), [0; 32], number);
+        assert_same!(rt; core.setting().number, number as u8, number);
+        assert_same!(rt; core.setting().processors, 2, number);
+        assert_same!(rt; core.setting().shared_words, 5, number);
+        assert_same!(rt; core.byte(0x0002_0000), Ok(0xA5), number);
+        assert_same!(rt; core.byte(0x0002_0001), Ok(0), number);
     }
     Ok(())
 }
