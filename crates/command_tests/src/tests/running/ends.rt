@@ -101,7 +101,7 @@ word 0 00000007
         4, 0, 0, 0, 0, 0, 0, 0, 0, 0, 0, 0, //
         1, 0, 0, 0, 0, 0, 0, 0, 0, 0, 0, 0,
     ];
-    assert_same!(rt; ran.trace.len(), 12 + 12 * 14);
+    assert!(rt; ran.trace.len() == 12 + 12 * 14);
     assert_same!(rt; &ran.trace.as_slice()[12 + 12 * 10..], drain.as_slice());
     let replayed = replay(alloc, ran.trace.as_slice(), Ok(image.as_slice()), 1024);
     assert_same!(rt; replayed.out.as_slice(), report.as_bytes());
