@@ -7,7 +7,7 @@ ghost use Rattle.machine.specs.machine_program.Processors.{port_at};
 ghost use Rattle.machine.specs.machine_program.Steps.{outcome_of};
 ghost use Rattle.machine.specs.Machines.{is_free, machine_of, without_core_at};
 ghost use Rattle.machine_log.specs.machine_runs.Runs.{answer_after, IsReplay};
-ghost use Rattle.machine_log.specs.Logs.{HasTaken, IsKept};
+ghost use Rattle.machine_log.specs.Logs.{HasTaken, IsKept, is_named};
 ghost use Rattle.loan_theory.specs.Loans.{turns_of};
 ghost use Rattle.loan_theory.specs.local_runs.LocalRuns.{TakesLocal};
 ghost use Rattle.std.specs.Vec.{vec_capacity};
@@ -20,7 +20,7 @@ use hart::{Core, core_has_registers};
 use loan_theory::{local_turns_catch_up, others_do_not_notice};
 use local_memory::Code;
 use machine::{Machine, machine_is_sound};
-use machine_log::{LogRefusal, Logged, enter};
+use machine_log::{LogRefusal, Logged, enter, names};
 use machine_runs::runs_are_joined;
 use std::alloc::{AllocError, Global};
 use std::marker::Model;
@@ -117,6 +117,20 @@ impl Lending {
         matches!(self.lent.get(usize::from(p)), Some(Some(_)))
     }
 
+    /// Whether the machine has each place that the step names.
+    pub fn names(&self, step: &Step) -> bool
+        ensures { result ≡ is_named self.now.log.machine.config step.now }
+    {
+        names(self.machine.config(), step)
+    }
+
+    /// Whether the log has [`MAX_STEPS`] steps, with those that are promised.
+    pub fn is_full(&self) -> bool
+        ensures { IsTrue result ↔ (4194304 ≤ length self.now.log.steps + promised self.now.lent) }
+    {
+        self.steps.len() + self.promises >= MAX_STEPS
+    }
+
     /// The steps that the machine has taken, in order. None of them stalled.
     pub fn steps(&self) -> &[Step]
         ensures { result.now ≡ self.now.log.steps }
@@ -174,6 +188,7 @@ impl Lending {
         ensures lent { OnOk result (self.new ≡ record self.old {
           lent = slice_set self.old.lent p (Some (record { core = (port_at self.old.log.machine.ports p).core; most = most }));
         }) }
+        ensures unlent { OnOk result (lent_at self.old.lent p ≡ None) }
         ensures free { (result ≡ Err LendRefusal.NotFree) ↔ (may_lend self.old p ≡ false) }
         ensures full { (result ≡ Err LendRefusal.Full)
             ↔ ((may_lend self.old p ≡ true) × (4194304 < length self.old.log.steps + (promised self.old.lent + most))) }
@@ -261,7 +276,7 @@ impl Lending {
     }
 
     /// Puts the core of a processor back as it was lent, if it is away.
-    fn bring_back(&mut self, p: u8)
+    pub fn bring_back(&mut self, p: u8)
         requires there { p < 2 ^ self.old.log.machine.config.k }
         ensures { self.new ≡ record self.old { lent = slice_set self.old.lent p None } }
     {

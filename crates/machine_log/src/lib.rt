@@ -15,5 +15,5 @@ mod log;
 mod roomy;
 
 pub use entering::enter;
-pub use log::{LogRefusal, Logged, log_is_kept};
+pub use log::{LogRefusal, Logged, log_is_kept, names};
 pub use roomy::{Roomy, roomy_is_kept};

@@ -2,6 +2,7 @@
 
 ghost use Rattle.std.specs.Prelude.{◌≡◌, ◌≤◌, ◌<◌, ◌+◌, ◌*◌, ◌^◌, ◌↔◌, ◌++◌, [], length, nat_lt, true, false, Err, IfOk, OnOk, OnErr};
 ghost use Rattle.std.specs.Borrow.{sem};
+ghost use Rattle.flat_machine.specs.Limits.{IsWithinLimits};
 ghost use Rattle.machine_runs.specs.Machines.{AreHome, IsIdle};
 ghost use Rattle.machine_runs.specs.Draining.{drain_bound, drain_steps, IsDrained};
 ghost use Rattle.machine_runs.specs.Runs.{answer_after, IsReplay, IsSerialized};
@@ -10,7 +11,7 @@ ghost use Rattle.machine_log.specs.Logs.{is_named, AreLawful, HasPoked, HasTaken
 ghost use Rattle.machine_log.specs.Lending.{LendsRoom};
 
 use crate::roomy::{Roomy, roomy_is_kept};
-use flat_machine::Poke;
+use flat_machine::{Config, Poke};
 use machine_runs::{Machine, most_moves};
 use std::alloc::Global;
 use std::marker::Model;
@@ -103,18 +104,7 @@ impl Logged {
     pub fn names(&self, step: &Step) -> bool
         ensures { result ≡ is_named self.now.machine.config step.now }
     {
-        let config = self.machine().config();
-        let places = config.processors();
-        match *step {
-            Step::Turn(place) | Step::Serve(place) => place < places,
-            Step::Up { stage, wire } | Step::Down { stage, wire } => {
-                stage < config.k && wire < places
-            }
-            Step::Poke(Poke::Register { processor, .. } | Poke::Local { processor, .. }) => {
-                processor < places
-            }
-            Step::Poke(Poke::Shared { .. }) => true,
-        }
+        names(self.machine().config(), step)
     }
 
     /// Takes a step, and enters it unless it stalled.
@@ -223,6 +213,24 @@ impl Logged {
         self.log.make_room(count)?;
         self.log.pokes(pokes);
         Ok(())
+    }
+}
+
+/// Whether a machine of this size has each place that the step names.
+pub fn names(config: Config, step: &Step) -> bool
+    requires { IsWithinLimits config }
+    ensures { result ≡ is_named config step.now }
+{
+    let places = config.processors();
+    match *step {
+        Step::Turn(place) | Step::Serve(place) => place < places,
+        Step::Up { stage, wire } | Step::Down { stage, wire } => {
+            stage < config.k && wire < places
+        }
+        Step::Poke(Poke::Register { processor, .. } | Poke::Local { processor, .. }) => {
+            processor < places
+        }
+        Step::Poke(Poke::Shared { .. }) => true,
     }
 }
 

@@ -2,6 +2,7 @@
 
 ghost use Rattle.std.specs.Prelude.{◌≡◌, ◌≤◌, ◌↔◌, ◌^◌, true, is_some, length, IfErr, IfOk, IsTrue, OnOk};
 ghost use Rattle.exploration.specs.results.Results.{AreOfTheMachine, IsOfTheMachine};
+ghost use Rattle.machine_runs.specs.Machines.{AreHome};
 ghost use Rattle.result_witness.specs.Refusals.{HasWitness, IsNoWitness, IsNotTaken, IsOfSteps};
 ghost use Rattle.result_witness.specs.Witnesses.{IsEnd, IsStuck, IsWitness};
 

@@ -3,7 +3,7 @@ use Rattle.std.specs.Vec.{vec_capacity}
 use Rattle.hart.specs.State.{CoreState}
 use Rattle.steps.specs.declared.step.Step.{Step}
 use Rattle.machine.specs.machine_program.Processors.{port_at}
-use Rattle.machine_loans.specs.Lendings.{IsLending, LendingLog, may_lend, promised, whole}
+use Rattle.machine_loans.specs.Lendings.{IsLending, LendingLog, lent_at, may_lend, promised, whole}
 use Rattle.machine_loans.specs.declared.lent.Lent.{Lent}
 use Rattle.machine_loans.proofs.Backing.{promise_more}
 use Rattle.machine_loans.proofs.Changing.{free_core, free_is, free_unlent, free_within, lent_out, whole_out}
@@ -81,3 +81,12 @@ returns-clause-lent c =
     ∙ ap (λ (x : LendingLog).
     record { log = x.log; lent = slice_set x.lent c.args.p (Some (record { core = (port_at x.log.machine.ports c.args.p).core; most = c.args.most })) })
     c.self.view_is
+
+pub returns-clause-unlent : goal.returns-clause-unlent
+returns-clause-unlent c =
+    let l = c.self.inside in
+    let is = c.self.invariant.0 in
+    let free = sym (free_is l.opening.value l.machine l.steps.items (vec_capacity l.steps) l.lent.items is c.args.p)
+    ∙ ap (λ (x : LendingLog). may_lend x c.args.p) c.self.view_is ∙ sym c.may_lend.ensures ∙ c.if-not-may_lend.false in
+    sym (ap (λ (x : LendingLog). lent_at x.lent c.args.p) c.self.view_is)
+    ∙ free_unlent l.opening.value l.machine l.steps.items (vec_capacity l.steps) l.lent.items is c.args.p free
