@@ -2,7 +2,7 @@
 use Rattle.std.proofs.Common.{◌≡◌, ℕ, zero, suc, ◌+◌, ◌<◌, ◌≤◌, true, false, List, [], ◌∷◌, ◌++◌, length, Option, Some, None, refl, sym, ap, ◌∙◌, subst, arith}
 use Rattle.std.proofs.Common.{length-append, append_assoc, eqb-true, ne_eqb}
 use Rattle.std.specs.Prelude.{replicate, slice_get, slice_set}
-use Rattle.std.proofs.lemmas.List.{append-nil, set-set}
+use Rattle.std.proofs.lemmas.List.{append-nil, set-get_or, set-set}
 use Rattle.std.proofs.lemmas.Option.{slice_get_within}
 use mathlib.Core.Logic.{dite}
 use native.Mathlib.Decide.{ℕ_discrete}
@@ -12,7 +12,7 @@ use Rattle.steps.specs.declared.step.Step.TheVariants as step
 use Rattle.steps.specs.declared.step.Outcome.TheVariants as outcome
 use Rattle.machine_log.specs.machine_runs.Machines.{MachineLists}
 use Rattle.machine_log.specs.Logs.{is_named}
-use Rattle.machine_loans.specs.Lendings.{AreAnswered, OfOthers, lent_at}
+use Rattle.machine_loans.specs.Lendings.{AreAnswered, LendingLog, OfOthers, lent_at}
 use Rattle.machine_loans.specs.declared.lent.Lent.{Lent}
 use Rattle.machine_passes.specs.Lists.{is_of_network, is_turn_of}
 use Rattle.machine_passes.specs.Passes.{most_of}
@@ -21,6 +21,11 @@ use Rattle.machine_passes.specs.declared.row.Row.{Row}
 use Rattle.machine_passes.specs.Rows.{Fits, RowFits, steps_of, told, told_all, with_loan}
 use Rattle.machine_passes.proofs.Fitting.{answered, steps_of-set}
 use Rattle.machine_passes.proofs.Lists.{get-set, get-set_else, length-slice_set, set-same}
+
+get_set_here : (rows : List Row) (p : ℕ) (x : Row) → p < length rows → slice_get (slice_set rows p x) p ≡ Some x
+get_set_here [] p x inside = absurd (omega arith)
+get_set_here (y ∷ ys) zero x inside = refl
+get_set_here (y ∷ ys) (suc p) x inside = get_set_here ys p x (omega arith)
 
 module _ (opening : MachineLists) (first : List Step) (count : ℕ) where
   -- where a row says something else of loans
@@ -61,11 +66,17 @@ module _ (opening : MachineLists) (first : List Step) (count : ℕ) where
       (λ i. (append_assoc steps (step.Turn p ∷ []) (turns_of p (length later)) i,
       (set-set rows p once (told_all p once (length (steps ++ step.Turn p ∷ [])) later)
       ∙ ap (λ n. slice_set rows p (told_all p once n later)) place) i)) more
-    where
-      get_set_here : (rows : List Row) (p : ℕ) (x : Row) → p < length rows → slice_get (slice_set rows p x) p ≡ Some x
-      get_set_here [] p x inside = absurd (omega arith)
-      get_set_here (y ∷ ys) zero x inside = refl
-      get_set_here (y ∷ ys) (suc p) x inside = get_set_here ys p x (omega arith)
+
+  -- where a core comes back, and turns of p have retired these instructions
+  pub back_fits : (steps : List Step) (rows : List Row) (p : ℕ) (r : Row) (taken : List Retired) → Fits opening first count steps rows →
+      slice_get rows p ≡ Some r → is_named opening.config (step.Turn p) ≡ true → AreAnswered opening steps p taken →
+      Fits opening first count (steps ++ turns_of p (length taken)) (slice_set rows p (with_loan (told_all p r (length steps) taken) None))
+  back_fits steps rows p r taken h at named answers =
+      let t = told_all p r (length steps) taken in
+      let inside = slice_get_within rows p r at in
+      subst (λ rows. Fits opening first count (steps ++ turns_of p (length taken)) rows) (set-set rows p t (with_loan t None))
+      (loan_fits (steps ++ turns_of p (length taken)) (slice_set rows p t) p t None (told_fits steps rows p r taken h at named answers)
+      (get_set_here rows p t inside))
 
 -- ---- loans
 
@@ -91,11 +102,11 @@ turn_others lent p none q l e same = absurd (no (lent_at lent p) (ap (lent_at le
 
 -- and so is each step of the network
 pub net_others : (lent : List (Option Lent)) (s : Step) → is_of_network s ≡ true → OfOthers lent s
-net_others lent (step.Turn p) net = absurd (cc)
+net_others lent (step.Turn p) net q l e = absurd (cc)
 net_others lent (step.Up s w) net q l e = tt
 net_others lent (step.Serve m) net q l e = tt
 net_others lent (step.Down s w) net q l e = tt
-net_others lent (step.Poke poke) net = absurd (cc)
+net_others lent (step.Poke poke) net q l e = absurd (cc)
 
 -- told rows say the same of loans
 pub told_lent : (p : ℕ) (r : Row) (place : ℕ) (taken : List Retired) → (told_all p r place taken).lent ≡ r.lent
@@ -116,3 +127,19 @@ lent_quiet lent s p most others e = at (lent_at lent p) refl e
     at : (l : Option Lent) → lent_at lent p ≡ l → Some most ≡ most_of l → is_turn_of p s ≡ false
     at None f g = absurd (cc)
     at (Some l) f g = apart s (others p l f)
+
+-- ---- what is known of loans, where one is made and comes back
+
+pub none_here : (lent : List (Option Lent)) (p : ℕ) → lent_at (slice_set lent p None) p ≡ None
+none_here [] zero = refl
+none_here [] (suc p) = refl
+none_here (l ∷ lent) zero = refl
+none_here (l ∷ lent) (suc p) = none_here lent p
+
+-- A core that is lent, and brought back at once, leaves all as it was.
+pub brought_back : (old lent back : LendingLog) (p : ℕ) (l : Lent) → lent ≡ record old { lent = slice_set old.lent p (Some l) } → lent_at old.lent p ≡ None →
+    back ≡ record lent { lent = slice_set lent.lent p None } → back ≡ old
+brought_back old lent back p l one none two =
+    let put = λ (x : LendingLog) (ls : List (Option Lent)). let y : LendingLog = record x { lent = ls } in y in
+    two ∙ ap (λ x. put x (slice_set x.lent p None)) one
+    ∙ ap (put old) (set-set old.lent p (Some l) None ∙ ap (slice_set old.lent p) (sym none) ∙ set-get_or old.lent p None)

@@ -1,5 +1,5 @@
--- A loan goes on.
-use Rattle.std.proofs.Common.{◌≡◌, ℕ, ◌≤◌, List, [], ◌∷◌, ◌++◌, length, refl, sym, ap, ◌∙◌, subst}
+-- A loan begins, and goes on.
+use Rattle.std.proofs.Common.{◌≡◌, ℕ, ◌≤◌, List, [], ◌∷◌, ◌++◌, length, refl, sym, ap, ◌∙◌, subst, arith}
 use Rattle.flat_machine.specs.declared.event.Retired.{Retired}
 use Rattle.flat_machine.specs.declared.setting.Setting.{Setting}
 use Rattle.flat_machine.specs.State.{Processor}
@@ -23,4 +23,11 @@ loan_goes_on code l old new before after end is run few most = record {
       (subst (λ s. TakesLocal s code old.state run.taken new.state) is.setting run.turns));
   setting = run.setting ∙ is.setting;
   few = subst (λ n. length after.items ≤ n) (run.most ∙ most) few;
+}
+
+pub loan_begins : (code : List ℕ) (l : Lent) (core : CoreState) (retired : RetirementList) → retired.items ≡ [] → core ≡ l.core → IsLoan code l core retired
+loan_begins code l core retired none same = record {
+  turns = subst (λ items. TakesLocal l.core.setting code l.core.state items core.state) (sym none) (ap (λ (c : CoreState). c.state) same);
+  setting = ap (λ (c : CoreState). c.setting) same;
+  few = subst (λ items. length items ≤ l.most) (sym none) (omega arith);
 }

@@ -2,6 +2,7 @@
 
 ghost use Rattle.std.specs.Prelude.{◌≡◌, ℕ, ◌≤◌, ◌<◌, ◌+◌, ◌^◌, ◌↔◌, [], ◌∷◌, length, true, false, Some, Err, slice_get};
 ghost use Rattle.std.specs.Prelude.{IfOk, IfErr, OnOk, OnErr, None, vec_len, vec_capacity};
+ghost use Rattle.std.specs.Arc.{arc_value};
 ghost use Rattle.agreed_rows.specs.Rows.{IsWritten};
 ghost use Rattle.local_runs.specs.LocalRuns.{RetirementList};
 ghost use Rattle.machine_log.specs.Logs.{is_named};
@@ -17,10 +18,13 @@ use crate::row::Row;
 use crate::run::Run;
 use crate::stored::Stored;
 use agreed_rows::{Claim, Keeper, Next};
+use local_memory::Code;
 use local_runs::Retirements;
 use machine_loans::{LendRefusal, Lending, lending_is_kept};
 use machine_log::{LogRefusal, Logged};
+use std::alloc::Global;
 use std::marker::{Brand, Model, PhantomData};
+use std::sync::Arc;
 use steps::{Outcome, Step};
 
 /// The logged machine, which lends cores, with the keeper that knows what every pass stores. Contracts see it as the log and all
@@ -97,6 +101,25 @@ fn take(
         }
         Err(refusal) => Err(refusal),
     }
+}
+
+// What a loan needs beside the core; None where there is no memory for it, or no room in the pass for what it may retire.
+fn means(
+    lending: &Lending,
+    stored: &Stored,
+    most: u32,
+    list: Option<Retirements>,
+) -> Option<(Retirements, Arc<Code, Global>)>
+    ensures list { (m : _) → result ≡ Some m → list ≡ Some m.0 }
+    ensures code { (m : _) → result ≡ Some m → arc_value m.1 ≡ lending.now.log.opening.code }
+    ensures room { (m : _) → result ≡ Some m → vec_len stored.now.notices + most ≤ vec_capacity stored.now.notices }
+{
+    lending_is_kept(lending);
+    if !stored.has_room_for(most as usize) {
+        return None;
+    }
+    let code = lending.code().clone().ok()?;
+    Some((list?, code))
 }
 
 impl<N: Run> Desk<N> {
@@ -219,10 +242,10 @@ impl<N: Run> Desk<N> {
             stored,
             claim,
         } = pass;
-        let code: Result<_, _> = lending.code().clone();
-        let has_room = stored.has_room_for(most as usize);
+        lending_is_kept(lending);
+        let means = means(lending, stored, most, list);
         let (core, record) = lending.lend(*processor, most)?;
-        let (Some(retired), Ok(code), true) = (list, code, has_room) else {
+        let Some((retired, code)) = means else {
             lending.bring_back(*processor);
             return Err(LendRefusal::Memory);
         };
@@ -266,23 +289,21 @@ impl<N: Run> Desk<N> {
             retired,
             of,
         } = loan;
-        match lending.give_back(*processor, &record, core, retired.as_slice()) {
-            Ok(()) => {
-                lending_is_kept(lending);
-                stored.tell_all(*processor, retired.as_slice(), place as u32);
-                stored.lent = None;
-                note(keeper, claim, stored);
-                Ok(())
-            }
-            Err(core) => Err(Loan {
+        if let Err(core) = lending.give_back(*processor, &record, core, retired.as_slice()) {
+            return Err(Loan {
                 processor: *processor,
                 core,
                 record,
                 code,
                 retired,
                 of,
-            }),
+            });
         }
+        lending_is_kept(lending);
+        stored.tell_all(*processor, retired.as_slice(), place as u32);
+        stored.lent = None;
+        note(keeper, claim, stored);
+        Ok(())
     }
 
     /// The logged machine, with each core back that is away as it was lent, and what the keeper knew.

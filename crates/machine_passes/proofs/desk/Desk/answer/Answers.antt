@@ -61,6 +61,9 @@ invariant_of-pass-2 g c =
 pub take-requires-clause-named : goal.take-requires-clause-named
 take-requires-clause-named g c = subst (λ k. is_named k c.args.step ≡ true) (sym c.self.invariant.config) c.requires.named
 
+pub take-requires-clause-others : goal.take-requires-clause-others
+take-requires-clause-others g c = subst (λ (x : Sheet). OfOthers x.lent c.args.step) (sym c.self.view_is) c.requires.others
+
 pub take-requires-clause-steps : goal.take-requires-clause-steps
 take-requires-clause-steps g c =
     let p = c.pass.inside in
