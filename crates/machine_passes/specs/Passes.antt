@@ -7,6 +7,7 @@ use Rattle.hart.specs.State.{CoreState}
 use Rattle.steps.specs.declared.step.Step.{Step}
 use Rattle.steps.specs.declared.step.Step.TheVariants.{Turn}
 use Rattle.steps.specs.declared.step.Outcome.{Outcome}
+use Rattle.steps.specs.declared.step.Outcome.TheVariants.{Stalled}
 use Rattle.machine_log.specs.machine_runs.Machines.{MachineLists}
 use Rattle.machine_log.specs.machine_runs.Runs.{answer_after}
 use Rattle.machine_log.specs.Logs.{Log, entered}
@@ -53,6 +54,12 @@ pub record IsTold (from : ℕ) (old : Held) (s : Step) (o : Outcome) (new : Held
   pub follows : Follows old.row.last place
   pub pass : new ≡ held old.processor (told old.processor old.row s o place)
 
+-- A turn of the pass's processor was asked for, and answered so: it was told to the pass. While the core is lent, it stalls, and the pass
+-- is not told.
+abbrev pub IsTurned : (lent : Option ℕ) → (from : ℕ) → (old : Held) → Outcome → (new : Held) → Type 0
+IsTurned None from old o new = IsTold from old (Turn old.processor) o new
+IsTurned (Some most) from old o new = (o ≡ Stalled) × (new ≡ old)
+
 -- Behind a turn that answered so a step of the network was asked for, unless the turn had stopped the processor: it was told to the
 -- pass, or refused, which left the pass as it was.
 abbrev pub IsAsked : (from : ℕ) → Config → (turn : Outcome) → Held → Step → Option (Result Outcome LogRefusal) → Held → Type 0
@@ -60,10 +67,10 @@ IsAsked from c turn old s None new = (is_stop turn ≡ true) × (new ≡ old)
 IsAsked from c turn old s (Some (Ok o)) new = (is_stop turn ≡ false) × (is_net c s ≡ true) × IsTold from old s o new
 IsAsked from c turn old s (Some (Err e)) new = (is_stop turn ≡ false) × ((e ≡ Unnamed) ↔ (is_net c s ≡ false)) × (new ≡ old)
 
--- A turn was told to the pass, and then a step of the network was asked for.
+-- A turn was asked for, and then a step of the network.
 pub record AreTold (from : ℕ) (c : Config) (old : Held) (turn : Outcome) (s : Step) (net : Option (Result Outcome LogRefusal)) (new : Held) : Type 0 where
   pub between : Held
-  pub turn_is : IsTold from old (Turn old.processor) turn between
+  pub turn_is : IsTurned old.row.lent from old turn between
   pub net_is : IsAsked from c turn between s net new
 
 -- ---- a loan

@@ -1,6 +1,6 @@
 //! What lies under the lock.
 
-ghost use Rattle.std.specs.Prelude.{◌≡◌, ℕ, ◌≤◌, ◌<◌, ◌+◌, ◌^◌, ◌↔◌, [], ◌∷◌, length, true, false, Some, Err, slice_get};
+ghost use Rattle.std.specs.Prelude.{◌≡◌, ℕ, ◌≤◌, ◌<◌, ◌+◌, ◌^◌, ◌↔◌, [], ◌∷◌, length, true, false, Some, Err, slice_get, is_some, Ok};
 ghost use Rattle.std.specs.Prelude.{IfOk, IfErr, OnOk, OnErr, None, vec_len, vec_capacity};
 ghost use Rattle.std.specs.Arc.{arc_value};
 ghost use Rattle.agreed_rows.specs.Rows.{IsWritten};
@@ -8,7 +8,7 @@ ghost use Rattle.local_runs.specs.LocalRuns.{RetirementList};
 ghost use Rattle.machine_log.specs.Logs.{is_named};
 ghost use Rattle.machine_loans.specs.Lendings.{OfOthers, promised};
 ghost use Rattle.machine_passes.specs.Lists.{is_net, is_poke, is_turn_of};
-ghost use Rattle.machine_passes.specs.Passes.{row_of, IsAgreed, IsAnswered, IsLentOn, IsLoanOf, IsReturned, IsTold};
+ghost use Rattle.machine_passes.specs.Passes.{row_of, IsAgreed, IsAnswered, IsLentOn, IsLoanOf, IsReturned, IsTold, IsTurned};
 
 use crate::kinds::is_of_network;
 use crate::loan::Loan;
@@ -168,7 +168,7 @@ impl<N: Run> Desk<N> {
     ///
     /// Those of [`Desk::answer`].
     #[inline(always)]
-    pub(crate) fn turn(&mut self, pass: &mut Pass<N>) -> Result<Outcome, LogRefusal>
+    fn turn_home(&mut self, pass: &mut Pass<N>) -> Result<Outcome, LogRefusal>
         requires home { pass.old.row.lent ≡ None }
         ensures told { IfOk result (λ o. IsTold (length N.first) pass.old (Step.Turn pass.old.processor) o pass.new) }
         ensures full { (result ≡ Err LogRefusal.Full) ↔ (4194304 ≤ length self.old.log.steps + promised self.old.lent) }
@@ -179,6 +179,27 @@ impl<N: Run> Desk<N> {
         self.meet(pass);
         let step = Step::Turn(pass.processor);
         self.answer(pass, step)
+    }
+
+    /// Takes a turn of the pass's processor. While its core is lent, it stalls, and the pass is not told.
+    ///
+    /// # Errors
+    ///
+    /// Those of [`Desk::answer`], where the core is not lent.
+    #[inline(always)]
+    pub(crate) fn turn(&mut self, pass: &mut Pass<N>) -> Result<Outcome, LogRefusal>
+        ensures told { IfOk result (λ o. IsTurned pass.old.row.lent (length N.first) pass.old o pass.new) }
+        ensures full { (result ≡ Err LogRefusal.Full)
+            ↔ ((pass.old.row.lent ≡ None) × (4194304 ≤ length self.old.log.steps + promised self.old.lent)) }
+        ensures named { result ≡ Err LogRefusal.Unnamed → ⊥ }
+        ensures lent { is_some pass.old.row.lent ≡ true → result ≡ Ok Outcome.Stalled }
+        ensures err { OnErr result ((pass.new ≡ pass.old) × (self.new ≡ self.old)) }
+        ensures processor { pass.new.processor ≡ pass.old.processor }
+    {
+        if pass.is_lent() {
+            return Ok(Outcome::Stalled);
+        }
+        self.turn_home(pass)
     }
 
     /// Takes a step of the network.

@@ -3,7 +3,7 @@
 ghost use Rattle.std.specs.Prelude.{◌≡◌, ◌≤◌, ◌^◌, ◌↔◌, length, is_some, true, false, None, Ok, Err, IfOk, IfErr, OnOk, OnErr};
 ghost use Rattle.machine_passes.specs.Lists.{is_net};
 ghost use Rattle.machine_passes.specs.Rows.{Fits};
-ghost use Rattle.machine_passes.specs.Passes.{AreTold, IsLentOn, IsLoanOf, IsReturned, IsTold, IsWhole, TotalsAgree, new_passes, rows_of};
+ghost use Rattle.machine_passes.specs.Passes.{AreTold, IsLentOn, IsLoanOf, IsReturned, IsTold, IsTurned, IsWhole, TotalsAgree, new_passes, rows_of};
 
 use crate::desk::Desk;
 use crate::kinds::is_stop;
@@ -101,23 +101,9 @@ impl<N: Run> Shared<N> {
     /// [`LogRefusal::Full`] where the log has [`steps::MAX_STEPS`] steps with those that are promised, else [`LogRefusal::Memory`]
     /// where there is no memory for a place in the pass or in the log. Each leaves all as it was.
     pub fn turn<R: Wait>(&self, rt: &R, pass: &mut Pass<N>) -> Result<Outcome, LogRefusal>
-        ensures told { pass.old.row.lent ≡ None → IfOk result (λ o. IsTold (length N.first) pass.old (Step.Turn pass.old.processor) o pass.new) }
-        ensures lent { is_some pass.old.row.lent ≡ true → (result ≡ Ok Outcome.Stalled) × (pass.new ≡ pass.old) }
+        ensures told { IfOk result (λ o. IsTurned pass.old.row.lent (length N.first) pass.old o pass.new) }
         ensures named { result ≡ Err LogRefusal.Unnamed → ⊥ }
-        ensures err { OnErr result (pass.new ≡ pass.old) }
-        ensures processor { pass.new.processor ≡ pass.old.processor }
-    {
-        if pass.is_lent() {
-            return Ok(Outcome::Stalled);
-        }
-        self.turn_home(rt, pass)
-    }
-
-    /// Takes one turn of the pass's processor, whose core is not lent.
-    fn turn_home<R: Wait>(&self, rt: &R, pass: &mut Pass<N>) -> Result<Outcome, LogRefusal>
-        requires home { pass.old.row.lent ≡ None }
-        ensures told { IfOk result (λ o. IsTold (length N.first) pass.old (Step.Turn pass.old.processor) o pass.new) }
-        ensures named { result ≡ Err LogRefusal.Unnamed → ⊥ }
+        ensures lent { is_some pass.old.row.lent ≡ true → result ≡ Ok Outcome.Stalled }
         ensures err { OnErr result (pass.new ≡ pass.old) }
         ensures processor { pass.new.processor ≡ pass.old.processor }
     {
@@ -192,8 +178,8 @@ impl<N: Run> Shared<N> {
         self.take(rt).net(pass, step)
     }
 
-    /// Takes a turn of the pass's processor, whose core is not lent, as [`Shared::turn`] does and then, unless that has stopped the processor, a step of the network as
-    /// [`Shared::net`] does, with no other thread's step between them.
+    /// Takes a turn of the pass's processor, as [`Shared::turn`] does and then, unless that has stopped the processor, a step of the
+    /// network as [`Shared::net`] does, with no other thread's step between them.
     ///
     /// # Errors
     ///
@@ -205,7 +191,6 @@ impl<N: Run> Shared<N> {
         pass: &mut Pass<N>,
         step: Step,
     ) -> Result<Round, LogRefusal>
-        requires home { pass.old.row.lent ≡ None }
         ensures told { IfOk result (λ r. AreTold (length N.first) N.opening.config pass.old r.turn step r.net pass.new) }
         ensures named { result ≡ Err LogRefusal.Unnamed → ⊥ }
         ensures err { OnErr result (pass.new ≡ pass.old) }

@@ -1,15 +1,14 @@
-use Rattle.std.proofs.Common.{ℕ, sym, ◌∙◌, ap, subst}
-use Rattle.steps.specs.declared.step.Step.TheVariants.{Turn}
-use Rattle.machine_loans.specs.Lendings.{OfOthers}
-use Rattle.machine_passes.specs.Passes.{Held, Sheet}
-use Rattle.machine_passes.proofs.Returning.{turn_others}
+use Rattle.std.proofs.Common.{◌≡◌, ℕ, Option, None, Some, length, false, refl, sym, ◌∙◌, subst}
+use Rattle.std.specs.Prelude.{IfOk, is_some}
+use Rattle.machine_passes.specs.Passes.{IsTurned}
 use Rattle.machine_passes.proofs.desk.Desk.turn.Goals as goal
 
-pub answer-requires-clause-others : goal.answer-requires-clause-others
-answer-requires-clause-others g c =
-    let m = c.meet.ensures in
-    let desk = c.args.self.now in
-    let pass = c.args.pass.now in
-    let own = ap (λ (h : Held). h.processor) (c.pass.view_is ∙ m.same.0) in
-    subst (λ (x : Sheet × ℕ). OfOthers x.0.lent (Turn x.1)) (λ i. (sym m.same.1 i, sym own i))
-    (turn_others desk.lent pass.processor (sym c.requires.home ∙ m.fits.loans pass.processor pass.row m.agrees))
+-- none, where it is not some
+is_none : (l : Option ℕ) → is_some l ≡ false → l ≡ None
+is_none None e = refl
+is_none (Some most) e = absurd (cc)
+
+pub returns-clause-told : goal.returns-clause-told
+returns-clause-told g c =
+    let home = is_none c.args.pass.now.row.lent (sym c.is_lent.ensures ∙ c.if-is_lent.false) in
+    subst (λ lent. IfOk c.turn_home.result (λ o. IsTurned lent (length g.N.Run.first) c.args.pass.now o c.turn_home.new.pass)) (sym home) c.turn_home.ensures.told
