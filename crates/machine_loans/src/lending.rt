@@ -336,6 +336,7 @@ fn taken_out(machine: &mut Machine, p: u8) -> Core
 pub fn lending_is_kept(lending: &Lending)
     ensures kept { IsKept lending.now.log }
     ensures room { length lending.now.log.steps + promised lending.now.lent ≤ 4194304 }
+    ensures all { length lending.now.lent ≡ 2 ^ lending.now.log.machine.config.k }
 {
     let _ = &lending.steps;
 }

@@ -9,6 +9,7 @@
 mod desk;
 mod kinds;
 mod laws;
+mod loan;
 mod pass;
 mod quiet;
 mod row;
@@ -18,6 +19,7 @@ mod stored;
 
 pub use desk::Desk;
 pub use laws::{events_are_listed, lists_are_joined, places_rise, stopped_are_shut};
+pub use loan::Loan;
 pub use pass::Pass;
 pub use row::{Answer, Notice, Row};
 pub use run::Run;

@@ -12,7 +12,7 @@ use Rattle.console_monitor.specs.Ends.{held_of}
 use Rattle.machine_log.specs.declared.log.LogRefusal.{LogRefusal}
 use Rattle.machine_passes.specs.declared.row.Notice.{Notice}
 use Rattle.machine_passes.specs.Lists.{given_to, shown_at, is_turn_of, is_of_network, is_net, is_stop}
-use Rattle.machine_passes.specs.Passes.{Held, held, IsTold, IsAsked, AreTold}
+use Rattle.machine_passes.specs.Passes.{Held, held, IsTold, IsTurned, IsAsked, AreTold}
 use Rattle.processor_threads.specs.Consoles.{console_bytes, console_of, byte_of, given_by}
 use Rattle.processor_threads.specs.Endings.{EndsWithStop}
 
@@ -66,6 +66,17 @@ stops from old new (Answered to) t e = absurd (cc)
 stops from old new Poked t e = absurd (cc)
 stops from old new Stalled t e = absurd (cc)
 
+-- While the core is lent, a turn gives nothing.
+turn_given : (lent : Option ℕ) (from : ℕ) (old new : Held) (o : Outcome) (put : List ℕ) → IsTurned lent from old o new → console_of old ≡ put ++ [] →
+    console_of new ≡ put ++ held_of (byte_of o)
+turn_given None from old new o put t e = turned from old new o put t e
+turn_given (Some most) from old new o put t e = ap console_of t.1 ∙ e ∙ ap (λ o. put ++ held_of (byte_of o)) (sym t.0)
+
+-- And it stops nothing.
+turn_stops : (lent : Option ℕ) (from : ℕ) (old new : Held) (o : Outcome) → IsTurned lent from old o new → is_stop o ≡ true → EndsWithStop new
+turn_stops None from old new o t e = stops from old new o t e
+turn_stops (Some most) from old new o t e = let no : false ≡ true = ap is_stop (sym t.0) ∙ e in absurd (cc)
+
 -- ---- steps of the network
 
 no_turn : (p : ℕ) (s : Step) → is_of_network s ≡ true → is_turn_of p s ≡ false
@@ -103,7 +114,7 @@ asked c from turn old new s (Some (Err e)) a = ap console_of a.2
 -- A round holds the byte that its turn gives, where none was held.
 pub turned_round : (c : Config) (from : ℕ) (old new : Held) (o : Outcome) (s : Step) (net : Option (Result Outcome LogRefusal)) (put : List ℕ) →
     AreTold from c old o s net new → console_of old ≡ put ++ [] → console_of new ≡ put ++ held_of (byte_of o)
-turned_round c from old new o s net put t e = asked c from o t.between new s net t.net_is ∙ turned from old t.between o put t.turn_is e
+turned_round c from old new o s net put t e = asked c from o t.between new s net t.net_is ∙ turn_given old.row.lent from old t.between o put t.turn_is e
 
 -- Behind a turn that stops the processor nothing is asked for.
 none_asked : (c : Config) (from : ℕ) (turn : Outcome) (old new : Held) (s : Step) (net : Option (Result Outcome LogRefusal)) →
@@ -116,4 +127,4 @@ none_asked c from turn old new s (Some (Err e)) a stop = let no = a.0 in absurd 
 pub stops_round : (c : Config) (from : ℕ) (old new : Held) (o : Outcome) (s : Step) (net : Option (Result Outcome LogRefusal)) →
     AreTold from c old o s net new → is_stop o ≡ true → EndsWithStop new
 stops_round c from old new o s net t stop =
-    subst EndsWithStop (sym (none_asked c from o t.between new s net t.net_is stop)) (stops from old t.between o t.turn_is stop)
+    subst EndsWithStop (sym (none_asked c from o t.between new s net t.net_is stop)) (turn_stops old.row.lent from old t.between o t.turn_is stop)
