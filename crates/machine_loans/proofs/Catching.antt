@@ -1,7 +1,8 @@
 -- The turns of a core that has come back.
-use Rattle.std.proofs.Common.{◌≡◌, ◌≢◌, ℕ, zero, suc, ◌+◌, ◌-◌, ◌^◌, ◌<◌, ◌≤◌, Bool, true, false, List, [], ◌∷◌, ◌++◌, length, map, Option, Some, None, ◌⊎◌, inl, inr}
-use Rattle.std.proofs.Common.{refl, sym, ap, ap₂, ◌∙◌, subst, get_or-set_same, arith}
-use Rattle.std.specs.Prelude.{replicate, slice_set}
+use Rattle.std.proofs.Common.{◌≡◌, ℕ, ◌+◌, ◌^◌, ◌<◌, ◌≤◌, false, List, [], ◌∷◌, ◌++◌, length, map, Option, Some, None}
+use Rattle.std.proofs.Common.{◌⊎◌, inl, inr}
+use Rattle.std.proofs.Common.{refl, sym, ap, ◌∙◌, subst, get_or-set_same, arith}
+use Rattle.std.specs.Prelude.{slice_set}
 use Rattle.std.proofs.lemmas.Bool.{cases_eq, true≢false}
 use Rattle.std.proofs.lemmas.List.{length-append, length-replicate}
 use mathlib.Core.Path.{fun_ext}
@@ -12,12 +13,10 @@ use Rattle.flat_machine.specs.declared.event.Retired as retirement
 use Rattle.flat_machine.specs.declared.setting.Setting.{Setting}
 use Rattle.flat_machine.specs.Laws.{AreBelow, HasWords, LeavesWords}
 use Rattle.flat_machine.specs.State.{Processor}
-use Rattle.flat_machine.specs.Turns.{Turn, turn_of}
 use Rattle.flat_machine.proofs.Lemmas.{turn_words}
 use Rattle.hart.specs.State.{CoreState}
 use Rattle.steps.specs.declared.step.Step.{Step}
 use Rattle.steps.specs.declared.step.Step.TheVariants as step
-use Rattle.steps.specs.declared.step.Outcome.{Outcome}
 use Rattle.steps.specs.declared.step.Outcome.TheVariants as outcome
 use Rattle.machine.specs.messages.Places.{put}
 use Rattle.machine.proofs.Lemmas.messages.{put_other, put_same}
@@ -30,12 +29,11 @@ use Rattle.machine.specs.Machines.{MachineLists, IsMachine, machine_of, with_cor
 use Rattle.machine.proofs.Lemmas.machine_ports.{retires_stays}
 use Rattle.machine_log.proofs.Lemmas.machine_runs.{outcome_there}
 use Rattle.machine_log.specs.machine_runs.Laws.{ReplaysAreJoined}
-use Rattle.machine_log.specs.machine_runs.Runs.{NoneStalls, all_after, events_of, IsReplay, IsRun}
-use Rattle.machine_log.specs.Logs.{IsKept}
+use Rattle.machine_log.specs.machine_runs.Runs.{NoneStalls, all_after, events_of, IsReplay}
 use Rattle.loan_theory.specs.Laws.{LocalTurnsCatchUp}
-use Rattle.loan_theory.specs.Loans.{after_all, answers_of, gone_on, told_of, turns_of, with_core}
+use Rattle.loan_theory.specs.Loans.{after_all, answers_of, told_of, turns_of, with_core}
 use Rattle.loan_theory.specs.local_runs.LocalRuns.{TakesLocal}
-use Rattle.machine_loans.specs.Lendings.{AreAnswered, IsLending, lent_at, promised, whole, with_lent}
+use Rattle.machine_loans.specs.Lendings.{AreAnswered, IsLending, lent_at, whole, with_lent}
 use Rattle.machine_loans.specs.declared.lent.Lent.{Lent}
 use Rattle.machine_loans.proofs.Backing.{promise_less}
 use Rattle.machine_loans.proofs.Changing.{as_long, back_port, lends_so, whole_set}
@@ -58,7 +56,8 @@ all_same c code [] M = refl
 all_same c code (s ∷ ss) M = all_same c code ss (after c code M s)
 
 -- what retires does not stall
-none_stalls : (c : Config) (code : List ℕ) (ss : List Step) (M : theory.Machine Told) (taken : List retirement.Retired) → answers_of c code M ss ≡ told_of taken →
+none_stalls : (c : Config) (code : List ℕ) (ss : List Step) (M : theory.Machine Told) (taken : List retirement.Retired) →
+    answers_of c code M ss ≡ told_of taken →
     NoneStalls c code M ss
 none_stalls c code [] M taken e = tt
 none_stalls c code (s ∷ ss) M [] e = absurd (cc)
@@ -140,7 +139,8 @@ module _ (catches : LocalTurnsCatchUp) (joined : ReplaysAreJoined) (opening : Ma
       let sound = put_is_machine V is p within core shut same words (λ away. absurd (true≢false (sym away ∙ stays))) in
       let inside = subst (λ n. p < n) (sym is.ports.all) within in
       let there = get_or-set_same V.ports p (record (port_at V.ports p) { core = core }) no_port inside in
-      let after = joined opening V (with_core_at V p core) steps (step.Turn p ∷ []) replay (turns_replay catches V is p within shut core (retired ∷ []) first) in (
+      let after = joined opening V (with_core_at V p core) steps (step.Turn p ∷ []) replay
+      (turns_replay catches V is p within shut core (retired ∷ []) first) in (
         outcome_there opening V steps replay.run (step.Turn p) ∙ here,
         each_answers (with_core_at V p core) (steps ++ step.Turn p ∷ []) p setting last later sound within
             (ap (λ (x : PortState). x.is_open) there ∙ shut) (ap (λ (x : PortState). x.core.setting) (sym there)) after
@@ -198,7 +198,8 @@ module _ (catches : LocalTurnsCatchUp) (joined : ReplaysAreJoined) (opening m : 
   whole_returned m' same = ap (λ x. whole x (slice_set lent p None)) same ∙ whole_set m lent long p core None
 
   pub returned : (m' : MachineLists) (steps' : List Step) (capacity' : ℕ) → m' ≡ with_core_at m p core → IsMachine m' →
-      steps' ≡ steps ++ turns_of p (length taken) → capacity' ≡ capacity → length steps ≤ capacity → IsLending opening m' steps' capacity' (slice_set lent p None)
+      steps' ≡ steps ++ turns_of p (length taken) → capacity' ≡ capacity → length steps ≤ capacity →
+      IsLending opening m' steps' capacity' (slice_set lent p None)
   returned m' steps' capacity' same sound s c fits =
       let less = promise_less lent p l e in
       let places = is.places in

@@ -1,5 +1,6 @@
 -- What always holds of a log that lends, where a core is taken out or put in.
-use Rattle.std.proofs.Common.{◌≡◌, ◌≢◌, ℕ, ◌+◌, ◌-◌, ◌^◌, ◌<◌, ◌≤◌, Bool, true, false, List, length, Option, Some, None, ◌⊎◌, inl, inr, refl, sym, ap, ap₂, ◌∙◌, subst}
+use Rattle.std.proofs.Common.{◌≡◌, ◌≢◌, ℕ, ◌+◌, ◌-◌, ◌^◌, ◌<◌, ◌≤◌, Bool, true, false, List, length, Option, Some, None, ◌⊎◌, inl, inr, refl, sym, ap}
+use Rattle.std.proofs.Common.{◌∙◌, subst}
 use Rattle.std.proofs.Common.{get_or-set_same, get_or-set_other, length-set, arith}
 use Rattle.std.specs.Prelude.{◌&&◌, is_some, nat_lt, not, slice_set}
 use Rattle.std.proofs.lemmas.Bool.{and_parts, cases_eq, ltb-true, true≢false}
@@ -9,7 +10,7 @@ use Rattle.steps.specs.declared.step.Step.{Step}
 use Rattle.flat_machine.specs.Laws.{HasWords}
 use Rattle.flat_machine.specs.State.{is_running}
 use Rattle.machine.specs.machine_ports.Ports.{PortState, is_away, no_processor}
-use Rattle.machine.specs.machine_program.Processors.{no_port, open_at, port_at, setting_of}
+use Rattle.machine.specs.machine_program.Processors.{no_port, open_at, port_at}
 use Rattle.machine.specs.Machines.{MachineLists, IsMachine, away_at, is_free, is_there, with_core_at, without_core_at}
 use Rattle.machine_log.specs.Logs.{IsKept}
 use Rattle.machine_log.proofs.Lemmas.{kept_home}

@@ -1,6 +1,6 @@
 -- A step that no lent core takes does the same to the machine with all cores back.
-use Rattle.std.proofs.Common.{◌≡◌, ◌≢◌, ℕ, zero, suc, ◌^◌, ◌<◌, ◌≤◌, Bool, true, false, nat_lt, List, [], ◌∷◌, ◌++◌, length, Option, Some, None, ◌⊎◌, inl, inr}
-use Rattle.std.proofs.Common.{refl, sym, ap, ap₂, ◌∙◌, subst, arith}
+use Rattle.std.proofs.Common.{◌≡◌, ◌≢◌, ℕ, zero, suc, ◌<◌, ◌≤◌, Bool, List, [], ◌∷◌, length, Option, Some, None, ◌⊎◌, inl, inr}
+use Rattle.std.proofs.Common.{refl, sym, ap, ap₂, ◌∙◌, arith}
 use Rattle.std.proofs.lemmas.Bool.{cases_eq, cases_lt}
 use mathlib.Core.Path.{fun_ext}
 use Rattle.flat_machine.specs.declared.config.Config.{Config}
@@ -18,7 +18,7 @@ use Rattle.machine.specs.machine_ports.Ports.{PortState, is_away}
 use Rattle.machine.specs.machine_program.Theory as theory
 use Rattle.machine.specs.machine_program.Processors.{Told, open_at, port_at, told_at, word_at}
 use Rattle.machine.specs.machine_program.Steps.{after, machine_of_parts, outcome_of, with_shown, IsStepOf}
-use Rattle.machine.specs.Machines.{MachineLists, IsStep, away_at, machine_of}
+use Rattle.machine.specs.Machines.{MachineLists, IsStep, machine_of}
 use Rattle.loan_theory.specs.Laws.{OthersDoNotNotice}
 use Rattle.loan_theory.specs.Loans.{IsOfOthers, with_core, with_cores}
 use Rattle.machine_loans.specs.Lendings.{OfOthers, all_back, lent_at, whole, with_lent}
@@ -96,7 +96,8 @@ module _ (c : Config) (net : Net) (ports : List PortState) (modules : List (List
 
   core_is : (q : ℕ) (l : Option Lent) → lent_at lent q ≡ l →
       told_at (all_back ports lent) shown q ≡ standing lent shown (told_at ports shown q) q l
-  core_is q None e = ap (λ (port : PortState). record { state = port.core.state; events = shown q }) (back_at ports lent q same ∙ ap (with_lent (port_at ports q)) e)
+  core_is q None e = ap (λ (port : PortState). record { state = port.core.state; events = shown q })
+      (back_at ports lent q same ∙ ap (with_lent (port_at ports q)) e)
   core_is q (Some l) e =
       ap (λ (port : PortState). record { state = port.core.state; events = shown q }) (back_at ports lent q same ∙ ap (with_lent (port_at ports q)) e)
 

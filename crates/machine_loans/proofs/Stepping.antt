@@ -13,7 +13,6 @@ use Rattle.machine.specs.machine_ports.Ports.{PortState, is_away, no_processor}
 use Rattle.machine.specs.machine_program.Processors.{port_at, setting_of, sizes_of}
 use Rattle.machine.specs.Machines.{MachineLists, AreModules, ArePorts, IsMachine, IsStep, machine_of}
 use Rattle.machine.proofs.Lemmas.{parts_kept, stalled_keeps}
-use Rattle.machine_log.specs.machine_runs.omega_network.Networks.{net_of}
 use Rattle.machine_log.specs.machine_runs.Runs.{answer_after}
 use Rattle.machine_log.specs.Logs.{HasTaken, IsEntered, IsKept, entered}
 use Rattle.machine_log.proofs.Lemmas.{entered_one, kept_after}

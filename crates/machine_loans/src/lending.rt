@@ -1,6 +1,7 @@
 //! A log that lends cores.
 
-ghost use Rattle.std.specs.Prelude.{◌≡◌, ◌≢◌, ◌≤◌, ◌<◌, ◌+◌, ◌^◌, ◌↔◌, ◌++◌, ℕ, [], ◌∷◌, true, false, length, Some, None, Err, IfOk, IfErr, IsTrue, OnOk, OnErr};
+ghost use Rattle.std.specs.Prelude.{◌≡◌, ◌≢◌, ◌≤◌, ◌<◌, ◌+◌, ◌^◌, ◌↔◌, ◌++◌, ℕ, [], ◌∷◌, true, false, length, Some, None, Err, IfOk, IfErr, IsTrue, OnOk};
+ghost use Rattle.std.specs.Prelude.{OnErr};
 ghost use Rattle.std.specs.Prelude.{is_some, replicate, slice_set};
 ghost use Rattle.std.specs.Arc.{arc_value};
 ghost use Rattle.machine.specs.machine_program.Processors.{port_at};

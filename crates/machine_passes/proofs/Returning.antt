@@ -1,7 +1,7 @@
 -- The rows fit the steps, where a core is lent or comes back.
-use Rattle.std.proofs.Common.{◌≡◌, ℕ, zero, suc, ◌+◌, ◌<◌, ◌≤◌, true, false, List, [], ◌∷◌, ◌++◌, length, Option, Some, None, refl, sym, ap, ◌∙◌, subst, arith}
+use Rattle.std.proofs.Common.{◌≡◌, ℕ, zero, suc, ◌<◌, true, false, List, [], ◌∷◌, ◌++◌, length, Option, Some, None, refl, sym, ap, ◌∙◌, subst, arith}
 use Rattle.std.proofs.Common.{length-append, append_assoc, eqb-true, ne_eqb}
-use Rattle.std.specs.Prelude.{replicate, slice_get, slice_set}
+use Rattle.std.specs.Prelude.{slice_get, slice_set}
 use Rattle.std.proofs.lemmas.List.{append-nil, set-get_or, set-set}
 use Rattle.std.proofs.lemmas.Option.{slice_get_within}
 use mathlib.Core.Logic.{dite}
@@ -18,7 +18,7 @@ use Rattle.machine_passes.specs.Lists.{is_of_network, is_turn_of}
 use Rattle.machine_passes.specs.Passes.{most_of}
 use Rattle.loan_theory.specs.Loans.{IsOfOthers, turns_of}
 use Rattle.machine_passes.specs.declared.row.Row.{Row}
-use Rattle.machine_passes.specs.Rows.{Fits, RowFits, steps_of, told, told_all, with_loan}
+use Rattle.machine_passes.specs.Rows.{Fits, RowFits, told, told_all, with_loan}
 use Rattle.machine_passes.proofs.Fitting.{answered, steps_of-set}
 use Rattle.machine_passes.proofs.Lists.{get-set, get-set_else, length-slice_set, set-same}
 
@@ -42,7 +42,8 @@ module _ (opening : MachineLists) (first : List Step) (count : ℕ) where
         many = length-slice_set rows p (with_loan r lent) ∙ h.many;
         each = λ q x e. dite (ℕ_discrete q p)
             (λ same.
-            let x_is : x ≡ with_loan r lent = get-set rows p (with_loan r lent) x (subst (λ k. slice_get (slice_set rows p (with_loan r lent)) k ≡ Some x) same e) in
+            let x_is : x ≡ with_loan r lent = get-set rows p (with_loan r lent) x
+            (subst (λ k. slice_get (slice_set rows p (with_loan r lent)) k ≡ Some x) same e) in
             let old = h.each p r at in
             subst (λ (y : ℕ × Row). RowFits opening first steps y.0 y.1) (λ i. (sym same i, sym x_is i)) record { notices = old.notices; last = old.last })
             (λ other. h.each q x (get-set_else rows p q (with_loan r lent) x other e));
@@ -63,9 +64,11 @@ module _ (opening : MachineLists) (first : List Step) (count : ℕ) where
       let more = told_fits (steps ++ step.Turn p ∷ []) (slice_set rows p once) p once later one (get_set_here rows p once inside) named answers.1 in
       let place : length (steps ++ step.Turn p ∷ []) ≡ suc (length steps) = length-append steps (step.Turn p ∷ []) ∙ omega arith in
       subst (λ (x : List Step × List Row). Fits opening first count x.0 x.1)
-      (λ i. (append_assoc steps (step.Turn p ∷ []) (turns_of p (length later)) i,
-      (set-set rows p once (told_all p once (length (steps ++ step.Turn p ∷ [])) later)
-      ∙ ap (λ n. slice_set rows p (told_all p once n later)) place) i)) more
+      (λ i. (
+        append_assoc steps (step.Turn p ∷ []) (turns_of p (length later)) i,
+        (set-set rows p once (told_all p once (length (steps ++ step.Turn p ∷ [])) later)
+            ∙ ap (λ n. slice_set rows p (told_all p once n later)) place) i,
+      )) more
 
   -- where a core comes back, and turns of p have retired these instructions
   pub back_fits : (steps : List Step) (rows : List Row) (p : ℕ) (r : Row) (taken : List Retired) → Fits opening first count steps rows →
@@ -85,7 +88,7 @@ abbrev pub SayLoans : List Row → List (Option Lent) → Type 0
 SayLoans rows lent = (p : ℕ) (r : Row) → slice_get rows p ≡ Some r → r.lent ≡ most_of (lent_at lent p)
 
 pub say_set : (rows : List Row) (lent lent' : List (Option Lent)) (p : ℕ) (new : Row) → SayLoans rows lent → (
-      (q : ℕ) → (q ≡ p → ⊥) → lent_at lent' q ≡ lent_at lent q) → new.lent ≡ most_of (lent_at lent' p) → SayLoans (slice_set rows p new) lent'
+    (q : ℕ) → (q ≡ p → ⊥) → lent_at lent' q ≡ lent_at lent q) → new.lent ≡ most_of (lent_at lent' p) → SayLoans (slice_set rows p new) lent'
 say_set rows lent lent' p new say others here q r e = dite (ℕ_discrete q p)
     (λ same.
     ap (λ (x : Row). x.lent) (get-set rows p new r (subst (λ k. slice_get (slice_set rows p new) k ≡ Some r) same e)) ∙ here

@@ -92,7 +92,8 @@ pub record IsLoan (code : List ℕ) (l : Lent) (core : CoreState) (retired : Ret
 pub record HasGoneOn (code : List ℕ) (old new : LoanState) (end : LocalEnd) : Type 0 where
   pub processor : new.processor ≡ old.processor
   pub record_is : new.record_is ≡ old.record_is
-  pub run : HasRun code old.core new.core (record { most = old.record_is.most; items = old.retired }) (record { most = new.record_is.most; items = new.retired }) end
+  pub run : HasRun code old.core new.core (record { most = old.record_is.most; items = old.retired })
+      (record { most = new.record_is.most; items = new.retired }) end
 
 -- The core is lent on this pass, for so many instructions at most, and has taken none.
 pub record IsLentOn (old : Held) (most : ℕ) (loan : LoanState) (new : Held) : Type 0 where

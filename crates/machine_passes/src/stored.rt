@@ -86,7 +86,12 @@ impl Stored {
     {
         let mut place = place;
         for &retired in retired {
-            self.tell(processor, Step::Turn(processor), &Outcome::Retired(retired), place);
+            self.tell(
+                processor,
+                Step::Turn(processor),
+                &Outcome::Retired(retired),
+                place,
+            );
             place += 1;
         }
     }

@@ -1,4 +1,4 @@
-use Rattle.std.proofs.Common.{◌≡◌, ◌∙◌, ◌<◌, ◌^◌, None, length, slice_set, sym, ap, subst, arith}
+use Rattle.std.proofs.Common.{◌∙◌, ◌<◌, ◌^◌, None, length, slice_set, sym, ap, subst, arith}
 use Rattle.std.specs.Vec.{vec_capacity}
 use Rattle.machine_loans.specs.Lendings.{IsLending, LendingLog, promised, whole}
 use Rattle.machine_loans.proofs.Backing.{found_at, promise_less}
@@ -52,7 +52,8 @@ invariant_of-self-2 c =
     c.index_mut.ensures.value) in
     let less = promise_less l.lent.items c.args.p c.in-Some.field-0 lent in
     let promises = c.self.invariant.1 in
-    let kept = brought_back l.opening.value l.machine l.steps.items (vec_capacity l.steps) l.lent.items c.self.invariant.0 c.args.p within c.in-Some.field-0 lent
+    let kept = brought_back l.opening.value l.machine l.steps.items (vec_capacity l.steps) l.lent.items c.self.invariant.0
+    c.args.p within c.in-Some.field-0 lent
     c.put_core.new.self c.put_core.ensures.put c.machine_is_sound.ensures in
     let places = ap (λ i. slice_set l.lent.items i None) (sym c.from.ensures) ∙ ap (slice_set l.lent.items c.from.result) (sym c.take.ensures.after) in (
       subst (IsLending l.opening.value c.put_core.new.self l.steps.items (vec_capacity l.steps)) places kept,

@@ -1,14 +1,10 @@
-use Rattle.std.proofs.Common.{◌≡◌, ◌∙◌, ◌+◌, ◌<◌, ◌≤◌, ◌^◌, List, None, Option, length, slice_set, refl, sym, ap, subst, arith}
+use Rattle.std.proofs.Common.{◌∙◌, ◌<◌, ◌^◌, None, length, slice_set, refl, sym, ap, subst, arith}
 use Rattle.std.specs.Prelude.{◌==◌}
 use Rattle.std.specs.Vec.{vec_capacity}
-use Rattle.steps.specs.declared.step.Step.{Step}
-use Rattle.machine.specs.machine_ports.Ports.{is_away}
-use Rattle.machine.specs.Machines.{MachineLists}
 use Rattle.machine_log.specs.machine_runs.Runs.{IsReplay}
 use Rattle.loan_theory.specs.Loans.{turns_of}
 use Rattle.loan_theory.specs.local_runs.LocalRuns.{TakesLocal}
 use Rattle.machine_loans.specs.Lendings.{IsBack, IsLending, LendingLog, lent_at, promised, whole}
-use Rattle.machine_loans.specs.declared.lent.Lent.{Lent}
 use Rattle.machine_loans.proofs.Backing.{promise_less}
 use Rattle.machine_loans.proofs.Catching.{back_answered, back_replay, core_words, returned, whole_returned}
 use Rattle.machine_loans.proofs.lending.Lending.give_back.Goals as goal
@@ -100,10 +96,15 @@ returns-clause-back c =
     c.put_core.ensures.put in
     let replay = back_replay c.local_turns_catch_up.ensures.turns c.runs_are_joined.ensures.replays l.opening.value l.machine l.steps.items
     (vec_capacity l.steps) l.lent.items is c.args.p within c.args.record.now e c.args.core c.args.taken.now c.requires.setting home local c.requires.few in
-    let answered = back_answered c.local_turns_catch_up.ensures.turns c.runs_are_joined.ensures.replays l.opening.value l.machine l.steps.items (vec_capacity l.steps)
+    let answered = back_answered c.local_turns_catch_up.ensures.turns c.runs_are_joined.ensures.replays l.opening.value l.machine
+    l.steps.items (vec_capacity l.steps)
     l.lent.items is c.args.p within c.args.record.now e c.args.core c.args.taken.now c.requires.setting home local c.requires.few in
     subst (λ (x : LendingLog). IsBack x c.args.p c.args.core c.args.taken.now (record {
-      log = record { opening = l.opening.value; steps = c.enter_turns.new.steps.items; machine = whole c.put_core.new.self (slice_set l.lent.items c.from.result None) };
+      log = record {
+        opening = l.opening.value;
+        steps = c.enter_turns.new.steps.items;
+        machine = whole c.put_core.new.self (slice_set l.lent.items c.from.result None);
+      };
       lent = slice_set l.lent.items c.from.result None;
     })) c.self.view_is (record {
       opening = refl;

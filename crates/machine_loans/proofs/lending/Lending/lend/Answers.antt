@@ -1,4 +1,4 @@
-use Rattle.std.proofs.Common.{◌∙◌, ◌+◌, ◌<◌, List, Option, Some, length, slice_set, sym, ap, ap₂, subst, arith}
+use Rattle.std.proofs.Common.{◌∙◌, ◌<◌, List, Option, Some, length, slice_set, sym, ap, subst, arith}
 use Rattle.std.specs.Vec.{vec_capacity}
 use Rattle.hart.specs.State.{CoreState}
 use Rattle.steps.specs.declared.step.Step.{Step}

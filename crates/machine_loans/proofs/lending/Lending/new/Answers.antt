@@ -14,7 +14,8 @@ invariant_of-result c =
     let made = c.into_parts-machine.result in
     let n = c.loop.counter in
     let size = c.config.ensures.config ∙ ap (λ (m : MachineLists). m.config) (c.machine.ensures.machine ∙ sym parts.machine) in
-    let all : n ≡ 2 ^ made.0.config.k = omega (arith, c.loop-test.false, c.loop.auto.counter-end) ∙ c.processors-count.ensures ∙ ap (λ (s : Config). 2 ^ s.k) size in
+    let all : n ≡ 2 ^ made.0.config.k = omega (arith, c.loop-test.false, c.loop.auto.counter-end)
+    ∙ c.processors-count.ensures ∙ ap (λ (s : Config). 2 ^ s.k) size in
     let kept = subst IsKept (λ i. record { opening = sym parts.opening i; steps = sym parts.steps i; machine = sym parts.machine i }) parts.kept in
     subst (λ lent. IsLending made.2.value made.0 made.1.items (vec_capacity made.1) lent × (0 ≡ promised lent)) (sym c.loop.invariant.0)
     (lends_none made.2.value made.0 made.1.items (vec_capacity made.1) n kept all, sym (none_promised n))

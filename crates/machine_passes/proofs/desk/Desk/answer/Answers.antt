@@ -32,7 +32,8 @@ invariant_of-self-2 g c =
       config = a.config ∙ i.config;
       count = i.count;
       loans = subst (λ (x : List Row × List (Option Lent)). SayLoans x.0 x.1) (λ k. (sym keeper k, sym c.in_ok-take.ensures.lent k))
-          (say_set c.self.inside.keeper c.self.inside.lending.lent c.self.inside.lending.lent p.processor (told p.processor r c.args.step a.outcome (length l.steps))
+          (say_set c.self.inside.keeper c.self.inside.lending.lent c.self.inside.lending.lent
+          p.processor (told p.processor r c.args.step a.outcome (length l.steps))
           i.loans (λ q other. refl) (i.loans p.processor r w.agreed));
       fits = subst (λ (x : List Step × List Row). Fits g.N.Run.opening g.N.Run.first g.N.Run.count x.0 x.1) (λ k. (sym a.steps k, sym keeper k)) all;
     }
@@ -47,15 +48,15 @@ invariant_of-pass-2 g c =
     let others = subst (λ (x : Sheet). OfOthers x.lent c.args.step) (sym c.self.view_is) c.requires.others in (
       w.claim,
       λ most e.
-      let same = sym (ap (λ (x : Row). x.lent) a.row) ∙ e in
-      let quiet = lent_quiet lent c.args.step p.processor most others (sym same ∙ c.self.invariant.loans p.processor r w.agreed) in
-      let count = ap length (ap (λ (x : Row). x.notices) a.row
-      ∙ ap (λ ns. r.notices ++ ns) (none_of p.processor _ c.args.step a.outcome quiet) ∙ append-nil r.notices) in
-      let before = p.stored.notices.ok.0 in
-      let behind = c.take.new.stored.notices.ok.0 in
-      let room = c.pass.invariant.1 most same in
-      let capacity = c.in_ok-take.ensures.capacity in
-      omega (arith, count, before, behind, room, capacity),
+          let same = sym (ap (λ (x : Row). x.lent) a.row) ∙ e in
+          let quiet = lent_quiet lent c.args.step p.processor most others (sym same ∙ c.self.invariant.loans p.processor r w.agreed) in
+          let count = ap length (ap (λ (x : Row). x.notices) a.row
+          ∙ ap (λ ns. r.notices ++ ns) (none_of p.processor _ c.args.step a.outcome quiet) ∙ append-nil r.notices) in
+          let before = p.stored.notices.ok.0 in
+          let behind = c.take.new.stored.notices.ok.0 in
+          let room = c.pass.invariant.1 most same in
+          let capacity = c.in_ok-take.ensures.capacity in
+          omega (arith, count, before, behind, room, capacity),
     )
 
 pub take-requires-clause-named : goal.take-requires-clause-named

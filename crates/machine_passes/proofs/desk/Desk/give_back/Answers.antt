@@ -1,11 +1,10 @@
-use Rattle.std.proofs.Common.{◌≡◌, ℕ, ◌+◌, ◌<◌, ◌^◌, List, Option, length, length-append, None, Some, slice_get, slice_set, get_or-set_other, lt-ltb, refl, sym, ◌∙◌, ap, subst, true, arith}
+use Rattle.std.proofs.Common.{◌≡◌, ◌^◌, List, Option, length, length-append, None, Some, slice_get, slice_set, get_or-set_other, lt-ltb}
+use Rattle.std.proofs.Common.{sym, ◌∙◌, ap, subst, arith}
 use lib.ListN.{length-replicate}
 use Rattle.std.proofs.lemmas.Option.{slice_get_within}
-use Rattle.flat_machine.specs.declared.event.Retired.{Retired}
 use Rattle.steps.specs.declared.step.Step.{Step}
 use Rattle.steps.specs.declared.step.Step.TheVariants.{Turn}
 use Rattle.loan_theory.specs.Loans.{turns_of}
-use Rattle.machine_log.specs.Logs.{is_named}
 use Rattle.machine_loans.specs.Lendings.{AreAnswered}
 use Rattle.machine_loans.specs.declared.lent.Lent.{Lent}
 use Rattle.machine_passes.specs.declared.row.Row.{Row}

@@ -1,9 +1,10 @@
-use Rattle.std.proofs.Common.{◌≡◌, ℕ, ◌<◌, ◌^◌, List, Option, length, None, Some, slice_set, get_or-set_same, get_or-set_other, refl, sym, ◌∙◌, ap, subst, arith}
+use Rattle.std.proofs.Common.{◌<◌, ◌^◌, List, Option, length, None, Some, slice_set, get_or-set_same, get_or-set_other, refl, sym, ◌∙◌, ap}
+use Rattle.std.proofs.Common.{subst, arith}
 use Rattle.std.proofs.lemmas.Option.{slice_get_within}
 use Rattle.steps.specs.declared.step.Step.{Step}
 use Rattle.local_runs.specs.LocalRuns.{RetirementList}
 use Rattle.machine_log.specs.machine_runs.Machines.{MachineLists}
-use Rattle.machine_loans.specs.Lendings.{LendingLog, lent_at}
+use Rattle.machine_loans.specs.Lendings.{LendingLog}
 use Rattle.machine_loans.specs.declared.lent.Lent.{Lent}
 use Rattle.machine_passes.specs.declared.row.Row.{Row}
 use Rattle.machine_passes.specs.Rows.{Fits, with_loan}

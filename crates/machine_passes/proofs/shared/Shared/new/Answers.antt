@@ -57,7 +57,7 @@ loop-p-preserved g c =
     let capacity = push.capacity in
     let room = i.3 in (
       c.hire-claim.ensures.keeper ∙ ap (λ rows. rows ++ new_row ∷ []) i.0 ∙ sym (rows_of-push (new_passes p) (held p new_row))
-      ∙ ap (λ n. rows_of (new_passes n)) (sym next),
+          ∙ ap (λ n. rows_of (new_passes n)) (sym next),
       push.items ∙ (λ n. i.1 n ++ held p (row n) ∷ []) ∙ ap new_passes (sym next),
       omega (arith, len, before),
       omega (arith, capacity, room),

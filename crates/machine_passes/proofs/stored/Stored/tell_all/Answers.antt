@@ -1,4 +1,5 @@
-use Rattle.std.proofs.Common.{◌≡◌, ℕ, zero, suc, ◌+◌, ◌<◌, ◌≤◌, Bool, true, false, List, [], ◌∷◌, length, drop, get_or, refl, sym, ap, ◌∙◌, arith, length-append}
+use Rattle.std.proofs.Common.{◌≡◌, ℕ, zero, suc, ◌+◌, ◌<◌, ◌≤◌, Bool, true, false, List, [], ◌∷◌, length, drop, get_or, refl, ap, ◌∙◌, arith}
+use Rattle.std.proofs.Common.{length-append}
 use Rattle.std.specs.Prelude.{if◌then◌else◌}
 use Rattle.flat_machine.specs.declared.event.Retired.{Retired}
 use Rattle.steps.specs.declared.step.Step.TheVariants as step
@@ -64,8 +65,8 @@ loop-retired-preserved c =
     let steps = i.4 in
     let places = i.1 in (
       ap (λ x. told_all p x (place + 1) (drop (at + 1) all)) row
-      ∙ (λ n. told_all p (told p r (step.Turn p) (outcome.Retired (get_or all at item)) place) (next n) (drop (more n) all))
-      ∙ told_next p r place all at item c.loop-retired-test.true ∙ i.0,
+          ∙ (λ n. told_all p (told p r (step.Turn p) (outcome.Retired (get_or all at item)) place) (next n) (drop (more n) all))
+          ∙ told_next p r place all at item c.loop-retired-test.true ∙ i.0,
       omega (arith, places),
       t.capacity ∙ i.2,
       omega (arith, notices, one, before, behind, many),
