@@ -1,6 +1,7 @@
 //! From single bytes to the reports of runs.
 
 mod consoles;
+mod loans;
 mod passes;
 mod rounds;
 mod runs;
