@@ -1,13 +1,12 @@
 //! Cores on loan: two at once on one thread, and one that is lent twice.
 
 ghost use Rattle.std.specs.Prelude.{◌≡◌, ◌≤◌, ◌^◌};
-ghost use Rattle.machine_passes.specs.Passes.{IsLentOn, IsLoanOf};
 
 use super::rounds::log_of;
 use agreed_rows::Room;
 use local_runs::LocalEnd;
 use machine_log::Logged;
-use machine_passes::{Loan, Pass, Row, Run, Shared};
+use machine_passes::{Pass, Row, Run, Shared};
 use std::alloc::Global;
 use std::marker::Brand;
 use std::process::Abort;
@@ -46,7 +45,7 @@ fn lend_both<N: Run, R: Wait + Abort>(
     alloc: Global,
     room: Room<Row>,
     logged: Logged,
-) -> Result<Logged, Fail>
+) -> Result<(), Fail>
     requires room { room ≡ N.table }
     requires opening { logged.opening ≡ N.opening }
     requires first { logged.steps ≡ N.first }
@@ -56,44 +55,42 @@ fn lend_both<N: Run, R: Wait + Abort>(
         Ok(made) => made,
         Err((_, refusal)) => return Err(Fail::from(refusal)),
     };
-    if let [one, other] = passes.as_mut_slice() {
-        let first = match shared.lend(rt, alloc, one, 64) {
-            Ok(loan) => loan,
-            Err(refusal) => return Err(Fail::from(refusal)),
-        };
-        assert_eq!(rt; run_once(rt, alloc, &shared, other, 64)?, (LocalEnd::Other, 3));
-        assert!(rt; one.is_lent());
-        assert_eq!(rt; shared.turn(rt, one), Ok(Outcome::Stalled));
-        let mut first = first;
-        assert_eq!(rt; first.run_local(), LocalEnd::Other);
-        assert_eq!(rt; first.retired().len(), 3);
-        assert!(rt; shared.give_back(rt, one, first).is_ok());
-        assert!(rt; !one.is_lent());
-        assert_eq!(rt; (one.steps(), other.steps()), (3, 3));
-        assert_eq!(rt; shared.turn(rt, one), Ok(Outcome::Issued));
-        assert_eq!(rt; shared.turn(rt, other), Ok(Outcome::Issued));
-    }
-    let (logged, _) = shared.gather(passes);
-    Ok(logged)
+    let mut other = passes.pop().expect(rt, "a pass");
+    let mut one = passes.pop().expect(rt, "a pass");
+    let mut loan = match shared.lend(rt, alloc, &mut one, 64) {
+        Ok(loan) => loan,
+        Err(refusal) => return Err(Fail::from(refusal)),
+    };
+    assert_eq!(rt; run_once(rt, alloc, &shared, &mut other, 64)?, (LocalEnd::Other, 3));
+    assert!(rt; one.is_lent());
+    assert_eq!(rt; shared.turn(rt, &mut one), Ok(Outcome::Stalled));
+    assert_eq!(rt; loan.run_local(), LocalEnd::Other);
+    assert_eq!(rt; loan.retired().len(), 3);
+    assert!(rt; shared.give_back(rt, &mut one, loan).is_ok());
+    assert!(rt; !one.is_lent());
+    assert_eq!(rt; (one.steps(), other.steps()), (3, 3));
+    assert_eq!(rt; shared.turn(rt, &mut one), Ok(Outcome::Issued));
+    assert_eq!(rt; one.last().map(|answer| answer.place), Some(6));
+    assert_eq!(rt; shared.turn(rt, &mut other), Ok(Outcome::Issued));
+    Ok(())
 }
 
-/// Both cores are away at once, on one thread, so no loan keeps the lock. Each takes the three instructions before its first add.
+/// Both cores are away at once, on one thread, so no loan keeps the lock. Each takes the three instructions before its first add,
+/// and the log has six steps then.
 #[test]
 fn both_cores_away(rt: HostRuntime) -> Result<(), Fail> {
     let alloc = rt.alloc();
     let logged = log_of(&rt, alloc, HUNDRED_ADDS, 1)?;
-    let logged = lend_both::<Brand, _>(&rt, alloc, Room::new(alloc)?, logged)?;
-    assert_eq!(rt; logged.steps().len(), 8);
-    Ok(())
+    lend_both::<Brand, _>(&rt, alloc, Room::new(alloc)?, logged)
 }
 
-/// Lends the core of the first pass twice.
+/// Lends the core of the last pass twice.
 fn lend_twice<N: Run, R: Wait + Abort>(
     rt: &R,
     alloc: Global,
     room: Room<Row>,
     logged: Logged,
-) -> Result<Logged, Fail>
+) -> Result<(), Fail>
     requires room { room ≡ N.table }
     requires opening { logged.opening ≡ N.opening }
     requires first { logged.steps ≡ N.first }
@@ -103,13 +100,11 @@ fn lend_twice<N: Run, R: Wait + Abort>(
         Ok(made) => made,
         Err((_, refusal)) => return Err(Fail::from(refusal)),
     };
-    if let [pass] = passes.as_mut_slice() {
-        assert_eq!(rt; run_once(rt, alloc, &shared, pass, 3)?, (LocalEnd::Most, 3));
-        assert_eq!(rt; run_once(rt, alloc, &shared, pass, 3)?, (LocalEnd::Out(65), 1));
-        assert_eq!(rt; pass.steps(), 4);
-    }
-    let (logged, _) = shared.gather(passes);
-    Ok(logged)
+    let mut pass = passes.pop().expect(rt, "a pass");
+    assert_eq!(rt; run_once(rt, alloc, &shared, &mut pass, 3)?, (LocalEnd::Most, 3));
+    assert_eq!(rt; run_once(rt, alloc, &shared, &mut pass, 3)?, (LocalEnd::Out(65), 1));
+    assert_eq!(rt; pass.steps(), 4);
+    Ok(())
 }
 
 /// The first loan ends where it has taken all that it may, and the second with the byte that its first instruction gives.
@@ -117,7 +112,5 @@ fn lend_twice<N: Run, R: Wait + Abort>(
 fn one_core_twice(rt: HostRuntime) -> Result<(), Fail> {
     let alloc = rt.alloc();
     let logged = log_of(&rt, alloc, WRITES, 0)?;
-    let logged = lend_twice::<Brand, _>(&rt, alloc, Room::new(alloc)?, logged)?;
-    assert_eq!(rt; logged.steps().len(), 4);
-    Ok(())
+    lend_twice::<Brand, _>(&rt, alloc, Room::new(alloc)?, logged)
 }
