@@ -98,6 +98,7 @@ fn machine_of(
 fn one_add(rt: &(impl Abort + AllocGlobal)) -> Result<Logged, Fail> {
     let machine = machine_of(rt, ONE, &[(0, 5)])?;
     assert!(rt; machine.is_idle());
+    assert!(rt; machine.are_home());
     Ok(Logged::new(rt.alloc(), machine))
 }
 
@@ -110,6 +111,7 @@ fn four_machine(rt: &(impl Abort + AllocGlobal)) -> Result<Machine, Fail> {
 fn four_adds(rt: &(impl Abort + AllocGlobal)) -> Result<Logged, Fail> {
     let machine = four_machine(rt)?;
     assert!(rt; machine.is_idle());
+    assert!(rt; machine.are_home());
     Ok(Logged::new(rt.alloc(), machine))
 }
 

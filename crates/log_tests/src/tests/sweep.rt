@@ -37,6 +37,7 @@ fn log_of(rt: &impl Abort, alloc: Global, text: &str, k: u8) -> Result<Logged, F
     let file = assemble(alloc, text)?.to_elf(alloc)?;
     let machine = machine(alloc, file.as_slice(), k)?;
     assert!(rt; machine.is_idle());
+    assert!(rt; machine.are_home());
     Ok(Logged::new(alloc, machine))
 }
 
@@ -85,7 +86,7 @@ odd: addi x7, x0, 1
         Step::Down { stage: 0, wire: 0 },
         Step::Turn(0),
     ];
-    assert_same!(rt; log.steps().len(), turns.len() + drain.len());
+    assert!(rt; log.steps().len() == turns.len() + drain.len());
     for (step, processor) in log.steps().iter().zip(turns) {
         assert_same!(rt; *step, Step::Turn(processor));
     }

@@ -49,7 +49,9 @@ step:
 fn shown(machine: &Machine, line: &str) -> ArrayVec<u8, 1024> {
     let mut text = ArrayVec::new();
     let _ = text.try_extend_from_slice(b"before");
-    show(machine, &Command::read(line.as_bytes()), &mut text);
+    if machine.are_home() {
+        show(machine, &Command::read(line.as_bytes()), &mut text);
+    }
     text
 }
 
