@@ -47,6 +47,7 @@ fn ends_at_each_fault(rt: HostRuntime) -> Result<(), Fail> {
     let alloc = rt.alloc();
     let machine = machine(alloc, &EBREAK, 2)?;
     assert!(rt; machine.is_idle());
+    assert!(rt; machine.are_home());
     let mut log = Logged::new(alloc, machine);
     assert_same!(rt; follow_sweep(&mut log, 0), Ok(SweepEnd::Budget));
     assert_same!(rt; log.steps().len(), 0);

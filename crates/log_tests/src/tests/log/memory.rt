@@ -68,6 +68,7 @@ fn halts(log: &mut Logged, processor: u8) -> Result<bool, LogRefusal> {
 fn log_is_short_of_memory(rt: HostRuntime) -> Result<(), Fail> {
     let machine = machine(rt.alloc())?;
     assert!(rt; machine.is_idle());
+    assert!(rt; machine.are_home());
     let mut log = Logged::new(rt.alloc(), machine);
     write(&rt, &mut log, &POKES)?;
     assert!(rt; does(&mut log, Step::Turn(0), Outcome::Issued)?);
