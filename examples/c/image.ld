@@ -31,8 +31,9 @@ SECTIONS
 
     .shared : { *(.shared .shared.*) } >shared :shared
 
-    /* The stack grows down from the end of local memory. */
-    stack_top = ORIGIN(local) + LENGTH(local);
+    /* The stack grows down from 16 KiB behind the variables, or from the end of local memory: what lies behind is never written,
+       and a thread that lends a core copies its local memory up to the last byte that was written. */
+    stack_top = MIN(ALIGN(ADDR(.bss) + SIZEOF(.bss), 16) + 16K, ORIGIN(local) + LENGTH(local));
 
     /DISCARD/ : { *(.comment .note .note.* .eh_frame .eh_frame_hdr .riscv.attributes) }
 }

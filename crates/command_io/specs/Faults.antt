@@ -23,6 +23,7 @@ status_of_fault fault.Size = 2
 status_of_fault (fault.Stalled place) = 2
 status_of_fault fault.Budget = 4
 status_of_fault fault.Full = 4
+status_of_fault fault.Loan = 4
 status_of_fault fault.Start = 4
 status_of_fault fault.States = 4
 status_of_fault fault.Alone = 4

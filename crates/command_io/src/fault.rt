@@ -42,6 +42,9 @@ pub enum Fault {
     /// The log of a run on threads is full: it has 4,194,304 steps.
     #[error("L2")]
     Full,
+    /// A core that a thread had on loan was not taken back.
+    #[error("L4")]
+    Loan,
     /// A thread could not be started.
     #[error("Start")]
     Start,
@@ -72,6 +75,7 @@ impl Fault {
             Fault::NotUtf8 | Fault::Link => LINK_FAILED,
             Fault::Budget
             | Fault::Full
+            | Fault::Loan
             | Fault::Start
             | Fault::States
             | Fault::Alone

@@ -1,6 +1,7 @@
 //! Which processors faults have stopped.
 
 ghost use Rattle.std.specs.Prelude.{◌≡◌, ◌<◌, ℕ};
+ghost use Rattle.machine.specs.Machines.{AreHome};
 ghost use Rattle.machine.specs.Openings.{flat_state};
 ghost use Rattle.debug_replies.specs.Stops.{is_faulted, is_faulted_at, is_flagged};
 
@@ -31,6 +32,7 @@ impl Model for Faults {
 impl Faults {
     /// Those of a machine as it stands.
     pub fn of(machine: &Machine) -> Self
+        requires home { AreHome machine.now }
         ensures { (p : ℕ) → is_flagged result p ≡ is_faulted_at (flat_state machine.now) p }
     {
         let mut flags = [false; MOST_PROCESSORS];
@@ -51,6 +53,7 @@ impl Faults {
 
 /// Whether a processor is there and a fault has stopped it.
 pub(crate) fn is_faulted(machine: &Machine, processor: u32) -> bool
+    requires home { AreHome machine.now }
     ensures { result ≡ is_faulted_at (flat_state machine.now) processor }
 {
     match status(machine, processor) {

@@ -1,7 +1,8 @@
-//! The flat machine that a machine stands for, as its readers show it.
+//! The flat machine that a machine stands for, none of whose cores is away, as its readers show it.
 
 ghost use Rattle.std.specs.Prelude.{◌≡◌, ◌≤◌, ◌<◌, ◌^◌, length, slice_get, IfSome, IfNone};
 ghost use Rattle.std.specs.Option.{option_copied, option_map};
+ghost use Rattle.machine.specs.Machines.{AreHome};
 ghost use Rattle.machine.specs.Openings.{flat_state};
 ghost use Rattle.machine.specs.Seeing.{byte_seen};
 
@@ -31,6 +32,7 @@ pub(crate) fn shared_words(machine: &Machine) -> u32
 
 /// What a processor is doing, if it is there.
 pub(crate) fn status(machine: &Machine, processor: u32) -> Option<Status>
+    requires home { AreHome machine.now }
     ensures { result ≡ option_map (λ p. p.status) (slice_get (flat_state machine.now).processors processor) }
 {
     machine_is_sound(machine);
@@ -40,6 +42,7 @@ pub(crate) fn status(machine: &Machine, processor: u32) -> Option<Status>
 
 /// Where a processor stands, if it is there.
 pub(crate) fn pc(machine: &Machine, processor: u32) -> Option<u32>
+    requires home { AreHome machine.now }
     ensures { result ≡ option_map (λ p. p.pc) (slice_get (flat_state machine.now).processors processor) }
 {
     machine_is_sound(machine);
@@ -49,6 +52,7 @@ pub(crate) fn pc(machine: &Machine, processor: u32) -> Option<u32>
 
 /// A processor's registers 0 to 31, if it is there.
 pub(crate) fn registers(machine: &Machine, processor: u32) -> Option<&[u32; 32]>
+    requires home { AreHome machine.now }
     ensures { option_copied result ≡ option_map (λ p. p.registers) (slice_get (flat_state machine.now).processors processor) }
 {
     machine_is_sound(machine);
@@ -58,6 +62,7 @@ pub(crate) fn registers(machine: &Machine, processor: u32) -> Option<&[u32; 32]>
 
 /// The byte that a processor sees at an address, if it is there and there is one.
 pub(crate) fn seen(machine: &Machine, processor: u32, address: u32) -> Option<u8>
+    requires home { AreHome machine.now }
     ensures { result ≡ byte_seen (flat_state machine.now) processor address }
 {
     machine_is_sound(machine);

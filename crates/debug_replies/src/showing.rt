@@ -2,6 +2,7 @@
 
 ghost use Rattle.std.specs.Prelude.{◌≡◌, ◌≤◌, ◌+◌, ◌++◌, length, slice_get};
 ghost use Rattle.arrayvec.specs.ArrayVec.{array_vec_len};
+ghost use Rattle.machine.specs.Machines.{AreHome};
 ghost use Rattle.machine.specs.Openings.{flat_state};
 ghost use Rattle.debug_replies.specs.Texts.{memory_text, register_at, register_text, registers_text, shown_text, state_text};
 
@@ -18,6 +19,7 @@ use machine::Machine;
 /// empty.
 #[tactic(auto, unfolding(crate::specs::Texts::shown_text))]
 pub fn show(machine: &Machine, command: &Command, text: &mut ArrayVec<u8, 1024>)
+    requires home { AreHome machine.now }
     ensures { text.new.items ≡ shown_text (flat_state machine.now) command.now }
 {
     text.clear();
@@ -41,7 +43,8 @@ pub fn show(machine: &Machine, command: &Command, text: &mut ArrayVec<u8, 1024>)
 /// Shows what a processor is doing.
 #[tactic(auto, unfolding(crate::specs::Texts::state_text))]
 fn show_state(machine: &Machine, processor: u32, text: &mut ArrayVec<u8, 1024>)
-    requires { array_vec_len text.old ≡ 0 }
+    requires home { AreHome machine.now }
+    requires empty { array_vec_len text.old ≡ 0 }
     ensures { text.new.items ≡ state_text (slice_get (flat_state machine.now).processors processor) }
 {
     if let Some(status) = status(machine, processor) {
@@ -52,7 +55,8 @@ fn show_state(machine: &Machine, processor: u32, text: &mut ArrayVec<u8, 1024>)
 /// Shows a processor's registers, and then its `pc`.
 #[tactic(auto, unfolding(crate::specs::Texts::registers_text))]
 fn show_registers(machine: &Machine, processor: u32, text: &mut ArrayVec<u8, 1024>)
-    requires { array_vec_len text.old ≡ 0 }
+    requires home { AreHome machine.now }
+    requires empty { array_vec_len text.old ≡ 0 }
     ensures { text.new.items ≡ registers_text (slice_get (flat_state machine.now).processors processor) }
 {
     if let (Some(registers), Some(pc)) = (registers(machine, processor), pc(machine, processor)) {
@@ -64,7 +68,8 @@ fn show_registers(machine: &Machine, processor: u32, text: &mut ArrayVec<u8, 102
 /// Shows one register of a processor.
 #[tactic(auto, unfolding(crate::specs::Texts::register_text))]
 fn show_register(machine: &Machine, processor: u32, register: u32, text: &mut ArrayVec<u8, 1024>)
-    requires { array_vec_len text.old ≡ 0 }
+    requires home { AreHome machine.now }
+    requires empty { array_vec_len text.old ≡ 0 }
     ensures { text.new.items ≡ register_text (slice_get (flat_state machine.now).processors processor) register }
 {
     if let Some(value) = register_value(machine, processor, register) {
@@ -81,7 +86,8 @@ fn show_memory(
     length: u32,
     text: &mut ArrayVec<u8, 1024>,
 )
-    requires { array_vec_len text.old ≡ 0 }
+    requires home { AreHome machine.now }
+    requires empty { array_vec_len text.old ≡ 0 }
     ensures { text.new.items ≡ memory_text (flat_state machine.now) processor address length }
 {
     if length > MAX_SHOWN || u64::from(address) + u64::from(length) > 1 << 32 {
@@ -97,6 +103,7 @@ fn show_memory(
 /// A register of a processor, or `pc` as 32. None where there is no such processor or register.
 #[tactic(auto, unfolding(crate::specs::Texts::register_at))]
 fn register_value(machine: &Machine, processor: u32, register: u32) -> Option<u32>
+    requires home { AreHome machine.now }
     ensures { result ≡ register_at (slice_get (flat_state machine.now).processors processor) register }
 {
     if register == u32::from(PC) {

@@ -3,6 +3,7 @@
 ghost use Rattle.std.specs.Prelude.{◌≡◌, ◌≤◌, ◌<◌, ◌++◌, ◌&&◌, not, false, length};
 ghost use Rattle.std.specs.Fmt.{digit_glyph, digits};
 ghost use Rattle.arrayvec.specs.ArrayVec.{array_vec_len};
+ghost use Rattle.machine.specs.Machines.{AreHome};
 ghost use Rattle.machine.specs.Openings.{flat_state};
 ghost use Rattle.flat_machine.specs.State.{is_running};
 ghost use Rattle.debug_replies.specs.Stops.{are_halted, has_break_at, is_at_break, is_flagged, is_halted, is_halted_at, is_newly_faulted, is_running_at};
@@ -20,6 +21,7 @@ use machine::Machine;
 /// the processor that is named, in hex without leading zeros, or with `-`.
 #[tactic(auto, unfolding(crate::specs::Stops::stop_text))]
 pub fn show_stop(machine: &Machine, named: Option<u8>, text: &mut ArrayVec<u8, 1024>)
+    requires home { AreHome machine.now }
     ensures { text.new.items ≡ stop_text (flat_state machine.now) named }
 {
     text.clear();
@@ -70,6 +72,7 @@ fn digit(value: u8) -> u8
 
 /// Whether all processors are halted.
 fn are_all_halted(machine: &Machine) -> bool
+    requires home { AreHome machine.now }
     ensures { result ≡ are_halted (flat_state machine.now) (length (flat_state machine.now).processors) }
 {
     for processor in 0..processors(machine) {
@@ -82,6 +85,7 @@ fn are_all_halted(machine: &Machine) -> bool
 
 /// Whether a processor is there and halted.
 fn is_halted(machine: &Machine, processor: u32) -> bool
+    requires home { AreHome machine.now }
     ensures { result ≡ is_halted_at (flat_state machine.now) processor }
 {
     match status(machine, processor) {
@@ -101,6 +105,7 @@ fn has_halted(status: Status) -> bool
 /// fault has stopped, where none had stopped it before; else none.
 #[tactic(auto, unfolding(crate::specs::Stops::named_stop))]
 pub fn named_stop(machine: &Machine, breaks: &Breaks, before: &Faults) -> Option<u8>
+    requires home { AreHome machine.now }
     ensures { result ≡ named_stop (is_flagged before.now) (flat_state machine.now) breaks.now }
 {
     match first_at_break(machine, breaks) {
@@ -111,6 +116,7 @@ pub fn named_stop(machine: &Machine, breaks: &Breaks, before: &Faults) -> Option
 
 /// The smallest processor that stands at a break.
 fn first_at_break(machine: &Machine, breaks: &Breaks) -> Option<u8>
+    requires home { AreHome machine.now }
     ensures { result ≡ smallest (is_at_break breaks.now (flat_state machine.now)) (length (flat_state machine.now).processors) }
 {
     for processor in 0..processors(machine) {
@@ -123,6 +129,7 @@ fn first_at_break(machine: &Machine, breaks: &Breaks) -> Option<u8>
 
 /// The smallest processor that a fault has stopped, and none before.
 fn first_faulted(machine: &Machine, before: &Faults) -> Option<u8>
+    requires home { AreHome machine.now }
     ensures { result ≡ smallest (is_newly_faulted (is_flagged before.now) (flat_state machine.now)) (length (flat_state machine.now).processors) }
 {
     for processor in 0..processors(machine) {
@@ -135,6 +142,7 @@ fn first_faulted(machine: &Machine, before: &Faults) -> Option<u8>
 
 /// Whether a processor stands at a break: it runs, and its next instruction is at one.
 fn is_at_break(machine: &Machine, breaks: &Breaks, processor: u32) -> bool
+    requires home { AreHome machine.now }
     ensures { result ≡ is_at_break breaks.now (flat_state machine.now) processor }
 {
     is_running(machine, processor) && has_break(machine, breaks, processor)
@@ -142,6 +150,7 @@ fn is_at_break(machine: &Machine, breaks: &Breaks, processor: u32) -> bool
 
 /// Whether a processor's next instruction is at a break.
 fn has_break(machine: &Machine, breaks: &Breaks, processor: u32) -> bool
+    requires home { AreHome machine.now }
     ensures { result ≡ has_break_at breaks.now (flat_state machine.now) processor }
 {
     match pc(machine, processor) {
@@ -152,6 +161,7 @@ fn has_break(machine: &Machine, breaks: &Breaks, processor: u32) -> bool
 
 /// Whether a processor is there and runs.
 pub fn is_running(machine: &Machine, processor: u32) -> bool
+    requires home { AreHome machine.now }
     ensures { result ≡ is_running_at (flat_state machine.now) processor }
 {
     match status(machine, processor) {

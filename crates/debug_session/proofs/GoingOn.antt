@@ -7,17 +7,17 @@ use Rattle.machine_runs.specs.Runs.{flat_state, passed}
 use Rattle.machine_log.specs.Logs.{IsKept, Log}
 use Rattle.machine_log.specs.declared.log.LogRefusal.{LogRefusal}
 use Rattle.machine_log.specs.declared.log.LogRefusal.TheVariants as refusal
-use Rattle.debug_sweep.specs.Runs.{HasRun}
-use Rattle.debug_session.specs.Answers.{GoesOn, ending_of}
+use Rattle.debug_sweep.specs.Runs.{HasDriven}
+use Rattle.debug_session.specs.Answers.{Continues, ending_of}
 
 -- the law of runs, for these two logs
 abbrev IsInOrder : (old new : Log) → Type 0
 IsInOrder old new =
-    IsKept old → IsKept new → IsIdle old.machine → (run : HasRun old new) →
+    IsKept old → IsKept new → IsIdle old.machine → (run : HasDriven old new) →
     flat_state new.machine ≡ flat_run (flat_state old.machine) (passed old.machine run.more).order
 
 pub gone_on : {T : Type 0} (old new : Log) (answer : Result T LogRefusal) → IsInOrder old new → IsKept old → IsKept new → IsIdle old.machine
-    → OnOk answer (HasRun old new) → (answer ≡ Err refusal.Unnamed → ⊥) → OnErr answer (new ≡ old) → GoesOn old (ending_of answer) new
+    → OnOk answer (HasDriven old new) → (answer ≡ Err refusal.Unnamed → ⊥) → OnErr answer (new ≡ old) → Continues old (ending_of answer) new
 gone_on old new (Ok nothing) law kept kept' idle ran named refused = record { run = ran; flat = law kept kept' idle ran }
 gone_on old new (Err refusal.Memory) law kept kept' idle ran named refused = refused
 gone_on old new (Err refusal.Full) law kept kept' idle ran named refused = refused

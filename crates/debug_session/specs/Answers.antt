@@ -21,7 +21,7 @@ use Rattle.debug_replies.specs.Breaking.{with_flag}
 use Rattle.debug_replies.specs.Errors.{error_of, error_text}
 use Rattle.debug_replies.specs.Stops.{is_faulted_at, is_running_at, named_stop, stop_text}
 use Rattle.debug_replies.specs.Texts.{shown_text}
-use Rattle.debug_sweep.specs.Runs.{HasRun}
+use Rattle.debug_sweep.specs.Runs.{HasDriven}
 
 -- What a session stands in: the log with its machine, and the breaks.
 pub record Session : Type 0 where
@@ -91,18 +91,18 @@ StepsOnce old p ending new = StepsWhere (is_running_at (flat_state old.machine) 
 
 -- The runner has taken steps, and the flat machine after them is that of their serial order.
 pub record HasGoneOn (old new : Log) : Type 0 where
-  pub run : HasRun old new
+  pub run : HasDriven old new
   pub flat : flat_state new.machine ≡ flat_run (flat_state old.machine) (passed old.machine run.more).order
 
 -- `cont`: what the runner does. It may be refused for want of room or of memory, with nothing changed.
-abbrev pub GoesOn : (old : Log) → Ending → (new : Log) → Type 0
-GoesOn old (Ok nothing) new = HasGoneOn old new
-GoesOn old (Err error.Room) new = new ≡ old
-GoesOn old (Err error.Memory) new = new ≡ old
-GoesOn old (Err error.Form) new = ⊥
-GoesOn old (Err error.Address) new = ⊥
-GoesOn old (Err error.Processor) new = ⊥
-GoesOn old (Err error.Register) new = ⊥
+abbrev pub Continues : (old : Log) → Ending → (new : Log) → Type 0
+Continues old (Ok nothing) new = HasGoneOn old new
+Continues old (Err error.Room) new = new ≡ old
+Continues old (Err error.Memory) new = new ≡ old
+Continues old (Err error.Form) new = ⊥
+Continues old (Err error.Address) new = ⊥
+Continues old (Err error.Processor) new = ⊥
+Continues old (Err error.Register) new = ⊥
 
 -- ---- all commands
 
@@ -121,7 +121,7 @@ Acts old (Write p address bytes) ending new = Writes old.log p address bytes end
 Acts old (Break address) ending new = (ending ≡ Ok tt) × (new ≡ record old { breaks = with_flag old.breaks address true })
 Acts old (Clear address) ending new = (ending ≡ Ok tt) × (new ≡ record old { breaks = with_flag old.breaks address false })
 Acts old (Step p) ending new = StepsOnce old.log p ending new.log × (new.breaks ≡ old.breaks)
-Acts old Continue ending new = GoesOn old.log ending new.log × (new.breaks ≡ old.breaks)
+Acts old Continue ending new = Continues old.log ending new.log × (new.breaks ≡ old.breaks)
 Acts old Quit ending new = IsShown old ending new
 Acts old Malformed ending new = IsShown old ending new
 

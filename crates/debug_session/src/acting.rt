@@ -4,7 +4,7 @@ ghost use Rattle.std.specs.Prelude.{◌≡◌, None};
 ghost use Rattle.debug_replies.specs.Errors.{error_of};
 ghost use Rattle.machine_runs.specs.Machines.{IsIdle};
 ghost use Rattle.machine_runs.specs.Runs.{flat_state};
-ghost use Rattle.debug_session.specs.Answers.{ending_of, poke_of, GoesOn, Sets, StepsOnce, Writes};
+ghost use Rattle.debug_session.specs.Answers.{ending_of, poke_of, Continues, Sets, StepsOnce, Writes};
 
 use debug_lines::{Command, Written};
 use debug_replies::{Breaks, Error, is_running};
@@ -102,7 +102,7 @@ pub(crate) fn go_on(
     budget: u32,
 ) -> Result<(), Error>
     requires idle { IsIdle log.old.machine }
-    ensures goes_on { GoesOn log.old result log.new }
+    ensures goes_on { Continues log.old result log.new }
     ensures idle { IsIdle log.new.machine }
 {
     runs_are_in_order();

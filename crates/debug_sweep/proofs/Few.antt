@@ -1,6 +1,6 @@
 -- How many processors a machine has, and that none is noted at first.
 use Rattle.std.proofs.Common.{◌≡◌, ℕ, zero, suc, ◌^◌, ◌<◌, ◌≤◌, Bool, true, false, nat_lt, Some, None, refl, arith}
-use Rattle.std.specs.Prelude.{replicate, slice_index_or, if◌then◌else◌}
+use Rattle.std.specs.Prelude.{◌&&◌, replicate, slice_index_or, if◌then◌else◌}
 use Rattle.std.proofs.lemmas.Bool.{ltb-true}
 
 pub below_64 : (k p : ℕ) → k ≤ 6 → p < 2 ^ k → p < 64
@@ -14,10 +14,10 @@ below_64 (suc (suc (suc (suc (suc (suc zero)))))) p few within = omega (arith, w
 below_64 (suc (suc (suc (suc (suc (suc (suc k))))))) p few within = absurd (omega (arith, few))
 
 -- What is read of a processor is there only where there is such a processor.
-pub is_there : {X : Type 0} (p n : ℕ) (x y : X) → (if nat_lt p n then Some x else None) ≡ Some y → p < n
-is_there {X} p n x y e = by (nat_lt p n) refl e
+pub is_there : {X : Type 0} (p n : ℕ) (home : Bool) (x y : X) → (if nat_lt p n && home then Some x else None) ≡ Some y → p < n
+is_there {X} p n home x y e = by (nat_lt p n) refl e
   where
-    by : (b : Bool) → nat_lt p n ≡ b → (if b then Some x else None) ≡ Some y → p < n
+    by : (b : Bool) → nat_lt p n ≡ b → (if b && home then Some x else None) ≡ Some y → p < n
     by true is there = ltb-true p n is
     by false is there = absurd (cc)
 

@@ -7,13 +7,13 @@ use Rattle.machine_runs.specs.Machines.{MachineLists}
 use Rattle.machine_runs.specs.Runs.{IsReplay}
 use Rattle.machine_log.specs.Logs.{Log}
 use Rattle.machine_sweep.specs.Own.{AreOwn}
-use Rattle.debug_sweep.specs.Runs.{HasRun}
+use Rattle.debug_sweep.specs.Runs.{HasDriven}
 use Rattle.debug_sweep.specs.Sweeps.{HasContinued}
 use Rattle.debug_sweep.proofs.Stepping.{own_both}
 
 pub has_run : ReplaysAreCut → ((m : MachineLists) → AreOwn (drain_steps m)) → (breaks : List Bool) (budget : ℕ) (old new : Log) →
     HasContinued breaks budget old new → IsReplay old.opening old.steps old.machine →
-    IsReplay new.opening new.steps new.machine → HasRun old new
+    IsReplay new.opening new.steps new.machine → HasDriven old new
 has_run cut own breaks budget old new c before after =
     let drained : List Step = drain_steps c.middle.machine in
     let steps = c.steps ∙ ap (λ xs. xs ++ drained) c.swept.steps ∙ append_assoc old.steps c.swept.more drained in

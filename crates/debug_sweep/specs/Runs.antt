@@ -8,7 +8,7 @@ use Rattle.machine_sweep.specs.Own.{AreOwn}
 
 -- Behind the steps that it had the log has more, none of which writes from outside. Its machine is the replay of the one that it
 -- was over just these, and no reference is open.
-pub record HasRun (old new : Log) : Type 0 where
+pub record HasDriven (old new : Log) : Type 0 where
   pub opening : new.opening ≡ old.opening
   pub more : List Step
   pub steps : new.steps ≡ old.steps ++ more

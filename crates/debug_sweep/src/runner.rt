@@ -2,7 +2,7 @@
 
 ghost use Rattle.std.specs.Prelude.{◌≡◌, Err, OnErr, OnOk};
 ghost use Rattle.machine_runs.specs.Machines.{IsIdle};
-ghost use Rattle.debug_sweep.specs.Runs.{HasRun};
+ghost use Rattle.debug_sweep.specs.Runs.{HasDriven};
 
 use debug_replies::Breaks;
 use machine_log::{LogRefusal, Logged};
@@ -19,7 +19,7 @@ pub trait Runner {
     /// no memory for them. Each leaves all as it was.
     fn run(&mut self, log: &mut Logged, breaks: &Breaks, budget: u32) -> Result<(), LogRefusal>
         requires idle { IsIdle log.old.machine }
-        ensures ran { OnOk result (HasRun log.old log.new) }
+        ensures ran { OnOk result (HasDriven log.old log.new) }
         ensures named { result ≡ Err LogRefusal.Unnamed → ⊥ }
         ensures refused { OnErr result (log.new ≡ log.old) };
 }

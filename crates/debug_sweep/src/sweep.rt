@@ -7,7 +7,7 @@ ghost use Rattle.machine_log.specs.Logs.{KeepsPlaces, Log};
 ghost use Rattle.machine_sweep.specs.Standing.{HasRunning};
 ghost use Rattle.machine_sweep.specs.Sweeps.{IsFault};
 ghost use Rattle.debug_sweep.specs.Breaks.{IsAtBreak, MeetsBreak, Retires, is_noted};
-ghost use Rattle.debug_sweep.specs.Runs.{HasRun};
+ghost use Rattle.debug_sweep.specs.Runs.{HasDriven};
 ghost use Rattle.debug_sweep.specs.Sweeps.{HasContinued, HasSwept, IsUnderWay};
 
 use crate::runner::Runner;
@@ -38,7 +38,7 @@ impl Runner for Sweep {
     /// [`LogRefusal::Memory`] where there is no memory for them. Each leaves all as it was.
     fn run(&mut self, log: &mut Logged, breaks: &Breaks, budget: u32) -> Result<(), LogRefusal>
         requires idle { IsIdle log.old.machine }
-        ensures ran { OnOk result (HasRun log.old log.new) }
+        ensures ran { OnOk result (HasDriven log.old log.new) }
         ensures continued { OnOk result (HasContinued breaks.now budget log.old log.new) }
         ensures full { (result ≡ Err LogRefusal.Full) ↔ (4194304 < length log.old.steps + (budget + drain_bound log.old.machine.config)) }
         ensures named { result ≡ Err LogRefusal.Unnamed → ⊥ }
@@ -53,7 +53,7 @@ impl Runner for Sweep {
 /// Follows the sweep for so many steps at most, and then drains the machine. There is room for the steps.
 fn sweep_and_drain(log: &mut Roomy, breaks: &Breaks, budget: u32)
     requires room { budget + drain_bound log.old.log.machine.config ≤ log.old.places }
-    ensures ran { HasRun log.old.log log.new.log }
+    ensures ran { HasDriven log.old.log log.new.log }
     ensures continued { HasContinued breaks.now budget log.old.log log.new.log }
 {
     replays_are_cut();

@@ -6,6 +6,7 @@
 
 mod codes;
 mod command;
+mod ends;
 mod faults;
 mod pages;
 mod replies;

@@ -24,6 +24,7 @@ pub(crate) fn list_text(alloc: Global, topics: &Topics) -> Result<String, AllocE
     let mut text = String::new(alloc);
     text.push_str("Codes, which stand behind `ultra:` on standard error\n")?;
     push_lines(&mut text, topics.codes)?;
+    push_lines(&mut text, topics.ends)?;
     text.push_str("\nNumbers of faults, as `fault 4` in a report\n")?;
     push_lines(&mut text, topics.faults)?;
     text.push_str("\nErrors of the debugger, as it answers a line\n")?;

@@ -17,8 +17,10 @@ pub struct Topic {
 /// Topics by their kinds. Of two topics with one name the first is explained.
 #[derive(Debug, Drop)]
 pub struct Topics {
-    /// What stands behind `ultra: ` on standard error.
+    /// What stands behind `ultra: ` on standard error: codes of what is read or written.
     pub codes: &'static [Topic],
+    /// What else stands there: why a command has come to no end of its own.
+    pub ends: &'static [Topic],
     /// The numbers of the faults that stop a processor, as a report has them.
     pub faults: &'static [Topic],
     /// The errors that a debugger's lines are answered by.
@@ -33,6 +35,9 @@ impl Topics {
         ensures { option_map (λ t. t.now) result ≡ topic_named self.now word.now }
     {
         if let Some(topic) = first_named(self.codes, word) {
+            return Some(topic);
+        }
+        if let Some(topic) = first_named(self.ends, word) {
             return Some(topic);
         }
         if let Some(topic) = first_named(self.faults, word) {

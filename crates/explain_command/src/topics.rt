@@ -1,6 +1,7 @@
 //! All that there is to explain.
 
 use crate::codes::CODES;
+use crate::ends::ENDS;
 use crate::faults::FAULTS;
 use crate::pages::PAGES;
 use crate::replies::REPLIES;
@@ -10,6 +11,7 @@ use crate::topic::{Topic, Topics};
 pub fn all_topics() -> Topics {
     Topics {
         codes: codes(),
+        ends: ends(),
         faults: faults(),
         replies: replies(),
         pages: pages(),
@@ -20,6 +22,10 @@ pub fn all_topics() -> Topics {
 
 fn codes() -> &'static [Topic] {
     CODES
+}
+
+fn ends() -> &'static [Topic] {
+    ENDS
 }
 
 fn faults() -> &'static [Topic] {

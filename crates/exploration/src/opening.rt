@@ -2,14 +2,16 @@
 
 ghost use Rattle.std.specs.Prelude.{◌≡◌, ◌≤◌, ◌^◌, map, IfOk};
 ghost use Rattle.std.specs.List.{range_with_len};
+ghost use Rattle.machine.specs.Machines.{AreHome};
 ghost use Rattle.machine.specs.machine_program.Processors.{port_at, word_at};
 
 use hart::Core;
 use machine::Machine;
 use std::alloc::{AllocError, Global};
 
-/// The cores of all processors.
+/// The cores of all processors, none of which is away.
 pub fn cores_of(alloc: Global, machine: &Machine) -> Result<Vec<Core>, AllocError>
+    requires home { AreHome machine.now }
     ensures { IfOk result (λ cores. cores.items ≡ map (λ p. (port_at machine.now.ports p).core) (range_with_len 0 (2 ^ machine.now.config.k))) }
 {
     let mut cores = Vec::new(alloc);

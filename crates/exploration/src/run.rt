@@ -3,7 +3,7 @@
 ghost use Rattle.std.specs.Prelude.{◌≡◌, ◌≤◌, ◌^◌, All, Contains, length, IfOk};
 ghost use Rattle.exploration.specs.Endings.{IsOnce};
 ghost use Rattle.station_search.specs.Scheduled.{AreSchedulesOf};
-ghost use Rattle.machine.specs.Machines.{IsIdle};
+ghost use Rattle.machine.specs.Machines.{AreHome, IsIdle};
 ghost use Rattle.machine.specs.Openings.{flat_state};
 ghost use Rattle.results.specs.Results.{FinalResult, IsFlatResult, IsMachineResult};
 ghost use Rattle.station_search.specs.Opening.{AreOfExtent, flat_of};
@@ -34,6 +34,7 @@ pub fn explore<G: Watch>(
     watch: &mut G,
 ) -> Result<Explored, Refusal>
     requires idle { IsIdle machine.now }
+    requires home { AreHome machine.now }
     requires few { machine.now.config.k ≤ 3 }
     ensures sound { IfOk result (λ e. All (IsMachineResult machine.now) e.results.items) }
     ensures complete { IfOk result (λ e. (r : FinalResult) → IsMachineResult machine.now r → Contains e.results.items r) }
@@ -50,7 +51,7 @@ pub fn explore<G: Watch>(
         return Err(Refusal::Memory);
     };
     let all = cores.as_slice();
-    let code = machine.code();
+    let code: &Code = machine.code();
     let explored = explored(alloc, code, extent, all, words, limit, watch)?;
     Ok(explored)
 }

@@ -7,8 +7,15 @@ use flat_machine::{Config, Fault, Status};
 use link::Meter;
 use machine::Machine;
 use std::alloc::Global;
+use std::fmt::Debug;
 use std::process::Abort;
 use std::test::Fail;
+use test_devices::assert_same;
+
+/// Ends the test where the two differ, and tells them and the case that they are of ([`assert_same!`]).
+fn same<T: PartialEq + Debug, A: Debug>(rt: &impl Abort, found: &T, wanted: &T, at: &A) {
+    assert_eq!(rt; found, wanted, "{at:?}");
+}
 
 /// Each adds 1 to the first word, once, by a fetch and add.
 const SUM: &str = "lui x1, 0x80000\naddi x4, x0, 1\namoadd.w x0, x4, (x1)\necall";
@@ -93,7 +100,7 @@ fn results_are_counted(rt: HostRuntime) -> Result<(), Fail> {
         let found = explored(&rt, rt.alloc(), text, k, 100)?;
         assert!(rt; found.is_ok(), "{text}");
         if let Ok(found) = found {
-            assert_eq!(rt; found.results.len(), results, "{text}");
+            assert_same!(rt; found.results.len(), results, text);
         }
     }
     Ok(())
@@ -105,16 +112,16 @@ fn results_are_told(rt: HostRuntime) -> Result<(), Fail> {
     if let Ok(found) = explored(&rt, rt.alloc(), PRINTED, 0, 100)? {
         for result in found.results.iter() {
             for processor in result.processors.iter() {
-                assert_eq!(rt; processor.pc, 0x1000C);
-                assert_eq!(rt; processor.status, Status::Faulted(Fault::Breakpoint));
-                assert_eq!(rt; processor.console.as_slice(), b"A".as_slice());
+                assert_same!(rt; processor.pc, 0x1000C);
+                assert_same!(rt; processor.status, Status::Faulted(Fault::Breakpoint));
+                assert_same!(rt; processor.console.as_slice(), b"A".as_slice());
             }
         }
     }
     if let Ok(found) = explored(&rt, rt.alloc(), SUM, 1, 100)? {
         for result in found.results.iter() {
-            assert_eq!(rt; result.words.as_slice(), [2].as_slice());
-            assert_eq!(rt; result.processors.len(), 2);
+            assert_same!(rt; result.words.as_slice(), [2].as_slice());
+            assert_same!(rt; result.processors.len(), 2);
         }
     }
     Ok(())
@@ -124,11 +131,11 @@ fn results_are_told(rt: HostRuntime) -> Result<(), Fail> {
 #[test]
 fn limits(rt: HostRuntime) -> Result<(), Fail> {
     match explored(&rt, rt.alloc(), LOST_SUM, 1, 13)? {
-        Ok(found) => assert_eq!(rt; found.moves.len(), 12),
+        Ok(found) => assert_same!(rt; found.moves.len(), 12),
         Err(_) => assert!(rt; false),
     }
     let refused = explored(&rt, rt.alloc(), LOST_SUM, 1, 11)?;
-    assert_eq!(rt; refused.err(), Some(Refusal::States));
+    assert_same!(rt; refused.err(), Some(Refusal::States));
     Ok(())
 }
 
@@ -146,7 +153,7 @@ fn states_are_counted(rt: HostRuntime) -> Result<(), Fail> {
         (CALL, 1, 4),
     ] {
         match explored(&rt, rt.alloc(), text, k, 1000)? {
-            Ok(found) => assert_eq!(rt; found.moves.len(), states, "{text}"),
+            Ok(found) => assert_same!(rt; found.moves.len(), states, text),
             Err(_) => assert!(rt; false, "{text}"),
         }
     }
@@ -196,9 +203,9 @@ fn ways_lead_to_results(rt: HostRuntime) -> Result<(), Fail> {
             assert!(rt; false);
             return Ok(());
         };
-        assert_eq!(rt; result.words.as_slice(), [sum].as_slice());
+        assert_same!(rt; result.words.as_slice(), [sum].as_slice());
         let found_way = way_to(alloc, found.moves.as_slice(), result.place)?;
-        assert_eq!(rt; found_way.as_slice(), way.as_slice());
+        assert_same!(rt; found_way.as_slice(), way.as_slice());
     }
     assert!(rt; results.next().is_none());
     Ok(())
@@ -209,10 +216,7 @@ fn ways_lead_to_results(rt: HostRuntime) -> Result<(), Fail> {
 fn ways_lead_to_where_no_end_can_be_reached(rt: HostRuntime) -> Result<(), Fail> {
     let alloc = rt.alloc();
     if let Ok(found) = explored(&rt, alloc, MISSED, 1, 100)? {
-        assert_eq!(rt;
-            way_to(alloc, found.moves.as_slice(), 3)?.as_slice(),
-            [1, 1].as_slice()
-        );
+        assert_same!(rt; way_to(alloc, found.moves.as_slice(), 3)?.as_slice(), [1, 1].as_slice());
     }
     Ok(())
 }

@@ -2,7 +2,7 @@
 
 ghost use Rattle.std.specs.Prelude.{◌≡◌, ◌≤◌, IfOk, IfErr, OnOk, string_bytes};
 ghost use Rattle.machine_runs.specs.machine.Openings.{flat_state};
-ghost use Rattle.machine_runs.specs.Machines.{IsIdle};
+ghost use Rattle.machine_runs.specs.Machines.{AreHome, IsIdle};
 ghost use Rattle.exploration.specs.station_search.Scheduled.{AreSchedulesOf};
 ghost use Rattle.run_commands.specs.Commands.{IsWorking};
 ghost use Rattle.explore_command.specs.Causes.{IsNotFound, IsNotSaved, IsNotSearched};
@@ -58,6 +58,7 @@ fn found<G: Watch>(
     watch: &mut G,
 ) -> Result<Explored, Fault>
     requires idle { IsIdle machine.now }
+    requires home { AreHome machine.now }
     requires few { machine.now.config.k ≤ 3 }
     ensures results { IfOk result (λ found. AreResultsOf machine.now found.results.items) }
     ensures schedules { IfOk result (λ found. AreSchedulesOf (flat_state machine.now) found.schedules) }

@@ -17,4 +17,4 @@ mod processor;
 mod tests;
 
 pub use decision::{Decision, Shape, Taken};
-pub use processor::Core;
+pub use processor::{Core, core_has_registers};

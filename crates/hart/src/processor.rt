@@ -29,7 +29,7 @@ pub struct Core {
 }
 
 impl Model for Core {
-    ghost use Rattle.std.specs.Prelude.{◌≡◌, ◌≤◌, ◌^◌, ◌%◌};
+    ghost use Rattle.std.specs.Prelude.{◌≡◌, ◌≤◌, ◌^◌, ◌%◌, length};
     ghost use Rattle.hart.specs.State.{CoreState};
 
     ghost Value = { CoreState };
@@ -39,7 +39,7 @@ impl Model for Core {
       state = record { pc = c.pc; registers = c.registers; local = c.local; status = c.status };
     } };
 
-    ghost invariant = { λ c. (c.setting.shared_words ≤ 2 ^ 18) × (c.pc % 4 ≡ 0) };
+    ghost invariant = { λ c. (c.setting.shared_words ≤ 2 ^ 18) × (c.pc % 4 ≡ 0) × (length c.registers ≡ 32) };
 }
 
 impl Core {
@@ -71,6 +71,17 @@ impl Core {
             local: self.local.copy()?,
             status: self.status,
         })
+    }
+
+    /// Makes the core equal to another. No memory is taken.
+    pub fn copy_from(&mut self, other: &Self)
+        ensures { self.new ≡ other.now }
+    {
+        self.setting = other.setting;
+        self.pc = other.pc;
+        self.registers = other.registers;
+        self.local.copy_from(&other.local);
+        self.status = other.status;
     }
 
     /// Whether both are equal.
@@ -165,4 +176,11 @@ impl Core {
     {
         self.status = cause.status();
     }
+}
+
+/// A core has 32 registers: each proof about one may cite it, at the cost of nothing.
+pub fn core_has_registers(core: &Core)
+    ensures { length core.now.state.registers ≡ 32 }
+{
+    let _ = &core.registers;
 }

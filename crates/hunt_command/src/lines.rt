@@ -3,6 +3,7 @@
 ghost use Rattle.std.specs.Prelude.{◌≡◌, ◌<◌, ◌++◌, ◌^◌, codes, IfOk, OnOk, length, slice_index_or, string_bytes};
 ghost use Rattle.std.specs.Fmt.{decimal};
 ghost use Rattle.run_report.specs.Tallies.{nothing_shown};
+ghost use Rattle.machine_runs.specs.Machines.{AreHome};
 ghost use Rattle.machine_sweep.specs.Standing.{processor_of};
 ghost use Rattle.hunt_command.specs.Lines.{end_line, outcome_line, outcome_lines, result_of};
 
@@ -27,7 +28,8 @@ pub fn result_text(
     machine: &Machine,
     tally: &Tally,
 ) -> Result<String, AllocError>
-    requires { length tally.now.shown ≡ 2 ^ machine.now.config.k }
+    requires home { AreHome machine.now }
+    requires all { length tally.now.shown ≡ 2 ^ machine.now.config.k }
     ensures { IfOk result (λ text. string_bytes text ≡ result_of end machine.now tally.now.shown) }
 {
     let mut text = String::new(alloc);
@@ -54,7 +56,8 @@ fn push_outcomes(
     machine: &Machine,
     tally: &Tally,
 ) -> Result<(), AllocError>
-    requires { length tally.now.shown ≡ 2 ^ machine.now.config.k }
+    requires home { AreHome machine.now }
+    requires all { length tally.now.shown ≡ 2 ^ machine.now.config.k }
     ensures { OnOk result (string_bytes text.new ≡ string_bytes text.old ++ outcome_lines machine.now tally.now.shown (2 ^ machine.now.config.k)) }
 {
     for p in 0..machine.config().processors() {
@@ -73,6 +76,7 @@ fn push_outcome_of(
     p: u8,
 ) -> Result<(), AllocError>
     requires there { p < 2 ^ machine.now.config.k }
+    requires home { AreHome machine.now }
     requires all { length tally.now.shown ≡ 2 ^ machine.now.config.k }
     ensures { OnOk result (string_bytes text.new ≡ string_bytes text.old
         ++ outcome_line p (processor_of machine.now p).status (slice_index_or tally.now.shown p nothing_shown)) }

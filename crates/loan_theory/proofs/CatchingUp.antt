@@ -17,7 +17,7 @@ use Rattle.machine_program.specs.steps.declared.step.Step.TheVariants as step
 use Rattle.machine_program.specs.steps.declared.step.Outcome.TheVariants as outcome
 use Rattle.local_runs.specs.LocalRuns.{TakesOne, TakesLocal}
 use Rattle.loan_theory.specs.Loans.{with_core, away, without, gone_on, turns_of, after_all, answers_of, told_of}
-use Rattle.loan_theory.proofs.Putting.{last_counts, stays_put}
+use Rattle.machine_program.proofs.Lemmas.{last_counts, stays_put}
 
 module _ (c : Config) (code : List ℕ) (p : ℕ) where
   -- ---- one turn

@@ -15,7 +15,7 @@ use Rattle.machine_program.specs.steps.declared.step.Step.TheVariants as step
 use Rattle.local_runs.specs.LocalRuns.{TakesLocal}
 use Rattle.loan_theory.specs.Loans.{with_core, with_cores, away, without, gone_on, IsOfOthers, AreOfOthers, AreOfAllOthers, turns_of, after_all}
 use Rattle.loan_theory.specs.Loans.{answers_of, told_of}
-use Rattle.loan_theory.proofs.Putting.{last_counts}
+use Rattle.machine_program.proofs.Lemmas.{last_counts}
 use Rattle.loan_theory.proofs.Noticing.{IsAnothers, TellsNotOf, not_noticed, tells_not, open_kept, core_kept}
 use Rattle.loan_theory.proofs.CatchingUp.{catch_up}
 

@@ -1,4 +1,3 @@
-mod Putting
 mod Noticing
 mod CatchingUp
 mod Lending

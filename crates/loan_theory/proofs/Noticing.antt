@@ -16,7 +16,7 @@ use Rattle.machine_program.specs.abstract_machine.Machine.{Issued, Moved, Poked,
 use Rattle.machine_program.specs.abstract_machine.Machine.{retire_from, begin, turned, went_up, went_down, serve_from, step}
 use Rattle.machine_program.proofs.Lemmas.abstract_machine.messages.{put_other, put_same}
 use Rattle.loan_theory.specs.Loans.{with_core}
-use Rattle.loan_theory.proofs.Putting.{put_swap, stays_put}
+use Rattle.machine_program.proofs.Lemmas.{put_swap, stays_put}
 
 -- in the words of the theory, for any kind of processor
 abbrev pub IsAnothers : {Pokes : Type 0} → (p : ℕ) → Step Pokes → Type 0

@@ -4,9 +4,9 @@ use Rattle.machine_program.specs.flat_machine.declared.config.Config.{Config}
 use Rattle.machine_program.specs.flat_machine.declared.event.Event.TheVariants as event
 use Rattle.machine_program.specs.flat_machine.declared.event.Retired as retirement
 use Rattle.machine_program.specs.flat_machine.State.{Processor}
-use Rattle.machine_program.specs.abstract_machine.messages.Places.{put}
 use Rattle.machine_program.specs.Theory as theory
-use Rattle.machine_program.specs.Processors.{Told, no_processor, program, sizes_of}
+pub use Rattle.machine_program.specs.Cores.{with_core, away, without}
+use Rattle.machine_program.specs.Processors.{Told, program, sizes_of}
 use Rattle.machine_program.specs.Steps.{named, outcome_of, after}
 use Rattle.machine_program.specs.steps.declared.step.Step.{Step}
 use Rattle.machine_program.specs.steps.declared.step.Step.TheVariants as step
@@ -15,22 +15,10 @@ use Rattle.machine_program.specs.steps.declared.step.Outcome.TheVariants as outc
 
 -- ---- cores
 
--- the machine with another core of processor p
-abbrev pub with_core : {Core : Type 0} → theory.Machine Core → (p : ℕ) → Core → theory.Machine Core
-with_core M p core = record { net = M.net; mem = M.mem; core = put M.core p core; is_open = M.is_open }
-
 -- the machine with these cores of these processors; of two for one processor the first counts
 abbrev pub with_cores : {Core : Type 0} → theory.Machine Core → List (ℕ × Core) → theory.Machine Core
 with_cores M [] = M
 with_cores M ((p, core) ∷ more) = with_core (with_cores M more) p core
-
--- What is read where a core is away: a processor that does not run. Its events are those that it had shown.
-abbrev pub away : Told → Told
-away g = record { state = no_processor; events = g.events }
-
--- the machine while the core of processor p is away
-abbrev pub without : theory.Machine Told → (p : ℕ) → theory.Machine Told
-without M p = with_core M p (away (M.core p))
 
 -- a processor that has gone on to another state, and has shown these instructions since
 abbrev pub gone_on : Told → List retirement.Retired → Processor → Told

@@ -1,31 +1,33 @@
 //! The bytes of one region.
 
-ghost use Rattle.std.specs.Prelude.{◌≡◌, ◌↔◌, ◌<◌, ◌≤◌, ◌^◌, ◌*◌, ◌+◌, ◌-◌, ◌%◌, length, slice_index, slice_set, IfOk, IsTrue, vec_len};
+ghost use Rattle.std.specs.Prelude.{◌≡◌, ◌↔◌, ◌<◌, ◌≤◌, ◌^◌, ◌*◌, ◌+◌, ◌%◌, length, replicate, slice_index, slice_set, IfOk, IsTrue, vec_len, vec_capacity};
 ghost use Rattle.flat_machine.specs.Memory.{number_at, with_number};
 ghost use Rattle.flat_machine.specs.Sizes.{bytes_of};
-ghost use Rattle.local_memory.specs.Accesses.{padded, region_of_bytes};
+ghost use Rattle.local_memory.specs.Accesses.{region_of_bytes};
 
 use flat_machine::Size;
 use std::alloc::{AllocError, Global};
 use std::marker::Model;
 
 /// How many bytes a region has.
-pub const REGION_LENGTH: usize = 0x1_0000;
+const REGION_LENGTH: usize = 0x1_0000;
 
-/// The 65,536 bytes of a region, by their places from its first address.
+/// The 65,536 bytes of a region, by their places from its first address. Those behind the last one that was written are zero, and
+/// are not stored, so a copy takes as long as what is used. There is room for all, so that a write takes no memory.
 #[derive(Drop)]
 pub struct RegionBytes {
-    bytes: Vec<u8>,
+    written: Vec<u8>,
 }
 
 impl Model for RegionBytes {
-    ghost use Rattle.std.specs.Prelude.{◌≡◌, ℕ, ◌^◌, List, length};
+    ghost use Rattle.std.specs.Prelude.{◌≤◌, ℕ, ◌^◌, List, vec_len, vec_capacity};
+    ghost use Rattle.local_memory.specs.Accesses.{region_of_bytes};
 
     ghost Value = { List ℕ };
 
-    ghost view = { λ r. r.bytes.items };
+    ghost view = { λ r. region_of_bytes r.written.items };
 
-    ghost invariant = { λ r. length r.bytes.items ≡ 2 ^ 16 };
+    ghost invariant = { λ r. (vec_len r.written ≤ 2 ^ 16) × (2 ^ 16 ≤ vec_capacity r.written) };
 }
 
 impl RegionBytes {
@@ -34,25 +36,37 @@ impl RegionBytes {
         requires { length bytes.now ≤ 2 ^ 16 }
         ensures { IfOk result (λ r. r ≡ region_of_bytes bytes.now) }
     {
-        Ok(RegionBytes {
-            bytes: padded(alloc, bytes, REGION_LENGTH)?,
-        })
+        let mut written = Vec::with_capacity(alloc, REGION_LENGTH)?;
+        written.extend_from_slice(bytes)?;
+        Ok(RegionBytes { written })
     }
 
     /// An equal region.
     pub fn copy(&self) -> Result<Self, AllocError>
         ensures { IfOk result (λ r. r ≡ self.now) }
     {
-        Ok(RegionBytes {
-            bytes: self.bytes.clone()?,
-        })
+        RegionBytes::new(*self.written.allocator(), self.written.as_slice())
+    }
+
+    /// Makes the region equal to another. No memory is taken.
+    pub fn copy_from(&mut self, other: &Self)
+        ensures { self.new ≡ other.now }
+    {
+        self.written.clear();
+        // (there is room)
+        let _ = self.written.extend_from_slice(other.written.as_slice());
     }
 
     /// Whether both have the same bytes.
     pub fn equals(&self, other: &Self) -> bool
         ensures { IsTrue result ↔ (self.now ≡ other.now) }
     {
-        self.bytes.as_slice() == other.bytes.as_slice()
+        let (one, other) = (self.written.as_slice(), other.written.as_slice());
+        if one.len() <= other.len() {
+            pads(one, other)
+        } else {
+            pads(other, one)
+        }
     }
 
     /// The little-endian number at a place.
@@ -75,11 +89,13 @@ impl RegionBytes {
     }
 
     fn byte(&self, place: usize) -> u32
-        requires { place < 2 ^ 16 }
         ensures value { result ≡ slice_index self.now place }
         ensures small { result < 256 }
     {
-        u32::from(self.bytes[place])
+        match self.written.get(place) {
+            Some(byte) => u32::from(*byte),
+            None => 0,
+        }
     }
 
     /// Writes the low bytes of a number at a place, the lowest byte first.
@@ -88,39 +104,73 @@ impl RegionBytes {
         requires { place + bytes_of size ≤ 2 ^ 16 }
         ensures { self.new ≡ with_number self.old place (bytes_of size) value }
     {
+        let written = &mut self.written;
         let place = place as usize;
+        write_up_to(written, place + size.bytes() as usize);
         match size {
-            Size::Byte => self.set_byte(place, value),
+            Size::Byte => set_byte(written, place, value),
             Size::Half => {
-                self.set_byte(place, value);
-                self.set_byte(place + 1, value / 256);
+                set_byte(written, place, value);
+                set_byte(written, place + 1, value / 256);
             }
             Size::Word => {
-                self.set_byte(place, value);
-                self.set_byte(place + 1, value / 256);
-                self.set_byte(place + 2, value / 256 / 256);
-                self.set_byte(place + 3, value / 256 / 256 / 256);
+                set_byte(written, place, value);
+                set_byte(written, place + 1, value / 256);
+                set_byte(written, place + 2, value / 256 / 256);
+                set_byte(written, place + 3, value / 256 / 256 / 256);
             }
         }
     }
+}
 
-    fn set_byte(&mut self, place: usize, value: u32)
-        requires { place < 2 ^ 16 }
-        ensures { self.new ≡ slice_set self.old place (value % 256) }
-    {
-        self.bytes[place] = (value % 256) as u8;
+/// Writes the low byte of a number over one that was written.
+fn set_byte(written: &mut Vec<u8>, place: usize, value: u32)
+    requires { place < vec_len written.old }
+    ensures set { region_of_bytes written.new.items ≡ slice_set (region_of_bytes written.old.items) place (value % 256) }
+    ensures count { vec_len written.new ≡ vec_len written.old }
+    ensures capacity { vec_capacity written.new ≡ vec_capacity written.old }
+{
+    written[place] = (value % 256) as u8;
+}
+
+/// Writes zeros behind the bytes, up to a number of bytes, if they are fewer. There is room for them.
+fn write_up_to(written: &mut Vec<u8>, count: usize)
+    requires old { vec_len written.old ≤ 2 ^ 16 }
+    requires new { count ≤ 2 ^ 16 }
+    requires room { count ≤ vec_capacity written.old }
+    ensures same { region_of_bytes written.new.items ≡ region_of_bytes written.old.items }
+    ensures written { count ≤ vec_len written.new }
+    ensures few { vec_len written.new ≤ 2 ^ 16 }
+    ensures capacity { vec_capacity written.new ≡ vec_capacity written.old }
+{
+    for _ in written.len()..count {
+        written.push_reserved(0);
     }
 }
 
-/// The bytes, with zeros up to a length.
-#[tactic(auto, unfolding(crate::specs::Accesses::padded))]
-fn padded(alloc: Global, bytes: &[u8], count: usize) -> Result<Vec<u8>, AllocError>
-    requires { length bytes.now ≤ count }
-    ensures items { IfOk result (λ v. v.items ≡ padded count bytes.now) }
-    ensures count { IfOk result (λ v. vec_len v ≡ count) }
+/// Whether the longer bytes are those of the shorter, with zeros after them.
+fn pads(short: &[u8], long: &[u8]) -> bool
+    requires shorter { length short.now ≤ length long.now }
+    requires few { length long.now ≤ 2 ^ 16 }
+    ensures { IsTrue result ↔ (region_of_bytes short.now ≡ region_of_bytes long.now) }
 {
-    let mut region = Vec::with_capacity(alloc, count)?;
-    region.extend_from_slice(bytes)?;
-    region.resize(count, 0)?;
-    Ok(region)
+    let (front, back) = long.split_at(short.len());
+    are_same(front, short) && are_zero(back)
+}
+
+fn are_same(one: &[u8], other: &[u8]) -> bool
+    ensures { IsTrue result ↔ (one.now ≡ other.now) }
+{
+    one == other
+}
+
+fn are_zero(bytes: &[u8]) -> bool
+    ensures { IsTrue result ↔ (bytes.now ≡ replicate (length bytes.now) 0) }
+{
+    for byte in bytes {
+        if *byte != 0 {
+            return false;
+        }
+    }
+    true
 }

@@ -44,6 +44,13 @@ impl Local {
         })
     }
 
+    /// Makes the memory equal to another. No memory of the host is taken.
+    pub fn copy_from(&mut self, other: &Self)
+        ensures { self.new ≡ other.now }
+    {
+        self.bytes.copy_from(&other.bytes);
+    }
+
     /// Whether both have the same bytes.
     pub fn equals(&self, other: &Self) -> bool
         ensures { IsTrue result ↔ (self.now ≡ other.now) }

@@ -8,7 +8,7 @@ use Rattle.flat_machine.specs.State.{Processor}
 use Rattle.hart.specs.State.{CoreState}
 use Rattle.local_runs.specs.declared.run.LocalEnd.{LocalEnd}
 use Rattle.local_runs.specs.declared.run.LocalEnd.TheVariants.{Out, Most, Other}
-use Rattle.local_runs.specs.LocalRuns.{RetirementList, TakesOne, TakesLocal, TakesNoMore, IsQuiet, HasRun, end_of, IsListed, HasTaken}
+use Rattle.local_runs.specs.LocalRuns.{RetirementList, TakesOne, TakesLocal, TakesNoMore, IsQuiet, HasRunLocally, end_of, IsListed, HasTaken}
 
 takes_more : (s : Setting) (code : List ℕ) (first last next : Processor) (taken : List Retired) (retired : Retired) →
     TakesLocal s code first taken last → TakesOne s code last retired next → TakesLocal s code first (taken ++ retired ∷ []) next
@@ -56,7 +56,7 @@ module _ (code : List ℕ) (old new now : CoreState) (before after list : Retire
       quiet = all_more gone.taken next.retired gone.quiet silent;
     }
 
-    gives : (byte : ℕ) → next.retired.out ≡ Some byte → HasRun code old now before list (Out byte)
+    gives : (byte : ℕ) → next.retired.out ≡ Some byte → HasRunLocally code old now before list (Out byte)
     gives byte out = record {
       taken = gone.taken ++ next.retired ∷ [];
       turns = turns_on;
@@ -86,7 +86,7 @@ module _ (code : List ℕ) (old new now : CoreState) (before after list : Retire
   pub one_more : HasTaken code new now after list None → length list.items ≡ length after.items + 1
   one_more next = ap (λ (l : RetirementList). length l.items) next.list ∙ length-append after.items (next.retired ∷ [])
 
-  pub ended : (end : LocalEnd) → length after.items < after.most → HasTaken code new now after list (Some end) → HasRun code old now before list end
+  pub ended : (end : LocalEnd) → length after.items < after.most → HasTaken code new now after list (Some end) → HasRunLocally code old now before list end
   ended (Out byte) room next = gives (Some (Out byte)) next byte (out_by byte next.retired.out next.ends)
   ended Most room next = absurd (not_most next.retired.out next.ends)
   ended Other room (same, listed, no_more) = record {
@@ -103,6 +103,6 @@ module _ (code : List ℕ) (old new now : CoreState) (before after list : Retire
   }
 
 pub full : (code : List ℕ) (old new : CoreState) (before after : RetirementList) → HasGone code old new before after → length after.items ≡ after.most →
-    HasRun code old new before after Most
+    HasRunLocally code old new before after Most
 full code old new before after gone all =
     record { taken = gone.taken; turns = gone.turns; setting = gone.setting; most = gone.most; listed = gone.listed; ends = (gone.quiet, all) }

@@ -57,7 +57,7 @@ EndsAt Most s code taken p list = All IsQuiet taken × (length list.items ≡ li
 EndsAt Other s code taken p list = All IsQuiet taken × (length list.items < list.most) × TakesNoMore s code p
 
 -- A run of local instructions, each of which was listed.
-pub record HasRun (code : List ℕ) (old new : CoreState) (before after : RetirementList) (end : LocalEnd) : Type 0 where
+pub record HasRunLocally (code : List ℕ) (old new : CoreState) (before after : RetirementList) (end : LocalEnd) : Type 0 where
   pub taken : List Retired
   pub turns : TakesLocal old.setting code old.state taken new.state
   pub setting : new.setting ≡ old.setting

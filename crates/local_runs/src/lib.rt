@@ -11,5 +11,5 @@ mod retirements;
 mod run;
 
 pub use laws::local_runs_are_turns;
-pub use retirements::Retirements;
+pub use retirements::{Retirements, retirements_are_few};
 pub use run::{LocalEnd, run_local};

@@ -1,7 +1,7 @@
 //! The run.
 
 ghost use Rattle.std.specs.Prelude.{◌≡◌, ◌<◌, length};
-ghost use Rattle.local_runs.specs.LocalRuns.{HasRun, HasTaken, end_of};
+ghost use Rattle.local_runs.specs.LocalRuns.{HasRunLocally, HasTaken, end_of};
 
 use crate::retirements::Retirements;
 use flat_machine::{Retired, Status};
@@ -23,7 +23,7 @@ pub enum LocalEnd {
 /// byte. It ends before one that is not local, and where the list is full. Nothing else of the core changes, and no memory
 /// is taken.
 pub fn run_local(core: &mut Core, code: &Code, retirements: &mut Retirements) -> LocalEnd
-    ensures { HasRun code.now core.old core.new retirements.old retirements.new result }
+    ensures { HasRunLocally code.now core.old core.new retirements.old retirements.new result }
 {
     for _place in retirements.len()..retirements.most() {
         if let Some(end) = take_next(core, code, retirements) {

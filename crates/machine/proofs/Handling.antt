@@ -16,7 +16,8 @@ use Rattle.flat_machine.proofs.Lemmas.{byte_words, register_words}
 use Rattle.messages.specs.phi_algebra.declared.phi.Phi.{Phi}
 use Rattle.hart.specs.Deciding.{IsReference}
 use Rattle.messages.specs.phi_algebra.Functions.{apply}
-use Rattle.machine_ports.specs.Ports.{PortState, begun, turn, with_state}
+use Rattle.machine_ports.specs.Ports.{PortState, begun, is_away, no_processor, turn, with_state}
+use Rattle.machine_ports.proofs.Lemmas.{register_stays}
 use Rattle.messages.specs.declared.message.Request.{Request}
 use Rattle.messages.specs.declared.message.Reply.{Reply}
 use Rattle.messages.specs.declared.moves.UpMove.{UpMove}
@@ -33,13 +34,14 @@ use Rattle.machine_opening.specs.machine_program.Processors.{sizes_of, no_port, 
 use Rattle.machine_opening.specs.machine_program.Steps.{IsStepOf}
 use Rattle.machine_opening.proofs.Lemmas.machine_program.{at_its_module, begins, byte_poked, finishes, found_within, goes_down, goes_up, no_module, no_place}
 use Rattle.machine_opening.proofs.Lemmas.machine_program.{no_request}
-use Rattle.machine_opening.proofs.Lemmas.machine_program.{no_stage_down, no_stage_up, no_wire_down, no_wire_up, not_idle, refers, register_poked, rests, serves}
+use Rattle.machine_opening.proofs.Lemmas.machine_program.{no_stage_down, no_stage_up, no_wire_down, no_wire_up, not_home, not_idle, ports_stay}
+use Rattle.machine_opening.proofs.Lemmas.machine_program.{refers, register_poked, rests, serves}
 use Rattle.machine_opening.proofs.Lemmas.machine_program.{slot_free}
 use Rattle.machine_opening.proofs.Lemmas.machine_program.{unlawful, unnamed, word_poked, word_there}
 use Rattle.machine_opening.specs.machine_program.Turning.{IsBegun, IsFinishedBy, told_of_up, told_of_down}
-use Rattle.machine.specs.Machines.{MachineLists, ArePorts, AreModules, IsIdle, IsMachine, IsStep}
+use Rattle.machine.specs.Machines.{MachineLists, AreHome, ArePorts, AreModules, IsIdle, IsMachine, IsStep}
 use Rattle.machine.specs.Serving.{IsKept, IsExecuted}
-use Rattle.machine.proofs.Keeping.{parts_kept, begun_kept, finished_kept, ports_set, modules_set, module_there, place_there}
+use Rattle.machine.proofs.Keeping.{parts_kept, begun_kept, finished_kept, home_set, ports_set, modules_set, module_there, place_there}
 
 abbrev pub with_network : MachineLists → NetworkLists → MachineLists
 with_network m net = record { config = m.config; image = m.image; network = net; ports = m.ports; modules = m.modules; code = m.code }
@@ -63,14 +65,21 @@ module _ (m : MachineLists) (is : IsMachine m) where
 
   -- nothing is done
   same : (s : Step) → IsStepOf c m.code (net_of m.network) m.ports m.modules s Stalled (net_of m.network) m.ports m.modules → IsStep m s Stalled m
-  same s st = record { config = refl; image = refl; code = refl; step = st }
+  same s st = record { config = refl; image = refl; code = refl; cores = λ p. refl; step = st }
 
   done : (s : Step) (o : Outcome) (net' : NetworkLists) (ports' : List PortState) (modules' : List (List ℕ)) →
       network.sizes_of net' ≡ network.sizes_of m.network → ArePorts c ports' → AreModules c modules' →
       IsStepOf c m.code (net_of m.network) m.ports m.modules s o (net_of net') ports' modules' →
       Done m s o (record { config = m.config; image = m.image; network = net'; ports = ports'; modules = modules'; code = m.code })
   done s o net' ports' modules' sizes ports modules st = (
-    record { config = refl; image = refl; code = refl; step = st },
+    record {
+      config = refl;
+      image = refl;
+      code = refl;
+      cores = ports_stay c m.code (net_of m.network) (net_of net') m.ports ports' m.modules modules'
+          s o st;
+      step = st;
+    },
     parts_kept m.config m.code m.image m.network net' m.ports ports' m.modules modules' s o is st sizes ports modules,
   )
 
@@ -134,7 +143,7 @@ module _ (m : MachineLists) (is : IsMachine m) where
       network.sizes_of net' ≡ network.sizes_of m.network → Done m (step.Turn p) o (with_port m net' p port')
   begin_done p port' o net' within shut runs becomes b sizes =
       done (step.Turn p) o net' (slice_set m.ports p port') m.modules sizes
-      (begun_kept c m.code is.limits is.code m.ports is.ports p within port' becomes) is.modules
+      (begun_kept c m.code is.limits is.code m.ports is.ports p within port' becomes runs) is.modules
       (begins c m.code (net_of m.network) m.ports m.modules p within (inside p within) shut runs (port_at m.ports p) port' o (net_of net') refl
       (is.ports.settings p within) becomes b)
 
@@ -151,7 +160,9 @@ module _ (m : MachineLists) (is : IsMachine m) where
           ArePorts c (slice_set m.ports p port')
       kept None f = ports_set c m.ports is.ports p within port' (ap (λ (q : PortState). q.core.setting) f.1)
           (subst (λ (q : PortState). HasWords q.core.state) (sym f.1) (is.ports.words p))
-      kept (Some reply) f = finished_kept c m.code is.limits is.code m.ports is.ports p within port' reply.value f.done f.word f.by f.port
+          (subst (λ (q : PortState). is_away q.core.state ≡ true → q.core.state ≡ no_processor) (sym f.1) (is.ports.rest p))
+      kept (Some reply) f = finished_kept c m.code is.limits is.code m.ports is.ports p within port' reply.value f.done f.word
+          (turn_refers p within opened) f.by f.port
 
   -- ---- services
 
@@ -229,13 +240,16 @@ module _ (m : MachineLists) (is : IsMachine m) where
   pub poke_busy : (q : Poke) → (IsIdle m → ⊥) → IsStep m (step.Poke q) Stalled m
   poke_busy q busy = same (step.Poke q) (not_idle c m.code (net_of m.network) m.ports m.modules q busy)
 
+  pub poke_away : (q : Poke) → (AreHome m → ⊥) → IsStep m (step.Poke q) Stalled m
+  poke_away q away = same (step.Poke q) (not_home c m.code (net_of m.network) m.ports m.modules q away)
+
   and_false : (a b : Bool) → b ≡ false → (a && b) ≡ false
   and_false true b e = e
   and_false false b e = refl
 
-  module _ (idle : IsIdle m) where
+  module _ (idle : IsIdle m) (home : AreHome m) where
     refused : (q : Poke) → is_lawful_poke c q ≡ false → IsStep m (step.Poke q) Stalled m
-    refused q e = same (step.Poke q) (unlawful c m.code (net_of m.network) m.ports m.modules idle q e)
+    refused q e = same (step.Poke q) (unlawful c m.code (net_of m.network) m.ports m.modules idle home q e)
 
     pub register_unnamed : (p register value : ℕ) → length m.ports ≤ p → IsStep m (step.Poke (poke.Register p register value)) Stalled m
     register_unnamed p register value past =
@@ -251,18 +265,18 @@ module _ (m : MachineLists) (is : IsMachine m) where
     shared_unnamed address value out = refused (poke.Shared address value) (and_false (nat_lt value 256) _ out)
 
     port_done : (q : Poke) (p : ℕ) (change : Processor → Processor) (lawful : Bool) (port' : PortState) (o : Outcome) → p < 2 ^ c.k →
-        is_lawful_poke c q ≡ lawful → ((s : Processor) → HasWords s → HasWords (change s)) →
+        is_lawful_poke c q ≡ lawful → ((s : Processor) → HasWords s → HasWords (change s)) → ((s : Processor) → is_away (change s) ≡ is_away s) →
         (lawful ≡ true → IsStepOf c m.code (net_of m.network) m.ports m.modules (step.Poke q) Poked (net_of m.network)
         (slice_set m.ports p (with_state (port_at m.ports p) (change (port_at m.ports p).core.state))) m.modules) →
         port' ≡ (if lawful then with_state (port_at m.ports p) (change (port_at m.ports p).core.state) else port_at m.ports p) →
         o ≡ (if lawful then Poked else Stalled) → Done m (step.Poke q) o (with_port m m.network p port')
-    port_done q p change true port' o within is_lawful words written becomes answers =
+    port_done q p change true port' o within is_lawful words stays written becomes answers =
         subst (λ o. Done m (step.Poke q) o (with_port m m.network p port')) (sym answers)
         (subst (λ x. Done m (step.Poke q) Poked (with_port m m.network p x)) (sym becomes)
         (done (step.Poke q) Poked m.network (slice_set m.ports p (with_state (port_at m.ports p) (change (port_at m.ports p).core.state))) m.modules refl
-        (ports_set c m.ports is.ports p within (with_state (port_at m.ports p) (change (port_at m.ports p).core.state)) refl
-        (words (port_at m.ports p).core.state (is.ports.words p))) is.modules (written refl)))
-    port_done q p change false port' o within is_lawful words written becomes answers =
+        (home_set c m.ports is.ports p within (with_state (port_at m.ports p) (change (port_at m.ports p).core.state)) refl
+        (words (port_at m.ports p).core.state (is.ports.words p)) (stays (port_at m.ports p).core.state ∙ home p within)) is.modules (written refl)))
+    port_done q p change false port' o within is_lawful words stays written becomes answers =
         subst (λ o. Done m (step.Poke q) o (with_port m m.network p port')) (sym answers)
         (subst (λ x. Done m (step.Poke q) Stalled (with_port m m.network p x)) (sym becomes)
         (subst (λ ports. Done m (step.Poke q) Stalled
@@ -279,8 +293,8 @@ module _ (m : MachineLists) (is : IsMachine m) where
         let below : p < 2 ^ c.k = subst (λ n. p < n) is.ports.all within in
         port_done (poke.Register p register value) p (with_poked_register register value) (is_lawful_register register value) port' o below
         (ap₂ (λ a b. a && (b && is_lawful_register register value)) (lt-ltb value (2 ^ 32) small) (lt-ltb p (2 ^ c.k) below))
-        (λ s words. register_words register value s small words)
-        (λ e. register_poked c m.code (net_of m.network) m.ports m.modules idle p register value below within small e)
+        (λ s words. register_words register value s small words) (register_stays register value)
+        (λ e. register_poked c m.code (net_of m.network) m.ports m.modules idle home p register value below within small e)
         becomes (answers ∙ ap (λ b. if b then Poked else Stalled) lawful)
 
     pub local_done : (p address value : ℕ) (port' : PortState) (o : Outcome) (written : Bool) → p < length m.ports → value < 256 → written ≡ in_local address →
@@ -291,8 +305,8 @@ module _ (m : MachineLists) (is : IsMachine m) where
         let below : p < 2 ^ c.k = subst (λ n. p < n) is.ports.all within in
         port_done (poke.Local p address value) p (with_poked_byte address value) (in_local address) port' o below
         (ap₂ (λ a b. a && (b && in_local address)) (lt-ltb value 256 small) (lt-ltb p (2 ^ c.k) below))
-        (λ s words. byte_words address value s small words)
-        (λ e. byte_poked c m.code (net_of m.network) m.ports m.modules idle p address value below within small e)
+        (λ s words. byte_words address value s small words) (λ s. refl)
+        (λ e. byte_poked c m.code (net_of m.network) m.ports m.modules idle home p address value below within small e)
         becomes (answers ∙ ap (λ b. if b then Poked else Stalled) lawful)
 
     pub shared_done : (address value number : ℕ) (phi : Phi) (words' : List ℕ) → value < 256 → 2 ^ 31 ≤ address → (address - 2 ^ 31) / 4 < c.shared_words →
@@ -311,7 +325,7 @@ module _ (m : MachineLists) (is : IsMachine m) where
         done (step.Poke (poke.Shared address value)) Poked m.network m.ports (slice_set m.modules number words') refl is.ports
         (subst (λ xs. AreModules c (slice_set m.modules number xs)) (sym becomes)
         (modules_set c m.modules is.modules number word (apply phi old) is_number there below))
-        (word_poked c m.code (net_of m.network) m.ports m.modules idle address value number words' small in_it is_number
+        (word_poked c m.code (net_of m.network) m.ports m.modules idle home address value number words' small in_it is_number
         (module_there c m.modules is.modules number word 0 is_number there)
         (place_there c m.modules is.modules number word 0 is_number there)
         (becomes ∙ ap (slice_set (slice_index_or m.modules number []) (word / 2 ^ c.k)) (means old old_small)))
@@ -341,44 +355,48 @@ module _ (m : MachineLists) (is : IsMachine m) (p place : ℕ) (same : place ≡
   there : (s : Step) (o : Outcome) (net' : NetworkLists) (port' : PortState) → Done m s o (with_port m net' p port') → Done m s o (with_port m net' place port')
   there s o net' port' d = subst (λ i. Done m s o (with_port m net' i port')) (sym same) d
 
-  pub port_refers : (port_at m.ports p).is_open ≡ true → IsReference (turn port m.code)
-  port_refers opened = subst (λ (q : PortState). IsReference (turn q m.code)) (sym port_is) (turn_refers m is p within opened)
+  module _ (code : List ℕ) (code_is : code ≡ m.code) where
+    pub port_refers : (port_at m.ports p).is_open ≡ true → IsReference (turn port code)
+    port_refers opened = subst (λ code. IsReference (turn port code)) (sym code_is)
+        (subst (λ (q : PortState). IsReference (turn q m.code)) (sym port_is) (turn_refers m is p within opened))
 
-  pub begin_there : (port' : PortState) (o : Outcome) (net' : NetworkLists) → (port_at m.ports p).is_open ≡ false →
-      is_running (port_at m.ports p).core.state.status ≡ true →
-      port' ≡ (begun port m.code (turn port m.code)).1 → IsBegun p port m.code (turn port m.code) (net_of m.network) o (net_of net') →
-      network.sizes_of net' ≡ network.sizes_of m.network →
-      Done m (step.Turn p) o (with_port m net' place port')
-  begin_there port' o net' shut runs becomes b sizes =
-      there (step.Turn p) o net' port' (begin_done m is p port' o net' within shut runs
-      (becomes ∙ ap (λ (q : PortState). (begun q m.code (turn q m.code)).1) port_is)
-      (subst (λ (q : PortState). IsBegun p q m.code (turn q m.code) (net_of m.network) o (net_of net')) port_is b) sizes)
+    pub begin_there : (port' : PortState) (o : Outcome) (net' : NetworkLists) → (port_at m.ports p).is_open ≡ false →
+        is_running (port_at m.ports p).core.state.status ≡ true →
+        port' ≡ (begun port code (turn port code)).1 → IsBegun p port code (turn port code) (net_of m.network) o (net_of net') →
+        network.sizes_of net' ≡ network.sizes_of m.network →
+        Done m (step.Turn p) o (with_port m net' place port')
+    begin_there port' o net' shut runs becomes b sizes =
+        there (step.Turn p) o net' port' (begin_done m is p port' o net' within shut runs
+        (becomes ∙ ap₂ (λ (q : PortState) code. (begun q code (turn q code)).1) port_is code_is)
+        (subst (λ code. IsBegun p (port_at m.ports p) code (turn (port_at m.ports p) code) (net_of m.network) o (net_of net')) code_is
+        (subst (λ (q : PortState). IsBegun p q code (turn q code) (net_of m.network) o (net_of net')) port_is b)) sizes)
 
-  pub finish_there : (port' : PortState) (o : Outcome) (net' : NetworkLists) → (port_at m.ports p).is_open ≡ true →
-      IsFinishedBy p (turn port m.code) port (net_of m.network) (slice_get ((net_of m.network).replies 0 p) 0) o port' (net_of net') →
-      network.sizes_of net' ≡ network.sizes_of m.network →
-      Done m (step.Turn p) o (with_port m net' place port')
-  finish_there port' o net' opened f sizes =
-      there (step.Turn p) o net' port' (finish_done m is p port' o net' within opened
-      (subst (λ (q : PortState). IsFinishedBy p (turn q m.code) q (net_of m.network) (slice_get ((net_of m.network).replies 0 p) 0) o port' (net_of net'))
-      port_is f) sizes)
+    pub finish_there : (port' : PortState) (o : Outcome) (net' : NetworkLists) → (port_at m.ports p).is_open ≡ true →
+        IsFinishedBy p (turn port code) port (net_of m.network) (slice_get ((net_of m.network).replies 0 p) 0) o port' (net_of net') →
+        network.sizes_of net' ≡ network.sizes_of m.network →
+        Done m (step.Turn p) o (with_port m net' place port')
+    finish_there port' o net' opened f sizes =
+        let reply = slice_get ((net_of m.network).replies 0 p) 0 in
+        there (step.Turn p) o net' port' (finish_done m is p port' o net' within opened
+        (subst (λ code. IsFinishedBy p (turn (port_at m.ports p) code) (port_at m.ports p) (net_of m.network) reply o port' (net_of net')) code_is
+        (subst (λ (q : PortState). IsFinishedBy p (turn q code) q (net_of m.network) reply o port' (net_of net')) port_is f)) sizes)
 
-  pub register_there : (register value : ℕ) (port' : PortState) (o : Outcome) (written : Bool) → IsIdle m → value < 2 ^ 32 →
+  pub register_there : (register value : ℕ) (port' : PortState) (o : Outcome) (written : Bool) → IsIdle m → AreHome m → value < 2 ^ 32 →
       written ≡ is_lawful_register register value →
       port' ≡ (if is_lawful_register register value then with_state port (with_poked_register register value port.core.state) else port) →
       o ≡ (if written then Poked else Stalled) → Done m (step.Poke (poke.Register p register value)) o (with_port m m.network place port')
-  register_there register value port' o written idle small lawful becomes answers =
+  register_there register value port' o written idle home small lawful becomes answers =
       there (step.Poke (poke.Register p register value)) o m.network port'
-      (register_done m is idle p register value port' o written (subst (λ n. p < n) (sym is.ports.all) within) small lawful
+      (register_done m is idle home p register value port' o written (subst (λ n. p < n) (sym is.ports.all) within) small lawful
       (becomes ∙ ap (λ (q : PortState). if is_lawful_register register value then with_state q (with_poked_register register value q.core.state)
       else q) port_is) answers)
 
-  pub local_there : (address value : ℕ) (port' : PortState) (o : Outcome) (written : Bool) → IsIdle m → value < 256 → written ≡ in_local address →
+  pub local_there : (address value : ℕ) (port' : PortState) (o : Outcome) (written : Bool) → IsIdle m → AreHome m → value < 256 → written ≡ in_local address →
       port' ≡ (if in_local address then with_state port (with_poked_byte address value port.core.state) else port) →
       o ≡ (if written then Poked else Stalled) → Done m (step.Poke (poke.Local p address value)) o (with_port m m.network place port')
-  local_there address value port' o written idle small lawful becomes answers =
+  local_there address value port' o written idle home small lawful becomes answers =
       there (step.Poke (poke.Local p address value)) o m.network port'
-      (local_done m is idle p address value port' o written (subst (λ n. p < n) (sym is.ports.all) within) small lawful
+      (local_done m is idle home p address value port' o written (subst (λ n. p < n) (sym is.ports.all) within) small lawful
       (becomes ∙ ap (λ (q : PortState). if in_local address then with_state q (with_poked_byte address value q.core.state) else q) port_is) answers)
 
 module _ (m : MachineLists) (is : IsMachine m) (i place : ℕ) (same : place ≡ i) (within : i < 2 ^ m.config.k) (words : List ℕ) (at : words
@@ -407,15 +425,15 @@ module _ (m : MachineLists) (is : IsMachine m) (i place : ℕ) (same : place ≡
           let some : (net_of m.network).replies m.network.k i ≡ [] → ⊥ = λ none. let no : y ∷ ys ≡ [] = sym e ∙ none in absurd (cc) in
           serve_full m is i within words' o net' some (subst (λ (xs : List ℕ). IsKept (net_of m.network) xs o (net_of net') words') words_are (full some)) sizes
 
-  pub shared_there : (address value : ℕ) (phi : Phi) (words' : List ℕ) → IsIdle m → value < 256 → 2 ^ 31 ≤ address →
+  pub shared_there : (address value : ℕ) (phi : Phi) (words' : List ℕ) → IsIdle m → AreHome m → value < 256 → 2 ^ 31 ≤ address →
       (address - 2 ^ 31) / 4 < m.config.shared_words → i ≡ (address - 2 ^ 31) / 4 % 2 ^ m.config.k →
       ((x : ℕ) → x < 2 ^ 32 → apply phi x ≡ with_part 1 (address % 4) x value) →
       words' ≡ slice_set words ((address - 2 ^ 31) / 4 / 2 ^ m.config.k) (apply phi (slice_index words ((address - 2 ^ 31) / 4 / 2 ^ m.config.k))) →
       apply phi (slice_index words ((address - 2 ^ 31) / 4 / 2 ^ m.config.k)) < 2 ^ 32 →
       Done m (step.Poke (poke.Shared address value)) Poked (with_module m m.network place words')
-  shared_there address value phi words' idle small start inside number means becomes below =
+  shared_there address value phi words' idle home small start inside number means becomes below =
       subst (λ j. Done m (step.Poke (poke.Shared address value)) Poked (with_module m m.network j words')) (sym same)
-      (shared_done m is idle address value i phi words' small start inside (sym number) means
+      (shared_done m is idle home address value i phi words' small start inside (sym number) means
       (becomes ∙ ap (λ (xs : List ℕ). slice_set xs ((address - 2 ^ 31) / 4 / 2 ^ m.config.k)
       (apply phi (slice_index xs ((address - 2 ^ 31) / 4 / 2 ^ m.config.k)))) words_are)
       (subst (λ (xs : List ℕ). apply phi (slice_index xs ((address - 2 ^ 31) / 4 / 2 ^ m.config.k)) < 2 ^ 32) words_are below))

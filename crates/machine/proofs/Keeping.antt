@@ -1,20 +1,22 @@
 -- What holds of every machine is kept where a port, a module or the network changes.
-use Rattle.std.proofs.Common.{◌≡◌, ℕ, zero, suc, ◌/◌, ◌%◌, ◌^◌, ◌<◌, ◌≤◌, false, List, [], length, Some, ◌⊎◌, inl, inr, refl, sym, ap, ◌∙◌, subst, arith}
+use Rattle.std.proofs.Common.{◌≡◌, ℕ, zero, suc, ◌/◌, ◌%◌, ◌^◌, ◌<◌, ◌≤◌, Bool, true, false, List, [], length, Some, ◌⊎◌, inl, inr, refl, sym, ap}
+use Rattle.std.proofs.Common.{◌∙◌, subst, arith}
 use Rattle.std.proofs.Common.{get_or-set_same, get_or-set_other}
 use Rattle.std.specs.Prelude.{slice_index_or, slice_set}
-use Rattle.std.proofs.lemmas.Bool.{cases_eq}
+use Rattle.std.proofs.lemmas.Bool.{cases_eq, true≢false}
 use Rattle.std.proofs.lemmas.List.{length-set}
 use Rattle.std.proofs.lemmas.Nat.{mod_below, pow_pos}
 use Rattle.flat_machine.specs.declared.config.Config.{Config}
 use Rattle.flat_machine.specs.declared.event.Retired as retirement
-use Rattle.flat_machine.specs.State.{Processor}
+use Rattle.flat_machine.specs.State.{Processor, is_running}
 use Rattle.flat_machine.specs.Turns.{Turn, Retires, Reaches, Stops, turn_of}
 use Rattle.flat_machine.specs.Laws.{HasWords, AreBelow, LeavesWords}
 use Rattle.flat_machine.specs.Limits.{IsWithinLimits}
 use Rattle.flat_machine.proofs.Lemmas.{turn_words}
 use Rattle.elf_image.specs.Images.{ImageContents}
-use Rattle.hart.specs.Deciding.{after_reply}
-use Rattle.machine_ports.specs.Ports.{PortState, begun, turn}
+use Rattle.hart.specs.Deciding.{after_reply, IsReference}
+use Rattle.machine_ports.specs.Ports.{PortState, begun, is_away, no_processor, turn}
+use Rattle.machine_ports.proofs.Lemmas.{no_reference, reaches_stays, retires_stays}
 use Rattle.messages.specs.Places.{put}
 use Rattle.messages.proofs.Lemmas.{put_other, put_same}
 use Rattle.indexed_network.specs.omega_network.Networks.{NetworkLists, net_of}
@@ -40,13 +42,22 @@ module _ (c : Config) (ports : List PortState) (all : ArePorts c ports) (p : ℕ
   there : (q : ℕ) → (q ≡ p → ⊥) → port_at (slice_set ports p x) q ≡ port_at ports q
   there q other = get_or-set_other ports p q x no_port other
 
-  pub ports_set : x.core.setting ≡ (port_at ports p).core.setting → HasWords x.core.state → ArePorts c (slice_set ports p x)
-  ports_set setting words = record {
+  pub ports_set : x.core.setting ≡ (port_at ports p).core.setting → HasWords x.core.state →
+      (is_away x.core.state ≡ true → x.core.state ≡ no_processor) → ArePorts c (slice_set ports p x)
+  ports_set setting words rest = record {
     all = length-set ports p x ∙ all.all;
     settings = λ q small. setting_at q small (cases_eq q p);
     words = λ q. words_at q (cases_eq q p);
+    rest = λ q. rest_at q (cases_eq q p);
   }
     where
+      rest_at : (q : ℕ) → (q ≡ p) ⊎ (q ≡ p → ⊥) → is_away (port_at (slice_set ports p x) q).core.state ≡ true →
+          (port_at (slice_set ports p x) q).core.state ≡ no_processor
+      rest_at q (inl e) = subst (λ (y : PortState). is_away y.core.state ≡ true → y.core.state ≡ no_processor)
+          (sym here ∙ ap (port_at (slice_set ports p x)) (sym e)) rest
+      rest_at q (inr other) =
+          subst (λ (y : PortState). is_away y.core.state ≡ true → y.core.state ≡ no_processor) (sym (there q other)) (all.rest q)
+
       setting_at : (q : ℕ) → q < 2 ^ c.k → (q ≡ p) ⊎ (q ≡ p → ⊥) → (port_at (slice_set ports p x) q).core.setting ≡ setting_of c q
       setting_at q small (inl e) =
           ap (λ i. (port_at (slice_set ports p x) i).core.setting) e ∙ ap (λ (y : PortState). y.core.setting) here ∙ setting ∙ all.settings p within
@@ -56,6 +67,29 @@ module _ (c : Config) (ports : List PortState) (all : ArePorts c ports) (p : ℕ
       words_at : (q : ℕ) → (q ≡ p) ⊎ (q ≡ p → ⊥) → HasWords (port_at (slice_set ports p x) q).core.state
       words_at q (inl e) = subst (λ (y : PortState). HasWords y.core.state) (sym here ∙ ap (port_at (slice_set ports p x)) (sym e)) words
       words_at q (inr other) = subst (λ (y : PortState). HasWords y.core.state) (sym (there q other)) (all.words q)
+
+  -- so it is where the core stays at home
+  pub home_set : x.core.setting ≡ (port_at ports p).core.setting → HasWords x.core.state → is_away x.core.state ≡ false → ArePorts c (slice_set ports p x)
+  home_set setting words home = ports_set setting words (λ e. absurd (true≢false (sym e ∙ home)))
+
+-- ---- a core that is at home
+
+module _ (c : Config) (ports : List PortState) (all : ArePorts c ports) (p : ℕ) where
+  pub home_unless : ((port_at ports p).core.state ≡ no_processor → ⊥) → is_away (port_at ports p).core.state ≡ false
+  home_unless some = at (is_away (port_at ports p).core.state) refl
+    where
+      at : (b : Bool) → is_away (port_at ports p).core.state ≡ b → is_away (port_at ports p).core.state ≡ false
+      at true e = absurd (some (all.rest p e))
+      at false e = e
+
+  -- a processor runs only where its core is,
+  pub home_running : is_running (port_at ports p).core.state.status ≡ true → is_away (port_at ports p).core.state ≡ false
+  home_running runs = home_unless (λ e. true≢false (sym runs ∙ ap (λ (s : Processor). is_running s.status) e))
+
+  -- and refers to a word only there
+  pub home_referring : (code : List ℕ) → IsReference (turn (port_at ports p) code) → is_away (port_at ports p).core.state ≡ false
+  home_referring code r = home_unless (λ e. no_reference (port_at ports p).core.setting code
+      (subst (λ s. IsReference (turn_of (port_at ports p).core.setting code s)) e r))
 
 -- ---- what a turn leaves of a port
 
@@ -78,31 +112,42 @@ module _ (c : Config) (code : List ℕ) (limits : IsWithinLimits c) (bytes : Are
       (turn_words (setting_of c p) code (port_at ports p).core.state (omega arith) (omega arith) bytes (all.words p))
 
   -- where it is begun
-  pub begun_kept : (port' : PortState) → port' ≡ (begun (port_at ports p) code (turn (port_at ports p) code)).1 → ArePorts c (slice_set ports p port')
-  begun_kept port' is = subst (λ y. ArePorts c (slice_set ports p y)) (sym is) (by (turn (port_at ports p) code) leaves)
+  pub begun_kept : (port' : PortState) → port' ≡ (begun (port_at ports p) code (turn (port_at ports p) code)).1 →
+      is_running (port_at ports p).core.state.status ≡ true → ArePorts c (slice_set ports p port')
+  begun_kept port' is runs = subst (λ y. ArePorts c (slice_set ports p y)) (sym is) (by (turn (port_at ports p) code) refl leaves)
     where
-      by : (t : Turn) → LeavesWords t → ArePorts c (slice_set ports p (begun (port_at ports p) code t).1)
-      by (Retires after retired) l = ports_set c ports all p within (begun (port_at ports p) code (Retires after retired)).1 refl l
-      by (Reaches word change after) l = ports_set c ports all p within (begun (port_at ports p) code (Reaches word change after)).1 refl (all.words p)
-      by (Stops cause) l =
+      home : is_away (port_at ports p).core.state ≡ false
+      home = home_running c ports all p runs
+
+      by : (t : Turn) → turn (port_at ports p) code ≡ t → LeavesWords t → ArePorts c (slice_set ports p (begun (port_at ports p) code t).1)
+      by (Retires after retired) e l = home_set c ports all p within (begun (port_at ports p) code (Retires after retired)).1 refl l
+          (retires_stays (port_at ports p).core.setting code (port_at ports p).core.state after retired e ∙ home)
+      by (Reaches word change after) e l =
+          home_set c ports all p within (begun (port_at ports p) code (Reaches word change after)).1 refl (all.words p) home
+      by (Stops cause) e l =
           let old = all.words p in
-          ports_set c ports all p within (begun (port_at ports p) code (Stops cause)).1 refl
-          (record { pc = old.pc; registers = old.registers; local = old.local })
+          home_set c ports all p within (begun (port_at ports p) code (Stops cause)).1 refl
+          (record { pc = old.pc; registers = old.registers; local = old.local }) home
 
   -- where it is finished with a word
   pub finished_kept : (port' : PortState) (found : ℕ) (done : Processor × retirement.Retired) → found < 2 ^ 32 →
-      after_reply (turn (port_at ports p) code) found ≡ Some done →
+      IsReference (turn (port_at ports p) code) → after_reply (turn (port_at ports p) code) found ≡ Some done →
       port' ≡ record { core = record { setting = (port_at ports p).core.setting; state = done.0 }; is_open = false } → ArePorts c (slice_set ports p port')
-  finished_kept port' found done small by_turn is =
-      subst (λ y. ArePorts c (slice_set ports p y)) (sym is)
-      (ports_set c ports all p within (record { core = record { setting = (port_at ports p).core.setting; state = done.0 }; is_open = false }) refl
-      (by (turn (port_at ports p) code) leaves by_turn))
+  finished_kept port' found done small refers by_turn is =
+      subst (λ y. ArePorts c (slice_set ports p y)) (sym is) (by (turn (port_at ports p) code) refl leaves by_turn)
     where
-      by : (t : Turn) → LeavesWords t → after_reply t found ≡ Some done → HasWords done.0
-      by (Reaches word change after) l e = let same : after found ≡ done =
-          cc in subst (λ (d : Processor × retirement.Retired). HasWords d.0) same (l found small).1
-      by (Retires after retired) l e = absurd (cc)
-      by (Stops cause) l e = absurd (cc)
+      new : PortState
+      new = record { core = record { setting = (port_at ports p).core.setting; state = done.0 }; is_open = false }
+
+      by : (t : Turn) → turn (port_at ports p) code ≡ t → LeavesWords t → after_reply t found ≡ Some done → ArePorts c (slice_set ports p new)
+      by (Reaches word change after) t l e =
+          let same : after found ≡ done = cc in
+          home_set c ports all p within new refl (subst (λ (d : Processor × retirement.Retired). HasWords d.0) same (l found small).1)
+          (ap (λ (d : Processor × retirement.Retired). is_away d.0) (sym same)
+          ∙ reaches_stays (port_at ports p).core.setting code (port_at ports p).core.state word change after found t
+          ∙ home_referring c ports all p code refers)
+      by (Retires after retired) t l e = absurd (cc)
+      by (Stops cause) t l e = absurd (cc)
 
 -- ---- a module changes
 

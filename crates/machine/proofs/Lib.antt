@@ -9,3 +9,4 @@ mod Poking
 mod Seeing
 mod Telling
 pub mod Lemmas
+pub mod Lending

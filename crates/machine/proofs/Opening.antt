@@ -1,8 +1,8 @@
 -- What a new machine is made of.
-use Rattle.std.proofs.Common.{◌≡◌, ℕ, zero, suc, ◌+◌, ◌-◌, ◌*◌, ◌/◌, ◌%◌, ◌^◌, ◌<◌, ◌≤◌, false, List, [], ◌∷◌, ◌++◌, length, ◌⊎◌, inl, inr, refl, sym, ap, ◌∙◌}
-use Rattle.std.proofs.Common.{subst, arith}
+use Rattle.std.proofs.Common.{◌≡◌, ℕ, zero, suc, ◌+◌, ◌-◌, ◌*◌, ◌/◌, ◌%◌, ◌^◌, ◌<◌, ◌≤◌, true, false, List, [], ◌∷◌, ◌++◌, length, ◌⊎◌, inl, inr, refl, sym, ap}
+use Rattle.std.proofs.Common.{◌∙◌, subst, arith}
 use Rattle.std.specs.Prelude.{slice_index, slice_index_or, replicate}
-use Rattle.std.proofs.lemmas.Bool.{cases_lt, eqb-true}
+use Rattle.std.proofs.lemmas.Bool.{cases_lt, eqb-true, true≢false}
 use Rattle.std.proofs.lemmas.Nat.{div-add-mod', mod_below, pow_pos}
 use Rattle.std.proofs.lemmas.List.FromFn.{length-map-range_with_len, get_or-map-range_with_len}
 use mathlib.Core.Path.{fun_ext}
@@ -14,7 +14,7 @@ use Rattle.flat_machine.proofs.Lemmas.{number_small}
 use Rattle.local_memory.specs.Accesses.{padded, region_of_bytes}
 use Rattle.elf_image.specs.declared.layout.Layout.{Layout}
 use Rattle.elf_image.specs.Images.{ImageContents, IsPlaced}
-use Rattle.machine_ports.specs.Ports.{PortState}
+use Rattle.machine_ports.specs.Ports.{PortState, is_away, no_processor}
 use Rattle.messages.specs.Network.{IsEmptyNet, empty_net}
 use Rattle.indexed_network.specs.omega_network.Networks.{NetworkLists, net_of}
 use Rattle.indexed_network.specs.omega_network.Networks as network
@@ -73,13 +73,21 @@ module _ (c : Config) (layout : Layout) (limits : IsWithinLimits c) (placed : Is
   entry_small : layout.entry < 2 ^ 32
   entry_small = let e : layout.entry / 2 ^ 16 ≡ 1 = eqb-true (layout.entry / 2 ^ 16) 1 placed.entry_in_code in omega arith
 
+  pub ports_home : (p : ℕ) → p < 2 ^ c.k → is_away (port_at ports p).core.state ≡ false
+  ports_home p within = ap (λ (q : PortState). is_away q.core.state) (port_is p within)
+
   pub ports_are : AreBelow 256 layout.local → ArePorts c ports
   ports_are bytes = record {
     all = count_ports;
     settings = λ p within. ap (λ (q : PortState). q.core.setting) (port_is p within);
     words = λ p. at p (cases_lt p (2 ^ c.k));
+    rest = λ p. rest_at p (cases_lt p (2 ^ c.k));
   }
     where
+      rest_at : (p : ℕ) → (p < 2 ^ c.k) ⊎ (2 ^ c.k ≤ p) → is_away (port_at ports p).core.state ≡ true → (port_at ports p).core.state ≡ no_processor
+      rest_at p (inl within) e = absurd (true≢false (sym e ∙ ports_home p within))
+      rest_at p (inr past) e = ap (λ (q : PortState). q.core.state) (port_past p past)
+
       at : (p : ℕ) → (p < 2 ^ c.k) ⊎ (2 ^ c.k ≤ p) → HasWords (port_at ports p).core.state
       at p (inl within) = subst (λ (q : PortState). HasWords q.core.state) (sym (port_is p within))
           (record { pc = entry_small; registers = zeros_below 32 (2 ^ 32) (omega arith); local = region_below layout.local bytes })
@@ -177,6 +185,7 @@ module _ (c : Config) (layout : Layout) (limits : IsWithinLimits c) (placed : Is
       config = refl;
       image_is = refl;
       idle = λ p within. ports_shut p;
+      home = ports_home;
       flat = λ i. record { processors = (the_opening c layout).processors i; shared = (the_opening c layout).shared i; code = region_of_bytes layout.code };
       machine = λ shown. ap (λ n. machine_of_parts c n ports modules shown) net_is;
     }

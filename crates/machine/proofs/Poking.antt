@@ -12,16 +12,16 @@ use Rattle.machine_opening.specs.machine_program.Theory as theory
 use Rattle.steps.specs.declared.step.Step.TheVariants as step
 use Rattle.steps.specs.declared.step.Outcome.{Outcome}
 use Rattle.steps.specs.declared.step.Outcome.TheVariants.{Poked, Stalled}
-use Rattle.machine_opening.specs.machine_program.Processors.{Told, next, program, open_at, is_lawful_poke, poked_words, poked_processors}
+use Rattle.machine_opening.specs.machine_program.Processors.{Told, next, program, open_at, port_at, is_lawful_poke, poked_words, poked_processors}
 use Rattle.machine_opening.specs.machine_program.FlatSizes.{HasSize}
 use Rattle.machine_opening.specs.machine_program.Steps.{taken, answer_of, outcome_of, after, machine_of_parts}
-use Rattle.machine_opening.proofs.Lemmas.machine_program.{lawful_same, parts_of, shut_all, size_written, written_agrees}
-use Rattle.machine.specs.Machines.{MachineLists, machine_of, IsIdle, IsMachine, IsStep}
+use Rattle.machine_opening.proofs.Lemmas.machine_program.{home_all, lawful_same, parts_of, shut_all, size_written, written_agrees}
+use Rattle.machine.specs.Machines.{MachineLists, machine_of, AreHome, IsIdle, IsMachine, IsStep}
 use Rattle.machine.specs.Openings.{flat_state}
 use Rattle.machine.specs.Poking.{IsPoked}
 use Rattle.machine.proofs.Flattening.{all_shut, state_at, word_is, sound, flat_is}
 
-module _ (old : MachineLists) (q : Poke) (o : Outcome) (new : MachineLists) (is : IsMachine old) (idle : IsIdle old) (is' : IsMachine new)
+module _ (old : MachineLists) (q : Poke) (o : Outcome) (new : MachineLists) (is : IsMachine old) (idle : IsIdle old) (home : AreHome old) (is' : IsMachine new)
     (st : IsStep old (step.Poke q) o new) where
   abbrev c : Config
   c = old.config
@@ -41,7 +41,8 @@ module _ (old : MachineLists) (q : Poke) (o : Outcome) (new : MachineLists) (is 
 
   does : taken c old.code M (step.Poke q) ≡ done lawful
   unfolding machine_of_parts
-  does = ap (λ b. done (b && lawful)) (shut_all (2 ^ c.k) (open_at old.ports) idle)
+  does = ap₂ (λ a b. done (a && (b && lawful))) (shut_all (2 ^ c.k) (open_at old.ports) idle)
+      (home_all (2 ^ c.k) (λ p. (port_at old.ports p).core.state) home)
 
   answered : (b : Bool) → answer_of (λ p. next c old.code p (M.core p).state) (done b).outcome ≡ (if b then Poked else Stalled)
   answered true = refl

@@ -1,7 +1,8 @@
 -- The byte that a processor sees: where an address lies, and what stands there.
 use Rattle.std.proofs.Common.{◌≡◌, ℕ, ◌+◌, ◌-◌, ◌*◌, ◌/◌, ◌%◌, ◌^◌, ◌<◌, ◌≤◌, Bool, true, false, nat_lt, Option, Some, None, Ok, Err, refl, sym, ap, ap₂, ◌∙◌}
 use Rattle.std.proofs.Common.{subst, arith, le-leb, ne_eqb, eq-eqb, lt-ltb, le-ltb, ltb-true, ltb-false}
-use Rattle.std.specs.Prelude.{◌&&◌, slice_get, slice_index, if◌then◌else◌}
+use Rattle.std.specs.Prelude.{◌&&◌, not, slice_get, slice_index, if◌then◌else◌}
+use Rattle.std.proofs.lemmas.Bool.{and_parts}
 use Rattle.flat_machine.specs.declared.fault.Fault.TheVariants.{NoRegion}
 use Rattle.flat_machine.specs.declared.effect.Region.TheVariants as region
 use Rattle.flat_machine.specs.declared.setting.Setting.{Setting}
@@ -10,7 +11,7 @@ use Rattle.flat_machine.specs.Words.{part_of}
 use Rattle.flat_machine.specs.Memory.{number_at, in_code, in_local, in_shared, region_of}
 use Rattle.machine_opening.specs.machine_program.Processors.{no_processor, port_at, word_at}
 use Rattle.machine_opening.proofs.Lemmas.machine_program.{found_within}
-use Rattle.machine.specs.Machines.{MachineLists, IsMachine}
+use Rattle.machine.specs.Machines.{MachineLists, IsMachine, away_at, is_there}
 use Rattle.machine.specs.Openings.{flat_state}
 use Rattle.machine.specs.Seeing.{byte_in, byte_of, byte_seen}
 use Rattle.machine.proofs.Flattening.{state_at, count_is, word_is, none_past, sound}
@@ -26,6 +27,15 @@ byte_region : (s : Setting) (address : ℕ) → region_of s 1 address false ≡ 
     )
 unfolding region_of
 byte_region s address = rw (byte_is_aligned address) refl
+
+module _ (m : MachineLists) (k : ℕ) where
+  -- a processor whose core is there
+  pub there_within : is_there m k ≡ true → k < 2 ^ m.config.k
+  there_within there = ltb-true k (2 ^ m.config.k) (and_parts (nat_lt k (2 ^ m.config.k)) (not (away_at m k)) there).0
+
+  pub seen_there : (address : ℕ) → is_there m k ≡ true →
+      byte_seen (flat_state m) k address ≡ (if is_there m k then byte_seen (flat_state m) k address else None)
+  seen_there address there = ap (λ b. if b then byte_seen (flat_state m) k address else None) (sym there)
 
 module _ (m : MachineLists) (is : IsMachine m) (k address : ℕ) where
   pub not_there : 2 ^ m.config.k ≤ k → byte_seen (flat_state m) k address ≡ None
@@ -78,14 +88,14 @@ module _ (m : MachineLists) (is : IsMachine m) (k address : ℕ) where
         ∙ ap₂ (λ l c. by_region false l c) (ne_eqb (address / 2 ^ 16) 2 (λ f. absurd (omega (arith, e, f)))) (eq-eqb (address / 2 ^ 16) 1 e)
 
     -- and of its own local memory
-    pub in_own : address < 2 ^ 31 → (address / 2 ^ 16 ≡ 1 → ⊥) →
-        byte_seen (flat_state m) k address ≡ (if nat_lt k (2 ^ m.config.k) && in_local address then Some (slice_index own.local (address % 2 ^ 16)) else None)
-    in_own less other =
+    pub in_own : address < 2 ^ 31 → (address / 2 ^ 16 ≡ 1 → ⊥) → is_there m k ≡ true →
+        byte_seen (flat_state m) k address ≡ (if is_there m k && in_local address then Some (slice_index own.local (address % 2 ^ 16)) else None)
+    in_own less other here =
         there
         ∙ ap (λ s. by_region s (in_local address) (in_code address)) (below address m.config.shared_words less)
         ∙ ap (λ c. by_region false (in_local address) c) (ne_eqb (address / 2 ^ 16) 1 other)
         ∙ local_by (in_local address)
-        ∙ ap (λ b. if b && in_local address then Some (slice_index own.local (address % 2 ^ 16)) else None) (sym (lt-ltb k (2 ^ m.config.k) within))
+        ∙ ap (λ b. if b && in_local address then Some (slice_index own.local (address % 2 ^ 16)) else None) (sym here)
 
 -- whether a word of this number is there
 pub word_there : (address words : ℕ) → 2 ^ 31 ≤ address → nat_lt ((address - 2 ^ 31) / 4) words ≡ in_shared words address

@@ -23,7 +23,7 @@ use Rattle.steps.specs.declared.step.Step.{Step}
 use Rattle.steps.specs.declared.step.Step.TheVariants as step
 use Rattle.steps.specs.declared.step.Outcome.{Outcome}
 use Rattle.steps.specs.declared.step.Outcome.TheVariants.{Stalled}
-use Rattle.machine_opening.specs.machine_program.Processors.{Told, sizes_of, kind_of, next, program, is_lawful_poke}
+use Rattle.machine_opening.specs.machine_program.Processors.{Told, sizes_of, kind_of, next, program, may_poke}
 use Rattle.machine_opening.specs.machine_program.Steps.{taken, answer_of, told_of_turn, told_of_reply, outcome_of, after, with_shown, machine_of_parts}
 use Rattle.machine_opening.proofs.Lemmas.machine_program.{reaches_of, runs_by}
 use Rattle.machine.specs.Machines.{MachineLists, machine_of, IsMachine, IsStep}
@@ -88,7 +88,7 @@ module _ (c : Config) (code : List ℕ) (M : Machine Told) (refers : (p : ℕ) �
   keeps (step.Serve m) = either (nat_lt m (2 ^ c.k)) (serve_from (sizes_of c) M m (M.net.requests c.k m) (M.net.replies c.k m))
       (serves m (M.net.requests c.k m) (M.net.replies c.k m))
   keeps (step.Down s w) = either (nat_lt w (2 ^ c.k)) (went_down M (moved_down (sizes_of c) M.net s w)) (goes_down (moved_down (sizes_of c) M.net s w))
-  keeps (step.Poke q) = either (all_shut (2 ^ c.k) M.is_open && is_lawful_poke c q) (poked (program c code) M q) (λ e. absurd (cc))
+  keeps (step.Poke q) = either (all_shut (2 ^ c.k) M.is_open && may_poke c M.core q) (poked (program c code) M q) (λ e. absurd (cc))
 
 shown_stalled : (shown : ℕ → List Event) (s : Step) → with_shown shown s Stalled ≡ shown
 shown_stalled shown (step.Turn p) = refl

@@ -13,7 +13,7 @@ use Rattle.machine_ports.specs.Ports.{PortState}
 use Rattle.machine_opening.specs.Openings.{opening_ports, opening_modules}
 use Rattle.machine_opening.specs.machine_program.Processors.{Told, word_at}
 use Rattle.machine_opening.specs.machine_program.Steps.{machine_of_parts}
-use Rattle.machine.specs.Machines.{MachineLists, machine_of, IsIdle}
+use Rattle.machine.specs.Machines.{MachineLists, machine_of, AreHome, IsIdle}
 
 -- the flat machine that a machine's processors, words and code make
 abbrev pub flat_state : MachineLists → FlatState
@@ -27,11 +27,12 @@ flat_state m = record {
 abbrev pub opening_machine : Config → Layout → (shown : ℕ → List Event) → theory.Machine Told
 opening_machine c layout shown = machine_of_parts c empty_net (opening_ports c layout (2 ^ c.k)) (opening_modules c layout.shared (2 ^ c.k)) shown
 
--- The machine of this size that opens on an image: no reference is open, and its processors, words and code are those that
--- the image means. All machines that open on an image are one.
+-- The machine of this size that opens on an image: no reference is open and no core away, and its processors, words and code
+-- are those that the image means. All machines that open on an image are one.
 pub record IsOpening (c : Config) (image : ImageContents) (m : MachineLists) : Type 0 where
   pub config : m.config ≡ c
   pub image_is : m.image ≡ image
   pub idle : IsIdle m
+  pub home : AreHome m
   pub flat : flat_state m ≡ opening c image.layout
   pub machine : (shown : ℕ → List Event) → machine_of m shown ≡ opening_machine c image.layout shown

@@ -9,7 +9,7 @@ use Rattle.machine_opening.specs.machine_program.Processors.{is_lawful_poke}
 use Rattle.machine.specs.Machines.{MachineLists, IsIdle}
 use Rattle.machine.specs.Openings.{flat_state}
 
--- A write from outside, where no reference is open: a lawful one is a step of the flat machine, and each other changes nothing
+-- A write from outside, where no reference is open and no core away: a lawful one is a step of the flat machine, and each other changes nothing
 -- of it.
 pub record IsPoked (old : MachineLists) (q : Poke) (o : Outcome) (new : MachineLists) : Type 0 where
   pub answer : o ≡ (if is_lawful_poke old.config q then Poked else Stalled)

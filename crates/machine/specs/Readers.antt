@@ -1,22 +1,22 @@
--- What is read of a machine. A processor that it has not is None.
-use Rattle.std.specs.Prelude.{ℕ, ◌-◌, ◌/◌, ◌%◌, ◌^◌, ◌&&◌, List, Option, Some, None, nat_lt, slice_get, slice_index, if◌then◌else◌}
+-- What is read of a machine. A processor that it has not is None, and so is what a core has that is away.
+use Rattle.std.specs.Prelude.{ℕ, ◌-◌, ◌/◌, ◌%◌, ◌^◌, ◌&&◌, List, Option, Some, None, slice_get, slice_index, if◌then◌else◌}
 use Rattle.flat_machine.specs.Memory.{in_local, in_shared}
 use Rattle.flat_machine.specs.Words.{part_of}
 use Rattle.machine_opening.specs.machine_program.Processors.{port_at, word_at}
-use Rattle.machine.specs.Machines.{MachineLists}
+use Rattle.machine.specs.Machines.{MachineLists, is_there}
 
 -- the registers of a processor
 abbrev pub registers_at : MachineLists → (processor : ℕ) → Option (List ℕ)
-registers_at m p = if nat_lt p (2 ^ m.config.k) then Some (port_at m.ports p).core.state.registers else None
+registers_at m p = if is_there m p then Some (port_at m.ports p).core.state.registers else None
 
 -- one of them, where there is one of this number
 abbrev pub register_at : MachineLists → (processor register : ℕ) → Option ℕ
-register_at m p register = if nat_lt p (2 ^ m.config.k) then slice_get (port_at m.ports p).core.state.registers register else None
+register_at m p register = if is_there m p then slice_get (port_at m.ports p).core.state.registers register else None
 
 -- a byte of its local memory, where the address is in it
 abbrev pub local_byte_at : MachineLists → (processor address : ℕ) → Option ℕ
 local_byte_at m p address =
-    if nat_lt p (2 ^ m.config.k) && in_local address then Some (slice_index (port_at m.ports p).core.state.local (address % 2 ^ 16)) else None
+    if is_there m p && in_local address then Some (slice_index (port_at m.ports p).core.state.local (address % 2 ^ 16)) else None
 
 -- a byte of shared memory, where the address is in it: a part of its word
 abbrev pub shared_byte_at : MachineLists → (address : ℕ) → Option ℕ

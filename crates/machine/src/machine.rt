@@ -1,11 +1,12 @@
 //! The machine.
 
 ghost use Rattle.std.specs.Prelude.{◌≡◌, ◌↔◌, ◌<◌, ◌≤◌, ◌*◌, ◌+◌, ◌-◌, ◌/◌, ◌%◌, ◌^◌, ◌&&◌, ℕ, List, [], true, false, nat_lt, is_some, slice_get, slice_index};
-ghost use Rattle.std.specs.Prelude.{Some, None, Err, IfOk, IsTrue, if◌then◌else◌};
+ghost use Rattle.std.specs.Prelude.{Some, None, Err, IfNone, IfOk, IsTrue, if◌then◌else◌};
+ghost use Rattle.std.specs.Arc.{arc_value};
 ghost use Rattle.std.specs.Option.{option_copied};
 ghost use Rattle.flat_machine.specs.declared.event.Event.{Event};
 ghost use Rattle.flat_machine.specs.declared.poke.Poke.TheVariants as pokes;
-ghost use Rattle.flat_machine.specs.Laws.{AreBelow};
+ghost use Rattle.flat_machine.specs.Laws.{AreBelow, HasWords};
 ghost use Rattle.flat_machine.specs.Limits.{IsWithinLimits};
 ghost use Rattle.flat_machine.specs.Flat.{is_lawful_register};
 ghost use Rattle.flat_machine.specs.Memory.{in_local, in_shared, number_at};
@@ -13,11 +14,13 @@ ghost use Rattle.flat_machine.specs.Words.{part_of};
 ghost use Rattle.wire_sets.specs.Members.{members};
 ghost use Rattle.indexed_network.specs.omega_network.Networks.{net_of};
 ghost use Rattle.machine_opening.specs.abstract_machine.Steadiness.{Few};
-ghost use Rattle.machine_opening.specs.machine_program.Processors.{is_lawful_poke, open_at, port_at, word_at, sizes_of};
+ghost use Rattle.machine_opening.specs.machine_program.Processors.{is_lawful_poke, no_processor, open_at, port_at, setting_of, word_at, sizes_of};
+ghost use Rattle.machine_opening.specs.machine_program.Cores.{with_core, without};
 ghost use Rattle.machine_opening.specs.machine_program.Steps.{outcome_of};
 ghost use Rattle.machine_opening.specs.machine_program.Turning.{told_of_down, told_of_up};
 ghost use Rattle.flat_machine.specs.State.{is_running};
-ghost use Rattle.machine.specs.Machines.{MachineLists, IsIdle, IsMachine, IsStep, machine_of};
+ghost use Rattle.machine.specs.Machines.{MachineLists, AreHome, IsIdle, IsMachine, IsStep, away_at, is_free, is_there, machine_of, with_core_at};
+ghost use Rattle.machine.specs.Machines.{without_core_at};
 ghost use Rattle.machine.specs.Openings.{flat_state, IsOpening};
 ghost use Rattle.machine.specs.Poking.{IsPoked};
 ghost use Rattle.machine.specs.Readers.{local_byte_at, register_at, registers_at, shared_byte_at};
@@ -31,7 +34,7 @@ use elf_image::Image;
 use flat_machine::{
     CODE_START, Config, LOCAL_START, PC, Poke, REGION_BYTES, SHARED_START, Size, Status,
 };
-use hart::Core;
+use hart::{Core, core_has_registers};
 use indexed_network::IndexedNetwork;
 use local_memory::Code;
 use machine_opening::{new_modules, new_ports};
@@ -41,6 +44,7 @@ use messages::{DownMove, UpMove, seconds_are_told};
 use omega_wires::module_of;
 use std::alloc::{AllocError, Global};
 use std::marker::Model;
+use std::sync::Arc;
 use steps::{Outcome, Step};
 use wire_sets::WireSet;
 
@@ -50,20 +54,28 @@ use wire_sets::WireSet;
 pub struct Machine {
     config: Config,
     image: Image,
-    code: Code,
+    code: Arc<Code, Global>,
     ports: Vec<Port>,
     network: IndexedNetwork,
     modules: Vec<Module>,
 }
 
 impl Model for Machine {
+    ghost use Rattle.std.specs.Arc.{arc_value};
     ghost use Rattle.machine.specs.Machines.{MachineLists, ArePartsOfOne};
 
     ghost Value = { MachineLists };
 
-    ghost view = { λ m. record { config = m.config; image = m.image; network = m.network; ports = m.ports.items; modules = m.modules.items; code = m.code } };
+    ghost view = { λ m. record {
+      config = m.config;
+      image = m.image;
+      network = m.network;
+      ports = m.ports.items;
+      modules = m.modules.items;
+      code = arc_value m.code;
+    } };
 
-    ghost invariant = { λ m. ArePartsOfOne m.config m.image m.network m.ports.items m.modules.items m.code };
+    ghost invariant = { λ m. ArePartsOfOne m.config m.image m.network m.ports.items m.modules.items (arc_value m.code) };
 }
 
 impl Machine {
@@ -111,22 +123,24 @@ impl Machine {
     }
 
     /// Where a processor stands: the address of its next instruction. None where the machine has no
-    /// processor of this number.
+    /// processor of this number, or its core is away.
     pub fn pc(&self, processor: u8) -> Option<u32>
-        ensures { result ≡ (if nat_lt processor (2 ^ self.now.config.k) then Some (port_at self.now.ports processor).core.state.pc else None) }
+        ensures value { result ≡ (if is_there self.now processor then Some (port_at self.now.ports processor).core.state.pc else None) }
+        ensures none { IfNone result ((port_at self.now.ports processor).core.state ≡ no_processor) }
     {
         Some(self.core(processor)?.pc())
     }
 
-    /// Registers 0 to 31 of a processor. None where the machine has no processor of this number.
+    /// Registers 0 to 31 of a processor. None where the machine has no processor of this number, or its
+    /// core is away.
     pub fn registers(&self, processor: u8) -> Option<&[u32; 32]>
         ensures { option_copied result ≡ registers_at self.now processor }
     {
         Some(self.core(processor)?.registers())
     }
 
-    /// A register of a processor, 0 to 31. None where the machine has no processor of this number, or
-    /// the processor no register of that one.
+    /// A register of a processor, 0 to 31. None where the machine has no processor of this number, its
+    /// core is away, or the processor has no register of that one.
     pub fn reg(&self, processor: u8, register: u8) -> Option<u32>
         ensures { result ≡ register_at self.now processor register }
     {
@@ -135,15 +149,17 @@ impl Machine {
             .copied()
     }
 
-    /// What a processor is doing. None where the machine has no processor of this number.
+    /// What a processor is doing. None where the machine has no processor of this number, or its core is
+    /// away.
     pub fn status(&self, processor: u8) -> Option<Status>
-        ensures { result ≡ (if nat_lt processor (2 ^ self.now.config.k) then Some (port_at self.now.ports processor).core.state.status else None) }
+        ensures value { result ≡ (if is_there self.now processor then Some (port_at self.now.ports processor).core.state.status else None) }
+        ensures none { IfNone result ((port_at self.now.ports processor).core.state ≡ no_processor) }
     {
         Some(self.core(processor)?.status())
     }
 
-    /// A byte of a processor's local memory. None where the machine has no processor of this number,
-    /// or the address is outside local memory.
+    /// A byte of a processor's local memory. None where the machine has no processor of this number, its
+    /// core is away, or the address is outside local memory.
     pub fn byte(&self, processor: u8, address: u32) -> Option<u8>
         ensures { result ≡ local_byte_at self.now processor address }
     {
@@ -162,9 +178,9 @@ impl Machine {
         self.modules[place].word(number >> k)
     }
 
-    /// The code that all processors share.
-    pub fn code(&self) -> &Code
-        ensures { result.now ≡ self.now.code }
+    /// The code that all processors share. A core that is away shares it too.
+    pub fn code(&self) -> &Arc<Code, Global>
+        ensures { arc_value result.now ≡ self.now.code }
     {
         &self.code
     }
@@ -180,12 +196,13 @@ impl Machine {
     }
 
     /// The byte that a processor sees at an address: of its own local memory, of a shared word or of
-    /// code. None where the machine has no processor of this number, or there is no byte.
+    /// code. None where the machine has no processor of this number, its core is away, or there is no
+    /// byte.
     pub fn seen(&self, processor: u8, address: u32) -> Option<u8>
-        ensures { result ≡ byte_seen (flat_state self.now) processor address }
+        ensures { result ≡ (if is_there self.now processor then byte_seen (flat_state self.now) processor address else None) }
     {
         machine_is_sound(self);
-        if usize::from(processor) >= self.ports.len() {
+        if !self.is_there(processor) {
             return None;
         }
         if address >= SHARED_START {
@@ -256,14 +273,77 @@ impl Machine {
         self.network.reply_wires(stage)
     }
 
-    /// The core of a processor. None where the machine has no processor of this number.
+    /// The core of a processor. None where the machine has no processor of this number, or its core is
+    /// away.
     pub fn core(&self, processor: u8) -> Option<&Core>
-        ensures { option_copied result ≡ (if nat_lt processor (2 ^ self.now.config.k) then Some (port_at self.now.ports processor).core else None) }
+        ensures value { option_copied result ≡ (if is_there self.now processor then Some (port_at self.now.ports processor).core else None) }
+        ensures none { IfNone result ((port_at self.now.ports processor).core.state ≡ no_processor) }
     {
         match self.ports.get(usize::from(processor)) {
-            Some(port) => Some(port.core()),
+            Some(port) => port.core(),
             None => None,
         }
+    }
+
+    /// Whether there is a processor of this number, and its core is not away.
+    fn is_there(&self, processor: u8) -> bool
+        ensures { result ≡ is_there self.now processor }
+    {
+        match self.ports.get(usize::from(processor)) {
+            Some(port) => !port.is_away(),
+            None => false,
+        }
+    }
+
+    /// Whether the core of a processor is away. None where the machine has no processor of this number.
+    pub fn is_away(&self, processor: u8) -> Option<bool>
+        ensures { result ≡ (if nat_lt processor (2 ^ self.now.config.k) then Some (away_at self.now processor) else None) }
+    {
+        match self.ports.get(usize::from(processor)) {
+            Some(port) => Some(port.is_away()),
+            None => None,
+        }
+    }
+
+    /// Whether no core is away.
+    pub fn are_home(&self) -> bool
+        ensures { IsTrue result ↔ AreHome self.now }
+    {
+        self.ports.iter().all(|port| !port.is_away())
+    }
+
+    /// Takes the core of a processor out of the machine. While it is away, what is read of it is None,
+    /// a turn of its processor stalls, and so does every write from outside; all other steps go on. None
+    /// where the machine has no processor of this number, or the processor has a reference open, does not
+    /// run, or its core is away already. Then nothing changes.
+    pub fn take_core(&mut self, processor: u8) -> Option<Core>
+        ensures core { result ≡ (if is_free self.old processor then Some (port_at self.old.ports processor).core else None) }
+        ensures away { self.new ≡ (if is_free self.old processor then without_core_at self.old processor else self.old) }
+        ensures machine { is_free self.old processor ≡ true →
+            (shown : ℕ → List Event) → machine_of self.new shown ≡ without (machine_of self.old shown) processor }
+    {
+        let place = usize::from(processor);
+        if place >= self.ports.len() {
+            return None;
+        }
+        if self.ports[place].is_open() || !self.ports[place].is_running() {
+            return None;
+        }
+        self.ports[place].take_core()
+    }
+
+    /// Puts a core of a processor, whose own is away, into the machine.
+    pub fn put_core(&mut self, processor: u8, core: Core)
+        requires there { processor < 2 ^ self.old.config.k }
+        requires away { away_at self.old processor ≡ true }
+        requires setting { core.setting ≡ setting_of self.old.config processor }
+        requires words { HasWords core.state }
+        ensures put { self.new ≡ with_core_at self.old processor core }
+        ensures machine { (shown : ℕ → List Event) →
+            machine_of self.new shown ≡ with_core (machine_of self.old shown) processor (record { state = core.state; events = shown processor }) }
+    {
+        core_has_registers(&core);
+        self.ports[usize::from(processor)].put_core(core);
     }
 
     /// Whether no reference is open.
@@ -282,7 +362,7 @@ impl Machine {
         ensures step { IsStep self.old step result self.new }
         ensures outcome { result ≡ outcome_of self.old.config self.old.code (machine_of self.old (λ p. [])) step }
         ensures stalled { result ≡ Outcome.Stalled → (shown : ℕ → List Event) → machine_of self.new shown ≡ machine_of self.old shown }
-        ensures poked { IsIdle self.old → (poke : Poke) → step ≡ Step.Poke poke → IsPoked self.old poke result self.new }
+        ensures poked { IsIdle self.old → AreHome self.old → (poke : Poke) → step ≡ Step.Poke poke → IsPoked self.old poke result self.new }
         ensures few { Few (sizes_of self.new.config) (net_of self.new.network) }
         ensures told { TellsAll self.old step result }
         ensures sound { IsMachine self.new }
@@ -335,7 +415,8 @@ impl Machine {
         ensures { IsStep self.old (Step.Turn p) result self.new }
     {
         let place = usize::from(p);
-        turns::begin(&mut self.ports[place], &mut self.network, &self.code, p)
+        let code: &Code = &self.code;
+        turns::begin(&mut self.ports[place], &mut self.network, code, p)
     }
 
     /// The turn of a processor that is open.
@@ -346,7 +427,8 @@ impl Machine {
         ensures { IsStep self.old (Step.Turn p) result self.new }
     {
         let place = usize::from(p);
-        turns::finish(&mut self.ports[place], &mut self.network, &self.code, p)
+        let code: &Code = &self.code;
+        turns::finish(&mut self.ports[place], &mut self.network, code, p)
     }
 
     /// A request goes up a stage.
@@ -401,6 +483,9 @@ impl Machine {
         if !self.is_idle() {
             return Outcome::Stalled;
         }
+        if !self.are_home() {
+            return Outcome::Stalled;
+        }
         match poke {
             Poke::Register {
                 processor,
@@ -418,7 +503,8 @@ impl Machine {
 
     /// Writes a register, or `pc` as 32.
     fn poke_register(&mut self, p: u8, register: u8, value: u32) -> Outcome
-        requires { IsIdle self.old }
+        requires idle { IsIdle self.old }
+        requires home { AreHome self.old }
         ensures { IsStep self.old (Step.Poke (pokes.Register p register value)) result self.new }
     {
         let place = usize::from(p);
@@ -430,7 +516,8 @@ impl Machine {
 
     /// Writes a byte of local memory.
     fn poke_local(&mut self, p: u8, address: u32, value: u8) -> Outcome
-        requires { IsIdle self.old }
+        requires idle { IsIdle self.old }
+        requires home { AreHome self.old }
         ensures { IsStep self.old (Step.Poke (pokes.Local p address value)) result self.new }
     {
         let place = usize::from(p);
@@ -442,7 +529,8 @@ impl Machine {
 
     /// Writes a byte of shared memory.
     fn poke_shared(&mut self, address: u32, value: u8) -> Outcome
-        requires { IsIdle self.old }
+        requires idle { IsIdle self.old }
+        requires home { AreHome self.old }
         ensures { IsStep self.old (Step.Poke (pokes.Shared address value)) result self.new }
     {
         machine_is_sound(self);
@@ -529,7 +617,7 @@ fn made(alloc: Global, image: Image, config: Config) -> Result<Machine, AllocErr
     bytes_are_below_256(code_bytes);
     bytes_are_below_256(local);
     bytes_are_below_256(shared);
-    let code = Code::new(alloc, code_bytes)?;
+    let code = Arc::new(alloc, Code::new(alloc, code_bytes)?)?;
     let ports = new_ports(alloc, config, layout)?;
     let modules = new_modules(alloc, config, shared)?;
     let network = IndexedNetwork::new(alloc, config.k, config.c, config.b, config.r)?;

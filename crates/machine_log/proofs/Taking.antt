@@ -14,13 +14,13 @@ use Rattle.steps.specs.declared.step.Step.TheVariants as step
 use Rattle.steps.specs.declared.step.Outcome.{Outcome}
 use Rattle.steps.specs.declared.step.Outcome.TheVariants.{Retired, Issued, Stopped, Moved, Combined, Served, Answered, Poked, Stalled}
 use Rattle.steps.specs.Answers.{is_stalled}
-use Rattle.machine_runs.specs.Machines.{MachineLists, machine_of, IsIdle, IsMachine, IsStep}
+use Rattle.machine_runs.specs.Machines.{MachineLists, machine_of, AreHome, IsIdle, IsMachine, IsStep}
 use Rattle.machine_runs.specs.machine_program.Processors.{is_lawful_poke}
 use Rattle.machine_runs.specs.Runs.{flat_state, IsReplay}
-use Rattle.machine_runs.specs.Draining.{drain_step, GoesOn, drain_bound, drain_steps, IsDrained}
+use Rattle.machine_runs.specs.Draining.{drain_step, BringsNearer, drain_bound, drain_steps, IsDrained}
 use Rattle.machine_runs.specs.Whole.{steps_from, one_steps, IsOne, IsPoked, IsSent}
 use Rattle.machine_runs.proofs.Lemmas.{IsGoingHome, home_begins, home_goes_on, home_in_time, home_now, replay_begins, replay_kept, replay_more, stalled_is}
-use Rattle.machine_runs.proofs.Lemmas.{steps_back}
+use Rattle.machine_runs.proofs.Lemmas.{run_home, steps_back}
 use Rattle.machine_log.specs.Logs.{Log, entered, IsKept, IsEntered, ArePoked, places_of}
 
 -- ---- stalls
@@ -82,17 +82,22 @@ entered_length m new steps steps' most e =
     let few = e.count in omega (arith, all, few)
 
 -- a log is kept where it is new
-pub kept_new : (opening m : MachineLists) (steps : List Step) → IsMachine m → IsIdle m → opening ≡ m → steps ≡ [] →
+pub kept_new : (opening m : MachineLists) (steps : List Step) → IsMachine m → IsIdle m → AreHome m → opening ≡ m → steps ≡ [] →
     IsKept (record { opening = opening; steps = steps; machine = m })
-kept_new opening m steps is idle same none =
+kept_new opening m steps is idle home same none =
     subst (λ (o : MachineLists). IsKept (record { opening = o; steps = steps; machine = m })) (sym same)
     (subst (λ xs. IsKept (record { opening = m; steps = xs; machine = m })) (sym none)
-    (record { opens = is; idle = idle; sound = is; replay = replay_begins m; room = omega arith }))
+    (record { opens = is; idle = idle; home = home; sound = is; replay = replay_begins m; room = omega arith }))
 
 -- and where its machine's steps are entered, and there is room for them
 pub kept_after : (l : Log) (new : MachineLists) (steps' : List Step) (most : ℕ) → IsKept l → IsEntered l.machine l.steps most new steps' →
     length steps' ≤ 4194304 → IsKept (record { opening = l.opening; steps = steps'; machine = new })
-kept_after l new steps' most k e room = record { opens = k.opens; idle = k.idle; sound = e.sound; replay = e.replay l.opening k.replay; room = room }
+kept_after l new steps' most k e room =
+    record { opens = k.opens; idle = k.idle; home = k.home; sound = e.sound; replay = e.replay l.opening k.replay; room = room }
+
+-- no core is away in its machine either
+pub kept_home : (l : Log) → IsKept l → AreHome l.machine
+kept_home l k = run_home l.opening l.machine l.steps k.replay.run k.home
 
 -- ---- a drain
 
@@ -108,7 +113,8 @@ entering_begins m steps is = record { tail = []; home = home_begins m is; is = s
 
 module _ (old : MachineLists) (steps : List Step) (i : ℕ) (m : MachineLists) (steps' : List Step) (last : Outcome)
     (b : IsHomeEntered old steps i m steps' last) where
-  pub entering_goes_on : (s : Step) (o : Outcome) (new : MachineLists) (steps2 : List Step) → i < drain_bound old.config → drain_step m ≡ Some s → GoesOn m s →
+  pub entering_goes_on : (s : Step) (o : Outcome) (new : MachineLists) (steps2 : List Step) → i < drain_bound old.config → drain_step m ≡ Some s
+      → BringsNearer m s →
       IsStep m s o new →
       steps2 ≡ entered steps' s o → IsEntered m steps' 1 new steps2 → IsHomeEntered old steps (i + 1) new steps2 o
   entering_goes_on s o new steps2 within names goes st is e =

@@ -11,7 +11,7 @@ use Rattle.steps.specs.declared.step.Step.TheVariants as step
 use Rattle.steps.specs.declared.step.Outcome.{Outcome}
 use Rattle.steps.specs.declared.step.Outcome.TheVariants.{Stalled}
 use Rattle.steps.specs.Answers.{is_stalled}
-use Rattle.machine_runs.specs.Machines.{MachineLists, machine_of, IsIdle, IsMachine, IsStep}
+use Rattle.machine_runs.specs.Machines.{MachineLists, machine_of, AreHome, IsIdle, IsMachine, IsStep}
 use Rattle.machine_runs.specs.machine_program.Processors.{is_lawful_poke}
 use Rattle.machine_runs.specs.Runs.{flat_state, IsReplay}
 
@@ -49,11 +49,12 @@ is_named c (step.Poke (poke.Shared address value)) = true
 abbrev pub entered : List Step → Step → Outcome → List Step
 entered steps s o = if is_stalled o then steps else steps ++ s ∷ []
 
--- What always holds of a log: no reference is open in its opening, and its machine is the replay of the opening over the
--- steps, each of which did something.
+-- What always holds of a log: no reference is open in its opening and no core is away, and its machine is the replay of the
+-- opening over the steps, each of which did something.
 pub record IsKept (l : Log) : Type 0 where
   pub opens : IsMachine l.opening
   pub idle : IsIdle l.opening
+  pub home : AreHome l.opening
   pub sound : IsMachine l.machine
   pub replay : IsReplay l.opening l.steps l.machine
   pub room : length l.steps ≤ 4194304

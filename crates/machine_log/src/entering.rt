@@ -4,7 +4,7 @@ ghost use Rattle.std.specs.Prelude.{◌≡◌, ◌≤◌, ◌<◌, ◌+◌, ◌*
 ghost use Rattle.std.specs.Vec.{vec_capacity};
 ghost use Rattle.flat_machine.specs.declared.event.Event.{Event};
 ghost use Rattle.machine_runs.specs.machine_program.Steps.{outcome_of};
-ghost use Rattle.machine_runs.specs.Machines.{MachineLists, machine_of, IsIdle, IsStep};
+ghost use Rattle.machine_runs.specs.Machines.{MachineLists, machine_of, AreHome, IsIdle, IsStep};
 ghost use Rattle.machine_runs.specs.Draining.{drain_bound, drain_steps, IsDrained};
 ghost use Rattle.machine_runs.specs.Whole.{one_steps, IsOne, IsPoked, IsSent};
 ghost use Rattle.machine_log.specs.Logs.{entered, AreLawful, ArePoked, IsEntered};
@@ -13,13 +13,13 @@ use flat_machine::Poke;
 use machine_runs::{Machine, drain_step, machine_is_sound};
 use steps::{Outcome, Step};
 
-/// Takes a step, and enters it unless it stalls. There is room for it.
+/// Takes a step, and enters it in a list unless it stalls. There is room for it.
 #[inline(always)]
-pub(crate) fn enter(machine: &mut Machine, steps: &mut Vec<Step>, step: Step) -> Outcome
+pub fn enter(machine: &mut Machine, steps: &mut Vec<Step>, step: Step) -> Outcome
     requires room { length steps.old.items < vec_capacity steps.old }
     ensures step { IsStep machine.old step result machine.new }
     ensures answer { result ≡ outcome_of machine.old.config machine.old.code (machine_of machine.old (λ p. [])) step }
-    ensures poked { IsIdle machine.old → (poke : Poke) → step ≡ Step.Poke poke → IsPoked machine.old poke result machine.new }
+    ensures poked { IsIdle machine.old → AreHome machine.old → (poke : Poke) → step ≡ Step.Poke poke → IsPoked machine.old poke result machine.new }
     ensures stalled { result ≡ Outcome.Stalled → (shown : ℕ → List Event) → machine_of machine.new shown ≡ machine_of machine.old shown }
     ensures steps { steps.new.items ≡ entered steps.old.items step result }
     ensures entered { IsEntered machine.old steps.old.items 1 machine.new steps.new.items }
@@ -76,9 +76,10 @@ pub(crate) fn bring_home(machine: &mut Machine, steps: &mut Vec<Step>, bound: u3
 }
 
 /// Takes and enters these pokes, each of which can be written, on a machine in which no reference is
-/// open. There is room for them.
+/// open and no core away. There is room for them.
 pub(crate) fn pokes(machine: &mut Machine, steps: &mut Vec<Step>, pokes: &[Poke])
     requires idle { IsIdle machine.old }
+    requires home { AreHome machine.old }
     requires lawful { AreLawful machine.old.config pokes.now }
     requires room { length steps.old.items + length pokes.now ≤ vec_capacity steps.old }
     ensures poked { ArePoked machine.old steps.old.items pokes.now machine.new steps.new.items }

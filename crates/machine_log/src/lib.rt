@@ -14,5 +14,6 @@ mod entering;
 mod log;
 mod roomy;
 
-pub use log::{LogRefusal, Logged, log_is_kept};
+pub use entering::enter;
+pub use log::{LogRefusal, Logged, log_is_kept, names};
 pub use roomy::{Roomy, roomy_is_kept};

@@ -2,7 +2,8 @@
 
 ghost use Rattle.std.specs.Prelude.{◌≡◌, ◌≤◌, ◌<◌, ◌+◌, ◌*◌, ◌^◌, ◌↔◌, ◌++◌, [], length, nat_lt, true, false, Err, IfOk, OnOk, OnErr};
 ghost use Rattle.std.specs.Borrow.{sem};
-ghost use Rattle.machine_runs.specs.Machines.{IsIdle};
+ghost use Rattle.flat_machine.specs.Limits.{IsWithinLimits};
+ghost use Rattle.machine_runs.specs.Machines.{AreHome, IsIdle};
 ghost use Rattle.machine_runs.specs.Draining.{drain_bound, drain_steps, IsDrained};
 ghost use Rattle.machine_runs.specs.Runs.{answer_after, IsReplay, IsSerialized};
 ghost use Rattle.machine_runs.specs.Whole.{one_steps, IsOne, IsPoked};
@@ -10,10 +11,11 @@ ghost use Rattle.machine_log.specs.Logs.{is_named, AreLawful, HasPoked, HasTaken
 ghost use Rattle.machine_log.specs.Lending.{LendsRoom};
 
 use crate::roomy::{Roomy, roomy_is_kept};
-use flat_machine::Poke;
+use flat_machine::{Config, Poke};
 use machine_runs::{Machine, most_moves};
 use std::alloc::Global;
 use std::marker::Model;
+use std::snapshot::Snapshot;
 use steps::{Outcome, Step};
 use thiserror::Error;
 
@@ -46,10 +48,11 @@ impl Model for Logged {
 }
 
 impl Logged {
-    /// The log of a machine in which no reference is open, and which has taken no step: it becomes the
-    /// opening.
+    /// The log of a machine in which no reference is open and no core away, and which has taken no step:
+    /// it becomes the opening.
     pub fn new(alloc: Global, machine: Machine) -> Self
         requires idle { IsIdle machine }
+        requires home { AreHome machine }
         ensures { result ≡ record { opening = machine; steps = []; machine = machine } }
     {
         Logged {
@@ -57,10 +60,31 @@ impl Logged {
         }
     }
 
+    /// The log of a machine that stands after these steps since its opening.
+    pub fn of_parts(machine: Machine, steps: Vec<Step>, opening: Snapshot<Machine>) -> Self
+        requires kept { IsKept (record { opening = opening.value; steps = steps.items; machine = machine }) }
+        ensures { result ≡ record { opening = opening.value; steps = steps.items; machine = machine } }
+    {
+        Logged {
+            log: Roomy::of_parts(machine, steps, opening),
+        }
+    }
+
+    /// The machine, the steps that it has taken, and the opening, which proofs know.
+    pub fn into_parts(self) -> (Machine, Vec<Step>, Snapshot<Machine>)
+        ensures machine { result.0 ≡ self.machine }
+        ensures steps { result.1.items ≡ self.steps }
+        ensures opening { result.2.value ≡ self.opening }
+        ensures kept { IsKept self }
+    {
+        self.log.into_parts()
+    }
+
     /// The machine. It is the replay of its opening over the steps, and one serial order of whole
-    /// instructions explains what it did.
+    /// instructions explains what it did. No core is away.
     pub fn machine(&self) -> &Machine
         ensures machine { result.now ≡ self.now.machine }
+        ensures home { AreHome result.now }
         ensures kept { IsKept self.now }
         ensures replay { IsReplay self.now.opening self.now.steps self.now.machine }
         ensures explained { IsSerialized self.now.opening self.now.steps self.now.machine }
@@ -80,18 +104,7 @@ impl Logged {
     pub fn names(&self, step: &Step) -> bool
         ensures { result ≡ is_named self.now.machine.config step.now }
     {
-        let config = self.machine().config();
-        let places = config.processors();
-        match *step {
-            Step::Turn(place) | Step::Serve(place) => place < places,
-            Step::Up { stage, wire } | Step::Down { stage, wire } => {
-                stage < config.k && wire < places
-            }
-            Step::Poke(Poke::Register { processor, .. } | Poke::Local { processor, .. }) => {
-                processor < places
-            }
-            Step::Poke(Poke::Shared { .. }) => true,
-        }
+        names(self.machine().config(), step)
     }
 
     /// Takes a step, and enters it unless it stalled.
@@ -203,9 +216,28 @@ impl Logged {
     }
 }
 
+/// Whether a machine of this size has each place that the step names.
+pub fn names(config: Config, step: &Step) -> bool
+    requires { IsWithinLimits config }
+    ensures { result ≡ is_named config step.now }
+{
+    let places = config.processors();
+    match *step {
+        Step::Turn(place) | Step::Serve(place) => place < places,
+        Step::Up { stage, wire } | Step::Down { stage, wire } => {
+            stage < config.k && wire < places
+        }
+        Step::Poke(Poke::Register { processor, .. } | Poke::Local { processor, .. }) => {
+            processor < places
+        }
+        Step::Poke(Poke::Shared { .. }) => true,
+    }
+}
+
 /// What holds of every log: each proof about one may cite it, at the cost of nothing.
 pub fn log_is_kept(log: &Logged)
     ensures kept { IsKept log.now }
+    ensures home { AreHome log.now.machine }
     ensures replay { IsReplay log.now.opening log.now.steps log.now.machine }
 {
     roomy_is_kept(&log.log);

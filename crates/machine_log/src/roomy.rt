@@ -1,7 +1,7 @@
 //! A log with room for steps.
 
 ghost use Rattle.std.specs.Prelude.{◌≡◌, ◌≤◌, ◌<◌, ◌+◌, ◌*◌, ◌↔◌, ◌++◌, [], length, Err, OnOk};
-ghost use Rattle.machine_runs.specs.Machines.{IsIdle};
+ghost use Rattle.machine_runs.specs.Machines.{AreHome, IsIdle};
 ghost use Rattle.machine_runs.specs.Draining.{drain_bound, drain_steps, IsDrained};
 ghost use Rattle.machine_runs.specs.Runs.{answer_after, IsReplay, IsSerialized};
 ghost use Rattle.machine_runs.specs.Whole.{one_steps, IsOne, IsPoked};
@@ -43,6 +43,7 @@ impl Roomy {
     /// The log of a machine that has taken no step.
     pub(crate) fn new(alloc: Global, machine: Machine) -> Self
         requires idle { IsIdle machine }
+        requires home { AreHome machine }
         ensures { result.log ≡ record { opening = machine; steps = []; machine = machine } }
     {
         machine_is_sound(&machine);
@@ -52,6 +53,33 @@ impl Roomy {
             steps: Vec::new(alloc),
             opening,
         }
+    }
+
+    /// The log of a machine that stands after these steps since its opening.
+    pub(crate) fn of_parts(machine: Machine, steps: Vec<Step>, opening: Snapshot<Machine>) -> Self
+        requires kept { IsKept (record { opening = opening.value; steps = steps.items; machine = machine }) }
+        ensures { result.log ≡ record { opening = opening.value; steps = steps.items; machine = machine } }
+    {
+        Roomy {
+            machine,
+            steps,
+            opening,
+        }
+    }
+
+    /// The machine, the steps that it has taken, and the opening.
+    pub(crate) fn into_parts(self) -> (Machine, Vec<Step>, Snapshot<Machine>)
+        ensures machine { result.0 ≡ self.log.machine }
+        ensures steps { result.1.items ≡ self.log.steps }
+        ensures opening { result.2.value ≡ self.log.opening }
+        ensures kept { IsKept self.log }
+    {
+        let Roomy {
+            machine,
+            steps,
+            opening,
+        } = self;
+        (machine, steps, opening)
     }
 
     /// Makes room for more steps.
@@ -76,9 +104,10 @@ impl Roomy {
     }
 
     /// The machine. It is the replay of its opening over the steps, and one serial order of whole
-    /// instructions explains what it did.
+    /// instructions explains what it did. No core is away.
     pub fn machine(&self) -> &Machine
         ensures machine { result.now ≡ self.now.log.machine }
+        ensures home { AreHome result.now }
         ensures kept { IsKept self.now.log }
         ensures replay { IsReplay self.now.log.opening self.now.log.steps self.now.log.machine }
         ensures explained { IsSerialized self.now.log.opening self.now.log.steps self.now.log.machine }
@@ -152,6 +181,7 @@ impl Roomy {
 /// What holds of every log with room: each proof about one may cite it, at the cost of nothing.
 pub fn roomy_is_kept(roomy: &Roomy)
     ensures kept { IsKept roomy.now.log }
+    ensures home { AreHome roomy.now.log.machine }
     ensures replay { IsReplay roomy.now.log.opening roomy.now.log.steps roomy.now.log.machine }
 {
     let _ = &roomy.steps;

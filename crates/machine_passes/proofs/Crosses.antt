@@ -5,23 +5,28 @@ use denote.Param.Send.{IsSend, IsSync, sendable}
 use Rattle.agreed_rows.specs.declared.rule.Naming as naming
 use Rattle.agreed_rows.specs.contracts.keeper.Keeper as Keeper
 use Rattle.agreed_rows.proofs.keeper.Keeper.TheSendSync as keeper
+use Rattle.hart.proofs.processor.Core.TheSendSync as core
 use Rattle.machine.proofs.machine.Machine.TheSendSync as machine
 use Rattle.steps.proofs.step.Step.TheSendSync as step
-use Rattle.machine_log.specs.contracts.log.Logged as Logged
+use Rattle.machine_loans.specs.contracts.lending.Lending as Lending
+use Rattle.machine_loans.specs.contracts.lent.Lent as Lent
 use Rattle.machine_passes.specs.declared.run.Run as run
 use Rattle.machine_passes.specs.contracts.row.Row as Row
 use Rattle.machine_passes.specs.contracts.desk.Desk as Desk
 use Rattle.machine_passes.specs.contracts.shared.Shared as Shared
 
-pub Logged-send : IsSend Logged.the_row
-Logged-send = search (crosses, sendable, machine.the_send, step.the_send) depth 20
+pub Lent-send : IsSend Lent.the_row
+Lent-send = search (crosses, sendable, core.the_send) depth 20
+
+pub Lending-send : IsSend Lending.the_row
+Lending-send = let a = Lent-send in search (crosses, sendable, core.the_send, machine.the_send, step.the_send) depth 20
 
 module _ (N : RattleType) (r : run.Ghosts N.Denot) (n : naming.Ghosts N.Denot) where
   pub Keeper-send : IsSend N → IsSend (Keeper.the_row Row.the_row N n)
   Keeper-send s = search (crosses, sendable, keeper.the_send) depth 20
 
   pub Desk-send : IsSend N → IsSend (Desk.the_row N r n)
-  Desk-send s = let a = Logged-send in let b = Keeper-send s in search (crosses, sendable) depth 20
+  Desk-send s = let a = Lending-send in let b = Keeper-send s in search (crosses, sendable) depth 20
 
   pub Shared-sync : IsSend N → IsSync (Shared.the_row N r n)
   Shared-sync s = let a = Desk-send s in search (crosses, sendable) depth 20

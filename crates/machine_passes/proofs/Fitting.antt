@@ -1,7 +1,7 @@
 -- The rows fit the steps: at the start, and after each answer.
 use Rattle.std.proofs.Common.{◌≡◌, ℕ, zero, suc, ◌+◌, ◌<◌, ◌≤◌, Bool, true, false, not, List, [], ◌∷◌, ◌++◌, length, drop, refl, sym, ap, ◌∙◌, subst, arith}
 use Rattle.std.proofs.Common.{length-append, append_assoc, ◌⊎◌, inl, inr, ⊎_elim}
-use Rattle.std.specs.Prelude.{slice_get, slice_set, slice_index_or as get_or, Some, None, Option, if◌then◌else◌}
+use Rattle.std.specs.Prelude.{replicate, slice_get, slice_set, slice_index_or as get_or, Some, None, Option, if◌then◌else◌}
 use Rattle.std.proofs.Common.{lt-ltb, eq-eqb}
 use Rattle.std.proofs.lemmas.List.{append-nil, drop-append-le, take-append-le}
 use Rattle.std.proofs.Math.Seq.{take-length, drop-length}
@@ -23,7 +23,9 @@ use Rattle.machine_passes.specs.declared.row.Notice.{Notice}
 use Rattle.machine_passes.specs.declared.row.Answer.{Answer}
 use Rattle.machine_passes.specs.declared.row.Row.{Row}
 use Rattle.machine_passes.specs.Lists.{notices_of, given_to, shown_at, is_poke, is_turn_of, is_turn_below, all_named, no_poke, no_turn, turns_below}
-use Rattle.machine_passes.specs.Passes.{Held, held, rows_of, IsWhole, new_passes}
+use Rattle.machine_passes.specs.Passes.{Held, held, most_of, rows_of, IsWhole, new_passes}
+use Rattle.machine_loans.specs.Lendings.{lent_at}
+use Rattle.machine_loans.proofs.Lemmas.{replicate_none}
 use Rattle.machine_passes.specs.Rows.{new_row, told, counted, behind, machine_after, notices_since, LastFits, RowFits, Fits, Follows, steps_of}
 use Rattle.machine_passes.proofs.Lists.{all_after-append, notices_pushed, all-push, get-front, get-last, get-set, get-set_else, length-slice_set}
 
@@ -33,7 +35,7 @@ is_off false h = refl
 
 -- ---- sums of steps
 
-steps_of-set : (rows : List Row) (p : ℕ) (r new : Row) → slice_get rows p ≡ Some r → steps_of (slice_set rows p new) + r.steps ≡ steps_of rows + new.steps
+pub steps_of-set : (rows : List Row) (p : ℕ) (r new : Row) → slice_get rows p ≡ Some r → steps_of (slice_set rows p new) + r.steps ≡ steps_of rows + new.steps
 steps_of-set [] p r new e = absurd (cc)
 steps_of-set (x ∷ xs) zero r new e = let h : x ≡ r = cc in let h' = ap (λ (y : Row). y.steps) h in omega arith
 steps_of-set (x ∷ xs) (suc p) r new e = let h = steps_of-set xs p r new e in omega arith
@@ -56,7 +58,7 @@ counted_small o = small (is_stalled o)
 
 -- ---- what one step gives
 
-none_of : (q place : ℕ) (s : Step) (o : Outcome) → is_turn_of q s ≡ false → given_to q place s o ≡ []
+pub none_of : (q place : ℕ) (s : Step) (o : Outcome) → is_turn_of q s ≡ false → given_to q place s o ≡ []
 none_of q place s o h = ap (λ (b : Bool). if b then shown_at place o else []) h
 
 none_shown : (place : ℕ) (o : Outcome) → is_stalled o ≡ true → shown_at place o ≡ []
@@ -292,6 +294,12 @@ starts opening first count =
           (sym is) record { notices = sym (ap (notices_of opening.config opening.code p (length first) (machine_after opening first)) none); last = tt };
       total = let z = steps_of-new count in omega arith;
     }
+
+-- none of them has a core that is lent
+pub new_loans : (count n p : ℕ) (r : Row) → slice_get (rows_of (new_passes count)) p ≡ Some r → r.lent ≡ most_of (lent_at (replicate n None) p)
+new_loans count n p r e =
+    let g = get-rows_of (new_passes count) p r e in
+    ap (λ (x : Row). x.lent) (sym g.2 ∙ (new_at count p g.0 g.1).1) ∙ ap most_of (sym (replicate_none n p))
 
 pub set_back : {A : Type 0} (xs : List A) (i : ℕ) (d v : A) → i < length xs → v ≡ get_or xs i d → slice_set xs i v ≡ xs
 set_back [] i d v h e = refl

@@ -3,6 +3,8 @@ pub mod Rising
 pub mod Listing
 pub mod Totals
 pub mod Fitting
+pub mod Returning
+pub mod Running
 pub mod Crosses
 pub mod Lemmas
 pub mod Stopping

@@ -1,6 +1,6 @@
 -- A processor whose list ends with its stop has no reference open, and never will have one.
 use Rattle.std.proofs.Common.{◌≡◌, ◌≢◌, ◌⊎◌, inl, inr, ℕ, suc, Bool, true, false, not, List, [], ◌∷◌, ◌++◌, refl, sym, ap, ◌∙◌, subst, eq-eqb, ne_eqb, ⊎_elim}
-use Rattle.std.specs.Prelude.{◌&&◌, ◌==◌, nat_lt, Option, Some, None, if◌then◌else◌}
+use Rattle.std.specs.Prelude.{◌&&◌, nat_lt, Option, Some, None, if◌then◌else◌}
 use Rattle.std.proofs.lemmas.Bool.{cases_eq}
 use Rattle.flat_machine.specs.declared.config.Config.{Config}
 use Rattle.flat_machine.specs.declared.event.Cause.{Cause}
@@ -21,7 +21,7 @@ use Rattle.machine.specs.messages.Network.{Net, Sizes, wires}
 use Rattle.machine.proofs.Lemmas.messages.{put_other, put_same}
 use Rattle.machine.specs.abstract_machine.Program.{Kind, Rests, Alone, Refers}
 use Rattle.machine.specs.machine_program.Theory as theory
-use Rattle.machine.specs.machine_program.Processors.{Told, alone_by, kind_of, kind_of_turn, next, program, sizes_of}
+use Rattle.machine.specs.machine_program.Processors.{Told, alone_by, kind_of, next, program, sizes_of}
 use Rattle.machine.specs.machine_program.Steps.{outcome_of, after, answer_of, told_of_reply, told_of_turn}
 use Rattle.steps.specs.declared.step.Step.{Step}
 use Rattle.steps.specs.declared.step.Step.TheVariants as step
@@ -29,7 +29,7 @@ use Rattle.steps.specs.declared.step.Outcome.{Outcome}
 use Rattle.steps.specs.declared.step.Outcome.TheVariants as outcome
 use Rattle.machine_log.specs.machine_runs.Runs.{all_after}
 use Rattle.machine_passes.specs.declared.row.Notice.{Notice}
-use Rattle.machine_passes.specs.Lists.{given_to, is_poke, is_turn_of, no_poke, notices_of, shown_at}
+use Rattle.machine_passes.specs.Lists.{given_to, is_poke, no_poke, notices_of, shown_at}
 
 -- It has no reference open, and does not run.
 record IsOver (p : ℕ) (M : theory.Machine Told) : Type 0 where

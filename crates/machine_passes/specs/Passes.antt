@@ -2,19 +2,27 @@
 use Rattle.std.specs.Prelude.{◌≡◌, ℕ, zero, suc, ◌≤◌, ◌^◌, ◌↔◌, Bool, true, false, List, [], ◌∷◌, ◌++◌, length, map, count_by, slice_get}
 use Rattle.std.specs.Prelude.{Option, Some, None, Result, Ok, Err}
 use Rattle.flat_machine.specs.declared.config.Config.{Config}
+use Rattle.flat_machine.specs.declared.event.Retired.{Retired}
+use Rattle.hart.specs.State.{CoreState}
 use Rattle.steps.specs.declared.step.Step.{Step}
 use Rattle.steps.specs.declared.step.Step.TheVariants.{Turn}
 use Rattle.steps.specs.declared.step.Outcome.{Outcome}
+use Rattle.steps.specs.declared.step.Outcome.TheVariants.{Stalled}
 use Rattle.machine_log.specs.machine_runs.Machines.{MachineLists}
 use Rattle.machine_log.specs.machine_runs.Runs.{answer_after}
 use Rattle.machine_log.specs.Logs.{Log, entered}
 use Rattle.machine_log.specs.declared.log.LogRefusal.{LogRefusal}
 use Rattle.machine_log.specs.declared.log.LogRefusal.TheVariants.{Unnamed}
+use Rattle.local_runs.specs.LocalRuns.{HasRunLocally, RetirementList, TakesLocal}
+use Rattle.local_runs.specs.declared.run.LocalEnd.{LocalEnd}
+use Rattle.machine_loans.specs.Lendings.{lent_at}
+use Rattle.machine_loans.specs.declared.lent.Lent.{Lent}
+use Rattle.machine_passes.specs.declared.desk.Round.{Round}
 use Rattle.machine_passes.specs.declared.row.Notice.{Notice}
 use Rattle.machine_passes.specs.declared.row.Row.{Row}
 use Rattle.machine_passes.specs.declared.stored.Stored.{Stored}
 use Rattle.machine_passes.specs.Lists.{is_net, is_stop}
-use Rattle.machine_passes.specs.Rows.{row, new_row, told, Follows, all_since, Fits}
+use Rattle.machine_passes.specs.Rows.{row, new_row, told, told_all, with_loan, Follows, all_since, Fits}
 
 -- a machine that is none
 abbrev pub no_machine : MachineLists
@@ -31,7 +39,7 @@ no_machine = record {
 
 -- the row that a pass stores
 abbrev pub row_of : Stored → Row
-row_of s = row s.notices.items s.steps s.last
+row_of s = row s.notices.items s.steps s.last s.lent
 
 pub record Held : Type 0 where
   pub processor : ℕ
@@ -47,6 +55,12 @@ pub record IsTold (from : ℕ) (old : Held) (s : Step) (o : Outcome) (new : Held
   pub follows : Follows old.row.last place
   pub pass : new ≡ held old.processor (told old.processor old.row s o place)
 
+-- A turn of the pass's processor was asked for, and answered so: it was told to the pass. While the core is lent, it stalls, and the pass
+-- is not told.
+abbrev pub IsTurned : (lent : Option ℕ) → (from : ℕ) → (old : Held) → Outcome → (new : Held) → Type 0
+IsTurned None from old o new = IsTold from old (Turn old.processor) o new
+IsTurned (Some most) from old o new = (o ≡ Stalled) × (new ≡ old)
+
 -- Behind a turn that answered so a step of the network was asked for, unless the turn had stopped the processor: it was told to the
 -- pass, or refused, which left the pass as it was.
 abbrev pub IsAsked : (from : ℕ) → Config → (turn : Outcome) → Held → Step → Option (Result Outcome LogRefusal) → Held → Type 0
@@ -54,11 +68,63 @@ IsAsked from c turn old s None new = (is_stop turn ≡ true) × (new ≡ old)
 IsAsked from c turn old s (Some (Ok o)) new = (is_stop turn ≡ false) × (is_net c s ≡ true) × IsTold from old s o new
 IsAsked from c turn old s (Some (Err e)) new = (is_stop turn ≡ false) × ((e ≡ Unnamed) ↔ (is_net c s ≡ false)) × (new ≡ old)
 
--- A turn was told to the pass, and then a step of the network was asked for.
+-- A turn was asked for, and then a step of the network.
 pub record AreTold (from : ℕ) (c : Config) (old : Held) (turn : Outcome) (s : Step) (net : Option (Result Outcome LogRefusal)) (new : Held) : Type 0 where
   pub between : Held
-  pub turn_is : IsTold from old (Turn old.processor) turn between
+  pub turn_is : IsTurned old.row.lent from old turn between
   pub net_is : IsAsked from c turn between s net new
+
+-- ---- a loan
+
+-- What a loan has: whose core it is, how it was lent, how it stands, and what it has retired since.
+pub record LoanState : Type 0 where
+  pub processor : ℕ
+  pub record_is : Lent
+  pub core : CoreState
+  pub retired : List Retired
+
+-- The core has taken these local instructions since it was lent, no more than it may.
+pub record IsLoan (code : List ℕ) (l : Lent) (core : CoreState) (retired : RetirementList) : Type 0 where
+  pub turns : TakesLocal l.core.setting code l.core.state retired.items core.state
+  pub setting : core.setting ≡ l.core.setting
+  pub few : length retired.items ≤ l.most
+
+-- It has taken more of them, and the run has ended so.
+pub record HasGoneOn (code : List ℕ) (old new : LoanState) (end : LocalEnd) : Type 0 where
+  pub processor : new.processor ≡ old.processor
+  pub record_is : new.record_is ≡ old.record_is
+  pub run : HasRunLocally code old.core new.core (record { most = old.record_is.most; items = old.retired })
+      (record { most = new.record_is.most; items = new.retired }) end
+
+-- The core is lent on this pass, for so many instructions at most, and has taken none.
+pub record IsLentOn (old : Held) (most : ℕ) (loan : LoanState) (new : Held) : Type 0 where
+  pub processor : loan.processor ≡ old.processor
+  pub most_is : loan.record_is.most ≡ most
+  pub core : loan.core ≡ loan.record_is.core
+  pub none : loan.retired ≡ []
+  pub pass : new ≡ held old.processor (with_loan old.row (Some most))
+
+-- The loan was lent on the pass, and is not back.
+pub record IsLoanOf (pass : Held) (loan : LoanState) : Type 0 where
+  pub processor : loan.processor ≡ pass.processor
+  pub lent : pass.row.lent ≡ Some loan.record_is.most
+
+-- The loan is back: a turn was entered for each instruction that it has retired, and the pass is told of them.
+pub record IsReturned (from : ℕ) (old : Held) (retired : List Retired) (new : Held) : Type 0 where
+  pub place : ℕ
+  pub low : from ≤ place
+  pub follows : Follows old.row.last place
+  pub pass : new ≡ held old.processor (with_loan (told_all old.processor old.row place retired) None)
+
+-- Behind it a turn was asked for, and then a step of the network; or the turn was refused.
+abbrev pub GoesOnWith : (from : ℕ) → Config → (old : Held) → (answer : Result Round LogRefusal) → Step → (new : Held) → Type 0
+GoesOnWith from c old (Ok r) s new = AreTold from c old r.turn s r.net new
+GoesOnWith from c old (Err refusal) s new = new ≡ old
+
+pub record HasEnded (from : ℕ) (c : Config) (old : Held) (retired : List Retired) (answer : Result Round LogRefusal) (s : Step) (new : Held) : Type 0 where
+  pub between : Held
+  pub back : IsReturned from old retired between
+  pub round : GoesOnWith from c between answer s new
 
 -- ---- the passes of all processors
 
@@ -86,10 +152,16 @@ TotalsAgree opening first steps hs = (test : ℕ × Notice → Bool) → count_b
 
 -- ---- the desk
 
--- the log, and what every pass stores
+-- the log, as it is with all cores back as they were lent, what every pass stores, and what is known of the cores that are away
 pub record Sheet : Type 0 where
   pub log : Log
   pub rows : List Row
+  pub lent : List (Option Lent)
+
+-- how many instructions a core is lent for
+abbrev pub most_of : Option Lent → Option ℕ
+most_of None = None
+most_of (Some l) = Some l.most
 
 -- The log has answered a step at this place, and the row of p was told.
 pub record IsAnswered (old : Log) (p : ℕ) (r : Row) (s : Step) (place : ℕ) (new : Log) (r' : Row) : Type 0 where
@@ -106,3 +178,5 @@ pub record IsAgreed (opens : MachineLists) (first : List Step) (many : ℕ) (s :
   pub config : s.log.machine.config ≡ opens.config
   pub count : many ≡ 2 ^ opens.config.k
   pub fits : Fits opens first many s.log.steps s.rows
+  -- a core is away exactly where its pass says so
+  pub loans : (p : ℕ) (r : Row) → slice_get s.rows p ≡ Some r → r.lent ≡ most_of (lent_at s.lent p)

@@ -1,9 +1,12 @@
 -- What the passes store, beside the steps of the log.
-use Rattle.std.specs.Prelude.{◌≡◌, ℕ, ◌+◌, ◌≤◌, true, false, List, [], ◌∷◌, ◌++◌, length, take, drop, Option, Some, None, slice_get, if◌then◌else◌}
+use Rattle.std.specs.Prelude.{◌≡◌, ℕ, suc, ◌+◌, ◌≤◌, true, false, List, [], ◌∷◌, ◌++◌, length, take, drop, Option, Some, None, slice_get, if◌then◌else◌}
 use Rattle.machine.specs.machine_program.Theory as theory
 use Rattle.machine.specs.machine_program.Processors.{Told}
+use Rattle.flat_machine.specs.declared.event.Retired.{Retired}
 use Rattle.steps.specs.declared.step.Step.{Step}
+use Rattle.steps.specs.declared.step.Step.TheVariants as step
 use Rattle.steps.specs.declared.step.Outcome.{Outcome}
+use Rattle.steps.specs.declared.step.Outcome.TheVariants as outcome
 use Rattle.steps.specs.Answers.{is_stalled}
 use Rattle.machine_log.specs.machine_runs.Machines.{MachineLists, machine_of}
 use Rattle.machine_log.specs.machine_runs.Runs.{all_after, answer_after}
@@ -14,11 +17,15 @@ use Rattle.machine_passes.specs.Lists.{notices_of, all_notices, given_to, all_na
 
 -- ---- a row
 
-abbrev pub row : List Notice → ℕ → Option Answer → Row
-row notices steps last = record { notices = notices; steps = steps; last = last }
+abbrev pub row : List Notice → ℕ → Option Answer → Option ℕ → Row
+row notices steps last lent = record { notices = notices; steps = steps; last = last; lent = lent }
 
 abbrev pub new_row : Row
-new_row = row [] 0 None
+new_row = row [] 0 None None
+
+-- the row of a processor whose core is lent for so many instructions, or is back
+abbrev pub with_loan : Row → Option ℕ → Row
+with_loan r lent = record r { lent = lent }
 
 abbrev pub answer : Step → Outcome → ℕ → Answer
 answer step outcome place = record { step = step; outcome = outcome; place = place }
@@ -29,7 +36,12 @@ counted o = if is_stalled o then 0 else 1
 
 -- the row of p after an answer
 abbrev pub told : (p : ℕ) → Row → Step → Outcome → (place : ℕ) → Row
-told p r s o place = row (r.notices ++ given_to p place s o) (r.steps + counted o) (Some (answer s o place))
+told p r s o place = row (r.notices ++ given_to p place s o) (r.steps + counted o) (Some (answer s o place)) r.lent
+
+-- after turns that retire these instructions, from a place on
+abbrev pub told_all : (p : ℕ) → Row → (place : ℕ) → List Retired → Row
+told_all p r place [] = r
+told_all p r place (retired ∷ later) = told_all p (told p r (step.Turn p) (outcome.Retired retired) place) (suc place) later
 
 -- how many steps there were once the answer was given
 abbrev pub behind : Answer → ℕ

@@ -9,6 +9,7 @@
 mod desk;
 mod kinds;
 mod laws;
+mod loan;
 mod pass;
 mod quiet;
 mod row;
@@ -16,9 +17,10 @@ mod run;
 mod shared;
 mod stored;
 
-pub use desk::Desk;
+pub use desk::{Desk, Round};
 pub use laws::{events_are_listed, lists_are_joined, places_rise, stopped_are_shut};
+pub use loan::Loan;
 pub use pass::Pass;
 pub use row::{Answer, Notice, Row};
 pub use run::Run;
-pub use shared::{Round, Shared};
+pub use shared::Shared;

@@ -1,6 +1,6 @@
 //! What one processor's thread holds.
 
-ghost use Rattle.std.specs.Prelude.{◌≡◌};
+ghost use Rattle.std.specs.Prelude.{◌≡◌, is_some};
 
 use crate::row::{Answer, Notice, Row};
 use crate::run::Run;
@@ -9,7 +9,8 @@ use agreed_rows::Claim;
 use std::marker::Model;
 
 /// The pass of one processor: its retirements and its stop, how many steps the calls with it have entered, and their last
-/// answer. Contracts see it as the processor's number and that row, which is the row that is known under the lock.
+/// answer. Contracts see it as the processor's number and that row, which is the row that is known under the lock. Where the
+/// core is lent, there is room for what it may retire.
 #[derive(Drop)]
 pub struct Pass<N: Run> {
     pub(crate) processor: u8,
@@ -18,22 +19,38 @@ pub struct Pass<N: Run> {
 }
 
 impl<N: Run> Model for Pass<N> {
-    ghost use Rattle.std.specs.Prelude.{◌≡◌, [], ◌∷◌};
+    ghost use Rattle.std.specs.Prelude.{◌≡◌, ◌≤◌, ◌+◌, ℕ, [], ◌∷◌, Some, vec_len, vec_capacity};
     ghost use Rattle.machine_passes.specs.Passes.{Held, held, row_of};
 
     ghost Value = { Held };
 
     ghost view = { λ p. held p.processor (row_of p.stored) };
 
-    ghost invariant = { λ p. p.claim ≡ (p.processor, row_of p.stored) ∷ [] };
+    ghost invariant = { λ p. (p.claim ≡ (p.processor, row_of p.stored) ∷ [])
+        × ((most : ℕ) → p.stored.lent ≡ Some most → vec_len p.stored.notices + most ≤ vec_capacity p.stored.notices) };
 }
 
 impl<N: Run> Pass<N> {
-    /// Makes room for what a turn can give, if there is memory for it. So nothing is asked of the allocator for it under the lock.
-    pub(crate) fn make_room(&mut self)
+    /// Makes room for what so many turns can give, if there is memory for it. So nothing is asked of the allocator for it under
+    /// the lock.
+    pub(crate) fn make_room(&mut self, turns: usize)
         ensures { self.new ≡ self.old }
     {
-        self.stored.make_room();
+        self.stored.make_room(turns);
+    }
+
+    /// The same, and the system has given that memory: so it is not asked for it under the lock either.
+    pub(crate) fn make_warm_room(&mut self, turns: usize)
+        ensures { self.new ≡ self.old }
+    {
+        self.stored.make_warm_room(turns);
+    }
+
+    /// Whether the core of its processor is lent.
+    pub fn is_lent(&self) -> bool
+        ensures { result ≡ is_some self.now.row.lent }
+    {
+        self.stored.lent.is_some()
     }
 
     /// The number of its processor.

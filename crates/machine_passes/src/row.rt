@@ -19,10 +19,11 @@ pub struct Answer {
     pub place: u32,
 }
 
-/// All that a pass stores: its processor's retirements and its stop, how many steps its calls have entered, and the last
-/// answer. No value of it is made.
+/// All that a pass stores: its processor's retirements and its stop, how many steps its calls have entered, the last
+/// answer, and for how many instructions its processor's core is lent, where it is. No value of it is made.
 pub struct Row {
     pub notices: LinkedList<Notice>,
     pub steps: u32,
     pub last: Option<Answer>,
+    pub lent: Option<u32>,
 }

@@ -1,17 +1,19 @@
 //! The lock, and the calls of threads.
 
-ghost use Rattle.std.specs.Prelude.{◌≡◌, ◌≤◌, ◌^◌, ◌↔◌, length, false, Err, IfOk, IfErr, OnErr};
+ghost use Rattle.std.specs.Prelude.{◌≡◌, ◌≤◌, ◌^◌, ◌↔◌, length, is_some, true, false, None, Ok, Err, IfOk, IfErr, OnOk, OnErr};
 ghost use Rattle.machine_passes.specs.Lists.{is_net};
 ghost use Rattle.machine_passes.specs.Rows.{Fits};
-ghost use Rattle.machine_passes.specs.Passes.{AreTold, IsTold, IsWhole, TotalsAgree, new_passes, rows_of};
+ghost use Rattle.machine_passes.specs.Passes.{AreTold, HasEnded, IsLentOn, IsLoanOf, IsReturned, IsTold, IsTurned, IsWhole, TotalsAgree, new_passes, rows_of};
 
-use crate::desk::Desk;
-use crate::kinds::is_stop;
+use crate::desk::{Desk, Round};
+use crate::loan::Loan;
 use crate::pass::Pass;
 use crate::row::Row;
 use crate::run::Run;
 use crate::stored::Stored;
 use agreed_rows::{Keeper, Room};
+use local_runs::Retirements;
+use machine_loans::{LendRefusal, Lending};
 use machine_log::{LogRefusal, Logged};
 use std::alloc::Global;
 use std::hint::spin_loop;
@@ -30,14 +32,7 @@ const WAIT: u32 = 256;
 /// How often it then lets others run, before it sleeps until it is called.
 const YIELDS: u32 = 16;
 
-/// What a turn answered, and then the step of the network that was asked for; none where the turn has stopped the processor.
-#[derive(Clone, Copy, Debug, PartialEq, Eq, Drop)]
-pub struct Round {
-    pub turn: Outcome,
-    pub net: Option<Result<Outcome, LogRefusal>>,
-}
-
-/// A logged machine that threads share. A call waits for the lock, and then takes one step.
+/// A logged machine that threads share. A call waits for the lock, and then takes one step, or lends a core or takes one back.
 #[derive(Drop)]
 pub struct Shared<N: Run> {
     desk: Mutex<Desk<N>>,
@@ -69,6 +64,10 @@ impl<N: Run> Shared<N> {
         if passes.reserve(count as usize).is_err() {
             return Err((logged, LogRefusal::Memory));
         }
+        let lending = match Lending::new(alloc, logged) {
+            Ok(lending) => lending,
+            Err(logged) => return Err((logged, LogRefusal::Memory)),
+        };
         for p in 0..count {
             let claim = keeper.hire::<Brand>();
             passes.push_reserved(Pass {
@@ -77,28 +76,82 @@ impl<N: Run> Shared<N> {
                     notices: Vec::new(alloc),
                     steps: 0,
                     last: None,
+                    lent: None,
                 },
                 claim,
             });
         }
-        let desk = Mutex::new(Desk { logged, keeper });
+        let desk = Mutex::new(Desk { lending, keeper });
         Ok((Shared { desk }, passes))
     }
 
-    /// Takes one turn of the pass's processor, and enters it in the log unless it stalled. The answer is told to the pass.
+    /// Takes one turn of the pass's processor, and enters it in the log unless it stalled. The answer is told to the pass. While the
+    /// core is lent, it stalls, and the pass is not told.
     ///
     /// # Errors
     ///
-    /// [`LogRefusal::Full`] where the log has [`steps::MAX_STEPS`] steps, else [`LogRefusal::Memory`] where there is no memory
-    /// for a place in the pass or in the log. Each leaves all as it was.
+    /// [`LogRefusal::Full`] where the log has [`steps::MAX_STEPS`] steps with those that are promised, else [`LogRefusal::Memory`]
+    /// where there is no memory for a place in the pass or in the log. Each leaves all as it was.
     pub fn turn<R: Wait>(&self, rt: &R, pass: &mut Pass<N>) -> Result<Outcome, LogRefusal>
-        ensures told { IfOk result (λ o. IsTold (length N.first) pass.old (Step.Turn pass.old.processor) o pass.new) }
+        ensures told { IfOk result (λ o. IsTurned pass.old.row.lent (length N.first) pass.old o pass.new) }
         ensures named { result ≡ Err LogRefusal.Unnamed → ⊥ }
+        ensures lent { is_some pass.old.row.lent ≡ true → result ≡ Ok Outcome.Stalled }
         ensures err { OnErr result (pass.new ≡ pass.old) }
         ensures processor { pass.new.processor ≡ pass.old.processor }
     {
-        pass.make_room();
+        pass.make_room(1);
         self.take(rt).turn(pass)
+    }
+
+    /// Lends the core of the pass's processor: it can take so many local instructions at most, without the lock. As many places are
+    /// promised in the log.
+    ///
+    /// # Errors
+    ///
+    /// [`LendRefusal::NotFree`] where the processor has a reference open, does not run, or its core is lent; else
+    /// [`LendRefusal::Full`] where the log would pass [`steps::MAX_STEPS`] steps with all that are promised; else
+    /// [`LendRefusal::Memory`]. Each leaves all as it was.
+    #[inline(always)]
+    pub fn lend<R: Wait>(
+        &self,
+        rt: &R,
+        alloc: Global,
+        pass: &mut Pass<N>,
+        most: u32,
+    ) -> Result<Loan<N>, LendRefusal>
+        requires some { 1 ≤ most }
+        requires few { most ≤ 1024 }
+        ensures lent { IfOk result (λ loan. IsLentOn pass.old most loan pass.new) }
+        ensures away { is_some pass.old.row.lent ≡ true → result ≡ Err LendRefusal.NotFree }
+        ensures err { OnErr result (pass.new ≡ pass.old) }
+        ensures processor { pass.new.processor ≡ pass.old.processor }
+    {
+        let list = Retirements::new(alloc, most).ok();
+        // (a turn of the same round has room then, too)
+        pass.make_warm_room(most as usize + 1);
+        self.take(rt).lend(pass, most, list)
+    }
+
+    /// Takes a loan back that was lent on the pass: a turn of the processor is entered for each instruction that it has retired, and told
+    /// to the pass. The places that were promised beyond these are free again. No memory is taken.
+    ///
+    /// # Errors
+    ///
+    /// The loan, where the core was not lent as its record says. Then nothing is changed.
+    #[inline(always)]
+    pub fn give_back<R: Wait>(
+        &self,
+        rt: &R,
+        pass: &mut Pass<N>,
+        loan: Loan<N>,
+    ) -> Result<(), Loan<N>>
+        requires { IsLoanOf pass.old loan }
+        ensures back { OnOk result (IsReturned (length N.first) pass.old loan.retired pass.new) }
+        ensures handed { IfErr result (λ handed. handed ≡ loan) }
+        ensures err { OnErr result (pass.new ≡ pass.old) }
+        ensures processor { pass.new.processor ≡ pass.old.processor }
+    {
+        self.take(rt).give_back(pass, loan)
     }
 
     /// Takes one move of the network, or one service by a module, and enters it in the log unless it stalled. The answer is
@@ -123,8 +176,8 @@ impl<N: Run> Shared<N> {
         self.take(rt).net(pass, step)
     }
 
-    /// Takes a turn as [`Shared::turn`] does and then, unless that has stopped the processor, a step of the network as
-    /// [`Shared::net`] does, with no other thread's step between them.
+    /// Takes a turn of the pass's processor, as [`Shared::turn`] does and then, unless that has stopped the processor, a step of the
+    /// network as [`Shared::net`] does, with no other thread's step between them.
     ///
     /// # Errors
     ///
@@ -141,14 +194,33 @@ impl<N: Run> Shared<N> {
         ensures err { OnErr result (pass.new ≡ pass.old) }
         ensures processor { pass.new.processor ≡ pass.old.processor }
     {
-        pass.make_room();
+        pass.make_room(1);
+        self.take(rt).round(pass, step)
+    }
+
+    /// Takes a loan back, as [`Shared::give_back`] does, and then a round, as [`Shared::round`] does, with no other thread's step between them.
+    /// The answer is that of the round.
+    ///
+    /// # Errors
+    ///
+    /// The loan, where the core was not lent as its record says. Then nothing is changed, and no turn is asked for.
+    #[inline(always)]
+    pub fn end_loan<R: Wait>(
+        &self,
+        rt: &R,
+        pass: &mut Pass<N>,
+        loan: Loan<N>,
+        step: Step,
+    ) -> Result<Result<Round, LogRefusal>, Loan<N>>
+        requires { IsLoanOf pass.old loan }
+        ensures told { IfOk result (λ answer. HasEnded (length N.first) N.opening.config pass.old loan.retired answer step pass.new) }
+        ensures handed { IfErr result (λ handed. handed ≡ loan) }
+        ensures err { OnErr result (pass.new ≡ pass.old) }
+        ensures processor { pass.new.processor ≡ pass.old.processor }
+    {
         let mut desk = self.take(rt);
-        let turn = desk.turn(pass)?;
-        if is_stop(&turn) {
-            return Ok(Round { turn, net: None });
-        }
-        let net = Some(desk.net(pass, step));
-        Ok(Round { turn, net })
+        desk.give_back(pass, loan)?;
+        Ok(desk.round(pass, step))
     }
 
     /// The desk, once no other thread has it.
@@ -181,7 +253,7 @@ impl<N: Run> Shared<N> {
         self.desk.lock(rt)
     }
 
-    /// The logged machine, once all passes are back, in their order.
+    /// The logged machine, once all passes are back, in their order. A core that is still lent is put back as it was lent.
     pub fn gather(self, mut passes: Vec<Pass<N>>) -> (Logged, Vec<Pass<N>>)
         requires { IsWhole N.count passes.items }
         ensures passes { result.1.items ≡ passes.items }

@@ -1,13 +1,13 @@
 //! What a pass stores, and how it is told of an answer.
 
-ghost use Rattle.std.specs.Prelude.{◌≡◌, ℕ, ◌<◌, ◌+◌, ◌^◌, ◌++◌, true, Some, vec_len, vec_capacity};
+ghost use Rattle.std.specs.Prelude.{◌≡◌, ℕ, ◌<◌, ◌≤◌, ◌+◌, ◌^◌, ◌++◌, true, length, Some, vec_len, vec_capacity};
 ghost use Rattle.machine_passes.specs.Lists.{given_to, is_turn_of};
-ghost use Rattle.machine_passes.specs.Rows.{counted, told};
+ghost use Rattle.machine_passes.specs.Rows.{counted, told, told_all};
 ghost use Rattle.machine_passes.specs.Passes.{row_of};
 
 use crate::kinds::{counts, is_turn_of};
 use crate::row::{Answer, Notice};
-use flat_machine::Event;
+use flat_machine::{Cause, Event, Retired};
 use steps::{Outcome, Step};
 
 /// What a pass stores: the [`crate::Row`] of its processor.
@@ -16,14 +16,43 @@ pub struct Stored {
     pub(crate) notices: Vec<Notice>,
     pub(crate) steps: u32,
     pub(crate) last: Option<Answer>,
+    pub(crate) lent: Option<u32>,
 }
 
+/// What a notice is written over with that is to come.
+const BLANK: Notice = Notice {
+    event: Event::Stopped(Cause::Halt(0)),
+    place: 0,
+};
+
 impl Stored {
-    /// Makes room for a notice more, if there is memory for it.
-    pub(crate) fn make_room(&mut self)
-        ensures { row_of self.new ≡ row_of self.old }
+    /// Makes room for so many notices more, if there is memory for them.
+    pub(crate) fn make_room(&mut self, notices: usize)
+        ensures row { row_of self.new ≡ row_of self.old }
+        ensures capacity { vec_capacity self.old.notices ≤ vec_capacity self.new.notices }
     {
-        let _ = self.notices.reserve(1);
+        let _ = self.notices.reserve(notices);
+    }
+
+    /// Makes room for so many notices more, if there is memory for them, and writes there: the system gives memory where it is first
+    /// written, which takes as long as a dozen notices, and is not to be waited for under the lock.
+    pub(crate) fn make_warm_room(&mut self, notices: usize)
+        ensures row { row_of self.new ≡ row_of self.old }
+        ensures capacity { vec_capacity self.old.notices ≤ vec_capacity self.new.notices }
+    {
+        let count = self.notices.len();
+        if self.notices.reserve(notices).is_ok() {
+            let _ = self.notices.resize(count + notices, BLANK);
+            self.notices.truncate(count);
+        }
+    }
+
+    /// Whether there is room for so many notices more.
+    #[inline(always)]
+    pub(crate) fn has_room_for(&self, notices: usize) -> bool
+        ensures { result ≡ true → vec_len self.now.notices + notices ≤ vec_capacity self.now.notices }
+    {
+        self.notices.capacity() - self.notices.len() >= notices
     }
 
     /// Whether there is room for what the step can give.
@@ -53,7 +82,8 @@ impl Stored {
     pub(crate) fn tell(&mut self, processor: u8, step: Step, outcome: &Outcome, place: u32)
         requires room { (p : ℕ) → is_turn_of p step ≡ true → vec_len self.old.notices < vec_capacity self.old.notices }
         requires steps { self.old.steps + 1 < 2 ^ 32 }
-        ensures { row_of self.new ≡ told processor (row_of self.old) step outcome.now place }
+        ensures row { row_of self.new ≡ told processor (row_of self.old) step outcome.now place }
+        ensures capacity { vec_capacity self.new.notices ≡ vec_capacity self.old.notices }
     {
         append(&mut self.notices, processor, step, outcome, place);
         self.steps += counts(outcome);
@@ -66,11 +96,34 @@ impl Stored {
     }
 }
 
+impl Stored {
+    /// Stores that turns of this processor have retired these instructions, from a place on. There is room for them.
+    #[inline(always)]
+    pub(crate) fn tell_all(&mut self, processor: u8, retired: &[Retired], place: u32)
+        requires room { vec_len self.old.notices + length retired.now ≤ vec_capacity self.old.notices }
+        requires steps { self.old.steps + length retired.now < 2 ^ 32 }
+        requires places { place + length retired.now < 2 ^ 32 }
+        ensures { row_of self.new ≡ told_all processor (row_of self.old) place retired.now }
+    {
+        let mut place = place;
+        for &retired in retired {
+            self.tell(
+                processor,
+                Step::Turn(processor),
+                &Outcome::Retired(retired),
+                place,
+            );
+            place += 1;
+        }
+    }
+}
+
 // Appends what the step gave the processor. There is room for it.
 #[inline(always)]
 fn append(notices: &mut Vec<Notice>, processor: u8, step: Step, outcome: &Outcome, place: u32)
     requires room { (p : ℕ) → is_turn_of p step ≡ true → vec_len notices.old < vec_capacity notices.old }
-    ensures { notices.new.items ≡ notices.old.items ++ given_to processor place step outcome.now }
+    ensures given { notices.new.items ≡ notices.old.items ++ given_to processor place step outcome.now }
+    ensures capacity { vec_capacity notices.new ≡ vec_capacity notices.old }
 {
     if !is_turn_of(processor, step) {
         return;

@@ -1,3 +1,4 @@
 pub mod Functions
 pub mod References
+pub mod Away
 pub mod Lemmas

@@ -1,11 +1,12 @@
 -- A processor at its port, and what its turns do.
-use Rattle.std.specs.Prelude.{ℕ, ◌%◌, Bool, true, false, List, Result, Ok, Err}
+use Rattle.std.specs.Prelude.{ℕ, ◌%◌, ◌==◌, Bool, true, false, List, [], length, Option, Some, None, Result, Ok, Err}
 use Rattle.rv_table.specs.declared.insn.Insn.{Insn}
 use Rattle.phi_algebra.specs.declared.phi.Phi.{Phi}
 use Rattle.phi_algebra.specs.declared.phi.Phi.TheVariants.{Add}
 use Rattle.hart.specs.phi_instructions.Table.{load_phi, store_phi, amo_phi}
 use Rattle.flat_machine.specs.declared.effect.Effect.{Effect}
 use Rattle.flat_machine.specs.declared.effect.Effect.TheVariants as does
+use Rattle.flat_machine.specs.declared.event.Status.TheVariants.{Halted}
 use Rattle.flat_machine.specs.declared.fault.Fault.{Fault}
 use Rattle.flat_machine.specs.declared.setting.Setting.{Setting}
 use Rattle.flat_machine.specs.Operations.{store_size}
@@ -16,7 +17,25 @@ use Rattle.hart.specs.State.{CoreState}
 use Rattle.machine_ports.specs.declared.begun.Begun.{Begun}
 use Rattle.machine_ports.specs.declared.begun.Begun.TheVariants.{Retired, Referred, Stopped}
 
+-- ---- cores that are away
+
+-- what is read where no core is: a processor that never runs
+abbrev pub no_processor : Processor
+no_processor = record { pc = 0; registers = []; local = []; status = Halted 0 }
+
+-- whether a core is away: where one is at home, its processor has registers
+abbrev pub is_away : Processor → Bool
+is_away p = length p.registers == 0
+
+-- what is seen of a core at its port, or where it is away
+abbrev pub seen_core : Setting → Option CoreState → CoreState
+seen_core setting (Some core) = core
+seen_core setting None = record { setting = setting; state = no_processor }
+
+-- ---- ports
+
 pub record PortState : Type 0 where
+  -- that of a processor that never runs, where it is away
   pub core : CoreState
   -- it has sent a request, and its instruction has not retired
   pub is_open : Bool

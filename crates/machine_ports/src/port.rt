@@ -1,35 +1,41 @@
 //! A port.
 
 ghost use Rattle.std.specs.Prelude.{◌≡◌, ℕ, ◌<◌, ◌≤◌, ◌^◌, ◌%◌, true, false, List, length, IfOk, Some, None, if◌then◌else◌, slice_get, slice_index};
+ghost use Rattle.std.specs.Option.{option_copied};
 ghost use Rattle.flat_machine.specs.State.{is_running, status_of};
 ghost use Rattle.flat_machine.specs.Flat.{is_lawful_register, with_poked_byte, with_poked_register};
 ghost use Rattle.flat_machine.specs.Memory.{in_local};
 ghost use Rattle.hart.specs.State.{new_core};
 ghost use Rattle.hart.specs.Deciding.{IsReference, after_reply};
-ghost use Rattle.machine_ports.specs.Ports.{begun, turn, with_state};
+ghost use Rattle.machine_ports.specs.Ports.{begun, is_away, no_processor, turn, with_state};
 ghost use Rattle.machine_ports.specs.declared.begun.Begun.TheVariants as begins;
 
 use crate::begun::Begun;
 use flat_machine::{Cause, LOCAL_START, PC, REGION_BYTES, Retired, Setting, Status};
-use hart::{Core, Taken};
+use hart::{Core, Taken, core_has_registers};
 use local_memory::Code;
 use rv_table::Register;
 use std::alloc::{AllocError, Global};
 use std::marker::Model;
 
-/// A processor's port, seen as a `PortState`.
+/// A processor's port, seen as a `PortState`. Its core may be away.
 #[derive(Drop)]
 pub struct Port {
-    core: Core,
+    /// What the core knows of its machine, wherever it is.
+    setting: Setting,
+    core: Option<Core>,
     is_open: bool,
 }
 
 impl Model for Port {
-    ghost use Rattle.machine_ports.specs.Ports.{PortState};
+    ghost use Rattle.std.specs.Prelude.{◌≡◌};
+    ghost use Rattle.machine_ports.specs.Ports.{PortState, seen_core};
 
     ghost Value = { PortState };
 
-    ghost view = { λ p. record { core = p.core; is_open = p.is_open } };
+    ghost view = { λ p. record { core = seen_core p.setting p.core; is_open = p.is_open } };
+
+    ghost invariant = { λ p. (seen_core p.setting p.core).setting ≡ p.setting };
 }
 
 impl Port {
@@ -46,7 +52,8 @@ impl Port {
         ensures { IfOk result (λ port. port ≡ record { core = new_core setting pc local.now; is_open = false }) }
     {
         Ok(Port {
-            core: Core::new(alloc, setting, pc, local)?,
+            setting,
+            core: Some(Core::new(alloc, setting, pc, local)?),
             is_open: false,
         })
     }
@@ -58,18 +65,58 @@ impl Port {
         self.is_open
     }
 
-    /// Whether the processor runs.
+    /// Whether the processor runs, and its core is here.
     pub fn is_running(&self) -> bool
         ensures { result ≡ is_running self.now.core.state.status }
     {
-        self.core.status() == Status::Running
+        match &self.core {
+            Some(core) => core.status() == Status::Running,
+            None => false,
+        }
     }
 
-    /// The processor's core.
-    pub fn core(&self) -> &Core
-        ensures { result.now ≡ self.now.core }
+    /// Whether the core is away.
+    pub fn is_away(&self) -> bool
+        ensures { result ≡ is_away self.now.core.state }
     {
-        &self.core
+        match &self.core {
+            Some(core) => {
+                core_has_registers(core);
+                false
+            }
+            None => true,
+        }
+    }
+
+    /// The processor's core. None where it is away.
+    pub fn core(&self) -> Option<&Core>
+        ensures { option_copied result ≡ (if is_away self.now.core.state then None else Some self.now.core) }
+    {
+        match &self.core {
+            Some(core) => {
+                core_has_registers(core);
+                Some(core)
+            }
+            None => None,
+        }
+    }
+
+    /// Takes the core out. None where it is away.
+    pub fn take_core(&mut self) -> Option<Core>
+        ensures core { result ≡ (if is_away self.old.core.state then None else Some self.old.core) }
+        ensures away { self.new ≡ with_state self.old no_processor }
+    {
+        let core = self.core.take()?;
+        core_has_registers(&core);
+        Some(core)
+    }
+
+    /// Puts a core of this processor in.
+    pub fn put_core(&mut self, core: Core)
+        requires setting { core.setting ≡ self.old.core.setting }
+        ensures { self.new ≡ record self.old { core = core } }
+    {
+        self.core = Some(core);
     }
 
     /// Begins a turn: the instruction is done, or stops the processor, or refers to a shared word,
@@ -83,24 +130,18 @@ impl Port {
         ensures begun { result ≡ (begun self.old code.now (turn self.old code.now)).0 }
         ensures after { self.new ≡ (begun self.old code.now (turn self.old code.now)).1 }
     {
-        match self.core.take(code) {
+        let Some(core) = &mut self.core else {
+            unreachable!()
+        };
+        match core.take(code) {
             Taken::Retired(retired) => Begun::Retired(retired),
             Taken::Refers { word, phi } => {
                 self.is_open = true;
                 Begun::Referred { word, phi }
             }
-            Taken::Halts(byte) => self.stop(Cause::Halt(byte)),
-            Taken::Faults(fault) => self.stop(Cause::Fault(fault)),
+            Taken::Halts(byte) => stop(core, Cause::Halt(byte)),
+            Taken::Faults(fault) => stop(core, Cause::Fault(fault)),
         }
-    }
-
-    /// The processor stops.
-    fn stop(&mut self, cause: Cause) -> Begun
-        ensures begun { result ≡ begins.Stopped cause }
-        ensures after { self.new ≡ with_state self.old (record self.old.core.state { status = status_of cause }) }
-    {
-        self.core.stop(cause);
-        Begun::Stopped(cause)
     }
 
     /// Finishes the turn of an open port, with the word that its reference found.
@@ -111,35 +152,55 @@ impl Port {
         ensures setting { self.new.core.setting ≡ self.old.core.setting }
         ensures closed { self.new.is_open ≡ false }
     {
+        let Some(core) = &mut self.core else {
+            unreachable!()
+        };
         self.is_open = false;
-        self.core.retire(code, found)
+        core.retire(code, found)
     }
 
-    /// Writes register 1 to 31, or `pc` as 32, from outside. Answers whether that is lawful; else
-    /// nothing changes. A `pc` is divisible by 4.
+    /// Writes register 1 to 31, or `pc` as 32, of a core that is here, from outside. Answers whether
+    /// that is lawful; else nothing changes. A `pc` is divisible by 4.
     pub fn poke_register(&mut self, register: u8, value: u32) -> bool
+        requires home { is_away self.old.core.state ≡ false }
         ensures lawful { result ≡ is_lawful_register register value }
         ensures written { self.new ≡ (if is_lawful_register register value then with_state self.old (with_poked_register register value self.old.core.state)
             else self.old) }
     {
+        let Some(core) = &mut self.core else {
+            unreachable!()
+        };
         match register {
-            PC if value % 4 == 0 => self.core.set_pc(value),
-            1..PC => self.core.set_register(Register::new(register), value),
+            PC if value % 4 == 0 => core.set_pc(value),
+            1..PC => core.set_register(Register::new(register), value),
             _ => return false,
         }
         true
     }
 
-    /// Writes a byte of local memory from outside. Answers whether the address is one of local
-    /// memory; else nothing changes.
+    /// Writes a byte of the local memory of a core that is here, from outside. Answers whether the
+    /// address is one of local memory; else nothing changes.
     pub fn poke_byte(&mut self, address: u32, value: u8) -> bool
+        requires home { is_away self.old.core.state ≡ false }
         ensures lawful { result ≡ in_local address }
         ensures written { self.new ≡ (if in_local address then with_state self.old (with_poked_byte address value self.old.core.state) else self.old) }
     {
         if address / REGION_BYTES != LOCAL_START / REGION_BYTES {
             return false;
         }
-        self.core.set_byte(address, value);
+        let Some(core) = &mut self.core else {
+            unreachable!()
+        };
+        core.set_byte(address, value);
         true
     }
+}
+
+/// The processor stops.
+fn stop(core: &mut Core, cause: Cause) -> Begun
+    ensures begun { result ≡ begins.Stopped cause }
+    ensures after { core.new ≡ record core.old { state = record core.old.state { status = status_of cause } } }
+{
+    core.stop(cause);
+    Begun::Stopped(cause)
 }

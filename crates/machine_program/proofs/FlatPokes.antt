@@ -13,7 +13,7 @@ use Rattle.machine_ports.specs.flat_machine.Memory.{in_local, in_shared}
 use Rattle.machine_ports.specs.flat_machine.Laws.{WritesWords}
 use Rattle.machine_ports.specs.flat_machine.Words.{with_part}
 use Rattle.abstract_machine.specs.messages.Places.{put}
-use Rattle.machine_program.specs.Processors.{Told, no_processor, changed, poked_processors, poked_words, is_lawful_poke}
+use Rattle.machine_program.specs.Processors.{Told, no_processor, are_home, changed, may_poke, poked_processors, poked_words, is_lawful_poke}
 use Rattle.machine_program.specs.FlatSizes.{HasSize}
 use Rattle.machine_program.proofs.Reading.{read_set, found_within, told_changed}
 
@@ -24,6 +24,10 @@ cores_of F shown = λ p. record { state = slice_index_or F.processors p no_proce
 -- its words and its processors
 abbrev pub parts_of : FlatState → (shown : ℕ → List Event) → (ℕ → ℕ) × (ℕ → Told)
 parts_of F shown = (slice_index F.shared, cores_of F shown)
+
+-- what may be poked is lawful
+pub may_is_lawful : (c : Config) (core : ℕ → Told) (q : Poke) → may_poke c core q ≡ true → is_lawful_poke c q ≡ true
+may_is_lawful c core q h = (and_parts (are_home (2 ^ c.k) (λ p. (core p).state)) (is_lawful_poke c q) h).1
 
 module _ (c : Config) (code : List ℕ) where
   -- ---- what is written

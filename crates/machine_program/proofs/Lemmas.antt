@@ -1,11 +1,17 @@
 -- The lemmas that crates above may cite: they name no other file of these proofs.
 
+-- A step leaves each core where it is.
+pub use Rattle.machine_program.proofs.Away.{away_in, cores_stay, ports_stay}
 -- What a lawful poke writes is what it writes of the flat machine.
-pub use Rattle.machine_program.proofs.FlatPokes.{lawful_same, lawful_writes, parts_of, size_written, written_agrees}
+pub use Rattle.machine_program.proofs.FlatPokes.{lawful_same, lawful_writes, may_is_lawful, parts_of, size_written, written_agrees}
 -- Moves of messages are steps of the machine.
 pub use Rattle.machine_program.proofs.MoveSteps.{goes_down, goes_up, no_stage_down, no_stage_up, no_wire_down, no_wire_up}
 -- Writes from outside are steps of the machine.
-pub use Rattle.machine_program.proofs.PokeSteps.{byte_poked, not_idle, register_poked, shut_all, unlawful, word_poked}
+pub use Rattle.machine_program.proofs.PokeSteps.{are_home_is, byte_poked, home_all, not_home, not_idle, register_poked, shut_all, unlawful, word_poked}
+-- The ports with one of them changed, read as functions of processors' numbers.
+pub use Rattle.machine_program.proofs.PortSets.{core_changed, open_kept, put_self}
+-- Cores that are put in their places: of two the last counts, and what is true of the messages stays true.
+pub use Rattle.machine_program.proofs.Putting.{last_counts, put_swap, put_twice, stays_put, steady_with}
 -- Lists, read as functions of places.
 pub use Rattle.machine_program.proofs.Reading.{found_within, read_found, read_none, read_set, told_set}
 -- Services are steps of the machine.

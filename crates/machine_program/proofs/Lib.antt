@@ -6,5 +6,7 @@ pub mod MoveSteps
 pub mod ServeSteps
 pub mod PokeSteps
 pub mod FlatPokes
+pub mod Away
+pub mod Putting
 pub mod Standing
 pub mod Lemmas

@@ -1,5 +1,6 @@
 pub mod Theory
 pub mod Processors
+pub mod Cores
 pub mod FlatSizes
 pub mod Steps
 pub mod Turning

@@ -1,10 +1,10 @@
 -- The processors of the machine, as the theory of serialization asks for them. What a turn of each does is the flat
 -- machine's definition; nothing is said of it a second time.
-use Rattle.std.specs.Prelude.{ℕ, ◌-◌, ◌/◌, ◌%◌, ◌^◌, Bool, false, ◌&&◌, List, [], ◌∷◌, ◌++◌, Option, Some, None, nat_lt, slice_index, slice_index_or}
+use Rattle.std.specs.Prelude.{ℕ, zero, suc, ◌-◌, ◌/◌, ◌%◌, ◌^◌, Bool, true, false, ◌&&◌, not, List, [], ◌∷◌, ◌++◌, Option, Some, None, nat_lt, slice_index}
+use Rattle.std.specs.Prelude.{slice_index_or}
 use Rattle.std.specs.Prelude.{if◌then◌else◌}
 use Rattle.machine_ports.specs.flat_machine.declared.config.Config.{Config}
 use Rattle.machine_ports.specs.flat_machine.declared.setting.Setting.{Setting}
-use Rattle.machine_ports.specs.flat_machine.declared.event.Status.TheVariants.{Halted}
 use Rattle.machine_ports.specs.flat_machine.declared.event.Event.{Event}
 use Rattle.machine_ports.specs.flat_machine.declared.event.Event.TheVariants as event
 use Rattle.machine_ports.specs.flat_machine.declared.event.Retired as retirement
@@ -16,7 +16,8 @@ use Rattle.machine_ports.specs.flat_machine.Memory.{in_local, in_shared}
 use Rattle.machine_ports.specs.flat_machine.Turns.{Turn, Retires, Reaches, Stops, turn_of}
 use Rattle.machine_ports.specs.flat_machine.Flat.{is_lawful_register, with_poked_register, with_poked_byte}
 use Rattle.machine_ports.specs.hart.Deciding.{after_reply}
-use Rattle.machine_ports.specs.Ports.{PortState, reference_phi}
+use Rattle.machine_ports.specs.Ports.{PortState, is_away, reference_phi}
+pub use Rattle.machine_ports.specs.Ports.{no_processor}
 use Rattle.abstract_machine.specs.messages.Places.{put}
 use Rattle.abstract_machine.specs.messages.Network.{Sizes}
 use Rattle.abstract_machine.specs.Program.{Kind, Rests, Alone, Refers}
@@ -29,10 +30,6 @@ sizes_of c = record { k = c.k; c = c.c; b = c.b; r = c.r }
 -- what processor p of a machine of this size knows of it
 abbrev pub setting_of : Config → ℕ → Setting
 setting_of c p = record { number = p; processors = 2 ^ c.k; shared_words = c.shared_words }
-
--- what is read where no processor is: one that never runs
-abbrev pub no_processor : Processor
-no_processor = record { pc = 0; registers = []; local = []; status = Halted 0 }
 
 -- what is read where no port is
 abbrev pub no_port : PortState
@@ -89,11 +86,20 @@ retired_by g (Some done) = shows g done.0 (event.Retired done.1)
 
 -- ---- pokes
 
+-- none of the first n cores is away, where the processors stand like this
+unfoldable pub are_home : ℕ → (ℕ → Processor) → Bool
+are_home zero states = true
+are_home (suc n) states = not (is_away (states n)) && are_home n states
+
 -- The value is a word or a byte, the processor is there, and so is what is written.
 abbrev pub is_lawful_poke : Config → Poke → Bool
 is_lawful_poke c (poke.Register p register value) = nat_lt value (2 ^ 32) && (nat_lt p (2 ^ c.k) && is_lawful_register register value)
 is_lawful_poke c (poke.Local p address value) = nat_lt value 256 && (nat_lt p (2 ^ c.k) && in_local address)
 is_lawful_poke c (poke.Shared address value) = nat_lt value 256 && in_shared c.shared_words address
+
+-- a lawful poke is done where no core is away
+abbrev pub may_poke : Config → (ℕ → Told) → Poke → Bool
+may_poke c core q = are_home (2 ^ c.k) (λ p. (core p).state) && is_lawful_poke c q
 
 abbrev pub changed : (Processor → Processor) → Told → Told
 changed change g = record { state = change g.state; events = g.events }
@@ -123,7 +129,7 @@ module _ (c : Config) (code : List ℕ) where
     word_of = λ p g. word_by (next p g.state);
     phi_of = λ p g. reference_phi (setting_of c p) code g.state;
     retire = λ p g found. retired_by g (after_reply (next p g.state) found);
-    is_lawful = λ cores. is_lawful_poke c;
+    is_lawful = λ core q. may_poke c core q;
     poked_core = poked_processors;
     poked_mem = poked_words;
     entry = entries;

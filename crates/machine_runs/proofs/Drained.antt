@@ -16,7 +16,7 @@ use Rattle.machine_theorem.specs.machine_program.Processors.{Told, sizes_of, pro
 use Rattle.machine_theorem.specs.machine_program.Steps.{named, outcome_of, after, machine_of_parts}
 use Rattle.machine.specs.Machines.{MachineLists, machine_of, IsIdle, IsMachine, IsStep}
 use Rattle.machine_runs.specs.Runs.{all_after, events_of, IsRun}
-use Rattle.machine_runs.specs.Draining.{step_of, some_step, step_in, network_step, drain_step, GoesOn, drain_bound, first_steps, drain_steps, IsDrained}
+use Rattle.machine_runs.specs.Draining.{step_of, some_step, step_in, network_step, drain_step, BringsNearer, drain_bound, first_steps, drain_steps, IsDrained}
 use Rattle.machine_runs.proofs.Running.{all_after_more, run_begins, run_more}
 use Rattle.machine.proofs.Lemmas.{keeps}
 
@@ -47,7 +47,7 @@ module _ (m : MachineLists) (is : IsMachine m) where
   room = is.limits.answers
 
   -- the step that is named does something, and lowers the sum of the distances
-  pub goes_on : (s : Step) → drain_step m ≡ Some s → GoesOn m s
+  pub goes_on : (s : Step) → drain_step m ≡ Some s → BringsNearer m s
   unfolding outcome_of after machine_of_parts
   goes_on s names =
       let M : theory.Machine Told = machine_of m (λ p. []) in
@@ -66,7 +66,7 @@ module _ (m : MachineLists) (is : IsMachine m) where
         nearer = nearer;
       }
 
-  pub named_goes_on : (o : Option Step) → o ≡ drain_step m → IfSome o (GoesOn m)
+  pub named_goes_on : (o : Option Step) → o ≡ drain_step m → IfSome o (BringsNearer m)
   named_goes_on None e = tt
   named_goes_on (Some s) e = goes_on s (sym e)
 

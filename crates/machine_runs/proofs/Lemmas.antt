@@ -11,6 +11,8 @@ pub use Rattle.machine_runs.proofs.Lone.{FirstTurn, IsAnswered, IsAsking, IsLone
 pub use Rattle.machine_runs.proofs.Replaying.{outcome_there, replay_begins, replay_kept, replay_more, stalled_is}
 -- Runs of the machine, and the theorem for them.
 pub use Rattle.machine_runs.proofs.Running.{all_after_more, passes_machine, serialized, shown_is}
+-- Whatever steps a machine takes, the same cores are away.
+pub use Rattle.machine_runs.proofs.Staying.{run_home, run_stays}
 -- One instruction at a time: the flat machine's step.
 pub use Rattle.machine_runs.proofs.Whole.{IsGoingHome, few_moves, home_begins, home_goes_on, home_in_time, home_now, sent_is_short, steps_back, turn_whole}
 -- Lemmas of lower crates, passed on to those above.

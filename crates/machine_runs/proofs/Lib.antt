@@ -10,4 +10,5 @@ mod Grouping
 mod Ordering
 mod Cutting
 mod Telling
+pub mod Staying
 pub mod Lemmas

@@ -35,7 +35,7 @@ use Rattle.steps.specs.declared.step.Step.{Step}
 use Rattle.steps.specs.declared.step.Step.TheVariants as step
 use Rattle.steps.specs.declared.step.Outcome.{Outcome}
 use Rattle.machine.specs.machine_ports.Ports.{PortState}
-use Rattle.machine_theorem.specs.machine_program.Processors.{Told, no_port, sizes_of, kind_of, next, program, is_lawful_poke, port_at}
+use Rattle.machine_theorem.specs.machine_program.Processors.{Told, no_port, sizes_of, kind_of, next, program, may_poke, port_at}
 use Rattle.machine_theorem.specs.Flatness.{IsGood}
 use Rattle.machine_theorem.specs.machine_program.Steps.{named, taken, answer_of, told_of_turn, told_of_reply, outcome_of, after, machine_of_parts}
 use Rattle.machine_theorem.proofs.Lemmas.{keeps}
@@ -136,7 +136,7 @@ module _ (c : Config) (code : List ℕ) (M : Machine Told) where
   tells (step.Down s w) =
       either (step.Down s w) false (nat_lt w (2 ^ c.k)) (went_down M (moved_down (sizes_of c) M.net s w)) (goes_down s w (moved_down (sizes_of c) M.net s w))
   tells (step.Poke q) =
-      either (step.Poke q) false (all_shut (2 ^ c.k) M.is_open && is_lawful_poke c q) (poked (program c code) M q) (same_itself (theory.Poked q))
+      either (step.Poke q) false (all_shut (2 ^ c.k) M.is_open && may_poke c M.core q) (poked (program c code) M q) (same_itself (theory.Poked q))
 
 -- ---- an outcome does not depend on what the processors have shown
 
@@ -195,7 +195,7 @@ module _ (c : Config) (code : List ℕ) where
         (alike_serve m (M.net.requests c.k m) (M.net.replies c.k m))
     alike (step.Down s w) = alike_if M M' (nat_lt w (2 ^ c.k)) (went_down M (moved_down (sizes_of c) M.net s w))
         (went_down M' (moved_down (sizes_of c) M.net s w)) (alike_down (moved_down (sizes_of c) M.net s w))
-    alike (step.Poke q) = alike_if M M' (all_shut (2 ^ c.k) M.is_open && is_lawful_poke c q) (poked (program c code) M q) (poked (program c code) M' q) refl
+    alike (step.Poke q) = alike_if M M' (all_shut (2 ^ c.k) M.is_open && may_poke c M.core q) (poked (program c code) M q) (poked (program c code) M' q) refl
 
 -- ---- distinct numbers below n are n at most
 

@@ -24,7 +24,7 @@ use Rattle.machine_theorem.specs.abstract_machine.Machine.{Machine, retire_from,
 use Rattle.steps.specs.declared.step.Step.{Step}
 use Rattle.steps.specs.declared.step.Step.TheVariants as step
 use Rattle.machine_theorem.specs.machine_program.Theory.{Result, stalled, went_up, went_down, serve_from}
-use Rattle.machine_theorem.specs.machine_program.Processors.{Told, sizes_of, kind_of, next, program, is_lawful_poke, retired_by, alone_by, poked_processors}
+use Rattle.machine_theorem.specs.machine_program.Processors.{Told, sizes_of, kind_of, next, program, may_poke, retired_by, alone_by, poked_processors}
 use Rattle.machine_theorem.specs.machine_program.Processors.{poked_words}
 use Rattle.machine_theorem.specs.machine_program.Steps.{taken, answer_of, outcome_of, after}
 use Rattle.machine.proofs.Lemmas.{retell}
@@ -120,7 +120,7 @@ module _ (c : Config) (code : List ℕ) (M : Machine Told) (shown told : ℕ →
       (serve_from (sizes_of c) M m (M.net.requests c.k m) (M.net.replies c.k m)) (serves m (M.net.requests c.k m) (M.net.replies c.k m))
   same (step.Down s w) = either (nat_lt w (2 ^ c.k)) (went_down R (moved_down (sizes_of c) M.net s w)) (went_down M (moved_down (sizes_of c) M.net s w))
       (goes_down (moved_down (sizes_of c) M.net s w))
-  same (step.Poke q) = either (all_shut (2 ^ c.k) M.is_open && is_lawful_poke c q) (poked (program c code) R q) (poked (program c code) M q) (
+  same (step.Poke q) = either (all_shut (2 ^ c.k) M.is_open && may_poke c M.core q) (poked (program c code) R q) (poked (program c code) M q) (
     refl,
     retell_cores told M.net (poked_words q M.mem) M.is_open (poked_processors q R.core) (poked_processors q M.core)
         (poked_states q R.core M.core (λ p. refl)),

@@ -34,7 +34,7 @@ use Rattle.machine_theorem.specs.serialization.Order.{from_machine}
 use Rattle.steps.specs.declared.step.Step.{Step}
 use Rattle.steps.specs.declared.step.Step.TheVariants as step
 use Rattle.steps.specs.declared.step.Outcome.{Outcome}
-use Rattle.machine_theorem.specs.machine_program.Processors.{Told, sizes_of, kind_of, next, program, is_lawful_poke, retired_by, alone_by, changed}
+use Rattle.machine_theorem.specs.machine_program.Processors.{Told, sizes_of, kind_of, next, program, may_poke, retired_by, alone_by, changed}
 use Rattle.machine_theorem.specs.machine_program.Steps.{named, taken, answer_of, told_of_turn, told_of_reply, outcome_of, after, with_shown}
 use Rattle.machine_theorem.specs.Explained.{IsExplained, flat_after}
 use Rattle.machine_theorem.proofs.Lemmas.{runs_are_explained}
@@ -137,7 +137,7 @@ module _ (c : Config) (code : List ℕ) (M : Machine Told) where
       (serves m (M.net.requests c.k m) (M.net.replies c.k m))
   taken_tells (step.Down s w) =
       either (step.Down s w) (nat_lt w (2 ^ c.k)) (went_down M (moved_down (sizes_of c) M.net s w)) (goes_down s w (moved_down (sizes_of c) M.net s w))
-  taken_tells (step.Poke q) = either (step.Poke q) (all_shut (2 ^ c.k) M.is_open && is_lawful_poke c q) (poked (program c code) M q) (pokes q)
+  taken_tells (step.Poke q) = either (step.Poke q) (all_shut (2 ^ c.k) M.is_open && may_poke c M.core q) (poked (program c code) M q) (pokes q)
 
   step_tells : (s : Step) → events_of (after c code M s) ≡ with_shown (events_of M) s (outcome_of c code M s)
   unfolding after outcome_of

@@ -45,7 +45,7 @@ drain_step m = some_step (draining.drain_step (sizes_of m.config) (machine_of m 
 
 -- It does something, and brings the references that are open nearer to their ends: whatever the distances of all of them are
 -- before and after it, their sum falls.
-pub record GoesOn (m : MachineLists) (s : Step) : Type 0 where
+pub record BringsNearer (m : MachineLists) (s : Step) : Type 0 where
   pub moves : outcome_of m.config m.code (machine_of m (λ p. [])) s ≡ Stalled → ⊥
   pub nearer : (f g : ℕ → ℕ) →
       draining.AreDistances (sizes_of m.config) (machine_of m (λ p. [])) f →

@@ -10,7 +10,7 @@ use Rattle.steps.specs.declared.step.Outcome.TheVariants.{Stalled}
 use Rattle.machine_theorem.specs.machine_program.Processors.{Told, port_at, open_at, word_at}
 use Rattle.machine_theorem.specs.Flatness.{with_events}
 use Rattle.machine_theorem.specs.machine_program.Steps.{outcome_of, after, with_shown}
-use Rattle.machine.specs.Machines.{MachineLists, machine_of, IsIdle, IsMachine, IsStep}
+use Rattle.machine.specs.Machines.{MachineLists, away_at, machine_of, AreHome, IsIdle, IsMachine, IsStep}
 use Rattle.machine.specs.Openings.{flat_state}
 use Rattle.machine_runs.specs.Runs.{answer_after, IsRun, IsReplay, IsSerialized, passed}
 
@@ -56,6 +56,16 @@ AnswersForgetEvents = (m : MachineLists) (shown : ℕ → List Event) (s : Step)
 abbrev pub AnswersAreOfTheSteps : Type 0
 AnswersAreOfTheSteps = (opening machine : MachineLists) (steps : List Step) → IsRun opening steps machine → (s : Step) →
     outcome_of machine.config machine.code (machine_of machine (λ p. [])) s ≡ answer_after opening steps s
+
+-- ---- cores that are away
+
+-- Whatever steps a machine takes, the same cores are away:
+abbrev pub CoresStay : Type 0
+CoresStay = (opening machine : MachineLists) (steps : List Step) → IsRun opening steps machine → (p : ℕ) → away_at machine p ≡ away_at opening p
+
+-- if none was before, then none is after them.
+abbrev pub CoresStayHome : Type 0
+CoresStayHome = (opening machine : MachineLists) (steps : List Step) → IsRun opening steps machine → AreHome opening → AreHome machine
 
 -- ---- serialization
 

@@ -1,6 +1,7 @@
 //! What holds of all runs. Each law is the contract of a function that does nothing.
 
-ghost use Rattle.machine_runs.specs.Laws.{AnswersAreOfTheSteps, AnswersForgetEvents, EventsAreTold, FlatProcessorsAreRead, FlatWordsAreRead, ReplaysAreCut};
+ghost use Rattle.machine_runs.specs.Laws.{AnswersAreOfTheSteps, AnswersForgetEvents, CoresStay, CoresStayHome, EventsAreTold, FlatProcessorsAreRead};
+ghost use Rattle.machine_runs.specs.Laws.{FlatWordsAreRead, ReplaysAreCut};
 ghost use Rattle.machine_runs.specs.Laws.{ReplaysAreJoined, ReplaysBegin, RunsAreJoined, RunsAreSerialized, StallsAreNotEntered, StepsAreEntered};
 
 /// A replay begins with no step, and a step that is taken next stands at its end, unless it stalls.
@@ -25,6 +26,12 @@ pub fn replays_are_cut()
 pub fn answers_are_of_the_steps()
     ensures events { AnswersForgetEvents }
     ensures steps { AnswersAreOfTheSteps }
+{}
+
+/// Whatever steps a machine takes, the same cores are away after them as before.
+pub fn cores_stay_home()
+    ensures cores { CoresStay }
+    ensures home { CoresStayHome }
 {}
 
 /// From a machine in which no reference is open, one serial order of whole instructions explains

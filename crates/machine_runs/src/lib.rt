@@ -14,8 +14,8 @@ mod searching;
 mod serial_order;
 
 pub use laws::{
-    answers_are_of_the_steps, flat_states_are_read, replays_are_cut, replays_go_on,
-    runs_are_joined, runs_are_serialized,
+    answers_are_of_the_steps, cores_stay_home, flat_states_are_read, replays_are_cut,
+    replays_go_on, runs_are_joined, runs_are_serialized,
 };
 pub use machine::{Machine, NewError, machine_is_sound};
 pub use runs::{drain, drain_step, most_moves, one, order, run};

@@ -2,7 +2,7 @@
 
 ghost use Rattle.std.specs.Prelude.{◌≡◌, ◌↔◌, ℕ, None, IfOk, IfSome, OnOk, OnErr};
 ghost use Rattle.machine.specs.Machines.{MachineLists, IsIdle};
-ghost use Rattle.machine_runs.specs.Draining.{drain_bound, drain_step, GoesOn, IsDrained};
+ghost use Rattle.machine_runs.specs.Draining.{drain_bound, drain_step, BringsNearer, IsDrained};
 ghost use Rattle.machine_runs.specs.Ordering.{is_open_at};
 ghost use Rattle.machine_runs.specs.Runs.{IsRun, IsSerialized, passed};
 ghost use Rattle.machine_runs.specs.Whole.{IsOne, IsSent};
@@ -68,7 +68,7 @@ fn is_open_at(machine: &Machine, step: Step) -> bool
 /// The step that a drain takes next. None where no reference is open.
 pub fn drain_step(machine: &Machine) -> Option<Step>
     ensures next { result ≡ drain_step machine.now }
-    ensures goes_on { IfSome result (GoesOn machine.now) }
+    ensures goes_on { IfSome result (BringsNearer machine.now) }
     ensures none { (result ≡ None) ↔ IsIdle machine.now }
 {
     machine_is_sound(machine);

@@ -6,7 +6,7 @@ use Rattle.machine_runs.specs.Runs.{IsReplay, answer_after}
 use Rattle.machine_log.specs.Logs.{Log}
 use Rattle.machine_sweep.specs.Rounds.{round}
 use Rattle.machine_sweep.specs.Standing.{HasRunning}
-use Rattle.machine_sweep.specs.Sweeps.{EndsInFault, GoesOn, HasFollowed, IsFault, IsOver, RunsAfter, WasAskedRound, entered_of, rounds}
+use Rattle.machine_sweep.specs.Sweeps.{EndsInFault, IsUnderWay, HasFollowed, IsFault, IsOver, RunsAfter, WasAskedRound, entered_of, rounds}
 use Rattle.machine_sweep.specs.declared.sweeping.SweepEnd.TheVariants.{Over, Budget}
 use Rattle.machine_sweep.proofs.Asking.{none_asked, round_more, rounds_more}
 use Rattle.machine_sweep.proofs.Own.{own_asked, own_entered}
@@ -123,7 +123,7 @@ module _ (limit : ℕ) (old l new : Log) (f : IsFollowing limit old l) (size : l
   pub following_more : b ≡ false → IsFollowing limit old new
   following_more is = by g.whole
     where
-      g : GoesOn limit l r.part new
+      g : IsUnderWay limit l r.part new
       g = r.goes_on is
 
       sound : EndsInFault old.opening start new.steps → ⊥

@@ -105,7 +105,7 @@ pub record IsWholeRun (c : Config) (image : ImageContents) (most : ℕ) (end : S
 -- ---- a round
 
 -- A round was asked for, or a part of one, behind which there is no room; some step was entered, and the sweep is not over.
-pub record GoesOn (limit : ℕ) (old : Log) (part : ℕ) (new : Log) : Type 0 where
+pub record IsUnderWay (limit : ℕ) (old : Log) (part : ℕ) (new : Log) : Type 0 where
   pub running : RunsAfter old.opening new.steps
   pub sound : EndsInFault old.opening (length old.steps) new.steps → ⊥
   pub whole : (take part (round old.machine.config.k) ≡ round old.machine.config.k) ⊎ (limit ≤ length new.steps)
@@ -120,4 +120,4 @@ pub record WasAskedRound (limit : ℕ) (old : Log) (is_over : Bool) (new : Log) 
   pub few : length new.steps ≤ limit
   pub first : (place : ℕ) → length old.steps ≤ place → place < length new.steps → IsOver old.opening (length old.steps) (take place new.steps) → ⊥
   pub over : is_over ≡ true → IsOver old.opening (length old.steps) new.steps
-  pub goes_on : is_over ≡ false → GoesOn limit old part new
+  pub goes_on : is_over ≡ false → IsUnderWay limit old part new

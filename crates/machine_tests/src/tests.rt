@@ -22,9 +22,16 @@ use flat_machine::{CODE_START, Config, Poke, SHARED_START};
 use link::Meter;
 use machine_runs::Machine;
 use std::alloc::{AllocError, AllocGlobal, Global};
+use std::fmt::Debug;
 use std::process::Abort;
 use std::test::Fail;
 use steps::{Outcome, Step};
+use test_devices::assert_same;
+
+/// Ends the test where the two differ, and tells them and the case that they are of ([`assert_same!`]).
+fn same<T: PartialEq + Debug, A: Debug>(rt: &impl Abort, found: &T, wanted: &T, at: &A) {
+    assert_eq!(rt; found, wanted, "{at:?}");
+}
 
 /// The registers `a0`, `a1` and `a2`, and `pc` as a poke names it.
 const A0: u8 = 10;
@@ -94,7 +101,7 @@ fn image_of(
     assert!(rt; layout.local.len() <= 0x0001_0000);
     assert!(rt; layout.shared.len() <= 0x0010_0000);
     let mut writer = Meter::new(Vec::new(rt.alloc()));
-    assert_eq!(rt; write_image(&mut writer, layout), Ok(()));
+    assert_same!(rt; write_image(&mut writer, layout), Ok(()));
     let mut reader = Meter::new(writer.device.as_slice());
     Ok(read_image(rt.alloc(), &mut reader, config)?)
 }
@@ -121,7 +128,7 @@ fn register(processor: u8, register: u8, value: u32) -> Poke {
 
 /// Writes what a poke writes.
 fn poke(rt: &impl Abort, machine: &mut Machine, poke: Poke) {
-    assert_eq!(rt; machine.apply(Step::Poke(poke)), Outcome::Poked);
+    assert_same!(rt; machine.apply(Step::Poke(poke)), Outcome::Poked);
 }
 
 /// Writes a shared word, byte by byte, the lowest first.

@@ -20,7 +20,7 @@ use Rattle.serialization.proofs.Lemmas.messages.{put_other, put_same}
 use Rattle.serialization.specs.abstract_machine.Program.{Keeps, Alone, Refers}
 use Rattle.machine_program.specs.Processors.{Told, setting_of, kind_of, alone_by, retired_by, changed, poked_processors, poked_words, is_lawful_poke, next}
 use Rattle.machine_program.specs.Processors.{program}
-use Rattle.machine_program.proofs.Lemmas.{reaches_of, runs_by}
+use Rattle.machine_program.proofs.Lemmas.{may_is_lawful, reaches_of, runs_by}
 use Rattle.machine_theorem.specs.Flatness.{IsGood}
 use Rattle.machine_theorem.proofs.Flat.{MeansChange}
 
@@ -134,4 +134,10 @@ module _ (c : Config) (code : List ℕ) (few : c.k ≤ 6) (bytes : AreBelow 256 
       at (inr other) = subst (λ v. v < 2 ^ 32) (sym (put_other mem ((address - 2 ^ 31) / 4) _ a other)) (h a)
 
   pub keeps : Keeps (program c code) IsGood
-  keeps = record { phi = phi_kept; alone = alone_kept; retire = retire_kept; poked_core = poked_core_kept; poked_mem = λ q core. poked_mem_kept q }
+  keeps = record {
+    phi = phi_kept;
+    alone = alone_kept;
+    retire = retire_kept;
+    poked_core = λ q core may. poked_core_kept q core (may_is_lawful c core q may);
+    poked_mem = λ q core mem may. poked_mem_kept q mem (may_is_lawful c core q may);
+  }

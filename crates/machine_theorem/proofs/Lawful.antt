@@ -21,7 +21,8 @@ use Rattle.serialization.specs.abstract_machine.Machine.{retire_from, begin, tur
 use Rattle.serialization.specs.Order.{pass, passes}
 use Rattle.machine_program.specs.Theory.{Result, Step, Outcome, stalled, went_up, went_down, serve_from}
 use Rattle.machine_theorem.specs.Order.{Passed, segment}
-use Rattle.machine_program.specs.Processors.{Told, sizes_of, program, is_lawful_poke}
+use Rattle.machine_program.specs.Processors.{Told, sizes_of, program, is_lawful_poke, may_poke}
+use Rattle.machine_program.proofs.Lemmas.{may_is_lawful}
 use Rattle.machine_theorem.specs.Flatness.{AreLawful}
 
 module _ (c : Config) (code : List ℕ) where
@@ -65,11 +66,11 @@ module _ (c : Config) (code : List ℕ) where
   unfolding Lawful
   stalled_lawful M q e = absurd (cc)
 
-  poke_lawful : (M : Machine Told) (r : pokes.Poke) (b : Bool) → (all_shut (wires (sizes_of c)) M.is_open && is_lawful_poke c r) ≡ b →
+  poke_lawful : (M : Machine Told) (r : pokes.Poke) (b : Bool) → (all_shut (wires (sizes_of c)) M.is_open && may_poke c M.core r) ≡ b →
       Lawful (if b then poked (program c code) M r else stalled M).outcome
   unfolding Lawful
   poke_lawful M r true e q f = let same : r ≡ q =
-      cc in ap (is_lawful_poke c) (sym same) ∙ (and_parts (all_shut (wires (sizes_of c)) M.is_open) (is_lawful_poke c r) e).1
+      cc in ap (is_lawful_poke c) (sym same) ∙ may_is_lawful c M.core r (and_parts (all_shut (wires (sizes_of c)) M.is_open) (may_poke c M.core r) e).1
   poke_lawful M r false e q f = absurd (cc)
 
   step_lawful : (M : Machine Told) (st : Step) → Lawful (step (sizes_of c) (program c code) M st).outcome
@@ -93,7 +94,7 @@ module _ (c : Config) (code : List ℕ) where
       at : (b : Bool) → Lawful (if b then went_down M (moved_down (sizes_of c) M.net s w) else stalled M).outcome
       at true = down_lawful M (moved_down (sizes_of c) M.net s w)
       at false = stalled_lawful M
-  step_lawful M (Poke q) = poke_lawful M q (all_shut (wires (sizes_of c)) M.is_open && is_lawful_poke c q) refl
+  step_lawful M (Poke q) = poke_lawful M q (all_shut (wires (sizes_of c)) M.is_open && may_poke c M.core q) refl
 
   lawful_append : (xs ys : List Entry) → AreLawful c xs → AreLawful c ys → AreLawful c (xs ++ ys)
   lawful_append [] ys a b = b

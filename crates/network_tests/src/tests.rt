@@ -15,6 +15,13 @@ mod wires;
 
 use messages::{DownMove, Request, Seconds, UpMove};
 use phi_algebra::{Phi, SignedRange};
+use std::fmt::Debug;
+use std::process::Abort;
+
+/// Ends the test where the two differ, and tells them and the case that they are of ([`assert_same!`]).
+fn same<T: PartialEq + Debug, A: Debug>(rt: &impl Abort, found: &T, wanted: &T, at: &A) {
+    assert_eq!(rt; found, wanted, "{at:?}");
+}
 
 /// What an AMO makes of a word, as the tables name it.
 #[derive(Clone, Copy, Debug, Drop)]

@@ -220,9 +220,7 @@ impl Network {
         ensures after { net_of self.new ≡ module_taken (sizes_of self.old) (net_of self.old) m }
         ensures sizes { sizes_of self.new ≡ sizes_of self.old }
     {
-        let request = self.module_front(m);
-        self.take_request(self.k, m);
-        request
+        self.take_request(self.k, m)
     }
 
     /// Whether a module's slot has no reply.

@@ -1,6 +1,7 @@
 -- What a machine answers that takes an entry, and what it becomes: a step of the flat machine.
-use Rattle.std.proofs.Common.{◌≡◌, ℕ, ◌^◌, ◌<◌, Bool, true, false, Option, Some, None, nat_lt, lt-ltb, refl, sym, ap, ◌∙◌}
+use Rattle.std.proofs.Common.{◌≡◌, ℕ, ◌^◌, ◌<◌, Bool, true, false, Option, Some, None, nat_lt, lt-ltb, refl, sym, ap, ◌∙◌, subst}
 use Rattle.std.specs.Prelude.{length, ◌&&◌, if◌then◌else◌}
+use Rattle.flat_machine.specs.declared.config.Config.{Config}
 use Rattle.flat_machine.specs.declared.event.Event.{Event}
 use Rattle.flat_machine.specs.declared.event.Event.TheVariants as event
 use Rattle.flat_machine.specs.declared.poke.Poke.{Poke}
@@ -10,13 +11,15 @@ use Rattle.flat_machine.specs.Flat.{flat_event, flat_step, is_lawful, is_lawful_
 use Rattle.flat_machine.specs.Laws.{WritesWords}
 use Rattle.flat_machine.specs.Memory.{in_local, in_shared}
 use Rattle.flat_machine.specs.State.{FlatState}
+use Rattle.steps.specs.declared.step.Step.TheVariants as step
 use Rattle.steps.specs.declared.step.Outcome.{Outcome}
 use Rattle.steps.specs.declared.step.Outcome.TheVariants.{Retired, Issued, Stopped, Moved, Combined, Served, Answered, Poked, Stalled}
 use Rattle.machine_runs.specs.machine_program.Processors.{is_lawful_poke}
 use Rattle.machine_runs.specs.Laws.{FlatProcessorsAreRead, FlatWordsAreRead}
-use Rattle.machine_runs.specs.Machines.{MachineLists, IsIdle, IsMachine}
+use Rattle.machine_runs.specs.Machines.{MachineLists, AreHome, IsMachine, IsStep}
 use Rattle.machine_runs.specs.Runs.{flat_state}
-use Rattle.machine_runs.specs.Whole.{IsOne, IsPoked, event_of}
+use Rattle.machine_runs.specs.Whole.{IsOne, IsPoked, event_of, one_steps}
+use Rattle.machine_runs.proofs.Lemmas.{run_home}
 use Rattle.order_command.specs.Taking.{HasTaken, answer_of}
 
 -- ---- answers and events
@@ -43,10 +46,11 @@ answer_told Poked e is none = none (sym is) ∙ ap answer_of is
 answer_told Stalled e is none = ap answer_of is
 
 -- a whole instruction
-pub one_taken : (old : MachineLists) (p : ℕ) (o : Outcome) (new : MachineLists) → IsOne old p o new → HasTaken old (entry.Processor p) o new
-one_taken old p o new one = record {
+pub one_taken : (old : MachineLists) (p : ℕ) (o : Outcome) (new : MachineLists) → AreHome old → IsOne old p o new → HasTaken old (entry.Processor p) o new
+one_taken old p o new home one = record {
   answer = answer_told o (flat_event (flat_state old) (entry.Processor p)) one.event (λ none. (one.stalled none).0);
   idle = one.idle;
+  home = run_home old new (one_steps old p) one.replay.run home;
   config = one.replay.run.config;
   flat = one.flat;
 }
@@ -73,11 +77,12 @@ poke_step m q false e = sym (ap (λ b. if b then written m q else m) e)
 
 -- a write from outside
 pub poke_taken : (old : MachineLists) (q : Poke) (o : Outcome) (new : MachineLists) → is_lawful_poke old.config q ≡ is_lawful (flat_state old) q →
-    new.config ≡ old.config → IsPoked old q o new → HasTaken old (entry.Poke q) o new
-poke_taken old q o new alike size is = record {
+    AreHome old → IsStep old (step.Poke q) o new → IsPoked old q o new → HasTaken old (entry.Poke q) o new
+poke_taken old q o new alike home st is = record {
   answer = is.answer ∙ ap (λ b. if b then Poked else Stalled) alike;
   idle = is.idle;
-  config = size;
+  home = λ p within. st.cores p ∙ home p (subst (λ (c : Config). p < 2 ^ c.k) st.config within);
+  config = st.config;
   flat = is.flat ∙ ap (λ b. if b then flat_step (flat_state old) (entry.Poke q) else flat_state old) alike
       ∙ poke_step (flat_state old) q (is_lawful (flat_state old) q) refl;
 }

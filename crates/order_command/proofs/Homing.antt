@@ -5,7 +5,7 @@ use Rattle.steps.specs.declared.step.Step.{Step}
 use Rattle.steps.specs.declared.step.Outcome.{Outcome}
 use Rattle.machine_runs.specs.Machines.{MachineLists, IsIdle, IsMachine, IsStep}
 use Rattle.machine_runs.specs.Runs.{IsReplay}
-use Rattle.machine_runs.specs.Draining.{drain_step, GoesOn, drain_bound, drain_steps}
+use Rattle.machine_runs.specs.Draining.{drain_step, BringsNearer, drain_bound, drain_steps}
 use Rattle.machine_runs.proofs.Lemmas.{IsUnderWay, all_taken, bound_taken, drain_begins, drain_goes_on, drain_is_over, replay_more}
 
 -- So many steps of a drain are taken, and stand behind others.
@@ -26,7 +26,7 @@ none_taken m steps = record {
 }
 
 module _ (old : MachineLists) (steps : List Step) (i : ℕ) (m : MachineLists) (steps' : List Step) (d : IsOnTheWay old steps i m steps') where
-  pub one_taken : (s : Step) (o : Outcome) (new : MachineLists) (steps2 : List Step) → i < drain_bound old.config → drain_step m ≡ Some s → GoesOn m s →
+  pub one_taken : (s : Step) (o : Outcome) (new : MachineLists) (steps2 : List Step) → i < drain_bound old.config → drain_step m ≡ Some s → BringsNearer m s →
       IsStep m s o new → steps2 ≡ steps' ++ s ∷ [] → IsOnTheWay old steps (i + 1) new steps2
   one_taken s o new steps2 within names goes is entered = record {
     done = d.done ++ s ∷ [];

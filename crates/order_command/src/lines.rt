@@ -6,6 +6,7 @@ ghost use Rattle.flat_machine.specs.Flat.{flat_event, flat_run, flat_step};
 ghost use Rattle.flat_machine.specs.State.{Processor};
 ghost use Rattle.flat_machine.specs.declared.poke.Entry.TheVariants as entries;
 ghost use Rattle.std.specs.Option.{option_map};
+ghost use Rattle.machine_runs.specs.Machines.{AreHome};
 ghost use Rattle.machine_runs.specs.Runs.{flat_state};
 ghost use Rattle.machine_runs.specs.Whole.{event_of};
 ghost use Rattle.order_lines.specs.Lines.{chosen_line, line_of, line_of_turn, lines_of};
@@ -24,7 +25,7 @@ use std::alloc::{AllocError, Global};
 use steps::Outcome;
 
 /// The lines of these entries that are chosen, in the flat machine that takes one after another. Both machines are that
-/// flat machine, and no reference is open in them; so it is behind the last entry.
+/// flat machine, and no reference is open in them and no core away; so it is behind the last entry.
 ///
 /// # Errors
 ///
@@ -86,6 +87,7 @@ fn push_line(
     outcome: Outcome,
     reference: &Option<Reference>,
 ) -> Result<(), AllocError>
+    requires home { AreHome before.now }
     requires told { outcome ≡ answer_to (flat_state before.now) entry }
     requires moves { outcome ≡ Outcome.Stalled → ⊥ }
     requires reference { reference.now ≡ reference_of (flat_state before.now) entry }
@@ -143,6 +145,7 @@ fn processor_of(entry: Entry) -> Option<u8>
 
 /// The shared word that an entry acts on, on the machine before it. It does something, and this is what it is answered.
 fn word_of(before: &Machine, entry: Entry, outcome: Outcome) -> Option<u32>
+    requires home { AreHome before.now }
     requires told { outcome ≡ answer_to (flat_state before.now) entry }
     requires moves { outcome ≡ Outcome.Stalled → ⊥ }
     ensures { result ≡ word_of (flat_state before.now) entry }
@@ -155,6 +158,7 @@ fn word_of(before: &Machine, entry: Entry, outcome: Outcome) -> Option<u32>
 
 /// The shared word that a processor's turn acts on.
 fn word_of_turn(before: &Machine, p: u8, outcome: Outcome) -> Option<u32>
+    requires home { AreHome before.now }
     requires told { outcome ≡ answer_of (flat_event (flat_state before.now) (entries.Processor p)) }
     requires moves { outcome ≡ Outcome.Stalled → ⊥ }
     ensures { result ≡ word_of (flat_state before.now) (entries.Processor p) }

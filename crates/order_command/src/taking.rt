@@ -3,7 +3,7 @@
 ghost use Rattle.std.specs.Prelude.{◌≡◌};
 ghost use Rattle.flat_machine.specs.Flat.{is_lawful};
 ghost use Rattle.machine_runs.specs.machine_program.Processors.{is_lawful_poke};
-ghost use Rattle.machine_runs.specs.Machines.{IsIdle};
+ghost use Rattle.machine_runs.specs.Machines.{AreHome, IsIdle};
 ghost use Rattle.machine_runs.specs.Runs.{flat_state};
 ghost use Rattle.order_command.specs.Taking.{HasTaken};
 
@@ -11,9 +11,10 @@ use flat_machine::{Entry, Poke};
 use machine_runs::{Machine, flat_states_are_read, machine_is_sound, one};
 use steps::{Outcome, Step};
 
-/// Takes an entry: a processor's next instruction, whole, or a poke. No reference is open.
+/// Takes an entry: a processor's next instruction, whole, or a poke. No reference is open, and no core away.
 pub(crate) fn carried_out(machine: &mut Machine, entry: Entry) -> Outcome
-    requires { IsIdle machine.old }
+    requires idle { IsIdle machine.old }
+    requires home { AreHome machine.old }
     ensures { HasTaken machine.old entry result machine.new }
 {
     match entry {

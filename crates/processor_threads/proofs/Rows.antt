@@ -1,7 +1,7 @@
 -- Passes and ends, of which the last goes and comes back.
 use Rattle.std.proofs.Common.{◌≡◌, ℕ, zero, suc, List, [], ◌∷◌, ◌++◌, length, length-append, refl, sym, ap, ◌∙◌, subst, arith}
 use Rattle.std.specs.Prelude.{map, replicate, Option, Some, None, slice_get}
-use Rattle.std.proofs.lemmas.List.{append-nil, map-append}
+use Rattle.std.proofs.lemmas.List.{map-append}
 use Rattle.machine_passes.specs.Passes.{Held, held, IsWhole, new_passes}
 use Rattle.machine_passes.specs.Rows.{new_row}
 use Rattle.console_monitor.specs.Ends.{sent_by}

@@ -1,19 +1,31 @@
 -- What a call tells a pass is sent, or is held.
-use Rattle.std.proofs.Common.{◌≡◌, ℕ, Bool, true, false, List, [], ◌∷◌, ◌++◌, refl, sym, ap, ◌∙◌, subst, append_assoc, arith, eq-eqb}
-use Rattle.std.specs.Prelude.{map, Option, Some, None, Result, Ok, Err, if◌then◌else◌}
+use Rattle.std.proofs.Common.{◌≡◌, ℕ, Bool, true, false, List, [], ◌∷◌, ◌++◌, refl, sym, ap, ◌∙◌, subst, append_assoc, arith, eq-eqb, ◌⊎◌, inl, inr}
+use Rattle.std.specs.Prelude.{suc, All, map, Option, Some, None, Result, Ok, Err, IfOk, OnOk, OnErr, is_ok, if◌then◌else◌}
+use Rattle.std.specs.Result.{result_ok}
 use Rattle.std.proofs.lemmas.List.{append-nil, map-append}
 use Rattle.flat_machine.specs.declared.event.Event.{Event}
+use Rattle.flat_machine.specs.declared.event.Retired as retirement
+use Rattle.flat_machine.specs.declared.setting.Setting.{Setting}
+use Rattle.flat_machine.specs.State.{Processor}
 use Rattle.steps.specs.declared.step.Step.{Step}
 use Rattle.steps.specs.declared.step.Step.TheVariants as step
 use Rattle.steps.specs.declared.step.Outcome.{Outcome}
 use Rattle.steps.specs.declared.step.Outcome.TheVariants.{Retired, Issued, Stopped, Moved, Combined, Served, Answered, Poked, Stalled}
 use Rattle.flat_machine.specs.declared.config.Config.{Config}
-use Rattle.console_monitor.specs.Ends.{held_of}
+use Rattle.console_monitor.specs.Ends.{held_of, put_of, sent_by}
+use Rattle.console_monitor.specs.declared.monitor.End.{End}
 use Rattle.machine_log.specs.declared.log.LogRefusal.{LogRefusal}
 use Rattle.machine_passes.specs.declared.row.Notice.{Notice}
 use Rattle.machine_passes.specs.Lists.{given_to, shown_at, is_turn_of, is_of_network, is_net, is_stop}
-use Rattle.machine_passes.specs.Passes.{Held, held, IsTold, IsAsked, AreTold}
-use Rattle.processor_threads.specs.Consoles.{console_bytes, console_of, byte_of, given_by}
+use Rattle.machine_passes.specs.declared.desk.Round.{Round}
+use Rattle.machine_passes.specs.declared.row.Row.{Row}
+use Rattle.machine_passes.specs.Rows.{told, told_all}
+use Rattle.machine_passes.specs.Passes.{Held, held, IsTold, IsTurned, IsAsked, AreTold, GoesOnWith, HasGoneOn, IsReturned, LoanState}
+use Rattle.local_runs.specs.LocalRuns.{EndsAt, IsQuiet, RetirementList}
+use Rattle.local_runs.specs.declared.run.LocalEnd.{LocalEnd}
+use Rattle.local_runs.specs.declared.run.LocalEnd.TheVariants.{Out, Most, Other}
+use Rattle.processor_threads.specs.Consoles.{console_bytes, console_of, byte_of, end_queue, given_by, IsHeard}
+use Rattle.processor_threads.specs.declared.fault.RunFault.{RunFault}
 use Rattle.processor_threads.specs.Endings.{EndsWithStop}
 
 abbrev events : List Notice → List Event
@@ -66,6 +78,85 @@ stops from old new (Answered to) t e = absurd (cc)
 stops from old new Poked t e = absurd (cc)
 stops from old new Stalled t e = absurd (cc)
 
+-- While the core is lent, a turn gives nothing.
+turn_given : (lent : Option ℕ) (from : ℕ) (old new : Held) (o : Outcome) (put : List ℕ) → IsTurned lent from old o new → console_of old ≡ put ++ [] →
+    console_of new ≡ put ++ held_of (byte_of o)
+turn_given None from old new o put t e = turned from old new o put t e
+turn_given (Some most) from old new o put t e = ap console_of t.1 ∙ e ∙ ap (λ o. put ++ held_of (byte_of o)) (sym t.0)
+
+-- And it stops nothing.
+turn_stops : (lent : Option ℕ) (from : ℕ) (old new : Held) (o : Outcome) → IsTurned lent from old o new → is_stop o ≡ true → EndsWithStop new
+turn_stops None from old new o t e = stops from old new o t e
+turn_stops (Some most) from old new o t e = let no : false ≡ true = ap is_stop (sym t.0) ∙ e in absurd (cc)
+
+-- ---- local instructions
+
+-- what instructions that have retired gave the console
+abbrev given_by_all : List retirement.Retired → List ℕ
+given_by_all [] = []
+given_by_all (retired ∷ later) = held_of retired.out ++ given_by_all later
+
+given_by_all-append : (xs ys : List retirement.Retired) → given_by_all (xs ++ ys) ≡ given_by_all xs ++ given_by_all ys
+given_by_all-append [] ys = refl
+given_by_all-append (x ∷ xs) ys =
+    ap (λ bs. held_of x.out ++ bs) (given_by_all-append xs ys) ∙ sym (append_assoc (held_of x.out) (given_by_all xs) (given_by_all ys))
+
+-- A pass that is told of turns holds what their instructions gave.
+told_given : (p : ℕ) (r : Row) (place : ℕ) (taken : List retirement.Retired) →
+    console_of (held p (told_all p r place taken)) ≡ console_of (held p r) ++ given_by_all taken
+told_given p r place [] = sym (append-nil (console_of (held p r)))
+told_given p r place (retired ∷ later) =
+    told_given p (told p r (step.Turn p) (Retired retired) place) (suc place) later
+    ∙ ap (λ bs. bs ++ given_by_all later)
+    (more r.notices (given_to p place (step.Turn p) (Retired retired))
+    ∙ ap (λ bs. console_bytes (events r.notices) ++ bs)
+    (ap (λ ns. console_bytes (events ns)) (own p place (Retired retired)) ∙ shown_byte place (Retired retired)))
+    ∙ append_assoc (console_of (held p r)) (held_of retired.out) (given_by_all later)
+
+quiet : (taken : List retirement.Retired) → All IsQuiet taken → given_by_all taken ≡ []
+quiet [] all = refl
+quiet (retired ∷ later) all =
+    let first : retired.out ≡ None = all 0 retired (omega arith) in
+    (λ i. held_of (first i) ++ given_by_all later) ∙ quiet later (λ k d less. all (suc k) d (omega (arith, less)))
+
+-- what a run of local instructions gives that has ended so
+abbrev given_at : LocalEnd → List ℕ
+given_at (Out byte) = byte ∷ []
+given_at Most = []
+given_at Other = []
+
+run_given : (end : LocalEnd) (s : Setting) (code : List ℕ) (taken : List retirement.Retired) (p : Processor) (list : RetirementList) →
+    EndsAt end s code taken p list → given_by_all taken ≡ given_at end
+run_given (Out byte) s code taken p list ends =
+    ap given_by_all ends.taken_are
+    ∙ given_by_all-append ends.earlier (ends.last ∷ [])
+    ∙ (λ i. quiet ends.earlier ends.quiet i ++ append-nil (held_of ends.last.out) i)
+    ∙ ap held_of ends.gives
+run_given Most s code taken p list ends = quiet taken ends.0
+run_given Other s code taken p list ends = quiet taken ends.0
+
+-- Once a loan is back that has run once, the pass holds what the run gave.
+module _ (code : List ℕ) (from : ℕ) (old new : Held) (loan gone : LoanState) (end : LocalEnd) (none : loan.retired ≡ [])
+    (run : HasGoneOn code loan gone end) (back : IsReturned from old gone.retired new) where
+  returned : console_of new ≡ console_of old ++ given_at end
+  returned =
+      let taken : gone.retired ≡ run.run.taken = run.run.listed ∙ ap (λ rs. rs ++ run.run.taken) none in
+      ap console_of back.pass
+      ∙ told_given old.processor old.row back.place gone.retired
+      ∙ ap (λ bs. console_of old ++ bs) (ap given_by_all taken ∙ run_given end _ code run.run.taken _ _ run.run.ends)
+
+  -- a byte, which is held then, where none was
+  pub byte_held : (byte : ℕ) (e : End) → end ≡ Out byte → e.held ≡ None → console_of old ≡ sent_by e →
+      console_of new ≡ sent_by (record e { held = Some byte })
+  byte_held byte e out nothing sent =
+      returned
+      ∙ (λ i. (sent ∙ ap (λ held. put_of e.sender ++ held_of held) nothing ∙ append-nil (put_of e.sender)) i ++ given_at (out i))
+
+  -- or nothing
+  pub nothing_given : (end ≡ Most) ⊎ (end ≡ Other) → console_of new ≡ console_of old
+  nothing_given (inl most) = returned ∙ ap (λ x. console_of old ++ given_at x) most ∙ append-nil (console_of old)
+  nothing_given (inr other) = returned ∙ ap (λ x. console_of old ++ given_at x) other ∙ append-nil (console_of old)
+
 -- ---- steps of the network
 
 no_turn : (p : ℕ) (s : Step) → is_of_network s ≡ true → is_turn_of p s ≡ false
@@ -103,7 +194,7 @@ asked c from turn old new s (Some (Err e)) a = ap console_of a.2
 -- A round holds the byte that its turn gives, where none was held.
 pub turned_round : (c : Config) (from : ℕ) (old new : Held) (o : Outcome) (s : Step) (net : Option (Result Outcome LogRefusal)) (put : List ℕ) →
     AreTold from c old o s net new → console_of old ≡ put ++ [] → console_of new ≡ put ++ held_of (byte_of o)
-turned_round c from old new o s net put t e = asked c from o t.between new s net t.net_is ∙ turned from old t.between o put t.turn_is e
+turned_round c from old new o s net put t e = asked c from o t.between new s net t.net_is ∙ turn_given old.row.lent from old t.between o put t.turn_is e
 
 -- Behind a turn that stops the processor nothing is asked for.
 none_asked : (c : Config) (from : ℕ) (turn : Outcome) (old new : Held) (s : Step) (net : Option (Result Outcome LogRefusal)) →
@@ -116,4 +207,41 @@ none_asked c from turn old new s (Some (Err e)) a stop = let no = a.0 in absurd 
 pub stops_round : (c : Config) (from : ℕ) (old new : Held) (o : Outcome) (s : Step) (net : Option (Result Outcome LogRefusal)) →
     AreTold from c old o s net new → is_stop o ≡ true → EndsWithStop new
 stops_round c from old new o s net t stop =
-    subst EndsWithStop (sym (none_asked c from o t.between new s net t.net_is stop)) (stops from old t.between o t.turn_is stop)
+    subst EndsWithStop (sym (none_asked c from o t.between new s net t.net_is stop)) (turn_stops old.row.lent from old t.between o t.turn_is stop)
+
+-- ---- the answer to a round
+
+pub goes_on : (c : Config) (from : ℕ) (old new : Held) (answer : Result Round LogRefusal) (s : Step) →
+    IfOk answer (λ r. AreTold from c old r.turn s r.net new) → OnErr answer (new ≡ old) → GoesOnWith from c old answer s new
+goes_on c from old new (Ok r) s told same = told
+goes_on c from old new (Err refusal) s told same = same
+
+-- What was given is sent or held once the answer is heard, where nothing was held before.
+pub heard : (c : Config) (from : ℕ) (old new : Held) (answer : Result Round LogRefusal) (s : Step) (end end' : End) (over : Result Bool RunFault) →
+    GoesOnWith from c old answer s new → IsHeard answer end end' over → end.held ≡ None → console_of old ≡ sent_by end → console_of new ≡ sent_by end'
+heard c from old new (Ok r) s end end' over on is none sent =
+    turned_round c from old new r.turn s r.net (put_of end.sender) on (sent ∙ ap (λ held. put_of end.sender ++ held_of held) none)
+    ∙ ap sent_by (sym is.0)
+heard c from old new (Err refusal) s end end' over on is none sent = ap console_of on ∙ sent ∙ ap sent_by (sym is.0)
+
+pub heard_queue : (answer : Result Round LogRefusal) (end end' : End) (over : Result Bool RunFault) → IsHeard answer end end' over →
+    end_queue end' ≡ end_queue end
+heard_queue (Ok r) end end' over is = ap end_queue is.0
+heard_queue (Err refusal) end end' over is = ap end_queue is.0
+
+-- A round that is told as the last one has stopped the processor.
+pub heard_stop : (c : Config) (from : ℕ) (old new : Held) (answer : Result Round LogRefusal) (s : Step) (end end' : End) (over : Result Bool RunFault) →
+    GoesOnWith from c old answer s new → IsHeard answer end end' over → over ≡ Ok true → EndsWithStop new
+heard_stop c from old new (Ok r) s end end' over on is stop = stops_round c from old new r.turn s r.net on (is.1 stop)
+heard_stop c from old new (Err refusal) s end end' over on is stop = absurd (is.1 stop)
+
+-- ---- what a call has answered
+
+module _ {A E : Type 0} where
+  pub answered : (answer : Result A E) (P : A → Type 0) (x : A) → IfOk answer P → Some x ≡ result_ok answer → P x
+  answered (Ok y) P x h e = let same : x ≡ y = cc in subst P (sym same) h
+  answered (Err refusal) P x h e = absurd (cc)
+
+  pub was_answered : (answer : Result A E) (T : Type 0) → OnOk answer T → true ≡ is_ok answer → T
+  was_answered (Ok y) T h e = h
+  was_answered (Err refusal) T h e = absurd (cc)

@@ -1,14 +1,18 @@
 -- The bytes that a processor sends to the console.
-use Rattle.std.specs.Prelude.{◌≡◌, ℕ, List, [], ◌∷◌, ◌++◌, map, Option, None, Vec}
+use Rattle.std.specs.Prelude.{◌≡◌, ℕ, Bool, true, List, [], ◌∷◌, ◌++◌, map, Option, None, Result, Ok, Err, Vec}
 use Rattle.std.specs.Global.{Global}
 use Rattle.flat_machine.specs.declared.event.Event.{Event}
 use Rattle.flat_machine.specs.declared.event.Event.TheVariants as event
 use Rattle.steps.specs.declared.step.Outcome.{Outcome}
 use Rattle.steps.specs.declared.step.Outcome.TheVariants.{Retired, Issued, Stopped, Moved, Combined, Served, Answered, Poked, Stalled}
+use Rattle.machine_log.specs.declared.log.LogRefusal.{LogRefusal}
+use Rattle.machine_passes.specs.declared.desk.Round.{Round}
+use Rattle.machine_passes.specs.Lists.{is_stop}
 use Rattle.console_monitor.specs.Ends.{held_of, sender_queue}
 use Rattle.console_monitor.specs.declared.monitor.End.{End}
 use Rattle.agreed_rows.specs.atomic_table.Seated.{TableId}
 use Rattle.machine_passes.specs.Passes.{Held}
+use Rattle.processor_threads.specs.declared.fault.RunFault.{RunFault}
 
 -- what an event gives the console
 abbrev pub given_by : Event → List ℕ
@@ -46,6 +50,11 @@ byte_of (Served leader) = None
 byte_of (Answered to) = None
 byte_of Poked = None
 byte_of Stalled = None
+
+-- The end of a console's queue holds the byte that a round's turn has given; only a turn that has stopped its processor is told as one.
+abbrev pub IsHeard : (answer : Result Round LogRefusal) → (old new : End) → (is_over : Result Bool RunFault) → Type 0
+IsHeard (Ok round) old new is_over = (new ≡ record old { held = byte_of round.turn }) × (is_over ≡ Ok true → is_stop round.turn ≡ true)
+IsHeard (Err refusal) old new is_over = (new ≡ old) × (is_over ≡ Ok true → ⊥)
 
 -- the bytes of a list in memory
 abbrev pub bytes_of : Vec ℕ Global → List ℕ

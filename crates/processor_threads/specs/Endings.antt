@@ -2,7 +2,7 @@
 use Rattle.std.specs.Prelude.{◌≡◌, ◌⊎◌, ℕ, List, [], ◌∷◌, ◌++◌, map, Option, Some, None}
 use Rattle.flat_machine.specs.declared.event.Cause.{Cause}
 use Rattle.flat_machine.specs.declared.event.Event.TheVariants.{Stopped}
-use Rattle.console_monitor.specs.Ends.{sent_by, sender_queue}
+use Rattle.console_monitor.specs.Ends.{sent_by}
 use Rattle.console_monitor.specs.declared.monitor.End.{End}
 use Rattle.machine_passes.specs.declared.row.Notice.{Notice}
 use Rattle.machine_passes.specs.Passes.{Held}

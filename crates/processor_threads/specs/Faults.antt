@@ -1,7 +1,7 @@
 -- Which fault is told of those that threads have ended with.
 use Rattle.std.specs.Prelude.{Bool, true, false, List, [], ◌∷◌, Option, Some, None, if◌then◌else◌}
 use Rattle.processor_threads.specs.declared.fault.RunFault.{RunFault}
-use Rattle.processor_threads.specs.declared.fault.RunFault.TheVariants.{Memory, Full, Console, Budget, Start}
+use Rattle.processor_threads.specs.declared.fault.RunFault.TheVariants.{Memory, Full, Loan, Console, Budget, Start}
 
 -- A fault of the machine that runs the threads, and none of the run: it is told before any of the others.
 abbrev pub is_of_host : RunFault → Bool
@@ -9,6 +9,7 @@ is_of_host Memory = true
 is_of_host Console = true
 is_of_host Start = true
 is_of_host Full = false
+is_of_host Loan = false
 is_of_host Budget = false
 
 -- The first of two faults, unless only the second is of the host.

@@ -68,7 +68,11 @@ impl<N: Run, A: Arbiter + Drop> Crew<N, A> {
         let end = self.ends.pop()?;
         let arbiter = self.arbiters.pop()?;
         Some(Worker {
-            hand: Hand { pass, end },
+            hand: Hand {
+                pass,
+                end,
+                waits: false,
+            },
             arbiter,
             turns: 0,
         })

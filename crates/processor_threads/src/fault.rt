@@ -9,12 +9,15 @@ use thiserror::Error;
 /// Why a run ended before each processor had stopped, or what it wanted.
 #[derive(Clone, Copy, Debug, PartialEq, Eq, Drop, Error)]
 pub enum RunFault {
-    /// There was no memory for a step in the log, or for what a pass stores.
+    /// There was no memory for a step in the log, for what a pass stores, or for a loan.
     #[error("memory")]
     Memory,
     /// The log has [`steps::MAX_STEPS`] steps.
     #[error("L2")]
     Full,
+    /// A core was not taken back that a thread had on loan.
+    #[error("L4")]
+    Loan,
     /// There was no memory for the bytes of a console.
     #[error("memory")]
     Console,

@@ -37,7 +37,8 @@ pub struct Ended<N: Run> {
 
 /// Runs a logged machine on threads: one for each processor, with an arbiter of its own, and one that listens to the consoles. A thread
 /// goes through rounds, so many as the budget has at most. In a round it tries to send the byte that it holds for the console, if any,
-/// else it calls the gate and takes a turn; then it asks its arbiter for a step of the network, and asks the machine to take it.
+/// else it calls the gate, takes up to 64 local instructions with the processor's core on loan, where there may be some, and then,
+/// unless it holds a byte now, a turn; then it asks its arbiter for a step of the network, and asks the machine to take it.
 ///
 /// A thread ends where its processor stops, or with a fault.
 pub fn run_threads<
@@ -81,7 +82,7 @@ pub fn run_threads<
                 ends,
                 arbiters,
             };
-            let terms = Terms::new(config.k, budget);
+            let terms = Terms::new(alloc, config.k, budget);
             run_made(rt, alloc, shared, terms, gate, crew, listener)
         }
     }

@@ -2,6 +2,7 @@
 
 ghost use Rattle.std.specs.Prelude.{◌≡◌, ◌≤◌};
 
+use std::alloc::Global;
 use std::sync::Wait;
 use std::sync::atomic::{AtomicU64, Ordering};
 use std::thread::Parker;
@@ -13,6 +14,8 @@ pub(crate) struct Terms {
     pub(crate) stages: u8,
     /// How many rounds a thread has.
     pub(crate) budget: u32,
+    /// Where loans have their memory.
+    pub(crate) alloc: Global,
     /// The thread that could not be started at last. What it was to do is called all the same, to give back what it was given.
     unstarted: AtomicU64,
     /// Not 0 once the threads of all processors have ended.
@@ -30,12 +33,13 @@ const NONE: u64 = 255;
 
 impl Terms {
     /// The terms of a run before it begins.
-    pub(crate) fn new(stages: u8, budget: u32) -> Self
+    pub(crate) fn new(alloc: Global, stages: u8, budget: u32) -> Self
         requires { stages ≤ 6 }
     {
         Terms {
             stages,
             budget,
+            alloc,
             unstarted: AtomicU64::new(NONE),
             ended: AtomicU64::new(0),
             bell: Parker::new(),

@@ -96,13 +96,13 @@ impl<N: Run, A: Arbiter + Drop> Worker<N, A> {
         retired
     }
 
-    /// One round: where a byte is held, it tries to put it, else it passes the gate and takes a turn; then it asks for the step of the
-    /// network that its arbiter names. Answers whether the processor has stopped: then it asks for none. The arbiter, which is not told
-    /// what a turn answers, is asked before, so that the lock is taken once.
+    /// One round: where a byte is held, it tries to put it, else it passes the gate and takes local instructions and a turn; then it asks
+    /// for the step of the network that its arbiter names. Answers whether the processor has stopped: then it asks for none. The
+    /// arbiter, which is not told what a turn answers, is asked before, so that the turn and the step are taken with one lock.
     ///
     /// # Errors
     ///
-    /// [`RunFault::Full`] where the log is full, and [`RunFault::Memory`].
+    /// Those of [`Hand::round`].
     fn round<G: Gate, R: Wait>(
         &mut self,
         rt: &R,
@@ -125,6 +125,6 @@ impl<N: Run, A: Arbiter + Drop> Worker<N, A> {
         gate.before(self.hand.pass.processor(), self.turns);
         self.turns += 1;
         let step = self.arbiter.next(terms.stages);
-        self.hand.round(rt, shared, step)
+        self.hand.round(rt, terms.alloc, shared, step)
     }
 }

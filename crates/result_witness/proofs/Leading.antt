@@ -16,7 +16,8 @@ use Rattle.trace_file.specs.Traces.{IsTrace, trace_of}
 use Rattle.machine_runs.specs.machine_program.Theory as theory
 use Rattle.machine_runs.specs.machine_program.Processors.{Told, word_at}
 use Rattle.machine_runs.specs.machine_program.Steps.{machine_of_parts}
-use Rattle.machine_runs.specs.Machines.{MachineLists, machine_of}
+use Rattle.machine_runs.specs.Machines.{MachineLists, machine_of, AreHome}
+use Rattle.machine_runs.proofs.Lemmas.{run_home}
 use Rattle.machine_runs.specs.Runs.{events_of}
 use Rattle.run_report.specs.Events.{shown_from, with_event}
 use Rattle.run_report.specs.Tallies.{ShownBy, TallyState, nothing_shown, with_byte}
@@ -42,6 +43,10 @@ printed_all s [] = refl
 printed_all s (shown ∷ events) = ap (λ console. printed_by console events) (printed_once s shown) ∙ printed_all (with_event s shown) events
 
 -- ---- what is left
+
+-- no core is away
+pub taken_home : (c : Config) (image : ImageContents) (steps : List Step) (m : MachineLists) (t : TallyState) → AreTaken c image steps m t → AreHome m
+taken_home c image steps m t taken = run_home taken.opening m steps taken.retaken.replay.run taken.opens.home
 
 module _ (opening m : MachineLists) (steps : List Step) (tally : TallyState) (taken : IsRetaken opening steps m tally) where
   -- the machine behind the steps

@@ -2,6 +2,7 @@
 
 ghost use Rattle.std.specs.Prelude.{◌≡◌, ◌<◌, ◌^◌, IfOk, IsTrue, length, map};
 ghost use Rattle.std.specs.List.{range_with_len};
+ghost use Rattle.machine_runs.specs.Machines.{AreHome};
 ghost use Rattle.result_witness.specs.Witnesses.{NoneRunsIn, left_by, processor_left};
 
 use exploration::{FinalResult, ProcessorResult, words_of};
@@ -16,6 +17,7 @@ pub(crate) fn left_by(
     machine: &Machine,
     tally: &Tally,
 ) -> Result<FinalResult, AllocError>
+    requires home { AreHome machine.now }
     requires all { length tally.now.shown ≡ 2 ^ machine.now.config.k }
     ensures { IfOk result (λ last. last ≡ left_by machine.now tally.now.shown) }
 {
@@ -35,6 +37,7 @@ fn processors_left(
     machine: &Machine,
     tally: &Tally,
 ) -> Result<Vec<ProcessorResult>, AllocError>
+    requires home { AreHome machine.now }
     requires all { length tally.now.shown ≡ 2 ^ machine.now.config.k }
     ensures { IfOk result (λ all. all.items ≡ map (processor_left machine.now tally.now.shown) (range_with_len 0 (2 ^ machine.now.config.k))) }
 {
@@ -53,6 +56,7 @@ fn processor_left(
     p: u8,
 ) -> Result<ProcessorResult, AllocError>
     requires there { p < 2 ^ machine.now.config.k }
+    requires home { AreHome machine.now }
     requires all { length tally.now.shown ≡ 2 ^ machine.now.config.k }
     ensures { IfOk result (λ last. last ≡ processor_left machine.now tally.now.shown p) }
 {

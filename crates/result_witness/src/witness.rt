@@ -2,6 +2,7 @@
 
 ghost use Rattle.std.specs.Prelude.{◌≡◌, ◌≤◌, ◌↔◌, ◌^◌, true, is_some, length, IfErr, IfOk, IsTrue, OnOk};
 ghost use Rattle.exploration.specs.results.Results.{AreOfTheMachine, IsOfTheMachine};
+ghost use Rattle.machine_runs.specs.Machines.{AreHome};
 ghost use Rattle.result_witness.specs.Refusals.{HasWitness, IsNoWitness, IsNotTaken, IsOfSteps};
 ghost use Rattle.result_witness.specs.Witnesses.{IsEnd, IsStuck, IsWitness};
 
@@ -122,6 +123,7 @@ fn compare(
     tally: &Tally,
     last: &FinalResult,
 ) -> Result<(), Refused>
+    requires home { AreHome machine.now }
     requires all { length tally.now.shown ≡ 2 ^ machine.now.config.k }
     ensures same { OnOk result (IsEnd machine.now tally.now.shown last.now) }
     ensures refused { IfErr result IsOfSteps }
@@ -136,6 +138,7 @@ fn compare(
 
 /// Sees that from a machine no end can be reached.
 fn look_for_an_end(alloc: Global, machine: &Machine, limit: u32) -> Result<(), Refused>
+    requires home { AreHome machine.now }
     requires few { machine.now.config.k ≤ 3 }
     ensures stuck { OnOk result (IsStuck machine.now) }
     ensures refused { IfErr result IsOfSteps }

@@ -12,7 +12,7 @@ use Rattle.machine_runs.specs.machine_program.Processors.{Told}
 use Rattle.machine_runs.specs.machine_program.Steps.{after, with_shown, machine_of_parts}
 use Rattle.machine_runs.specs.Machines.{MachineLists, machine_of, IsIdle, IsMachine, IsStep}
 use Rattle.machine_runs.specs.Runs.{all_after, events_of, IsRun}
-use Rattle.machine_runs.specs.Draining.{drain_step, GoesOn, drain_bound, drain_steps}
+use Rattle.machine_runs.specs.Draining.{drain_step, BringsNearer, drain_bound, drain_steps}
 use Rattle.machine_runs.proofs.Lemmas.{IsUnderWay, all_after_more, all_taken, bound_taken, drain_begins, drain_goes_on, drain_is_over, replay_begins}
 use Rattle.machine_runs.proofs.Lemmas.{replay_more, shown_is}
 use Rattle.run_report.specs.Tallies.{TallyState, nothing_shown, noted_after}
@@ -81,7 +81,8 @@ drain_taken_none m t = record {
 }
 
 module _ (old : MachineLists) (told : TallyState) (i : ℕ) (m : MachineLists) (t : TallyState) (d : IsDrainTaken old told i m t) where
-  pub drain_taken_more : (s : Step) (o : Outcome) (new : MachineLists) (t' : TallyState) → i < drain_bound old.config → drain_step m ≡ Some s → GoesOn m s →
+  pub drain_taken_more : (s : Step) (o : Outcome) (new : MachineLists) (t' : TallyState) → i < drain_bound old.config → drain_step m ≡ Some s
+      → BringsNearer m s →
       IsStep m s o new → t' ≡ noted_after t s o → IsDrainTaken old told (i + 1) new t'
   drain_taken_more s o new t' within names goes is noted = record {
     done = d.done ++ s ∷ [];

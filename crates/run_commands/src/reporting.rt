@@ -3,6 +3,7 @@
 ghost use Rattle.std.specs.Prelude.{◌≡◌, ◌<◌, ◌^◌, ◌++◌, IfOk, IfSome, OnOk, Some, length, map, slice_get, slice_index_or, string_bytes};
 ghost use Rattle.run_report.specs.Lines.{processor_line};
 ghost use Rattle.run_report.specs.Tallies.{nothing_shown};
+ghost use Rattle.machine_runs.specs.Machines.{AreHome};
 ghost use Rattle.machine_sweep.specs.Standing.{processor_of};
 ghost use Rattle.run_commands.specs.Reports.{AreHeard, processor_lines, report_of, shared_lines};
 
@@ -10,7 +11,7 @@ use machine_runs::Machine;
 use run_report::{Shown, Tally, push_processor, push_shared_word};
 use std::alloc::{AllocError, Global};
 
-/// The report of a machine whose processors have shown this. The bytes of their consoles may come from who has heard them.
+/// The report of a machine whose processors have shown this, and none of whose cores is away. The bytes of their consoles may come from who has heard them.
 ///
 /// # Errors
 ///
@@ -21,6 +22,7 @@ pub fn report(
     tally: &Tally,
     consoles: Option<&[Vec<u8>]>,
 ) -> Result<String, AllocError>
+    requires home { AreHome machine.now }
     requires all { length tally.now.shown ≡ 2 ^ machine.now.config.k }
     requires heard { IfSome consoles (λ cs. AreHeard tally.now.shown cs.now) }
     ensures { IfOk result (λ text. string_bytes text ≡ report_of machine.now tally.now.shown) }
@@ -39,6 +41,7 @@ fn push_processors(
     tally: &Tally,
     consoles: Option<&[Vec<u8>]>,
 ) -> Result<(), AllocError>
+    requires home { AreHome machine.now }
     requires all { length tally.now.shown ≡ 2 ^ machine.now.config.k }
     requires heard { IfSome consoles (λ cs. AreHeard tally.now.shown cs.now) }
     ensures { OnOk result (string_bytes text.new ≡ string_bytes text.old ++ processor_lines machine.now tally.now.shown (2 ^ machine.now.config.k)) }
@@ -60,6 +63,7 @@ fn push_line(
     p: u8,
 ) -> Result<(), AllocError>
     requires there { p < 2 ^ machine.now.config.k }
+    requires home { AreHome machine.now }
     requires all { length tally.now.shown ≡ 2 ^ machine.now.config.k }
     requires heard { IfSome consoles (λ cs. AreHeard tally.now.shown cs.now) }
     ensures { OnOk result (string_bytes text.new ≡ string_bytes text.old

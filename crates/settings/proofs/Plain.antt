@@ -17,8 +17,9 @@ use Rattle.settings.specs.declared.choice.Settings.{Settings}
 use Rattle.settings.specs.declared.choice.Settings.TheVariants as asked
 use Rattle.clap.proofs.OnLiterals.{clap_on_literals}
 use Rattle.settings.specs.declared.choice.Replay.{Replay}
-use Rattle.settings.specs.Lines.{IsAsked, IsAsm, IsCheck, IsChosen, IsDis, IsExplain, IsExplore, IsHunt, IsOrder, IsPicture, IsReplay, IsRun, IsSession}
-use Rattle.settings.specs.Lines.{IsWords, Named, ultra_command}
+use Rattle.settings.specs.Lines.{IsAsked, IsChosen, GivesAsm, GivesCheck, GivesDis, GivesExplain, GivesExplore, GivesHunt, GivesOrder}
+use Rattle.settings.specs.Lines.{GivesPicture, GivesReplay, GivesRun, GivesSession}
+use Rattle.settings.specs.Lines.{GivesWords, Named, ultra_command}
 use Rattle.settings.specs.Plain.{AreAsmOf, AreCheckOf, AreDebugOf, AreDisOf, AreExplainOf, AreExploreOf, AreHuntOf, AreOrderOf, ArePictureOf, AreReplayOf}
 use Rattle.settings.specs.Plain.{AreRunOf, AreStatsOf, AreStoryOf, AreWordsOf, IsPlain, IsReplayOf, NameExplainOf, NamesFile, NamesFiles}
 use Rattle.settings.proofs.Complete.{commands}
@@ -64,20 +65,20 @@ name_of (asked.Explain e) = codes "explain"
 
 -- the settings are those of the rows
 abbrev AreOf : List Row → Settings → Type 0
-AreOf rows (asked.Words w) = IsWords rows w
-AreOf rows (asked.Check c) = IsCheck rows c
-AreOf rows (asked.Asm a) = IsAsm rows a
-AreOf rows (asked.Dis d) = IsDis rows d
-AreOf rows (asked.Run r) = IsRun rows r
-AreOf rows (asked.Hunt h) = IsHunt rows h
-AreOf rows (asked.Explore x) = IsExplore rows x
-AreOf rows (asked.Replay r) = IsReplay rows r
-AreOf rows (asked.Order o) = IsOrder rows o
-AreOf rows (asked.Story r) = IsReplay rows r
-AreOf rows (asked.Stats r) = IsReplay rows r
-AreOf rows (asked.Picture p) = IsPicture rows p
-AreOf rows (asked.Debug d) = IsSession rows d
-AreOf rows (asked.Explain e) = IsExplain rows e
+AreOf rows (asked.Words w) = GivesWords rows w
+AreOf rows (asked.Check c) = GivesCheck rows c
+AreOf rows (asked.Asm a) = GivesAsm rows a
+AreOf rows (asked.Dis d) = GivesDis rows d
+AreOf rows (asked.Run r) = GivesRun rows r
+AreOf rows (asked.Hunt h) = GivesHunt rows h
+AreOf rows (asked.Explore x) = GivesExplore rows x
+AreOf rows (asked.Replay r) = GivesReplay rows r
+AreOf rows (asked.Order o) = GivesOrder rows o
+AreOf rows (asked.Story r) = GivesReplay rows r
+AreOf rows (asked.Stats r) = GivesReplay rows r
+AreOf rows (asked.Picture p) = GivesPicture rows p
+AreOf rows (asked.Debug d) = GivesSession rows d
+AreOf rows (asked.Explain e) = GivesExplain rows e
 
 same_pair : (x y : Text × List Row) → Some x ≡ Some y → x ≡ y
 same_pair x y e = cc
@@ -92,20 +93,20 @@ named_as stop name other rows rest is chosen =
 chosen_as : (stop : Option (Text × List Row)) (name : Text) (rows : List Row) (s : Settings) → stop ≡ Some (name, rows) → IsChosen stop s →
     (name_of s ≡ name) × AreOf rows s
 unfolding name_of
-chosen_as stop name rows (asked.Words w) is chosen = named_as stop name (codes "words") rows (λ them. IsWords them w) is chosen
-chosen_as stop name rows (asked.Check c) is chosen = named_as stop name (codes "check") rows (λ them. IsCheck them c) is chosen
-chosen_as stop name rows (asked.Asm a) is chosen = named_as stop name (codes "asm") rows (λ them. IsAsm them a) is chosen
-chosen_as stop name rows (asked.Dis d) is chosen = named_as stop name (codes "dis") rows (λ them. IsDis them d) is chosen
-chosen_as stop name rows (asked.Run r) is chosen = named_as stop name (codes "run") rows (λ them. IsRun them r) is chosen
-chosen_as stop name rows (asked.Hunt h) is chosen = named_as stop name (codes "hunt") rows (λ them. IsHunt them h) is chosen
-chosen_as stop name rows (asked.Explore x) is chosen = named_as stop name (codes "explore") rows (λ them. IsExplore them x) is chosen
-chosen_as stop name rows (asked.Replay r) is chosen = named_as stop name (codes "replay") rows (λ them. IsReplay them r) is chosen
-chosen_as stop name rows (asked.Order o) is chosen = named_as stop name (codes "order") rows (λ them. IsOrder them o) is chosen
-chosen_as stop name rows (asked.Story r) is chosen = named_as stop name (codes "story") rows (λ them. IsReplay them r) is chosen
-chosen_as stop name rows (asked.Stats r) is chosen = named_as stop name (codes "stats") rows (λ them. IsReplay them r) is chosen
-chosen_as stop name rows (asked.Picture p) is chosen = named_as stop name (codes "picture") rows (λ them. IsPicture them p) is chosen
-chosen_as stop name rows (asked.Debug d) is chosen = named_as stop name (codes "debug") rows (λ them. IsSession them d) is chosen
-chosen_as stop name rows (asked.Explain e) is chosen = named_as stop name (codes "explain") rows (λ them. IsExplain them e) is chosen
+chosen_as stop name rows (asked.Words w) is chosen = named_as stop name (codes "words") rows (λ them. GivesWords them w) is chosen
+chosen_as stop name rows (asked.Check c) is chosen = named_as stop name (codes "check") rows (λ them. GivesCheck them c) is chosen
+chosen_as stop name rows (asked.Asm a) is chosen = named_as stop name (codes "asm") rows (λ them. GivesAsm them a) is chosen
+chosen_as stop name rows (asked.Dis d) is chosen = named_as stop name (codes "dis") rows (λ them. GivesDis them d) is chosen
+chosen_as stop name rows (asked.Run r) is chosen = named_as stop name (codes "run") rows (λ them. GivesRun them r) is chosen
+chosen_as stop name rows (asked.Hunt h) is chosen = named_as stop name (codes "hunt") rows (λ them. GivesHunt them h) is chosen
+chosen_as stop name rows (asked.Explore x) is chosen = named_as stop name (codes "explore") rows (λ them. GivesExplore them x) is chosen
+chosen_as stop name rows (asked.Replay r) is chosen = named_as stop name (codes "replay") rows (λ them. GivesReplay them r) is chosen
+chosen_as stop name rows (asked.Order o) is chosen = named_as stop name (codes "order") rows (λ them. GivesOrder them o) is chosen
+chosen_as stop name rows (asked.Story r) is chosen = named_as stop name (codes "story") rows (λ them. GivesReplay them r) is chosen
+chosen_as stop name rows (asked.Stats r) is chosen = named_as stop name (codes "stats") rows (λ them. GivesReplay them r) is chosen
+chosen_as stop name rows (asked.Picture p) is chosen = named_as stop name (codes "picture") rows (λ them. GivesPicture them p) is chosen
+chosen_as stop name rows (asked.Debug d) is chosen = named_as stop name (codes "debug") rows (λ them. GivesSession them d) is chosen
+chosen_as stop name rows (asked.Explain e) is chosen = named_as stop name (codes "explain") rows (λ them. GivesExplain them e) is chosen
 
 -- one of the program's subcommands is not another
 apart : {P : Type 0} (x y : Text) → bytes_eq x y ≡ false → x ≡ y → P
@@ -141,7 +142,7 @@ same_text : (x y : Text) → Some x ≡ Some y → y ≡ x
 same_text x y e = cc
 
 -- the rows of a trace and an image give both files, for 1,024 words
-replay_is : (trace file : Text) (r : Replay) → IsReplay (trace_rows trace file) r → IsReplayOf trace file r
+replay_is : (trace file : Text) (r : Replay) → GivesReplay (trace_rows trace file) r → IsReplayOf trace file r
 unfolding row trace_rows
 replay_is trace file r said = (same_text trace r.trace.now said.0, same_text file r.file.now said.1, said.2.0)
 

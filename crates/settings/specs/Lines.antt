@@ -229,43 +229,43 @@ abbrev pub AreSizes : List Row → Sizes → Type 0
 AreSizes rows s = IsNumber stages rows s.k × IsNumber queue rows s.c × IsNumber records rows s.b × IsNumber combinations rows s.r
     × IsNumber shared_words rows s.words
 
-abbrev pub IsWords : List Row → Words → Type 0
-IsWords rows w = IsPath (codes "FILE") rows w.file.now
+abbrev pub GivesWords : List Row → Words → Type 0
+GivesWords rows w = IsPath (codes "FILE") rows w.file.now
 
-abbrev pub IsCheck : List Row → Check → Type 0
-IsCheck rows c = IsPath (codes "FILE") rows c.file.now
+abbrev pub GivesCheck : List Row → Check → Type 0
+GivesCheck rows c = IsPath (codes "FILE") rows c.file.now
 
-abbrev pub IsAsm : List Row → Asm → Type 0
-IsAsm rows a = IsPath (codes "FILE") rows a.file.now × IsPath (codes "OUT") rows a.out.now
+abbrev pub GivesAsm : List Row → Asm → Type 0
+GivesAsm rows a = IsPath (codes "FILE") rows a.file.now × IsPath (codes "OUT") rows a.out.now
 
-abbrev pub IsDis : List Row → Dis → Type 0
-IsDis rows d = IsPath (codes "FILE") rows d.file.now × IsNumber shared_words rows d.words
+abbrev pub GivesDis : List Row → Dis → Type 0
+GivesDis rows d = IsPath (codes "FILE") rows d.file.now × IsNumber shared_words rows d.words
 
-abbrev pub IsRun : List Row → Run → Type 0
-IsRun rows r = IsPath (codes "FILE") rows r.file.now × IsOption (codes "trace") rows (option_map (λ t. t.now) r.trace) × IsFlag (codes "sweep") rows r.sweep
+abbrev pub GivesRun : List Row → Run → Type 0
+GivesRun rows r = IsPath (codes "FILE") rows r.file.now × IsOption (codes "trace") rows (option_map (λ t. t.now) r.trace) × IsFlag (codes "sweep") rows r.sweep
     × IsFlag (codes "quiet") rows r.quiet × AreSizes rows r.sizes × IsNumber budget rows r.budget × IsNumber start rows r.start
 
-abbrev pub IsReplay : List Row → Replay → Type 0
-IsReplay rows r = IsPath (codes "TRACE") rows r.trace.now × IsPath (codes "FILE") rows r.file.now × IsNumber shared_words rows r.words
+abbrev pub GivesReplay : List Row → Replay → Type 0
+GivesReplay rows r = IsPath (codes "TRACE") rows r.trace.now × IsPath (codes "FILE") rows r.file.now × IsNumber shared_words rows r.words
 
-abbrev pub IsExplain : List Row → Explain → Type 0
-IsExplain rows e = IsOption (codes "CODE") rows (option_map (λ c. c.now) e.code)
+abbrev pub GivesExplain : List Row → Explain → Type 0
+GivesExplain rows e = IsOption (codes "CODE") rows (option_map (λ c. c.now) e.code)
 
-abbrev pub IsOrder : List Row → Order → Type 0
-IsOrder rows o = IsReplay rows o.replay × IsChoice processor rows o.processor × IsChoice shared_word rows o.word
+abbrev pub GivesOrder : List Row → Order → Type 0
+GivesOrder rows o = GivesReplay rows o.replay × IsChoice processor rows o.processor × IsChoice shared_word rows o.word
 
-abbrev pub IsPicture : List Row → Picture → Type 0
-IsPicture rows p = IsReplay rows p.replay × IsChoice step rows p.step
+abbrev pub GivesPicture : List Row → Picture → Type 0
+GivesPicture rows p = GivesReplay rows p.replay × IsChoice step rows p.step
 
-abbrev pub IsSession : List Row → Session → Type 0
-IsSession rows d = IsPath (codes "FILE") rows d.file.now × AreSizes rows d.sizes × IsNumber steps rows d.budget × IsNumber port rows d.port
+abbrev pub GivesSession : List Row → Session → Type 0
+GivesSession rows d = IsPath (codes "FILE") rows d.file.now × AreSizes rows d.sizes × IsNumber steps rows d.budget × IsNumber port rows d.port
 
-abbrev pub IsExplore : List Row → Explore → Type 0
-IsExplore rows x = IsPath (codes "FILE") rows x.file.now × IsOption (codes "trace") rows (option_map (λ t. t.now) x.trace)
+abbrev pub GivesExplore : List Row → Explore → Type 0
+GivesExplore rows x = IsPath (codes "FILE") rows x.file.now × IsOption (codes "trace") rows (option_map (λ t. t.now) x.trace)
     × IsFlag (codes "quiet") rows x.quiet × AreSizes rows x.sizes × IsNumber states rows x.states × IsChoice witness rows x.witness
 
-abbrev pub IsHunt : List Row → Hunt → Type 0
-IsHunt rows h = IsPath (codes "FILE") rows h.file.now × IsOption (codes "trace") rows (option_map (λ prefix. prefix.now) h.trace) × AreSizes rows h.sizes
+abbrev pub GivesHunt : List Row → Hunt → Type 0
+GivesHunt rows h = IsPath (codes "FILE") rows h.file.now × IsOption (codes "trace") rows (option_map (λ prefix. prefix.now) h.trace) × AreSizes rows h.sizes
     × IsNumber steps rows h.budget × IsNumber runs rows h.runs × IsNumber start rows h.start
 
 -- the subcommand is this one, with these rows
@@ -274,20 +274,20 @@ Named stop name rest = (rows : List Row) × (stop ≡ Some (name, rows)) × rest
 
 -- the settings are those of the subcommand and its rows
 abbrev pub IsChosen : Option (Text × List Row) → Settings → Type 0
-IsChosen stop (asked.Words w) = Named stop (codes "words") (λ rows. IsWords rows w)
-IsChosen stop (asked.Check c) = Named stop (codes "check") (λ rows. IsCheck rows c)
-IsChosen stop (asked.Asm a) = Named stop (codes "asm") (λ rows. IsAsm rows a)
-IsChosen stop (asked.Dis d) = Named stop (codes "dis") (λ rows. IsDis rows d)
-IsChosen stop (asked.Run r) = Named stop (codes "run") (λ rows. IsRun rows r)
-IsChosen stop (asked.Hunt h) = Named stop (codes "hunt") (λ rows. IsHunt rows h)
-IsChosen stop (asked.Explore x) = Named stop (codes "explore") (λ rows. IsExplore rows x)
-IsChosen stop (asked.Replay r) = Named stop (codes "replay") (λ rows. IsReplay rows r)
-IsChosen stop (asked.Order o) = Named stop (codes "order") (λ rows. IsOrder rows o)
-IsChosen stop (asked.Story r) = Named stop (codes "story") (λ rows. IsReplay rows r)
-IsChosen stop (asked.Stats r) = Named stop (codes "stats") (λ rows. IsReplay rows r)
-IsChosen stop (asked.Picture p) = Named stop (codes "picture") (λ rows. IsPicture rows p)
-IsChosen stop (asked.Debug d) = Named stop (codes "debug") (λ rows. IsSession rows d)
-IsChosen stop (asked.Explain e) = Named stop (codes "explain") (λ rows. IsExplain rows e)
+IsChosen stop (asked.Words w) = Named stop (codes "words") (λ rows. GivesWords rows w)
+IsChosen stop (asked.Check c) = Named stop (codes "check") (λ rows. GivesCheck rows c)
+IsChosen stop (asked.Asm a) = Named stop (codes "asm") (λ rows. GivesAsm rows a)
+IsChosen stop (asked.Dis d) = Named stop (codes "dis") (λ rows. GivesDis rows d)
+IsChosen stop (asked.Run r) = Named stop (codes "run") (λ rows. GivesRun rows r)
+IsChosen stop (asked.Hunt h) = Named stop (codes "hunt") (λ rows. GivesHunt rows h)
+IsChosen stop (asked.Explore x) = Named stop (codes "explore") (λ rows. GivesExplore rows x)
+IsChosen stop (asked.Replay r) = Named stop (codes "replay") (λ rows. GivesReplay rows r)
+IsChosen stop (asked.Order o) = Named stop (codes "order") (λ rows. GivesOrder rows o)
+IsChosen stop (asked.Story r) = Named stop (codes "story") (λ rows. GivesReplay rows r)
+IsChosen stop (asked.Stats r) = Named stop (codes "stats") (λ rows. GivesReplay rows r)
+IsChosen stop (asked.Picture p) = Named stop (codes "picture") (λ rows. GivesPicture rows p)
+IsChosen stop (asked.Debug d) = Named stop (codes "debug") (λ rows. GivesSession rows d)
+IsChosen stop (asked.Explain e) = Named stop (codes "explain") (λ rows. GivesExplain rows e)
 
 -- the settings are those of the words
 abbrev pub IsAsked : List Text → Settings → Type 0

@@ -37,10 +37,11 @@ Exit status: 0 done, 2 a refused image (`ultra: I1` to `I8`) or command line, 3 
 /// How `run` goes, what it prints and tells, and its exit statuses.
 pub(crate) const RUN_ENDS: &str = "\
 Each processor runs on a thread of its own until it stops. A thread goes through rounds, as many as
---budget says: it takes a turn of its processor, and then asks for a step of the network, which a
-generator of numbers picks that begins with --start. Which thread comes first is up to this computer,
-so another run may come to another result, and may show what the sweep never does. A trace that is
-saved replays to the same report. That each processor gets on is not claimed.
+--budget says: it takes up to 64 instructions that refer to no shared word, as no other thread sees
+them, then a turn of its processor, and then asks for a step of the network, which a generator of
+numbers picks that begins with --start. Which thread comes first is up to this computer, so another run
+may come to another result, and may show what the sweep never does. A trace that is saved replays to
+the same report. That each processor gets on is not claimed.
 
 A run is one schedule of many, by the sweep too. One schedule that a program passes shows nothing of the
 others: `ultra hunt` tries many, and `ultra explore` tells every result of a small program.
@@ -59,8 +60,9 @@ Then `word I VVVVVVVV` is shared word I in hex, for each that is not zero.
 
 Faults are told on standard error, and then there is no report: `ultra: I1` to `I8` a refused image,
 `K1` a size out of the machine's limits, `budget` used up while a processor runs, `L2` more than
-4194304 steps on threads, `Start` a thread cannot be started, `link` FILE cannot be opened or standard
-output cannot be written, `I9` FILE cannot be read, `X5` OUT cannot be written, `memory`.
+4194304 steps on threads, `L4` a core on loan not taken back, `Start` a thread cannot be started,
+`link` FILE cannot be opened or standard output cannot be written, `I9` FILE cannot be read, `X5` OUT
+cannot be written, `memory`.
 
 Exit status: 0 done, 1 a processor stopped by a fault, 2 a refused image or command line, 3 a file or
 standard output failed, 4 no memory, no room for the steps, no thread, or the budget used up.";

@@ -1,8 +1,9 @@
 //! What the matches of a subcommand say.
 ghost use Rattle.std.specs.Prelude.{◌≡◌, ◌≤◌, ◌<◌, ◌^◌, codes, option_map};
 ghost use Rattle.clap.specs.Words.{found_of, rows_of, subcommand_rows_of};
-ghost use Rattle.settings.specs.Lines.{AreSizes, IsAsm, IsCheck, IsChoice, IsChosen, IsDis, IsExplain, IsExplore, IsFlag, IsHunt, IsNumber, IsOption};
-ghost use Rattle.settings.specs.Lines.{IsOrder, IsPath, IsPicture, IsReplay, IsRun, IsSession, IsWords};
+ghost use Rattle.settings.specs.Lines.{AreSizes, GivesAsm, GivesCheck, GivesDis, GivesExplain, GivesExplore, GivesHunt, IsChoice, IsChosen, IsFlag};
+ghost use Rattle.settings.specs.Lines.{IsNumber, IsOption};
+ghost use Rattle.settings.specs.Lines.{GivesOrder, IsPath, GivesPicture, GivesReplay, GivesRun, GivesSession, GivesWords};
 ghost use Rattle.settings.specs.Given.{HasAsm, HasDebug, HasDis, HasExplore, HasHunt, HasNumber, HasOrder, HasPath, HasPicture, HasReplay, HasRun, HasSizes};
 ghost use Rattle.settings.specs.Given.{IsComplete};
 ghost use Rattle.settings.specs.Forms.{bounded, bounds_as, ranged, ranged_as};
@@ -120,7 +121,7 @@ fn short(matches: &ArgMatches<'_>, option: NumberOption) -> u16
 
 fn words<'a>(matches: &ArgMatches<'a>) -> Words<'a>
     requires { HasPath (codes "FILE") (rows_of (found_of matches.now)) }
-    ensures { IsWords (rows_of (found_of matches.now)) result }
+    ensures { GivesWords (rows_of (found_of matches.now)) result }
 {
     Words {
         file: path(matches, "FILE"),
@@ -129,7 +130,7 @@ fn words<'a>(matches: &ArgMatches<'a>) -> Words<'a>
 
 fn check<'a>(matches: &ArgMatches<'a>) -> Check<'a>
     requires { HasPath (codes "FILE") (rows_of (found_of matches.now)) }
-    ensures { IsCheck (rows_of (found_of matches.now)) result }
+    ensures { GivesCheck (rows_of (found_of matches.now)) result }
 {
     Check {
         file: path(matches, "FILE"),
@@ -138,7 +139,7 @@ fn check<'a>(matches: &ArgMatches<'a>) -> Check<'a>
 
 fn asm<'a>(matches: &ArgMatches<'a>) -> Asm<'a>
     requires { HasAsm (rows_of (found_of matches.now)) }
-    ensures { IsAsm (rows_of (found_of matches.now)) result }
+    ensures { GivesAsm (rows_of (found_of matches.now)) result }
 {
     Asm {
         file: path(matches, "FILE"),
@@ -148,7 +149,7 @@ fn asm<'a>(matches: &ArgMatches<'a>) -> Asm<'a>
 
 fn dis<'a>(matches: &ArgMatches<'a>) -> Dis<'a>
     requires { HasDis (rows_of (found_of matches.now)) }
-    ensures { IsDis (rows_of (found_of matches.now)) result }
+    ensures { GivesDis (rows_of (found_of matches.now)) result }
 {
     Dis {
         file: path(matches, "FILE"),
@@ -172,7 +173,7 @@ fn sizes(matches: &ArgMatches<'_>) -> Sizes
 
 fn run<'a>(matches: &ArgMatches<'a>) -> Run<'a>
     requires { HasRun (rows_of (found_of matches.now)) }
-    ensures { IsRun (rows_of (found_of matches.now)) result }
+    ensures { GivesRun (rows_of (found_of matches.now)) result }
 {
     Run {
         file: path(matches, "FILE"),
@@ -187,7 +188,7 @@ fn run<'a>(matches: &ArgMatches<'a>) -> Run<'a>
 
 fn replay<'a>(matches: &ArgMatches<'a>) -> Replay<'a>
     requires { HasReplay (rows_of (found_of matches.now)) }
-    ensures { IsReplay (rows_of (found_of matches.now)) result }
+    ensures { GivesReplay (rows_of (found_of matches.now)) result }
 {
     Replay {
         trace: path(matches, "TRACE"),
@@ -197,7 +198,7 @@ fn replay<'a>(matches: &ArgMatches<'a>) -> Replay<'a>
 }
 
 fn explain<'a>(matches: &ArgMatches<'a>) -> Explain<'a>
-    ensures { IsExplain (rows_of (found_of matches.now)) result }
+    ensures { GivesExplain (rows_of (found_of matches.now)) result }
 {
     Explain {
         code: option(matches, "CODE"),
@@ -206,7 +207,7 @@ fn explain<'a>(matches: &ArgMatches<'a>) -> Explain<'a>
 
 fn order<'a>(matches: &ArgMatches<'a>) -> Order<'a>
     requires { HasOrder (rows_of (found_of matches.now)) }
-    ensures { IsOrder (rows_of (found_of matches.now)) result }
+    ensures { GivesOrder (rows_of (found_of matches.now)) result }
 {
     Order {
         replay: replay(matches),
@@ -217,7 +218,7 @@ fn order<'a>(matches: &ArgMatches<'a>) -> Order<'a>
 
 fn picture<'a>(matches: &ArgMatches<'a>) -> Picture<'a>
     requires { HasPicture (rows_of (found_of matches.now)) }
-    ensures { IsPicture (rows_of (found_of matches.now)) result }
+    ensures { GivesPicture (rows_of (found_of matches.now)) result }
 {
     Picture {
         replay: replay(matches),
@@ -227,7 +228,7 @@ fn picture<'a>(matches: &ArgMatches<'a>) -> Picture<'a>
 
 fn session<'a>(matches: &ArgMatches<'a>) -> Session<'a>
     requires { HasDebug (rows_of (found_of matches.now)) }
-    ensures { IsSession (rows_of (found_of matches.now)) result }
+    ensures { GivesSession (rows_of (found_of matches.now)) result }
 {
     Session {
         file: path(matches, "FILE"),
@@ -239,7 +240,7 @@ fn session<'a>(matches: &ArgMatches<'a>) -> Session<'a>
 
 fn explore<'a>(matches: &ArgMatches<'a>) -> Explore<'a>
     requires { HasExplore (rows_of (found_of matches.now)) }
-    ensures { IsExplore (rows_of (found_of matches.now)) result }
+    ensures { GivesExplore (rows_of (found_of matches.now)) result }
 {
     Explore {
         file: path(matches, "FILE"),
@@ -253,7 +254,7 @@ fn explore<'a>(matches: &ArgMatches<'a>) -> Explore<'a>
 
 fn hunt<'a>(matches: &ArgMatches<'a>) -> Hunt<'a>
     requires { HasHunt (rows_of (found_of matches.now)) }
-    ensures { IsHunt (rows_of (found_of matches.now)) result }
+    ensures { GivesHunt (rows_of (found_of matches.now)) result }
 {
     Hunt {
         file: path(matches, "FILE"),

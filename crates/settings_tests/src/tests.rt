@@ -18,8 +18,15 @@ use clap::Error;
 use clap::error::ErrorKind;
 use settings::{settings, status_of};
 use std::alloc::{AllocError, AllocGlobal};
+use std::fmt::Debug;
 use std::process::Abort;
 use std::test::Fail;
+use test_devices::assert_same;
+
+/// Ends the test where the two differ, and tells them and the case that they are of ([`assert_same!`]).
+fn same<T: PartialEq + Debug, A: Debug>(rt: &impl Abort, found: &T, wanted: &T, at: &A) {
+    assert_eq!(rt; found, wanted, "{at:?}");
+}
 
 /// Ways to ask for `words`, `asm` and `dis`.
 const TAKEN: &str = r#"$ ultra words a.hex
@@ -159,13 +166,13 @@ fn compare_error(
     answer: &str,
 ) -> Result<(), AllocError> {
     if error.kind() == ErrorKind::OutOfMemory {
-        assert_eq!(rt; status_of(error), 4, "at {line}");
+        assert_same!(rt; status_of(error), 4, line);
         return Err(AllocError);
     }
-    assert_eq!(rt; status_of(error), 2, "at {line}");
+    assert_same!(rt; status_of(error), 2, line);
     let (kind, part) = answer.split_once('\n').expect(rt, "a kind");
     let given = format!(in rt.alloc(); "{:?}", error.kind())?;
-    assert_eq!(rt; given.as_str(), kind, "at {line}");
+    assert_same!(rt; given.as_str(), kind, line);
     let text = format!(in rt.alloc(); "{error}")?;
     assert!(rt; text.contains(part), "at {line}: {text}");
     Ok(())
@@ -178,7 +185,7 @@ fn compare(rt: &(impl Abort + AllocGlobal), case: &str) -> Result<(), AllocError
     match settings(rt.alloc(), words.as_slice()) {
         Ok(taken) => {
             let given = format!(in rt.alloc(); "{taken:?}\n")?;
-            assert_eq!(rt; given.as_str(), answer, "at {line}");
+            assert_same!(rt; given.as_str(), answer, line);
             Ok(())
         }
         Err(error) => compare_error(rt, line, &error, answer),

@@ -2,6 +2,7 @@
 //! programs and traces.
 #![tactic(auto)]
 
+mod assert_same;
 mod image;
 mod programs;
 mod sink;

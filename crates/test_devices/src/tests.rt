@@ -1,32 +1,39 @@
 //! What the devices do at their calls.
 
-use crate::{Broken, Deaf, Endless, Full, Sink, Source};
+use crate::{Broken, Deaf, Endless, Full, Sink, Source, assert_same};
+use std::fmt::Debug;
 use std::io::{Read, Write};
+use std::process::Abort;
+
+/// Ends the test where the two differ, and tells them and the case that they are of ([`assert_same!`]).
+fn same<T: PartialEq + Debug, A: Debug>(rt: &impl Abort, found: &T, wanted: &T, at: &A) {
+    assert_eq!(rt; found, wanted, "{at:?}");
+}
 
 #[test]
 fn gives_a_byte_at_a_call(rt: HostRuntime) {
     let mut source = Source::new(b"ab", 2);
     let mut buf = [0u8; 4];
-    assert_eq!(rt; source.read(&mut buf).ok(), Some(1));
-    assert_eq!(rt; buf[0], b'a');
-    assert_eq!(rt; source.read(&mut buf).ok(), None);
-    assert_eq!(rt; source.read(&mut buf).ok(), Some(1));
-    assert_eq!(rt; buf[0], b'b');
-    assert_eq!(rt; source.read(&mut buf).ok(), Some(0));
-    assert_eq!(rt; Endless.read(&mut buf).ok(), Some(4));
+    assert_same!(rt; source.read(&mut buf).ok(), Some(1));
+    assert_same!(rt; buf[0], b'a');
+    assert_same!(rt; source.read(&mut buf).ok(), None);
+    assert_same!(rt; source.read(&mut buf).ok(), Some(1));
+    assert_same!(rt; buf[0], b'b');
+    assert_same!(rt; source.read(&mut buf).ok(), Some(0));
+    assert_same!(rt; Endless.read(&mut buf).ok(), Some(4));
     assert!(rt; Broken.read(&mut buf).is_err());
 }
 
 #[test]
 fn takes_a_byte_at_a_call(rt: HostRuntime) {
     let mut sink = Sink::new(Vec::new(rt.alloc()), 2);
-    assert_eq!(rt; sink.write(b"ab").ok(), Some(1));
-    assert_eq!(rt; sink.write(b"b").ok(), None);
-    assert_eq!(rt; sink.write(b"b").ok(), Some(1));
-    assert_eq!(rt; sink.write(b"").ok(), Some(0));
+    assert_same!(rt; sink.write(b"ab").ok(), Some(1));
+    assert_same!(rt; sink.write(b"b").ok(), None);
+    assert_same!(rt; sink.write(b"b").ok(), Some(1));
+    assert_same!(rt; sink.write(b"").ok(), Some(0));
     assert!(rt; sink.flush().is_ok());
-    assert_eq!(rt; sink.bytes.as_slice(), b"ab".as_slice());
-    assert_eq!(rt; Deaf.write(b"ab").ok(), Some(0));
+    assert_same!(rt; sink.bytes.as_slice(), b"ab".as_slice());
+    assert_same!(rt; Deaf.write(b"ab").ok(), Some(0));
     assert!(rt; Deaf.flush().is_ok());
     assert!(rt; Full.write(b"ab").is_err());
     assert!(rt; Full.flush().is_ok());

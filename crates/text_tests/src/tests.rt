@@ -7,3 +7,11 @@ mod disassembling;
 mod door;
 mod lines;
 mod printing;
+
+use std::fmt::Debug;
+use std::process::Abort;
+
+/// Ends the test where the two differ, and tells them and the case that they are of ([`assert_same!`]).
+fn same<T: PartialEq + Debug, A: Debug>(rt: &impl Abort, found: &T, wanted: &T, at: &A) {
+    assert_eq!(rt; found, wanted, "{at:?}");
+}

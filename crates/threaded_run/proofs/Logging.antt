@@ -60,6 +60,7 @@ threaded_is c known image meant opening opens log consoles ended =
 pub not_threaded : (c : Config) (known : Option (List ℕ)) → HasBegun c known → (f : Fault) → IsOfRun f → IsNotThreaded c known f
 not_threaded c known begun fault.Memory is = tt
 not_threaded c known begun fault.Full is = begun
+not_threaded c known begun fault.Loan is = begun
 not_threaded c known begun fault.Budget is = begun
 not_threaded c known begun fault.Start is = begun
 not_threaded c known begun (fault.Image e) is = absurd is

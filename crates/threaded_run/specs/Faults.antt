@@ -8,6 +8,7 @@ abbrev pub fault_of : RunFault → Fault
 fault_of run.Memory = fault.Memory
 fault_of run.Console = fault.Memory
 fault_of run.Full = fault.Full
+fault_of run.Loan = fault.Loan
 fault_of run.Budget = fault.Budget
 fault_of run.Start = fault.Start
 
@@ -15,6 +16,7 @@ fault_of run.Start = fault.Start
 abbrev pub IsOfRun : Fault → Type 0
 IsOfRun fault.Memory = Unit {0}
 IsOfRun fault.Full = Unit {0}
+IsOfRun fault.Loan = Unit {0}
 IsOfRun fault.Budget = Unit {0}
 IsOfRun fault.Start = Unit {0}
 IsOfRun other = ⊥

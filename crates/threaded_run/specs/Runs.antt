@@ -58,6 +58,7 @@ IsNotThreaded c known (fault.Image e) = IsImageRefusal c.shared_words known e
 IsNotThreaded c known fault.Size = ((image : ImageContents) × IsImageOf c.shared_words known image) × (IsWithinLimits c → ⊥)
 IsNotThreaded c known fault.Memory = Unit {0}
 IsNotThreaded c known fault.Full = HasBegun c known
+IsNotThreaded c known fault.Loan = HasBegun c known
 IsNotThreaded c known fault.Budget = HasBegun c known
 IsNotThreaded c known fault.Start = HasBegun c known
 IsNotThreaded c known other = ⊥

@@ -103,6 +103,7 @@ fn fault_of(fault: RunFault) -> Fault
     match fault {
         RunFault::Memory | RunFault::Console => Fault::Memory,
         RunFault::Full => Fault::Full,
+        RunFault::Loan => Fault::Loan,
         RunFault::Budget => Fault::Budget,
         RunFault::Start => Fault::Start,
     }

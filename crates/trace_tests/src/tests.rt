@@ -14,9 +14,16 @@ use order_command::order_command;
 use order_lines::Choice;
 use stats_command::stats_command;
 use std::alloc::Global;
+use std::fmt::Debug;
 use std::io::{self, Read, Write};
+use std::process::Abort;
 use std::test::Fail;
 use story_command::story_command;
+
+/// Ends the test where the two differ, and tells them and the case that they are of ([`assert_same!`]).
+fn same<T: PartialEq + Debug, A: Debug>(rt: &impl Abort, found: &T, wanted: &T, at: &A) {
+    assert_eq!(rt; found, wanted, "{at:?}");
+}
 
 /// The image of a text.
 fn image_of(alloc: Global, text: &str) -> Result<Vec<u8>, Fail> {

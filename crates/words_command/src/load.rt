@@ -3,7 +3,7 @@
 ghost use Rattle.std.specs.Prelude.{◌≡◌, ◌*◌, ◌≤◌, length, IfOk, IfErr};
 ghost use Rattle.elf_image.specs.Images.{IsPlaced, IsAccepted, IsMeant};
 ghost use Rattle.elf_image.specs.Spellings.{spelling};
-ghost use Rattle.machine_runs.specs.Machines.{IsIdle};
+ghost use Rattle.machine_runs.specs.Machines.{AreHome, IsIdle};
 ghost use Rattle.machine_runs.specs.Runs.{flat_state};
 ghost use Rattle.words_command.specs.Loading.{bytes_of_words, layout_of_words, flat_of_words, IsWantOfMemory};
 
@@ -33,6 +33,7 @@ pub fn words_machine(alloc: Global, words: &[u32]) -> Result<Machine, AllocError
     requires { length words.now ≤ 16384 }
     ensures flat { IfOk result (λ m. flat_state m ≡ flat_of_words words.now) }
     ensures idle { IfOk result IsIdle }
+    ensures home { IfOk result AreHome }
     ensures one { IfOk result (λ m. m.config.k ≡ 0) }
 {
     let layout = words_layout(alloc, words)?;

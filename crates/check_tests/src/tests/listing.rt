@@ -7,7 +7,7 @@ use std::alloc::Global;
 use std::fmt::Write;
 use std::io::Read;
 use std::test::Fail;
-use test_devices::{Deaf, Endless, HUNDRED_ADDS, Sink, Source};
+use test_devices::{Deaf, Endless, HUNDRED_ADDS, Sink, Source, assert_same};
 
 /// What checking a file comes to.
 #[derive(Drop)]
@@ -220,9 +220,9 @@ fn lists_one_fault(rt: HostRuntime) -> Result<(), Fail> {
     for (text, line) in &ONE_FAULT {
         let ran = run(rt.alloc(), text.as_bytes());
         let list = format!(in rt.alloc(); "{line}\n1 fault\n")?;
-        assert_eq!(rt; str::from_utf8(&ran.out)?, list.as_str());
-        assert_eq!(rt; ran.status, 1, "{line}");
-        assert_eq!(rt; ran.err.len(), 0);
+        assert_same!(rt; str::from_utf8(&ran.out)?, list.as_str());
+        assert_same!(rt; ran.status, 1, line);
+        assert_same!(rt; ran.err.len(), 0);
     }
     Ok(())
 }
@@ -233,15 +233,12 @@ fn has_what_assembling_tells(rt: HostRuntime) -> Result<(), Fail> {
     for (text, line) in &ONE_FAULT {
         let mut err = Vec::new(rt.alloc());
         let mut image = Meter::new(Vec::new(rt.alloc()));
-        assert_eq!(rt;
-            asm_command(rt.alloc(), text.as_bytes(), &mut image, &mut err),
-            2
-        );
+        assert_same!(rt; asm_command(rt.alloc(), text.as_bytes(), &mut image, &mut err), 2);
         let mut words = line.split(' ');
         let number = words.nth(1).ok_or("a number")?;
         let code = words.nth(2).ok_or("a code")?;
         let told = format!(in rt.alloc(); "ultra: {} line {number}\n", code.trim_end_matches(':'))?;
-        assert_eq!(rt; str::from_utf8(&err)?, told.as_str());
+        assert_same!(rt; str::from_utf8(&err)?, told.as_str());
     }
     Ok(())
 }
@@ -274,8 +271,8 @@ line 9 column 9: A6 ebreak: .code has room for 65536 bytes, and 65552 stand ther
 #[test]
 fn lists_each_line(rt: HostRuntime) -> Result<(), Fail> {
     let ran = run(rt.alloc(), MANY.as_bytes());
-    assert_eq!(rt; str::from_utf8(&ran.out)?, MANY_FAULTS);
-    assert_eq!(rt; ran.status, 1);
+    assert_same!(rt; str::from_utf8(&ran.out)?, MANY_FAULTS);
+    assert_same!(rt; ran.status, 1);
     Ok(())
 }
 
@@ -288,7 +285,7 @@ line 2 column 1: A4 a: the label stands on line 1 already
 line 3 column 1: A4 a: the label stands on line 1 already
 2 faults
 ";
-    assert_eq!(rt; str::from_utf8(&ran.out)?, list);
+    assert_same!(rt; str::from_utf8(&ran.out)?, list);
     Ok(())
 }
 
@@ -296,9 +293,9 @@ line 3 column 1: A4 a: the label stands on line 1 already
 fn lists_nothing_of_a_sound_text(rt: HostRuntime) {
     for text in ["", "\n\n# nothing\n", "ebreak", HUNDRED_ADDS] {
         let ran = run(rt.alloc(), text.as_bytes());
-        assert_eq!(rt; ran.out.as_slice(), b"no faults\n".as_slice());
-        assert_eq!(rt; ran.err.len(), 0);
-        assert_eq!(rt; ran.status, 0);
+        assert_same!(rt; ran.out.as_slice(), b"no faults\n".as_slice());
+        assert_same!(rt; ran.err.len(), 0);
+        assert_same!(rt; ran.status, 0);
     }
 }
 
@@ -331,24 +328,24 @@ fn lists_a_thousand(rt: HostRuntime) -> Result<(), Fail> {
     }
     list.push_str("..: there is no such instruction or directive\n1 fault\n")?;
     let ran = run(alloc, text.as_bytes());
-    assert_eq!(rt; str::from_utf8(&ran.out)?, list.as_str());
+    assert_same!(rt; str::from_utf8(&ran.out)?, list.as_str());
     Ok(())
 }
 
 #[test]
 fn refuses_what_is_no_text(rt: HostRuntime) {
     let ran = run(rt.alloc(), b"frob # \xFF\n".as_slice());
-    assert_eq!(rt; ran.err.as_slice(), b"ultra: link\n".as_slice());
-    assert_eq!(rt; ran.out.len(), 0);
-    assert_eq!(rt; ran.status, 3);
+    assert_same!(rt; ran.err.as_slice(), b"ultra: link\n".as_slice());
+    assert_same!(rt; ran.out.len(), 0);
+    assert_same!(rt; ran.status, 3);
     let ran = run(rt.alloc(), Endless);
-    assert_eq!(rt; ran.err.as_slice(), b"ultra: memory\n".as_slice());
-    assert_eq!(rt; ran.out.len(), 0);
-    assert_eq!(rt; ran.status, 4);
+    assert_same!(rt; ran.err.as_slice(), b"ultra: memory\n".as_slice());
+    assert_same!(rt; ran.out.len(), 0);
+    assert_same!(rt; ran.status, 4);
     let ran = run(rt.alloc(), Source::new(b"frob", 3));
-    assert_eq!(rt; ran.err.as_slice(), b"ultra: link\n".as_slice());
-    assert_eq!(rt; ran.out.len(), 0);
-    assert_eq!(rt; ran.status, 3);
+    assert_same!(rt; ran.err.as_slice(), b"ultra: link\n".as_slice());
+    assert_same!(rt; ran.out.len(), 0);
+    assert_same!(rt; ran.status, 3);
 }
 
 /// A writer of one byte at a call that fails at a call has the bytes of the calls before it.
@@ -359,17 +356,14 @@ fn tells_that_the_list_is_not_printed(rt: HostRuntime) {
         let mut out = Meter::new(Sink::new(Vec::new(alloc), fails_at));
         let mut err = Vec::new(alloc);
         let status = check_command(alloc, b"ebreak".as_slice(), &mut out, &mut err);
-        assert_eq!(rt;
-            out.device.bytes.as_slice(),
-            &b"no faults\n"[..fails_at - 1]
-        );
-        assert_eq!(rt; err.as_slice(), b"ultra: link\n".as_slice());
-        assert_eq!(rt; status, 3);
+        assert_same!(rt; out.device.bytes.as_slice(), &b"no faults\n"[..fails_at - 1]);
+        assert_same!(rt; err.as_slice(), b"ultra: link\n".as_slice());
+        assert_same!(rt; status, 3);
     }
     let mut err = Vec::new(alloc);
     let status = check_command(alloc, b"frob".as_slice(), &mut Meter::new(Deaf), &mut err);
-    assert_eq!(rt; err.as_slice(), b"ultra: link\n".as_slice());
-    assert_eq!(rt; status, 3);
+    assert_same!(rt; err.as_slice(), b"ultra: link\n".as_slice());
+    assert_same!(rt; status, 3);
 }
 
 /// Each allocation of this test is to be refused in turn. Then the answer is that of ample memory, or that there is none.
@@ -380,14 +374,12 @@ fn is_short_of_memory(rt: HostRuntime) -> Result<(), Fail> {
     let mut err = Vec::with_capacity(alloc, 64)?;
     let text = b"lop: jal ra, loop".as_slice();
     match check_command(alloc, text, &mut out, &mut err) {
-        1 => assert_eq!(rt;
-            out.device.bytes.as_slice(),
-            b"line 1 column 14: A5 loop: there is no such label; there is lop\n1 fault\n".as_slice()
-        ),
+        1 =>
+            assert_same!(rt; out.device.bytes.as_slice(), b"line 1 column 14: A5 loop: there is no such label; there is lop\n1 fault\n".as_slice()),
         status => {
-            assert_eq!(rt; status, 4);
-            assert_eq!(rt; err.as_slice(), b"ultra: memory\n".as_slice());
-            assert_eq!(rt; out.device.bytes.len(), 0);
+            assert_same!(rt; status, 4);
+            assert_same!(rt; err.as_slice(), b"ultra: memory\n".as_slice());
+            assert_same!(rt; out.device.bytes.len(), 0);
         }
     }
     Ok(())

@@ -6,7 +6,7 @@ use std::alloc::{AllocError, Global};
 use std::fmt::Write as _;
 use std::io::Read;
 use std::test::Fail;
-use test_devices::{Broken, Endless, Full};
+use test_devices::{Broken, Endless, Full, assert_same};
 use words_command::words_command;
 
 /// What a run of a file comes to.
@@ -111,9 +111,9 @@ fn reports_the_processor(rt: HostRuntime) -> Result<(), Fail> {
     for (text, registers, end, status) in &REPORTED {
         let ran = run(rt.alloc(), text.as_bytes());
         let report = report_with(rt.alloc(), registers, end)?;
-        assert_eq!(rt; ran.out.as_slice(), report.as_bytes(), "of {text}");
-        assert_eq!(rt; ran.err.len(), 0, "of {text}");
-        assert_eq!(rt; ran.status, *status, "of {text}");
+        assert_same!(rt; ran.out.as_slice(), report.as_bytes(), text);
+        assert_same!(rt; ran.err.len(), 0, text);
+        assert_same!(rt; ran.status, *status, text);
     }
     Ok(())
 }
@@ -122,9 +122,9 @@ fn reports_the_processor(rt: HostRuntime) -> Result<(), Fail> {
 fn refuses_what_is_no_program(rt: HostRuntime) {
     for (text, told) in &REFUSED {
         let ran = run(rt.alloc(), text.as_bytes());
-        assert_eq!(rt; ran.err.as_slice(), told.as_bytes(), "of {text}");
-        assert_eq!(rt; ran.out.len(), 0, "of {text}");
-        assert_eq!(rt; ran.status, 2, "of {text}");
+        assert_same!(rt; ran.err.as_slice(), told.as_bytes(), text);
+        assert_same!(rt; ran.out.len(), 0, text);
+        assert_same!(rt; ran.status, 2, text);
     }
 }
 
@@ -142,33 +142,33 @@ fn takes_as_many_lines_as_code_has_words(rt: HostRuntime) -> Result<(), Fail> {
     let whole = idle_lines(rt.alloc(), 16_384)?;
     let ran = run(rt.alloc(), whole.as_slice());
     let report = report_with(rt.alloc(), &[], "pc 00020000\nfault 2\n")?;
-    assert_eq!(rt; ran.out.as_slice(), report.as_bytes());
-    assert_eq!(rt; ran.status, 1);
+    assert_same!(rt; ran.out.as_slice(), report.as_bytes());
+    assert_same!(rt; ran.status, 1);
 
     let over = idle_lines(rt.alloc(), 16_385)?;
     let ran = run(rt.alloc(), over.as_slice());
-    assert_eq!(rt; ran.err.as_slice(), b"ultra: V1 line 16385\n".as_slice());
-    assert_eq!(rt; ran.status, 2);
+    assert_same!(rt; ran.err.as_slice(), b"ultra: V1 line 16385\n".as_slice());
+    assert_same!(rt; ran.status, 2);
     Ok(())
 }
 
 #[test]
 fn ends_a_program_that_goes_on(rt: HostRuntime) {
     let ran = run(rt.alloc(), b"00000063\n".as_slice());
-    assert_eq!(rt; ran.err.as_slice(), b"ultra: budget\n".as_slice());
-    assert_eq!(rt; ran.out.len(), 0);
-    assert_eq!(rt; ran.status, 4);
+    assert_same!(rt; ran.err.as_slice(), b"ultra: budget\n".as_slice());
+    assert_same!(rt; ran.out.len(), 0);
+    assert_same!(rt; ran.status, 4);
 }
 
 #[test]
 fn tells_what_the_outside_refuses(rt: HostRuntime) {
     let ran = run(rt.alloc(), Broken);
-    assert_eq!(rt; ran.err.as_slice(), b"ultra: link\n".as_slice());
-    assert_eq!(rt; ran.status, 3);
+    assert_same!(rt; ran.err.as_slice(), b"ultra: link\n".as_slice());
+    assert_same!(rt; ran.status, 3);
 
     let ran = run(rt.alloc(), Endless);
-    assert_eq!(rt; ran.err.as_slice(), b"ultra: V1 line 1\n".as_slice());
-    assert_eq!(rt; ran.status, 2);
+    assert_same!(rt; ran.err.as_slice(), b"ultra: V1 line 1\n".as_slice());
+    assert_same!(rt; ran.status, 2);
 
     // Standard output comes before the processor's fault, and the exit status is told without
     // standard error too.
@@ -176,7 +176,7 @@ fn tells_what_the_outside_refuses(rt: HostRuntime) {
     let mut full = Meter::new(Full);
     let status = words_command(rt.alloc(), b"00100093".as_slice(), &mut full, &mut err);
     assert!(rt; full.failed());
-    assert_eq!(rt; err.as_slice(), b"ultra: link\n".as_slice());
-    assert_eq!(rt; status, 3);
-    assert_eq!(rt; tell(Fault::Memory, &mut Full), 4);
+    assert_same!(rt; err.as_slice(), b"ultra: link\n".as_slice());
+    assert_same!(rt; status, 3);
+    assert_same!(rt; tell(Fault::Memory, &mut Full), 4);
 }

@@ -7,6 +7,7 @@ use rv_table::{
     AmoOp, BranchOp, Immediate, ImmediateOp, Insn, LoadOp, Register, RegisterOp, ShiftOp, StoreOp,
     UpperOp,
 };
+use test_devices::assert_same;
 
 fn x(number: u8) -> Register
     requires { number < 32 }
@@ -78,8 +79,8 @@ fn computations(rt: HostRuntime) {
         (0x03DF_7FB3, remu), // remu x31, x30, x29
         (0x8000_02B7, lui), // lui x5, 0x80000
     ] {
-        assert_eq!(rt; decode(word), Some(insn));
-        assert_eq!(rt; encode(&insn), word);
+        assert_same!(rt; decode(word), Some(insn));
+        assert_same!(rt; encode(&insn), word);
     }
 }
 
@@ -118,8 +119,8 @@ fn memory(rt: HostRuntime) {
         (0x04B6_252F, amoadd(x(10), x(11), x(12), true, false)), // amoadd.w.aq x10, x11, (x12)
         (0x0072_A42F, amoadd(x(8), x(7), x(5), false, false)), // amoadd.w x8, x7, (x5)
     ] {
-        assert_eq!(rt; decode(word), Some(insn));
-        assert_eq!(rt; encode(&insn), word);
+        assert_same!(rt; decode(word), Some(insn));
+        assert_same!(rt; encode(&insn), word);
     }
 }
 
@@ -153,8 +154,8 @@ fn control(rt: HostRuntime) {
         (0x0000_0073, Insn::Ecall),
         (0x0010_0073, Insn::Ebreak),
     ] {
-        assert_eq!(rt; decode(word), Some(insn));
-        assert_eq!(rt; encode(&insn), word);
+        assert_same!(rt; decode(word), Some(insn));
+        assert_same!(rt; encode(&insn), word);
     }
 }
 
@@ -168,6 +169,6 @@ fn words_that_spell_nothing(rt: HostRuntime) {
         0x0631_00B3, // mul with bit 26 set
         0x4231_00B3, // sub with bit 25 set
     ] {
-        assert_eq!(rt; decode(word), None);
+        assert_same!(rt; decode(word), None);
     }
 }

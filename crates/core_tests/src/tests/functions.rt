@@ -4,6 +4,7 @@ ghost use Rattle.std.specs.Prelude.{◌≤◌, ◌≤ℤ◌};
 
 use phi_algebra::{Phi, SignedRange, UnsignedRange, compose};
 use rv_table::{AmoOp, StoreOp};
+use test_devices::assert_same;
 
 const LOWEST: u32 = 0x8000_0000;
 
@@ -46,7 +47,7 @@ fn applies_at_the_sign_boundary(rt: HostRuntime) {
     ];
     for (phi, values) in rows {
         for i in 0..4 {
-            assert_eq!(rt; phi.apply(words[i]), values[i], "{phi:?} at {}", words[i]);
+            assert_same!(rt; phi.apply(words[i]), values[i], (&phi, &words[i]));
         }
     }
 }
@@ -72,11 +73,7 @@ fn each_amo_has_its_value(rt: HostRuntime) {
         (AmoOp::Maxu, 0, 0xFFFF_FFFF, 0xFFFF_FFFF),
     ];
     for (op, before, value, after) in rows {
-        assert_eq!(rt;
-            phi_instructions::amo(op, value).apply(before),
-            after,
-            "{op:?} {value} at {before}"
-        );
+        assert_same!(rt; phi_instructions::amo(op, value).apply(before), after, (&op, &value, &before));
     }
 }
 
@@ -153,7 +150,7 @@ fn each_instruction_has_its_function(rt: HostRuntime) {
         ),
     ];
     for (phi, expected) in rows {
-        assert_eq!(rt; phi, expected);
+        assert_same!(rt; phi, expected);
     }
 }
 
@@ -182,7 +179,7 @@ fn stores_keep_the_other_bytes(rt: HostRuntime) {
         (phi_instructions::load(), 0x1122_3344),
     ];
     for (phi, after) in rows {
-        assert_eq!(rt; phi.apply(0x1122_3344), after, "{phi:?}");
+        assert_same!(rt; phi.apply(0x1122_3344), after, phi);
     }
 }
 
@@ -227,17 +224,17 @@ fn identities_and_constants_are_known(rt: HostRuntime) {
         (clamp_unsigned(5, 5), false, true),
     ];
     for (phi, identity, constant) in rows {
-        assert_eq!(rt; phi.is_identity(), identity, "{phi:?}");
-        assert_eq!(rt; phi.is_constant(), constant, "{phi:?}");
+        assert_same!(rt; phi.is_identity(), identity, phi);
+        assert_same!(rt; phi.is_constant(), constant, phi);
     }
 }
 
 #[test]
 fn ranges_keep_their_ends(rt: HostRuntime) {
     let signed = SignedRange::new(-5, 3);
-    assert_eq!(rt; (signed.lo(), signed.hi()), (-5, 3));
+    assert_same!(rt; (signed.lo(), signed.hi()), (-5, 3));
     let unsigned = UnsignedRange::new(2, 9);
-    assert_eq!(rt; (unsigned.lo(), unsigned.hi()), (2, 9));
+    assert_same!(rt; (unsigned.lo(), unsigned.hi()), (2, 9));
 }
 
 #[test]
@@ -300,11 +297,7 @@ fn compositions_are_of_the_kind_said(rt: HostRuntime) {
         (clamp(0, 9), clamp_unsigned(0, 9), None),
     ];
     for (first, second, expected) in rows {
-        assert_eq!(rt;
-            compose(&first, &second),
-            expected,
-            "{first:?} then {second:?}"
-        );
+        assert_same!(rt; compose(&first, &second), expected, (&first, &second));
     }
 }
 
@@ -322,7 +315,7 @@ fn an_identity_applies_as_what_follows(rt: HostRuntime) {
     for second in rows {
         for x in [0, HIGHEST, LOWEST, 0xFFFF_FFFF] {
             let value = compose(&Phi::Add(0), &second).map(|phi| phi.apply(x));
-            assert_eq!(rt; value, Some(second.apply(x)), "{second:?} at {x}");
+            assert_same!(rt; value, Some(second.apply(x)), (&second, &x));
         }
     }
 }

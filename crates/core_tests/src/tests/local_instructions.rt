@@ -7,6 +7,7 @@ use local_runs::{LocalEnd, Retirements, run_local};
 use std::alloc::AllocGlobal;
 use std::process::Abort;
 use std::test::Fail;
+use test_devices::assert_same;
 
 /// `lui x5, 0x80000`, `addi x6, x0, 100`, `addi x7, x0, 1`, and then `amoadd.w x8, x7, (x5)`, which refers to the shared word 0.
 static ADDS: [u32; 4] = [0x8000_02B7, 0x0640_0313, 0x0010_0393, 0x0072_A42F];
@@ -54,11 +55,11 @@ impl Rig {
 
 /// Looks at all retirements: where each stood, what it wrote to a register, and what it gave to the console.
 fn are_listed(rt: &impl Abort, list: &Retirements, rows: &[(u32, Option<u32>, Option<u8>)]) {
-    assert_eq!(rt; list.len(), rows.len());
+    assert_same!(rt; list.len(), rows.len());
     for (retired, &(pc, result, out)) in list.as_slice().iter().zip(rows) {
-        assert_eq!(rt; retired.pc, pc);
-        assert_eq!(rt; retired.result, result, "at {pc:x}");
-        assert_eq!(rt; retired.out, out, "at {pc:x}");
+        assert_same!(rt; retired.pc, pc);
+        assert_same!(rt; retired.result, result, pc);
+        assert_same!(rt; retired.out, out, pc);
     }
 }
 
@@ -68,16 +69,16 @@ fn a_shared_word_ends_it(rt: HostRuntime) -> Result<(), Fail> {
     let mut rig = before(&rt, &ADDS)?;
     let mut list = Retirements::new(rt.alloc(), 64)?;
     for _again in 0..2 {
-        assert_eq!(rt; rig.run(&mut list), LocalEnd::Other);
+        assert_same!(rt; rig.run(&mut list), LocalEnd::Other);
         let rows = [
             (0x0001_0000, Some(0x8000_0000), None),
             (0x0001_0004, Some(100), None),
             (0x0001_0008, Some(1), None),
         ];
         are_listed(&rt, &list, &rows);
-        assert_eq!(rt; rig.core.pc(), 0x0001_000C);
-        assert_eq!(rt; rig.core.registers()[6], 100);
-        assert_eq!(rt; rig.core.registers()[8], 0);
+        assert_same!(rt; rig.core.pc(), 0x0001_000C);
+        assert_same!(rt; rig.core.registers()[6], 100);
+        assert_same!(rt; rig.core.registers()[8], 0);
     }
     Ok(())
 }
@@ -87,7 +88,7 @@ fn a_shared_word_ends_it(rt: HostRuntime) -> Result<(), Fail> {
 fn bytes_and_full_lists_end_it(rt: HostRuntime) -> Result<(), Fail> {
     let mut rig = before(&rt, &PRINTS)?;
     let mut first = Retirements::new(rt.alloc(), 3)?;
-    assert_eq!(rt; rig.run(&mut first), LocalEnd::Most);
+    assert_same!(rt; rig.run(&mut first), LocalEnd::Most);
     let rows = [
         (0x0001_0000, Some(1), None),
         (0x0001_0004, Some(65), None),
@@ -95,10 +96,10 @@ fn bytes_and_full_lists_end_it(rt: HostRuntime) -> Result<(), Fail> {
     ];
     are_listed(&rt, &first, &rows);
     let mut second = Retirements::new(rt.alloc(), 3)?;
-    assert_eq!(rt; second.most(), 3);
-    assert_eq!(rt; rig.run(&mut second), LocalEnd::Out(65));
+    assert_same!(rt; second.most(), 3);
+    assert_same!(rt; rig.run(&mut second), LocalEnd::Out(65));
     are_listed(&rt, &second, &[(0x0001_000C, None, Some(65))]);
-    assert_eq!(rt; rig.run(&mut second), LocalEnd::Most);
+    assert_same!(rt; rig.run(&mut second), LocalEnd::Most);
     let rows = [
         (0x0001_000C, None, Some(65)),
         (0x0001_0010, Some(299), None),
@@ -106,10 +107,10 @@ fn bytes_and_full_lists_end_it(rt: HostRuntime) -> Result<(), Fail> {
     ];
     are_listed(&rt, &second, &rows);
     let mut third = Retirements::new(rt.alloc(), 1)?;
-    assert_eq!(rt; rig.run(&mut third), LocalEnd::Out(65));
-    assert_eq!(rt; rig.run(&mut third), LocalEnd::Most);
+    assert_same!(rt; rig.run(&mut third), LocalEnd::Out(65));
+    assert_same!(rt; rig.run(&mut third), LocalEnd::Most);
     are_listed(&rt, &third, &[(0x0001_000C, None, Some(65))]);
-    assert_eq!(rt; rig.core.pc(), 0x0001_0010);
+    assert_same!(rt; rig.core.pc(), 0x0001_0010);
     Ok(())
 }
 
@@ -119,10 +120,10 @@ fn stops_end_it(rt: HostRuntime) -> Result<(), Fail> {
     for word in [0x0000_0073, 0x0010_0073] {
         let mut rig = before(&rt, &[word])?;
         let mut list = Retirements::new(rt.alloc(), 2)?;
-        assert_eq!(rt; rig.run(&mut list), LocalEnd::Other);
-        assert_eq!(rt; list.len(), 0);
-        assert_eq!(rt; rig.core.status(), Status::Running);
-        assert_eq!(rt; rig.core.pc(), CODE_START);
+        assert_same!(rt; rig.run(&mut list), LocalEnd::Other);
+        assert_same!(rt; list.len(), 0);
+        assert_same!(rt; rig.core.status(), Status::Running);
+        assert_same!(rt; rig.core.pc(), CODE_START);
     }
     Ok(())
 }
@@ -134,15 +135,15 @@ fn stopped_cores_and_copies(rt: HostRuntime) -> Result<(), Fail> {
     let core = rig.core.copy()?;
     rig.core.stop(Cause::Halt(7));
     let mut list = Retirements::new(rt.alloc(), 2)?;
-    assert_eq!(rt; rig.run(&mut list), LocalEnd::Other);
-    assert_eq!(rt; list.len(), 0);
+    assert_same!(rt; rig.run(&mut list), LocalEnd::Other);
+    assert_same!(rt; list.len(), 0);
     rig.core = core;
-    assert_eq!(rt; rig.run(&mut list), LocalEnd::Most);
-    assert_eq!(rt; rig.core.pc(), 0x0001_0008);
+    assert_same!(rt; rig.run(&mut list), LocalEnd::Most);
+    assert_same!(rt; rig.core.pc(), 0x0001_0008);
     let full = rig.core.copy()?;
     assert!(rt; full.equals(&rig.core));
     let mut more = Retirements::new(rt.alloc(), 1)?;
-    assert_eq!(rt; rig.run(&mut more), LocalEnd::Most);
+    assert_same!(rt; rig.run(&mut more), LocalEnd::Most);
     assert!(rt; !full.equals(&rig.core));
     Ok(())
 }

@@ -6,6 +6,7 @@ use memory_module::Module;
 use phi_algebra::Phi;
 use rv_table::Insn;
 use std::test::Fail;
+use test_devices::assert_same;
 
 #[test]
 fn local_accesses(rt: HostRuntime) -> Result<(), Fail> {
@@ -21,20 +22,20 @@ fn local_accesses(rt: HostRuntime) -> Result<(), Fail> {
         (0x0003_0000, Size::Word, Err(Fault::NoRegion)),
         (0x0001_FFFF, Size::Byte, Err(Fault::NoRegion)),
     ] {
-        assert_eq!(rt; local.load(address, size), number, "at {address:x}");
+        assert_same!(rt; local.load(address, size), number, address);
     }
-    assert_eq!(rt; local.store(0x0002_0002, Size::Half, 0xAABB_CCDD), Ok(()));
-    assert_eq!(rt; local.number(0, Size::Word), 0xCCDD_2211);
-    assert_eq!(rt; local.store(0x0002_0001, Size::Byte, 0xEE), Ok(()));
-    assert_eq!(rt; local.number(0, Size::Word), 0xCCDD_EE11);
+    assert_same!(rt; local.store(0x0002_0002, Size::Half, 0xAABB_CCDD), Ok(()));
+    assert_same!(rt; local.number(0, Size::Word), 0xCCDD_2211);
+    assert_same!(rt; local.store(0x0002_0001, Size::Byte, 0xEE), Ok(()));
+    assert_same!(rt; local.number(0, Size::Word), 0xCCDD_EE11);
     let refused = local.store(0x0002_0002, Size::Word, 0);
-    assert_eq!(rt; refused, Err(Fault::AddressNotAligned));
+    assert_same!(rt; refused, Err(Fault::AddressNotAligned));
     let refused = local.store(0x0004_0000, Size::Word, 0);
-    assert_eq!(rt; refused, Err(Fault::NoRegion));
-    assert_eq!(rt; local.number(0, Size::Word), 0xCCDD_EE11);
+    assert_same!(rt; refused, Err(Fault::NoRegion));
+    assert_same!(rt; local.number(0, Size::Word), 0xCCDD_EE11);
     local.set_number(4, Size::Word, 0x0102_0304);
-    assert_eq!(rt; local.number(4, Size::Byte), 4);
-    assert_eq!(rt; local.number(7, Size::Byte), 1);
+    assert_same!(rt; local.number(4, Size::Byte), 4);
+    assert_same!(rt; local.number(7, Size::Byte), 1);
     Ok(())
 }
 
@@ -49,15 +50,12 @@ fn code_accesses(rt: HostRuntime) -> Result<(), Fail> {
         (0x0000_FFFC, Err(Fault::FetchOutsideCode)),
         (0x0002_0004, Err(Fault::FetchOutsideCode)),
     ] {
-        assert_eq!(rt; code.fetch(pc), insn, "at {pc:x}");
+        assert_same!(rt; code.fetch(pc), insn, pc);
     }
-    assert_eq!(rt; code.load(0x0001_0004, Size::Word), Ok(0x73));
-    assert_eq!(rt;
-        code.load(0x0001_0005, Size::Half),
-        Err(Fault::AddressNotAligned)
-    );
-    assert_eq!(rt; code.load(0x0002_0004, Size::Word), Err(Fault::NoRegion));
-    assert_eq!(rt; code.number(4, Size::Byte), 0x73);
+    assert_same!(rt; code.load(0x0001_0004, Size::Word), Ok(0x73));
+    assert_same!(rt; code.load(0x0001_0005, Size::Half), Err(Fault::AddressNotAligned));
+    assert_same!(rt; code.load(0x0002_0004, Size::Word), Err(Fault::NoRegion));
+    assert_same!(rt; code.number(4, Size::Byte), 0x73);
     Ok(())
 }
 
@@ -79,12 +77,12 @@ fn words_are_served(rt: HostRuntime) -> Result<(), Fail> {
         (1, Phi::Bits { and: 0, xor: 5 }, 0, 5),
     ] {
         assert!(rt; (place as usize) < module.len());
-        assert_eq!(rt; module.serve(place, &phi), old, "{phi:?}");
-        assert_eq!(rt; module.word(place), Some(new), "{phi:?}");
+        assert_same!(rt; module.serve(place, &phi), old, phi);
+        assert_same!(rt; module.word(place), Some(new), phi);
     }
-    assert_eq!(rt; module.word(0), Some(6));
-    assert_eq!(rt; module.word(1), Some(5));
-    assert_eq!(rt; module.word(2), Some(0xBB22_3344));
+    assert_same!(rt; module.word(0), Some(6));
+    assert_same!(rt; module.word(1), Some(5));
+    assert_same!(rt; module.word(2), Some(0xBB22_3344));
     Ok(())
 }
 
@@ -93,10 +91,10 @@ fn words_are_served(rt: HostRuntime) -> Result<(), Fail> {
 fn places(rt: HostRuntime) -> Result<(), Fail> {
     for words in [0_u32, 1, 262_144] {
         let module = Module::new(rt.alloc(), words)?;
-        assert_eq!(rt; module.len(), words as usize);
-        assert_eq!(rt; module.word(words), None);
+        assert_same!(rt; module.len(), words as usize);
+        assert_same!(rt; module.word(words), None);
         if words > 0 {
-            assert_eq!(rt; module.word(words - 1), Some(0));
+            assert_same!(rt; module.word(words - 1), Some(0));
         }
     }
     Ok(())

@@ -6,6 +6,7 @@ use elf_image::{Bytes, Layout};
 use flat_machine::{Config, Status};
 use machine_opening::{new_modules, new_ports};
 use std::test::Fail;
+use test_devices::assert_same;
 
 /// Two processors, which share five words.
 const TWO: Config = Config {
@@ -31,17 +32,18 @@ fn ports(rt: HostRuntime) -> Result<(), Fail> {
     assert!(rt; layout.code.len() <= 0x1_0000);
     assert!(rt; layout.shared.len() <= 20);
     let ports = new_ports(rt.alloc(), TWO, &layout)?;
-    assert_eq!(rt; ports.len(), 2);
+    assert_same!(rt; ports.len(), 2);
     for (number, port) in ports.iter().enumerate() {
         assert!(rt; !port.is_open(), "{number}");
-        assert_eq!(rt; port.core().pc(), 0x0001_0008, "{number}");
-        assert_eq!(rt; port.core().status(), Status::Running, "{number}");
-        assert_eq!(rt; *port.core().registers(), [0; 32], "{number}");
-        assert_eq!(rt; port.core().setting().number, number as u8, "{number}");
-        assert_eq!(rt; port.core().setting().processors, 2, "{number}");
-        assert_eq!(rt; port.core().setting().shared_words, 5, "{number}");
-        assert_eq!(rt; port.core().byte(0x0002_0000), Ok(0xA5), "{number}");
-        assert_eq!(rt; port.core().byte(0x0002_0001), Ok(0), "{number}");
+        let core = port.core().expect(&rt, "no core is away");
+        assert_same!(rt; core.pc(), 0x0001_0008, number);
+        assert_same!(rt; core.status(), Status::Running, number);
+        assert_same!(rt; *core.registers(), [0; 32], number);
+        assert_same!(rt; core.setting().number, number as u8, number);
+        assert_same!(rt; core.setting().processors, 2, number);
+        assert_same!(rt; core.setting().shared_words, 5, number);
+        assert_same!(rt; core.byte(0x0002_0000), Ok(0xA5), number);
+        assert_same!(rt; core.byte(0x0002_0001), Ok(0), number);
     }
     Ok(())
 }
@@ -53,7 +55,7 @@ fn modules(rt: HostRuntime) -> Result<(), Fail> {
         1, 0, 0, 0, 2, 0, 0, 0, 3, 0, 0, 0, 0x44, 0x33, 0x22, 0x11, 0xBB, 0xAA,
     ];
     let modules = new_modules(rt.alloc(), TWO, &bytes)?;
-    assert_eq!(rt; modules.len(), 2);
+    assert_same!(rt; modules.len(), 2);
     for (number, place, word) in [
         (0, 0, 1),
         (1, 0, 2),
@@ -65,7 +67,7 @@ fn modules(rt: HostRuntime) -> Result<(), Fail> {
             Some(module) => module.word(place),
             None => None,
         };
-        assert_eq!(rt; found, Some(word), "{number} {place}");
+        assert_same!(rt; found, Some(word), (&number, &place));
     }
     Ok(())
 }

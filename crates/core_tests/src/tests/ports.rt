@@ -1,6 +1,7 @@
 //! Turns and pokes of one port. The words and the values come from the manual.
 
 use flat_machine::{CODE_START, Cause, Fault, Retired, Setting, Status};
+use hart::{Core, Taken};
 use local_memory::Code;
 use machine_ports::{Begun, Port};
 use phi_algebra::Phi;
@@ -8,6 +9,7 @@ use rv_table::{AmoOp, Immediate, ImmediateOp, Insn, Register};
 use std::alloc::AllocGlobal;
 use std::process::Abort;
 use std::test::Fail;
+use test_devices::assert_same;
 
 /// `addi x3, x1, 7`.
 const ADDI: u32 = 0x0070_8193;
@@ -34,10 +36,11 @@ fn before(rt: &(impl Abort + AllocGlobal), word: u32) -> Result<Rig, Fail> {
         shared_words: 16,
     };
     let code = Code::new(rt.alloc(), &word.to_le_bytes())?;
-    let mut port = Port::new(rt.alloc(), setting, CODE_START, &[])?;
-    assert!(rt; port.poke_register(1, 0x8000_0008));
-    assert!(rt; port.poke_register(2, 5));
-    Ok(Rig { code, port })
+    let port = Port::new(rt.alloc(), setting, CODE_START, &[])?;
+    let mut rig = Rig { code, port };
+    assert!(rt; rig.poke_register(rt, 1, 0x8000_0008));
+    assert!(rt; rig.poke_register(rt, 2, 5));
+    Ok(rig)
 }
 
 impl Rig {
@@ -46,6 +49,23 @@ impl Rig {
         assert!(rt; self.port.is_running());
         assert!(rt; !self.port.is_open());
         self.port.begin(&self.code)
+    }
+
+    /// The core, which is here.
+    fn core(&self, rt: &impl Abort) -> &Core {
+        self.port.core().expect(rt, "the core is here")
+    }
+
+    /// Writes a register of the core, which is here.
+    fn poke_register(&mut self, rt: &impl Abort, register: u8, value: u32) -> bool {
+        assert!(rt; !self.port.is_away());
+        self.port.poke_register(register, value)
+    }
+
+    /// Writes a byte of the local memory of the core, which is here.
+    fn poke_byte(&mut self, rt: &impl Abort, address: u32, value: u8) -> bool {
+        assert!(rt; !self.port.is_away());
+        self.port.poke_byte(address, value)
     }
 }
 
@@ -64,10 +84,10 @@ fn local_instruction(rt: HostRuntime) -> Result<(), Fail> {
         result: Some(0x8000_000F),
         out: None,
     };
-    assert_eq!(rt; rig.begin(&rt), Begun::Retired(retired));
+    assert_same!(rt; rig.begin(&rt), Begun::Retired(retired));
     assert!(rt; !rig.port.is_open());
-    assert_eq!(rt; rig.port.core().pc(), 0x0001_0004);
-    assert_eq!(rt; rig.port.core().registers()[3], 0x8000_000F);
+    assert_same!(rt; rig.core(&rt).pc(), 0x0001_0004);
+    assert_same!(rt; rig.core(&rt).registers()[3], 0x8000_000F);
     Ok(())
 }
 
@@ -79,11 +99,11 @@ fn reference(rt: HostRuntime) -> Result<(), Fail> {
         word: 2,
         phi: Phi::Add(5),
     };
-    assert_eq!(rt; rig.begin(&rt), referred);
+    assert_same!(rt; rig.begin(&rt), referred);
     assert!(rt; rig.port.is_open());
     assert!(rt; rig.port.is_running());
-    assert_eq!(rt; rig.port.core().pc(), 0x0001_0000);
-    assert_eq!(rt; rig.port.core().registers()[3], 0);
+    assert_same!(rt; rig.core(&rt).pc(), 0x0001_0000);
+    assert_same!(rt; rig.core(&rt).registers()[3], 0);
     Ok(())
 }
 
@@ -100,11 +120,11 @@ fn stops(rt: HostRuntime) -> Result<(), Fail> {
         ),
     ] {
         let mut rig = before(&rt, word)?;
-        assert_eq!(rt; rig.begin(&rt), Begun::Stopped(cause), "{word:08x}");
+        assert_same!(rt; rig.begin(&rt), Begun::Stopped(cause), word);
         assert!(rt; !rig.port.is_running(), "{word:08x}");
         assert!(rt; !rig.port.is_open(), "{word:08x}");
-        assert_eq!(rt; rig.port.core().status(), status, "{word:08x}");
-        assert_eq!(rt; rig.port.core().pc(), 0x0001_0000, "{word:08x}");
+        assert_same!(rt; rig.core(&rt).status(), status, word);
+        assert_same!(rt; rig.core(&rt).pc(), 0x0001_0000, word);
     }
     Ok(())
 }
@@ -126,19 +146,12 @@ fn registers_are_poked(rt: HostRuntime) -> Result<(), Fail> {
         (33, 4, false, 0xFFFF_FFFC),
         (255, 4, false, 0xFFFF_FFFC),
     ] {
-        assert_eq!(rt;
-            rig.port.poke_register(register, value),
-            is_written,
-            "{register} {value}"
-        );
-        assert_eq!(rt; rig.port.core().pc(), pc, "{register} {value}");
+        assert_same!(rt; rig.poke_register(&rt, register, value), is_written, (&register, &value));
+        assert_same!(rt; rig.core(&rt).pc(), pc, (&register, &value));
     }
-    let registers = rig.port.core().registers();
-    assert_eq!(rt;
-        (registers[0], registers[1], registers[2]),
-        (0, 0xFFFF_FFFF, 5)
-    );
-    assert_eq!(rt; (registers[30], registers[31]), (0, 3));
+    let registers = rig.core(&rt).registers();
+    assert_same!(rt; (registers[0], registers[1], registers[2]), (0, 0xFFFF_FFFF, 5));
+    assert_same!(rt; (registers[30], registers[31]), (0, 3));
     Ok(())
 }
 
@@ -153,14 +166,28 @@ fn bytes_are_poked(rt: HostRuntime) -> Result<(), Fail> {
         (0x0003_0000, false),
         (0x8000_0000, false),
     ] {
-        assert_eq!(rt;
-            rig.port.poke_byte(address, 0xA5),
-            is_written,
-            "{address:08x}"
-        );
-        let byte = rig.port.core().byte(address).ok();
-        assert_eq!(rt; byte, is_written.then_some(0xA5), "{address:08x}");
+        assert_same!(rt; rig.poke_byte(&rt, address, 0xA5), is_written, address);
+        let byte = rig.core(&rt).byte(address).ok();
+        assert_same!(rt; byte, is_written.then_some(0xA5), address);
     }
-    assert_eq!(rt; rig.port.core().byte(0x0002_0001).ok(), Some(0));
+    assert_same!(rt; rig.core(&rt).byte(0x0002_0001).ok(), Some(0));
+    Ok(())
+}
+
+/// A core that is taken out of its port is no longer there. It goes on by itself, and can be put back.
+#[test]
+fn cores_are_taken_and_put(rt: HostRuntime) -> Result<(), Fail> {
+    let mut rig = before(&rt, ADDI)?;
+    let mut core = rig.port.take_core().expect(&rt, "the core is here");
+    assert!(rt; rig.port.is_away());
+    assert!(rt; rig.port.core().is_none());
+    assert!(rt; rig.port.take_core().is_none());
+    assert!(rt; !rig.port.is_running());
+    assert!(rt; matches!(core.take(&rig.code), Taken::Retired(_)));
+    rig.port.put_core(core);
+    assert!(rt; !rig.port.is_away());
+    assert!(rt; rig.port.is_running());
+    assert_same!(rt; rig.core(&rt).pc(), 0x0001_0004);
+    assert_same!(rt; rig.core(&rt).registers()[3], 0x8000_000F);
     Ok(())
 }

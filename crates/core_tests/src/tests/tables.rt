@@ -5,6 +5,7 @@ use messages::Seconds;
 use rv_table::{AmoOp, Format, Immediate, Insn, Register, RegisterOp, Row, ShiftOp, row_of};
 use std::test::Fail;
 use steps::Outcome;
+use test_devices::assert_same;
 
 /// Masks and matches as the manual's listing has them.
 #[test]
@@ -50,10 +51,10 @@ fn rows_of_instructions(rt: HostRuntime) -> Result<(), Fail> {
             match_,
             format,
         };
-        assert_eq!(rt; *row_of(&insn), want);
+        assert_same!(rt; *row_of(&insn), want);
     }
-    assert_eq!(rt; rs2.number(), 31);
-    assert_eq!(rt; Immediate::<12>::new(0xFFF).field(), 0xFFF);
+    assert_same!(rt; rs2.number(), 31);
+    assert_same!(rt; Immediate::<12>::new(0xFFF).field(), 0xFFF);
     Ok(())
 }
 
@@ -87,7 +88,7 @@ fn limits(rt: HostRuntime) {
             r,
             shared_words,
         };
-        assert_eq!(rt; config.is_within_limits(), is_within, "{config:?}");
+        assert_same!(rt; config.is_within_limits(), is_within, config);
     }
 }
 
@@ -103,7 +104,7 @@ fn processors(rt: HostRuntime) {
             r: 1,
             shared_words: 1024,
         };
-        assert_eq!(rt; config.processors(), processors, "{k} stages");
+        assert_same!(rt; config.processors(), processors, k);
     }
 }
 
@@ -115,8 +116,8 @@ fn bytes_and_ones(rt: HostRuntime) {
         (Size::Half, 2, 65_535),
         (Size::Word, 4, 4_294_967_295),
     ] {
-        assert_eq!(rt; size.bytes(), bytes, "{size:?}");
-        assert_eq!(rt; size.ones(), ones, "{size:?}");
+        assert_same!(rt; size.bytes(), bytes, size);
+        assert_same!(rt; size.ones(), ones, size);
     }
 }
 
@@ -133,7 +134,7 @@ fn numbers(rt: HostRuntime) {
         (7, Fault::UnknownCall),
         (8, Fault::Breakpoint),
     ] {
-        assert_eq!(rt; fault.number(), number, "{fault:?}");
+        assert_same!(rt; fault.number(), number, fault);
     }
 }
 
@@ -149,7 +150,7 @@ fn status_of_each_cause(rt: HostRuntime) {
             Status::Faulted(Fault::Breakpoint),
         ),
     ] {
-        assert_eq!(rt; cause.status(), status);
+        assert_same!(rt; cause.status(), status);
     }
 }
 

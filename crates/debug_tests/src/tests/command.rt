@@ -11,7 +11,7 @@ use machine_runs::Machine;
 use std::alloc::{AllocGlobal, Global};
 use std::sync::Wait;
 use std::test::Fail;
-use test_devices::{Broken, EBREAK, Sink, Source};
+use test_devices::{Broken, EBREAK, Sink, Source, assert_same};
 
 /// A link over memory, of which a read or a write fails, or none.
 #[derive(Drop)]
@@ -87,9 +87,9 @@ fn sessions_end(rt: HostRuntime) {
     ] {
         let mut door = open_door(rt.alloc(), input);
         let (status, err) = told(&rt, &EBREAK, FOUR, &mut door);
-        assert_eq!(rt; status, expected);
+        assert_same!(rt; status, expected);
         assert!(rt; err.is_empty());
-        assert_eq!(rt; door.knocks, 1);
+        assert_same!(rt; door.knocks, 1);
     }
 }
 
@@ -110,8 +110,8 @@ fn links_fail(rt: HostRuntime) {
             ..open_door(rt.alloc(), b"cont\n")
         };
         let (status, err) = told(&rt, &EBREAK, FOUR, &mut door);
-        assert_eq!(rt; status, 3);
-        assert_eq!(rt; err.as_slice(), link);
+        assert_same!(rt; status, 3);
+        assert_same!(rt; err.as_slice(), link);
     }
 }
 
@@ -125,16 +125,16 @@ fn images_are_refused(rt: HostRuntime) {
     ] {
         let mut door = open_door(rt.alloc(), b"quit\n");
         let (status, err) = told(&rt, file, config, &mut door);
-        assert_eq!(rt; status, 2);
-        assert_eq!(rt; err.as_slice(), text);
-        assert_eq!(rt; door.knocks, 0);
+        assert_same!(rt; status, 2);
+        assert_same!(rt; err.as_slice(), text);
+        assert_same!(rt; door.knocks, 0);
     }
     let mut door = open_door(rt.alloc(), b"quit\n");
     let mut err = Vec::new(rt.alloc());
     let status = debug_command(&rt, rt.alloc(), Broken, FOUR, 1000, &mut door, &mut err);
-    assert_eq!(rt; status, 3);
-    assert_eq!(rt; err.as_slice(), b"ultra: I9\n".as_slice());
-    assert_eq!(rt; door.knocks, 0);
+    assert_same!(rt; status, 3);
+    assert_same!(rt; err.as_slice(), b"ultra: I9\n".as_slice());
+    assert_same!(rt; door.knocks, 0);
 }
 
 /// Want of memory and of room.
@@ -150,8 +150,8 @@ fn ends_are_told(rt: HostRuntime) -> Result<(), Fail> {
         (SessionEnd::TraceFull, 4, b"ultra: L2\n"),
     ] {
         let mut err = Vec::new(alloc);
-        assert_eq!(rt; debug_end(end, &machine, &mut err), status);
-        assert_eq!(rt; err.as_slice(), text);
+        assert_same!(rt; debug_end(end, &machine, &mut err), status);
+        assert_same!(rt; err.as_slice(), text);
     }
     Ok(())
 }

@@ -6,6 +6,7 @@ use arrayvec::ArrayVec;
 use debug_lines::{Command, Event, LineReader, MAX_LINE, pack};
 use std::alloc::{AllocError, Global};
 use std::test::Fail;
+use test_devices::assert_same;
 
 /// Each line and the command that it asks for, with one space between the parts of a line as it is meant.
 const COMMANDS: &str = "\
@@ -75,11 +76,7 @@ fn commands(rt: HostRuntime) -> Result<(), Fail> {
     for row in COMMANDS.lines() {
         let (line, expected) = row.split_once(": ").ok_or("a row")?;
         let command = Command::read(line.as_bytes());
-        assert_eq!(rt;
-            format!(in rt.alloc(); "{command:?}")?.as_str(),
-            expected,
-            "{line}"
-        );
+        assert_same!(rt; format!(in rt.alloc(); "{command:?}")?.as_str(), expected, line);
     }
     Ok(())
 }
@@ -102,11 +99,11 @@ fn longest_write(rt: HostRuntime) -> Result<(), Fail> {
     for _ in 0..507 {
         line.extend_from_slice(b"5A")?;
     }
-    assert_eq!(rt; line.len(), MAX_LINE);
+    assert_same!(rt; line.len(), MAX_LINE);
     let Command::Write { bytes, .. } = Command::read(line.as_slice()) else {
         return Err("a write".into());
     };
-    assert_eq!(rt; bytes.bytes().len(), 507);
+    assert_same!(rt; bytes.bytes().len(), 507);
     assert!(rt; bytes.bytes().iter().all(|byte| *byte == 0x5A));
     line.extend_from_slice(b"5A")?;
     assert!(rt; matches!(Command::read(line.as_slice()), Command::Malformed));
@@ -142,11 +139,7 @@ fn lines_in_any_pieces(rt: HostRuntime) -> Result<(), Fail> {
     let stream = b"state 0\n\n cont\r\n\xFF\0\nquit";
     for size in 1..=stream.len() {
         let lines = told(rt.alloc(), stream, size)?;
-        assert_eq!(rt;
-            lines.as_slice(),
-            b"state 0|| cont\r|\xFF\0|".as_slice(),
-            "{size}"
-        );
+        assert_same!(rt; lines.as_slice(), b"state 0|| cont\r|\xFF\0|".as_slice(), size);
     }
     Ok(())
 }
@@ -187,10 +180,10 @@ fn longest_line(rt: HostRuntime) -> Result<(), Fail> {
 fn packs(rt: HostRuntime) {
     let mut packed = ArrayVec::new();
     pack(b"00010004", &mut packed);
-    assert_eq!(rt; packed.as_slice(), b"00010004\n".as_slice());
+    assert_same!(rt; packed.as_slice(), b"00010004\n".as_slice());
     pack(b"", &mut packed);
-    assert_eq!(rt; packed.as_slice(), b"\n".as_slice());
+    assert_same!(rt; packed.as_slice(), b"\n".as_slice());
     pack(&[b'0'; 1024], &mut packed);
-    assert_eq!(rt; packed.len(), 1025);
-    assert_eq!(rt; packed.as_slice().last().copied(), Some(b'\n'));
+    assert_same!(rt; packed.len(), 1025);
+    assert_same!(rt; packed.as_slice().last().copied(), Some(b'\n'));
 }

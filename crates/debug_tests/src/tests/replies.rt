@@ -14,6 +14,7 @@ use std::alloc::{AllocGlobal, Global};
 use std::process::Abort;
 use std::test::Fail;
 use steps::{Outcome, Step};
+use test_devices::assert_same;
 
 /// A machine of two processors with two shared words. Code is `ebreak`, one byte and, at its third word, `ecall`;
 /// local memory begins with two bytes, shared memory with `2A 00 00 80`.
@@ -40,7 +41,7 @@ fn two(rt: &(impl Abort + AllocGlobal)) -> Result<Machine, Fail> {
     assert!(rt; layout.local.len() <= 0x0001_0000);
     assert!(rt; layout.shared.len() <= 0x0010_0000);
     let mut writer = Meter::new(Vec::new(rt.alloc()));
-    assert_eq!(rt; write_image(&mut writer, &layout), Ok(()));
+    assert_same!(rt; write_image(&mut writer, &layout), Ok(()));
     let mut reader = Meter::new(writer.device.as_slice());
     let image: Image = read_image(rt.alloc(), &mut reader, &config)?;
     Ok(Machine::new(rt.alloc(), image, config)?)
@@ -48,5 +49,5 @@ fn two(rt: &(impl Abort + AllocGlobal)) -> Result<Machine, Fail> {
 
 /// Writes from outside.
 fn poke(rt: &impl Abort, machine: &mut Machine, poke: Poke) {
-    assert_eq!(rt; machine.apply(Step::Poke(poke)), Outcome::Poked);
+    assert_same!(rt; machine.apply(Step::Poke(poke)), Outcome::Poked);
 }

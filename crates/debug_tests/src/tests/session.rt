@@ -20,7 +20,7 @@ use std::process::Abort;
 use std::sync::Wait;
 use std::test::Fail;
 use steps::{Outcome, Step};
-use test_devices::Sink;
+use test_devices::{Sink, assert_same};
 
 /// Instructions that refer to the shared word at `a2`, at 0x10000 to 0x10010.
 const ROW: &str = "
@@ -56,7 +56,7 @@ fn log_of(rt: &(impl Abort + AllocGlobal), text: &str, k: u8) -> Result<Logged, 
 
 /// Takes a step, which is told so.
 fn take(rt: &impl Abort, log: &mut Logged, step: Step, told: Outcome) -> Result<(), Fail> {
-    assert_eq!(rt; log.step(step)?, told, "{step:?}");
+    assert_same!(rt; log.step(step)?, told, step);
     Ok(())
 }
 
@@ -113,7 +113,7 @@ fn replies_are(
     ends: SessionEnd,
 ) {
     let (end, text) = talk(rt, log, &mut Meter::new(input));
-    assert_eq!(rt; text.as_slice(), output);
-    assert_eq!(rt; end, ends);
+    assert_same!(rt; text.as_slice(), output);
+    assert_same!(rt; end, ends);
     assert!(rt; log.machine().is_idle());
 }

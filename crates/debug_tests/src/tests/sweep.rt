@@ -12,6 +12,7 @@ use std::alloc::Global;
 use std::process::Abort;
 use std::test::Fail;
 use steps::Step;
+use test_devices::assert_same;
 
 /// The log of a machine of `2^k` processors that opens on the image of a text.
 fn log_of(rt: &impl Abort, alloc: Global, text: &str, k: u8) -> Result<Logged, Fail> {
@@ -59,18 +60,18 @@ const THREE: &str = "addi x1, x0, 1\naddi x2, x0, 2\necall";
 fn goes_from_break_to_break(rt: HostRuntime) -> Result<(), Fail> {
     let mut log = log_of(&rt, rt.alloc(), THREE, 0)?;
     let breaks = breaks_at(&rt, &[0x10004, 0x10008]);
-    assert_eq!(rt; go_on(&rt, &mut log, &breaks, 100), Ok(()));
-    assert_eq!(rt; log.machine().pc(0), Some(0x10004));
-    assert_eq!(rt; log.steps().len(), 1);
-    assert_eq!(rt; go_on(&rt, &mut log, &breaks, 100), Ok(()));
-    assert_eq!(rt; log.machine().pc(0), Some(0x10008));
-    assert_eq!(rt; log.steps().len(), 2);
-    assert_eq!(rt; go_on(&rt, &mut log, &breaks, 100), Ok(()));
-    assert_eq!(rt; log.machine().status(0), Some(Status::Halted(0)));
+    assert_same!(rt; go_on(&rt, &mut log, &breaks, 100), Ok(()));
+    assert_same!(rt; log.machine().pc(0), Some(0x10004));
+    assert_same!(rt; log.steps().len(), 1);
+    assert_same!(rt; go_on(&rt, &mut log, &breaks, 100), Ok(()));
+    assert_same!(rt; log.machine().pc(0), Some(0x10008));
+    assert_same!(rt; log.steps().len(), 2);
+    assert_same!(rt; go_on(&rt, &mut log, &breaks, 100), Ok(()));
+    assert_same!(rt; log.machine().status(0), Some(Status::Halted(0)));
     // Where none runs, nothing is done.
-    assert_eq!(rt; log.steps().len(), 3);
-    assert_eq!(rt; go_on(&rt, &mut log, &breaks, 100), Ok(()));
-    assert_eq!(rt; log.steps().len(), 3);
+    assert_same!(rt; log.steps().len(), 3);
+    assert_same!(rt; go_on(&rt, &mut log, &breaks, 100), Ok(()));
+    assert_same!(rt; log.steps().len(), 3);
     Ok(())
 }
 
@@ -80,9 +81,9 @@ fn gets_past_the_first_break(rt: HostRuntime) -> Result<(), Fail> {
     let mut log = log_of(&rt, rt.alloc(), "again: jal x0, again", 0)?;
     let breaks = breaks_at(&rt, &[0x10000]);
     for count in 1..4 {
-        assert_eq!(rt; go_on(&rt, &mut log, &breaks, 100), Ok(()));
-        assert_eq!(rt; log.machine().pc(0), Some(0x10000));
-        assert_eq!(rt; log.steps().len(), count);
+        assert_same!(rt; go_on(&rt, &mut log, &breaks, 100), Ok(()));
+        assert_same!(rt; log.machine().pc(0), Some(0x10000));
+        assert_same!(rt; log.steps().len(), count);
     }
     Ok(())
 }
@@ -99,13 +100,13 @@ odd: addi x7, x0, 1
 ";
     let mut log = log_of(&rt, rt.alloc(), text, 1)?;
     let breaks = breaks_at(&rt, &[0x10010]);
-    assert_eq!(rt; go_on(&rt, &mut log, &breaks, 100), Ok(()));
-    assert_eq!(rt; log.machine().pc(1), Some(0x10010));
-    assert_eq!(rt; log.machine().pc(0), Some(0x1000C));
+    assert_same!(rt; go_on(&rt, &mut log, &breaks, 100), Ok(()));
+    assert_same!(rt; log.machine().pc(1), Some(0x10010));
+    assert_same!(rt; log.machine().pc(0), Some(0x1000C));
     let turns = [0, 1, 0, 1, 0, 1, 0];
-    assert_eq!(rt; log.steps().len(), turns.len());
+    assert_same!(rt; log.steps().len(), turns.len());
     for (step, processor) in log.steps().iter().zip(turns) {
-        assert_eq!(rt; *step, Step::Turn(processor));
+        assert_same!(rt; *step, Step::Turn(processor));
     }
     Ok(())
 }
@@ -116,9 +117,9 @@ odd: addi x7, x0, 1
 fn finishes_an_open_reference(rt: HostRuntime) -> Result<(), Fail> {
     let mut log = log_of(&rt, rt.alloc(), "lui x5, 0x80000\nlw x6, 0(x5)\necall", 0)?;
     let breaks = breaks_at(&rt, &[0x10004]);
-    assert_eq!(rt; go_on(&rt, &mut log, &breaks, 100), Ok(()));
-    assert_eq!(rt; log.steps().len(), 1);
-    assert_eq!(rt; go_on(&rt, &mut log, &breaks, 100), Ok(()));
+    assert_same!(rt; go_on(&rt, &mut log, &breaks, 100), Ok(()));
+    assert_same!(rt; log.steps().len(), 1);
+    assert_same!(rt; go_on(&rt, &mut log, &breaks, 100), Ok(()));
     let all = [
         Step::Turn(0),
         Step::Turn(0),
@@ -126,8 +127,8 @@ fn finishes_an_open_reference(rt: HostRuntime) -> Result<(), Fail> {
         Step::Turn(0),
         Step::Turn(0),
     ];
-    assert_eq!(rt; log.steps(), all.as_slice());
-    assert_eq!(rt; log.machine().status(0), Some(Status::Halted(0)));
+    assert_same!(rt; log.steps(), all.as_slice());
+    assert_same!(rt; log.machine().status(0), Some(Status::Halted(0)));
     Ok(())
 }
 
@@ -136,11 +137,11 @@ fn finishes_an_open_reference(rt: HostRuntime) -> Result<(), Fail> {
 fn ends_with_the_budget(rt: HostRuntime) -> Result<(), Fail> {
     let mut log = log_of(&rt, rt.alloc(), "lui x5, 0x80000\nlw x6, 0(x5)\necall", 0)?;
     let breaks = breaks_at(&rt, &[]);
-    assert_eq!(rt; go_on(&rt, &mut log, &breaks, 0), Ok(()));
-    assert_eq!(rt; log.steps().len(), 0);
-    assert_eq!(rt; go_on(&rt, &mut log, &breaks, 2), Ok(()));
+    assert_same!(rt; go_on(&rt, &mut log, &breaks, 0), Ok(()));
+    assert_same!(rt; log.steps().len(), 0);
+    assert_same!(rt; go_on(&rt, &mut log, &breaks, 2), Ok(()));
     let all = [Step::Turn(0), Step::Turn(0), Step::Serve(0), Step::Turn(0)];
-    assert_eq!(rt; log.steps(), all.as_slice());
+    assert_same!(rt; log.steps(), all.as_slice());
     Ok(())
 }
 
@@ -150,11 +151,11 @@ fn ends_at_each_fault(rt: HostRuntime) -> Result<(), Fail> {
     let mut log = log_of(&rt, rt.alloc(), "ebreak", 2)?;
     let breaks = breaks_at(&rt, &[0x10000]);
     for count in 1..5 {
-        assert_eq!(rt; go_on(&rt, &mut log, &breaks, 100), Ok(()));
-        assert_eq!(rt; log.steps().len(), count);
+        assert_same!(rt; go_on(&rt, &mut log, &breaks, 100), Ok(()));
+        assert_same!(rt; log.steps().len(), count);
     }
-    assert_eq!(rt; go_on(&rt, &mut log, &breaks, 100), Ok(()));
-    assert_eq!(rt; log.steps().len(), 4);
+    assert_same!(rt; go_on(&rt, &mut log, &breaks, 100), Ok(()));
+    assert_same!(rt; log.steps().len(), 4);
     Ok(())
 }
 
@@ -163,24 +164,15 @@ fn ends_at_each_fault(rt: HostRuntime) -> Result<(), Fail> {
 fn asks_for_room_first(rt: HostRuntime) -> Result<(), Fail> {
     let mut log = log_of(&rt, rt.alloc(), THREE, 0)?;
     let breaks = breaks_at(&rt, &[0x10004]);
-    assert_eq!(rt;
-        go_on(&rt, &mut log, &breaks, 4_294_967_295),
-        Err(LogRefusal::Full)
-    );
-    assert_eq!(rt;
-        go_on(&rt, &mut log, &breaks, 4_194_303),
-        Err(LogRefusal::Full)
-    );
-    assert_eq!(rt; log.steps().len(), 0);
-    assert_eq!(rt; go_on(&rt, &mut log, &breaks, 4_194_302), Ok(()));
-    assert_eq!(rt; log.machine().pc(0), Some(0x10004));
+    assert_same!(rt; go_on(&rt, &mut log, &breaks, 4_294_967_295), Err(LogRefusal::Full));
+    assert_same!(rt; go_on(&rt, &mut log, &breaks, 4_194_303), Err(LogRefusal::Full));
+    assert_same!(rt; log.steps().len(), 0);
+    assert_same!(rt; go_on(&rt, &mut log, &breaks, 4_194_302), Ok(()));
+    assert_same!(rt; log.machine().pc(0), Some(0x10004));
     // With one step there is room for 4,194,303 more, two of them for the drain.
-    assert_eq!(rt;
-        go_on(&rt, &mut log, &breaks, 4_194_302),
-        Err(LogRefusal::Full)
-    );
-    assert_eq!(rt; log.steps().len(), 1);
-    assert_eq!(rt; go_on(&rt, &mut log, &breaks, 4_194_301), Ok(()));
-    assert_eq!(rt; log.steps().len(), 3);
+    assert_same!(rt; go_on(&rt, &mut log, &breaks, 4_194_302), Err(LogRefusal::Full));
+    assert_same!(rt; log.steps().len(), 1);
+    assert_same!(rt; go_on(&rt, &mut log, &breaks, 4_194_301), Ok(()));
+    assert_same!(rt; log.steps().len(), 3);
     Ok(())
 }

@@ -15,7 +15,7 @@ use flat_machine::Config;
 use link::Meter;
 use std::alloc::{AllocError, Global};
 use std::test::Fail;
-use test_devices::EBREAK;
+use test_devices::{EBREAK, assert_same};
 
 /// A segment of a file that is made for a test: its fields, with its bytes at `p_offset`.
 #[derive(Clone, Copy)]
@@ -97,8 +97,8 @@ fn bytes_are_added_behind_the_last(rt: HostRuntime) -> Result<(), Fail> {
     bytes.push(7)?;
     bytes.extend_from_slice(&[8, 9])?;
     bytes.extend_by(0, 2)?;
-    assert_eq!(rt; bytes.as_slice(), [7, 8, 9, 0, 0].as_slice());
-    assert_eq!(rt; bytes.len(), 5);
+    assert_same!(rt; bytes.as_slice(), [7, 8, 9, 0, 0].as_slice());
+    assert_same!(rt; bytes.len(), 5);
     Ok(())
 }
 
@@ -110,8 +110,8 @@ fn a_layout_keeps_its_parts(rt: HostRuntime) -> Result<(), Fail> {
         local: Bytes::new(rt.alloc()),
         shared: Bytes::new(rt.alloc()),
     };
-    assert_eq!(rt; layout.entry, 0x0001_0000);
-    assert_eq!(rt; layout.code.as_slice(), [0x73, 0, 0x10, 0].as_slice());
-    assert_eq!(rt; layout.local.len() + layout.shared.len(), 0);
+    assert_same!(rt; layout.entry, 0x0001_0000);
+    assert_same!(rt; layout.code.as_slice(), [0x73, 0, 0x10, 0].as_slice());
+    assert_same!(rt; layout.local.len() + layout.shared.len(), 0);
     Ok(())
 }

@@ -6,7 +6,7 @@ use link::{Failed, Link, LinkRead, LinkWrite, Meter, ReadError, fill, read_withi
 use std::io;
 use std::io::{ErrorKind, Read, Write};
 use std::test::Fail;
-use test_devices::{Sink, Source};
+use test_devices::{Sink, Source, assert_same};
 
 /// A sink that is interrupted where it fails, or that takes no byte there and has no flush.
 #[derive(Drop)]
@@ -50,15 +50,15 @@ fn reads_to_the_end_or_fails(rt: HostRuntime) -> Result<(), Fail> {
         let mut reader = Meter::new(Source::new(b"hello", fails_at));
         let read = read_within(rt.alloc(), &mut reader, 5);
         let fails = 1 <= fails_at && fails_at <= 6;
-        assert_eq!(rt; reader.failed(), fails, "call {fails_at}");
+        assert_same!(rt; reader.failed(), fails, fails_at);
         match read {
             Ok(bytes) => {
                 assert!(rt; !fails, "call {fails_at}");
-                assert_eq!(rt; bytes.as_slice(), b"hello".as_slice());
+                assert_same!(rt; bytes.as_slice(), b"hello".as_slice());
             }
             Err(error) => {
                 assert!(rt; fails, "call {fails_at}");
-                assert_eq!(rt; error, ReadError::Link);
+                assert_same!(rt; error, ReadError::Link);
             }
         }
     }
@@ -70,13 +70,13 @@ fn reads_to_the_end_or_fails(rt: HostRuntime) -> Result<(), Fail> {
 fn does_not_read_a_long_input_to_its_end(rt: HostRuntime) -> Result<(), Fail> {
     let mut reader = Meter::new(Source::new(b"hello, world", 0));
     let read = read_within(rt.alloc(), &mut reader, 4);
-    assert_eq!(rt; read.err(), Some(ReadError::TooLong));
+    assert_same!(rt; read.err(), Some(ReadError::TooLong));
     assert!(rt; !reader.failed());
-    assert_eq!(rt; reader.device.bytes, b", world".as_slice());
+    assert_same!(rt; reader.device.bytes, b", world".as_slice());
     let mut all: &[u8] = &[7; 10_000];
     let mut reader = Meter::new(&mut all);
     let bytes = read_within(rt.alloc(), &mut reader, 10_000);
-    assert_eq!(rt; bytes.map(|b| b.len()), Ok(10_000));
+    assert_same!(rt; bytes.map(|b| b.len()), Ok(10_000));
     Ok(())
 }
 
@@ -85,13 +85,13 @@ fn does_not_read_a_long_input_to_its_end(rt: HostRuntime) -> Result<(), Fail> {
 fn a_failed_reader_has_ended(rt: HostRuntime) {
     let mut reader = Meter::new(Source::new(b"hello", 2));
     let mut buf = [0u8; 4];
-    assert_eq!(rt; reader.receive(&mut buf), Ok(1));
-    assert_eq!(rt; buf[0], b'h');
-    assert_eq!(rt; reader.read(&mut buf).is_err(), true);
+    assert_same!(rt; reader.receive(&mut buf), Ok(1));
+    assert_same!(rt; buf[0], b'h');
+    assert_same!(rt; reader.read(&mut buf).is_err(), true);
     assert!(rt; reader.failed());
-    assert_eq!(rt; reader.device.calls, 2);
+    assert_same!(rt; reader.device.calls, 2);
     assert!(rt; reader.read(&mut buf).is_err());
-    assert_eq!(rt; reader.device.calls, 2);
+    assert_same!(rt; reader.device.calls, 2);
 }
 
 /// Four bytes of the six and then the other two, where no call fails. The first four calls are for
@@ -103,18 +103,18 @@ fn fills_buffers(rt: HostRuntime) {
         let mut buf = [0u8; 4];
         let filled = fill(&mut reader, &mut buf);
         if 1 <= fails_at && fails_at <= 4 {
-            assert_eq!(rt; filled, Err(Failed), "call {fails_at}");
+            assert_same!(rt; filled, Err(Failed), fails_at);
             assert!(rt; reader.failed());
             continue;
         }
-        assert_eq!(rt; filled, Ok(4), "call {fails_at}");
+        assert!(rt; filled == Ok(4), "call {fails_at}");
         assert!(rt; buf == *b"hell");
         let filled = fill(&mut reader, &mut buf);
         if 5 <= fails_at && fails_at <= 7 {
-            assert_eq!(rt; filled, Err(Failed), "call {fails_at}");
+            assert_same!(rt; filled, Err(Failed), fails_at);
             assert!(rt; reader.failed());
         } else {
-            assert_eq!(rt; filled, Ok(2), "call {fails_at}");
+            assert_same!(rt; filled, Ok(2), fails_at);
             assert!(rt; buf == *b"o!ll");
             assert!(rt; !reader.failed());
         }
@@ -129,14 +129,14 @@ fn writes_a_beginning(rt: HostRuntime) {
             let mut writer = metered_sink(&rt, fails_at, is_quiet);
             let wrote = write_whole(&mut writer, b"hello");
             let fails = 1 <= fails_at && fails_at <= 5;
-            assert_eq!(rt; wrote.is_err(), fails, "call {fails_at}");
-            assert_eq!(rt; writer.failed(), fails, "call {fails_at}");
+            assert_same!(rt; wrote.is_err(), fails, fails_at);
+            assert_same!(rt; writer.failed(), fails, fails_at);
             let count = if fails { fails_at - 1 } else { 5 };
-            assert_eq!(rt; writer.device.sink.bytes.as_slice(), &b"hello"[..count]);
+            assert_same!(rt; writer.device.sink.bytes.as_slice(), &b"hello"[..count]);
             if fails {
                 assert!(rt; writer.write(b"!").is_err());
                 assert!(rt; writer.flush().is_err());
-                assert_eq!(rt; writer.device.sink.bytes.len(), count);
+                assert_same!(rt; writer.device.sink.bytes.len(), count);
             }
         }
     }
@@ -146,10 +146,10 @@ fn writes_a_beginning(rt: HostRuntime) {
 #[test]
 fn flushes_and_empty_writes(rt: HostRuntime) {
     let mut writer = metered_sink(&rt, 0, false);
-    assert_eq!(rt; write_whole(&mut writer, b""), Ok(()));
-    assert_eq!(rt; writer.device.sink.calls, 0);
+    assert_same!(rt; write_whole(&mut writer, b""), Ok(()));
+    assert_same!(rt; writer.device.sink.calls, 0);
     assert!(rt; writer.write(b"").is_ok());
-    assert_eq!(rt; writer.send(b"ab"), Ok(1));
+    assert_same!(rt; writer.send(b"ab"), Ok(1));
     assert!(rt; writer.flush().is_ok());
     assert!(rt; !writer.failed());
     let mut writer = metered_sink(&rt, 0, true);

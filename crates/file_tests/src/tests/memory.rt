@@ -6,11 +6,11 @@ use flat_machine::Config;
 use link::{Meter, read_within};
 use std::test::Fail;
 use steps::Step;
-use test_devices::EBREAK;
+use test_devices::{EBREAK, assert_same};
 use trace_file::read_trace;
 
 /// The trace of one turn of the one processor, on a machine with `c` and `b` of 4.
-const ONE_TURN: [u8; 24] = [
+static ONE_TURN: [u8; 24] = [
     0x55, 0x4C, 0x54, 0x52, 1, 0, 4, 4, 1, 0, 0, 0, // the header
     1, 0, 0, 0, 0, 0, 0, 0, 0, 0, 0, 0, // the record
 ];
@@ -33,7 +33,7 @@ fn image_is_short_of_memory(rt: HostRuntime) -> Result<(), Fail> {
     let image = read_image(rt.alloc(), &mut Meter::new(EBREAK.as_slice()), &ONE)?;
     let image = image.copy(rt.alloc())?;
     let layout = image.layout().copy(rt.alloc())?;
-    assert_eq!(rt; layout.code.as_slice(), code.copy(rt.alloc())?.as_slice());
+    assert_same!(rt; layout.code.as_slice(), code.copy(rt.alloc())?.as_slice());
     Ok(())
 }
 
@@ -41,6 +41,6 @@ fn image_is_short_of_memory(rt: HostRuntime) -> Result<(), Fail> {
 fn trace_is_short_of_memory(rt: HostRuntime) -> Result<(), Fail> {
     let bytes = read_within(rt.alloc(), &mut Meter::new(ONE_TURN.as_slice()), 24)?;
     let trace = read_trace(rt.alloc(), &mut Meter::new(bytes.as_slice()))?;
-    assert_eq!(rt; trace.steps(), [Step::Turn(0)].as_slice());
+    assert_same!(rt; trace.steps(), [Step::Turn(0)].as_slice());
     Ok(())
 }

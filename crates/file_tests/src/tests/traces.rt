@@ -13,10 +13,11 @@ use link::Meter;
 use std::alloc::Global;
 use std::process::Abort;
 use steps::Step;
+use test_devices::assert_same;
 use trace_file::{Trace, TraceError, is_trace, read_trace, write_trace};
 
 /// The trace of one turn of the one processor, on a machine with `c` and `b` of 4.
-const ONE_TURN: [u8; 24] = [
+static ONE_TURN: [u8; 24] = [
     0x55, 0x4C, 0x54, 0x52, 1, 0, 4, 4, 1, 0, 0, 0, // the header
     1, 0, 0, 0, 0, 0, 0, 0, 0, 0, 0, 0, // the record
 ];
@@ -36,7 +37,7 @@ fn config(k: u8) -> Config {
 fn written(rt: &impl Abort, alloc: Global, config: &Config, steps: &[Step]) -> Vec<u8> {
     assert!(rt; is_trace(config, steps));
     let mut writer = Meter::new(Vec::new(alloc));
-    assert_eq!(rt; write_trace(&mut writer, config, steps), Ok(()));
+    assert_same!(rt; write_trace(&mut writer, config, steps), Ok(()));
     writer.device
 }
 

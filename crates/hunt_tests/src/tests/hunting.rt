@@ -10,6 +10,7 @@ use hunt_command::{Hunt, Traces, hunt_command, save_run};
 use link::Meter;
 use std::alloc::{AllocError, Global};
 use std::test::Fail;
+use test_devices::assert_same;
 
 /// A machine of `2^k` processors.
 const fn size(k: u8) -> Config {
@@ -93,9 +94,9 @@ fn one_result(rt: HostRuntime) -> Result<(), Fail> {
     ] {
         let image = image_of(alloc, text)?;
         let ran = hunted(alloc, image.as_slice(), size(0), start, 3);
-        assert_eq!(rt; str::from_utf8(ran.out.as_slice())?, lines);
-        assert_eq!(rt; ran.err.len(), 0);
-        assert_eq!(rt; ran.status, status);
+        assert_same!(rt; str::from_utf8(ran.out.as_slice())?, lines);
+        assert_same!(rt; ran.err.len(), 0);
+        assert_same!(rt; ran.status, status);
     }
     Ok(())
 }
@@ -110,8 +111,8 @@ fn lost_add(rt: HostRuntime) -> Result<(), Fail> {
     let text = str::from_utf8(ran.out.as_slice())?;
     assert!(rt; text.contains("word 0 00000001\n"), "{text}");
     assert!(rt; text.contains("word 0 00000002\n"), "{text}");
-    assert_eq!(rt; text.lines().count(), 8);
-    assert_eq!(rt; ran.status, 0);
+    assert_same!(rt; text.lines().count(), 8);
+    assert_same!(rt; ran.status, 0);
     Ok(())
 }
 
@@ -122,14 +123,14 @@ fn saves_a_trace(rt: HostRuntime) -> Result<(), Fail> {
     let file = image_of(alloc, "ecall")?;
     let config = size(0);
     let image = read_image(alloc, &mut Meter::new(file.as_slice()), &config)?;
-    assert_eq!(rt; image.shared_words(), config.shared_words);
+    assert_same!(rt; image.shared_words(), config.shared_words);
     let mut writer = Meter::new(Vec::new(alloc));
     let saved = save_run(alloc, &image, config, 1000, 1, &mut writer);
-    assert_eq!(rt; saved, Ok(()));
+    assert_same!(rt; saved, Ok(()));
     let trace = [
         0x55, 0x4C, 0x54, 0x52, 1, 0, 4, 4, 1, 0, 0, 0, // the header
         1, 0, 0, 0, 0, 0, 0, 0, 0, 0, 0, 0, // the record
     ];
-    assert_eq!(rt; writer.device.as_slice(), trace.as_slice());
+    assert_same!(rt; writer.device.as_slice(), trace.as_slice());
     Ok(())
 }

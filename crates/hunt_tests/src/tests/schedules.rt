@@ -14,6 +14,7 @@ use std::alloc::Global;
 use std::process::Abort;
 use std::test::Fail;
 use steps::Step;
+use test_devices::assert_same;
 
 /// The schedule has these turns, each with whether the network moves behind it, and no more.
 fn compare(rt: &impl Abort, k: u8, number: u32, turns: &[(u8, bool)])
@@ -21,9 +22,9 @@ fn compare(rt: &impl Abort, k: u8, number: u32, turns: &[(u8, bool)])
 {
     let mut schedule = Schedule::new(k, number, turns.len().min(255) as u32);
     for (p, moves) in turns {
-        assert_eq!(rt; schedule.next(), Some(Step::Turn(*p)), "{number}");
+        assert_same!(rt; schedule.next(), Some(Step::Turn(*p)), number);
         if *moves {
-            assert_eq!(rt; schedule.next(), Some(Step::Up { stage: 0, wire: 0 }));
+            assert_same!(rt; schedule.next(), Some(Step::Up { stage: 0, wire: 0 }));
             for _ in 2..(2_u32 * u32::from(k) + 1) << k {
                 assert!(rt; !matches!(schedule.next(), Some(Step::Turn(_)) | None));
             }
@@ -31,10 +32,10 @@ fn compare(rt: &impl Abort, k: u8, number: u32, turns: &[(u8, bool)])
                 stage: k.saturating_sub(1),
                 wire: (1 << k) - 1,
             };
-            assert_eq!(rt; schedule.next(), Some(last));
+            assert_same!(rt; schedule.next(), Some(last));
         }
     }
-    assert_eq!(rt; schedule.next(), None);
+    assert_same!(rt; schedule.next(), None);
 }
 
 /// Run 6 chooses a processor in each turn, run 1 where the upper half of the state is even, and run 8 where 4 divides it.
@@ -100,11 +101,11 @@ fn runs_of_one_processor(rt: HostRuntime) -> Result<(), Fail> {
     let text = "lui x5, 0x80000\nlw x6, 0(x5)\necall";
     let (turn, serve) = (Step::Turn(0), Step::Serve(0));
     let mut log = log_of(&rt, rt.alloc(), text, 0)?;
-    assert_eq!(rt; random_run(&mut log, 1, 100), Ok(SweepEnd::Over));
-    assert_eq!(rt; log.steps(), [turn, turn, serve, turn, turn].as_slice());
+    assert_same!(rt; random_run(&mut log, 1, 100), Ok(SweepEnd::Over));
+    assert_same!(rt; log.steps(), [turn, turn, serve, turn, turn].as_slice());
     let mut log = log_of(&rt, rt.alloc(), text, 0)?;
-    assert_eq!(rt; random_run(&mut log, 1, 2), Ok(SweepEnd::Budget));
-    assert_eq!(rt; log.steps(), [turn, turn, serve, turn].as_slice());
+    assert_same!(rt; random_run(&mut log, 1, 2), Ok(SweepEnd::Budget));
+    assert_same!(rt; log.steps(), [turn, turn, serve, turn].as_slice());
     Ok(())
 }
 
@@ -112,7 +113,7 @@ fn runs_of_one_processor(rt: HostRuntime) -> Result<(), Fail> {
 #[test]
 fn turns_are_bounded(rt: HostRuntime) -> Result<(), Fail> {
     let mut log = log_of(&rt, rt.alloc(), "ecall", 1)?;
-    assert_eq!(rt; random_run(&mut log, 1, 4), Ok(SweepEnd::Budget));
-    assert_eq!(rt; log.steps(), [Step::Turn(1)].as_slice());
+    assert_same!(rt; random_run(&mut log, 1, 4), Ok(SweepEnd::Budget));
+    assert_same!(rt; log.steps(), [Step::Turn(1)].as_slice());
     Ok(())
 }

@@ -3,8 +3,9 @@
 use explain_command::{Topic, all_topics, explain_command};
 use link::{Link, Meter};
 use std::alloc::{AllocError, Global};
+use std::process::Abort;
 use std::test::Fail;
-use test_devices::{Full, Sink};
+use test_devices::{Full, Sink, assert_same};
 
 /// What asking for a word comes to.
 #[derive(Drop)]
@@ -27,7 +28,7 @@ fn run(alloc: Global, word: Option<&str>) -> Ran {
 
 /// What is to be explained, in the order of the list: all that commands and libraries tell, the faults of a processor, the
 /// errors of the debugger, the pages.
-static NAMES: [&str; 49] = [
+static NAMES: [&str; 50] = [
     "V1",
     "A1",
     "A2",
@@ -59,6 +60,7 @@ static NAMES: [&str; 49] = [
     "states",
     "alone",
     "L2",
+    "L4",
     "Start",
     "memory",
     "1",
@@ -98,8 +100,8 @@ fn explains_each_name(rt: HostRuntime) -> Result<(), Fail> {
             let beginning = format!(in rt.alloc(); "{name}: ")?;
             assert!(rt; ran.out.starts_with(beginning.as_bytes()), "{word}");
             assert!(rt; ran.out.ends_with(b"\n"), "{word}");
-            assert_eq!(rt; ran.err.len(), 0, "{word}");
-            assert_eq!(rt; ran.status, 0, "{word}");
+            assert_same!(rt; ran.err.len(), 0, word);
+            assert_same!(rt; ran.status, 0, word);
         }
     }
     Ok(())
@@ -109,17 +111,16 @@ fn explains_each_name(rt: HostRuntime) -> Result<(), Fail> {
 #[test]
 fn lists_each_name(rt: HostRuntime) -> Result<(), Fail> {
     let ran = run(rt.alloc(), None);
-    assert_eq!(rt; ran.status, 0);
-    assert_eq!(rt; ran.err.len(), 0);
+    assert_same!(rt; ran.status, 0);
+    assert_same!(rt; ran.err.len(), 0);
     let text = str::from_utf8(ran.out.as_slice())?;
-    let mut named = 0;
+    let mut names = NAMES.iter();
     for line in text.lines() {
         if let Some((name, _)) = line.split_once(": ") {
-            assert_eq!(rt; Some(&name), NAMES.get(named), "{line}");
-            named += 1;
+            assert_same!(rt; Some(&name), names.next(), line);
         }
     }
-    assert_eq!(rt; named, NAMES.len());
+    assert!(rt; names.next().is_none());
     Ok(())
 }
 
@@ -134,11 +135,22 @@ fn is_laid_out(topic: &Topic) -> bool {
 #[test]
 fn texts_are_laid_out(rt: HostRuntime) {
     let all = all_topics();
-    for part in [all.codes, all.faults, all.replies, all.pages] {
-        for topic in part {
-            assert!(rt; is_laid_out(topic), "{}", topic.name);
-        }
+    assert_laid_out(&rt, all.codes);
+    assert_laid_out(&rt, all.ends);
+    assert_laid_out(&rt, all.faults);
+    assert_laid_out(&rt, all.replies);
+    assert_laid_out(&rt, all.pages);
+}
+
+fn assert_laid_out(rt: &impl Abort, topics: &[Topic]) {
+    for topic in topics {
+        assert!(rt; is_laid_out(topic), "{}", topic.name);
     }
+}
+
+/// What a word that names nothing is answered.
+fn refusal_of(alloc: Global, word: &str) -> Result<String, AllocError> {
+    format!(in alloc; "error: unrecognized code '{word}'\n\n`ultra explain` lists what there is.\n")
 }
 
 /// Words that name nothing, though a part of them, or of what they are cut from, does.
@@ -160,12 +172,10 @@ fn refuses_an_unknown_word(rt: HostRuntime) -> Result<(), Fail> {
     ] {
         assert!(rt; all_topics().named(word).is_none(), "{word}");
         let ran = run(rt.alloc(), Some(word));
-        let told = format!(in rt.alloc();
-            "error: unrecognized code '{word}'\n\n`ultra explain` lists what there is.\n"
-        )?;
-        assert_eq!(rt; ran.err.as_slice(), told.as_bytes());
-        assert_eq!(rt; ran.out.len(), 0, "{word}");
-        assert_eq!(rt; ran.status, 2, "{word}");
+        let told = refusal_of(rt.alloc(), word)?;
+        assert_same!(rt; ran.err.as_slice(), told.as_bytes());
+        assert_same!(rt; ran.out.len(), 0, word);
+        assert_same!(rt; ran.status, 2, word);
     }
     Ok(())
 }
@@ -179,20 +189,14 @@ fn tells_that_it_cannot_print(rt: HostRuntime) {
         for room in [0, 1, 7] {
             let mut out = Meter::new(Sink::new(Vec::new(alloc), room + 1));
             let mut err = Vec::new(alloc);
-            assert_eq!(rt;
-                explain_command(alloc, &all_topics(), word, &mut out, &mut err),
-                3
-            );
-            assert_eq!(rt; out.device.bytes.len(), room);
+            assert_same!(rt; explain_command(alloc, &all_topics(), word, &mut out, &mut err), 3);
+            assert_same!(rt; out.device.bytes.len(), room);
             assert!(rt; whole.out.starts_with(out.device.bytes.as_slice()));
-            assert_eq!(rt; err.as_slice(), b"ultra: link\n".as_slice());
+            assert_same!(rt; err.as_slice(), b"ultra: link\n".as_slice());
         }
     }
     let mut out = Meter::new(Full);
-    assert_eq!(rt;
-        explain_command(alloc, &all_topics(), Some("none"), &mut out, &mut Full),
-        2
-    );
+    assert_same!(rt; explain_command(alloc, &all_topics(), Some("none"), &mut out, &mut Full), 2);
     assert!(rt; !out.failed());
 }
 
@@ -206,9 +210,9 @@ fn is_short_of_memory(rt: HostRuntime) -> Result<(), Fail> {
         match explain_command(alloc, &all_topics(), word, &mut out, &mut err) {
             0 => assert!(rt; 0 < out.device.bytes.len()),
             status => {
-                assert_eq!(rt; status, 4);
-                assert_eq!(rt; err.as_slice(), b"ultra: memory\n".as_slice());
-                assert_eq!(rt; out.device.bytes.len(), 0);
+                assert_same!(rt; status, 4);
+                assert_same!(rt; err.as_slice(), b"ultra: memory\n".as_slice());
+                assert_same!(rt; out.device.bytes.len(), 0);
             }
         }
     }

@@ -6,6 +6,7 @@ use order_lines::{
 };
 use rv_table::{AmoOp, Immediate, ImmediateOp, Insn, LoadOp, Register, StoreOp};
 use std::test::Fail;
+use test_devices::assert_same;
 
 /// `amoadd.w x8, x7, (x5)`.
 fn add() -> Insn {
@@ -89,7 +90,7 @@ fn turns(rt: HostRuntime) -> Result<(), Fail> {
 4194304 2 0001000c halt 2a
 4194305 3 0001000c fault 8
 ";
-    assert_eq!(rt; text.as_str(), lines);
+    assert_same!(rt; text.as_str(), lines);
     Ok(())
 }
 
@@ -128,15 +129,15 @@ fn pokes(rt: HostRuntime) -> Result<(), Fail> {
         (3, shared, reference, None, Some(1)),
     ] {
         push_poke(alloc, &mut text, number, &poke, &reference)?;
-        assert_eq!(rt; processor_of_poke(&poke), processor, "{number}");
-        assert_eq!(rt; word_of_poke(&poke), word, "{number}");
+        assert_same!(rt; processor_of_poke(&poke), processor, number);
+        assert_same!(rt; word_of_poke(&poke), word, number);
     }
     let lines = "0 3 poke x31 000000ab
 1 0 poke pc 00010004
 2 1 poke 0002ffff 41
 3 - poke 80000006 ff word 1 00000000 00ff0000
 ";
-    assert_eq!(rt; text.as_str(), lines);
+    assert_same!(rt; text.as_str(), lines);
     Ok(())
 }
 
@@ -165,7 +166,7 @@ fn words_of_instructions(rt: HostRuntime) {
         let mut registers = [0; 32];
         registers[5] = base;
         let found = word_of_instruction(&insn, &registers, 16);
-        assert_eq!(rt; found, word, "{insn:?} at {base}");
+        assert_same!(rt; found, word, (&insn, &base));
     }
 }
 
@@ -186,10 +187,6 @@ fn choices(rt: HostRuntime) {
         (Some(1), Some(7), Some(2), Some(7), false),
     ] {
         let choice = Choice { processor, word };
-        assert_eq!(rt;
-            choice.takes(there, on),
-            is_taken,
-            "{choice:?} of {there:?} on {on:?}"
-        );
+        assert_same!(rt; choice.takes(there, on), is_taken, (&choice, &there, &on));
     }
 }

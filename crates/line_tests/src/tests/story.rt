@@ -5,6 +5,7 @@ use messages::Seconds;
 use std::test::Fail;
 use steps::{Outcome, Step};
 use story_lines::push_line;
+use test_devices::assert_same;
 use told_steps::Groups;
 
 /// Two processors add to a word. The second comes first, so it leads.
@@ -59,7 +60,7 @@ fn adds_that_meet(rt: HostRuntime) -> Result<(), Fail> {
         let mut line = String::new(alloc);
         push_line(alloc, &mut line, &groups, number, step, outcome)?;
         groups.note(alloc, step, outcome)?;
-        assert_eq!(rt; line.as_str(), *expected);
+        assert_same!(rt; line.as_str(), *expected);
     }
     Ok(())
 }
@@ -128,7 +129,7 @@ fn other_lines(rt: HostRuntime) -> Result<(), Fail> {
     ] {
         let mut line = String::new(alloc);
         push_line(alloc, &mut line, &groups, 9, &step, &outcome)?;
-        assert_eq!(rt; line.as_str(), expected);
+        assert_same!(rt; line.as_str(), expected);
     }
     Ok(())
 }

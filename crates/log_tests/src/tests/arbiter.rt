@@ -6,6 +6,7 @@ ghost use Rattle.std.specs.Prelude.{◌≤◌};
 use shuffled::{Arbiter, Shuffled};
 use std::test::*;
 use steps::Step;
+use test_devices::assert_same;
 
 fn up(stage: u8, wire: u8) -> Step {
     Step::Up { stage, wire }
@@ -37,23 +38,14 @@ fn first_steps(rt: HostRuntime) {
         down(0, 3),
         down(0, 1),
     ];
-    assert_eq!(rt; five(1, 0, 2), one);
-    assert_eq!(rt; five(0, 1, 2), one);
+    assert_same!(rt; five(1, 0, 2), one);
+    assert_same!(rt; five(0, 1, 2), one);
     // a sum of 0 is replaced by 1, and one of 2^32 is 0
-    assert_eq!(rt; five(0, 0, 2), one);
-    assert_eq!(rt; five(4_294_967_295, 1, 2), one);
-    assert_eq!(rt;
-        five(4_294_967_295, 2, 6),
-        [down(5, 33), down(2, 1), down(3, 5), up(2, 15), down(5, 17)]
-    );
-    assert_eq!(rt;
-        five(1, 3, 2),
-        [down(1, 0), up(0, 0), Step::Serve(0), up(1, 0), down(0, 0)]
-    );
-    assert_eq!(rt;
-        five(12_345, 63, 6),
-        [up(5, 31), up(2, 34), up(3, 61), down(3, 44), up(4, 36)]
-    );
+    assert_same!(rt; five(0, 0, 2), one);
+    assert_same!(rt; five(4_294_967_295, 1, 2), one);
+    assert_same!(rt; five(4_294_967_295, 2, 6), [down(5, 33), down(2, 1), down(3, 5), up(2, 15), down(5, 17)]);
+    assert_same!(rt; five(1, 3, 2), [down(1, 0), up(0, 0), Step::Serve(0), up(1, 0), down(0, 0)]);
+    assert_same!(rt; five(12_345, 63, 6), [up(5, 31), up(2, 34), up(3, 61), down(3, 44), up(4, 36)]);
     // without stages there is one step
-    assert_eq!(rt; five(1, 0, 0), [Step::Serve(0); 5]);
+    assert_same!(rt; five(1, 0, 0), [Step::Serve(0); 5]);
 }

@@ -5,6 +5,7 @@ use messages::Seconds;
 use run_counts::{Counts, Held, Longest, counts_text, rounds_of};
 use std::test::Fail;
 use steps::{Outcome, Step};
+use test_devices::assert_same;
 
 /// Two requests meet at a stage, one is served for both and one for itself, and the reply for two is split.
 #[test]
@@ -42,16 +43,13 @@ fn requests_that_meet(rt: HostRuntime) -> Result<(), Fail> {
     longest.set(Held::Records, 0, 1);
     longest.set(Held::Replies, 0, 2);
     let text = counts_text(alloc, &counts, &longest, 7, 1)?;
-    assert_eq!(rt;
-        text.as_str(),
-        "steps 8 turns 2 up 2 serve 2 down 2 poke 0 rounds 7
+    assert_same!(rt; text.as_str(), "steps 8 turns 2 up 2 serve 2 down 2 poke 0 rounds 7
 stage 0 up 1 combined 1 down 1 split 1 requests 3 records 1 replies 2
 module 0 serves 0
 module 1 serves 2 1x1 2x1
 processor 0 turns 1 retired 0
 processor 1 turns 1 retired 0
-"
-    );
+");
     Ok(())
 }
 
@@ -74,7 +72,7 @@ fn rounds(rt: HostRuntime) -> Result<(), Fail> {
         address: 0x8000_0000,
         value: 1,
     });
-    assert_eq!(rt; rounds_of(&[], 2), 0);
+    assert_same!(rt; rounds_of(&[], 2), 0);
     for (steps, rounds) in [
         (
             [
@@ -126,7 +124,7 @@ fn rounds(rt: HostRuntime) -> Result<(), Fail> {
         ),
         ([poke, turn(1), poke, turn(2), poke, poke, turn(2)], 2),
     ] {
-        assert_eq!(rt; rounds_of(&steps, 2), rounds);
+        assert_same!(rt; rounds_of(&steps, 2), rounds);
     }
     Ok(())
 }

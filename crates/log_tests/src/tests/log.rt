@@ -16,6 +16,7 @@ use std::alloc::{AllocError, AllocGlobal, Global};
 use std::process::Abort;
 use std::test::Fail;
 use steps::{Outcome, Step};
+use test_devices::assert_same;
 
 /// A machine of one processor.
 const ONE: Config = Config {
@@ -36,7 +37,7 @@ const FOUR: Config = Config {
 };
 
 /// An instruction that refers to the shared word at `a2`, one that refers to none, and a stop.
-const CODE: [u32; 3] = [
+static CODE: [u32; 3] = [
     0x00B6_252F, // amoadd.w a0, a1, (a2)
     0x0015_0513, // addi a0, a0, 1
     0x0010_0073, // ebreak
@@ -77,7 +78,7 @@ fn machine_of(
     assert!(rt; layout.local.len() <= 0x0001_0000);
     assert!(rt; layout.shared.len() <= 0x0010_0000);
     let mut writer = Meter::new(Vec::new(rt.alloc()));
-    assert_eq!(rt; write_image(&mut writer, &layout), Ok(()));
+    assert_same!(rt; write_image(&mut writer, &layout), Ok(()));
     let mut reader = Meter::new(writer.device.as_slice());
     let image: Image = read_image(rt.alloc(), &mut reader, &config)?;
     let mut machine = Machine::new(rt.alloc(), image, config)?;
@@ -85,13 +86,10 @@ fn machine_of(
         address: SHARED_START,
         value: 10,
     };
-    assert_eq!(rt; machine.apply(Step::Poke(word)), Outcome::Poked);
+    assert_same!(rt; machine.apply(Step::Poke(word)), Outcome::Poked);
     for &(p, addend) in addends {
-        assert_eq!(rt; machine.apply(register(p, 11, addend)), Outcome::Poked);
-        assert_eq!(rt;
-            machine.apply(register(p, 12, SHARED_START)),
-            Outcome::Poked
-        );
+        assert_same!(rt; machine.apply(register(p, 11, addend)), Outcome::Poked);
+        assert_same!(rt; machine.apply(register(p, 12, SHARED_START)), Outcome::Poked);
     }
     Ok(machine)
 }
@@ -100,6 +98,7 @@ fn machine_of(
 fn one_add(rt: &(impl Abort + AllocGlobal)) -> Result<Logged, Fail> {
     let machine = machine_of(rt, ONE, &[(0, 5)])?;
     assert!(rt; machine.is_idle());
+    assert!(rt; machine.are_home());
     Ok(Logged::new(rt.alloc(), machine))
 }
 
@@ -112,6 +111,7 @@ fn four_machine(rt: &(impl Abort + AllocGlobal)) -> Result<Machine, Fail> {
 fn four_adds(rt: &(impl Abort + AllocGlobal)) -> Result<Logged, Fail> {
     let machine = four_machine(rt)?;
     assert!(rt; machine.is_idle());
+    assert!(rt; machine.are_home());
     Ok(Logged::new(rt.alloc(), machine))
 }
 

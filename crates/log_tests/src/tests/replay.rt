@@ -9,6 +9,7 @@ use std::alloc::{AllocError, AllocGlobal, Global};
 use std::process::Abort;
 use std::test::Fail;
 use steps::{Outcome, Step};
+use test_devices::assert_same;
 use trace_replay::{StalledStep, replay};
 
 /// A machine of two processors.
@@ -37,7 +38,7 @@ fn two_adds(rt: &(impl Abort + AllocGlobal)) -> Result<Machine, Fail> {
     assert!(rt; layout.local.len() <= 0x0001_0000);
     assert!(rt; layout.shared.len() <= 0x0010_0000);
     let mut writer = Meter::new(Vec::new(rt.alloc()));
-    assert_eq!(rt; write_image(&mut writer, &layout), Ok(()));
+    assert_same!(rt; write_image(&mut writer, &layout), Ok(()));
     let mut reader = Meter::new(writer.device.as_slice());
     let image: Image = read_image(rt.alloc(), &mut reader, &TWO)?;
     let mut machine = Machine::new(rt.alloc(), image, TWO)?;
@@ -52,13 +53,13 @@ fn two_adds(rt: &(impl Abort + AllocGlobal)) -> Result<Machine, Fail> {
             register,
             value,
         };
-        assert_eq!(rt; machine.apply(Step::Poke(poke)), Outcome::Poked);
+        assert_same!(rt; machine.apply(Step::Poke(poke)), Outcome::Poked);
     }
     Ok(machine)
 }
 
 /// Both requests combine at the stage, and come back. The second finds what the first left.
-const COMBINED: [Step; 8] = [
+static COMBINED: [Step; 8] = [
     Step::Turn(0),
     Step::Turn(1),
     Step::Up { stage: 0, wire: 1 },
@@ -84,12 +85,12 @@ fn look_at(machine: &Machine) -> [Option<u32>; 5] {
 #[test]
 fn replays_a_trace(rt: HostRuntime) -> Result<(), Fail> {
     let mut machine = two_adds(&rt)?;
-    assert_eq!(rt; replay(&mut machine, &COMBINED), Ok(()));
+    assert_same!(rt; replay(&mut machine, &COMBINED), Ok(()));
     let wanted = [0x0001_0004, 2, 0x0001_0004, 0, 3];
-    assert_eq!(rt; look_at(&machine), wanted.map(Some));
+    assert_same!(rt; look_at(&machine), wanted.map(Some));
     assert!(rt; machine.is_idle());
-    assert_eq!(rt; replay(&mut machine, &[]), Ok(()));
-    assert_eq!(rt; look_at(&machine), wanted.map(Some));
+    assert_same!(rt; replay(&mut machine, &[]), Ok(()));
+    assert_same!(rt; look_at(&machine), wanted.map(Some));
     Ok(())
 }
 
@@ -103,11 +104,11 @@ fn stops_at_a_step_that_stalls(rt: HostRuntime) -> Result<(), Fail> {
         steps.extend_from_slice(&COMBINED[place..])?;
         let mut machine = two_adds(&rt)?;
         let answer = replay(&mut machine, steps.as_slice());
-        assert_eq!(rt; answer, Err(StalledStep { place }));
+        assert_same!(rt; answer, Err(StalledStep { place }));
         let mut wanted = two_adds(&rt)?;
         run(&mut wanted, &COMBINED[..place]);
-        assert_eq!(rt; look_at(&machine), look_at(&wanted), "at {place}");
-        assert_eq!(rt; machine.is_idle(), wanted.is_idle(), "at {place}");
+        assert_same!(rt; look_at(&machine), look_at(&wanted), place);
+        assert_same!(rt; machine.is_idle(), wanted.is_idle(), place);
     }
     Ok(())
 }

@@ -5,6 +5,7 @@ use run_report::{Tally, push_processor, push_shared_word};
 use rv_table::Insn;
 use std::test::Fail;
 use steps::{Outcome, Step};
+use test_devices::assert_same;
 
 /// An environment call that has retired, and given this byte to the console.
 fn call(out: Option<u8>) -> Outcome {
@@ -29,8 +30,8 @@ fn counts_retirements(rt: HostRuntime) -> Result<(), Fail> {
     tally.note(Step::Turn(2), call(Some(0x42)))?;
     for (p, retired, console) in [(0, 2, b"A\n".as_slice()), (1, 1, b"".as_slice())] {
         let shown = tally.of(p).ok_or("a processor")?;
-        assert_eq!(rt; shown.retired(), retired, "{p}");
-        assert_eq!(rt; shown.console(), console, "{p}");
+        assert_same!(rt; shown.retired(), retired, p);
+        assert_same!(rt; shown.console(), console, p);
     }
     assert!(rt; tally.of(2).is_none());
     Ok(())
@@ -51,6 +52,6 @@ processor 0 pc 00000000 halt ff retired 2 console 410a
 word 0 00001900
 word 262143 00000001
 ";
-    assert_eq!(rt; text.as_str(), lines);
+    assert_same!(rt; text.as_str(), lines);
     Ok(())
 }

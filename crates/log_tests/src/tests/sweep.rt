@@ -16,7 +16,7 @@ use std::alloc::Global;
 use std::process::Abort;
 use std::test::Fail;
 use steps::Step;
-use test_devices::EBREAK;
+use test_devices::{EBREAK, assert_same};
 
 /// A machine of `k` stages that opens on the image that a file is, with queues of two and a record for each
 /// output of a switch.
@@ -37,6 +37,7 @@ fn log_of(rt: &impl Abort, alloc: Global, text: &str, k: u8) -> Result<Logged, F
     let file = assemble(alloc, text)?.to_elf(alloc)?;
     let machine = machine(alloc, file.as_slice(), k)?;
     assert!(rt; machine.is_idle());
+    assert!(rt; machine.are_home());
     Ok(Logged::new(alloc, machine))
 }
 
@@ -46,19 +47,20 @@ fn ends_at_each_fault(rt: HostRuntime) -> Result<(), Fail> {
     let alloc = rt.alloc();
     let machine = machine(alloc, &EBREAK, 2)?;
     assert!(rt; machine.is_idle());
+    assert!(rt; machine.are_home());
     let mut log = Logged::new(alloc, machine);
-    assert_eq!(rt; follow_sweep(&mut log, 0), Ok(SweepEnd::Budget));
-    assert_eq!(rt; log.steps().len(), 0);
+    assert_same!(rt; follow_sweep(&mut log, 0), Ok(SweepEnd::Budget));
+    assert_same!(rt; log.steps().len(), 0);
     assert!(rt; !any_is_faulted(log.machine()));
     for count in 1..5 {
         assert!(rt; any_runs(log.machine()));
-        assert_eq!(rt; follow_sweep(&mut log, 100), Ok(SweepEnd::Over));
-        assert_eq!(rt; log.steps().len(), count);
+        assert_same!(rt; follow_sweep(&mut log, 100), Ok(SweepEnd::Over));
+        assert_same!(rt; log.steps().len(), count);
         assert!(rt; any_is_faulted(log.machine()));
     }
     assert!(rt; !any_runs(log.machine()));
-    assert_eq!(rt; follow_sweep(&mut log, 0), Ok(SweepEnd::Over));
-    assert_eq!(rt; log.steps().len(), 4);
+    assert_same!(rt; follow_sweep(&mut log, 0), Ok(SweepEnd::Over));
+    assert_same!(rt; log.steps().len(), 4);
     Ok(())
 }
 
@@ -77,7 +79,7 @@ odd: addi x7, x0, 1
  ebreak
 ";
     let mut log = log_of(&rt, rt.alloc(), text, 1)?;
-    assert_eq!(rt; follow_sweep(&mut log, 100), Ok(SweepEnd::Over));
+    assert_same!(rt; follow_sweep(&mut log, 100), Ok(SweepEnd::Over));
     let turns = [0, 1, 0, 1, 0, 1, 0, 1, 0, 1];
     let drain = [
         Step::Up { stage: 0, wire: 0 },
@@ -85,11 +87,11 @@ odd: addi x7, x0, 1
         Step::Down { stage: 0, wire: 0 },
         Step::Turn(0),
     ];
-    assert_eq!(rt; log.steps().len(), turns.len() + drain.len());
+    assert!(rt; log.steps().len() == turns.len() + drain.len());
     for (step, processor) in log.steps().iter().zip(turns) {
-        assert_eq!(rt; *step, Step::Turn(processor));
+        assert_same!(rt; *step, Step::Turn(processor));
     }
-    assert_eq!(rt; &log.steps()[turns.len()..], drain.as_slice());
+    assert_same!(rt; &log.steps()[turns.len()..], drain.as_slice());
     assert!(rt; log.machine().is_idle());
     Ok(())
 }
@@ -98,13 +100,10 @@ odd: addi x7, x0, 1
 #[test]
 fn drains_behind_the_budget(rt: HostRuntime) -> Result<(), Fail> {
     let mut log = log_of(&rt, rt.alloc(), "lui x5, 0x80000\nlw x6, 0(x5)\necall", 0)?;
-    assert_eq!(rt; follow_sweep(&mut log, 2), Ok(SweepEnd::Budget));
-    assert_eq!(rt;
-        log.steps(),
-        [Step::Turn(0), Step::Turn(0), Step::Serve(0), Step::Turn(0)].as_slice()
-    );
-    assert_eq!(rt; follow_sweep(&mut log, 1), Ok(SweepEnd::Over));
-    assert_eq!(rt; log.steps().len(), 5);
+    assert_same!(rt; follow_sweep(&mut log, 2), Ok(SweepEnd::Budget));
+    assert_same!(rt; log.steps(), [Step::Turn(0), Step::Turn(0), Step::Serve(0), Step::Turn(0)].as_slice());
+    assert_same!(rt; follow_sweep(&mut log, 1), Ok(SweepEnd::Over));
+    assert_same!(rt; log.steps().len(), 5);
     Ok(())
 }
 
@@ -112,12 +111,12 @@ fn drains_behind_the_budget(rt: HostRuntime) -> Result<(), Fail> {
 #[test]
 fn asks_for_room_first(rt: HostRuntime) -> Result<(), Fail> {
     let mut log = log_of(&rt, rt.alloc(), "jal x0, 0", 0)?;
-    assert_eq!(rt; follow_sweep(&mut log, 200_000), Ok(SweepEnd::Budget));
+    assert_same!(rt; follow_sweep(&mut log, 200_000), Ok(SweepEnd::Budget));
     // With 200,000 steps there is room for 3,994,304 more: those of a sweep, and two for its drain.
-    assert_eq!(rt; follow_sweep(&mut log, 3_994_303), Err(LogRefusal::Full));
-    assert_eq!(rt; log.steps().len(), 200_000);
-    assert_eq!(rt; follow_sweep(&mut log, 3), Ok(SweepEnd::Budget));
-    assert_eq!(rt; log.steps().len(), 200_003);
+    assert_same!(rt; follow_sweep(&mut log, 3_994_303), Err(LogRefusal::Full));
+    assert_same!(rt; log.steps().len(), 200_000);
+    assert_same!(rt; follow_sweep(&mut log, 3), Ok(SweepEnd::Budget));
+    assert_same!(rt; log.steps().len(), 200_003);
     Ok(())
 }
 
@@ -125,10 +124,10 @@ fn asks_for_room_first(rt: HostRuntime) -> Result<(), Fail> {
 fn takes(rt: &impl Abort, machine: &mut Machine, steps: &[Step]) {
     let mut round = Round::new(machine.config().k);
     for step in steps {
-        assert_eq!(rt; round.next(machine), Some(*step));
+        assert_same!(rt; round.next(machine), Some(*step));
         machine.apply(*step);
     }
-    assert_eq!(rt; round.next(machine), None);
+    assert_same!(rt; round.next(machine), None);
 }
 
 /// Both of two processors load word 0 in their second turn. The second request combines with the first at
@@ -203,11 +202,11 @@ fn ask_for_all(rt: &impl Abort, alloc: Global, log: &mut Logged, k: u8) -> Resul
 fn leaves_out_only_what_stalls(rt: HostRuntime) -> Result<(), Fail> {
     for k in 0..7 {
         let mut log = log_of(&rt, rt.alloc(), ADDS, k)?;
-        assert_eq!(rt; follow_sweep(&mut log, 100_000), Ok(SweepEnd::Over));
+        assert_same!(rt; follow_sweep(&mut log, 100_000), Ok(SweepEnd::Over));
         let mut plain = log_of(&rt, rt.alloc(), ADDS, k)?;
         ask_for_all(&rt, rt.alloc(), &mut plain, k)?;
         assert!(rt; !log.steps().is_empty());
-        assert_eq!(rt; log.steps(), plain.steps(), "of {k} stages");
+        assert_same!(rt; log.steps(), plain.steps(), k);
     }
     Ok(())
 }

@@ -11,6 +11,7 @@ use std::alloc::{AllocError, AllocGlobal, Global};
 use std::process::Abort;
 use std::test::Fail;
 use steps::Step;
+use test_devices::assert_same;
 
 /// A machine, what it is asked, and what it has to answer. The text is of words as `words.rt` reads them: a verb and
 /// numbers, with commas between calls.
@@ -50,7 +51,7 @@ pub fn check_orders(rt: &(impl Abort + AllocGlobal), cases: &[Case]) -> Result<(
 fn run_both_ways(rt: &(impl Abort + AllocGlobal), case: &Case) -> Result<(), Fail> {
     let wanted = run(rt, case)?;
     let found = run_as_list(rt, case)?;
-    assert_eq!(rt; found.as_slice(), wanted.as_slice(), "{}", case.name);
+    assert_same!(rt; found.as_slice(), wanted.as_slice(), case.name);
     Ok(())
 }
 
@@ -74,7 +75,7 @@ fn ask_all(
 
 fn expect_order(rt: &(impl Abort + AllocGlobal), case: &Case, found: &[Entry]) -> Result<(), Fail> {
     let wanted = entries_of(rt.alloc(), case.order)?;
-    assert_eq!(rt; found, wanted.as_slice(), "{}", case.name);
+    assert_same!(rt; found, wanted.as_slice(), case.name);
     Ok(())
 }
 
@@ -105,9 +106,9 @@ fn config_of(text: &str) -> Result<Config, Fail> {
 /// The machine is the opening of a case, and gets its pokes.
 fn prepare(rt: &impl Abort, machine: &mut Machine, case: &Case) -> Result<(), Fail> {
     let config = config_of(case.machine)?;
-    assert_eq!(rt; machine.config(), config);
-    assert_eq!(rt; machine.image().layout().entry, case.program.entry);
-    assert_eq!(rt; machine.image().shared_words(), config.shared_words);
+    assert_same!(rt; machine.config(), config);
+    assert_same!(rt; machine.image().layout().entry, case.program.entry);
+    assert_same!(rt; machine.image().shared_words(), config.shared_words);
     for calls in case.pokes {
         poke_all(rt, machine, calls)?;
     }
@@ -121,7 +122,7 @@ fn poke_asked(rt: &impl Abort, machine: &mut Machine, asked: Words) {
     match step_of(asked) {
         Some(Step::Poke(step)) => poke(rt, machine, step),
         _ => {
-            assert_eq!(rt; asked.verb, "word");
+            assert_same!(rt; asked.verb, "word");
             poke_word(rt, machine, number, value);
         }
     }
@@ -162,7 +163,7 @@ fn run_calls(
 ) -> Result<(), Fail> {
     for call in asked.split(',') {
         let found = ask(rt.alloc(), watched, read_words(call)?)?;
-        assert_eq!(rt; found, wanted, "{name}: {call}");
+        assert_same!(rt; found, wanted, (&name, &call));
     }
     Ok(())
 }

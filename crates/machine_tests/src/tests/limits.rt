@@ -8,6 +8,7 @@ use machine_runs::{Machine, NewError};
 use std::alloc::{AllocError, AllocGlobal, Global};
 use std::process::Abort;
 use std::test::Fail;
+use test_devices::assert_same;
 
 /// The image of most tests, read for machines with so many shared words.
 fn image(rt: &(impl Abort + AllocGlobal), shared_words: u32) -> Result<Image, Fail> {
@@ -56,7 +57,7 @@ fn limits_of_a_machine(rt: HostRuntime) -> Result<(), Fail> {
             shared_words,
         };
         let found = refusal_of(&rt, config, read_for)?;
-        assert_eq!(rt; found, refusal, "{config:?} {read_for}");
+        assert_same!(rt; found, refusal, (&config, &read_for));
     }
     Ok(())
 }
@@ -79,7 +80,7 @@ fn refusal_of(
 }
 
 fn expect_idle(rt: &impl Abort, machine: &Machine, config: Config) {
-    assert_eq!(rt; machine.config(), config);
+    assert_same!(rt; machine.config(), config);
     assert!(rt; machine.is_idle());
 }
 
@@ -87,9 +88,9 @@ fn expect_idle(rt: &impl Abort, machine: &Machine, config: Config) {
 #[test]
 fn codes_of_refusals(rt: HostRuntime) -> Result<(), Fail> {
     let code = text_of(rt.alloc(), NewError::Config)?;
-    assert_eq!(rt; code.as_str(), "K1");
+    assert_same!(rt; code.as_str(), "K1");
     let code = text_of(rt.alloc(), NewError::Memory)?;
-    assert_eq!(rt; code.as_str(), "K2");
+    assert_same!(rt; code.as_str(), "K2");
     Ok(())
 }
 

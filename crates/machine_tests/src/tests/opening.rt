@@ -7,6 +7,7 @@ use machine_runs::Machine;
 use std::process::Abort;
 use std::test::Fail;
 use steps::{Outcome, Step};
+use test_devices::assert_same;
 
 #[test]
 fn machines_open(rt: HostRuntime) -> Result<(), Fail> {
@@ -184,8 +185,8 @@ fn take_turns(machine: &mut Machine) {
 /// Each processor has come to its end, and each word has its number.
 fn expect_sums(rt: &impl Abort, machine: &Machine) {
     for p in 0..64u8 {
-        assert_eq!(rt; machine.pc(p), Some(0x0001_0018), "{p}");
-        assert_eq!(rt; machine.word(u32::from(p)), Some(u32::from(p)));
+        assert_same!(rt; machine.pc(p), Some(0x0001_0018), p);
+        assert_same!(rt; machine.word(u32::from(p)), Some(u32::from(p)));
     }
     assert!(rt; machine.is_idle());
 }
@@ -196,12 +197,12 @@ fn go_there(rt: &impl Abort, machine: &mut Machine) {
     for stage in 0..6u8 {
         for wire in 0..64u8 {
             let outcome = machine.apply(Step::Up { stage, wire });
-            assert_eq!(rt; outcome, Outcome::Moved, "{stage} {wire}");
+            assert_same!(rt; outcome, Outcome::Moved, (&stage, &wire));
         }
     }
     for m in 0..64u8 {
         let outcome = machine.apply(Step::Serve(m));
-        assert_eq!(rt; outcome, Outcome::Served { leader: m });
+        assert_same!(rt; outcome, Outcome::Served { leader: m });
     }
 }
 
@@ -210,7 +211,7 @@ fn come_back(rt: &impl Abort, machine: &mut Machine) {
     for stage in [5, 4, 3, 2, 1, 0] {
         for wire in 0..64u8 {
             let outcome = machine.apply(Step::Down { stage, wire });
-            assert_eq!(rt; outcome, Outcome::Moved, "{stage} {wire}");
+            assert_same!(rt; outcome, Outcome::Moved, (&stage, &wire));
         }
     }
 }

@@ -41,7 +41,7 @@ enum Operation {
 }
 
 /// The program, and what its words do.
-const PROGRAM: [(u32, Operation); 18] = [
+static PROGRAM: [(u32, Operation); 18] = [
     (0x00B6_252F, Operation::Add), // amoadd.w a0, a1, (a2)
     (0x08B6_252F, Operation::Swap), // amoswap.w a0, a1, (a2)
     (0x20B6_252F, Operation::Xor), // amoxor.w a0, a1, (a2)

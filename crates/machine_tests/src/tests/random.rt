@@ -10,6 +10,7 @@ use std::alloc::{AllocError, AllocGlobal, Global};
 use std::process::Abort;
 use std::test::Fail;
 use steps::Step;
+use test_devices::assert_same;
 
 /// How many lists are run for each configuration, and how many steps each has.
 const LISTS: u32 = 42;
@@ -127,7 +128,7 @@ fn place_processors(
 
 /// Writes what a poke writes.
 fn write(rt: &(impl Abort + AllocGlobal), watched: &mut Watched, poke: Poke) -> Result<(), Fail> {
-    assert_eq!(rt; watched.apply(Step::Poke(poke))?.verb, "poked");
+    assert_same!(rt; watched.apply(Step::Poke(poke))?.verb, "poked");
     Ok(())
 }
 
@@ -165,7 +166,7 @@ fn compare_shown(
     for p in 0..8u8 {
         let found = on_processor(rt.alloc(), found, p)?;
         let wanted = on_processor(rt.alloc(), wanted, p)?;
-        assert_eq!(rt; found.as_slice(), wanted.as_slice(), "{p}");
+        assert_same!(rt; found.as_slice(), wanted.as_slice(), p);
     }
     Ok(())
 }
@@ -175,10 +176,10 @@ fn compare_ends(rt: &impl Abort, machine: &Machine, plain: &Plain) {
     for p in 0..1u8 << (machine.config().k & 3) {
         let wanted = plain.processors[usize::from(p & 7)];
         let wanted = [wanted.pc, wanted.a0, wanted.a1, wanted.a2].map(Some);
-        assert_eq!(rt; values_of(machine, p), wanted, "{p}");
+        assert_same!(rt; values_of(machine, p), wanted, p);
     }
     for (number, word) in [0, 1, 2, 3].iter().zip(&plain.words) {
-        assert_eq!(rt; machine.word(*number), Some(*word), "{number}");
+        assert_same!(rt; machine.word(*number), Some(*word), number);
     }
 }
 
@@ -243,7 +244,7 @@ fn run_lists(rt: &(impl Abort + AllocGlobal), k: u8, seed: u32) -> Result<(), Fa
         for _ in 0..LISTS {
             has_combined |= run_list(rt, &mut random, config)?;
         }
-        assert_eq!(rt; has_combined, k > 0 && b > 0, "{config:?}");
+        assert_same!(rt; has_combined, k > 0 && b > 0, config);
     }
     Ok(())
 }

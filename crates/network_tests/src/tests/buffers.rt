@@ -4,6 +4,7 @@ use combining_switch::WaitBuffer;
 use messages::Record;
 use phi_algebra::Phi;
 use std::test::Fail;
+use test_devices::assert_same;
 
 fn record(leader: u8, amount: u32, second: u8) -> Record {
     Record {
@@ -24,12 +25,12 @@ fn records_go_with_their_leader(rt: HostRuntime) -> Result<(), Fail> {
     buffer.push(record(0, 7, 3));
     assert!(rt; !buffer.has_room());
     let pairs = [(0, 2), (5, 7), (0, 1), (0, 3)];
-    assert_eq!(rt; buffer.records().len(), pairs.len());
+    assert_same!(rt; buffer.records().len(), pairs.len());
     for (record, (leader, second)) in buffer.records().iter().zip(pairs) {
-        assert_eq!(rt; (record.leader, record.second), (leader, second));
+        assert_same!(rt; (record.leader, record.second), (leader, second));
     }
     buffer.forget(0);
-    assert_eq!(rt; buffer.records(), [record(5, 100, 7)].as_slice());
+    assert_same!(rt; buffer.records(), [record(5, 100, 7)].as_slice());
     assert!(rt; !WaitBuffer::new(0).has_room());
     Ok(())
 }

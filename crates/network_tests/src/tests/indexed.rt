@@ -5,6 +5,7 @@ use indexed_network::IndexedNetwork;
 use messages::Reply;
 use phi_algebra::Phi;
 use std::test::Fail;
+use test_devices::assert_same;
 use wire_sets::WireSet;
 
 /// What is asked of a network of two stages, and what it is to answer.
@@ -117,14 +118,14 @@ fn wires_of_four_adds(rt: HostRuntime) -> Result<(), Fail> {
     let mut network = IndexedNetwork::new(rt.alloc(), 2, 4, 4, 1)?;
     for (step, requests, replies) in &FOUR_ADDS {
         assert!(rt; answers(&mut network, *step), "{step:?}");
-        assert_eq!(rt; network.stages(), 2);
+        assert!(rt; network.stages() == 2);
         for depth in 0..3u8 {
             let at = usize::from(depth);
             let found = (
                 bits(network.request_wires(depth)),
                 bits(network.reply_wires(depth)),
             );
-            assert_eq!(rt; found, (requests[at], replies[at]), "{step:?}: {depth}");
+            assert_same!(rt; found, (requests[at], replies[at]), (&step, &depth));
         }
     }
     Ok(())

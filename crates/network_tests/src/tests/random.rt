@@ -6,6 +6,7 @@ use messages::Reply;
 use omega_network::Network;
 use phi_algebra::{Phi, SignedRange};
 use std::test::Fail;
+use test_devices::assert_same;
 
 /// Random numbers, by xorshift.
 #[derive(Clone, Copy, Drop)]
@@ -212,32 +213,16 @@ fn moves_as_a_plain_network_does(rt: HostRuntime) -> Result<(), Fail> {
                 is_open: [false; 64],
             };
             for i in 0..8_000 {
-                assert_eq!(rt;
-                    pair.step(true),
-                    Some(true),
-                    "step {i} with k {k}, c {c}, b {b}, r {r}"
-                );
+                assert_same!(rt; pair.step(true), Some(true), (&i, &k, &c, &b, &r));
                 if i % 16 == 0 {
-                    assert_eq!(rt;
-                        pair.is_same(),
-                        Some(true),
-                        "after {i} with k {k}, c {c}, b {b}, r {r}"
-                    );
+                    assert_same!(rt; pair.is_same(), Some(true), (&i, &k, &c, &b, &r));
                 }
             }
             for _ in 0..1000 {
                 for _ in 0..100 {
-                    assert_eq!(rt;
-                        pair.step(false),
-                        Some(true),
-                        "the end with k {k}, c {c}, b {b}, r {r}"
-                    );
+                    assert_same!(rt; pair.step(false), Some(true), (&k, &c, &b, &r));
                 }
-                assert_eq!(rt;
-                    pair.is_same(),
-                    Some(true),
-                    "the end with k {k}, c {c}, b {b}, r {r}"
-                );
+                assert_same!(rt; pair.is_same(), Some(true), (&k, &c, &b, &r));
                 if pair.network.is_empty() {
                     break;
                 }

@@ -24,6 +24,7 @@ use Answer::{Answered, Combined, Moved, Stalled};
 use Function::{Add, Minimum, Swap};
 use Seconds::{One, Three, Two};
 use Step::{Down, Inject, Serve, Take, Up};
+use test_devices::assert_same;
 
 /// A run of a network of so many stages, with queues of so many places, so many records and so many combinations for an entry.
 struct Run {
@@ -464,7 +465,7 @@ fn runs(rt: HostRuntime) -> Result<(), Fail> {
                 run.name
             );
         }
-        assert_eq!(rt; words[0], run.after, "{}", run.name);
+        assert_same!(rt; words[0], run.after, run.name);
     }
     Ok(())
 }

@@ -3,6 +3,7 @@
 use omega_wires::{
     bit, input_port, module_of, path, rotate_left, rotate_right, switch_of, wire_after, wire_before,
 };
+use test_devices::assert_same;
 use wire_sets::WireSet;
 
 #[test]
@@ -15,24 +16,24 @@ fn shuffle_of_eight_wires(rt: HostRuntime) {
     let ports: [u8; 8] = [0, 0, 0, 0, 1, 1, 1, 1];
     for wire in 0..8_u8 {
         let at = wire as usize;
-        assert_eq!(rt; rotate_left(3, wire), shuffled[at], "{wire}");
-        assert_eq!(rt; rotate_right(3, wire), back[at], "{wire}");
-        assert_eq!(rt; switch_of(3, wire), switches[at], "{wire}");
-        assert_eq!(rt; input_port(3, wire), ports[at], "{wire}");
+        assert_same!(rt; rotate_left(3, wire), shuffled[at], wire);
+        assert_same!(rt; rotate_right(3, wire), back[at], wire);
+        assert_same!(rt; switch_of(3, wire), switches[at], wire);
+        assert_same!(rt; input_port(3, wire), ports[at], wire);
     }
-    assert_eq!(rt; rotate_right(6, 33), 48);
-    assert_eq!(rt; rotate_left(6, 48), 33);
+    assert_same!(rt; rotate_right(6, 33), 48);
+    assert_same!(rt; rotate_left(6, 48), 33);
 }
 
 #[test]
 fn networks_of_no_stage_and_of_one(rt: HostRuntime) {
     // No stage: one wire, from the processor to the module.
-    assert_eq!(rt; (rotate_left(0, 0), rotate_right(0, 0)), (0, 0));
-    assert_eq!(rt; (path(0, 0, 0, 0), module_of(7, 0)), (0, 0));
+    assert_same!(rt; (rotate_left(0, 0), rotate_right(0, 0)), (0, 0));
+    assert_same!(rt; (path(0, 0, 0, 0), module_of(7, 0)), (0, 0));
     // One stage of one switch.
-    assert_eq!(rt; (rotate_left(1, 1), rotate_right(1, 1)), (1, 1));
-    assert_eq!(rt; (wire_after(1, 0, 0, 1), wire_after(1, 0, 1, 1)), (1, 1));
-    assert_eq!(rt; (wire_before(1, 0, 1, 0), wire_before(1, 0, 1, 1)), (0, 1));
+    assert_same!(rt; (rotate_left(1, 1), rotate_right(1, 1)), (1, 1));
+    assert_same!(rt; (wire_after(1, 0, 0, 1), wire_after(1, 0, 1, 1)), (1, 1));
+    assert_same!(rt; (wire_before(1, 0, 1, 0), wire_before(1, 0, 1, 1)), (0, 1));
 }
 
 #[test]
@@ -42,19 +43,11 @@ fn message_goes_there_and_back(rt: HostRuntime) {
     let wires: [u8; 4] = [5, 2, 5, 3];
     for stage in 0..3_u8 {
         let at = stage as usize;
-        assert_eq!(rt;
-            wire_after(3, stage, wires[at], 3),
-            wires[at + 1],
-            "{stage}"
-        );
-        assert_eq!(rt;
-            wire_before(3, stage, wires[at + 1], 5),
-            wires[at],
-            "{stage}"
-        );
-        assert_eq!(rt; path(3, 5, 3, stage), wires[at], "{stage}");
+        assert_same!(rt; wire_after(3, stage, wires[at], 3), wires[at + 1], stage);
+        assert_same!(rt; wire_before(3, stage, wires[at + 1], 5), wires[at], stage);
+        assert_same!(rt; path(3, 5, 3, stage), wires[at], stage);
     }
-    assert_eq!(rt; path(3, 5, 3, 3), 3);
+    assert_same!(rt; path(3, 5, 3, 3), 3);
 }
 
 #[test]
@@ -64,17 +57,13 @@ fn way_through_the_largest_network(rt: HostRuntime) {
         0b110001, 0b100010, 0b000101, 0b001010, 0b010101, 0b101011, 0b010110,
     ];
     for stage in 0..7_u8 {
-        assert_eq!(rt;
-            path(6, 0b110001, 0b010110, stage),
-            wires[stage as usize],
-            "{stage}"
-        );
+        assert_same!(rt; path(6, 0b110001, 0b010110, stage), wires[stage as usize], stage);
     }
-    assert_eq!(rt; module_of(0xFFFF_FFD6, 6), 0b010110);
+    assert_same!(rt; module_of(0xFFFF_FFD6, 6), 0b010110);
     // The bits of a number, from the lowest.
     let bits: [u8; 8] = [0, 1, 1, 0, 1, 0, 0, 1];
     for i in 0..8_u8 {
-        assert_eq!(rt; bit(i, 0b1001_0110), bits[i as usize], "{i}");
+        assert_same!(rt; bit(i, 0b1001_0110), bits[i as usize], i);
     }
 }
 
@@ -82,7 +71,7 @@ fn way_through_the_largest_network(rt: HostRuntime) {
 #[test]
 fn wires_come_and_go(rt: HostRuntime) {
     let mut set = WireSet::new();
-    assert_eq!(rt; set.first_from(0), None);
+    assert_same!(rt; set.first_from(0), None);
     for wire in [63, 0, 17, 17] {
         assert!(rt; !set.contains(wire) || wire == 17);
         set.insert(wire);
@@ -98,13 +87,13 @@ fn wires_come_and_go(rt: HostRuntime) {
         (64, None),
         (255, None),
     ] {
-        assert_eq!(rt; set.first_from(wire), first, "{wire}");
+        assert_same!(rt; set.first_from(wire), first, wire);
     }
     set.remove(17);
     set.remove(5);
-    assert_eq!(rt; set.first_from(1), Some(63));
+    assert_same!(rt; set.first_from(1), Some(63));
     assert!(rt; set.contains(0));
     set.remove(63);
     set.remove(0);
-    assert_eq!(rt; set.first_from(0), None);
+    assert_same!(rt; set.first_from(0), None);
 }

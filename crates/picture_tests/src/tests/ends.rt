@@ -7,10 +7,10 @@ use std::alloc::Global;
 use std::io::{self, ErrorKind};
 use std::process::Abort;
 use std::test::Fail;
-use test_devices::{Deaf, EBREAK, Sink, Source, trace_of};
+use test_devices::{Deaf, EBREAK, Sink, Source, assert_same, trace_of};
 
 /// A turn of processor 0.
-const TURN: [u8; 12] = [1, 0, 0, 0, 0, 0, 0, 0, 0, 0, 0, 0];
+static TURN: [u8; 12] = [1, 0, 0, 0, 0, 0, 0, 0, 0, 0, 0, 0];
 
 /// Of a trace on an image nothing is printed, and this is told.
 fn assert_told(
@@ -20,9 +20,9 @@ fn assert_told(
     (fault, status): (&str, u8),
 ) {
     let ran = run(alloc, trace, file, shared_words, Some(0));
-    assert_eq!(rt; ran.err.as_slice(), fault.as_bytes());
-    assert_eq!(rt; ran.out.len(), 0, "at {fault}");
-    assert_eq!(rt; ran.status, status, "at {fault}");
+    assert_same!(rt; ran.err.as_slice(), fault.as_bytes());
+    assert_same!(rt; ran.out.len(), 0, fault);
+    assert_same!(rt; ran.status, status, fault);
 }
 
 /// A fault is told as by `replay`, though no step was asked for: a trace's before the file of the image is looked at, and the
@@ -65,7 +65,7 @@ fn tells_a_fault_that_is_drawn(rt: HostRuntime) -> Result<(), Fail> {
             str::from_utf8(ran.out.as_slice())?.contains(shown),
             "{shown}"
         );
-        assert_eq!(rt; ran.status, wanted);
+        assert_same!(rt; ran.status, wanted);
     }
     Ok(())
 }
@@ -82,12 +82,9 @@ fn picture_that_cannot_be_printed(rt: HostRuntime) -> Result<(), Fail> {
         let mut err = Vec::new(alloc);
         let file = Ok(EBREAK.as_slice());
         let status = picture_command(alloc, trace, file, 1, None, &mut out, &mut err);
-        assert_eq!(rt;
-            Some(out.device.bytes.as_slice()),
-            whole.out.get(..fails_at.saturating_sub(1))
-        );
-        assert_eq!(rt; err.as_slice(), b"ultra: link\n".as_slice());
-        assert_eq!(rt; status, 3);
+        assert_same!(rt; Some(out.device.bytes.as_slice()), whole.out.get(..fails_at.saturating_sub(1)));
+        assert_same!(rt; err.as_slice(), b"ultra: link\n".as_slice());
+        assert_same!(rt; status, 3);
     }
     Ok(())
 }
@@ -101,15 +98,15 @@ fn files_that_cannot_be_read(rt: HostRuntime) -> Result<(), Fail> {
     let trace = Source::new(turn.as_slice(), 5);
     let file = Ok(EBREAK.as_slice());
     let status = picture_command(alloc, trace, file, 1, None, &mut out, &mut Deaf);
-    assert_eq!(rt; out.device.len(), 0);
-    assert_eq!(rt; status, 3);
+    assert_same!(rt; out.device.len(), 0);
+    assert_same!(rt; status, 3);
     let mut out = Meter::new(Vec::new(alloc));
     let mut err = Vec::new(alloc);
     let file = Ok(Source::new(&EBREAK, 5));
     let status = picture_command(alloc, turn.as_slice(), file, 1, None, &mut out, &mut err);
-    assert_eq!(rt; err.as_slice(), b"ultra: I9\n".as_slice());
-    assert_eq!(rt; out.device.len(), 0);
-    assert_eq!(rt; status, 3);
+    assert_same!(rt; err.as_slice(), b"ultra: I9\n".as_slice());
+    assert_same!(rt; out.device.len(), 0);
+    assert_same!(rt; status, 3);
     Ok(())
 }
 
@@ -124,9 +121,9 @@ fn is_short_of_memory(rt: HostRuntime) -> Result<(), Fail> {
     match picture_command(alloc, turn.as_slice(), file, 1, None, &mut out, &mut err) {
         1 => assert!(rt; out.device.bytes.ends_with(b"</svg>\n")),
         status => {
-            assert_eq!(rt; status, 4);
-            assert_eq!(rt; err.as_slice(), b"ultra: memory\n".as_slice());
-            assert_eq!(rt; out.device.bytes.len(), 0);
+            assert_same!(rt; status, 4);
+            assert_same!(rt; err.as_slice(), b"ultra: memory\n".as_slice());
+            assert_same!(rt; out.device.bytes.len(), 0);
         }
     }
     Ok(())

@@ -4,7 +4,7 @@ use super::{Ran, image_of, run};
 use machine_picture::push_escaped;
 use std::alloc::Global;
 use std::test::Fail;
-use test_devices::{ADD_AT_X12, FOUR_ADDS, trace_of};
+use test_devices::{ADD_AT_X12, FOUR_ADDS, assert_same, trace_of};
 
 /// The texts of a class, in the order of the picture: from left to right by columns, and in each from the top. `|` stands between
 /// two.
@@ -21,7 +21,7 @@ fn texts_of(alloc: Global, picture: &str, class: &str) -> Result<String, Fail> {
 }
 
 /// How many steps, and the texts of requests, wait records and replies behind them.
-const FOUR_STANDS: [(u32, &str, &str, &str); 13] = [
+static FOUR_STANDS: [(u32, &str, &str, &str); 13] = [
     (0, "", "", ""),
     (9, "", "", ""),
     (13, "0|1|2|3", "", ""),
@@ -52,12 +52,12 @@ fn four_adds(rt: HostRuntime) -> Result<(), Fail> {
         );
         let picture = str::from_utf8(ran.out.as_slice())?;
         let shown = texts_of(alloc, picture, "request")?;
-        assert_eq!(rt; shown.as_str(), *requests, "behind {step}");
+        assert_same!(rt; shown.as_str(), *requests, step);
         let shown = texts_of(alloc, picture, "record")?;
-        assert_eq!(rt; shown.as_str(), *records, "behind {step}");
+        assert_same!(rt; shown.as_str(), *records, step);
         let shown = texts_of(alloc, picture, "reply")?;
-        assert_eq!(rt; shown.as_str(), *replies, "behind {step}");
-        assert_eq!(rt; ran.status, 0);
+        assert_same!(rt; shown.as_str(), *replies, step);
+        assert_same!(rt; ran.status, 0);
     }
     Ok(())
 }
@@ -83,9 +83,9 @@ fn processors_and_words(rt: HostRuntime) -> Result<(), Fail> {
         let ran = run(alloc, trace.as_slice(), Ok(image.as_slice()), 1, Some(step));
         let picture = str::from_utf8(ran.out.as_slice())?;
         let shown = texts_of(alloc, picture, "processor")?;
-        assert_eq!(rt; shown.as_str(), processors);
+        assert_same!(rt; shown.as_str(), processors);
         let shown = texts_of(alloc, picture, "module")?;
-        assert_eq!(rt; shown.as_str(), modules);
+        assert_same!(rt; shown.as_str(), modules);
     }
     Ok(())
 }
@@ -99,7 +99,7 @@ fn first_comes_first(rt: HostRuntime) -> Result<(), Fail> {
     let ran = run(alloc, trace.as_slice(), Ok(image.as_slice()), 1, Some(15));
     let picture = str::from_utf8(ran.out.as_slice())?;
     let shown = texts_of(alloc, picture, "request")?;
-    assert_eq!(rt; shown.as_str(), "1|3|2 0");
+    assert_same!(rt; shown.as_str(), "1|3|2 0");
     Ok(())
 }
 
@@ -120,7 +120,7 @@ fn behind_all(rt: HostRuntime) -> Result<(), Fail> {
             Some(step),
         );
         assert!(rt; out.as_slice() == all.out.as_slice());
-        assert_eq!(rt; status, 0);
+        assert_same!(rt; status, 0);
     }
     Ok(())
 }
@@ -134,7 +134,7 @@ fn behind_a_drain(rt: HostRuntime) -> Result<(), Fail> {
     let ran = run(alloc, trace.as_slice(), Ok(image.as_slice()), 1, Some(22));
     let picture = str::from_utf8(ran.out.as_slice())?;
     let shown = texts_of(alloc, picture, "reply")?;
-    assert_eq!(rt; shown.as_str(), "0|2|1{1 3}");
+    assert_same!(rt; shown.as_str(), "0|2|1{1 3}");
     Ok(())
 }
 
@@ -142,6 +142,6 @@ fn behind_a_drain(rt: HostRuntime) -> Result<(), Fail> {
 fn texts_are_escaped(rt: HostRuntime) -> Result<(), Fail> {
     let mut text = String::new(rt.alloc());
     push_escaped(&mut text, "a<b>&\"\u{e9}'")?;
-    assert_eq!(rt; text.as_str(), "a&lt;b&gt;&amp;&quot;\u{e9}'");
+    assert_same!(rt; text.as_str(), "a&lt;b&gt;&amp;&quot;\u{e9}'");
     Ok(())
 }

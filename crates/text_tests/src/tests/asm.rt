@@ -9,7 +9,7 @@ use link::{Link, Meter};
 use std::alloc::Global;
 use std::io::{Read, Write};
 use std::test::Fail;
-use test_devices::{Deaf, EBREAK, Endless, Sink, Source};
+use test_devices::{Deaf, EBREAK, Endless, Sink, Source, assert_same};
 
 /// What assembling a file comes to.
 #[derive(Drop)]
@@ -46,9 +46,9 @@ static REFUSED: [(&[u8], &str); 9] = [
 #[test]
 fn assembles_a_text(rt: HostRuntime) {
     let ran = run(rt.alloc(), b"ebreak".as_slice());
-    assert_eq!(rt; ran.out.as_slice(), EBREAK.as_slice());
-    assert_eq!(rt; ran.err.len(), 0);
-    assert_eq!(rt; ran.status, 0);
+    assert_same!(rt; ran.out.as_slice(), EBREAK.as_slice());
+    assert_same!(rt; ran.err.len(), 0);
+    assert_same!(rt; ran.status, 0);
 }
 
 /// The whole image or nothing, and each refused line is told.
@@ -56,9 +56,9 @@ fn assembles_a_text(rt: HostRuntime) {
 fn refuses_a_text(rt: HostRuntime) {
     for (text, told) in &REFUSED {
         let ran = run(rt.alloc(), *text);
-        assert_eq!(rt; ran.err.as_slice(), told.as_bytes());
-        assert_eq!(rt; ran.out.len(), 0, "at {told}");
-        assert_eq!(rt; ran.status, 2, "at {told}");
+        assert_same!(rt; ran.err.as_slice(), told.as_bytes());
+        assert_same!(rt; ran.out.len(), 0, told);
+        assert_same!(rt; ran.status, 2, told);
     }
 }
 
@@ -70,12 +70,12 @@ fn refuses_what_is_not_text(rt: HostRuntime) {
         b"ebreak # \xE2\x82".as_slice(),
     ] {
         let ran = run(rt.alloc(), bytes);
-        assert_eq!(rt; ran.err.as_slice(), b"ultra: link\n".as_slice());
-        assert_eq!(rt; ran.out.len(), 0);
-        assert_eq!(rt; ran.status, 3);
+        assert_same!(rt; ran.err.as_slice(), b"ultra: link\n".as_slice());
+        assert_same!(rt; ran.out.len(), 0);
+        assert_same!(rt; ran.status, 3);
     }
     let ran = run(rt.alloc(), b"ebreak # \xE2\x82\xAC".as_slice());
-    assert_eq!(rt; ran.out.as_slice(), EBREAK.as_slice());
+    assert_same!(rt; ran.out.as_slice(), EBREAK.as_slice());
 }
 
 /// The six bytes take six calls, and the seventh tells that there are no more.
@@ -84,12 +84,12 @@ fn reads_the_file_or_tells_a_link(rt: HostRuntime) {
     for fails_at in 0..9 {
         let ran = run(rt.alloc(), Source::new(b"ebreak", fails_at));
         if 1 <= fails_at && fails_at <= 7 {
-            assert_eq!(rt; ran.err.as_slice(), b"ultra: link\n".as_slice());
-            assert_eq!(rt; ran.out.len(), 0, "call {fails_at}");
-            assert_eq!(rt; ran.status, 3, "call {fails_at}");
+            assert_same!(rt; ran.err.as_slice(), b"ultra: link\n".as_slice());
+            assert_same!(rt; ran.out.len(), 0, fails_at);
+            assert_same!(rt; ran.status, 3, fails_at);
         } else {
-            assert_eq!(rt; ran.out.as_slice(), EBREAK.as_slice());
-            assert_eq!(rt; ran.status, 0, "call {fails_at}");
+            assert_same!(rt; ran.out.as_slice(), EBREAK.as_slice());
+            assert_same!(rt; ran.status, 0, fails_at);
         }
     }
 }
@@ -97,9 +97,9 @@ fn reads_the_file_or_tells_a_link(rt: HostRuntime) {
 #[test]
 fn refuses_a_text_without_end(rt: HostRuntime) {
     let ran = run(rt.alloc(), Endless);
-    assert_eq!(rt; ran.err.as_slice(), b"ultra: memory\n".as_slice());
-    assert_eq!(rt; ran.out.len(), 0);
-    assert_eq!(rt; ran.status, 4);
+    assert_same!(rt; ran.err.as_slice(), b"ultra: memory\n".as_slice());
+    assert_same!(rt; ran.out.len(), 0);
+    assert_same!(rt; ran.status, 4);
 }
 
 /// A writer of one byte at a call that fails at a call has the bytes of the calls before it.
@@ -111,19 +111,19 @@ fn tells_that_the_image_is_not_written(rt: HostRuntime) {
         let mut err = Vec::new(alloc);
         let status = asm_command(alloc, b"ebreak".as_slice(), &mut out, &mut err);
         if 1 <= fails_at && fails_at <= 88 {
-            assert_eq!(rt; out.device.bytes.as_slice(), &EBREAK[..fails_at - 1]);
-            assert_eq!(rt; err.as_slice(), b"ultra: I9\n".as_slice());
-            assert_eq!(rt; status, 3, "call {fails_at}");
+            assert_same!(rt; out.device.bytes.as_slice(), &EBREAK[..fails_at - 1]);
+            assert_same!(rt; err.as_slice(), b"ultra: I9\n".as_slice());
+            assert_same!(rt; status, 3, fails_at);
         } else {
-            assert_eq!(rt; out.device.bytes.as_slice(), EBREAK.as_slice());
-            assert_eq!(rt; err.len(), 0, "call {fails_at}");
-            assert_eq!(rt; status, 0, "call {fails_at}");
+            assert_same!(rt; out.device.bytes.as_slice(), EBREAK.as_slice());
+            assert_same!(rt; err.len(), 0, fails_at);
+            assert_same!(rt; status, 0, fails_at);
         }
     }
     let mut err = Vec::new(alloc);
     let status = asm_command(alloc, b"ebreak".as_slice(), &mut Meter::new(Deaf), &mut err);
-    assert_eq!(rt; err.as_slice(), b"ultra: I9\n".as_slice());
-    assert_eq!(rt; status, 3);
+    assert_same!(rt; err.as_slice(), b"ultra: I9\n".as_slice());
+    assert_same!(rt; status, 3);
 }
 
 /// Where standard error fails too, the exit status alone tells the fault.
@@ -132,8 +132,8 @@ fn tells_by_its_status(rt: HostRuntime) {
     for (text, told) in [(b"frob".as_slice(), 2), (b"\xFF".as_slice(), 3)] {
         let mut out = Meter::new(Vec::new(rt.alloc()));
         let status = asm_command(rt.alloc(), text, &mut out, &mut Deaf);
-        assert_eq!(rt; status, told);
-        assert_eq!(rt; out.device.len(), 0);
+        assert_same!(rt; status, told);
+        assert_same!(rt; out.device.len(), 0);
     }
 }
 
@@ -153,32 +153,20 @@ fn opens_at_the_first_write(rt: HostRuntime) {
     let mut err = Vec::new(alloc);
 
     let mut out = behind_door(alloc, false);
-    assert_eq!(rt;
-        asm_command(alloc, b"ebreak".as_slice(), &mut out, &mut err),
-        0
-    );
-    assert_eq!(rt; out.device.opener.openings, 1);
-    assert_eq!(rt;
-        out.device.device.as_ref().map(|bytes| bytes.as_slice()),
-        Some(EBREAK.as_slice())
-    );
+    assert_same!(rt; asm_command(alloc, b"ebreak".as_slice(), &mut out, &mut err), 0);
+    assert_same!(rt; out.device.opener.openings, 1);
+    assert_same!(rt; out.device.device.as_ref().map(|bytes| bytes.as_slice()), Some(EBREAK.as_slice()));
 
     let mut out = behind_door(alloc, false);
-    assert_eq!(rt;
-        asm_command(alloc, b"frob".as_slice(), &mut out, &mut err),
-        2
-    );
+    assert_same!(rt; asm_command(alloc, b"frob".as_slice(), &mut out, &mut err), 2);
     assert!(rt; out.flush().is_ok());
-    assert_eq!(rt; out.device.opener.openings, 0);
+    assert_same!(rt; out.device.opener.openings, 0);
 
     err.clear();
     let mut out = behind_door(alloc, true);
-    assert_eq!(rt;
-        asm_command(alloc, b"ebreak".as_slice(), &mut out, &mut err),
-        3
-    );
-    assert_eq!(rt; err.as_slice(), b"ultra: I9\n".as_slice());
-    assert_eq!(rt; out.device.opener.openings, 1);
+    assert_same!(rt; asm_command(alloc, b"ebreak".as_slice(), &mut out, &mut err), 3);
+    assert_same!(rt; err.as_slice(), b"ultra: I9\n".as_slice());
+    assert_same!(rt; out.device.opener.openings, 1);
     assert!(rt; out.device.device.is_none());
 }
 
@@ -189,20 +177,20 @@ fn is_short_of_memory(rt: HostRuntime) -> Result<(), Fail> {
     let mut out = Meter::new(Sink::new(Vec::with_capacity(alloc, 88)?, 0));
     let mut err = Vec::with_capacity(alloc, 64)?;
     match asm_command(alloc, b"start: ebreak".as_slice(), &mut out, &mut err) {
-        0 => assert_eq!(rt; out.device.bytes.as_slice(), EBREAK.as_slice()),
+        0 => assert_same!(rt; out.device.bytes.as_slice(), EBREAK.as_slice()),
         status => {
-            assert_eq!(rt; status, 4);
-            assert_eq!(rt; err.as_slice(), b"ultra: memory\n".as_slice());
-            assert_eq!(rt; out.device.bytes.len(), 0);
+            assert_same!(rt; status, 4);
+            assert_same!(rt; err.as_slice(), b"ultra: memory\n".as_slice());
+            assert_same!(rt; out.device.bytes.len(), 0);
         }
     }
     err.clear();
     let mut out = Meter::new(Deaf);
     match asm_command(alloc, b"addi x1, x0, 2048".as_slice(), &mut out, &mut err) {
-        2 => assert_eq!(rt; err.as_slice(), b"ultra: A3 line 1\n".as_slice()),
+        2 => assert_same!(rt; err.as_slice(), b"ultra: A3 line 1\n".as_slice()),
         status => {
-            assert_eq!(rt; status, 4);
-            assert_eq!(rt; err.as_slice(), b"ultra: memory\n".as_slice());
+            assert_same!(rt; status, 4);
+            assert_same!(rt; err.as_slice(), b"ultra: memory\n".as_slice());
         }
     }
     Ok(())

@@ -6,7 +6,7 @@ use link::{Link, Meter};
 use std::alloc::Global;
 use std::io::Read;
 use std::test::Fail;
-use test_devices::{Deaf, EBREAK, Endless, HUNDRED_ADDS, Source};
+use test_devices::{Deaf, EBREAK, Endless, HUNDRED_ADDS, Source, assert_same};
 
 /// What disassembling a file comes to.
 #[derive(Drop)]
@@ -90,18 +90,15 @@ static REFUSED: [(usize, &[u8], &str); 7] = [
 #[test]
 fn lists_the_code(rt: HostRuntime) -> Result<(), Fail> {
     let ran = run(rt.alloc(), EBREAK.as_slice(), 1024);
-    assert_eq!(rt;
-        ran.out.as_slice(),
-        b"00010000 00100073 ebreak\n".as_slice()
-    );
-    assert_eq!(rt; ran.err.len(), 0);
-    assert_eq!(rt; ran.status, 0);
+    assert_same!(rt; ran.out.as_slice(), b"00010000 00100073 ebreak\n".as_slice());
+    assert_same!(rt; ran.err.len(), 0);
+    assert_same!(rt; ran.status, 0);
     for (text, lines) in &LISTED {
         let image = image_of(rt.alloc(), text)?;
         let ran = run(rt.alloc(), image.as_slice(), 1024);
-        assert_eq!(rt; ran.out.as_slice(), lines.as_bytes(), "of {text}");
-        assert_eq!(rt; ran.err.len(), 0, "of {text}");
-        assert_eq!(rt; ran.status, 0, "of {text}");
+        assert_same!(rt; ran.out.as_slice(), lines.as_bytes(), text);
+        assert_same!(rt; ran.err.len(), 0, text);
+        assert_same!(rt; ran.status, 0, text);
     }
     Ok(())
 }
@@ -112,10 +109,10 @@ fn lists_as_many_words_as_code_has(rt: HostRuntime) -> Result<(), Fail> {
     let image = image_of(rt.alloc(), ".zero 65532\nebreak\n")?;
     let ran = run(rt.alloc(), image.as_slice(), 1024);
     let out = ran.out.as_slice();
-    assert_eq!(rt; out.len(), 16_383 * 20 + 25);
+    assert_same!(rt; out.len(), 16_383 * 20 + 25);
     assert!(rt; out.starts_with(b"00010000 00000000 -\n00010004 00000000 -\n"));
     assert!(rt; out.ends_with(b"\n0001fff8 00000000 -\n0001fffc 00100073 ebreak\n"));
-    assert_eq!(rt; ran.status, 0);
+    assert_same!(rt; ran.status, 0);
     Ok(())
 }
 
@@ -128,9 +125,9 @@ fn refuses_an_image(rt: HostRuntime) -> Result<(), Fail> {
             *byte = *new;
         }
         let ran = run(alloc, image.as_slice(), 1024);
-        assert_eq!(rt; ran.err.as_slice(), told.as_bytes());
-        assert_eq!(rt; ran.out.len(), 0, "at {told}");
-        assert_eq!(rt; ran.status, 2, "at {told}");
+        assert_same!(rt; ran.err.as_slice(), told.as_bytes());
+        assert_same!(rt; ran.out.len(), 0, told);
+        assert_same!(rt; ran.status, 2, told);
     }
     for cut in 0..88 {
         let ran = run(alloc, &EBREAK[..cut], 1024);
@@ -139,8 +136,8 @@ fn refuses_an_image(rt: HostRuntime) -> Result<(), Fail> {
         } else {
             "ultra: I4\n"
         };
-        assert_eq!(rt; ran.err.as_slice(), told.as_bytes(), "cut to {cut}");
-        assert_eq!(rt; ran.status, 2, "cut to {cut}");
+        assert_same!(rt; ran.err.as_slice(), told.as_bytes(), cut);
+        assert_same!(rt; ran.status, 2, cut);
     }
     // The second segment is moved to the first one's address.
     let mut image = image_of(rt.alloc(), "ebreak\n.local\n.byte 1")?;
@@ -150,10 +147,10 @@ fn refuses_an_image(rt: HostRuntime) -> Result<(), Fail> {
         }
     }
     let ran = run(alloc, image.as_slice(), 1024);
-    assert_eq!(rt; ran.err.as_slice(), b"ultra: I6\n".as_slice());
+    assert_same!(rt; ran.err.as_slice(), b"ultra: I6\n".as_slice());
     let ran = run(alloc, Endless, 1024);
-    assert_eq!(rt; ran.err.as_slice(), b"ultra: I8\n".as_slice());
-    assert_eq!(rt; ran.status, 2);
+    assert_same!(rt; ran.err.as_slice(), b"ultra: I8\n".as_slice());
+    assert_same!(rt; ran.status, 2);
     Ok(())
 }
 
@@ -162,14 +159,11 @@ fn refuses_an_image(rt: HostRuntime) -> Result<(), Fail> {
 fn reads_for_so_many_words(rt: HostRuntime) -> Result<(), Fail> {
     let image = image_of(rt.alloc(), "ebreak\n.shared\n.word 1, 2")?;
     let ran = run(rt.alloc(), image.as_slice(), 2);
-    assert_eq!(rt;
-        ran.out.as_slice(),
-        b"00010000 00100073 ebreak\n".as_slice()
-    );
-    assert_eq!(rt; ran.status, 0);
+    assert_same!(rt; ran.out.as_slice(), b"00010000 00100073 ebreak\n".as_slice());
+    assert_same!(rt; ran.status, 0);
     let ran = run(rt.alloc(), image.as_slice(), 1);
-    assert_eq!(rt; ran.err.as_slice(), b"ultra: I5\n".as_slice());
-    assert_eq!(rt; ran.status, 2);
+    assert_same!(rt; ran.err.as_slice(), b"ultra: I5\n".as_slice());
+    assert_same!(rt; ran.status, 2);
     Ok(())
 }
 
@@ -179,15 +173,12 @@ fn reads_the_file_or_tells_it(rt: HostRuntime) {
     for fails_at in 0..91 {
         let ran = run(rt.alloc(), Source::new(&EBREAK, fails_at), 1024);
         if 1 <= fails_at && fails_at <= 89 {
-            assert_eq!(rt; ran.err.as_slice(), b"ultra: I9\n".as_slice());
-            assert_eq!(rt; ran.out.len(), 0, "call {fails_at}");
-            assert_eq!(rt; ran.status, 3, "call {fails_at}");
+            assert_same!(rt; ran.err.as_slice(), b"ultra: I9\n".as_slice());
+            assert_same!(rt; ran.out.len(), 0, fails_at);
+            assert_same!(rt; ran.status, 3, fails_at);
         } else {
-            assert_eq!(rt;
-                ran.out.as_slice(),
-                b"00010000 00100073 ebreak\n".as_slice()
-            );
-            assert_eq!(rt; ran.status, 0, "call {fails_at}");
+            assert_same!(rt; ran.out.as_slice(), b"00010000 00100073 ebreak\n".as_slice());
+            assert_same!(rt; ran.status, 0, fails_at);
         }
     }
 }
@@ -199,13 +190,13 @@ fn tells_that_nothing_can_be_printed(rt: HostRuntime) {
     let mut deaf = Meter::new(Deaf);
     let status = dis_command(alloc, EBREAK.as_slice(), 1024, &mut deaf, &mut err);
     assert!(rt; deaf.failed());
-    assert_eq!(rt; err.as_slice(), b"ultra: link\n".as_slice());
-    assert_eq!(rt; status, 3);
+    assert_same!(rt; err.as_slice(), b"ultra: link\n".as_slice());
+    assert_same!(rt; status, 3);
 
     // Where standard error fails too, the exit status alone tells the fault.
     let mut out = Meter::new(Vec::new(alloc));
     let status = dis_command(alloc, &EBREAK[..51], 1024, &mut out, &mut Deaf);
-    assert_eq!(rt; status, 2);
+    assert_same!(rt; status, 2);
 }
 
 /// Each allocation of this test is to be refused in turn. Then the answer is that of ample memory, or that there is none.
@@ -215,23 +206,20 @@ fn is_short_of_memory(rt: HostRuntime) -> Result<(), Fail> {
     let mut out = Meter::new(Vec::with_capacity(alloc, 64)?);
     let mut err = Vec::with_capacity(alloc, 64)?;
     match dis_command(alloc, EBREAK.as_slice(), 1024, &mut out, &mut err) {
-        0 => assert_eq!(rt;
-            out.device.as_slice(),
-            b"00010000 00100073 ebreak\n".as_slice()
-        ),
+        0 => assert_same!(rt; out.device.as_slice(), b"00010000 00100073 ebreak\n".as_slice()),
         status => {
-            assert_eq!(rt; status, 4);
-            assert_eq!(rt; err.as_slice(), b"ultra: memory\n".as_slice());
-            assert_eq!(rt; out.device.len(), 0);
+            assert_same!(rt; status, 4);
+            assert_same!(rt; err.as_slice(), b"ultra: memory\n".as_slice());
+            assert_same!(rt; out.device.len(), 0);
         }
     }
     err.clear();
     let mut out = Meter::new(Deaf);
     match dis_command(alloc, &EBREAK[..87], 1024, &mut out, &mut err) {
-        2 => assert_eq!(rt; err.as_slice(), b"ultra: I4\n".as_slice()),
+        2 => assert_same!(rt; err.as_slice(), b"ultra: I4\n".as_slice()),
         status => {
-            assert_eq!(rt; status, 4);
-            assert_eq!(rt; err.as_slice(), b"ultra: memory\n".as_slice());
+            assert_same!(rt; status, 4);
+            assert_same!(rt; err.as_slice(), b"ultra: memory\n".as_slice());
         }
     }
     Ok(())

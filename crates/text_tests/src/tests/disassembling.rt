@@ -5,6 +5,7 @@ use assembler::assemble;
 use decode::{decode, encode};
 use disassembler::disassemble;
 use std::test::Fail;
+use test_devices::assert_same;
 
 #[test]
 fn words_have_their_texts(rt: HostRuntime) -> Result<(), Fail> {
@@ -34,10 +35,10 @@ fn words_have_their_texts(rt: HostRuntime) -> Result<(), Fail> {
         let mut text = ArrayString::new();
         text.push_str("something else");
         disassemble(&insn, &mut text);
-        assert_eq!(rt; text.as_str(), written);
+        assert_same!(rt; text.as_str(), written);
         let program = assemble(rt.alloc(), text.as_str())?;
         let bytes = encode(&insn).to_le_bytes();
-        assert_eq!(rt; program.layout().code.as_slice(), bytes.as_slice());
+        assert_same!(rt; program.layout().code.as_slice(), bytes.as_slice());
     }
     Ok(())
 }

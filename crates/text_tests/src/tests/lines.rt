@@ -1,6 +1,7 @@
 use asm_lines::{Instruction, LineError, LineFault, Statement, low_bits, read_line, x_name};
 use rv_table::{Insn, Register, RegisterOp};
 use std::test::Fail;
+use test_devices::assert_same;
 
 /// The fault of a line, or None where it has none.
 fn fault_of(rt: &HostRuntime, line: &[u8]) -> Option<LineError> {
@@ -20,7 +21,7 @@ fn a_line_is_a_label_and_a_statement(rt: HostRuntime) -> Result<(), Fail> {
             let Some(Statement::Instruction(Instruction::Whole(insn))) = &line.statement else {
                 return Err(Fail::from("no instruction"));
             };
-            assert_eq!(rt; *insn, add);
+            assert_same!(rt; *insn, add);
             assert!(rt; line.label == Some(b"loop".as_slice()));
         }
         Err(_) => return Err(Fail::from("a fault")),
@@ -60,14 +61,14 @@ fn faults_are_told_apart(rt: HostRuntime) {
         (b".zero 1048577", LineFault::Range),
         (b".byte -129", LineFault::Range),
     ] {
-        assert_eq!(rt; fault_of(&rt, line), Some(LineError::Fault(fault)));
+        assert_same!(rt; fault_of(&rt, line), Some(LineError::Fault(fault)));
     }
 }
 
 #[test]
 fn the_words_of_the_language(rt: HostRuntime) {
-    assert_eq!(rt; low_bits(4096, -1), 4095);
-    assert_eq!(rt; x_name(Register::new(31)), "x31");
+    assert_same!(rt; low_bits(4096, -1), 4095);
+    assert_same!(rt; x_name(Register::new(31)), "x31");
     for line in [
         "".as_bytes(),
         b" \t # nothing",
@@ -81,6 +82,6 @@ fn the_words_of_the_language(rt: HostRuntime) {
         b"addi : ecall",
         b"x1: addi x1, x0, 00000000000000000000000000000012",
     ] {
-        assert_eq!(rt; fault_of(&rt, line), None);
+        assert_same!(rt; fault_of(&rt, line), None);
     }
 }

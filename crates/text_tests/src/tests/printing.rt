@@ -9,7 +9,7 @@ use link::{Link, Meter};
 use std::alloc::Global;
 use std::io::{self, ErrorKind, Write};
 use std::test::Fail;
-use test_devices::Sink;
+use test_devices::{Sink, assert_same};
 
 #[test]
 fn digits(rt: HostRuntime) -> Result<(), Fail> {
@@ -18,7 +18,7 @@ fn digits(rt: HostRuntime) -> Result<(), Fail> {
     push_word(alloc, &mut text, 0x00C0_FFEE)?;
     text.push(' ')?;
     push_bytes(alloc, &mut text, &[0, 0x7F, 0xA0])?;
-    assert_eq!(rt; text.as_str(), "00c0ffee 007fa0");
+    assert_same!(rt; text.as_str(), "00c0ffee 007fa0");
     Ok(())
 }
 
@@ -32,7 +32,7 @@ fn statuses(rt: HostRuntime) -> Result<(), Fail> {
     ] {
         let mut text = String::new(alloc);
         push_status(alloc, &mut text, status)?;
-        assert_eq!(rt; text.as_str(), is);
+        assert_same!(rt; text.as_str(), is);
     }
     Ok(())
 }
@@ -46,16 +46,13 @@ fn opens_at_the_first_write(rt: HostRuntime) {
         openings: 0,
     });
     assert!(rt; writer.flush().is_ok());
-    assert_eq!(rt; writer.opener.openings, 0);
+    assert_same!(rt; writer.opener.openings, 0);
     assert!(rt; writer.device.is_none());
     assert!(rt; writer.write_all(b"a").is_ok());
     assert!(rt; writer.write_all(b"b").is_ok());
     assert!(rt; writer.flush().is_ok());
-    assert_eq!(rt; writer.opener.openings, 1);
-    assert_eq!(rt;
-        writer.device.as_ref().map(|bytes| bytes.as_slice()),
-        Some(b"ab".as_slice())
-    );
+    assert_same!(rt; writer.opener.openings, 1);
+    assert_same!(rt; writer.device.as_ref().map(|bytes| bytes.as_slice()), Some(b"ab".as_slice()));
 }
 
 #[test]
@@ -67,7 +64,7 @@ fn failed_opening_is_a_failed_write(rt: HostRuntime) {
     });
     assert!(rt; writer.write(b"a").is_err());
     assert!(rt; writer.write(b"a").is_err());
-    assert_eq!(rt; writer.opener.openings, 2);
+    assert_same!(rt; writer.opener.openings, 2);
     assert!(rt; writer.device.is_none());
 }
 
@@ -113,13 +110,9 @@ fn prints_the_text_or_a_beginning(rt: HostRuntime) {
         let mut out = Meter::new(Sink::new(Vec::new(rt.alloc()), room + 1));
         let printed = print(&mut out, "hello");
         let fails = room < 5;
-        assert_eq!(rt;
-            printed,
-            if fails { Err(Fault::Link) } else { Ok(()) },
-            "{room}"
-        );
-        assert_eq!(rt; out.failed(), fails, "{room}");
-        assert_eq!(rt; out.device.bytes.as_slice(), text.as_bytes(), "{room}");
+        assert_same!(rt; printed, if fails { Err(Fault::Link) } else { Ok(()) }, room);
+        assert_same!(rt; out.failed(), fails, room);
+        assert_same!(rt; out.device.bytes.as_slice(), text.as_bytes(), room);
     }
     assert!(rt; print(&mut Meter::new(Stuck), "hello").is_ok());
     let mut shut = Meter::new(OnFirstWrite::new(Door {
@@ -129,5 +122,5 @@ fn prints_the_text_or_a_beginning(rt: HostRuntime) {
     }));
     assert!(rt; print(&mut shut, "").is_ok());
     assert!(rt; print(&mut shut, "hello").is_err());
-    assert_eq!(rt; shut.device.opener.openings, 1);
+    assert_same!(rt; shut.device.opener.openings, 1);
 }

@@ -17,6 +17,7 @@ use std::process::Abort;
 use std::sync::Wait;
 use std::test::Fail;
 use steps::{Outcome, Step};
+use test_devices::assert_same;
 
 /// The writes before: word 0 is 10, and each processor has its addend in `a1` and the word's address in `a2`.
 fn pokes() -> [Poke; 9] {
@@ -49,7 +50,7 @@ fn register(processor: u8, register: u8, value: u32) -> Poke {
 fn four_adds(rt: &impl Abort, alloc: Global) -> Result<Logged, Fail> {
     let mut log = log_of(rt, alloc, "amoadd.w a0, a1, (a2)", 2)?;
     for poke in pokes() {
-        assert_eq!(rt; log.step(Step::Poke(poke)), Ok(Outcome::Poked));
+        assert_same!(rt; log.step(Step::Poke(poke)), Ok(Outcome::Poked));
     }
     Ok(log)
 }
@@ -72,7 +73,7 @@ fn added_to(value: u32) -> Outcome {
 }
 
 /// The steps.
-const STEPS: [Step; 18] = [
+static STEPS: [Step; 18] = [
     Step::Turn(0),
     Step::Turn(1),
     Step::Turn(2),
@@ -269,7 +270,7 @@ fn assert_entered(rt: &impl Abort, steps: &[Step]) {
         .zip(pokes())
         .all(|(step, poke)| *step == Step::Poke(poke));
     assert!(rt; poked);
-    assert_eq!(rt; before.len(), 9);
+    assert_same!(rt; before.len(), 9);
     assert!(rt; behind == STEPS.as_slice());
 }
 
@@ -283,11 +284,8 @@ fn four_adds_by_passes(rt: HostRuntime) -> Result<(), Fail> {
     assert!(rt; is_to(seen.retired, Step::Turn(0), added_to(10), 23));
     assert!(rt; is_to(seen.stalled, STEPS[4], Outcome::Stalled, 27));
     assert_entered(&rt, seen.logged.steps());
-    assert_eq!(rt; seen.logged.machine().word(0), Some(25));
+    assert_same!(rt; seen.logged.machine().word(0), Some(25));
     assert!(rt; seen.logged.machine().is_idle());
-    assert_eq!(rt;
-        seen.passes.as_slice(),
-        [(0, 23, 5), (1, 24, 5), (2, 25, 4), (3, 26, 4)].as_slice()
-    );
+    assert_same!(rt; seen.passes.as_slice(), [(0, 23, 5), (1, 24, 5), (2, 25, 4), (3, 26, 4)].as_slice());
     Ok(())
 }

@@ -21,7 +21,7 @@ use std::test::Fail;
 use std::thread;
 use std::thread::Threads;
 use std::time::{Clock, Duration};
-use test_devices::HUNDRED_ADDS;
+use test_devices::{HUNDRED_ADDS, assert_same};
 
 /// The log of a machine of `k` stages that opens on the image of a text.
 pub(super) fn log_of(rt: &impl Abort, alloc: Global, text: &str, k: u8) -> Result<Logged, Fail> {
@@ -125,18 +125,18 @@ const AMPLE: u32 = 10_000_000;
 #[test]
 fn a_hundred_adds_each(rt: HostRuntime) -> Result<(), Fail> {
     let seen = run_text(&rt, rt.alloc(), HUNDRED_ADDS, 1, &Open, AMPLE)?;
-    assert_eq!(rt; seen.fault, None);
-    assert_eq!(rt; seen.retired.as_slice(), [311, 311].as_slice());
-    assert_eq!(rt; seen.consoles.len(), 2);
+    assert_same!(rt; seen.fault, None);
+    assert_same!(rt; seen.retired.as_slice(), [311, 311].as_slice());
+    assert_same!(rt; seen.consoles.len(), 2);
     assert!(rt;
         seen.consoles
             .iter()
             .all(|bytes| bytes.as_slice() == b"A".as_slice())
     );
     let machine = seen.logged.machine();
-    assert_eq!(rt; machine.status(0), Some(Status::Halted(0)));
-    assert_eq!(rt; machine.pc(1), Some(0x0001_0038));
-    assert_eq!(rt; machine.word(0), Some(200));
+    assert_same!(rt; machine.status(0), Some(Status::Halted(0)));
+    assert_same!(rt; machine.pc(1), Some(0x0001_0038));
+    assert_same!(rt; machine.word(0), Some(200));
     Ok(())
 }
 
@@ -155,13 +155,13 @@ loop: ecall
  ecall
 ";
     let seen = run_text(&rt, rt.alloc(), text, 0, &Open, AMPLE)?;
-    assert_eq!(rt; seen.fault, None);
-    assert_eq!(rt; seen.retired.as_slice(), [905].as_slice());
-    assert_eq!(rt; seen.consoles.len(), 1);
+    assert_same!(rt; seen.fault, None);
+    assert_same!(rt; seen.retired.as_slice(), [905].as_slice());
+    assert_same!(rt; seen.consoles.len(), 1);
     for bytes in &seen.consoles {
-        assert_eq!(rt; bytes.as_slice(), [b'A'; 300].as_slice());
+        assert_same!(rt; bytes.as_slice(), [b'A'; 300].as_slice());
     }
-    assert_eq!(rt; seen.logged.machine().pc(0), Some(0x0001_0020));
+    assert_same!(rt; seen.logged.machine().pc(0), Some(0x0001_0020));
     Ok(())
 }
 
@@ -215,9 +215,9 @@ fn side_by_side(rt: HostRuntime) -> Result<(), Fail> {
         gave_up: AtomicU64::new(0),
     };
     let seen = run_text(&rt, rt.alloc(), HUNDRED_ADDS, 1, &gate, AMPLE)?;
-    assert_eq!(rt; gate.gave_up.load(Ordering::SeqCst), 0);
-    assert_eq!(rt; seen.fault, None);
-    assert_eq!(rt; seen.retired.as_slice(), [311, 311].as_slice());
-    assert_eq!(rt; seen.logged.machine().word(0), Some(200));
+    assert_same!(rt; gate.gave_up.load(Ordering::SeqCst), 0);
+    assert_same!(rt; seen.fault, None);
+    assert_same!(rt; seen.retired.as_slice(), [311, 311].as_slice());
+    assert_same!(rt; seen.logged.machine().word(0), Some(200));
     Ok(())
 }

@@ -14,7 +14,7 @@ use std::sync::Wait;
 use std::test::Fail;
 use std::thread::Threads;
 use steps::Step;
-use test_devices::HUNDRED_ADDS;
+use test_devices::{HUNDRED_ADDS, assert_same};
 
 /// Always asks for the service of a module that no machine has.
 #[derive(Drop)]
@@ -57,10 +57,10 @@ fn run_astray<R: Threads + Wait + Abort + Sync>(
 fn no_place_of_the_machine(rt: HostRuntime) -> Result<(), Fail> {
     let logged = log_of(&rt, rt.alloc(), HUNDRED_ADDS, 1)?;
     let mut seen = run_astray(&rt, rt.alloc(), logged, 1000)?;
-    assert_eq!(rt; seen.fault, Some(RunFault::Budget));
-    assert_eq!(rt; seen.retired.as_slice(), [3, 3].as_slice());
-    assert_eq!(rt; seen.logged.machine().word(0), Some(0));
-    assert_eq!(rt; seen.logged.drain(), Ok(8));
-    assert_eq!(rt; seen.logged.machine().word(0), Some(2));
+    assert_same!(rt; seen.fault, Some(RunFault::Budget));
+    assert_same!(rt; seen.retired.as_slice(), [3, 3].as_slice());
+    assert_same!(rt; seen.logged.machine().word(0), Some(0));
+    assert_same!(rt; seen.logged.drain(), Ok(8));
+    assert_same!(rt; seen.logged.machine().word(0), Some(2));
     Ok(())
 }

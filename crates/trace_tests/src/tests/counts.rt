@@ -6,7 +6,7 @@ use link::Meter;
 use run_commands::run_command;
 use std::alloc::Global;
 use std::test::Fail;
-use test_devices::{ADD_AT_X12, FOUR_ADDS, trace_of};
+use test_devices::{ADD_AT_X12, FOUR_ADDS, assert_same, trace_of};
 
 /// The counts of the trace, but for the rounds.
 const COUNTS: &str = "steps 27 turns 8 up 6 serve 1 down 3 poke 9 rounds ";
@@ -44,9 +44,9 @@ fn four_adds(rt: HostRuntime) -> Result<(), Fail> {
         );
         let text = str::from_utf8(ran.out.as_slice())?;
         let rest = text.strip_prefix(COUNTS).unwrap_or("");
-        assert_eq!(rt; rest.strip_prefix(rounds).unwrap_or(""), PARTS);
-        assert_eq!(rt; ran.err.len(), 0);
-        assert_eq!(rt; ran.status, 0);
+        assert_same!(rt; rest.strip_prefix(rounds).unwrap_or(""), PARTS);
+        assert_same!(rt; ran.err.len(), 0);
+        assert_same!(rt; ran.status, 0);
     }
     Ok(())
 }
@@ -138,8 +138,8 @@ module 1 serves 0
             text.ends_with("processor 7 turns 806 retired 605\n"),
             "{text}"
         );
-        assert_eq!(rt; text.lines().count(), 20);
-        assert_eq!(rt; ran.status, 0);
+        assert_same!(rt; text.lines().count(), 20);
+        assert_same!(rt; ran.status, 0);
     }
     Ok(())
 }

@@ -3,7 +3,7 @@
 use super::{Told, WHOLE, tell};
 use link::Meter;
 use std::test::Fail;
-use test_devices::{Deaf, EBREAK, ONE_TURN, Sink, Source};
+use test_devices::{Deaf, EBREAK, ONE_TURN, Sink, Source, assert_same};
 
 /// What is told of an image of `ebreak` on one processor.
 fn stopped(told: Told) -> &'static [u8] {
@@ -32,15 +32,12 @@ fn lines_that_cannot_be_printed(rt: HostRuntime) {
             let file = Ok(EBREAK.as_slice());
             let status = tell(alloc, told, trace, file, 1, &mut out, &mut err);
             if 1 <= fails_at && fails_at <= lines.len() {
-                assert_eq!(rt;
-                    Some(out.device.bytes.as_slice()),
-                    lines.get(..fails_at - 1)
-                );
-                assert_eq!(rt; err.bytes.as_slice(), b"ultra: link\n".as_slice());
-                assert_eq!(rt; status, 3, "{told:?}, call {fails_at}");
+                assert_same!(rt; Some(out.device.bytes.as_slice()), lines.get(..fails_at - 1));
+                assert_same!(rt; err.bytes.as_slice(), b"ultra: link\n".as_slice());
+                assert_same!(rt; status, 3, (&told, &fails_at));
             } else {
-                assert_eq!(rt; out.device.bytes.as_slice(), lines);
-                assert_eq!(rt; status, 1, "{told:?}, call {fails_at}");
+                assert_same!(rt; out.device.bytes.as_slice(), lines);
+                assert_same!(rt; status, 1, (&told, &fails_at));
             }
         }
     }
@@ -56,15 +53,15 @@ fn files_that_cannot_be_read(rt: HostRuntime) {
         let trace = Source::new(&ONE_TURN, 5);
         let file = Ok(EBREAK.as_slice());
         let status = tell(alloc, told, trace, file, 1, &mut out, &mut err);
-        assert_eq!(rt; err.bytes.as_slice(), b"ultra: X5\n".as_slice());
-        assert_eq!(rt; out.device.bytes.len(), 0);
-        assert_eq!(rt; status, 3);
+        assert_same!(rt; err.bytes.as_slice(), b"ultra: X5\n".as_slice());
+        assert_same!(rt; out.device.bytes.len(), 0);
+        assert_same!(rt; status, 3);
         let mut out = Meter::new(Sink::new(Vec::new(alloc), 0));
         let trace = ONE_TURN.as_slice();
         let file = Ok(Source::new(&EBREAK, 5));
         let status = tell(alloc, told, trace, file, 1, &mut out, &mut Deaf);
-        assert_eq!(rt; out.device.bytes.len(), 0);
-        assert_eq!(rt; status, 3);
+        assert_same!(rt; out.device.bytes.len(), 0);
+        assert_same!(rt; status, 3);
     }
 }
 
@@ -78,12 +75,12 @@ fn short_of_memory(rt: HostRuntime) -> Result<(), Fail> {
         let file = Ok(EBREAK.as_slice());
         let status = tell(alloc, told, trace, file, 1, &mut out, &mut err);
         if status == 1 {
-            assert_eq!(rt; out.device.bytes.as_slice(), stopped(told));
-            assert_eq!(rt; err.bytes.len(), 0);
+            assert_same!(rt; out.device.bytes.as_slice(), stopped(told));
+            assert_same!(rt; err.bytes.len(), 0);
         } else {
-            assert_eq!(rt; status, 4);
-            assert_eq!(rt; out.device.bytes.len(), 0);
-            assert_eq!(rt; err.bytes.as_slice(), b"ultra: memory\n".as_slice());
+            assert_same!(rt; status, 4);
+            assert_same!(rt; out.device.bytes.len(), 0);
+            assert_same!(rt; err.bytes.as_slice(), b"ultra: memory\n".as_slice());
         }
     }
     Ok(())

@@ -5,7 +5,7 @@ use std::alloc::Global;
 use std::io::{self, ErrorKind};
 use std::process::Abort;
 use std::test::Fail;
-use test_devices::{EBREAK, ONE_TURN, trace_of};
+use test_devices::{EBREAK, ONE_TURN, assert_same, trace_of};
 
 /// Of a trace on an image nothing is printed, and this is told.
 fn assert_told(
@@ -16,9 +16,9 @@ fn assert_told(
     (fault, status): (&str, u8),
 ) {
     let ran = run(alloc, told, trace, file, shared_words);
-    assert_eq!(rt; ran.err.as_slice(), fault.as_bytes());
-    assert_eq!(rt; ran.out.len(), 0, "at {fault}");
-    assert_eq!(rt; ran.status, status, "at {fault}");
+    assert_same!(rt; ran.err.as_slice(), fault.as_bytes());
+    assert_same!(rt; ran.out.len(), 0, fault);
+    assert_same!(rt; ran.status, status, fault);
 }
 
 /// The second turn stalls, since the first has halted the processor.

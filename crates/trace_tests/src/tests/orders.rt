@@ -7,7 +7,7 @@ use order_lines::Choice;
 use run_commands::run_command;
 use std::fmt::Write;
 use std::test::Fail;
-use test_devices::{HUNDRED_ADDS, ONE_TURN, trace_of};
+use test_devices::{HUNDRED_ADDS, ONE_TURN, assert_same, trace_of};
 
 /// Adds `x7` to shared word 0, and halts.
 const ONE_ADD: &str = "
@@ -19,7 +19,7 @@ const ONE_ADD: &str = "
 /// `x7` of processor 0 is made 5, that of processor 1 is made 7, and shared word 0 is made 0x100. Processor 0 sends its
 /// request first. That of processor 1 is moved first, so that of processor 0 is combined into it: processor 1 leads, and
 /// finds what was there. It takes its reply and halts. Processor 0 takes its own in the drain.
-const COMBINED: [[u8; 12]; 13] = [
+static COMBINED: [[u8; 12]; 13] = [
     [5, 0, 7, 0, 0, 0, 0, 0, 5, 0, 0, 0],
     [5, 1, 7, 0, 0, 0, 0, 0, 7, 0, 0, 0],
     [7, 0, 0, 0, 1, 0, 0, 0x80, 1, 0, 0, 0],
@@ -36,13 +36,13 @@ const COMBINED: [[u8; 12]; 13] = [
 ];
 
 /// A turn of processor 0.
-const TURN: [u8; 12] = [1, 0, 0, 0, 0, 0, 0, 0, 0, 0, 0, 0];
+static TURN: [u8; 12] = [1, 0, 0, 0, 0, 0, 0, 0, 0, 0, 0, 0];
 
 /// A service by module 0.
-const SERVE: [u8; 12] = [3, 0, 0, 0, 0, 0, 0, 0, 0, 0, 0, 0];
+static SERVE: [u8; 12] = [3, 0, 0, 0, 0, 0, 0, 0, 0, 0, 0, 0];
 
 /// The lines of the trace. 0x100 and 7 are 0x107, and 0x107 and 5 are 0x10c.
-const LINES: [&str; 8] = [
+static LINES: [&str; 8] = [
     "0 0 poke x7 00000005\n",
     "1 1 poke x7 00000007\n",
     "2 - poke 80000001 01 word 0 00000000 00000100\n",
@@ -84,9 +84,9 @@ fn two_adds_combine(rt: HostRuntime) -> Result<(), Fail> {
             Ok(image.as_slice()),
             1,
         );
-        assert_eq!(rt; ran.out.as_slice(), lines.as_bytes(), "{choice:?}");
-        assert_eq!(rt; ran.err.len(), 0, "{choice:?}");
-        assert_eq!(rt; ran.status, 0, "{choice:?}");
+        assert_same!(rt; ran.out.as_slice(), lines.as_bytes(), choice);
+        assert_same!(rt; ran.err.len(), 0, choice);
+        assert_same!(rt; ran.status, 0, choice);
     }
     Ok(())
 }
@@ -113,8 +113,8 @@ fn served_in_the_drain(rt: HostRuntime) -> Result<(), Fail> {
 5 0 00010004 amoadd.w x8, x7, (x5) = 00000100 word 0 00000100 00000105
 6 1 00010004 amoadd.w x8, x7, (x5) = 00000105 word 0 00000105 0000010c
 ";
-    assert_eq!(rt; ran.out.as_slice(), lines.as_bytes());
-    assert_eq!(rt; ran.status, 0);
+    assert_same!(rt; ran.out.as_slice(), lines.as_bytes());
+    assert_same!(rt; ran.status, 0);
     Ok(())
 }
 
@@ -171,9 +171,9 @@ on: ebreak
 9 0 00010024 jal x1, 8 = 00010028
 10 0 0001002c fault 8
 ";
-    assert_eq!(rt; ran.out.as_slice(), lines.as_bytes());
-    assert_eq!(rt; ran.err.len(), 0);
-    assert_eq!(rt; ran.status, 1);
+    assert_same!(rt; ran.out.as_slice(), lines.as_bytes());
+    assert_same!(rt; ran.err.len(), 0);
+    assert_same!(rt; ran.status, 1);
     Ok(())
 }
 
@@ -190,12 +190,12 @@ fn no_steps(rt: HostRuntime) -> Result<(), Fail> {
         Ok(image.as_slice()),
         1,
     );
-    assert_eq!(rt; ran.out.len(), 0);
-    assert_eq!(rt; ran.err.len(), 0);
-    assert_eq!(rt; ran.status, 0);
+    assert_same!(rt; ran.out.len(), 0);
+    assert_same!(rt; ran.err.len(), 0);
+    assert_same!(rt; ran.status, 0);
     let ran = run(alloc, Told::Order(ALL), &ONE_TURN, Ok(image.as_slice()), 1);
-    assert_eq!(rt; ran.out.as_slice(), b"0 0 00010000 fault 8\n".as_slice());
-    assert_eq!(rt; ran.status, 1);
+    assert_same!(rt; ran.out.as_slice(), b"0 0 00010000 fault 8\n".as_slice());
+    assert_same!(rt; ran.status, 1);
     Ok(())
 }
 
@@ -222,7 +222,7 @@ fn each_add_goes_on_from_the_last(rt: HostRuntime) -> Result<(), Fail> {
         &mut Meter::new(Vec::new(alloc)),
         &mut Vec::new(alloc),
     );
-    assert_eq!(rt; status, 0);
+    assert_same!(rt; status, 0);
     let Some(trace) = trace else {
         return Ok(());
     };
@@ -237,7 +237,7 @@ fn each_add_goes_on_from_the_last(rt: HostRuntime) -> Result<(), Fail> {
         Ok(image.as_slice()),
         1024,
     );
-    assert_eq!(rt; ran.status, 0);
+    assert_same!(rt; ran.status, 0);
     let text = str::from_utf8(ran.out.as_slice())?;
     let (mut adds, mut loads) = (0_u32, 0_u32);
     for line in text.lines() {
@@ -252,6 +252,6 @@ fn each_add_goes_on_from_the_last(rt: HostRuntime) -> Result<(), Fail> {
         }
         assert!(rt; line.ends_with(end.as_str()), "{line}");
     }
-    assert_eq!(rt; (adds, loads), (6400, 64));
+    assert_same!(rt; (adds, loads), (6400, 64));
     Ok(())
 }

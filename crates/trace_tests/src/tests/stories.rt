@@ -2,7 +2,7 @@
 
 use super::{Told, image_of, run};
 use std::test::Fail;
-use test_devices::{ADD_AT_X12, FOUR_ADDS, trace_of};
+use test_devices::{ADD_AT_X12, FOUR_ADDS, assert_same, trace_of};
 
 /// The lines up to the service.
 const GOING_UP: &str = "0 poke 0 x11 00000001: writes
@@ -64,9 +64,9 @@ fn four_adds(rt: HostRuntime) -> Result<(), Fail> {
         let mut lines = String::new(alloc);
         lines.push_str(GOING_UP)?;
         lines.push_str(rest)?;
-        assert_eq!(rt; str::from_utf8(ran.out.as_slice())?, lines.as_str());
-        assert_eq!(rt; ran.err.len(), 0);
-        assert_eq!(rt; ran.status, 0);
+        assert_same!(rt; str::from_utf8(ran.out.as_slice())?, lines.as_str());
+        assert_same!(rt; ran.err.len(), 0);
+        assert_same!(rt; ran.status, 0);
     }
     Ok(())
 }
@@ -96,7 +96,7 @@ fn console_and_fault(rt: HostRuntime) -> Result<(), Fail> {
 2 turn 0: retires ecall console 41
 3 turn 0: stops fault 8
 ";
-    assert_eq!(rt; str::from_utf8(ran.out.as_slice())?, lines);
-    assert_eq!(rt; ran.status, 1);
+    assert_same!(rt; str::from_utf8(ran.out.as_slice())?, lines);
+    assert_same!(rt; ran.status, 1);
     Ok(())
 }

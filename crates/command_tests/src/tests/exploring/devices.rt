@@ -8,7 +8,7 @@ use link::{LinkWrite, Meter};
 use std::alloc::Global;
 use std::io::{Read, Write};
 use std::test::Fail;
-use test_devices::{Deaf, EBREAK, Sink, Source};
+use test_devices::{Deaf, EBREAK, Sink, Source, assert_same};
 
 /// The one result of an image of `ebreak` on one processor.
 const STOPPED: &[u8] = b"result 1
@@ -53,15 +53,12 @@ fn lines_that_cannot_be_printed(rt: HostRuntime) {
         let file = EBREAK.as_slice();
         let status = explored(alloc, file, &mut out, &mut err);
         if 1 <= fails_at && fails_at <= 89 {
-            assert_eq!(rt;
-                Some(out.device.bytes.as_slice()),
-                STOPPED.get(..fails_at - 1)
-            );
-            assert_eq!(rt; err.bytes.as_slice(), b"ultra: link\n".as_slice());
-            assert_eq!(rt; status, 3, "call {fails_at}");
+            assert_same!(rt; Some(out.device.bytes.as_slice()), STOPPED.get(..fails_at - 1));
+            assert_same!(rt; err.bytes.as_slice(), b"ultra: link\n".as_slice());
+            assert_same!(rt; status, 3, fails_at);
         } else {
-            assert_eq!(rt; out.device.bytes.as_slice(), STOPPED);
-            assert_eq!(rt; status, 1, "call {fails_at}");
+            assert_same!(rt; out.device.bytes.as_slice(), STOPPED);
+            assert_same!(rt; status, 1, fails_at);
         }
     }
 }
@@ -73,8 +70,8 @@ fn image_that_cannot_be_read(rt: HostRuntime) {
     let mut out = Meter::new(Sink::new(Vec::new(alloc), 0));
     let file = Source::new(&EBREAK, 5);
     let status = explored(alloc, file, &mut out, &mut Deaf);
-    assert_eq!(rt; out.device.bytes.len(), 0);
-    assert_eq!(rt; status, 3);
+    assert_same!(rt; out.device.bytes.len(), 0);
+    assert_same!(rt; status, 3);
 }
 
 #[test]
@@ -85,12 +82,12 @@ fn short_of_memory(rt: HostRuntime) -> Result<(), Fail> {
     let file = EBREAK.as_slice();
     let status = explored(alloc, file, &mut out, &mut err);
     if status == 1 {
-        assert_eq!(rt; out.device.bytes.as_slice(), STOPPED);
-        assert_eq!(rt; err.bytes.len(), 0);
+        assert_same!(rt; out.device.bytes.as_slice(), STOPPED);
+        assert_same!(rt; err.bytes.len(), 0);
     } else {
-        assert_eq!(rt; status, 4);
-        assert_eq!(rt; out.device.bytes.len(), 0);
-        assert_eq!(rt; err.bytes.as_slice(), b"ultra: memory\n".as_slice());
+        assert_same!(rt; status, 4);
+        assert_same!(rt; out.device.bytes.len(), 0);
+        assert_same!(rt; err.bytes.as_slice(), b"ultra: memory\n".as_slice());
     }
     Ok(())
 }

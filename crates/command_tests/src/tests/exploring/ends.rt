@@ -3,7 +3,7 @@
 use super::{config_of, explore, image_of};
 use flat_machine::Config;
 use std::test::Fail;
-use test_devices::EBREAK;
+use test_devices::{EBREAK, assert_same};
 
 /// A loop that needs no shared word.
 const SPIN: &str = "spin: jal x0, spin";
@@ -63,9 +63,9 @@ fn refusals(rt: HostRuntime) -> Result<(), Fail> {
         ),
     ] {
         let ran = explore(alloc, file, config, limit);
-        assert_eq!(rt; ran.err.as_slice(), told);
-        assert_eq!(rt; ran.out.len(), 0);
-        assert_eq!(rt; ran.status, status);
+        assert_same!(rt; ran.err.as_slice(), told);
+        assert_same!(rt; ran.out.len(), 0);
+        assert_same!(rt; ran.status, status);
     }
     Ok(())
 }

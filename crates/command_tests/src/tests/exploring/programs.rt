@@ -2,6 +2,7 @@
 
 use super::{config_of, explore, image_of};
 use std::test::Fail;
+use test_devices::assert_same;
 
 /// Each adds 1 to the first word by a load and a store: an addition may be lost.
 const LOST_SUM: &str = "
@@ -65,9 +66,9 @@ fn results_are_printed(rt: HostRuntime) -> Result<(), Fail> {
     ] {
         let image = image_of(alloc, text)?;
         let ran = explore(alloc, image.as_slice(), config_of(k), 100);
-        assert_eq!(rt; str::from_utf8(ran.out.as_slice())?, out);
-        assert_eq!(rt; ran.err.len(), 0);
-        assert_eq!(rt; ran.status, status);
+        assert_same!(rt; str::from_utf8(ran.out.as_slice())?, out);
+        assert_same!(rt; ran.err.len(), 0);
+        assert_same!(rt; ran.status, status);
     }
     Ok(())
 }

@@ -7,6 +7,7 @@ use link::Meter;
 use run_commands::replay_command;
 use std::alloc::Global;
 use std::test::Fail;
+use test_devices::assert_same;
 
 /// Each adds 1 by a load and a store.
 const LOST: &str = "lui x1, 0x80000\nlw x2, 0(x1)\naddi x2, x2, 1\nsw x2, 0(x1)\necall";
@@ -72,15 +73,12 @@ fn results_are_come_to(rt: HostRuntime) -> Result<(), Fail> {
     let file = image_of(alloc, LOST)?;
     for (number, sum) in [(1, "00000002"), (2, "00000001")] {
         let ran = explored(alloc, file.as_slice(), number);
-        assert_eq!(rt; ran.status, 0);
+        assert_same!(rt; ran.status, 0);
         assert!(rt; ran.is_printed);
         let report = format!(in alloc;
             "processor 0 pc 00010010 halt 00 retired 4 console -\nprocessor 1 pc 00010010 halt 00 retired 4 console -\nword 0 {sum}\n"
         )?;
-        assert_eq!(rt;
-            replayed(alloc, ran.trace.as_slice(), file.as_slice()).as_slice(),
-            report.as_bytes()
-        );
+        assert_same!(rt; replayed(alloc, ran.trace.as_slice(), file.as_slice()).as_slice(), report.as_bytes());
     }
     for (number, said) in [
         (0, "error: an end can be reached from each state\n"),
@@ -88,10 +86,10 @@ fn results_are_come_to(rt: HostRuntime) -> Result<(), Fail> {
         (4_294_967_295, "error: there is no result 4294967295\n"),
     ] {
         let ran = explored(alloc, file.as_slice(), number);
-        assert_eq!(rt; ran.status, 2);
+        assert_same!(rt; ran.status, 2);
         assert!(rt; !ran.is_printed);
-        assert_eq!(rt; ran.trace.len(), 0);
-        assert_eq!(rt; ran.err.as_slice(), said.as_bytes());
+        assert_same!(rt; ran.trace.len(), 0);
+        assert_same!(rt; ran.err.as_slice(), said.as_bytes());
     }
     Ok(())
 }
@@ -102,10 +100,10 @@ fn deadlock_is_come_to(rt: HostRuntime) -> Result<(), Fail> {
     let alloc = rt.alloc();
     let file = image_of(alloc, MISSED)?;
     let ran = explored(alloc, file.as_slice(), 0);
-    assert_eq!(rt; ran.status, 1);
-    assert_eq!(rt;
-        replayed(alloc, ran.trace.as_slice(), file.as_slice()).as_slice(),
-        b"processor 0 pc 00010000 run retired 0 console -\nprocessor 1 pc 0001001c run retired 7 console -\n".as_slice()
-    );
+    assert_same!(rt; ran.status, 1);
+    let report = replayed(alloc, ran.trace.as_slice(), file.as_slice());
+    let told =
+        b"processor 0 pc 00010000 run retired 0 console -\nprocessor 1 pc 0001001c run retired 7 console -\n";
+    assert_same!(rt; report.as_slice(), told.as_slice());
     Ok(())
 }

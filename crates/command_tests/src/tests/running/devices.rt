@@ -7,7 +7,7 @@ use link::{Link, Meter};
 use run_commands::{replay_command, run_command};
 use std::alloc::Global;
 use std::test::Fail;
-use test_devices::{Deaf, EBREAK, ONE_TURN, Sink, Source};
+use test_devices::{Deaf, EBREAK, ONE_TURN, Sink, Source, assert_same};
 
 /// The report of an image of `ebreak` on one processor.
 const STOPPED: &[u8] = b"processor 0 pc 00010000 fault 8 retired 0 console -\n";
@@ -40,12 +40,12 @@ fn image_that_cannot_be_read(rt: HostRuntime) {
         let mut trace = no_trace();
         let status = run_command(alloc, file, size(0), AMPLE, &mut trace, &mut out, &mut err);
         if 1 <= fails_at && fails_at <= 89 {
-            assert_eq!(rt; err.bytes.as_slice(), b"ultra: I9\n".as_slice());
-            assert_eq!(rt; out.device.bytes.len(), 0, "call {fails_at}");
-            assert_eq!(rt; status, 3, "call {fails_at}");
+            assert_same!(rt; err.bytes.as_slice(), b"ultra: I9\n".as_slice());
+            assert_same!(rt; out.device.bytes.len(), 0, fails_at);
+            assert_same!(rt; status, 3, fails_at);
         } else {
-            assert_eq!(rt; out.device.bytes.as_slice(), STOPPED);
-            assert_eq!(rt; status, 1, "call {fails_at}");
+            assert_same!(rt; out.device.bytes.as_slice(), STOPPED);
+            assert_same!(rt; status, 1, fails_at);
         }
 
         let (mut out, mut err) = (failing_link(alloc, 0), empty_sink(alloc, 0));
@@ -59,12 +59,12 @@ fn image_that_cannot_be_read(rt: HostRuntime) {
             &mut err,
         );
         if 1 <= fails_at && fails_at <= 89 {
-            assert_eq!(rt; err.bytes.as_slice(), b"ultra: I9\n".as_slice());
-            assert_eq!(rt; out.device.bytes.len(), 0, "call {fails_at}");
-            assert_eq!(rt; status, 3, "call {fails_at}");
+            assert_same!(rt; err.bytes.as_slice(), b"ultra: I9\n".as_slice());
+            assert_same!(rt; out.device.bytes.len(), 0, fails_at);
+            assert_same!(rt; status, 3, fails_at);
         } else {
-            assert_eq!(rt; out.device.bytes.as_slice(), STOPPED);
-            assert_eq!(rt; status, 1, "call {fails_at}");
+            assert_same!(rt; out.device.bytes.as_slice(), STOPPED);
+            assert_same!(rt; status, 1, fails_at);
         }
     }
 }
@@ -85,12 +85,12 @@ fn trace_that_cannot_be_read(rt: HostRuntime) {
             &mut err,
         );
         if 1 <= fails_at && fails_at <= 25 {
-            assert_eq!(rt; err.bytes.as_slice(), b"ultra: X5\n".as_slice());
-            assert_eq!(rt; out.device.bytes.len(), 0, "call {fails_at}");
-            assert_eq!(rt; status, 3, "call {fails_at}");
+            assert_same!(rt; err.bytes.as_slice(), b"ultra: X5\n".as_slice());
+            assert_same!(rt; out.device.bytes.len(), 0, fails_at);
+            assert_same!(rt; status, 3, fails_at);
         } else {
-            assert_eq!(rt; out.device.bytes.as_slice(), STOPPED);
-            assert_eq!(rt; status, 1, "call {fails_at}");
+            assert_same!(rt; out.device.bytes.as_slice(), STOPPED);
+            assert_same!(rt; status, 1, fails_at);
         }
     }
 }
@@ -107,22 +107,22 @@ fn trace_that_cannot_be_written(rt: HostRuntime) -> Result<(), Fail> {
         let status = run_command(alloc, file, size(0), AMPLE, &mut trace, &mut out, &mut err);
         let written = trace.as_ref().map(|trace| trace.device.bytes.as_slice());
         if 1 <= fails_at && fails_at <= 24 {
-            assert_eq!(rt; written, Some(&ONE_TURN[..fails_at - 1]));
-            assert_eq!(rt; err.bytes.as_slice(), b"ultra: X5\n".as_slice());
-            assert_eq!(rt; out.device.bytes.len(), 0, "call {fails_at}");
-            assert_eq!(rt; status, 3, "call {fails_at}");
+            assert_same!(rt; written, Some(&ONE_TURN[..fails_at - 1]));
+            assert_same!(rt; err.bytes.as_slice(), b"ultra: X5\n".as_slice());
+            assert_same!(rt; out.device.bytes.len(), 0, fails_at);
+            assert_same!(rt; status, 3, fails_at);
         } else {
-            assert_eq!(rt; written, Some(ONE_TURN.as_slice()));
-            assert_eq!(rt; err.bytes.len(), 0, "call {fails_at}");
-            assert_eq!(rt; status, 0, "call {fails_at}");
+            assert_same!(rt; written, Some(ONE_TURN.as_slice()));
+            assert_same!(rt; err.bytes.len(), 0, fails_at);
+            assert_same!(rt; status, 0, fails_at);
         }
     }
     let (mut out, mut err) = (failing_link(alloc, 0), empty_sink(alloc, 0));
     let mut trace = Some(Meter::new(Deaf));
     let file = image.as_slice();
     let status = run_command(alloc, file, size(0), AMPLE, &mut trace, &mut out, &mut err);
-    assert_eq!(rt; err.bytes.as_slice(), b"ultra: X5\n".as_slice());
-    assert_eq!(rt; status, 3);
+    assert_same!(rt; err.bytes.as_slice(), b"ultra: X5\n".as_slice());
+    assert_same!(rt; status, 3);
     Ok(())
 }
 
@@ -136,17 +136,14 @@ fn report_that_cannot_be_printed(rt: HostRuntime) {
         let file = EBREAK.as_slice();
         let status = run_command(alloc, file, size(0), AMPLE, &mut trace, &mut out, &mut err);
         let written = trace.as_ref().map(|trace| trace.device.bytes.as_slice());
-        assert_eq!(rt; written, Some(ONE_TURN.as_slice()));
+        assert_same!(rt; written, Some(ONE_TURN.as_slice()));
         if 1 <= fails_at && fails_at <= 52 {
-            assert_eq!(rt;
-                Some(out.device.bytes.as_slice()),
-                STOPPED.get(..fails_at - 1)
-            );
-            assert_eq!(rt; err.bytes.as_slice(), b"ultra: link\n".as_slice());
-            assert_eq!(rt; status, 3, "call {fails_at}");
+            assert_same!(rt; Some(out.device.bytes.as_slice()), STOPPED.get(..fails_at - 1));
+            assert_same!(rt; err.bytes.as_slice(), b"ultra: link\n".as_slice());
+            assert_same!(rt; status, 3, fails_at);
         } else {
-            assert_eq!(rt; out.device.bytes.as_slice(), STOPPED);
-            assert_eq!(rt; status, 1, "call {fails_at}");
+            assert_same!(rt; out.device.bytes.as_slice(), STOPPED);
+            assert_same!(rt; status, 1, fails_at);
         }
 
         let (mut out, mut err) = (failing_link(alloc, fails_at), empty_sink(alloc, 0));
@@ -160,15 +157,12 @@ fn report_that_cannot_be_printed(rt: HostRuntime) {
             &mut err,
         );
         if 1 <= fails_at && fails_at <= 52 {
-            assert_eq!(rt;
-                Some(out.device.bytes.as_slice()),
-                STOPPED.get(..fails_at - 1)
-            );
-            assert_eq!(rt; err.bytes.as_slice(), b"ultra: link\n".as_slice());
-            assert_eq!(rt; status, 3, "call {fails_at}");
+            assert_same!(rt; Some(out.device.bytes.as_slice()), STOPPED.get(..fails_at - 1));
+            assert_same!(rt; err.bytes.as_slice(), b"ultra: link\n".as_slice());
+            assert_same!(rt; status, 3, fails_at);
         } else {
-            assert_eq!(rt; out.device.bytes.as_slice(), STOPPED);
-            assert_eq!(rt; status, 1, "call {fails_at}");
+            assert_same!(rt; out.device.bytes.as_slice(), STOPPED);
+            assert_same!(rt; status, 1, fails_at);
         }
     }
     // Where standard error fails too, the exit status alone tells the fault.
@@ -176,9 +170,9 @@ fn report_that_cannot_be_printed(rt: HostRuntime) {
     let file = &EBREAK[..51];
     let mut trace = no_trace();
     let status = run_command(alloc, file, size(0), AMPLE, &mut trace, &mut out, &mut Deaf);
-    assert_eq!(rt; status, 2);
+    assert_same!(rt; status, 2);
     let mut out = failing_link(alloc, 0);
     let trace = ONE_TURN.as_slice();
     let status = replay_command(alloc, trace, Ok(file), 1024, &mut out, &mut Deaf);
-    assert_eq!(rt; status, 2);
+    assert_same!(rt; status, 2);
 }

@@ -7,14 +7,14 @@ use link::Meter;
 use std::io::{self, ErrorKind};
 use std::process::Abort;
 use std::test::Fail;
-use test_devices::{EBREAK, Endless, ONE_TURN};
+use test_devices::{EBREAK, Endless, ONE_TURN, assert_same};
 
 /// Nothing is printed and no trace is written, and this is told.
 fn assert_told(rt: &impl Abort, ran: &Ran, told: &str, status: u8) {
-    assert_eq!(rt; ran.err.as_slice(), told.as_bytes());
-    assert_eq!(rt; ran.out.len(), 0, "at {told}");
-    assert_eq!(rt; ran.trace.len(), 0, "at {told}");
-    assert_eq!(rt; ran.status, status, "at {told}");
+    assert_same!(rt; ran.err.as_slice(), told.as_bytes());
+    assert_same!(rt; ran.out.len(), 0, told);
+    assert_same!(rt; ran.trace.len(), 0, told);
+    assert_same!(rt; ran.status, status, told);
 }
 
 /// Two instructions take two steps: the first retires, and the second halts.
@@ -25,11 +25,8 @@ fn budget_that_is_just_enough(rt: HostRuntime) -> Result<(), Fail> {
     assert_told(&rt, &ran, "ultra: budget\n", 4);
     for budget in [2, 3, u32::MAX] {
         let ran = run_text(rt.alloc(), text, size(0), budget)?;
-        assert_eq!(rt;
-            ran.out.as_slice(),
-            b"processor 0 pc 00010004 halt 00 retired 1 console -\n".as_slice()
-        );
-        assert_eq!(rt; ran.status, 0);
+        assert_same!(rt; ran.out.as_slice(), b"processor 0 pc 00010004 halt 00 retired 1 console -\n".as_slice());
+        assert_same!(rt; ran.status, 0);
     }
     Ok(())
 }
@@ -59,11 +56,11 @@ on: jal x0, on
     let report = "processor 0 pc 0001000c fault 8 retired 3 console -
 processor 1 pc 00010010 run retired 3 console -
 ";
-    assert_eq!(rt; ran.out.as_slice(), report.as_bytes());
-    assert_eq!(rt; ran.err.len(), 0);
-    assert_eq!(rt; ran.status, 1);
+    assert_same!(rt; ran.out.as_slice(), report.as_bytes());
+    assert_same!(rt; ran.err.len(), 0);
+    assert_same!(rt; ran.status, 1);
     // A header, and the records of seven turns.
-    assert_eq!(rt; ran.trace.len(), 12 + 12 * 7);
+    assert_same!(rt; ran.trace.len(), 12 + 12 * 7);
 
     // No fault has come when the budget of six steps is used up.
     let ran = run_text(rt.alloc(), text, size(1), 6)?;
@@ -94,8 +91,8 @@ odd: addi x7, x0, 1
 processor 1 pc 0001001c fault 8 retired 4 console -
 word 0 00000007
 ";
-    assert_eq!(rt; ran.out.as_slice(), report.as_bytes());
-    assert_eq!(rt; ran.status, 1);
+    assert_same!(rt; ran.out.as_slice(), report.as_bytes());
+    assert_same!(rt; ran.status, 1);
     // Five turns of each, the request up the one stage, the service, the reply down, and the turn of
     // processor 0 that takes it.
     let drain = [
@@ -104,11 +101,11 @@ word 0 00000007
         4, 0, 0, 0, 0, 0, 0, 0, 0, 0, 0, 0, //
         1, 0, 0, 0, 0, 0, 0, 0, 0, 0, 0, 0,
     ];
-    assert_eq!(rt; ran.trace.len(), 12 + 12 * 14);
-    assert_eq!(rt; &ran.trace.as_slice()[12 + 12 * 10..], drain.as_slice());
+    assert!(rt; ran.trace.len() == 12 + 12 * 14);
+    assert_same!(rt; &ran.trace.as_slice()[12 + 12 * 10..], drain.as_slice());
     let replayed = replay(alloc, ran.trace.as_slice(), Ok(image.as_slice()), 1024);
-    assert_eq!(rt; replayed.out.as_slice(), report.as_bytes());
-    assert_eq!(rt; replayed.status, 1);
+    assert_same!(rt; replayed.out.as_slice(), report.as_bytes());
+    assert_same!(rt; replayed.status, 1);
     Ok(())
 }
 
@@ -131,7 +128,7 @@ fn log_of_a_sweep(rt: HostRuntime) -> Result<(), Fail> {
     for record in records {
         trace.extend_from_slice(&record)?;
     }
-    assert_eq!(rt; ran.trace.as_slice(), trace.as_slice());
+    assert_same!(rt; ran.trace.as_slice(), trace.as_slice());
     Ok(())
 }
 
@@ -155,7 +152,7 @@ fn refuses_an_image(rt: HostRuntime) -> Result<(), Fail> {
     let ran = replay(alloc, &ONE_TURN, Ok(image.as_slice()), 1);
     assert_told(&rt, &ran, "ultra: I5\n", 2);
     let ran = replay(alloc, &ONE_TURN, Ok(image.as_slice()), 2);
-    assert_eq!(rt; ran.status, 1);
+    assert_same!(rt; ran.status, 1);
     Ok(())
 }
 
@@ -209,7 +206,7 @@ fn statuses_of_faults(rt: HostRuntime) {
         (Fault::Link, 3),
         (Fault::Memory, 4),
     ] {
-        assert_eq!(rt; fault.status(), status, "{fault}");
+        assert_same!(rt; fault.status(), status, fault);
     }
     let mut out = Meter::new(Vec::new(rt.alloc()));
     let mut err = Vec::new(rt.alloc());
@@ -223,6 +220,6 @@ fn statuses_of_faults(rt: HostRuntime) {
         &mut out,
         &mut err,
     );
-    assert_eq!(rt; err.as_slice(), b"ultra: I8\n".as_slice());
-    assert_eq!(rt; status, 2);
+    assert_same!(rt; err.as_slice(), b"ultra: I8\n".as_slice());
+    assert_same!(rt; status, 2);
 }

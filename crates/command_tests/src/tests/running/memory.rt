@@ -5,7 +5,7 @@ use super::{AMPLE, size};
 use link::Meter;
 use run_commands::{replay_command, run_command};
 use std::test::Fail;
-use test_devices::{EBREAK, ONE_TURN, Sink};
+use test_devices::{EBREAK, ONE_TURN, Sink, assert_same};
 
 /// The report of an image of `ebreak` on one processor.
 const STOPPED: &[u8] = b"processor 0 pc 00010000 fault 8 retired 0 console -\n";
@@ -21,14 +21,14 @@ fn run_is_short_of_memory(rt: HostRuntime) -> Result<(), Fail> {
     let status = run_command(alloc, file, size(0), AMPLE, &mut trace, &mut out, &mut err);
     let written = trace.as_ref().map(|trace| trace.device.bytes.as_slice());
     if status == 1 {
-        assert_eq!(rt; written, Some(ONE_TURN.as_slice()));
-        assert_eq!(rt; out.device.bytes.as_slice(), STOPPED);
-        assert_eq!(rt; err.bytes.len(), 0);
+        assert_same!(rt; written, Some(ONE_TURN.as_slice()));
+        assert_same!(rt; out.device.bytes.as_slice(), STOPPED);
+        assert_same!(rt; err.bytes.len(), 0);
     } else {
-        assert_eq!(rt; status, 4);
-        assert_eq!(rt; written, Some(b"".as_slice()));
-        assert_eq!(rt; out.device.bytes.len(), 0);
-        assert_eq!(rt; err.bytes.as_slice(), b"ultra: memory\n".as_slice());
+        assert_same!(rt; status, 4);
+        assert_same!(rt; written, Some(b"".as_slice()));
+        assert_same!(rt; out.device.bytes.len(), 0);
+        assert_same!(rt; err.bytes.as_slice(), b"ultra: memory\n".as_slice());
     }
     Ok(())
 }
@@ -48,12 +48,12 @@ fn replay_is_short_of_memory(rt: HostRuntime) -> Result<(), Fail> {
         &mut err,
     );
     if status == 1 {
-        assert_eq!(rt; out.device.bytes.as_slice(), STOPPED);
-        assert_eq!(rt; err.bytes.len(), 0);
+        assert_same!(rt; out.device.bytes.as_slice(), STOPPED);
+        assert_same!(rt; err.bytes.len(), 0);
     } else {
-        assert_eq!(rt; status, 4);
-        assert_eq!(rt; out.device.bytes.len(), 0);
-        assert_eq!(rt; err.bytes.as_slice(), b"ultra: memory\n".as_slice());
+        assert_same!(rt; status, 4);
+        assert_same!(rt; out.device.bytes.len(), 0);
+        assert_same!(rt; err.bytes.as_slice(), b"ultra: memory\n".as_slice());
     }
     Ok(())
 }

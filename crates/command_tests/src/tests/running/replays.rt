@@ -2,7 +2,7 @@
 
 use super::{AMPLE, image_of, replay, run_text, size};
 use std::test::Fail;
-use test_devices::ONE_TURN;
+use test_devices::{ONE_TURN, assert_same};
 
 /// The trace of a run of one `ecall`, and its replay.
 #[test]
@@ -10,15 +10,15 @@ fn one_turn(rt: HostRuntime) -> Result<(), Fail> {
     let alloc = rt.alloc();
     let report = b"processor 0 pc 00010000 halt 00 retired 0 console -\n";
     let ran = run_text(alloc, "ecall", size(0), AMPLE)?;
-    assert_eq!(rt; ran.out.as_slice(), report.as_slice());
-    assert_eq!(rt; ran.trace.as_slice(), ONE_TURN.as_slice());
-    assert_eq!(rt; ran.status, 0);
+    assert_same!(rt; ran.out.as_slice(), report.as_slice());
+    assert_same!(rt; ran.trace.as_slice(), ONE_TURN.as_slice());
+    assert_same!(rt; ran.status, 0);
 
     let image = image_of(alloc, "ecall")?;
     let ran = replay(alloc, &ONE_TURN, Ok(image.as_slice()), 1024);
-    assert_eq!(rt; ran.out.as_slice(), report.as_slice());
-    assert_eq!(rt; ran.err.len(), 0);
-    assert_eq!(rt; ran.status, 0);
+    assert_same!(rt; ran.out.as_slice(), report.as_slice());
+    assert_same!(rt; ran.err.len(), 0);
+    assert_same!(rt; ran.status, 0);
     Ok(())
 }
 
@@ -29,12 +29,12 @@ fn step_that_stalls(rt: HostRuntime) -> Result<(), Fail> {
     let image = image_of(alloc, "ecall")?;
     let mut trace = ONE_TURN.as_slice().to_vec(alloc)?;
     trace.extend_from_slice(&ONE_TURN[12..])?;
-    assert_eq!(rt; trace.len(), 36);
+    assert_same!(rt; trace.len(), 36);
     trace[8] = 2;
     let ran = replay(alloc, trace.as_slice(), Ok(image.as_slice()), 1024);
-    assert_eq!(rt; ran.err.as_slice(), b"ultra: X7 step 1\n".as_slice());
-    assert_eq!(rt; ran.out.len(), 0);
-    assert_eq!(rt; ran.status, 2);
+    assert_same!(rt; ran.err.as_slice(), b"ultra: X7 step 1\n".as_slice());
+    assert_same!(rt; ran.out.len(), 0);
+    assert_same!(rt; ran.status, 2);
     Ok(())
 }
 
@@ -44,19 +44,15 @@ fn refuses_what_is_no_trace(rt: HostRuntime) -> Result<(), Fail> {
     let image = image_of(alloc, "ecall")?;
     for cut in 0..24 {
         let ran = replay(alloc, &ONE_TURN[..cut], Ok(image.as_slice()), 1024);
-        assert_eq!(rt;
-            ran.err.as_slice(),
-            b"ultra: X1\n".as_slice(),
-            "cut to {cut}"
-        );
-        assert_eq!(rt; ran.out.len(), 0, "cut to {cut}");
-        assert_eq!(rt; ran.status, 2, "cut to {cut}");
+        assert_same!(rt; ran.err.as_slice(), b"ultra: X1\n".as_slice(), cut);
+        assert_same!(rt; ran.out.len(), 0, cut);
+        assert_same!(rt; ran.status, 2, cut);
     }
     let mut long = ONE_TURN.as_slice().to_vec(alloc)?;
     long.push(0)?;
     let ran = replay(alloc, long.as_slice(), Ok(image.as_slice()), 1024);
-    assert_eq!(rt; ran.err.as_slice(), b"ultra: X4\n".as_slice());
-    assert_eq!(rt; ran.status, 2);
+    assert_same!(rt; ran.err.as_slice(), b"ultra: X4\n".as_slice());
+    assert_same!(rt; ran.status, 2);
     for (place, byte, told) in [
         (0, 0, "ultra: X2\n"),
         (5, 7, "ultra: X2\n"),
@@ -67,8 +63,8 @@ fn refuses_what_is_no_trace(rt: HostRuntime) -> Result<(), Fail> {
             *there = byte;
         }
         let ran = replay(alloc, &wrong, Ok(image.as_slice()), 1024);
-        assert_eq!(rt; ran.err.as_slice(), told.as_bytes());
-        assert_eq!(rt; ran.status, 2, "at {told}");
+        assert_same!(rt; ran.err.as_slice(), told.as_bytes());
+        assert_same!(rt; ran.status, 2, told);
     }
     Ok(())
 }
@@ -88,14 +84,11 @@ fn drains_behind_the_trace(rt: HostRuntime) -> Result<(), Fail> {
     let mut trace = ONE_TURN.as_slice().to_vec(alloc)?;
     trace.extend_from_slice(&ONE_TURN[12..])?;
     trace.extend_from_slice(&ONE_TURN[12..])?;
-    assert_eq!(rt; trace.len(), 48);
+    assert_same!(rt; trace.len(), 48);
     trace[8] = 3;
     let ran = replay(alloc, trace.as_slice(), Ok(image.as_slice()), 1024);
-    assert_eq!(rt;
-        ran.out.as_slice(),
-        b"processor 0 pc 0001000c run retired 3 console -\nword 0 00000005\n".as_slice()
-    );
-    assert_eq!(rt; ran.status, 0);
+    assert_same!(rt; ran.out.as_slice(), b"processor 0 pc 0001000c run retired 3 console -\nword 0 00000005\n".as_slice());
+    assert_same!(rt; ran.status, 0);
     Ok(())
 }
 
@@ -109,7 +102,7 @@ fn no_steps(rt: HostRuntime) -> Result<(), Fail> {
     let report = "processor 0 pc 00010000 run retired 0 console -
 processor 1 pc 00010000 run retired 0 console -
 ";
-    assert_eq!(rt; ran.out.as_slice(), report.as_bytes());
-    assert_eq!(rt; ran.status, 0);
+    assert_same!(rt; ran.out.as_slice(), report.as_bytes());
+    assert_same!(rt; ran.status, 0);
     Ok(())
 }

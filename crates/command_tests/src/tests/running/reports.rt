@@ -3,7 +3,7 @@
 use super::{AMPLE, image_of, replay, run_text, size};
 use std::fmt::Write;
 use std::test::Fail;
-use test_devices::HUNDRED_ADDS;
+use test_devices::{HUNDRED_ADDS, assert_same};
 
 /// Three instructions at the beginning, three for each of the hundred adds, and eight behind them, of
 /// which the last halts and does not retire: 311. `ecall` stands at 0x00010038.
@@ -26,14 +26,14 @@ fn hundred_adds(rt: HostRuntime) -> Result<(), Fail> {
         write!(report, "word 0 {sum}\n")?;
 
         let ran = run_text(alloc, HUNDRED_ADDS, size(k), AMPLE)?;
-        assert_eq!(rt; ran.out.as_slice(), report.as_bytes(), "k {k}");
-        assert_eq!(rt; ran.err.len(), 0, "k {k}");
-        assert_eq!(rt; ran.status, 0, "k {k}");
+        assert_same!(rt; ran.out.as_slice(), report.as_bytes(), k);
+        assert_same!(rt; ran.err.len(), 0, k);
+        assert_same!(rt; ran.status, 0, k);
 
         let again = replay(alloc, ran.trace.as_slice(), Ok(image.as_slice()), 1024);
-        assert_eq!(rt; again.out.as_slice(), report.as_bytes(), "k {k}");
-        assert_eq!(rt; again.err.len(), 0, "k {k}");
-        assert_eq!(rt; again.status, 0, "k {k}");
+        assert_same!(rt; again.out.as_slice(), report.as_bytes(), k);
+        assert_same!(rt; again.err.len(), 0, k);
+        assert_same!(rt; again.status, 0, k);
     }
     Ok(())
 }
@@ -47,9 +47,9 @@ processor 1 pc 00010000 run retired 0 console -
 processor 2 pc 00010000 run retired 0 console -
 processor 3 pc 00010000 run retired 0 console -
 ";
-    assert_eq!(rt; ran.out.as_slice(), report.as_bytes());
-    assert_eq!(rt; ran.err.len(), 0);
-    assert_eq!(rt; ran.status, 1);
+    assert_same!(rt; ran.out.as_slice(), report.as_bytes());
+    assert_same!(rt; ran.err.len(), 0);
+    assert_same!(rt; ran.status, 1);
     Ok(())
 }
 
@@ -69,8 +69,8 @@ fn processors_of_a_report(rt: HostRuntime) -> Result<(), Fail> {
     let report = "processor 0 pc 00010018 halt 00 retired 6 console 0000
 processor 1 pc 00010018 halt 01 retired 6 console 0101
 ";
-    assert_eq!(rt; ran.out.as_slice(), report.as_bytes());
-    assert_eq!(rt; ran.status, 0);
+    assert_same!(rt; ran.out.as_slice(), report.as_bytes());
+    assert_same!(rt; ran.status, 0);
     Ok(())
 }
 
@@ -86,7 +86,7 @@ word 1 89abcdef
 word 3 ffffffff
 word 10 00000007
 ";
-    assert_eq!(rt; ran.out.as_slice(), report.as_bytes());
-    assert_eq!(rt; ran.status, 0);
+    assert_same!(rt; ran.out.as_slice(), report.as_bytes());
+    assert_same!(rt; ran.status, 0);
     Ok(())
 }

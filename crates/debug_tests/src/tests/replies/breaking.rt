@@ -1,6 +1,7 @@
 //! Breaks at the limits of code.
 
 use debug_replies::Breaks;
+use test_devices::assert_same;
 
 /// A code word is in code and divisible by 4. A break is set and cleared also where it is there and where it is not.
 #[test]
@@ -23,13 +24,13 @@ fn breaks_at_the_limits(rt: HostRuntime) {
     ] {
         let mut breaks = Breaks::new();
         assert!(rt; !breaks.contains(address), "{address:x}");
-        assert_eq!(rt; breaks.clear(address), is_code_word, "{address:x}");
+        assert_same!(rt; breaks.clear(address), is_code_word, address);
         for _ in 0..2 {
-            assert_eq!(rt; breaks.set(address), is_code_word, "{address:x}");
-            assert_eq!(rt; breaks.contains(address), is_code_word, "{address:x}");
+            assert_same!(rt; breaks.set(address), is_code_word, address);
+            assert_same!(rt; breaks.contains(address), is_code_word, address);
         }
         assert!(rt; !breaks.contains(0x0001_0008));
-        assert_eq!(rt; breaks.clear(address), is_code_word, "{address:x}");
+        assert_same!(rt; breaks.clear(address), is_code_word, address);
         assert!(rt; !breaks.contains(address), "{address:x}");
     }
 }
@@ -44,10 +45,6 @@ fn breaks_apart(rt: HostRuntime) {
     breaks.clear(0x0001_0010);
     for word in 0..16_384 {
         let address = 0x0001_0000 + 4 * word;
-        assert_eq!(rt;
-            breaks.contains(address),
-            word == 1 || word == 16_383,
-            "{address:x}"
-        );
+        assert_same!(rt; breaks.contains(address), word == 1 || word == 16_383, address);
     }
 }

@@ -4,6 +4,7 @@ use super::two;
 use debug_lines::Command;
 use debug_replies::{Error, error_of};
 use std::test::Fail;
+use test_devices::assert_same;
 
 /// Each line, and the error that it has on a machine of two processors with two shared words.
 const ERRORS: &str = "\
@@ -77,7 +78,7 @@ fn errors(rt: HostRuntime) -> Result<(), Fail> {
     for row in ERRORS.lines() {
         let (line, expected) = row.rsplit_once(": ").ok_or("a row")?;
         let error = error_of(&machine, &Command::read(line.as_bytes()));
-        assert_eq!(rt; error.map_or("ok", Error::text), expected, "{line}");
+        assert_same!(rt; error.map_or("ok", Error::text), expected, line);
     }
     Ok(())
 }
@@ -85,6 +86,6 @@ fn errors(rt: HostRuntime) -> Result<(), Fail> {
 /// The errors that no machine has, but its log.
 #[test]
 fn texts(rt: HostRuntime) {
-    assert_eq!(rt; Error::Room.text(), "E05");
-    assert_eq!(rt; Error::Memory.text(), "E06");
+    assert_same!(rt; Error::Room.text(), "E05");
+    assert_same!(rt; Error::Memory.text(), "E06");
 }

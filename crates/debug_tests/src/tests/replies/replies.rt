@@ -9,6 +9,7 @@ use machine::Machine;
 use std::process::Abort;
 use std::test::Fail;
 use steps::{Outcome, Step};
+use test_devices::assert_same;
 
 /// Each line, and what it shows of a machine of two processors. Processor 0 has stopped at `ebreak`; processor 1 runs,
 /// and was written to.
@@ -48,7 +49,9 @@ step:
 fn shown(machine: &Machine, line: &str) -> ArrayVec<u8, 1024> {
     let mut text = ArrayVec::new();
     let _ = text.try_extend_from_slice(b"before");
-    show(machine, &Command::read(line.as_bytes()), &mut text);
+    if machine.are_home() {
+        show(machine, &Command::read(line.as_bytes()), &mut text);
+    }
     text
 }
 
@@ -100,11 +103,7 @@ fn replies(rt: HostRuntime) -> Result<(), Fail> {
     let machine = written(&rt)?;
     for row in REPLIES.lines() {
         let (line, expected) = row.split_once(": ").ok_or("a row")?;
-        assert_eq!(rt;
-            shown(&machine, line).as_slice(),
-            expected.as_bytes(),
-            "{line}"
-        );
+        assert_same!(rt; shown(&machine, line).as_slice(), expected.as_bytes(), line);
     }
     Ok(())
 }
@@ -114,7 +113,7 @@ fn replies(rt: HostRuntime) -> Result<(), Fail> {
 fn registers_in_a_line(rt: HostRuntime) -> Result<(), Fail> {
     let machine = written(&rt)?;
     let text = shown(&machine, "regs 1");
-    assert_eq!(rt; text.len(), 264);
+    assert_same!(rt; text.len(), 264);
     for (place, eight) in text.as_slice().chunks(8).enumerate() {
         let expected = match place {
             10 => b"0000000b",
@@ -122,7 +121,7 @@ fn registers_in_a_line(rt: HostRuntime) -> Result<(), Fail> {
             32 => b"00010ac4",
             _ => b"00000000",
         };
-        assert_eq!(rt; eight, expected.as_slice(), "{place}");
+        assert_same!(rt; eight, expected.as_slice(), place);
     }
     Ok(())
 }
@@ -132,8 +131,8 @@ fn registers_in_a_line(rt: HostRuntime) -> Result<(), Fail> {
 fn longest_reply(rt: HostRuntime) -> Result<(), Fail> {
     let machine = written(&rt)?;
     let text = shown(&machine, "mem 1 1ffff 200");
-    assert_eq!(rt; text.len(), 1024);
-    assert_eq!(rt; &text.as_slice()[..8], b"0001f0ab".as_slice());
+    assert!(rt; text.len() == 1024);
+    assert_same!(rt; &text.as_slice()[..8], b"0001f0ab".as_slice());
     assert!(rt; text.as_slice()[8..].iter().all(|digit| *digit == b'0'));
     Ok(())
 }

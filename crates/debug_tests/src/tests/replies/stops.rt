@@ -5,15 +5,31 @@ use arrayvec::ArrayVec;
 use debug_replies::{Breaks, Faults, named_stop, show_stop};
 use flat_machine::{PC, Poke};
 use machine::Machine;
+use std::process::Abort;
 use std::test::Fail;
 use steps::{Outcome, Step};
+use test_devices::assert_same;
 
 /// A stop reply, in place of what the text had.
 fn stop(machine: &Machine, named: Option<u8>) -> ArrayVec<u8, 1024> {
     let mut text = ArrayVec::new();
     let _ = text.try_extend_from_slice(b"before");
-    show_stop(machine, named, &mut text);
+    if machine.are_home() {
+        show_stop(machine, named, &mut text);
+    }
     text
+}
+
+/// Which processor is named, on a machine none of whose cores is away.
+fn named(rt: &impl Abort, machine: &Machine, breaks: &Breaks, before: &Faults) -> Option<u8> {
+    assert!(rt; machine.are_home());
+    named_stop(machine, breaks, before)
+}
+
+/// The faults of a machine none of whose cores is away.
+fn faults_of(rt: &impl Abort, machine: &Machine) -> Faults {
+    assert!(rt; machine.are_home());
+    Faults::of(machine)
 }
 
 /// Numbers are in hex without leading zeros.
@@ -30,11 +46,7 @@ fn names(rt: HostRuntime) -> Result<(), Fail> {
         (Some(31), "at 1f"),
         (Some(63), "at 3f"),
     ] {
-        assert_eq!(rt;
-            stop(&machine, named).as_slice(),
-            expected.as_bytes(),
-            "{named:?}"
-        );
+        assert_same!(rt; stop(&machine, named).as_slice(), expected.as_bytes(), named);
     }
     Ok(())
 }
@@ -57,7 +69,7 @@ fn halts(rt: HostRuntime) -> Result<(), Fail> {
                 Outcome::Stopped { .. }
             )
         );
-        assert_eq!(rt; stop(&machine, Some(1)).as_slice(), expected, "{processor}");
+        assert_same!(rt; stop(&machine, Some(1)).as_slice(), expected, processor);
     }
     let mut machine = two(&rt)?;
     for processor in [0, 1] {
@@ -67,7 +79,7 @@ fn halts(rt: HostRuntime) -> Result<(), Fail> {
                 Outcome::Stopped { .. }
             )
         );
-        assert_eq!(rt; stop(&machine, None).as_slice(), b"at -".as_slice());
+        assert_same!(rt; stop(&machine, None).as_slice(), b"at -".as_slice());
     }
     Ok(())
 }
@@ -78,18 +90,18 @@ fn halts(rt: HostRuntime) -> Result<(), Fail> {
 fn named_after_a_run(rt: HostRuntime) -> Result<(), Fail> {
     let mut machine = two(&rt)?;
     let mut breaks = Breaks::new();
-    let none = Faults::of(&machine);
-    assert_eq!(rt; named_stop(&machine, &breaks, &none), None);
+    let none = faults_of(&rt, &machine);
+    assert_same!(rt; named(&rt, &machine, &breaks, &none), None);
     assert!(rt; breaks.set(0x0001_0000));
-    assert_eq!(rt; named_stop(&machine, &breaks, &none), Some(0));
+    assert_same!(rt; named(&rt, &machine, &breaks, &none), Some(0));
     assert!(rt; matches!(machine.apply(Step::Turn(0)), Outcome::Stopped { .. }));
-    assert_eq!(rt; named_stop(&machine, &breaks, &none), Some(1));
+    assert_same!(rt; named(&rt, &machine, &breaks, &none), Some(1));
     assert!(rt; breaks.clear(0x0001_0000));
-    assert_eq!(rt; named_stop(&machine, &breaks, &none), Some(0));
-    let one = Faults::of(&machine);
-    assert_eq!(rt; named_stop(&machine, &breaks, &one), None);
+    assert_same!(rt; named(&rt, &machine, &breaks, &none), Some(0));
+    let one = faults_of(&rt, &machine);
+    assert_same!(rt; named(&rt, &machine, &breaks, &one), None);
     assert!(rt; matches!(machine.apply(Step::Turn(1)), Outcome::Stopped { .. }));
-    assert_eq!(rt; named_stop(&machine, &breaks, &one), Some(1));
-    assert_eq!(rt; named_stop(&machine, &breaks, &none), Some(0));
+    assert_same!(rt; named(&rt, &machine, &breaks, &one), Some(1));
+    assert_same!(rt; named(&rt, &machine, &breaks, &none), Some(0));
     Ok(())
 }

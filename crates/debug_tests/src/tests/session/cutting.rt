@@ -10,7 +10,7 @@ use std::io::Read;
 use std::process::Abort;
 use std::test::Fail;
 use steps::{Outcome, Step};
-use test_devices::Source;
+use test_devices::{Source, assert_same};
 
 /// Gives a first part of its bytes, and at the next call the others.
 #[derive(Drop)]
@@ -80,8 +80,8 @@ fn in_two_parts(rt: HostRuntime) -> Result<(), Fail> {
         let (first, rest) = input.split_at(at + 1);
         let mut reader = Meter::new(Parts { first, rest });
         let (end, text) = talk(&rt, &mut added(&rt)?, &mut reader);
-        assert_eq!(rt; text.as_slice(), b"19000000\n".as_slice(), "{at}");
-        assert_eq!(rt; end, SessionEnd::EndOfInput);
+        assert_same!(rt; text.as_slice(), b"19000000\n".as_slice(), at);
+        assert_same!(rt; end, SessionEnd::EndOfInput);
     }
     let (end, text) = talk(
         &rt,
@@ -89,7 +89,7 @@ fn in_two_parts(rt: HostRuntime) -> Result<(), Fail> {
         &mut Meter::new(b"mem 0 80000000 4".as_slice()),
     );
     assert!(rt; text.as_slice().is_empty());
-    assert_eq!(rt; end, SessionEnd::EndOfInput);
+    assert_same!(rt; end, SessionEnd::EndOfInput);
     Ok(())
 }
 
@@ -102,10 +102,10 @@ fn stops_in_two_parts(rt: HostRuntime) -> Result<(), Fail> {
         let (first, rest) = input.split_at(at + 1);
         let mut reader = Meter::new(Parts { first, rest });
         let (_, text) = talk(&rt, &mut log_of(&rt, THREE, 0)?, &mut reader);
-        assert_eq!(rt; text.as_slice(), output, "{at}");
+        assert_same!(rt; text.as_slice(), output, at);
     }
     let mut reader = Meter::new(Source::new(input, 0));
     let (_, text) = talk(&rt, &mut log_of(&rt, THREE, 0)?, &mut reader);
-    assert_eq!(rt; text.as_slice(), output);
+    assert_same!(rt; text.as_slice(), output);
     Ok(())
 }

@@ -5,7 +5,7 @@ use debug_session::{SessionEnd, serve};
 use debug_sweep::Sweep;
 use link::Meter;
 use std::test::Fail;
-use test_devices::{Sink, Source};
+use test_devices::{Sink, Source, assert_same};
 
 /// Where the reader fails, the lines are answered that were whole before.
 #[test]
@@ -17,22 +17,14 @@ fn fails_at_each_read(rt: HostRuntime) -> Result<(), Fail> {
         let (end, text) = talk(&rt, &mut log, &mut reader);
         let is_read = call > input.len();
         let output = if is_read { b"ok\n".as_slice() } else { b"" };
-        assert_eq!(rt; text.as_slice(), output, "{call}");
+        assert_same!(rt; text.as_slice(), output, call);
         let fails = call <= input.len() + 1;
-        assert_eq!(rt;
-            end,
-            if fails {
+        assert_same!(rt; end, if fails {
                 SessionEnd::ReadFailed
             } else {
                 SessionEnd::EndOfInput
-            },
-            "{call}"
-        );
-        assert_eq!(rt;
-            log.machine().word(0),
-            Some(if is_read { 42 } else { 0 }),
-            "{call}"
-        );
+            }, call);
+        assert_same!(rt; log.machine().word(0), Some(if is_read { 42 } else { 0 }), call);
         assert!(rt; log.machine().is_idle());
     }
     Ok(())
@@ -48,22 +40,14 @@ fn fails_at_each_write(rt: HostRuntime) -> Result<(), Fail> {
         let mut reader = Meter::new(input);
         let mut writer = Meter::new(Sink::new(Vec::new(rt.alloc()), count + 1));
         let end = serve(&rt, &mut reader, &mut writer, &mut log, &mut Sweep, BUDGET);
-        assert_eq!(rt; writer.device.bytes.as_slice(), &output[..count], "{count}");
+        assert_same!(rt; writer.device.bytes.as_slice(), &output[..count], count);
         let fails = count < output.len();
-        assert_eq!(rt;
-            end,
-            if fails {
+        assert_same!(rt; end, if fails {
                 SessionEnd::WriteFailed
             } else {
                 SessionEnd::EndOfInput
-            },
-            "{count}"
-        );
-        assert_eq!(rt;
-            log.machine().word(0),
-            Some(if count < 3 { 42 } else { 43 }),
-            "{count}"
-        );
+            }, count);
+        assert_same!(rt; log.machine().word(0), Some(if count < 3 { 42 } else { 43 }), count);
         assert!(rt; log.machine().is_idle());
     }
     Ok(())

@@ -4,9 +4,10 @@ use super::{ROW, THREE, adders, log_of, replies_are, take};
 use debug_session::SessionEnd;
 use std::test::Fail;
 use steps::{Outcome, Step};
+use test_devices::assert_same;
 
 /// A session on a new machine of four processors, or of one, with its replies.
-const FOUR: &[(&str, &str)] = &[
+static FOUR: &[(&str, &str)] = &[
     // The reference is at address 0, where there is no memory.
     (
         "step 0\nstate 0\nstate 3\nstate 4\n",
@@ -67,7 +68,7 @@ fn replies_of_four(rt: HostRuntime) -> Result<(), Fail> {
 }
 
 /// Breaks that are set and cleared, and where `cont` stops.
-const ONE: &[(&str, &str)] = &[
+static ONE: &[(&str, &str)] = &[
     (
         "break 10004\ncont\nreg 0 20\ncont\nstate 0\n",
         "ok\nat 0\n00010004\nhalted\nhalt 00\n",
@@ -108,7 +109,7 @@ fn replies_of_one(rt: HostRuntime) -> Result<(), Fail> {
 fn used_up_budget(rt: HostRuntime) -> Result<(), Fail> {
     let mut log = log_of(&rt, "again: jal x0, again", 1)?;
     replies_are(&rt, &mut log, b"cont\n", b"at -\n", SessionEnd::EndOfInput);
-    assert_eq!(rt; log.steps().len(), 1000);
+    assert_same!(rt; log.steps().len(), 1000);
     Ok(())
 }
 
@@ -136,7 +137,7 @@ fn answers_behind_the_drain(rt: HostRuntime) -> Result<(), Fail> {
         expected.as_slice(),
         SessionEnd::EndOfInput,
     );
-    assert_eq!(rt; log.steps().len(), before + 6);
+    assert_same!(rt; log.steps().len(), before + 6);
     Ok(())
 }
 
@@ -162,7 +163,7 @@ fn longest_lines(rt: HostRuntime) -> Result<(), Fail> {
             output,
             SessionEnd::EndOfInput,
         );
-        assert_eq!(rt; log.steps().len(), steps);
+        assert_same!(rt; log.steps().len(), steps);
     }
     Ok(())
 }

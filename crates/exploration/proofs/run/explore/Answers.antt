@@ -34,8 +34,8 @@ returns-clause-sound g c =
     ap (λ (e : Extent). e.shared_words) c.extent_of-extent.ensures in
     let cores : c.as_slice-all.result.now ≡ map (λ p. (port_at c.args.machine.now.ports p).core) (range_with_len 0 (2 ^ c.args.machine.now.config.k)) =
     c.as_slice-all.ensures.value ∙ c.in-Ok.ensures in
-    let flat : flat_of c.code-code.result.now c.as_slice-all.result.now c.in-Ok-words_of.words.items ≡ flat_state c.args.machine.now =
-    ap (λ k. flat_of k c.as_slice-all.result.now c.in-Ok-words_of.words.items) c.code-code.ensures
+    let flat : flat_of c.deref-code.result.now c.as_slice-all.result.now c.in-Ok-words_of.words.items ≡ flat_state c.args.machine.now =
+    ap (λ k. flat_of k c.as_slice-all.result.now c.in-Ok-words_of.words.items) (c.deref-code.ensures ∙ c.code.ensures)
     ∙ flat_is c.args.machine.now c.machine_is_sound.ensures c.extent_of-extent.result processors shared c.as_slice-all.result.now cores
     c.in-Ok-words_of.words.items c.in-Ok-words_of.ensures in
     let law : (r : FinalResult) → IsMachineResult c.args.machine.now r ↔ IsFlatResult (flat_state c.args.machine.now) r =
@@ -52,8 +52,8 @@ returns-clause-complete g c =
     ap (λ (e : Extent). e.shared_words) c.extent_of-extent.ensures in
     let cores : c.as_slice-all.result.now ≡ map (λ p. (port_at c.args.machine.now.ports p).core) (range_with_len 0 (2 ^ c.args.machine.now.config.k)) =
     c.as_slice-all.ensures.value ∙ c.in-Ok.ensures in
-    let flat : flat_of c.code-code.result.now c.as_slice-all.result.now c.in-Ok-words_of.words.items ≡ flat_state c.args.machine.now =
-    ap (λ k. flat_of k c.as_slice-all.result.now c.in-Ok-words_of.words.items) c.code-code.ensures
+    let flat : flat_of c.deref-code.result.now c.as_slice-all.result.now c.in-Ok-words_of.words.items ≡ flat_state c.args.machine.now =
+    ap (λ k. flat_of k c.as_slice-all.result.now c.in-Ok-words_of.words.items) (c.deref-code.ensures ∙ c.code.ensures)
     ∙ flat_is c.args.machine.now c.machine_is_sound.ensures c.extent_of-extent.result processors shared c.as_slice-all.result.now cores
     c.in-Ok-words_of.words.items c.in-Ok-words_of.ensures in
     let law : (r : FinalResult) → IsMachineResult c.args.machine.now r ↔ IsFlatResult (flat_state c.args.machine.now) r =
@@ -70,8 +70,8 @@ returns-clause-schedules g c =
     ap (λ (e : Extent). e.shared_words) c.extent_of-extent.ensures in
     let cores : c.as_slice-all.result.now ≡ map (λ p. (port_at c.args.machine.now.ports p).core) (range_with_len 0 (2 ^ c.args.machine.now.config.k)) =
     c.as_slice-all.ensures.value ∙ c.in-Ok.ensures in
-    let flat : flat_of c.code-code.result.now c.as_slice-all.result.now c.in-Ok-words_of.words.items ≡ flat_state c.args.machine.now =
-    ap (λ k. flat_of k c.as_slice-all.result.now c.in-Ok-words_of.words.items) c.code-code.ensures
+    let flat : flat_of c.deref-code.result.now c.as_slice-all.result.now c.in-Ok-words_of.words.items ≡ flat_state c.args.machine.now =
+    ap (λ k. flat_of k c.as_slice-all.result.now c.in-Ok-words_of.words.items) (c.deref-code.ensures ∙ c.code.ensures)
     ∙ flat_is c.args.machine.now c.machine_is_sound.ensures c.extent_of-extent.result processors shared c.as_slice-all.result.now cores
     c.in-Ok-words_of.words.items c.in-Ok-words_of.ensures in
     subst (λ (m : FlatState). AreSchedulesOf m c.in_ok-explored.explored.schedules) flat c.in_ok-explored.ensures.schedules

@@ -3,7 +3,7 @@
 use super::{Part, changed, file_of, read, refusal, with};
 use elf_image::ImageError;
 use std::test::Fail;
-use test_devices::EBREAK;
+use test_devices::{EBREAK, assert_same};
 
 /// Fields that are not looked at, at their offsets: the rest of `e_ident`, the section fields,
 /// `p_paddr` and `p_align`.
@@ -14,7 +14,7 @@ fn fields_not_looked_at(rt: HostRuntime) {
     ] {
         let file = changed(place, &[0xA5]);
         let refused = refusal(rt.alloc(), &file, 1024);
-        assert_eq!(rt; refused, None, "byte {place}");
+        assert_same!(rt; refused, None, place);
     }
 }
 
@@ -23,12 +23,12 @@ fn fields_not_looked_at(rt: HostRuntime) {
 fn ends_of_code(rt: HostRuntime) -> Result<(), Fail> {
     let file = changed(24, &0x0001_FFFCu32.to_le_bytes());
     let image = read(rt.alloc(), &file, 1024)?;
-    assert_eq!(rt; image.layout().entry, 0x0001_FFFC);
+    assert_same!(rt; image.layout().entry, 0x0001_FFFC);
     let file = changed(60, &0x0001_FFFCu32.to_le_bytes());
     let image = read(rt.alloc(), &file, 1024)?;
-    assert_eq!(rt; image.layout().code.len(), 0x0001_0000);
+    assert_same!(rt; image.layout().code.len(), 0x0001_0000);
     let file = changed(76, &[4]);
-    assert_eq!(rt; refusal(rt.alloc(), &file, 1024), None);
+    assert_same!(rt; refusal(rt.alloc(), &file, 1024), None);
     Ok(())
 }
 
@@ -38,7 +38,7 @@ fn other_types(rt: HostRuntime) -> Result<(), Fail> {
     for p_type in [0u32, 2, 6, 0x0100_0001, 0x6474_E551, 0x7000_0003] {
         let file = with(changed(52, &p_type.to_le_bytes()), 56, &[0xFF; 24]);
         let image = read(rt.alloc(), &file, 1024)?;
-        assert_eq!(rt; image.layout().code.len(), 0, "{p_type:x}");
+        assert_same!(rt; image.layout().code.len(), 0, p_type);
     }
     Ok(())
 }
@@ -62,7 +62,7 @@ fn segments_of_no_address(rt: HostRuntime) -> Result<(), Fail> {
         };
         let file = file_of(rt.alloc(), &[part], &[])?;
         let refused = refusal(rt.alloc(), file.as_slice(), 1024);
-        assert_eq!(rt; refused, expected, "at {p_vaddr:x}, {p_offset:x}");
+        assert_same!(rt; refused, expected, (&p_vaddr, &p_offset));
     }
     Ok(())
 }
@@ -86,7 +86,7 @@ fn counts_of_headers(rt: HostRuntime) -> Result<(), Fail> {
         assert!(rt; parts.len() < 256);
         let file = file_of(rt.alloc(), parts.as_slice(), &[0; 64])?;
         let refused = refusal(rt.alloc(), file.as_slice(), 1024);
-        assert_eq!(rt; refused, expected, "{number} headers");
+        assert_same!(rt; refused, expected, number);
         parts.push(part(number))?;
     }
     Ok(())
@@ -97,14 +97,11 @@ fn counts_of_headers(rt: HostRuntime) -> Result<(), Fail> {
 fn keeps_its_shared_words(rt: HostRuntime) -> Result<(), Fail> {
     for shared_words in [1, 1024, 262_144] {
         let image = read(rt.alloc(), &EBREAK, shared_words)?;
-        assert_eq!(rt; image.shared_words(), shared_words);
+        assert_same!(rt; image.shared_words(), shared_words);
         let copy = image.copy(rt.alloc())?;
-        assert_eq!(rt; copy.shared_words(), shared_words);
-        assert_eq!(rt; copy.layout().entry, 0x0001_0000);
-        assert_eq!(rt;
-            copy.layout().code.as_slice(),
-            [0x73, 0, 0x10, 0].as_slice()
-        );
+        assert_same!(rt; copy.shared_words(), shared_words);
+        assert_same!(rt; copy.layout().entry, 0x0001_0000);
+        assert_same!(rt; copy.layout().code.as_slice(), [0x73, 0, 0x10, 0].as_slice());
     }
     Ok(())
 }

@@ -3,10 +3,11 @@
 use super::{read, refusal};
 use elf_image::ImageError;
 use std::test::Fail;
+use test_devices::assert_same;
 
 /// `examples/c/sum.c` and `start.S`, as GNU ld 2.40 linked them with `image.ld`, `-n` and `-s`. Behind
 /// the three segments stand section names and section headers.
-const SUM: [u8; 544] = [
+static SUM: [u8; 544] = [
     0x7F, 0x45, 0x4C, 0x46, 1, 1, 1, 0, 0, 0, 0, 0, 0, 0, 0, 0, 2, 0, 0xF3, 0, 1, 0, 0, 0, 0, 0, 1,
     0, 0x34, 0, 0, 0, 0x30, 1, 0, 0, 0, 0, 0, 0, 0x34, 0, 0x20, 0, 3, 0, 0x28, 0, 6, 0, 5, 0, 1, 0,
     0, 0, 0x94, 0, 0, 0, 0, 0, 1, 0, 0, 0, 1, 0, 0x70, 0, 0, 0, 0x70, 0, 0, 0, 5, 0, 0, 0, 4, 0, 0,
@@ -36,17 +37,11 @@ const SUM: [u8; 544] = [
 fn gnu_ld(rt: HostRuntime) -> Result<(), Fail> {
     let image = read(rt.alloc(), &SUM, 1024)?;
     let layout = image.layout();
-    assert_eq!(rt; layout.entry, 0x0001_0000);
-    assert_eq!(rt; layout.code.as_slice(), &SUM[0x94..0x104]);
-    assert_eq!(rt;
-        layout.local.as_slice(),
-        [3, 0, 0, 0, 0, 0, 0, 0].as_slice()
-    );
-    assert_eq!(rt; layout.shared.as_slice(), [0; 4].as_slice());
-    assert_eq!(rt;
-        refusal(rt.alloc(), &SUM[..0x10B], 1024),
-        Some(ImageError::OutsideInput)
-    );
-    assert_eq!(rt; refusal(rt.alloc(), &SUM[..0x10C], 1024), None);
+    assert_same!(rt; layout.entry, 0x0001_0000);
+    assert_same!(rt; layout.code.as_slice(), &SUM[0x94..0x104]);
+    assert_same!(rt; layout.local.as_slice(), [3, 0, 0, 0, 0, 0, 0, 0].as_slice());
+    assert_same!(rt; layout.shared.as_slice(), [0; 4].as_slice());
+    assert_same!(rt; refusal(rt.alloc(), &SUM[..0x10B], 1024), Some(ImageError::OutsideInput));
+    assert_same!(rt; refusal(rt.alloc(), &SUM[..0x10C], 1024), None);
     Ok(())
 }

@@ -2,17 +2,14 @@
 
 use super::{Part, file_of, read};
 use std::test::Fail;
-use test_devices::EBREAK;
+use test_devices::{EBREAK, assert_same};
 
 /// The entry and the one instruction.
 #[test]
 fn one_instruction(rt: HostRuntime) -> Result<(), Fail> {
     let image = read(rt.alloc(), &EBREAK, 1024)?;
-    assert_eq!(rt; image.layout().entry, 0x0001_0000);
-    assert_eq!(rt;
-        image.layout().code.as_slice(),
-        [0x73, 0, 0x10, 0].as_slice()
-    );
+    assert_same!(rt; image.layout().entry, 0x0001_0000);
+    assert_same!(rt; image.layout().code.as_slice(), [0x73, 0, 0x10, 0].as_slice());
     assert!(rt; image.layout().local.is_empty());
     assert!(rt; image.layout().shared.is_empty());
     Ok(())
@@ -40,18 +37,9 @@ fn several_segments(rt: HostRuntime) -> Result<(), Fail> {
     let file = file_of(rt.alloc(), &parts, &[1, 2, 3, 4, 5])?;
     let image = read(rt.alloc(), file.as_slice(), 1024)?;
     let layout = image.layout();
-    assert_eq!(rt;
-        layout.code.as_slice(),
-        [2, 3, 4, 5, 0, 0, 0, 0, 0, 0].as_slice()
-    );
-    assert_eq!(rt;
-        layout.local.as_slice(),
-        [0, 4, 5, 3, 0, 1, 2, 0].as_slice()
-    );
-    assert_eq!(rt;
-        layout.shared.as_slice(),
-        [0, 0, 1, 2, 3, 4, 5, 0, 0, 0, 0].as_slice()
-    );
+    assert_same!(rt; layout.code.as_slice(), [2, 3, 4, 5, 0, 0, 0, 0, 0, 0].as_slice());
+    assert_same!(rt; layout.local.as_slice(), [0, 4, 5, 3, 0, 1, 2, 0].as_slice());
+    assert_same!(rt; layout.shared.as_slice(), [0, 0, 1, 2, 3, 4, 5, 0, 0, 0, 0].as_slice());
     Ok(())
 }
 
@@ -67,10 +55,7 @@ fn bytes_past_the_file_are_zero(rt: HostRuntime) -> Result<(), Fail> {
     };
     let file = file_of(rt.alloc(), &[part], &[9; 16])?;
     let image = read(rt.alloc(), file.as_slice(), 1024)?;
-    assert_eq!(rt;
-        image.layout().local.as_slice(),
-        [9, 9, 0, 0, 0, 0].as_slice()
-    );
+    assert_same!(rt; image.layout().local.as_slice(), [9, 9, 0, 0, 0, 0].as_slice());
     Ok(())
 }
 
@@ -87,8 +72,8 @@ fn last_shared_byte(rt: HostRuntime) -> Result<(), Fail> {
     let file = file_of(rt.alloc(), &[part], &[7])?;
     let image = read(rt.alloc(), file.as_slice(), 262_144)?;
     let shared = image.layout().shared.as_slice();
-    assert_eq!(rt; shared.len(), 1_048_576);
-    assert_eq!(rt; shared.last(), Some(&7));
-    assert_eq!(rt; shared.iter().filter(|byte| **byte != 0).count(), 1);
+    assert_same!(rt; shared.len(), 1_048_576);
+    assert_same!(rt; shared.last(), Some(&7));
+    assert_same!(rt; shared.iter().filter(|byte| **byte != 0).count(), 1);
     Ok(())
 }

@@ -3,7 +3,7 @@
 use super::{Part, changed, file_of, refusal, with};
 use elf_image::ImageError;
 use std::test::Fail;
-use test_devices::EBREAK;
+use test_devices::{EBREAK, assert_same};
 
 /// Cut to under 84 bytes it has no whole program header, and to under 88 not all of its segment.
 #[test]
@@ -15,7 +15,7 @@ fn cut_short(rt: HostRuntime) {
             _ => Some(ImageError::Truncated),
         };
         let refused = refusal(rt.alloc(), &EBREAK[..length], 1024);
-        assert_eq!(rt; refused, expected, "{length} bytes");
+        assert_same!(rt; refused, expected, length);
     }
 }
 
@@ -25,7 +25,7 @@ fn identification(rt: HostRuntime) {
     for place in 0..7usize {
         let file = changed(place, &[0x80]);
         let refused = refusal(rt.alloc(), &file, 1024);
-        assert_eq!(rt; refused, Some(ImageError::NotExecutable), "byte {place}");
+        assert_same!(rt; refused, Some(ImageError::NotExecutable), place);
     }
 }
 
@@ -60,7 +60,7 @@ fn file_header_fields(rt: HostRuntime) {
         assert!(rt; place <= 84);
         let file = changed(place, &number.to_le_bytes());
         let refused = refusal(rt.alloc(), &file, 1024);
-        assert_eq!(rt; refused, Some(expected), "{number:x} at {place}");
+        assert_same!(rt; refused, Some(expected), (&number, &place));
     }
 }
 
@@ -91,7 +91,7 @@ fn program_header_fields(rt: HostRuntime) {
         assert!(rt; place <= 84);
         let file = changed(place, &number.to_le_bytes());
         let refused = refusal(rt.alloc(), &file, 1024);
-        assert_eq!(rt; refused, Some(expected), "{number:x} at {place}");
+        assert_same!(rt; refused, Some(expected), (&number, &place));
     }
 }
 
@@ -100,10 +100,10 @@ fn program_header_fields(rt: HostRuntime) {
 fn sums_do_not_wrap(rt: HostRuntime) {
     let file = with(changed(56, &[0xFF; 4]), 68, &[0xFF; 4]);
     let refused = refusal(rt.alloc(), &file, 1024);
-    assert_eq!(rt; refused, Some(ImageError::OutsideInput));
+    assert_same!(rt; refused, Some(ImageError::OutsideInput));
     let file = with(changed(60, &0xFFFF_FFFCu32.to_le_bytes()), 72, &[8]);
     let refused = refusal(rt.alloc(), &file, 1024);
-    assert_eq!(rt; refused, Some(ImageError::OutsideRegions));
+    assert_same!(rt; refused, Some(ImageError::OutsideRegions));
 }
 
 /// A segment's addresses, with its flags, in memory with so many shared words.
@@ -145,7 +145,7 @@ fn regions(rt: HostRuntime) -> Result<(), Fail> {
         } else {
             Some(ImageError::OutsideRegions)
         };
-        assert_eq!(rt; refused, expected, "{p_memsz} bytes at {p_vaddr:x}");
+        assert_same!(rt; refused, expected, (&p_memsz, &p_vaddr));
     }
     Ok(())
 }
@@ -181,7 +181,7 @@ fn overlaps(rt: HostRuntime) -> Result<(), Fail> {
         } else {
             Some(ImageError::Overlap)
         };
-        assert_eq!(rt; refused, expected, "{first:?} and {second:?}");
+        assert_same!(rt; refused, expected, (&first, &second));
     }
     Ok(())
 }
@@ -217,13 +217,13 @@ fn first_fault_first(rt: HostRuntime) -> Result<(), Fail> {
         // The entry is wrong too.
         file[24] = 2;
         let refused = refusal(rt.alloc(), file.as_slice(), 1024);
-        assert_eq!(rt; refused, Some(expected));
+        assert_same!(rt; refused, Some(expected));
         file[20] = 2;
         let refused = refusal(rt.alloc(), file.as_slice(), 1024);
-        assert_eq!(rt; refused, Some(ImageError::UnsupportedHeader));
+        assert_same!(rt; refused, Some(ImageError::UnsupportedHeader));
         file[0] = 0;
         let refused = refusal(rt.alloc(), file.as_slice(), 1024);
-        assert_eq!(rt; refused, Some(ImageError::NotExecutable));
+        assert_same!(rt; refused, Some(ImageError::NotExecutable));
     }
     Ok(())
 }
@@ -233,16 +233,10 @@ fn first_fault_first(rt: HostRuntime) -> Result<(), Fail> {
 fn too_long(rt: HostRuntime) -> Result<(), Fail> {
     let mut file = Vec::from_slice(rt.alloc(), &EBREAK)?;
     file.resize(1_048_576, 0xFF)?;
-    assert_eq!(rt; refusal(rt.alloc(), file.as_slice(), 1024), None);
+    assert_same!(rt; refusal(rt.alloc(), file.as_slice(), 1024), None);
     file.push(0)?;
-    assert_eq!(rt;
-        refusal(rt.alloc(), file.as_slice(), 1024),
-        Some(ImageError::TooLong)
-    );
+    assert_same!(rt; refusal(rt.alloc(), file.as_slice(), 1024), Some(ImageError::TooLong));
     file[0] = 0;
-    assert_eq!(rt;
-        refusal(rt.alloc(), file.as_slice(), 1024),
-        Some(ImageError::TooLong)
-    );
+    assert_same!(rt; refusal(rt.alloc(), file.as_slice(), 1024), Some(ImageError::TooLong));
     Ok(())
 }

@@ -6,7 +6,7 @@ use link::Meter;
 use std::alloc::{AllocError, Global};
 use std::process::Abort;
 use std::test::Fail;
-use test_devices::EBREAK;
+use test_devices::{EBREAK, assert_same};
 
 /// A layout with these bytes.
 fn layout(alloc: Global, code: &[u8], local: &[u8], shared: &[u8]) -> Result<Layout, AllocError> {
@@ -25,7 +25,7 @@ fn written(rt: &impl Abort, alloc: Global, layout: &Layout) -> Vec<u8> {
     assert!(rt; layout.local.len() <= 0x0001_0000);
     assert!(rt; layout.shared.len() <= 0x0010_0000);
     let mut writer = Meter::new(Vec::new(alloc));
-    assert_eq!(rt; write_image(&mut writer, layout), Ok(()));
+    assert_same!(rt; write_image(&mut writer, layout), Ok(()));
     writer.device
 }
 
@@ -34,7 +34,7 @@ fn written(rt: &impl Abort, alloc: Global, layout: &Layout) -> Vec<u8> {
 fn spelling_of_one_instruction(rt: HostRuntime) -> Result<(), Fail> {
     let layout = layout(rt.alloc(), &[0x73, 0, 0x10, 0], &[], &[])?;
     let file = written(&rt, rt.alloc(), &layout);
-    assert_eq!(rt; file.as_slice(), EBREAK.as_slice());
+    assert_same!(rt; file.as_slice(), EBREAK.as_slice());
     Ok(())
 }
 
@@ -51,9 +51,9 @@ fn read_back(rt: HostRuntime) -> Result<(), Fail> {
         let layout = layout(rt.alloc(), code, local, shared)?;
         let file = written(&rt, rt.alloc(), &layout);
         let image = read(rt.alloc(), file.as_slice(), 1024)?;
-        assert_eq!(rt; image.layout().code.as_slice(), code);
-        assert_eq!(rt; image.layout().local.as_slice(), local);
-        assert_eq!(rt; image.layout().shared.as_slice(), shared);
+        assert_same!(rt; image.layout().code.as_slice(), code);
+        assert_same!(rt; image.layout().local.as_slice(), local);
+        assert_same!(rt; image.layout().shared.as_slice(), shared);
     }
     Ok(())
 }
@@ -75,7 +75,7 @@ fn spelling_of_three_segments(rt: HostRuntime) -> Result<(), Fail> {
     expected.extend_from_slice(&[1, 2, 3, 4, 5, 6, 7])?;
     let layout = layout(rt.alloc(), &[1, 2, 3, 4], &[5], &[6, 7])?;
     let file = written(&rt, rt.alloc(), &layout);
-    assert_eq!(rt; file.as_slice(), expected.as_slice());
+    assert_same!(rt; file.as_slice(), expected.as_slice());
     Ok(())
 }
 
@@ -94,7 +94,7 @@ fn numbers_of_errors(rt: HostRuntime) -> Result<(), Fail> {
         (ImageError::Link, "I9"),
         (ImageError::Memory, "I10"),
     ] {
-        assert_eq!(rt; format!(in rt.alloc(); "{error}")?.as_str(), text);
+        assert_same!(rt; format!(in rt.alloc(); "{error}")?.as_str(), text);
     }
     Ok(())
 }

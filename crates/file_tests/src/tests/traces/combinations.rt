@@ -6,10 +6,11 @@ use super::{read, refusal, written};
 use flat_machine::Config;
 use std::test::Fail;
 use steps::Step;
+use test_devices::assert_same;
 use trace_file::{TraceError, is_trace};
 
 /// The trace of no steps of a machine of four processors, which combines an entry three times.
-const NO_STEPS: [u8; 16] = [0x55, 0x4C, 0x54, 0x52, 2, 2, 4, 4, 3, 0, 0, 0, 0, 0, 0, 0];
+static NO_STEPS: [u8; 16] = [0x55, 0x4C, 0x54, 0x52, 2, 2, 4, 4, 3, 0, 0, 0, 0, 0, 0, 0];
 
 /// The size of that machine, but for how often it combines an entry.
 fn config(r: u8) -> Config {
@@ -34,19 +35,19 @@ fn changed(place: usize, byte: u8) -> [u8; 16]
 #[test]
 fn spelled_and_read(rt: HostRuntime) -> Result<(), Fail> {
     let bytes = written(&rt, rt.alloc(), &config(3), &[]);
-    assert_eq!(rt; bytes.as_slice(), NO_STEPS.as_slice());
+    assert_same!(rt; bytes.as_slice(), NO_STEPS.as_slice());
     let trace = read(rt.alloc(), &NO_STEPS)?;
-    assert_eq!(rt; trace.config(1024), config(3));
-    assert_eq!(rt; trace.steps().len(), 0);
+    assert_same!(rt; trace.config(1024), config(3));
+    assert_same!(rt; trace.steps().len(), 0);
     let bytes = written(&rt, rt.alloc(), &config(2), &[Step::Serve(3)]);
     let expected = [
         0x55, 0x4C, 0x54, 0x52, 2, 2, 4, 4, 2, 0, 0, 0, 1, 0, 0, 0, // the header
         3, 3, 0, 0, 0, 0, 0, 0, 0, 0, 0, 0, // the record
     ];
-    assert_eq!(rt; bytes.as_slice(), expected.as_slice());
+    assert_same!(rt; bytes.as_slice(), expected.as_slice());
     let trace = read(rt.alloc(), &expected)?;
-    assert_eq!(rt; trace.config(1024), config(2));
-    assert_eq!(rt; trace.steps(), [Step::Serve(3)].as_slice());
+    assert_same!(rt; trace.config(1024), config(2));
+    assert_same!(rt; trace.steps(), [Step::Serve(3)].as_slice());
     for r in [0, 4] {
         assert!(rt; !is_trace(&config(r), &[]), "{r}");
     }
@@ -58,14 +59,11 @@ fn spelled_and_read(rt: HostRuntime) -> Result<(), Fail> {
 fn lengths(rt: HostRuntime) -> Result<(), Fail> {
     for length in 0..16 {
         let fault = refusal(rt.alloc(), &NO_STEPS[..length]);
-        assert_eq!(rt; fault, Some(TraceError::Truncated), "{length} bytes");
+        assert_same!(rt; fault, Some(TraceError::Truncated), length);
     }
     let mut longer = Vec::from_slice(rt.alloc(), &NO_STEPS)?;
     longer.push(0)?;
-    assert_eq!(rt;
-        refusal(rt.alloc(), longer.as_slice()),
-        Some(TraceError::Trailing)
-    );
+    assert_same!(rt; refusal(rt.alloc(), longer.as_slice()), Some(TraceError::Trailing));
     Ok(())
 }
 
@@ -96,6 +94,6 @@ fn headers(rt: HostRuntime) {
     ] {
         assert!(rt; place < 16);
         let bytes = changed(place, byte);
-        assert_eq!(rt; refusal(rt.alloc(), &bytes), fault, "{byte} at {place}");
+        assert_same!(rt; refusal(rt.alloc(), &bytes), fault, (&byte, &place));
     }
 }

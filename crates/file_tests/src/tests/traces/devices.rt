@@ -6,7 +6,7 @@ use std::io;
 use std::io::Write;
 use std::test::Fail;
 use steps::Step;
-use test_devices::{Sink, Source};
+use test_devices::{Sink, Source, assert_same};
 use trace_file::{TraceError, is_trace, read_trace, write_trace};
 
 /// Counts its calls, and takes all that it is given.
@@ -35,15 +35,15 @@ fn each_read_fails_in_turn(rt: HostRuntime) -> Result<(), Fail> {
         let mut reader = Meter::new(Source::new(&ONE_TURN, fails_at));
         let trace = read_trace(rt.alloc(), &mut reader);
         let fails = 1 <= fails_at && fails_at <= 25;
-        assert_eq!(rt; reader.failed(), fails, "call {fails_at}");
+        assert_same!(rt; reader.failed(), fails, fails_at);
         match trace {
             Ok(trace) => {
                 assert!(rt; !fails, "call {fails_at}");
-                assert_eq!(rt; trace.steps(), [Step::Turn(0)].as_slice());
+                assert_same!(rt; trace.steps(), [Step::Turn(0)].as_slice());
             }
             Err(error) => {
                 assert!(rt; fails, "call {fails_at}");
-                assert_eq!(rt; error, TraceError::Link);
+                assert_same!(rt; error, TraceError::Link);
             }
         }
     }
@@ -60,11 +60,11 @@ fn each_write_fails_in_turn(rt: HostRuntime) {
         let mut writer = Meter::new(Sink::new(Vec::new(rt.alloc()), fails_at));
         let written = write_trace(&mut writer, &config, &steps);
         let fails = 1 <= fails_at && fails_at <= 24;
-        assert_eq!(rt; writer.failed(), fails, "call {fails_at}");
+        assert_same!(rt; writer.failed(), fails, fails_at);
         let expected = if fails { Err(TraceError::Link) } else { Ok(()) };
-        assert_eq!(rt; written, expected, "call {fails_at}");
+        assert_same!(rt; written, expected, fails_at);
         let count = if fails { fails_at - 1 } else { 24 };
-        assert_eq!(rt; writer.device.bytes.as_slice(), &ONE_TURN[..count]);
+        assert_same!(rt; writer.device.bytes.as_slice(), &ONE_TURN[..count]);
     }
 }
 
@@ -75,12 +75,12 @@ fn takes_no_more_than_tells(rt: HostRuntime) {
     longer[..24].copy_from_slice(&ONE_TURN);
     let mut rest: &[u8] = &longer;
     let read = read_trace(rt.alloc(), &mut Meter::new(&mut rest));
-    assert_eq!(rt; read.err(), Some(TraceError::Trailing));
-    assert_eq!(rt; rest.len(), 15);
+    assert_same!(rt; read.err(), Some(TraceError::Trailing));
+    assert_same!(rt; rest.len(), 15);
     let mut rest: &[u8] = &longer[12..];
     let read = read_trace(rt.alloc(), &mut Meter::new(&mut rest));
-    assert_eq!(rt; read.err(), Some(TraceError::Header));
-    assert_eq!(rt; rest.len(), 16);
+    assert_same!(rt; read.err(), Some(TraceError::Header));
+    assert_same!(rt; rest.len(), 16);
 }
 
 /// The writer is called once for the header, and once for each 341 records.
@@ -91,7 +91,7 @@ fn calls_for_pieces(rt: HostRuntime) {
     let steps = [Step::Turn(0); 1000];
     assert!(rt; is_trace(&config, &steps));
     let written = write_trace(&mut writer, &config, &steps);
-    assert_eq!(rt; written, Ok(()));
-    assert_eq!(rt; writer.device.bytes, 12_012);
-    assert_eq!(rt; writer.device.calls, 4);
+    assert_same!(rt; written, Ok(()));
+    assert_same!(rt; writer.device.bytes, 12_012);
+    assert_same!(rt; writer.device.calls, 4);
 }

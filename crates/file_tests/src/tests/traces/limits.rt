@@ -3,6 +3,7 @@
 use super::{config, read, written};
 use std::test::Fail;
 use steps::{MAX_STEPS, Step};
+use test_devices::assert_same;
 use trace_file::is_trace;
 
 /// Traces of whole pieces of 341 records, and of a few records more or less.
@@ -24,7 +25,7 @@ fn several_pieces(rt: HostRuntime) -> Result<(), Fail> {
 #[test]
 fn too_many_steps(rt: HostRuntime) -> Result<(), Fail> {
     let mut steps = vec![in rt.alloc(); Step::Serve(0); 4_194_304]?;
-    assert_eq!(rt; steps.len(), MAX_STEPS);
+    assert_same!(rt; steps.len(), MAX_STEPS);
     assert!(rt; is_trace(&config(0), steps.as_slice()));
     steps.push(Step::Serve(0))?;
     assert!(rt; !is_trace(&config(0), steps.as_slice()));

@@ -5,6 +5,7 @@ ghost use Rattle.std.specs.Prelude.{◌<◌};
 use super::{ONE_TURN, read, refusal};
 use std::alloc::{AllocError, Global};
 use std::test::Fail;
+use test_devices::assert_same;
 use trace_file::TraceError;
 
 /// The trace of one turn with another byte at a place.
@@ -21,15 +22,12 @@ fn changed(place: usize, byte: u8) -> [u8; 24]
 fn lengths(rt: HostRuntime) -> Result<(), Fail> {
     for length in 0..24 {
         let fault = refusal(rt.alloc(), &ONE_TURN[..length]);
-        assert_eq!(rt; fault, Some(TraceError::Truncated), "{length} bytes");
+        assert_same!(rt; fault, Some(TraceError::Truncated), length);
     }
     let mut longer = Vec::from_slice(rt.alloc(), &ONE_TURN)?;
-    assert_eq!(rt; refusal(rt.alloc(), longer.as_slice()), None);
+    assert_same!(rt; refusal(rt.alloc(), longer.as_slice()), None);
     longer.push(0)?;
-    assert_eq!(rt;
-        refusal(rt.alloc(), longer.as_slice()),
-        Some(TraceError::Trailing)
-    );
+    assert_same!(rt; refusal(rt.alloc(), longer.as_slice()), Some(TraceError::Trailing));
     Ok(())
 }
 
@@ -61,14 +59,11 @@ fn headers(rt: HostRuntime) {
     ] {
         assert!(rt; place < 24);
         let bytes = changed(place, byte);
-        assert_eq!(rt; refusal(rt.alloc(), &bytes), fault, "{byte} at {place}");
+        assert_same!(rt; refusal(rt.alloc(), &bytes), fault, (&byte, &place));
     }
     let mut most = changed(10, 0x40);
     most[8] = 0; // 0x00400000 records
-    assert_eq!(rt;
-        refusal(rt.alloc(), &most[..12]),
-        Some(TraceError::Truncated)
-    );
+    assert_same!(rt; refusal(rt.alloc(), &most[..12]), Some(TraceError::Truncated));
 }
 
 /// Each byte of the record of a turn: its kind, the processor, and the bytes that are unused.
@@ -77,17 +72,14 @@ fn records(rt: HostRuntime) {
     for place in 12..24 {
         let bytes = changed(place, if place == 12 { 0 } else { 1 });
         let fault = refusal(rt.alloc(), &bytes);
-        assert_eq!(rt; fault, Some(TraceError::Record), "a change at {place}");
+        assert_same!(rt; fault, Some(TraceError::Record), place);
     }
-    assert_eq!(rt;
-        refusal(rt.alloc(), &changed(12, 8)),
-        Some(TraceError::Record)
-    );
+    assert_same!(rt; refusal(rt.alloc(), &changed(12, 8)), Some(TraceError::Record));
 }
 
 /// Records of a machine of four processors, and whether they are a step's: an entry at its limit, and
 /// one past it; a number where the kind has none.
-const ENTRIES: [([u8; 12], bool); 29] = [
+static ENTRIES: [([u8; 12], bool); 29] = [
     ([1, 3, 0, 0, 0, 0, 0, 0, 0, 0, 0, 0], true),
     ([1, 4, 0, 0, 0, 0, 0, 0, 0, 0, 0, 0], false),
     ([2, 1, 3, 0, 0, 0, 0, 0, 0, 0, 0, 0], true),
@@ -135,7 +127,7 @@ fn entries(rt: HostRuntime) -> Result<(), Fail> {
         } else {
             Some(TraceError::Record)
         };
-        assert_eq!(rt; entry_refusal(rt.alloc(), &record)?, fault, "{record:?}");
+        assert_same!(rt; entry_refusal(rt.alloc(), &record)?, fault, record);
     }
     Ok(())
 }
@@ -144,28 +136,16 @@ fn entries(rt: HostRuntime) -> Result<(), Fail> {
 /// whatever its bytes.
 #[test]
 fn first_fault(rt: HostRuntime) -> Result<(), Fail> {
-    assert_eq!(rt;
-        refusal(rt.alloc(), &[0xFF; 11]),
-        Some(TraceError::Truncated)
-    );
-    assert_eq!(rt; refusal(rt.alloc(), &[0xFF; 12]), Some(TraceError::Header));
+    assert_same!(rt; refusal(rt.alloc(), &[0xFF; 11]), Some(TraceError::Truncated));
+    assert_same!(rt; refusal(rt.alloc(), &[0xFF; 12]), Some(TraceError::Header));
     let mut bytes = Vec::from_slice(rt.alloc(), &changed(8, 3))?; // three records
     bytes.extend_from_slice(&[0xFF; 11])?;
-    assert_eq!(rt;
-        refusal(rt.alloc(), bytes.as_slice()),
-        Some(TraceError::Truncated)
-    );
+    assert_same!(rt; refusal(rt.alloc(), bytes.as_slice()), Some(TraceError::Truncated));
     bytes.push(0xFF)?;
-    assert_eq!(rt;
-        refusal(rt.alloc(), bytes.as_slice()),
-        Some(TraceError::Record)
-    );
+    assert_same!(rt; refusal(rt.alloc(), bytes.as_slice()), Some(TraceError::Record));
     let mut bytes = Vec::from_slice(rt.alloc(), &changed(15, 1))?;
     bytes.push(0)?;
-    assert_eq!(rt;
-        refusal(rt.alloc(), bytes.as_slice()),
-        Some(TraceError::Record)
-    );
+    assert_same!(rt; refusal(rt.alloc(), bytes.as_slice()), Some(TraceError::Record));
     assert!(rt; read(rt.alloc(), &ONE_TURN).is_ok());
     Ok(())
 }
@@ -181,7 +161,7 @@ fn numbers(rt: HostRuntime) -> Result<(), Fail> {
         (TraceError::Link, "X5"),
         (TraceError::Memory, "X6"),
     ] {
-        assert_eq!(rt; error.to_string(rt.alloc())?.as_str(), number);
+        assert_same!(rt; error.to_string(rt.alloc())?.as_str(), number);
     }
     Ok(())
 }

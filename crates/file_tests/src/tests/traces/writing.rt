@@ -4,10 +4,11 @@ use super::{ONE_TURN, config, read, written};
 use flat_machine::{Config, PC, Poke};
 use std::test::Fail;
 use steps::Step;
+use test_devices::assert_same;
 use trace_file::is_trace;
 
 /// A step of each kind on a machine of four processors, and its record by hand.
-const KINDS: [(Step, [u8; 12]); 12] = [
+static KINDS: [(Step, [u8; 12]); 12] = [
     (Step::Turn(3), [1, 3, 0, 0, 0, 0, 0, 0, 0, 0, 0, 0]),
     (
         Step::Up { stage: 0, wire: 2 },
@@ -82,10 +83,10 @@ const KINDS: [(Step, [u8; 12]); 12] = [
 #[test]
 fn one_turn(rt: HostRuntime) -> Result<(), Fail> {
     let bytes = written(&rt, rt.alloc(), &config(0), &[Step::Turn(0)]);
-    assert_eq!(rt; bytes.as_slice(), ONE_TURN.as_slice());
+    assert_same!(rt; bytes.as_slice(), ONE_TURN.as_slice());
     let trace = read(rt.alloc(), &ONE_TURN)?;
-    assert_eq!(rt; trace.config(1024), config(0));
-    assert_eq!(rt; trace.steps(), [Step::Turn(0)].as_slice());
+    assert_same!(rt; trace.config(1024), config(0));
+    assert_same!(rt; trace.steps(), [Step::Turn(0)].as_slice());
     Ok(())
 }
 
@@ -102,10 +103,10 @@ fn no_steps(rt: HostRuntime) -> Result<(), Fail> {
         };
         let bytes = written(&rt, rt.alloc(), &config, &[]);
         let expected = [0x55, 0x4C, 0x54, 0x52, 1, k, c, b, 0, 0, 0, 0];
-        assert_eq!(rt; bytes.as_slice(), expected.as_slice());
+        assert_same!(rt; bytes.as_slice(), expected.as_slice());
         let trace = read(rt.alloc(), bytes.as_slice())?;
-        assert_eq!(rt; trace.config(7), config);
-        assert_eq!(rt; trace.steps().len(), 0);
+        assert_same!(rt; trace.config(7), config);
+        assert_same!(rt; trace.steps().len(), 0);
     }
     Ok(())
 }
@@ -123,16 +124,16 @@ fn each_kind(rt: HostRuntime) -> Result<(), Fail> {
         let mut expected = Vec::from_slice(rt.alloc(), &header)?;
         expected.extend_from_slice(&record)?;
         let bytes = written(&rt, rt.alloc(), &config(2), &[step]);
-        assert_eq!(rt; bytes.as_slice(), expected.as_slice(), "{step:?}");
+        assert_same!(rt; bytes.as_slice(), expected.as_slice(), step);
         let trace = read(rt.alloc(), expected.as_slice())?;
-        assert_eq!(rt; trace.steps(), [step].as_slice());
+        assert_same!(rt; trace.steps(), [step].as_slice());
         steps.push(step)?;
         all.extend_from_slice(&record)?;
     }
     let bytes = written(&rt, rt.alloc(), &config(2), steps.as_slice());
-    assert_eq!(rt; bytes.as_slice(), all.as_slice());
+    assert_same!(rt; bytes.as_slice(), all.as_slice());
     let trace = read(rt.alloc(), all.as_slice())?;
-    assert_eq!(rt; trace.steps(), steps.as_slice());
+    assert_same!(rt; trace.steps(), steps.as_slice());
     Ok(())
 }
 

@@ -1,6 +1,7 @@
 use Rattle.std.proofs.Common.{List, sym, subst}
 use Rattle.std.proofs.lemmas.Result.{err_from_is_err_and}
 use Rattle.machine_runs.specs.steps.declared.step.Step.{Step}
+use Rattle.machine_runs.proofs.Lemmas.{run_home}
 use Rattle.machine_sweep.specs.Sweeps.{most_of}
 use Rattle.run_commands.specs.Causes.{IsFaultOfSize}
 use Rattle.run_commands.specs.Retaking.{IsRetaken}
@@ -15,6 +16,10 @@ returns-in_err-tally-clause-refused c =
     (sym (not_stalled c.args.config c.args.image.now (most_of c.args.budget) c.args.number c.in_ok-log.end c.in_ok-log.log c.steps.result.now
     c.in_ok-machine.machine c.retaken.new.machine c.in_ok-log.ensures.ran.ran c.steps.ensures.steps c.in_ok-machine.ensures.opening
     c.in_err-tally.field-0.0 c.in_err-tally.ensures.refused)) tt)
+
+pub result_text-requires-clause-home : goal.result_text-requires-clause-home
+result_text-requires-clause-home c =
+    run_home c.in_ok-machine.machine c.retaken.new.machine c.steps.result.now c.in_ok-tally.ensures.taken.replay.run c.in_ok-machine.ensures.opening.home
 
 pub returns-clause-result : goal.returns-clause-result
 returns-clause-result c =

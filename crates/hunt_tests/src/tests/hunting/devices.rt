@@ -5,7 +5,7 @@ use hunt_command::{Hunt, Traces, hunt_command};
 use link::Meter;
 use std::alloc::{AllocError, Global};
 use std::test::Fail;
-use test_devices::{EBREAK, Sink};
+use test_devices::{EBREAK, Sink, assert_same};
 
 /// What runs of `ebreak` on one processor come to.
 const STOPPED: &[u8] = b"runs 2 first 1 over\nprocessor 0 fault 8 console -\n";
@@ -39,9 +39,9 @@ fn refusals(rt: HostRuntime) {
         (&EBREAK[..], 7, b"ultra: K1\n"),
     ] {
         let ran = hunted(alloc, image, size(k), 1, 1);
-        assert_eq!(rt; ran.err.as_slice(), told);
-        assert_eq!(rt; ran.out.len(), 0);
-        assert_eq!(rt; ran.status, 2);
+        assert_same!(rt; ran.err.as_slice(), told);
+        assert_same!(rt; ran.out.len(), 0);
+        assert_same!(rt; ran.status, 2);
     }
 }
 
@@ -63,9 +63,9 @@ fn writes_that_fail(rt: HostRuntime) {
         let mut err = Sink::new(Vec::new(alloc), 0);
         let file = EBREAK.as_slice();
         let status = hunt_command(alloc, file, size(0), HUNT, &mut traces, &mut out, &mut err);
-        assert_eq!(rt; Some(out.device.bytes.as_slice()), STOPPED.get(..printed));
-        assert_eq!(rt; err.bytes.as_slice(), told);
-        assert_eq!(rt; status, expected);
+        assert_same!(rt; Some(out.device.bytes.as_slice()), STOPPED.get(..printed));
+        assert_same!(rt; err.bytes.as_slice(), told);
+        assert_same!(rt; status, expected);
     }
 }
 
@@ -78,12 +78,12 @@ fn short_of_memory(rt: HostRuntime) -> Result<(), Fail> {
     let file = EBREAK.as_slice();
     let status = hunt_command(alloc, file, size(0), HUNT, &mut traces, &mut out, &mut err);
     if status == 1 {
-        assert_eq!(rt; out.device.bytes.as_slice(), STOPPED);
-        assert_eq!(rt; err.bytes.len(), 0);
+        assert_same!(rt; out.device.bytes.as_slice(), STOPPED);
+        assert_same!(rt; err.bytes.len(), 0);
     } else {
-        assert_eq!(rt; status, 4);
-        assert_eq!(rt; out.device.bytes.len(), 0);
-        assert_eq!(rt; err.bytes.as_slice(), b"ultra: memory\n".as_slice());
+        assert_same!(rt; status, 4);
+        assert_same!(rt; out.device.bytes.len(), 0);
+        assert_same!(rt; err.bytes.as_slice(), b"ultra: memory\n".as_slice());
     }
     Ok(())
 }

@@ -1,5 +1,5 @@
 use Rattle.machine_program.specs.Processors.{program, sizes_of}
-use Rattle.loan_theory.proofs.Putting.{last_counts, stays_put, steady_with}
+use Rattle.machine_program.proofs.Lemmas.{last_counts, stays_put, steady_with}
 use Rattle.loan_theory.proofs.laws.cores_are_put.Goals as goal
 
 pub returns : goal.returns

@@ -13,6 +13,7 @@ use machine_sweep::{SweepEnd, follow_sweep};
 use std::alloc::Global;
 use std::test::Fail;
 use steps::{Outcome, Step};
+use test_devices::assert_same;
 
 /// A machine of two processors.
 const TWO: Config = Config {
@@ -32,7 +33,7 @@ fn machine(alloc: Global) -> Result<Machine, Fail> {
 }
 
 /// The writes by which processor 0 adds 5.
-const POKES: [Poke; 2] = [
+static POKES: [Poke; 2] = [
     Poke::Register {
         processor: 0,
         register: 11,
@@ -67,15 +68,16 @@ fn halts(log: &mut Logged, processor: u8) -> Result<bool, LogRefusal> {
 fn log_is_short_of_memory(rt: HostRuntime) -> Result<(), Fail> {
     let machine = machine(rt.alloc())?;
     assert!(rt; machine.is_idle());
+    assert!(rt; machine.are_home());
     let mut log = Logged::new(rt.alloc(), machine);
     write(&rt, &mut log, &POKES)?;
     assert!(rt; does(&mut log, Step::Turn(0), Outcome::Issued)?);
-    assert_eq!(rt; log.drain()?, 4);
-    assert_eq!(rt; log.machine().word(0), Some(5));
+    assert_same!(rt; log.drain()?, 4);
+    assert_same!(rt; log.machine().word(0), Some(5));
     room_for(&mut log, 100)?;
     assert!(rt; halts(&mut log, 0)?);
-    assert_eq!(rt; follow_sweep(&mut log, 100)?, SweepEnd::Over);
-    assert_eq!(rt; log.steps().len(), 9);
+    assert_same!(rt; follow_sweep(&mut log, 100)?, SweepEnd::Over);
+    assert_same!(rt; log.steps().len(), 9);
     Ok(())
 }
 
@@ -86,6 +88,6 @@ fn order_is_short_of_memory(rt: HostRuntime) -> Result<(), Fail> {
     let mut machine = machine(rt.alloc())?;
     assert!(rt; machine.is_idle());
     let entries = order(&mut machine, rt.alloc(), &steps)?;
-    assert_eq!(rt; entries.len(), 2);
+    assert_same!(rt; entries.len(), 2);
     Ok(())
 }

@@ -7,6 +7,7 @@ use machine_runs::{Machine, most_moves};
 use std::process::Abort;
 use std::test::Fail;
 use steps::{Outcome, Step};
+use test_devices::assert_same;
 
 /// Writes these, which the machine has.
 pub(super) fn write(rt: &impl Abort, log: &mut Logged, pokes: &[Poke]) -> Result<(), LogRefusal> {
@@ -18,7 +19,7 @@ pub(super) fn write(rt: &impl Abort, log: &mut Logged, pokes: &[Poke]) -> Result
 }
 
 /// Writes of all kinds, on a machine of four processors with 1,024 shared words.
-const POKES: [Poke; 5] = [
+static POKES: [Poke; 5] = [
     Poke::Register {
         processor: 2,
         register: 5,
@@ -45,7 +46,7 @@ const POKES: [Poke; 5] = [
 ];
 
 /// What a processor sees at an address then.
-const SEEN: [(u8, u32, Option<u8>); 15] = [
+static SEEN: [(u8, u32, Option<u8>); 15] = [
     (1, 0x0002_0007, Some(200)),
     (0, 0x0002_0007, Some(0)),
     (0, 0x0002_FFFF, Some(0)),
@@ -64,7 +65,7 @@ const SEEN: [(u8, u32, Option<u8>); 15] = [
 ];
 
 /// Writes that this machine has, and writes that it has not.
-const LAWFUL: [(Poke, bool); 14] = [
+static LAWFUL: [(Poke, bool); 14] = [
     (
         Poke::Register {
             processor: 3,
@@ -178,16 +179,16 @@ const LAWFUL: [(Poke, bool); 14] = [
 
 fn expect_seen(rt: &impl Abort, machine: &Machine) {
     for (processor, address, byte) in SEEN.iter().copied() {
-        assert_eq!(rt; machine.seen(processor, address), byte, "{address:x}");
+        assert_same!(rt; machine.seen(processor, address), byte, address);
     }
-    assert_eq!(rt; machine.reg(2, 5), Some(77));
-    assert_eq!(rt; machine.pc(3), Some(0x0001_0004));
-    assert_eq!(rt; machine.word(1), Some(0x0900));
+    assert_same!(rt; machine.reg(2, 5), Some(77));
+    assert_same!(rt; machine.pc(3), Some(0x0001_0004));
+    assert_same!(rt; machine.word(1), Some(0x0900));
 }
 
 fn expect_lawful(rt: &impl Abort, machine: &Machine) {
     for (poke, is_lawful) in LAWFUL.iter().copied() {
-        assert_eq!(rt; machine.is_lawful(poke), is_lawful, "{poke:?}");
+        assert_same!(rt; machine.is_lawful(poke), is_lawful, poke);
     }
 }
 
@@ -197,21 +198,21 @@ fn expect_lawful(rt: &impl Abort, machine: &Machine) {
 fn pokes_are_seen(rt: HostRuntime) -> Result<(), Fail> {
     let mut log = four_adds(&rt)?;
     expect_lawful(&rt, log.machine());
-    assert_eq!(rt; write(&rt, &mut log, &POKES), Ok(()));
+    assert_same!(rt; write(&rt, &mut log, &POKES), Ok(()));
     expect_seen(&rt, log.machine());
-    assert_eq!(rt; log.steps().len(), 5);
-    assert_eq!(rt; log.steps().last(), Some(&Step::Poke(POKES[4])));
+    assert_same!(rt; log.steps().len(), 5);
+    assert_same!(rt; log.steps().last(), Some(&Step::Poke(POKES[4])));
     Ok(())
 }
 
 /// A reference, by a step and a drain, each in room that was made for it.
 fn refer(rt: &impl Abort, log: &mut Logged) -> Result<(), LogRefusal> {
-    assert_eq!(rt; log.room(1)?.step(Step::Turn(0)), Outcome::Issued);
-    assert_eq!(rt; log.machine().is_open(0), Some(true));
-    assert_eq!(rt; log.machine().is_open(1), None);
+    assert_same!(rt; log.room(1)?.step(Step::Turn(0)), Outcome::Issued);
+    assert_same!(rt; log.machine().is_open(0), Some(true));
+    assert_same!(rt; log.machine().is_open(1), None);
     let most = most_moves(log.machine());
-    assert_eq!(rt; log.room(most)?.drain(), 2);
-    assert_eq!(rt; log.machine().is_open(0), Some(false));
+    assert_same!(rt; log.room(most)?.drain(), 2);
+    assert_same!(rt; log.machine().is_open(0), Some(false));
     Ok(())
 }
 
@@ -228,13 +229,13 @@ fn room_is_used(rt: HostRuntime) -> Result<(), Fail> {
     let mut log = one_add(&rt)?;
     refer(&rt, &mut log)?;
     let wanted = [Step::Turn(0), Step::Serve(0), Step::Turn(0)];
-    assert_eq!(rt; log.steps(), wanted.as_slice());
+    assert_same!(rt; log.steps(), wanted.as_slice());
     match take_one(&mut log)? {
-        Outcome::Retired(retired) => assert_eq!(rt; retired.result, Some(11)),
+        Outcome::Retired(retired) => assert_same!(rt; retired.result, Some(11)),
         outcome => assert!(rt; false, "{outcome:?}"),
     }
-    assert_eq!(rt; log.steps().len(), 4);
-    assert_eq!(rt; room_for(&mut log, 4_194_301), Err(LogRefusal::Full));
-    assert_eq!(rt; room_for(&mut log, 4_194_300), Ok(()));
+    assert_same!(rt; log.steps().len(), 4);
+    assert_same!(rt; room_for(&mut log, 4_194_301), Err(LogRefusal::Full));
+    assert_same!(rt; room_for(&mut log, 4_194_300), Ok(()));
     Ok(())
 }

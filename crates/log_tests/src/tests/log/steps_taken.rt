@@ -8,6 +8,7 @@ use rv_table::{AmoOp, Insn, Register};
 use std::process::Abort;
 use std::test::Fail;
 use steps::{Outcome, Step};
+use test_devices::assert_same;
 
 /// What `amoadd.w a0, a1, (a2)` retires as, at the code's first place, where it found this word.
 fn add_that_found(word: u32) -> Retired {
@@ -40,19 +41,16 @@ fn stalls_are_not_entered(rt: HostRuntime) -> Result<(), Fail> {
         (Step::Turn(0), Outcome::Retired(add_that_found(10)), 15, 3),
         (Step::Serve(0), Outcome::Stalled, 15, 3),
     ] {
-        assert_eq!(rt; log.step(step), Ok(outcome));
-        assert_eq!(rt; log.machine().word(0), Some(word), "{step:?}");
-        assert_eq!(rt; log.steps().len(), entered, "{step:?}");
+        assert_same!(rt; log.step(step), Ok(outcome));
+        assert_same!(rt; log.machine().word(0), Some(word), step);
+        assert_same!(rt; log.steps().len(), entered, step);
     }
-    assert_eq!(rt;
-        log.steps(),
-        [Step::Turn(0), Step::Serve(0), Step::Turn(0)].as_slice()
-    );
+    assert_same!(rt; log.steps(), [Step::Turn(0), Step::Serve(0), Step::Turn(0)].as_slice());
     Ok(())
 }
 
 /// Four adds of which each pair combines, and then both pairs.
-const COMBINED: [Step; 18] = [
+static COMBINED: [Step; 18] = [
     Step::Turn(0),
     Step::Turn(1),
     Step::Turn(2),
@@ -89,18 +87,18 @@ fn entered_steps_replay(rt: HostRuntime) -> Result<(), Fail> {
     for step in COMBINED {
         take(&rt, &mut log, step);
     }
-    assert_eq!(rt; log.machine().word(0), Some(25));
-    assert_eq!(rt; log.steps(), COMBINED.as_slice());
+    assert_same!(rt; log.machine().word(0), Some(25));
+    assert_same!(rt; log.steps(), COMBINED.as_slice());
     let mut again = four_machine(&rt)?;
     run(&mut again, log.steps());
-    assert_eq!(rt; look_at(&again), look_at(log.machine()));
+    assert_same!(rt; look_at(&again), look_at(log.machine()));
     let found = [
         again.reg(0, 10),
         again.reg(1, 10),
         again.reg(2, 10),
         again.reg(3, 10),
     ];
-    assert_eq!(rt; found, [10, 15, 11, 17].map(Some));
+    assert_same!(rt; found, [10, 15, 11, 17].map(Some));
     Ok(())
 }
 
@@ -132,13 +130,13 @@ fn refuses_what_it_does_not_have(rt: HostRuntime) -> Result<(), Fail> {
             }),
         ] {
             assert!(rt; !log.names(&step), "{step:?}");
-            assert_eq!(rt; log.step(step), Err(LogRefusal::Unnamed), "{step:?}");
-            assert_eq!(rt; look_at(log.machine()), before, "{step:?}");
-            assert_eq!(rt; log.steps().len(), entered, "{step:?}");
+            assert_same!(rt; log.step(step), Err(LogRefusal::Unnamed), step);
+            assert_same!(rt; look_at(log.machine()), before, step);
+            assert_same!(rt; log.steps().len(), entered, step);
         }
         assert!(rt; log.names(&next));
         assert!(rt; log.step(next).is_ok());
-        assert_eq!(rt; log.steps().len(), entered + 1);
+        assert_same!(rt; log.steps().len(), entered + 1);
     }
     for step in [
         Step::Serve(3),
@@ -150,8 +148,8 @@ fn refuses_what_it_does_not_have(rt: HostRuntime) -> Result<(), Fail> {
         }),
     ] {
         assert!(rt; log.names(&step), "{step:?}");
-        assert_eq!(rt; log.step(step), Ok(Outcome::Stalled), "{step:?}");
+        assert_same!(rt; log.step(step), Ok(Outcome::Stalled), step);
     }
-    assert_eq!(rt; log.steps().len(), 2);
+    assert_same!(rt; log.steps().len(), 2);
     Ok(())
 }

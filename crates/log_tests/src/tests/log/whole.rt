@@ -7,6 +7,7 @@ use std::alloc::AllocGlobal;
 use std::process::Abort;
 use std::test::Fail;
 use steps::{Outcome, Step};
+use test_devices::assert_same;
 
 /// Where the four processors stand, with their `a0`, where each runs.
 fn running(at: [(u32, u32); 4], word: u32) -> Seen {
@@ -25,7 +26,7 @@ fn running(at: [(u32, u32); 4], word: u32) -> Seen {
 fn one_enters_an_instruction(rt: HostRuntime) -> Result<(), Fail> {
     let mut log = four_adds(&rt)?;
     match log.one(2)? {
-        Outcome::Retired(retired) => assert_eq!(rt; retired.result, Some(10)),
+        Outcome::Retired(retired) => assert_same!(rt; retired.result, Some(10)),
         outcome => assert!(rt; false, "{outcome:?}"),
     }
     let wanted = running(
@@ -37,10 +38,8 @@ fn one_enters_an_instruction(rt: HostRuntime) -> Result<(), Fail> {
         ],
         14,
     );
-    assert_eq!(rt; look_at(log.machine()), wanted);
-    assert_eq!(rt;
-        log.steps(),
-        [
+    assert_same!(rt; look_at(log.machine()), wanted);
+    assert_same!(rt; log.steps(), [
             Step::Turn(2),
             Step::Up { stage: 0, wire: 2 },
             Step::Up { stage: 1, wire: 0 },
@@ -49,19 +48,18 @@ fn one_enters_an_instruction(rt: HostRuntime) -> Result<(), Fail> {
             Step::Down { stage: 0, wire: 0 },
             Step::Turn(2),
         ]
-        .as_slice()
-    );
+        .as_slice());
     match log.one(2)? {
-        Outcome::Retired(retired) => assert_eq!(rt; retired.result, Some(11)),
+        Outcome::Retired(retired) => assert_same!(rt; retired.result, Some(11)),
         outcome => assert!(rt; false, "{outcome:?}"),
     }
-    assert_eq!(rt; log.steps().len(), 8);
+    assert_same!(rt; log.steps().len(), 8);
     let stop = Outcome::Stopped(Cause::Fault(Fault::Breakpoint));
-    assert_eq!(rt; log.one(2), Ok(stop));
-    assert_eq!(rt; log.steps().len(), 9);
-    assert_eq!(rt; log.one(2), Ok(Outcome::Stalled));
-    assert_eq!(rt; log.steps().len(), 9);
-    assert_eq!(rt; log.machine().word(0), Some(14));
+    assert_same!(rt; log.one(2), Ok(stop));
+    assert_same!(rt; log.steps().len(), 9);
+    assert_same!(rt; log.one(2), Ok(Outcome::Stalled));
+    assert_same!(rt; log.steps().len(), 9);
+    assert_same!(rt; log.machine().word(0), Some(14));
     Ok(())
 }
 
@@ -69,15 +67,15 @@ fn one_enters_an_instruction(rt: HostRuntime) -> Result<(), Fail> {
 #[test]
 fn one_wants_an_idle_machine(rt: HostRuntime) -> Result<(), Fail> {
     let mut log = four_adds(&rt)?;
-    assert_eq!(rt; log.one(4), Err(LogRefusal::Unnamed));
-    assert_eq!(rt; log.step(Step::Turn(1)), Ok(Outcome::Issued));
+    assert_same!(rt; log.one(4), Err(LogRefusal::Unnamed));
+    assert_same!(rt; log.step(Step::Turn(1)), Ok(Outcome::Issued));
     let before = look_at(log.machine());
     for p in 0..4u8 {
-        assert_eq!(rt; log.one(p), Ok(Outcome::Stalled));
+        assert_same!(rt; log.one(p), Ok(Outcome::Stalled));
     }
-    assert_eq!(rt; log.one(255), Err(LogRefusal::Unnamed));
-    assert_eq!(rt; look_at(log.machine()), before);
-    assert_eq!(rt; log.steps().len(), 1);
+    assert_same!(rt; log.one(255), Err(LogRefusal::Unnamed));
+    assert_same!(rt; look_at(log.machine()), before);
+    assert_same!(rt; log.steps().len(), 1);
     Ok(())
 }
 
@@ -89,12 +87,12 @@ fn expect_drain(
     values: [u32; 4],
 ) -> Result<(), Fail> {
     let entered = log.steps().len();
-    assert_eq!(rt; log.drain(), Ok(moves));
-    assert_eq!(rt; log.steps().len(), entered + moves as usize);
+    assert_same!(rt; log.drain(), Ok(moves));
+    assert_same!(rt; log.steps().len(), entered + moves as usize);
     let at = values.map(|a0| (0x0001_0004, a0));
-    assert_eq!(rt; look_at(log.machine()), running(at, 25));
-    assert_eq!(rt; log.drain(), Ok(0));
-    assert_eq!(rt; log.steps().len(), entered + moves as usize);
+    assert_same!(rt; look_at(log.machine()), running(at, 25));
+    assert_same!(rt; log.drain(), Ok(0));
+    assert_same!(rt; log.steps().len(), entered + moves as usize);
     Ok(())
 }
 
@@ -104,12 +102,12 @@ fn expect_drain(
 fn drain_enters_its_steps(rt: HostRuntime) -> Result<(), Fail> {
     let mut log = four_adds(&rt)?;
     for p in 0..4u8 {
-        assert_eq!(rt; log.step(Step::Turn(p)), Ok(Outcome::Issued));
+        assert_same!(rt; log.step(Step::Turn(p)), Ok(Outcome::Issued));
     }
     expect_drain(&rt, &mut log, 24, [10, 11, 13, 17])?;
     let mut log = four_adds(&rt)?;
     for p in 0..4u8 {
-        assert_eq!(rt; log.step(Step::Turn(p)), Ok(Outcome::Issued));
+        assert_same!(rt; log.step(Step::Turn(p)), Ok(Outcome::Issued));
     }
     for wire in [0, 2, 1, 3] {
         let outcome = log.step(Step::Up { stage: 0, wire })?;
@@ -122,7 +120,7 @@ fn drain_enters_its_steps(rt: HostRuntime) -> Result<(), Fail> {
 #[test]
 fn room_is_made_to_the_limit(rt: HostRuntime) -> Result<(), Fail> {
     let mut log = four_adds(&rt)?;
-    assert_eq!(rt; log.step(Step::Turn(0)), Ok(Outcome::Issued));
+    assert_same!(rt; log.step(Step::Turn(0)), Ok(Outcome::Issued));
     let before = look_at(log.machine());
     for (extra, answer) in [
         (0, Ok(())),
@@ -131,9 +129,9 @@ fn room_is_made_to_the_limit(rt: HostRuntime) -> Result<(), Fail> {
         (4_194_304, Err(LogRefusal::Full)),
         (u32::MAX, Err(LogRefusal::Full)),
     ] {
-        assert_eq!(rt; room_for(&mut log, extra), answer, "{extra}");
-        assert_eq!(rt; log.steps(), [Step::Turn(0)].as_slice(), "{extra}");
-        assert_eq!(rt; look_at(log.machine()), before, "{extra}");
+        assert_same!(rt; room_for(&mut log, extra), answer, extra);
+        assert_same!(rt; log.steps(), [Step::Turn(0)].as_slice(), extra);
+        assert_same!(rt; look_at(log.machine()), before, extra);
     }
     Ok(())
 }

@@ -6,6 +6,7 @@ use machine_sweep::step_at;
 use std::alloc::{AllocError, Global};
 use std::test::Fail;
 use steps::Step;
+use test_devices::assert_same;
 
 /// The steps of a round, one after another.
 pub(super) fn round_of(alloc: Global, k: u8) -> Result<Vec<Step>, AllocError>
@@ -24,10 +25,7 @@ pub(super) fn round_of(alloc: Global, k: u8) -> Result<Vec<Step>, AllocError>
 #[test]
 fn round_without_stages(rt: HostRuntime) -> Result<(), Fail> {
     let round = round_of(rt.alloc(), 0)?;
-    assert_eq!(rt;
-        round.as_slice(),
-        [Step::Turn(0), Step::Serve(0)].as_slice()
-    );
+    assert_same!(rt; round.as_slice(), [Step::Turn(0), Step::Serve(0)].as_slice());
     Ok(())
 }
 
@@ -45,7 +43,7 @@ fn round_of_one_stage(rt: HostRuntime) -> Result<(), Fail> {
         Step::Down { stage: 0, wire: 0 },
         Step::Down { stage: 0, wire: 1 },
     ];
-    assert_eq!(rt; round.as_slice(), wanted.as_slice());
+    assert_same!(rt; round.as_slice(), wanted.as_slice());
     Ok(())
 }
 
@@ -53,12 +51,12 @@ fn round_of_one_stage(rt: HostRuntime) -> Result<(), Fail> {
 #[test]
 fn round_of_two_stages(rt: HostRuntime) -> Result<(), Fail> {
     let round = round_of(rt.alloc(), 2)?;
-    assert_eq!(rt; round.len(), 24);
-    assert_eq!(rt; round.get(4), Some(&Step::Up { stage: 1, wire: 0 }));
-    assert_eq!(rt; round.get(11), Some(&Step::Up { stage: 0, wire: 3 }));
-    assert_eq!(rt; round.get(12), Some(&Step::Serve(0)));
-    assert_eq!(rt; round.get(16), Some(&Step::Down { stage: 0, wire: 0 }));
-    assert_eq!(rt; round.get(23), Some(&Step::Down { stage: 1, wire: 3 }));
+    assert_same!(rt; round.len(), 24);
+    assert_same!(rt; round.get(4), Some(&Step::Up { stage: 1, wire: 0 }));
+    assert_same!(rt; round.get(11), Some(&Step::Up { stage: 0, wire: 3 }));
+    assert_same!(rt; round.get(12), Some(&Step::Serve(0)));
+    assert_same!(rt; round.get(16), Some(&Step::Down { stage: 0, wire: 0 }));
+    assert_same!(rt; round.get(23), Some(&Step::Down { stage: 1, wire: 3 }));
     Ok(())
 }
 
@@ -66,8 +64,8 @@ fn round_of_two_stages(rt: HostRuntime) -> Result<(), Fail> {
 #[test]
 fn round_of_six_stages(rt: HostRuntime) -> Result<(), Fail> {
     let round = round_of(rt.alloc(), 6)?;
-    assert_eq!(rt; round.len(), 896);
-    assert_eq!(rt; round.get(0), Some(&Step::Turn(0)));
-    assert_eq!(rt; round.get(895), Some(&Step::Down { stage: 5, wire: 63 }));
+    assert_same!(rt; round.len(), 896);
+    assert_same!(rt; round.get(0), Some(&Step::Turn(0)));
+    assert_same!(rt; round.get(895), Some(&Step::Down { stage: 5, wire: 63 }));
     Ok(())
 }

@@ -15,7 +15,7 @@ pub invariant_of-result : goal.invariant_of-result
 invariant_of-result c =
     let layout = c.layout-layout.result.now in
     let placed = subst (IsPlaced layout) c.requires.words c.layout-layout.ensures.placed in
-    let code = c.in_ok-code.ensures ∙ ap region_of_bytes c.as_slice-code_bytes.ensures in
+    let code = c.in_ok-code.ensures.ok ∙ c.in_ok-new.ensures ∙ ap region_of_bytes c.as_slice-code_bytes.ensures in
     let ports = c.in_ok-ports.ensures in
     let modules = c.in_ok-modules.ensures ∙ ap (λ bytes. opening_modules c.args.config bytes (2 ^ c.args.config.k)) c.as_slice-shared.ensures in
     let is = new_is_machine c.args.config layout c.requires.limits placed c.in_ok-network.network c.in_ok-network.ensures.empty c.args.image
@@ -36,7 +36,7 @@ pub returns : goal.returns
 returns c =
     let layout = c.layout-layout.result.now in
     let placed = subst (IsPlaced layout) c.requires.words c.layout-layout.ensures.placed in
-    let code = c.in_ok-code.ensures ∙ ap region_of_bytes c.as_slice-code_bytes.ensures in
+    let code = c.in_ok-code.ensures.ok ∙ c.in_ok-new.ensures ∙ ap region_of_bytes c.as_slice-code_bytes.ensures in
     let ports = c.in_ok-ports.ensures in
     let modules = c.in_ok-modules.ensures ∙ ap (λ bytes. opening_modules c.args.config bytes (2 ^ c.args.config.k)) c.as_slice-shared.ensures in
     let same = c.layout-layout.ensures.layout in

@@ -1,6 +1,7 @@
 use Rattle.std.proofs.Common.{◌≡◌, ◌∙◌, ◌<◌, length, take, slice_index_or, refl, sym, subst, arith}
 use Rattle.std.proofs.lemmas.List.{take_more, take_all, length-take-le}
 use Rattle.flat_machine.specs.declared.poke.Poke.TheVariants as poke
+use Rattle.machine_runs.proofs.Lemmas.{run_home}
 use Rattle.machine_log.specs.Logs.{ArePoked}
 use Rattle.machine_log.proofs.Taking.{entered_length, poked_none, poked_more}
 use Rattle.machine_log.proofs.entering.pokes.Goals as goal
@@ -33,7 +34,8 @@ loop-poke-preserved c =
           (sym (take_more pokes i (poke.Register 0 0 0) c.loop-poke-test.true))
           (poked_more c.args.machine.now c.loop-poke.machine c.enter.new.machine c.args.steps.now.items c.loop-poke.steps.items c.enter.new.steps.items
           (take i pokes) q c.enter.result w.poked
-          (c.requires.lawful i (poke.Register 0 0 0) c.loop-poke-test.true) e.step (e.poked w.poked.idle q refl) e.steps e.entered);
+          (c.requires.lawful i (poke.Register 0 0 0) c.loop-poke-test.true) e.step
+          (e.poked w.poked.idle (run_home c.args.machine.now c.loop-poke.machine _ w.poked.replay.run c.requires.home) q refl) e.steps e.entered);
       capacity = e.capacity ∙ w.capacity;
     }
 

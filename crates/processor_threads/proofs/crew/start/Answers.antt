@@ -1,6 +1,5 @@
 use Rattle.std.proofs.Crossing.{crosses}
-use denote.Param.{param}
-use denote.Param.Send.{IsSend, IsSync, sendable}
+use denote.Param.Send.{sendable}
 use Rattle.machine_passes.proofs.Lemmas.{Shared-sync}
 use Rattle.processor_threads.proofs.terms.Terms.TheSendSync as terms
 use Rattle.processor_threads.proofs.worker.Worker.TheSendSync as worker

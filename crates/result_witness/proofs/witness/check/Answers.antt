@@ -1,9 +1,17 @@
 use Rattle.std.proofs.Common.{refl, arith}
 use Rattle.std.proofs.lemmas.Result.{IfErr-weaker, on_ok_weaker}
-use Rattle.result_witness.proofs.Leading.{end_witness, stuck_witness}
+use Rattle.result_witness.proofs.Leading.{end_witness, stuck_witness, taken_home}
 use Rattle.result_witness.proofs.Refusing.{steps_refuse}
 use Rattle.result_witness.specs.Refusals.{IsNotTaken, IsOfSteps}
 use Rattle.result_witness.proofs.witness.check.Goals as goal
+
+pub compare-requires-clause-home : goal.compare-requires-clause-home
+compare-requires-clause-home c =
+    taken_home c.args.config c.args.image.now c.args.steps.now c.in_ok-machine.machine c.in_ok-machine.tally c.in_ok-machine.ensures.taken
+
+pub look_for_an_end-requires-clause-home : goal.look_for_an_end-requires-clause-home
+look_for_an_end-requires-clause-home c =
+    taken_home c.args.config c.args.image.now c.args.steps.now c.in_ok-machine.machine c.in_ok-machine.tally c.in_ok-machine.ensures.taken
 
 pub returns-in-Some-get-clause-witness : goal.returns-in-Some-get-clause-witness
 returns-in-Some-get-clause-witness c =

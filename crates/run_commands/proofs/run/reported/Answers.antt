@@ -7,6 +7,7 @@ use Rattle.elf_image.specs.Images.{ImageContents}
 use Rattle.steps.specs.declared.step.Step.{Step}
 use Rattle.machine_runs.specs.Machines.{IsMachine, MachineLists}
 use Rattle.machine_runs.specs.Runs.{IsOpening, IsReplay}
+use Rattle.machine_runs.proofs.Lemmas.{run_home}
 use Rattle.run_commands.specs.Commands.{IsReportOf}
 use Rattle.run_commands.specs.Retaking.{AreConsoles}
 use Rattle.run_commands.proofs.FlatReports.{idle_alike, report_is_of}
@@ -24,6 +25,10 @@ returns-in_err-tally-clause-refused c =
     (not_stalled log c.config-config.result c.in_ok-image.image c.steps.result.now c.in_ok-machine.machine c.retaken.new.machine c.requires.opens
     c.machine.ensures.replay size image c.steps.ensures.steps c.in_ok-machine.ensures.opening c.in_err-tally.field-0.0
     c.in_err-tally.ensures.refused)
+
+pub report-requires-clause-home : goal.report-requires-clause-home
+report-requires-clause-home c =
+    run_home c.in_ok-machine.machine c.retaken.new.machine c.steps.result.now c.in_ok-tally.ensures.taken.replay.run c.in_ok-machine.ensures.opening.home
 
 pub report-requires-clause-heard : goal.report-requires-clause-heard
 report-requires-clause-heard c =

@@ -2,6 +2,7 @@
 
 use assembler::{AsmError, AsmFault, assemble};
 use std::test::Fail;
+use test_devices::assert_same;
 
 #[test]
 fn faults_name_their_line(rt: HostRuntime) {
@@ -54,10 +55,7 @@ fn faults_name_their_line(rt: HostRuntime) {
         ),
         (".shared\n.zero 786432\n\n.word 1", 4, AsmFault::SectionFull),
     ] {
-        assert_eq!(rt;
-            assemble(rt.alloc(), text).err(),
-            Some(AsmError { line, fault })
-        );
+        assert_same!(rt; assemble(rt.alloc(), text).err(), Some(AsmError { line, fault }));
     }
 }
 
@@ -73,7 +71,7 @@ fn refusals_are_written_as_codes(rt: HostRuntime) -> Result<(), Fail> {
         (AsmFault::Memory, "A7 line 7"),
     ] {
         let text = format!(in rt.alloc(); "{}", AsmError { line: 7, fault })?;
-        assert_eq!(rt; text.as_str(), written);
+        assert_same!(rt; text.as_str(), written);
     }
     Ok(())
 }

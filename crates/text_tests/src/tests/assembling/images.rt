@@ -7,9 +7,10 @@ use elf_image::{Image, ImageError, read_image};
 use flat_machine::Config;
 use link::Meter;
 use std::test::Fail;
+use test_devices::assert_same;
 
 /// The image of the text `ebreak`: the ELF header, one program header, the word 0x00100073.
-const EBREAK: [u8; 88] = [
+static EBREAK: [u8; 88] = [
     0x7F, 0x45, 0x4C, 0x46, 0x01, 0x01, 0x01, 0x00, 0x00, 0x00, 0x00, 0x00, 0x00, 0x00, 0x00, 0x00,
     0x02, 0x00, 0xF3, 0x00, 0x01, 0x00, 0x00, 0x00, 0x00, 0x00, 0x01, 0x00, 0x34, 0x00, 0x00, 0x00,
     0x00, 0x00, 0x00, 0x00, 0x00, 0x00, 0x00, 0x00, 0x34, 0x00, 0x20, 0x00, 0x01, 0x00, 0x00, 0x00,
@@ -38,7 +39,7 @@ fn read_back(
 #[test]
 fn image_of_one_instruction(rt: HostRuntime) -> Result<(), Fail> {
     let file = assemble(rt.alloc(), "ebreak")?.to_elf(rt.alloc())?;
-    assert_eq!(rt; file.as_slice(), EBREAK.as_slice());
+    assert_same!(rt; file.as_slice(), EBREAK.as_slice());
     Ok(())
 }
 
@@ -60,7 +61,7 @@ fn image_of_three_sections(rt: HostRuntime) -> Result<(), Fail> {
         }
     }
     expected.extend_from_slice(&[0x73, 0, 0, 0, 0x73, 0, 0x10, 0, 5, 6, 7, 8])?;
-    assert_eq!(rt; file.as_slice(), expected.as_slice());
+    assert_same!(rt; file.as_slice(), expected.as_slice());
     Ok(())
 }
 
@@ -70,21 +71,15 @@ fn programs_are_read_back(rt: HostRuntime) -> Result<(), Fail> {
         ".local\n.byte 1, 0\n.shared\n.word 0x04030201\n.byte 5\n.code\nebreak\nstart: ecall";
     let image = read_back(&rt, text, 2)??;
     let layout = image.layout();
-    assert_eq!(rt; image.shared_words(), 2);
-    assert_eq!(rt; layout.entry, 0x0001_0004);
-    assert_eq!(rt;
-        layout.code.as_slice(),
-        [0x73, 0, 0x10, 0, 0x73, 0, 0, 0].as_slice()
-    );
-    assert_eq!(rt; layout.local.as_slice(), [1, 0].as_slice());
-    assert_eq!(rt; layout.shared.as_slice(), [1, 2, 3, 4, 5].as_slice());
+    assert_same!(rt; image.shared_words(), 2);
+    assert_same!(rt; layout.entry, 0x0001_0004);
+    assert_same!(rt; layout.code.as_slice(), [0x73, 0, 0x10, 0, 0x73, 0, 0, 0].as_slice());
+    assert_same!(rt; layout.local.as_slice(), [1, 0].as_slice());
+    assert_same!(rt; layout.shared.as_slice(), [1, 2, 3, 4, 5].as_slice());
     let image = read_back(&rt, "", 1)??;
     let layout = image.layout();
-    assert_eq!(rt; layout.entry, 0x0001_0000);
-    assert_eq!(rt;
-        layout.code.len() + layout.local.len() + layout.shared.len(),
-        0
-    );
+    assert_same!(rt; layout.entry, 0x0001_0000);
+    assert_same!(rt; layout.code.len() + layout.local.len() + layout.shared.len(), 0);
     Ok(())
 }
 
@@ -103,7 +98,7 @@ fn shared_sections_fit_their_words(rt: HostRuntime) -> Result<(), Fail> {
         ),
     ] {
         let read = read_back(&rt, text, shared_words)?;
-        assert_eq!(rt; read.err(), error, "{text} for {shared_words}");
+        assert_same!(rt; read.err(), error, (&text, &shared_words));
     }
     Ok(())
 }
@@ -112,9 +107,9 @@ fn shared_sections_fit_their_words(rt: HostRuntime) -> Result<(), Fail> {
 #[test]
 fn entries_lie_in_code(rt: HostRuntime) -> Result<(), Fail> {
     let image = read_back(&rt, ".zero 65532\nstart: ebreak", 1)??;
-    assert_eq!(rt; image.layout().entry, 0x0001_FFFC);
+    assert_same!(rt; image.layout().entry, 0x0001_FFFC);
     let read = read_back(&rt, ".zero 65536\nstart:", 1)?;
-    assert_eq!(rt; read.err(), Some(ImageError::Entry));
+    assert_same!(rt; read.err(), Some(ImageError::Entry));
     Ok(())
 }
 
@@ -123,8 +118,8 @@ fn entries_lie_in_code(rt: HostRuntime) -> Result<(), Fail> {
 fn image_of_the_largest_program(rt: HostRuntime) -> Result<(), Fail> {
     let text = ".zero 65536\n.local\n.zero 65536\n.shared\n.zero 786432";
     let file = assemble(rt.alloc(), text)?.to_elf(rt.alloc())?;
-    assert_eq!(rt; file.len(), 148 + 917_504);
+    assert_same!(rt; file.len(), 148 + 917_504);
     let image = read_back(&rt, text, 262_144)??;
-    assert_eq!(rt; image.layout().shared.len(), 786_432);
+    assert_same!(rt; image.layout().shared.len(), 786_432);
     Ok(())
 }

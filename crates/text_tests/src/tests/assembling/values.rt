@@ -5,6 +5,7 @@ ghost use Rattle.std.specs.Prelude.{◌<◌};
 use super::code_of;
 use assembler::{AsmError, AsmFault, assemble};
 use std::test::Fail;
+use test_devices::assert_same;
 
 /// A field of fewer than 32 bits of a word, from its lowest bit.
 fn bits(word: u32, low: u32, width: u32) -> u32
@@ -39,7 +40,7 @@ fn numbers_at_the_ends_of_their_ranges(rt: HostRuntime) -> Result<(), Fail> {
         (".word -0", 0),
         (".byte -128, 255, 0x00, 0127", 0x7F00_FF80),
     ] {
-        assert_eq!(rt; code_of(&rt, text)?.as_slice(), [word].as_slice());
+        assert_same!(rt; code_of(&rt, text)?.as_slice(), [word].as_slice());
     }
     Ok(())
 }
@@ -77,7 +78,7 @@ fn numbers_out_of_range(rt: HostRuntime) {
             line: 1,
             fault: AsmFault::Range,
         };
-        assert_eq!(rt; assemble(rt.alloc(), text).err(), Some(refusal));
+        assert_same!(rt; assemble(rt.alloc(), text).err(), Some(refusal));
     }
 }
 
@@ -92,7 +93,7 @@ fn targets_are_counted_from_the_instruction(rt: HostRuntime) -> Result<(), Fail>
         ("beq x0, x0, far\n.zero 4090\nfar: .zero 2", 0, 0x7E00_0FE3),
         ("jal x0, far\n.zero 65532\nfar:", 0, 0x0001_006F),
     ] {
-        assert_eq!(rt; code_of(&rt, text)?.get(at).copied(), Some(word));
+        assert_same!(rt; code_of(&rt, text)?.get(at).copied(), Some(word));
     }
     for text in [
         "beq x0, x0, far\n.zero 4092\nfar:",
@@ -103,7 +104,7 @@ fn targets_are_counted_from_the_instruction(rt: HostRuntime) -> Result<(), Fail>
             line: 1,
             fault: AsmFault::Range,
         };
-        assert_eq!(rt; assemble(rt.alloc(), text).err(), Some(refusal));
+        assert_same!(rt; assemble(rt.alloc(), text).err(), Some(refusal));
     }
     Ok(())
 }
@@ -125,10 +126,10 @@ fn parts_of_a_label(rt: HostRuntime) -> Result<(), Fail> {
         let [lui, addi, sb, auipc] = code.as_slice() else {
             return Err(Fail::from("four words"));
         };
-        assert_eq!(rt; bits(*lui, 12, 20), high);
-        assert_eq!(rt; bits(*addi, 20, 12), low);
-        assert_eq!(rt; (bits(*sb, 25, 7), bits(*sb, 7, 5)), (low / 32, low % 32));
-        assert_eq!(rt; bits(*auipc, 12, 20), high);
+        assert_same!(rt; bits(*lui, 12, 20), high);
+        assert_same!(rt; bits(*addi, 20, 12), low);
+        assert_same!(rt; (bits(*sb, 25, 7), bits(*sb, 7, 5)), (low / 32, low % 32));
+        assert_same!(rt; bits(*auipc, 12, 20), high);
     }
     Ok(())
 }
@@ -140,9 +141,7 @@ fn labels_have_their_sections_addresses(rt: HostRuntime) -> Result<(), Fail> {
         &rt,
         ".word a, b, c, d, addi\na: .local\n.byte 9\nb: .shared\n.zero 8\nc:\n.code\nd: ecall\naddi:",
     )?;
-    assert_eq!(rt;
-        code.as_slice(),
-        [
+    assert_same!(rt; code.as_slice(), [
             0x0001_0014,
             0x0002_0001,
             0x8000_0008,
@@ -150,8 +149,7 @@ fn labels_have_their_sections_addresses(rt: HostRuntime) -> Result<(), Fail> {
             0x0001_0018,
             0x0000_0073
         ]
-        .as_slice()
-    );
+        .as_slice());
     Ok(())
 }
 
@@ -168,9 +166,9 @@ fn registers_by_number_and_by_use(rt: HostRuntime) -> Result<(), Fail> {
         let [word] = code.as_slice() else {
             return Err(Fail::from("one word"));
         };
-        assert_eq!(rt; bits(*word, 7, 5) as usize, number);
-        assert_eq!(rt; bits(*word, 15, 5) as usize, number);
-        assert_eq!(rt; bits(*word, 20, 5) as usize, number);
+        assert_same!(rt; bits(*word, 7, 5) as usize, number);
+        assert_same!(rt; bits(*word, 15, 5) as usize, number);
+        assert_same!(rt; bits(*word, 20, 5) as usize, number);
     }
     Ok(())
 }

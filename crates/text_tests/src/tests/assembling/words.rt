@@ -3,7 +3,7 @@
 use super::code_of;
 use assembler::assemble;
 use std::test::Fail;
-use test_devices::HUNDRED_ADDS;
+use test_devices::{HUNDRED_ADDS, assert_same};
 
 #[test]
 fn one_instruction_is_one_word(rt: HostRuntime) -> Result<(), Fail> {
@@ -28,7 +28,7 @@ fn one_instruction_is_one_word(rt: HostRuntime) -> Result<(), Fail> {
         ("ecall", 0x0000_0073),
         ("ebreak", 0x0010_0073),
     ] {
-        assert_eq!(rt; code_of(&rt, text)?.as_slice(), [word].as_slice());
+        assert_same!(rt; code_of(&rt, text)?.as_slice(), [word].as_slice());
     }
     Ok(())
 }
@@ -44,12 +44,12 @@ fn blanks_and_comments_change_nothing(rt: HostRuntime) -> Result<(), Fail> {
         "_b1: addi x1, x0, 1",
         "addi: addi x1, x0, 00000000000000000001",
     ] {
-        assert_eq!(rt; code_of(&rt, text)?.as_slice(), [0x0010_0093].as_slice());
+        assert_same!(rt; code_of(&rt, text)?.as_slice(), [0x0010_0093].as_slice());
     }
     let text = "lw x6 , %lo ( v ) ( x5 )\n.shared\nv :";
-    assert_eq!(rt; code_of(&rt, text)?.as_slice(), [0x0002_A303].as_slice());
+    assert_same!(rt; code_of(&rt, text)?.as_slice(), [0x0002_A303].as_slice());
     let amo = code_of(&rt, "amoadd.w a0 ,a1,\t( a2 )")?;
-    assert_eq!(rt; amo.as_slice(), [0x00B6_252F].as_slice());
+    assert_same!(rt; amo.as_slice(), [0x00B6_252F].as_slice());
     Ok(())
 }
 
@@ -58,13 +58,10 @@ fn high_and_low_parts_make_an_address(rt: HostRuntime) -> Result<(), Fail> {
     let text = ".shared\n.zero 4092\nv: .word 7\n.code\nlui x5, %hi(v)\nlw x6, %lo(v)(x5)";
     let program = assemble(rt.alloc(), text)?;
     let layout = program.layout();
-    assert_eq!(rt;
-        code_of(&rt, text)?.as_slice(),
-        [0x8000_12B7, 0xFFC2_A303].as_slice()
-    );
-    assert_eq!(rt; layout.shared.len(), 4096);
-    assert_eq!(rt; layout.shared.as_slice()[4092..].first().copied(), Some(7));
-    assert_eq!(rt; layout.entry, 0x0001_0000);
+    assert_same!(rt; code_of(&rt, text)?.as_slice(), [0x8000_12B7, 0xFFC2_A303].as_slice());
+    assert_same!(rt; layout.shared.len(), 4096);
+    assert_same!(rt; layout.shared.as_slice().get(4092).copied(), Some(7));
+    assert_same!(rt; layout.entry, 0x0001_0000);
     Ok(())
 }
 
@@ -75,12 +72,9 @@ fn sections_are_interleaved(rt: HostRuntime) -> Result<(), Fail> {
         ".shared\n.byte 1\n.local\n.byte 2, 3\n.code\necall\n.shared\n.byte -1 , 255,0x7F\n.local\nhere: .zero 1\n.byte 4\n.code\n.word here, -1, 4294967295";
     let program = assemble(rt.alloc(), text)?;
     let layout = program.layout();
-    assert_eq!(rt; layout.shared.as_slice(), [1, 255, 255, 127].as_slice());
-    assert_eq!(rt; layout.local.as_slice(), [2, 3, 0, 4].as_slice());
-    assert_eq!(rt;
-        code_of(&rt, text)?.as_slice(),
-        [0x0000_0073, 0x0002_0002, 0xFFFF_FFFF, 0xFFFF_FFFF].as_slice()
-    );
+    assert_same!(rt; layout.shared.as_slice(), [1, 255, 255, 127].as_slice());
+    assert_same!(rt; layout.local.as_slice(), [2, 3, 0, 4].as_slice());
+    assert_same!(rt; code_of(&rt, text)?.as_slice(), [0x0000_0073, 0x0002_0002, 0xFFFF_FFFF, 0xFFFF_FFFF].as_slice());
     Ok(())
 }
 
@@ -89,12 +83,12 @@ fn sections_are_interleaved(rt: HostRuntime) -> Result<(), Fail> {
 fn a_whole_program(rt: HostRuntime) -> Result<(), Fail> {
     let text = HUNDRED_ADDS;
     let program = assemble(rt.alloc(), text)?;
-    assert_eq!(rt; program.layout().entry, 0x0001_0000);
+    assert_same!(rt; program.layout().entry, 0x0001_0000);
     let code = code_of(&rt, text)?;
-    assert_eq!(rt; code.len(), 16);
-    assert_eq!(rt; code.get(3).copied(), Some(0x0072_A42F));
-    assert_eq!(rt; code.get(5).copied(), Some(0xFE03_1CE3));
-    assert_eq!(rt; code.get(15).copied(), Some(0x0010_0073));
+    assert_same!(rt; code.len(), 16);
+    assert_same!(rt; code.get(3).copied(), Some(0x0072_A42F));
+    assert_same!(rt; code.get(5).copied(), Some(0xFE03_1CE3));
+    assert_same!(rt; code.get(15).copied(), Some(0x0010_0073));
     Ok(())
 }
 
@@ -111,7 +105,7 @@ fn the_entry_is_start_in_code(rt: HostRuntime) -> Result<(), Fail> {
         ("ecall\nStart: ecall", 0x0001_0000),
         ("ecall\nstart: .local", 0x0001_0004),
     ] {
-        assert_eq!(rt; assemble(rt.alloc(), text)?.layout().entry, entry);
+        assert_same!(rt; assemble(rt.alloc(), text)?.layout().entry, entry);
     }
     Ok(())
 }
@@ -123,15 +117,15 @@ fn large_texts(rt: HostRuntime) -> Result<(), Fail> {
         rt.alloc(),
         ".zero 65536\n.local\n.zero 65536\n.shared\n.zero 786432\nend:",
     )?;
-    assert_eq!(rt; full.layout().code.len(), 65_536);
-    assert_eq!(rt; full.layout().local.len(), 65_536);
-    assert_eq!(rt; full.layout().shared.len(), 786_432);
+    assert_same!(rt; full.layout().code.len(), 65_536);
+    assert_same!(rt; full.layout().local.len(), 65_536);
+    assert_same!(rt; full.layout().shared.len(), 786_432);
     let mut text = String::with_capacity(rt.alloc(), 1_048_576)?;
     for _ in 0..16_384 {
         text.push_str("addi x1, x1, 1 # one more, with a comment up to 64 bytes a line\n")?;
     }
-    assert_eq!(rt; text.len(), 1_048_576);
+    assert_same!(rt; text.len(), 1_048_576);
     let program = assemble(rt.alloc(), text.as_str())?;
-    assert_eq!(rt; program.layout().code.len(), 65_536);
+    assert_same!(rt; program.layout().code.len(), 65_536);
     Ok(())
 }

@@ -7,31 +7,43 @@ use flat_machine::Config;
 use link::{Link, Meter};
 use processor_threads::Open;
 use std::alloc::Global;
+use std::fmt::Write;
 use std::process::Abort;
 use std::test::Fail;
-use test_devices::{EBREAK, Sink};
+use test_devices::{EBREAK, Sink, assert_same};
 use threaded_run::threaded_run_command;
 
 /// Nothing is printed and no trace is written, and this is told.
 fn assert_told(rt: &impl Abort, ran: &Ran, told: &str, status: u8) {
-    assert_eq!(rt; ran.err.as_slice(), told.as_bytes());
-    assert_eq!(rt; ran.out.len(), 0, "at {told}");
-    assert_eq!(rt; ran.trace.len(), 0, "at {told}");
-    assert_eq!(rt; ran.status, status, "at {told}");
+    assert_same!(rt; ran.err.as_slice(), told.as_bytes());
+    assert_same!(rt; ran.out.len(), 0, told);
+    assert_same!(rt; ran.trace.len(), 0, told);
+    assert_same!(rt; ran.status, status, told);
 }
 
-/// Two instructions take two rounds.
+/// So many instructions that add 1 to a register, and then a halt.
+fn adds(alloc: Global, count: u32) -> Result<Vec<u8>, Fail> {
+    let mut text = String::new(alloc);
+    for _ in 0..count {
+        write!(text, "addi x1, x1, 1\n")?;
+    }
+    write!(text, "ecall\n")?;
+    image_of(alloc, text.as_str())
+}
+
+/// A round takes 64 instructions with the core on loan, and then a turn: so 64 and the halt are one round, and 65 and the halt two.
 #[test]
 fn budget_that_is_just_enough(rt: HostRuntime) -> Result<(), Fail> {
-    let image = image_of(rt.alloc(), "addi x1, x0, 1\necall")?;
+    let image = adds(rt.alloc(), 64)?;
+    let ran = run(&rt, rt.alloc(), image.as_slice(), size(0), 1);
+    assert_same!(rt; ran.out.as_slice(), b"processor 0 pc 00010100 halt 00 retired 64 console -\n".as_slice());
+    assert_same!(rt; ran.status, 0);
+    let image = adds(rt.alloc(), 65)?;
     let ran = run(&rt, rt.alloc(), image.as_slice(), size(0), 1);
     assert_told(&rt, &ran, "ultra: budget\n", 4);
     let ran = run(&rt, rt.alloc(), image.as_slice(), size(0), 2);
-    assert_eq!(rt;
-        ran.out.as_slice(),
-        b"processor 0 pc 00010004 halt 00 retired 1 console -\n".as_slice()
-    );
-    assert_eq!(rt; ran.status, 0);
+    assert_same!(rt; ran.out.as_slice(), b"processor 0 pc 00010104 halt 00 retired 65 console -\n".as_slice());
+    assert_same!(rt; ran.status, 0);
     Ok(())
 }
 
@@ -86,9 +98,9 @@ fn tells_what_cannot_be_written(rt: HostRuntime) {
             &mut out,
             &mut err,
         );
-        assert_eq!(rt; err.as_slice(), told.as_bytes());
-        assert_eq!(rt; out.device.bytes.len(), written, "{told}");
-        assert_eq!(rt; status, 3, "{told}");
+        assert_same!(rt; err.as_slice(), told.as_bytes());
+        assert_same!(rt; out.device.bytes.len(), written, told);
+        assert_same!(rt; status, 3, told);
     }
 }
 
@@ -114,11 +126,11 @@ fn is_short_of_memory(rt: HostRuntime) -> Result<(), Fail> {
     );
     if status == 1 {
         let report = b"processor 0 pc 00010000 fault 8 retired 0 console -\n";
-        assert_eq!(rt; out.device.bytes.as_slice(), report.as_slice());
-        assert_eq!(rt; err.len(), 0);
+        assert_same!(rt; out.device.bytes.as_slice(), report.as_slice());
+        assert_same!(rt; err.len(), 0);
     } else {
-        assert_eq!(rt; status, 4);
-        assert_eq!(rt; out.device.bytes.len(), 0);
+        assert_same!(rt; status, 4);
+        assert_same!(rt; out.device.bytes.len(), 0);
         assert!(rt;
             [b"ultra: memory\n".as_slice(), b"ultra: Start\n".as_slice()].contains(&err.as_slice())
         );

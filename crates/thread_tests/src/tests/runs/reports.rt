@@ -7,7 +7,7 @@ use std::process::Abort;
 use std::sync::Wait;
 use std::test::Fail;
 use std::thread::Threads;
-use test_devices::HUNDRED_ADDS;
+use test_devices::{HUNDRED_ADDS, assert_same};
 
 /// The run of a text comes to this report and status, and its trace replays to them.
 fn assert_reported<R: Threads + Wait + Abort + Sync>(
@@ -22,9 +22,9 @@ fn assert_reported<R: Threads + Wait + Abort + Sync>(
     let ran = run(rt, alloc, image.as_slice(), size(k), AMPLE);
     let again = replay(alloc, ran.trace.as_slice(), image.as_slice());
     for one in [&ran, &again] {
-        assert_eq!(rt; one.err.len(), 0, "k {k}");
-        assert_eq!(rt; one.out.as_slice(), report.as_bytes(), "k {k}");
-        assert_eq!(rt; one.status, status, "k {k}");
+        assert_same!(rt; one.err.len(), 0, k);
+        assert_same!(rt; one.out.as_slice(), report.as_bytes(), k);
+        assert_same!(rt; one.status, status, k);
     }
     Ok(())
 }

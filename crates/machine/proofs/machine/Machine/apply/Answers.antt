@@ -11,8 +11,8 @@ returns-clause-stalled c e shown =
     stalled_keeps c.args.self.now c.take-outcome.new.self c.args.step c.take-outcome.result c.machine_is_sound.ensures c.take-outcome.ensures e shown
 
 pub returns-clause-poked : goal.returns-clause-poked
-returns-clause-poked c idle poke e =
-    poke_whole c.args.self.now poke c.take-outcome.result c.take-outcome.new.self c.machine_is_sound.ensures idle c.machine_is_sound-2.ensures
+returns-clause-poked c idle home poke e =
+    poke_whole c.args.self.now poke c.take-outcome.result c.take-outcome.new.self c.machine_is_sound.ensures idle home c.machine_is_sound-2.ensures
     (subst (λ s. IsStep c.args.self.now s c.take-outcome.result c.take-outcome.new.self) e c.take-outcome.ensures)
 
 pub returns-clause-few : goal.returns-clause-few

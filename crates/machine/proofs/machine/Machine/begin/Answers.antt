@@ -17,6 +17,7 @@ begin-requires-clause-unnamed c = not_named _ c.self.invariant c.args.p
 pub invariant_of-self : goal.invariant_of-self
 invariant_of-self c = (begin_there _ c.self.invariant c.args.p c.from-place.result c.from-place.ensures
     (subst (λ (m : MachineLists). c.args.p < 2 ^ m.config.k) (sym c.self.view_is) c.requires.there) c.index_mut.result.now c.index_mut.ensures.value
+    c.deref-code.result.now c.deref-code.ensures
     c.begin.new.port c.begin.result c.begin.new.network
     (subst (λ (m : MachineLists). (port_at m.ports c.args.p).is_open ≡ false) (sym c.self.view_is) c.requires.closed)
     (subst (λ (m : MachineLists). is_running (port_at m.ports c.args.p).core.state.status ≡ true) (sym c.self.view_is) c.requires.running) c.begin.ensures.port
@@ -25,6 +26,7 @@ invariant_of-self c = (begin_there _ c.self.invariant c.args.p c.from-place.resu
 pub returns : goal.returns
 returns c = step_by c.self.view_is refl (begin_there _ c.self.invariant c.args.p c.from-place.result c.from-place.ensures
     (subst (λ (m : MachineLists). c.args.p < 2 ^ m.config.k) (sym c.self.view_is) c.requires.there) c.index_mut.result.now c.index_mut.ensures.value
+    c.deref-code.result.now c.deref-code.ensures
     c.begin.new.port c.begin.result c.begin.new.network
     (subst (λ (m : MachineLists). (port_at m.ports c.args.p).is_open ≡ false) (sym c.self.view_is) c.requires.closed)
     (subst (λ (m : MachineLists). is_running (port_at m.ports c.args.p).core.state.status ≡ true) (sym c.self.view_is) c.requires.running) c.begin.ensures.port

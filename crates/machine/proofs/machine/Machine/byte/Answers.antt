@@ -1,13 +1,13 @@
-use Rattle.std.proofs.Common.{◌∙◌, ◌^◌, ap}
-use Rattle.std.proofs.Common.{nat_lt}
+use Rattle.std.proofs.Common.{◌∙◌, ap}
 use Rattle.std.specs.Result.{result_ok}
 use Rattle.flat_machine.specs.Memory.{in_local}
 use Rattle.machine_opening.specs.machine_program.Processors.{port_at}
+use Rattle.machine.specs.Machines.{is_there}
 use Rattle.machine.proofs.LocalBytes.{byte_of_core}
 use Rattle.machine.proofs.machine.Machine.byte.Goals as goal
 
 pub returns : goal.returns
 returns c =
     c.ok.ensures.value ∙ ap result_ok c.byte.ensures
-    ∙ byte_of_core (nat_lt c.args.processor (2 ^ c.args.self.now.config.k)) (in_local c.args.address)
-    (port_at c.args.self.now.ports c.args.processor).core c.in_ok-core.field-0.now c.args.address c.in_ok-core.ensures
+    ∙ byte_of_core (is_there c.args.self.now c.args.processor) (in_local c.args.address)
+    (port_at c.args.self.now.ports c.args.processor).core c.in_ok-core.field-0.now c.args.address c.in_ok-core.ensures.value

@@ -2,6 +2,7 @@ use Rattle.std.proofs.Common.{subst}
 use Rattle.machine_runs.specs.Runs.{IsSerialized}
 use Rattle.machine_runs.proofs.Lemmas.{serialized}
 use Rattle.machine_log.specs.Logs.{RoomyLog}
+use Rattle.machine_log.proofs.Taking.{kept_home}
 use Rattle.machine_log.proofs.roomy.Roomy.machine.Goals as goal
 
 pub returns-clause-explained : goal.returns-clause-explained
@@ -9,3 +10,6 @@ returns-clause-explained c =
     let k = c.self.invariant in
     subst (λ (l : RoomyLog). IsSerialized l.log.opening l.log.steps l.log.machine) c.self.view_is
     (serialized c.self.inside.opening.value c.self.inside.steps.items c.self.inside.machine k.opens k.idle k.sound k.replay.run)
+
+pub returns-clause-home : goal.returns-clause-home
+returns-clause-home c = kept_home _ c.self.invariant

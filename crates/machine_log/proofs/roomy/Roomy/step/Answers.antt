@@ -6,6 +6,7 @@ use Rattle.machine_runs.specs.Runs.{answer_after}
 use Rattle.machine_runs.specs.Whole.{IsPoked}
 use Rattle.machine_runs.proofs.Lemmas.{outcome_there}
 use Rattle.machine_log.specs.Logs.{RoomyLog}
+use Rattle.machine_log.proofs.Taking.{kept_home}
 use Rattle.machine_log.proofs.roomy.Roomy.step.Goals as goal
 
 pub returns-clause-answer : goal.returns-clause-answer
@@ -17,4 +18,4 @@ returns-clause-answer c =
 pub returns-clause-poked : goal.returns-clause-poked
 returns-clause-poked c =
     subst (λ (l : RoomyLog). IsIdle l.log.machine → (poke : Poke) → c.args.step ≡ step.Poke poke →
-    IsPoked l.log.machine poke c.enter.result c.enter.new.machine) c.self.view_is c.enter.ensures.poked
+    IsPoked l.log.machine poke c.enter.result c.enter.new.machine) c.self.view_is (λ idle. c.enter.ensures.poked idle (kept_home _ c.self.invariant))

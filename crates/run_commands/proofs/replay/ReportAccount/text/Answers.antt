@@ -2,8 +2,16 @@ use Rattle.std.proofs.Common.{◌++◌, subst}
 use Rattle.std.specs.Prelude.{string_bytes}
 use Rattle.machine_runs.specs.Draining.{drain_steps}
 use Rattle.machine_runs.specs.Machines.{IsMachine}
+use Rattle.machine_runs.proofs.Lemmas.{run_home}
 use Rattle.run_commands.proofs.FlatReports.{report_is_of}
 use Rattle.run_commands.proofs.replay.ReportAccount.text.Goals as goal
+
+pub report-requires-clause-home : goal.report-requires-clause-home
+report-requires-clause-home c =
+    let opening = c.in_ok-machine.machine in
+    let opens = c.in_ok-machine.ensures.opening in
+    let all = c.in_ok-drained.ensures.taken opening c.args.steps.now c.in_ok-tally.ensures.taken in
+    run_home opening c.drained.new.machine (c.args.steps.now ++ drain_steps c.retaken.new.machine) all.replay.run opens.home
 
 pub returns-clause-told : goal.returns-clause-told
 returns-clause-told c =

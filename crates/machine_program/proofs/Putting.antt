@@ -2,17 +2,18 @@
 use Rattle.std.proofs.Common.{◌≡◌, ◌≢◌, ℕ, ◌%◌, false, length, ◌⊎◌, inl, inr, sym, ap, ◌∙◌, subst, suc, arith}
 use Rattle.std.proofs.lemmas.Bool.{cases_eq, true≢false}
 use mathlib.Core.Path.{fun_ext}
-use Rattle.machine_program.specs.abstract_machine.messages.declared.message.Record.{Record}
-use Rattle.machine_program.specs.abstract_machine.messages.Places.{put, In}
-use Rattle.machine_program.specs.abstract_machine.messages.Network.{Sizes, wires}
-use Rattle.machine_program.specs.abstract_machine.omega_wires.Wires.{path as way}
-use Rattle.machine_program.specs.abstract_machine.placement.Roles.{Role, Idle, Placed}
-use Rattle.machine_program.specs.abstract_machine.Program.{Program, path_of}
-use Rattle.machine_program.specs.abstract_machine.Machine.{Machine}
-use Rattle.machine_program.specs.abstract_machine.Steadiness.{Steady}
-use Rattle.machine_program.proofs.Lemmas.abstract_machine.messages.{put_other, put_same}
-use Rattle.machine_program.proofs.Lemmas.placement.{below_role, placed_change, records_path, unnamed_idle}
-use Rattle.loan_theory.specs.Loans.{with_core}
+use Rattle.abstract_machine.specs.messages.declared.message.Record.{Record}
+use Rattle.abstract_machine.specs.messages.Places.{put, In}
+use Rattle.abstract_machine.specs.messages.Network.{Sizes, wires}
+use Rattle.abstract_machine.specs.omega_wires.Wires.{path as way}
+use Rattle.abstract_machine.specs.placement.Roles.{Role, Idle, Placed}
+use Rattle.abstract_machine.specs.Program.{Program, path_of}
+use Rattle.abstract_machine.specs.Machine.{Machine}
+use Rattle.abstract_machine.specs.Steadiness.{Steady}
+use Rattle.abstract_machine.proofs.Lemmas.messages.{put_other, put_same}
+use Rattle.abstract_machine.proofs.Lemmas.placement.{below_role, placed_change, records_path, unnamed_idle}
+use Rattle.machine_program.specs.Cores.{with_core}
+use Rattle.machine_program.proofs.PortSets.{put_self}
 
 module _ {X : Type 0} where
   -- what is equal at the place and elsewhere is equal
@@ -27,9 +28,6 @@ module _ {X : Type 0} where
   put_twice f p x y = by_place (put (put f p x) p y) (put f p y) p
       (put_same (put f p x) p y ∙ sym (put_same f p y))
       (λ q n. put_other (put f p x) p y q n ∙ put_other f p x q n ∙ sym (put_other f p y q n))
-
-  pub put_stays : (f : ℕ → X) (p : ℕ) → put f p (f p) ≡ f
-  put_stays f p = by_place (put f p (f p)) f p (put_same f p (f p)) (λ q n. put_other f p (f p) q n)
 
   -- puts in two places, in either order
   pub put_swap : (f : ℕ → X) (p q : ℕ) (x y : X) → q ≢ p → put (put f p x) q y ≡ put (put f q y) p x
@@ -46,7 +44,7 @@ module _ {Core : Type 0} where
   last_counts M p first second = ap (λ f. record { net = M.net; mem = M.mem; core = f; is_open = M.is_open }) (put_twice M.core p first second)
 
   pub stays_put : (M : Machine Core) (p : ℕ) → with_core M p (M.core p) ≡ M
-  stays_put M p = ap (λ f. record { net = M.net; mem = M.mem; core = f; is_open = M.is_open }) (put_stays M.core p)
+  stays_put M p = ap (λ f. record { net = M.net; mem = M.mem; core = f; is_open = M.is_open }) (put_self M.core p)
 
 module _ {Core Pokes Entry : Type 0} where
   -- no message stands for a processor that has no reference open
@@ -62,7 +60,7 @@ module _ {Core Pokes Entry : Type 0} where
       let same_way : (q d : ℕ) → (q ≡ p → ⊥) → path' q d ≡ path q d = (λ q d n. ap (λ g. way z.k q (P.word_of q g % wires z) d) (same q n)) in
       let leads_none : (s w : ℕ) (a : Record) → In a (M.net.records s w) → a.leader ≡ p
       → ⊥ = (λ s w a m f. let h = below_role z.k path role M.net p Idle ok.placed idle_p s w a m f in absurd (omega arith)) in
-      let kept : put role p Idle ≡ role = ap (put role p) (sym idle_p) ∙ put_stays role p in
+      let kept : put role p Idle ≡ role = ap (put role p) (sym idle_p) ∙ put_self role p in
       record {
         placed = subst (λ r. Placed z.k path' r M.net) kept (placed_change z.k path path' role Idle M.net p ok.placed free leads_none same_way);
         worded = λ d w x m. ok.worded d w x m ∙ sym (ap (P.word_of x.leader) (same x.leader (free.requests d w x m)));

@@ -1,0 +1,6 @@
+pub mod Backing
+pub mod Noticing
+pub mod Stepping
+pub mod Changing
+pub mod Catching
+pub mod Lemmas

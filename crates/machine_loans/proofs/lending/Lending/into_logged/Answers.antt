@@ -1,0 +1,41 @@
+use Rattle.std.proofs.Common.{◌≡◌, ◌∙◌, ◌^◌, ◌<◌, length, None, sym, ap, subst, arith}
+use Rattle.flat_machine.specs.declared.config.Config.{Config}
+use Rattle.machine.specs.Machines.{MachineLists}
+use Rattle.machine_log.specs.Logs.{IsKept, Log}
+use Rattle.machine_loans.specs.Lendings.{LendingLog, lent_at}
+use Rattle.machine_loans.proofs.Backing.{back_none, none_past, none_set}
+use Rattle.machine_loans.proofs.lending.Lending.into_logged.Goals as goal
+
+pub loop-p-preserved : goal.loop-p-preserved
+loop-p-preserved c = (
+  ap (λ (l : LendingLog). l.log) c.bring_back.ensures ∙ c.loop-p.invariant.0,
+  λ q within. ap (λ (l : LendingLog). lent_at l.lent q) c.bring_back.ensures
+      ∙ none_set c.loop-p.self.lent c.loop-p.p q (λ apart. c.loop-p.invariant.1 q (omega (arith, within, apart))),
+)
+
+pub of_parts-requires : goal.of_parts-requires
+of_parts-requires c =
+    let l = c.self-2.inside in
+    let is = c.self-2.invariant.0 in
+    let size : (l.machine).config ≡ c.config.result =
+    ap (λ (x : LendingLog). x.log.machine.config) c.self-2.view_is ∙ ap (λ (x : Log). x.machine.config) c.loop-p.invariant.0
+    ∙ sym (ap (λ (x : LendingLog). x.log.machine.config) c.self.view_is) ∙ sym c.config.ensures.config in
+    let all : length l.lent.items ≡ c.processors-p-end.result = is.all ∙ ap (λ (s : Config). 2 ^ s.k) size ∙ sym c.processors-p-end.ensures in
+    let none = subst (λ (x : LendingLog). (q : _) → q < c.loop-p.p → lent_at x.lent q ≡ None) (sym c.self-2.view_is) c.loop-p.invariant.1 in
+    let machine = ap (λ ports. record l.machine { ports = ports }) (back_none (l.machine).ports l.lent.items
+    (none_past l.lent.items c.loop-p.p (omega (arith, all, c.loop-p-test.false)) none)) in
+    record { kept = subst (λ (x : MachineLists). IsKept (record { opening = l.opening.value; steps = l.steps.items; machine = x })) machine is.kept }
+
+pub returns : goal.returns
+returns c =
+    let l = c.self-2.inside in
+    let is = c.self-2.invariant.0 in
+    let size : (l.machine).config ≡ c.config.result =
+    ap (λ (x : LendingLog). x.log.machine.config) c.self-2.view_is ∙ ap (λ (x : Log). x.machine.config) c.loop-p.invariant.0
+    ∙ sym (ap (λ (x : LendingLog). x.log.machine.config) c.self.view_is) ∙ sym c.config.ensures.config in
+    let all : length l.lent.items ≡ c.processors-p-end.result = is.all ∙ ap (λ (s : Config). 2 ^ s.k) size ∙ sym c.processors-p-end.ensures in
+    let none = subst (λ (x : LendingLog). (q : _) → q < c.loop-p.p → lent_at x.lent q ≡ None) (sym c.self-2.view_is) c.loop-p.invariant.1 in
+    let machine = ap (λ ports. record l.machine { ports = ports }) (back_none (l.machine).ports l.lent.items
+    (none_past l.lent.items c.loop-p.p (omega (arith, all, c.loop-p-test.false)) none)) in
+    c.of_parts.ensures ∙ (λ i. record { opening = l.opening.value; steps = l.steps.items; machine = sym machine i })
+    ∙ ap (λ (x : LendingLog). x.log) c.self-2.view_is ∙ c.loop-p.invariant.0

@@ -1,0 +1,212 @@
+//! Cores on loan: two at once on one thread, one that is lent twice, and one that is lost.
+
+ghost use Rattle.std.specs.Prelude.{◌≡◌, ◌≤◌, ◌^◌, ℕ, Some};
+ghost use Rattle.machine_passes.specs.Passes.{IsWhole};
+
+use super::rounds::log_of;
+use agreed_rows::Room;
+use flat_machine::{CODE_START, Status};
+use local_runs::LocalEnd;
+use machine_log::Logged;
+use machine_passes::{Pass, Row, Run, Shared};
+use std::alloc::Global;
+use std::marker::Brand;
+use std::process::Abort;
+use std::sync::Wait;
+use std::test::Fail;
+use steps::Outcome;
+use test_devices::{HUNDRED_ADDS, assert_same};
+
+/// A processor that writes the byte 65 to the console by its fourth instruction.
+const WRITES: &str =
+    "addi x17, x0, 1\naddi x10, x0, 65\naddi x6, x0, 300\nloop: ecall\naddi x6, x6, -1\nbne x6, x0, loop\n";
+
+/// Lends the core of a pass for so many instructions, runs it once, and takes it back: how the run ended, and how many it retired.
+fn run_once<N: Run, R: Wait + Abort>(
+    rt: &R,
+    alloc: Global,
+    shared: &Shared<N>,
+    pass: &mut Pass<N>,
+    most: u32,
+) -> Result<(LocalEnd, usize), Fail>
+    requires some { 1 ≤ most }
+    requires few { most ≤ 1024 }
+{
+    let mut loan = match shared.lend(rt, alloc, pass, most) {
+        Ok(loan) => loan,
+        Err(refusal) => return Err(Fail::from(refusal)),
+    };
+    let end = loan.run_local();
+    let retired = loan.retired().len();
+    assert!(rt; shared.give_back(rt, pass, loan).is_ok());
+    Ok((end, retired))
+}
+
+/// Whether a turn of the pass's processor is answered so. While its core is lent, the pass is not told.
+fn turn_is<N: Run, R: Wait>(
+    rt: &R,
+    shared: &Shared<N>,
+    pass: &mut Pass<N>,
+    wanted: Outcome,
+) -> bool
+    ensures { (most : ℕ) → pass.old.row.lent ≡ Some most → pass.new ≡ pass.old }
+{
+    match shared.turn(rt, pass) {
+        Ok(outcome) => outcome == wanted,
+        Err(_) => false,
+    }
+}
+
+/// The place of the last answer to a pass.
+fn last_place<N: Run>(pass: &Pass<N>) -> Option<u32> {
+    match pass.last() {
+        Some(answer) => Some(answer.place),
+        None => None,
+    }
+}
+
+/// Runs the core of one pass while that of another is away: how the two runs ended, and how many instructions each retired. While it is
+/// away, a turn stalls.
+fn run_both<N: Run, R: Wait + Abort>(
+    rt: &R,
+    alloc: Global,
+    shared: &Shared<N>,
+    one: &mut Pass<N>,
+    other: &mut Pass<N>,
+) -> Result<[(LocalEnd, usize); 2], Fail> {
+    let mut loan = match shared.lend(rt, alloc, one, 64) {
+        Ok(loan) => loan,
+        Err(refusal) => return Err(Fail::from(refusal)),
+    };
+    let second = run_once(rt, alloc, shared, other, 64);
+    assert!(rt; one.is_lent());
+    assert!(rt; turn_is(rt, shared, one, Outcome::Stalled));
+    let end = loan.run_local();
+    let retired = loan.retired().len();
+    assert!(rt; shared.give_back(rt, one, loan).is_ok());
+    Ok([(end, retired), second?])
+}
+
+/// Lends both cores, and runs each once.
+fn lend_both<N: Run, R: Wait + Abort>(
+    rt: &R,
+    alloc: Global,
+    room: Room<Row>,
+    logged: Logged,
+) -> Result<(), Fail>
+    requires room { room ≡ N.table }
+    requires opening { logged.opening ≡ N.opening }
+    requires first { logged.steps ≡ N.first }
+    requires count { N.count ≡ 2 ^ N.opening.config.k }
+{
+    let (shared, mut passes) = match Shared::<N>::new(alloc, room, logged) {
+        Ok(made) => made,
+        Err((_, refusal)) => return Err(Fail::from(refusal)),
+    };
+    let mut other = passes.pop().expect(rt, "a pass");
+    let mut one = passes.pop().expect(rt, "a pass");
+    let ran = run_both(rt, alloc, &shared, &mut one, &mut other)?;
+    assert_same!(rt; ran, [(LocalEnd::Other, 3), (LocalEnd::Other, 3)]);
+    assert!(rt; !one.is_lent());
+    assert_same!(rt; (one.steps(), other.steps()), (3, 3));
+    assert!(rt; turn_is(rt, &shared, &mut one, Outcome::Issued));
+    assert_same!(rt; last_place(&one), Some(6));
+    assert!(rt; turn_is(rt, &shared, &mut other, Outcome::Issued));
+    Ok(())
+}
+
+/// Both cores are away at once, on one thread, so no loan keeps the lock. Each takes the three instructions before its first add,
+/// and the log has six steps then.
+#[test]
+fn both_cores_away(rt: HostRuntime) -> Result<(), Fail> {
+    let alloc = rt.alloc();
+    let logged = log_of(&rt, alloc, HUNDRED_ADDS, 1)?;
+    lend_both::<Brand, _>(&rt, alloc, Room::new(alloc)?, logged)
+}
+
+/// Lends the core of the last pass twice.
+fn lend_twice<N: Run, R: Wait + Abort>(
+    rt: &R,
+    alloc: Global,
+    room: Room<Row>,
+    logged: Logged,
+) -> Result<(), Fail>
+    requires room { room ≡ N.table }
+    requires opening { logged.opening ≡ N.opening }
+    requires first { logged.steps ≡ N.first }
+    requires count { N.count ≡ 2 ^ N.opening.config.k }
+{
+    let (shared, mut passes) = match Shared::<N>::new(alloc, room, logged) {
+        Ok(made) => made,
+        Err((_, refusal)) => return Err(Fail::from(refusal)),
+    };
+    let mut pass = passes.pop().expect(rt, "a pass");
+    assert_same!(rt; run_once(rt, alloc, &shared, &mut pass, 3)?, (LocalEnd::Most, 3));
+    assert_same!(rt; run_once(rt, alloc, &shared, &mut pass, 3)?, (LocalEnd::Out(65), 1));
+    assert_same!(rt; pass.steps(), 4);
+    Ok(())
+}
+
+/// The first loan ends where it has taken all that it may, and the second with the byte that its first instruction gives. Where a
+/// request for memory is refused (`.ci/checks`), a call tells it.
+#[test]
+fn one_core_twice_or_short_of_memory(rt: HostRuntime) -> Result<(), Fail> {
+    let alloc = rt.alloc();
+    let logged = log_of(&rt, alloc, WRITES, 0)?;
+    lend_twice::<Brand, _>(&rt, alloc, Room::new(alloc)?, logged)
+}
+
+/// Lends the core of the first pass, lets it run, and loses it.
+fn lose<N: Run, R: Wait + Abort>(
+    rt: &R,
+    alloc: Global,
+    shared: &Shared<N>,
+    passes: &mut Vec<Pass<N>>,
+) -> Result<LocalEnd, Fail>
+    requires whole { IsWhole N.count passes.old.items }
+    ensures whole { IsWhole N.count passes.new.items }
+{
+    if passes.len() == 0 {
+        return Err(Fail::new("no pass"));
+    }
+    match shared.lend(rt, alloc, &mut passes[0], 64) {
+        Ok(mut loan) => Ok(loan.run_local()),
+        Err(refusal) => Err(Fail::from(refusal)),
+    }
+}
+
+/// The log once all passes are back, and the loan of a core is not.
+fn gather_without<N: Run, R: Wait + Abort>(
+    rt: &R,
+    alloc: Global,
+    room: Room<Row>,
+    logged: Logged,
+) -> Result<Logged, Fail>
+    requires room { room ≡ N.table }
+    requires opening { logged.opening ≡ N.opening }
+    requires first { logged.steps ≡ N.first }
+    requires count { N.count ≡ 2 ^ N.opening.config.k }
+{
+    let (shared, mut passes) = match Shared::<N>::new(alloc, room, logged) {
+        Ok(made) => made,
+        Err((_, refusal)) => return Err(Fail::from(refusal)),
+    };
+    assert_same!(rt; lose(rt, alloc, &shared, &mut passes)?, LocalEnd::Other);
+    let (logged, passes) = shared.gather(passes);
+    assert!(rt; passes.iter().all(|pass| pass.is_lent()));
+    Ok(logged)
+}
+
+/// A core that was lent and does not come back stands in the machine as it was lent: what it did alone has not happened.
+#[test]
+fn core_that_is_lost(rt: HostRuntime) -> Result<(), Fail> {
+    let alloc = rt.alloc();
+    let logged = log_of(&rt, alloc, HUNDRED_ADDS, 0)?;
+    let logged = gather_without::<Brand, _>(&rt, alloc, Room::new(alloc)?, logged)?;
+    assert_same!(rt; logged.steps().len(), 0);
+    let machine = logged.machine();
+    assert!(rt; machine.are_home());
+    assert_same!(rt; machine.pc(0), Some(CODE_START));
+    assert_same!(rt; machine.status(0), Some(Status::Running));
+    Ok(())
+}
