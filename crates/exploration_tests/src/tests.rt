@@ -1,16 +1,13 @@
 //! Small programs and their results. The numbers of results are worked out by hand.
 
-use assembler::assemble;
-use elf_image::read_image;
 use exploration::{Explored, Refusal, Schedules, Unwatched, explore, way_to};
 use flat_machine::{Config, Fault, Status};
-use link::Meter;
-use machine::Machine;
 use std::alloc::Global;
 use std::fmt::Debug;
 use std::process::Abort;
 use std::test::Fail;
 use test_devices::assert_same;
+use test_machines::{machine_of, tight_size};
 
 /// Ends the test where the two differ, and tells them and the case that they are of ([`assert_same!`]).
 fn same<T: PartialEq + Debug, A: Debug>(rt: &impl Abort, found: &T, wanted: &T, at: &A) {
@@ -70,17 +67,11 @@ fn explored(
     k: u8,
     limit: u32,
 ) -> Result<Result<Explored, Refusal>, Fail> {
-    let size = Config {
-        k,
-        c: 2,
-        b: 1,
-        r: 1,
+    let config = Config {
         shared_words: 16,
+        ..tight_size(k)
     };
-    let file = assemble(alloc, text)?.to_elf(alloc)?;
-    let image = read_image(alloc, &mut Meter::new(file.as_slice()), &size)?;
-    let machine = Machine::new(alloc, image, size)?;
-    assert!(rt; machine.is_idle());
+    let machine = machine_of(alloc, text, config)?;
     assert!(rt; machine.config().k <= 3);
     Ok(explore(alloc, &machine, limit, &mut Unwatched))
 }

@@ -3,7 +3,6 @@
 
 mod devices;
 
-use assembler::assemble;
 use elf_image::read_image;
 use flat_machine::Config;
 use hunt_command::{Hunt, Traces, hunt_command, save_run};
@@ -11,17 +10,7 @@ use link::Meter;
 use std::alloc::{AllocError, Global};
 use std::test::Fail;
 use test_devices::assert_same;
-
-/// A machine of `2^k` processors.
-const fn size(k: u8) -> Config {
-    Config {
-        k,
-        c: 4,
-        b: 4,
-        r: 1,
-        shared_words: 1024,
-    }
-}
+use test_machines::{image_of, size};
 
 /// Traces that are thrown away.
 #[derive(Drop)]
@@ -35,11 +24,6 @@ impl Traces for Nowhere {
     fn of(&mut self, _number: u32) -> Result<Meter<Vec<u8>>, AllocError> {
         Ok(Meter::new(Vec::new(self.alloc)))
     }
-}
-
-/// The image of a text.
-fn image_of(alloc: Global, text: &str) -> Result<Vec<u8>, Fail> {
-    Ok(assemble(alloc, text)?.to_elf(alloc)?)
 }
 
 /// What the command comes to.

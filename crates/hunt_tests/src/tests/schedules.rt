@@ -2,19 +2,13 @@
 
 ghost use Rattle.std.specs.Prelude.{◌≤◌};
 
-use assembler::assemble;
-use elf_image::read_image;
-use flat_machine::Config;
-use link::Meter;
-use machine_log::Logged;
-use machine_runs::Machine;
 use machine_sweep::SweepEnd;
 use random_runs::{Schedule, random_run};
-use std::alloc::Global;
 use std::process::Abort;
 use std::test::Fail;
 use steps::Step;
 use test_devices::assert_same;
+use test_machines::{log_of, tight_size};
 
 /// The schedule has these turns, each with whether the network moves behind it, and no more.
 fn compare(rt: &impl Abort, k: u8, number: u32, turns: &[(u8, bool)])
@@ -79,31 +73,15 @@ fn schedules(rt: HostRuntime) {
     );
 }
 
-/// The log of a machine that opens on the image of a text.
-fn log_of(rt: &impl Abort, alloc: Global, text: &str, k: u8) -> Result<Logged, Fail> {
-    let size = Config {
-        k,
-        c: 2,
-        b: 1,
-        r: 1,
-        shared_words: 1024,
-    };
-    let file = assemble(alloc, text)?.to_elf(alloc)?;
-    let image = read_image(alloc, &mut Meter::new(file.as_slice()), &size)?;
-    let machine = Machine::new(alloc, image, size)?;
-    assert!(rt; machine.is_idle());
-    Ok(Logged::new(alloc, machine))
-}
-
 /// In run 1 the network moves behind each of the first three turns. A budget of two steps ends while the request is on its way.
 #[test]
 fn runs_of_one_processor(rt: HostRuntime) -> Result<(), Fail> {
     let text = "lui x5, 0x80000\nlw x6, 0(x5)\necall";
     let (turn, serve) = (Step::Turn(0), Step::Serve(0));
-    let mut log = log_of(&rt, rt.alloc(), text, 0)?;
+    let mut log = log_of(rt.alloc(), text, tight_size(0))?;
     assert_same!(rt; random_run(&mut log, 1, 100), Ok(SweepEnd::Over));
     assert_same!(rt; log.steps(), [turn, turn, serve, turn, turn].as_slice());
-    let mut log = log_of(&rt, rt.alloc(), text, 0)?;
+    let mut log = log_of(rt.alloc(), text, tight_size(0))?;
     assert_same!(rt; random_run(&mut log, 1, 2), Ok(SweepEnd::Budget));
     assert_same!(rt; log.steps(), [turn, turn, serve, turn].as_slice());
     Ok(())
@@ -112,7 +90,7 @@ fn runs_of_one_processor(rt: HostRuntime) -> Result<(), Fail> {
 /// In run 1 processor 1 has the first turns, and halts in the first. Turns that stall count for the budget too.
 #[test]
 fn turns_are_bounded(rt: HostRuntime) -> Result<(), Fail> {
-    let mut log = log_of(&rt, rt.alloc(), "ecall", 1)?;
+    let mut log = log_of(rt.alloc(), "ecall", tight_size(1))?;
     assert_same!(rt; random_run(&mut log, 1, 4), Ok(SweepEnd::Budget));
     assert_same!(rt; log.steps(), [Step::Turn(1)].as_slice());
     Ok(())

@@ -1,5 +1,4 @@
-//! Logs of small programs. Words of instructions and what they do are the RISC-V manual's; all other
-//! values are worked out by hand.
+//! Logs of small programs. What instructions do is the RISC-V manual's; all other values are worked out by hand.
 
 mod limits;
 mod memory;
@@ -7,16 +6,15 @@ mod pokes;
 mod steps_taken;
 mod whole;
 
-use elf_image::{Bytes, Image, Layout, read_image, write_image};
-use flat_machine::{CODE_START, Config, Poke, SHARED_START, Status};
-use link::Meter;
+use flat_machine::{Config, Poke, SHARED_START, Status};
 use machine_log::{LogRefusal, Logged};
 use machine_runs::Machine;
-use std::alloc::{AllocError, AllocGlobal, Global};
+use std::alloc::AllocGlobal;
 use std::process::Abort;
 use std::test::Fail;
 use steps::{Outcome, Step};
 use test_devices::assert_same;
+use test_machines::{machine_of, size};
 
 /// A machine of one processor.
 const ONE: Config = Config {
@@ -27,35 +25,8 @@ const ONE: Config = Config {
     shared_words: 1024,
 };
 
-/// A machine of four processors.
-const FOUR: Config = Config {
-    k: 2,
-    c: 4,
-    b: 4,
-    r: 1,
-    shared_words: 1024,
-};
-
 /// An instruction that refers to the shared word at `a2`, one that refers to none, and a stop.
-static CODE: [u32; 3] = [
-    0x00B6_252F, // amoadd.w a0, a1, (a2)
-    0x0015_0513, // addi a0, a0, 1
-    0x0010_0073, // ebreak
-];
-
-/// A layout with this code, which begins at its first word.
-fn layout_of(alloc: Global, words: &[u32]) -> Result<Layout, AllocError> {
-    let mut code = Bytes::new(alloc);
-    for word in words {
-        code.extend_from_slice(&word.to_le_bytes())?;
-    }
-    Ok(Layout {
-        entry: CODE_START,
-        code,
-        local: Bytes::new(alloc),
-        shared: Bytes::new(alloc),
-    })
-}
+const CODE: &str = "amoadd.w a0, a1, (a2)\naddi a0, a0, 1\nebreak";
 
 /// A write of a register.
 fn register(processor: u8, register: u8, value: u32) -> Step {
@@ -68,20 +39,12 @@ fn register(processor: u8, register: u8, value: u32) -> Step {
 
 /// A machine of this size with the code of these tests. Shared word 0 is 10, and each of these
 /// processors has its addend in `a1` and the word's address in `a2`.
-fn machine_of(
+fn adders(
     rt: &(impl Abort + AllocGlobal),
     config: Config,
     addends: &[(u8, u32)],
 ) -> Result<Machine, Fail> {
-    let layout = layout_of(rt.alloc(), &CODE)?;
-    assert!(rt; layout.code.len() <= 0x0001_0000);
-    assert!(rt; layout.local.len() <= 0x0001_0000);
-    assert!(rt; layout.shared.len() <= 0x0010_0000);
-    let mut writer = Meter::new(Vec::new(rt.alloc()));
-    assert_same!(rt; write_image(&mut writer, &layout), Ok(()));
-    let mut reader = Meter::new(writer.device.as_slice());
-    let image: Image = read_image(rt.alloc(), &mut reader, &config)?;
-    let mut machine = Machine::new(rt.alloc(), image, config)?;
+    let mut machine = machine_of(rt.alloc(), CODE, config)?;
     let word = Poke::Shared {
         address: SHARED_START,
         value: 10,
@@ -96,7 +59,7 @@ fn machine_of(
 
 /// The log of a machine of one processor, which is to add 5 to the word.
 fn one_add(rt: &(impl Abort + AllocGlobal)) -> Result<Logged, Fail> {
-    let machine = machine_of(rt, ONE, &[(0, 5)])?;
+    let machine = adders(rt, ONE, &[(0, 5)])?;
     assert!(rt; machine.is_idle());
     assert!(rt; machine.are_home());
     Ok(Logged::new(rt.alloc(), machine))
@@ -104,7 +67,7 @@ fn one_add(rt: &(impl Abort + AllocGlobal)) -> Result<Logged, Fail> {
 
 /// A machine of four processors, which are to add 1, 2, 4 and 8 to the word.
 fn four_machine(rt: &(impl Abort + AllocGlobal)) -> Result<Machine, Fail> {
-    machine_of(rt, FOUR, &[(0, 1), (1, 2), (2, 4), (3, 8)])
+    adders(rt, size(2), &[(0, 1), (1, 2), (2, 4), (3, 8)])
 }
 
 /// The log of such a machine.

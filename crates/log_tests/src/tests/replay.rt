@@ -1,15 +1,13 @@
-//! Replays of small traces. Words of instructions and what they do are the RISC-V manual's; all other
-//! values are worked out by hand.
+//! Replays of small traces, by hand.
 
-use elf_image::{Bytes, Image, Layout, read_image, write_image};
-use flat_machine::{CODE_START, Config, Poke, SHARED_START};
-use link::Meter;
+use flat_machine::{Config, Poke, SHARED_START};
 use machine_runs::{Machine, run};
-use std::alloc::{AllocError, AllocGlobal, Global};
+use std::alloc::AllocGlobal;
 use std::process::Abort;
 use std::test::Fail;
 use steps::{Outcome, Step};
 use test_devices::assert_same;
+use test_machines::machine_of;
 use trace_replay::{StalledStep, replay};
 
 /// A machine of two processors.
@@ -21,27 +19,9 @@ const TWO: Config = Config {
     shared_words: 4,
 };
 
-/// A layout of one instruction, `amoadd.w a0, a1, (a2)`.
-fn layout_of(alloc: Global) -> Result<Layout, AllocError> {
-    Ok(Layout {
-        entry: CODE_START,
-        code: Bytes::from_vec(Vec::from_slice(alloc, &0x00B6_252F_u32.to_le_bytes())?),
-        local: Bytes::new(alloc),
-        shared: Bytes::new(alloc),
-    })
-}
-
 /// Two processors that are to add 1 and 2 to shared word 0.
 fn two_adds(rt: &(impl Abort + AllocGlobal)) -> Result<Machine, Fail> {
-    let layout = layout_of(rt.alloc())?;
-    assert!(rt; layout.code.len() <= 0x0001_0000);
-    assert!(rt; layout.local.len() <= 0x0001_0000);
-    assert!(rt; layout.shared.len() <= 0x0010_0000);
-    let mut writer = Meter::new(Vec::new(rt.alloc()));
-    assert_same!(rt; write_image(&mut writer, &layout), Ok(()));
-    let mut reader = Meter::new(writer.device.as_slice());
-    let image: Image = read_image(rt.alloc(), &mut reader, &TWO)?;
-    let mut machine = Machine::new(rt.alloc(), image, TWO)?;
+    let mut machine = machine_of(rt.alloc(), "amoadd.w a0, a1, (a2)", TWO)?;
     for (processor, register, value) in [
         (0, 11, 1),
         (0, 12, SHARED_START),

@@ -5,10 +5,6 @@ ghost use Rattle.std.specs.Prelude.{◌≤◌};
 mod rounds;
 
 use self::rounds::round_of;
-use assembler::assemble;
-use elf_image::read_image;
-use flat_machine::Config;
-use link::Meter;
 use machine_log::{LogRefusal, Logged};
 use machine_runs::Machine;
 use machine_sweep::{Round, SweepEnd, any_is_faulted, any_runs, follow_sweep};
@@ -16,39 +12,13 @@ use std::alloc::Global;
 use std::process::Abort;
 use std::test::Fail;
 use steps::Step;
-use test_devices::{EBREAK, assert_same};
-
-/// A machine of `k` stages that opens on the image that a file is, with queues of two and a record for each
-/// output of a switch.
-fn machine(alloc: Global, file: &[u8], k: u8) -> Result<Machine, Fail> {
-    let size = Config {
-        k,
-        c: 2,
-        b: 1,
-        r: 1,
-        shared_words: 1024,
-    };
-    let image = read_image(alloc, &mut Meter::new(file), &size)?;
-    Ok(Machine::new(alloc, image, size)?)
-}
-
-/// The log of a machine that opens on the image of a text.
-fn log_of(rt: &impl Abort, alloc: Global, text: &str, k: u8) -> Result<Logged, Fail> {
-    let file = assemble(alloc, text)?.to_elf(alloc)?;
-    let machine = machine(alloc, file.as_slice(), k)?;
-    assert!(rt; machine.is_idle());
-    assert!(rt; machine.are_home());
-    Ok(Logged::new(alloc, machine))
-}
+use test_devices::assert_same;
+use test_machines::{log_of, machine_of, tight_size};
 
 /// Each of four processors stops by a fault in its first turn, and each such turn ends a sweep.
 #[test]
 fn ends_at_each_fault(rt: HostRuntime) -> Result<(), Fail> {
-    let alloc = rt.alloc();
-    let machine = machine(alloc, &EBREAK, 2)?;
-    assert!(rt; machine.is_idle());
-    assert!(rt; machine.are_home());
-    let mut log = Logged::new(alloc, machine);
+    let mut log = log_of(rt.alloc(), "ebreak", tight_size(2))?;
     assert_same!(rt; follow_sweep(&mut log, 0), Ok(SweepEnd::Budget));
     assert_same!(rt; log.steps().len(), 0);
     assert!(rt; !any_is_faulted(log.machine()));
@@ -78,7 +48,7 @@ fn drains_behind_a_fault(rt: HostRuntime) -> Result<(), Fail> {
 odd: addi x7, x0, 1
  ebreak
 ";
-    let mut log = log_of(&rt, rt.alloc(), text, 1)?;
+    let mut log = log_of(rt.alloc(), text, tight_size(1))?;
     assert_same!(rt; follow_sweep(&mut log, 100), Ok(SweepEnd::Over));
     let turns = [0, 1, 0, 1, 0, 1, 0, 1, 0, 1];
     let drain = [
@@ -99,7 +69,8 @@ odd: addi x7, x0, 1
 /// A reference that is open when the budget is used up is brought to its end too.
 #[test]
 fn drains_behind_the_budget(rt: HostRuntime) -> Result<(), Fail> {
-    let mut log = log_of(&rt, rt.alloc(), "lui x5, 0x80000\nlw x6, 0(x5)\necall", 0)?;
+    let text = "lui x5, 0x80000\nlw x6, 0(x5)\necall";
+    let mut log = log_of(rt.alloc(), text, tight_size(0))?;
     assert_same!(rt; follow_sweep(&mut log, 2), Ok(SweepEnd::Budget));
     assert_same!(rt; log.steps(), [Step::Turn(0), Step::Turn(0), Step::Serve(0), Step::Turn(0)].as_slice());
     assert_same!(rt; follow_sweep(&mut log, 1), Ok(SweepEnd::Over));
@@ -110,7 +81,7 @@ fn drains_behind_the_budget(rt: HostRuntime) -> Result<(), Fail> {
 /// Room is asked for the steps of the sweep and of its drain, before the first of them is taken.
 #[test]
 fn asks_for_room_first(rt: HostRuntime) -> Result<(), Fail> {
-    let mut log = log_of(&rt, rt.alloc(), "jal x0, 0", 0)?;
+    let mut log = log_of(rt.alloc(), "jal x0, 0", tight_size(0))?;
     assert_same!(rt; follow_sweep(&mut log, 200_000), Ok(SweepEnd::Budget));
     // With 200,000 steps there is room for 3,994,304 more: those of a sweep, and two for its drain.
     assert_same!(rt; follow_sweep(&mut log, 3_994_303), Err(LogRefusal::Full));
@@ -135,9 +106,8 @@ fn takes(rt: &impl Abort, machine: &mut Machine, steps: &[Step]) {
 /// since each row finds what the row before has left.
 #[test]
 fn rounds_of_two_processors(rt: HostRuntime) -> Result<(), Fail> {
-    let alloc = rt.alloc();
-    let file = assemble(alloc, "lui x5, 0x80000\nlw x6, 0(x5)\necall")?.to_elf(alloc)?;
-    let mut machine = machine(alloc, file.as_slice(), 1)?;
+    let text = "lui x5, 0x80000\nlw x6, 0(x5)\necall";
+    let mut machine = machine_of(rt.alloc(), text, tight_size(1))?;
     let turns = [Step::Turn(0), Step::Turn(1)];
     takes(&rt, &mut machine, &turns);
     let all = [
@@ -201,9 +171,9 @@ fn ask_for_all(rt: &impl Abort, alloc: Global, log: &mut Logged, k: u8) -> Resul
 #[test]
 fn leaves_out_only_what_stalls(rt: HostRuntime) -> Result<(), Fail> {
     for k in 0..7 {
-        let mut log = log_of(&rt, rt.alloc(), ADDS, k)?;
+        let mut log = log_of(rt.alloc(), ADDS, tight_size(k))?;
         assert_same!(rt; follow_sweep(&mut log, 100_000), Ok(SweepEnd::Over));
-        let mut plain = log_of(&rt, rt.alloc(), ADDS, k)?;
+        let mut plain = log_of(rt.alloc(), ADDS, tight_size(k))?;
         ask_for_all(&rt, rt.alloc(), &mut plain, k)?;
         assert!(rt; !log.steps().is_empty());
         assert_same!(rt; log.steps(), plain.steps(), k);
