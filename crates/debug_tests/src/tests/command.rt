@@ -4,14 +4,13 @@ ghost use Rattle.std.specs.Prelude.{⊤};
 
 use debug_command::{Connect, debug_command, debug_end};
 use debug_session::SessionEnd;
-use elf_image::read_image;
 use flat_machine::Config;
 use link::{Failed, Meter};
-use machine_runs::Machine;
 use std::alloc::{AllocGlobal, Global};
 use std::sync::Wait;
 use std::test::Fail;
 use test_devices::{Broken, EBREAK, Sink, Source, assert_same};
+use test_machines::{machine_of, size};
 
 /// A link over memory, of which a read or a write fails, or none.
 #[derive(Drop)]
@@ -54,15 +53,6 @@ fn open_door(alloc: Global, input: &'static [u8]) -> Door {
     }
 }
 
-/// A machine of four processors.
-const FOUR: Config = Config {
-    k: 2,
-    c: 4,
-    b: 4,
-    r: 1,
-    shared_words: 1024,
-};
-
 /// The exit status of a command on the image of `ebreak`, and what standard error is told.
 fn told(
     rt: &(impl Wait + AllocGlobal),
@@ -86,7 +76,7 @@ fn sessions_end(rt: HostRuntime) {
         (b"cont", 0),
     ] {
         let mut door = open_door(rt.alloc(), input);
-        let (status, err) = told(&rt, &EBREAK, FOUR, &mut door);
+        let (status, err) = told(&rt, &EBREAK, size(2), &mut door);
         assert_same!(rt; status, expected);
         assert!(rt; err.is_empty());
         assert_same!(rt; door.knocks, 1);
@@ -109,7 +99,7 @@ fn links_fail(rt: HostRuntime) {
             is_shut,
             ..open_door(rt.alloc(), b"cont\n")
         };
-        let (status, err) = told(&rt, &EBREAK, FOUR, &mut door);
+        let (status, err) = told(&rt, &EBREAK, size(2), &mut door);
         assert_same!(rt; status, 3);
         assert_same!(rt; err.as_slice(), link);
     }
@@ -118,10 +108,9 @@ fn links_fail(rt: HostRuntime) {
 /// What is refused before has its own fault, and no link is asked for.
 #[test]
 fn images_are_refused(rt: HostRuntime) {
-    let large = Config { k: 7, ..FOUR };
     for (file, config, text) in [
-        (&EBREAK[..51], FOUR, b"ultra: I1\n".as_slice()),
-        (&EBREAK[..], large, b"ultra: K1\n"),
+        (&EBREAK[..51], size(2), b"ultra: I1\n".as_slice()),
+        (&EBREAK[..], size(7), b"ultra: K1\n"),
     ] {
         let mut door = open_door(rt.alloc(), b"quit\n");
         let (status, err) = told(&rt, file, config, &mut door);
@@ -131,7 +120,7 @@ fn images_are_refused(rt: HostRuntime) {
     }
     let mut door = open_door(rt.alloc(), b"quit\n");
     let mut err = Vec::new(rt.alloc());
-    let status = debug_command(&rt, rt.alloc(), Broken, FOUR, 1000, &mut door, &mut err);
+    let status = debug_command(&rt, rt.alloc(), Broken, size(2), 1000, &mut door, &mut err);
     assert_same!(rt; status, 3);
     assert_same!(rt; err.as_slice(), b"ultra: I9\n".as_slice());
     assert_same!(rt; door.knocks, 0);
@@ -141,8 +130,7 @@ fn images_are_refused(rt: HostRuntime) {
 #[test]
 fn ends_are_told(rt: HostRuntime) -> Result<(), Fail> {
     let alloc = rt.alloc();
-    let image = read_image(alloc, &mut Meter::new(EBREAK.as_slice()), &FOUR)?;
-    let machine = Machine::new(alloc, image, FOUR)?;
+    let machine = machine_of(alloc, "ebreak", size(2))?;
     for (end, status, text) in [
         (SessionEnd::Quit, 0, b"".as_slice()),
         (SessionEnd::ReadFailed, 3, b"ultra: link\n"),

@@ -7,20 +7,18 @@ mod failing;
 mod limits;
 mod replies;
 
-use assembler::assemble;
 use debug_session::{SessionEnd, serve};
 use debug_sweep::Sweep;
-use elf_image::read_image;
-use flat_machine::{Config, Poke, SHARED_START};
+use flat_machine::{Poke, SHARED_START};
 use link::{LinkRead, Meter};
 use machine_log::Logged;
-use machine_runs::Machine;
 use std::alloc::AllocGlobal;
 use std::process::Abort;
 use std::sync::Wait;
 use std::test::Fail;
 use steps::{Outcome, Step};
 use test_devices::{Sink, assert_same};
+use test_machines::{log_of, size};
 
 /// Instructions that refer to the shared word at `a2`, at 0x10000 to 0x10010.
 const ROW: &str = "
@@ -36,23 +34,6 @@ const THREE: &str = "addi x1, x0, 1\naddi x2, x0, 2\necall";
 
 /// Steps that a `cont` enters at most.
 const BUDGET: u32 = 1000;
-
-/// The log of a machine of `2^k` processors that opens on the image of a text.
-fn log_of(rt: &(impl Abort + AllocGlobal), text: &str, k: u8) -> Result<Logged, Fail> {
-    let alloc = rt.alloc();
-    let size = Config {
-        k,
-        c: 4,
-        b: 4,
-        r: 1,
-        shared_words: 1024,
-    };
-    let file = assemble(alloc, text)?.to_elf(alloc)?;
-    let image = read_image(alloc, &mut Meter::new(file.as_slice()), &size)?;
-    let machine = Machine::new(alloc, image, size)?;
-    assert!(rt; machine.is_idle());
-    Ok(Logged::new(alloc, machine))
-}
 
 /// Takes a step, which is told so.
 fn take(rt: &impl Abort, log: &mut Logged, step: Step, told: Outcome) -> Result<(), Fail> {
@@ -78,7 +59,7 @@ fn put(
 
 /// The log of four processors that are to add 1, 2, 4 and 8 to word 0, which is 10.
 fn adders(rt: &(impl Abort + AllocGlobal)) -> Result<Logged, Fail> {
-    let mut log = log_of(rt, ROW, 2)?;
+    let mut log = log_of(rt.alloc(), ROW, size(2))?;
     for processor in 0..4 {
         put(rt, &mut log, processor, 11, 1 << processor)?;
         put(rt, &mut log, processor, 12, SHARED_START)?;

@@ -1,34 +1,14 @@
 //! Sweeps with breaks, by hand.
 
-use assembler::assemble;
 use debug_replies::Breaks;
 use debug_sweep::{Runner, Sweep};
-use elf_image::read_image;
-use flat_machine::{Config, Status};
-use link::Meter;
+use flat_machine::Status;
 use machine_log::{LogRefusal, Logged};
-use machine_runs::Machine;
-use std::alloc::Global;
 use std::process::Abort;
 use std::test::Fail;
 use steps::Step;
 use test_devices::assert_same;
-
-/// The log of a machine of `2^k` processors that opens on the image of a text.
-fn log_of(rt: &impl Abort, alloc: Global, text: &str, k: u8) -> Result<Logged, Fail> {
-    let size = Config {
-        k,
-        c: 2,
-        b: 1,
-        r: 1,
-        shared_words: 1024,
-    };
-    let file = assemble(alloc, text)?.to_elf(alloc)?;
-    let image = read_image(alloc, &mut Meter::new(file.as_slice()), &size)?;
-    let machine = Machine::new(alloc, image, size)?;
-    assert!(rt; machine.is_idle());
-    Ok(Logged::new(alloc, machine))
-}
+use test_machines::{log_of, tight_size};
 
 /// The breaks at these addresses.
 fn breaks_at(rt: &impl Abort, addresses: &[u32]) -> Breaks {
@@ -55,10 +35,13 @@ fn go_on(
 /// Three instructions of code, at 0x10000, 0x10004 and 0x10008.
 const THREE: &str = "addi x1, x0, 1\naddi x2, x0, 2\necall";
 
+/// The second instruction refers to shared word 0.
+const REFERS: &str = "lui x5, 0x80000\nlw x6, 0(x5)\necall";
+
 /// A break is met before its instruction, and a further run gets past it, to the next, and then to the end.
 #[test]
 fn goes_from_break_to_break(rt: HostRuntime) -> Result<(), Fail> {
-    let mut log = log_of(&rt, rt.alloc(), THREE, 0)?;
+    let mut log = log_of(rt.alloc(), THREE, tight_size(0))?;
     let breaks = breaks_at(&rt, &[0x10004, 0x10008]);
     assert_same!(rt; go_on(&rt, &mut log, &breaks, 100), Ok(()));
     assert_same!(rt; log.machine().pc(0), Some(0x10004));
@@ -78,7 +61,7 @@ fn goes_from_break_to_break(rt: HostRuntime) -> Result<(), Fail> {
 /// The break at which a processor stands when the sweep begins does not stop it, as often as it comes there.
 #[test]
 fn gets_past_the_first_break(rt: HostRuntime) -> Result<(), Fail> {
-    let mut log = log_of(&rt, rt.alloc(), "again: jal x0, again", 0)?;
+    let mut log = log_of(rt.alloc(), "again: jal x0, again", tight_size(0))?;
     let breaks = breaks_at(&rt, &[0x10000]);
     for count in 1..4 {
         assert_same!(rt; go_on(&rt, &mut log, &breaks, 100), Ok(()));
@@ -98,7 +81,7 @@ fn stops_all_at_the_break_of_one(rt: HostRuntime) -> Result<(), Fail> {
 here: jal x0, here
 odd: addi x7, x0, 1
 ";
-    let mut log = log_of(&rt, rt.alloc(), text, 1)?;
+    let mut log = log_of(rt.alloc(), text, tight_size(1))?;
     let breaks = breaks_at(&rt, &[0x10010]);
     assert_same!(rt; go_on(&rt, &mut log, &breaks, 100), Ok(()));
     assert_same!(rt; log.machine().pc(1), Some(0x10010));
@@ -115,7 +98,7 @@ odd: addi x7, x0, 1
 /// 0x10004 is reached, stopped at, and then taken whole.
 #[test]
 fn finishes_an_open_reference(rt: HostRuntime) -> Result<(), Fail> {
-    let mut log = log_of(&rt, rt.alloc(), "lui x5, 0x80000\nlw x6, 0(x5)\necall", 0)?;
+    let mut log = log_of(rt.alloc(), REFERS, tight_size(0))?;
     let breaks = breaks_at(&rt, &[0x10004]);
     assert_same!(rt; go_on(&rt, &mut log, &breaks, 100), Ok(()));
     assert_same!(rt; log.steps().len(), 1);
@@ -135,7 +118,7 @@ fn finishes_an_open_reference(rt: HostRuntime) -> Result<(), Fail> {
 /// A used-up budget ends it too, and a reference that is open then is brought to its end.
 #[test]
 fn ends_with_the_budget(rt: HostRuntime) -> Result<(), Fail> {
-    let mut log = log_of(&rt, rt.alloc(), "lui x5, 0x80000\nlw x6, 0(x5)\necall", 0)?;
+    let mut log = log_of(rt.alloc(), REFERS, tight_size(0))?;
     let breaks = breaks_at(&rt, &[]);
     assert_same!(rt; go_on(&rt, &mut log, &breaks, 0), Ok(()));
     assert_same!(rt; log.steps().len(), 0);
@@ -148,7 +131,7 @@ fn ends_with_the_budget(rt: HostRuntime) -> Result<(), Fail> {
 /// Each of four processors stops by a fault in its first turn, and each such turn ends a sweep.
 #[test]
 fn ends_at_each_fault(rt: HostRuntime) -> Result<(), Fail> {
-    let mut log = log_of(&rt, rt.alloc(), "ebreak", 2)?;
+    let mut log = log_of(rt.alloc(), "ebreak", tight_size(2))?;
     let breaks = breaks_at(&rt, &[0x10000]);
     for count in 1..5 {
         assert_same!(rt; go_on(&rt, &mut log, &breaks, 100), Ok(()));
@@ -162,7 +145,7 @@ fn ends_at_each_fault(rt: HostRuntime) -> Result<(), Fail> {
 /// Room is asked for the steps of the sweep and of its drain, before the first of them is taken.
 #[test]
 fn asks_for_room_first(rt: HostRuntime) -> Result<(), Fail> {
-    let mut log = log_of(&rt, rt.alloc(), THREE, 0)?;
+    let mut log = log_of(rt.alloc(), THREE, tight_size(0))?;
     let breaks = breaks_at(&rt, &[0x10004]);
     assert_same!(rt; go_on(&rt, &mut log, &breaks, 4_294_967_295), Err(LogRefusal::Full));
     assert_same!(rt; go_on(&rt, &mut log, &breaks, 4_194_303), Err(LogRefusal::Full));

@@ -74,7 +74,7 @@ quit: ok
 
 #[test]
 fn errors(rt: HostRuntime) -> Result<(), Fail> {
-    let machine = two(&rt)?;
+    let machine = two(rt.alloc())?;
     for row in ERRORS.lines() {
         let (line, expected) = row.rsplit_once(": ").ok_or("a row")?;
         let error = error_of(&machine, &Command::read(line.as_bytes()));

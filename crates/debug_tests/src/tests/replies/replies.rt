@@ -57,7 +57,7 @@ fn shown(machine: &Machine, line: &str) -> ArrayVec<u8, 1024> {
 
 /// A machine of which each of two processors shows something else.
 fn written(rt: &(impl Abort + std::alloc::AllocGlobal)) -> Result<Machine, Fail> {
-    let mut machine = two(rt)?;
+    let mut machine = two(rt.alloc())?;
     for (register, value) in [(10, 11), (31, 0xFEDC_BA98), (PC, 0x0001_0AC4)] {
         poke(
             rt,

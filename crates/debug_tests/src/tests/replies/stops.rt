@@ -35,7 +35,7 @@ fn faults_of(rt: &impl Abort, machine: &Machine) -> Faults {
 /// Numbers are in hex without leading zeros.
 #[test]
 fn names(rt: HostRuntime) -> Result<(), Fail> {
-    let machine = two(&rt)?;
+    let machine = two(rt.alloc())?;
     for (named, expected) in [
         (None, "at -"),
         (Some(0), "at 0"),
@@ -55,7 +55,7 @@ fn names(rt: HostRuntime) -> Result<(), Fail> {
 /// processor that a fault has stopped is not halted.
 #[test]
 fn halts(rt: HostRuntime) -> Result<(), Fail> {
-    let mut machine = two(&rt)?;
+    let mut machine = two(rt.alloc())?;
     for (processor, expected) in [(1, b"at 1".as_slice()), (0, b"halted".as_slice())] {
         let at = Poke::Register {
             processor,
@@ -71,7 +71,7 @@ fn halts(rt: HostRuntime) -> Result<(), Fail> {
         );
         assert_same!(rt; stop(&machine, Some(1)).as_slice(), expected, processor);
     }
-    let mut machine = two(&rt)?;
+    let mut machine = two(rt.alloc())?;
     for processor in [0, 1] {
         assert!(rt;
             matches!(
@@ -88,7 +88,7 @@ fn halts(rt: HostRuntime) -> Result<(), Fail> {
 /// a fault had stopped before is not named.
 #[test]
 fn named_after_a_run(rt: HostRuntime) -> Result<(), Fail> {
-    let mut machine = two(&rt)?;
+    let mut machine = two(rt.alloc())?;
     let mut breaks = Breaks::new();
     let none = faults_of(&rt, &machine);
     assert_same!(rt; named(&rt, &machine, &breaks, &none), None);

@@ -1,6 +1,6 @@
 //! Streams in pieces.
 
-use super::{THREE, adders, log_of, take, talk};
+use super::{THREE, adders, take, talk};
 use debug_session::SessionEnd;
 use link::Meter;
 use machine_log::Logged;
@@ -11,6 +11,7 @@ use std::process::Abort;
 use std::test::Fail;
 use steps::{Outcome, Step};
 use test_devices::{Source, assert_same};
+use test_machines::{log_of, size};
 
 /// Gives a first part of its bytes, and at the next call the others.
 #[derive(Drop)]
@@ -101,11 +102,11 @@ fn stops_in_two_parts(rt: HostRuntime) -> Result<(), Fail> {
     for at in 0..input.len() {
         let (first, rest) = input.split_at(at + 1);
         let mut reader = Meter::new(Parts { first, rest });
-        let (_, text) = talk(&rt, &mut log_of(&rt, THREE, 0)?, &mut reader);
+        let (_, text) = talk(&rt, &mut log_of(rt.alloc(), THREE, size(0))?, &mut reader);
         assert_same!(rt; text.as_slice(), output, at);
     }
     let mut reader = Meter::new(Source::new(input, 0));
-    let (_, text) = talk(&rt, &mut log_of(&rt, THREE, 0)?, &mut reader);
+    let (_, text) = talk(&rt, &mut log_of(rt.alloc(), THREE, size(0))?, &mut reader);
     assert_same!(rt; text.as_slice(), output);
     Ok(())
 }

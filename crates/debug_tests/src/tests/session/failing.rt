@@ -1,18 +1,19 @@
 //! A reader and a writer that fail.
 
-use super::{BUDGET, ROW, log_of, talk};
+use super::{BUDGET, ROW, talk};
 use debug_session::{SessionEnd, serve};
 use debug_sweep::Sweep;
 use link::Meter;
 use std::test::Fail;
 use test_devices::{Sink, Source, assert_same};
+use test_machines::{log_of, size};
 
 /// Where the reader fails, the lines are answered that were whole before.
 #[test]
 fn fails_at_each_read(rt: HostRuntime) -> Result<(), Fail> {
     let input = b"write 0 80000000 2a000000\n";
     for call in 1..input.len() + 3 {
-        let mut log = log_of(&rt, ROW, 2)?;
+        let mut log = log_of(rt.alloc(), ROW, size(2))?;
         let mut reader = Meter::new(Source::new(input, call));
         let (end, text) = talk(&rt, &mut log, &mut reader);
         let is_read = call > input.len();
@@ -36,7 +37,7 @@ fn fails_at_each_write(rt: HostRuntime) -> Result<(), Fail> {
     let input = b"write 0 80000000 2a000000\nwrite 0 80000000 2b000000\n".as_slice();
     let output = b"ok\nok\n".as_slice();
     for count in 0..output.len() + 1 {
-        let mut log = log_of(&rt, ROW, 2)?;
+        let mut log = log_of(rt.alloc(), ROW, size(2))?;
         let mut reader = Meter::new(input);
         let mut writer = Meter::new(Sink::new(Vec::new(rt.alloc()), count + 1));
         let end = serve(&rt, &mut reader, &mut writer, &mut log, &mut Sweep, BUDGET);

@@ -1,17 +1,18 @@
 //! A log that is almost full.
 
-use super::{THREE, log_of, replies_are, take};
+use super::{THREE, replies_are, take};
 use debug_session::SessionEnd;
 use flat_machine::{Poke, SHARED_START};
 use std::test::Fail;
 use steps::{Outcome, Step};
 use test_devices::assert_same;
+use test_machines::{log_of, size};
 
 /// A command whose steps have no room has an error and changes nothing; one that takes none has no error. With one processor a
 /// session begins where there is room for two steps, and an instruction asks for three.
 #[test]
 fn asks_for_room(rt: HostRuntime) -> Result<(), Fail> {
-    let mut log = log_of(&rt, THREE, 0)?;
+    let mut log = log_of(rt.alloc(), THREE, size(0))?;
     for number in 0..4_194_302u32 {
         let poke = Poke::Shared {
             address: SHARED_START + 8,

@@ -1,10 +1,11 @@
 //! Sessions of small machines.
 
-use super::{ROW, THREE, adders, log_of, replies_are, take};
+use super::{ROW, THREE, adders, replies_are, take};
 use debug_session::SessionEnd;
 use std::test::Fail;
 use steps::{Outcome, Step};
 use test_devices::assert_same;
+use test_machines::{log_of, size};
 
 /// A session on a new machine of four processors, or of one, with its replies.
 static FOUR: &[(&str, &str)] = &[
@@ -55,7 +56,7 @@ static FOUR: &[(&str, &str)] = &[
 #[test]
 fn replies_of_four(rt: HostRuntime) -> Result<(), Fail> {
     for (input, output) in FOUR {
-        let mut log = log_of(&rt, ROW, 2)?;
+        let mut log = log_of(rt.alloc(), ROW, size(2))?;
         replies_are(
             &rt,
             &mut log,
@@ -93,7 +94,7 @@ static ONE: &[(&str, &str)] = &[
 #[test]
 fn replies_of_one(rt: HostRuntime) -> Result<(), Fail> {
     for (input, output) in ONE {
-        let mut log = log_of(&rt, THREE, 0)?;
+        let mut log = log_of(rt.alloc(), THREE, size(0))?;
         let end = if input.starts_with("quit") {
             SessionEnd::Quit
         } else {
@@ -107,7 +108,7 @@ fn replies_of_one(rt: HostRuntime) -> Result<(), Fail> {
 /// With the budget used up no processor is named.
 #[test]
 fn used_up_budget(rt: HostRuntime) -> Result<(), Fail> {
-    let mut log = log_of(&rt, "again: jal x0, again", 1)?;
+    let mut log = log_of(rt.alloc(), "again: jal x0, again", size(1))?;
     replies_are(&rt, &mut log, b"cont\n", b"at -\n", SessionEnd::EndOfInput);
     assert_same!(rt; log.steps().len(), 1000);
     Ok(())
@@ -149,7 +150,7 @@ fn longest_lines(rt: HostRuntime) -> Result<(), Fail> {
         ("write 0 0020000 ", b'5', 1008, b"ok\n", 504),
         ("write 0 00020000 ", b'5', 1008, b"E01\n", 0),
     ] {
-        let mut log = log_of(&rt, THREE, 0)?;
+        let mut log = log_of(rt.alloc(), THREE, size(0))?;
         let mut line = Vec::new(rt.alloc());
         line.extend_from_slice(start.as_bytes())?;
         for _ in 0..count {
