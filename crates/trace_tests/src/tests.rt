@@ -8,7 +8,6 @@ mod ends;
 mod orders;
 mod stories;
 
-use assembler::assemble;
 use link::{LinkWrite, Meter};
 use order_command::order_command;
 use order_lines::Choice;
@@ -17,17 +16,11 @@ use std::alloc::Global;
 use std::fmt::Debug;
 use std::io::{self, Read, Write};
 use std::process::Abort;
-use std::test::Fail;
 use story_command::story_command;
 
 /// Ends the test where the two differ, and tells them and the case that they are of ([`assert_same!`]).
 fn same<T: PartialEq + Debug, A: Debug>(rt: &impl Abort, found: &T, wanted: &T, at: &A) {
     assert_eq!(rt; found, wanted, "{at:?}");
-}
-
-/// The image of a text.
-fn image_of(alloc: Global, text: &str) -> Result<Vec<u8>, Fail> {
-    Ok(assemble(alloc, text)?.to_elf(alloc)?)
 }
 
 /// No entry is left out.

@@ -1,6 +1,6 @@
 //! What is told where there is no picture, and the exit statuses.
 
-use super::{image_of, run};
+use super::run;
 use link::Meter;
 use picture_command::picture_command;
 use std::alloc::Global;
@@ -8,6 +8,7 @@ use std::io::{self, ErrorKind};
 use std::process::Abort;
 use std::test::Fail;
 use test_devices::{Deaf, EBREAK, Sink, Source, assert_same, trace_of};
+use test_machines::image_of;
 
 /// A turn of processor 0.
 static TURN: [u8; 12] = [1, 0, 0, 0, 0, 0, 0, 0, 0, 0, 0, 0];

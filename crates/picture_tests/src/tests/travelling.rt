@@ -1,10 +1,11 @@
 //! Which messages stand where.
 
-use super::{Ran, image_of, run};
+use super::{Ran, run};
 use machine_picture::push_escaped;
 use std::alloc::Global;
 use std::test::Fail;
 use test_devices::{ADD_AT_X12, FOUR_ADDS, assert_same, trace_of};
+use test_machines::image_of;
 
 /// The texts of a class, in the order of the picture: from left to right by columns, and in each from the top. `|` stands between
 /// two.

@@ -1,12 +1,13 @@
 //! Counts of small traces, by hand, and of a hot spot.
 
-use super::{Told, image_of, run};
+use super::{Told, run};
 use flat_machine::Config;
 use link::Meter;
 use run_commands::run_command;
 use std::alloc::Global;
 use std::test::Fail;
 use test_devices::{ADD_AT_X12, FOUR_ADDS, assert_same, trace_of};
+use test_machines::image_of;
 
 /// The counts of the trace, but for the rounds.
 const COUNTS: &str = "steps 27 turns 8 up 6 serve 1 down 3 poke 9 rounds ";

@@ -1,11 +1,12 @@
 //! What is told where there are no lines.
 
-use super::{Told, WHOLE, image_of, run};
+use super::{Told, WHOLE, run};
 use std::alloc::Global;
 use std::io::{self, ErrorKind};
 use std::process::Abort;
 use std::test::Fail;
 use test_devices::{EBREAK, ONE_TURN, assert_same, trace_of};
+use test_machines::image_of;
 
 /// Of a trace on an image nothing is printed, and this is told.
 fn assert_told(

@@ -1,6 +1,6 @@
 //! Orders of small traces, an entry at a time.
 
-use super::{ALL, Told, image_of, run};
+use super::{ALL, Told, run};
 use flat_machine::Config;
 use link::Meter;
 use order_lines::Choice;
@@ -8,6 +8,7 @@ use run_commands::run_command;
 use std::fmt::Write;
 use std::test::Fail;
 use test_devices::{HUNDRED_ADDS, ONE_TURN, assert_same, trace_of};
+use test_machines::image_of;
 
 /// Adds `x7` to shared word 0, and halts.
 const ONE_ADD: &str = "

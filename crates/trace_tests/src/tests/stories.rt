@@ -1,8 +1,9 @@
 //! Stories of small traces, step by step.
 
-use super::{Told, image_of, run};
+use super::{Told, run};
 use std::test::Fail;
 use test_devices::{ADD_AT_X12, FOUR_ADDS, assert_same, trace_of};
+use test_machines::image_of;
 
 /// The lines up to the service.
 const GOING_UP: &str = "0 poke 0 x11 00000001: writes
