@@ -1,12 +1,12 @@
 //! References that meet in switches, or would.
 
 use super::REFERENCES;
-use super::cases::{Case, check_orders};
 use std::test::Fail;
+use test_cases::{Case, check_orders};
 
 #[test]
 fn requests_meet(rt: HostRuntime) -> Result<(), Fail> {
-    check_orders(&rt, &CASES)
+    check_orders(rt.alloc(), &CASES)
 }
 
 /// Four processors are to add 1, 2, 4 and 8 to word 0.

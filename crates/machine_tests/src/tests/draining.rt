@@ -1,13 +1,13 @@
 //! Drains: how many steps they take, and which step is next.
 
 use super::REFERENCES;
-use super::cases::{Case, check};
 use super::combining::FOUR_ADDS;
 use std::test::Fail;
+use test_cases::{Case, check};
 
 #[test]
 fn machines_drain(rt: HostRuntime) -> Result<(), Fail> {
-    check(&rt, &CASES)
+    check(rt.alloc(), &CASES)
 }
 
 static CASES: [Case; 7] = [

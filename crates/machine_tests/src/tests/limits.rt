@@ -1,18 +1,17 @@
 //! Which machines there are, and what their readers answer at the ends of what they number.
 
-use super::cases::{Case, check};
-use super::{REFERENCES, image_of, layout_of};
+use super::REFERENCES;
 use elf_image::Image;
 use flat_machine::Config;
 use machine_runs::{Machine, NewError};
 use std::alloc::{AllocError, AllocGlobal, Global};
 use std::process::Abort;
 use std::test::Fail;
+use test_cases::{Case, check, image_of};
 use test_devices::assert_same;
 
 /// The image of most tests, read for machines with so many shared words.
-fn image(rt: &(impl Abort + AllocGlobal), shared_words: u32) -> Result<Image, Fail> {
-    let layout = layout_of(rt.alloc(), &REFERENCES)?;
+fn image(alloc: Global, shared_words: u32) -> Result<Image, Fail> {
     let config = Config {
         k: 2,
         c: 4,
@@ -20,7 +19,7 @@ fn image(rt: &(impl Abort + AllocGlobal), shared_words: u32) -> Result<Image, Fa
         r: 1,
         shared_words,
     };
-    image_of(rt, &layout, &config)
+    image_of(alloc, &REFERENCES, &config)
 }
 
 /// Each number of a configuration at its limits, and one past them; and an image that was read for another number of shared
@@ -69,7 +68,7 @@ fn refusal_of(
     config: Config,
     read_for: u32,
 ) -> Result<Option<NewError>, Fail> {
-    let image = image(rt, read_for)?;
+    let image = image(rt.alloc(), read_for)?;
     match Machine::new(rt.alloc(), image, config) {
         Ok(machine) => {
             expect_idle(rt, &machine, config);
@@ -100,7 +99,7 @@ fn text_of(alloc: Global, error: NewError) -> Result<String, AllocError> {
 
 #[test]
 fn readers_at_their_ends(rt: HostRuntime) -> Result<(), Fail> {
-    check(&rt, &CASES)
+    check(rt.alloc(), &CASES)
 }
 
 static CASES: [Case; 3] = [

@@ -1,17 +1,16 @@
 //! What machines open with.
 
-use super::cases::{Case, check};
-use super::{Program, machine_of};
 use flat_machine::{CODE_START, Config};
 use machine_runs::Machine;
 use std::process::Abort;
 use std::test::Fail;
 use steps::{Outcome, Step};
+use test_cases::{Case, Program, check, machine_of};
 use test_devices::assert_same;
 
 #[test]
 fn machines_open(rt: HostRuntime) -> Result<(), Fail> {
-    check(&rt, &CASES)
+    check(rt.alloc(), &CASES)
 }
 
 /// A store into local memory.
@@ -164,7 +163,7 @@ fn largest_machine(rt: HostRuntime) -> Result<(), Fail> {
         r: 1,
         shared_words: 64,
     };
-    let mut machine = machine_of(&rt, &WORDS_OF_THEIR_OWN, config)?;
+    let mut machine = machine_of(rt.alloc(), &WORDS_OF_THEIR_OWN, config)?;
     for _ in 0..6 {
         take_turns(&mut machine);
     }

@@ -1,14 +1,14 @@
 //! The serial order of a list of steps.
 
-use super::cases::{Case, check_orders};
+use super::REFERENCES;
 use super::combining::{ADD_AND_SWAP, FOUR_ADDS};
-use super::{Program, REFERENCES};
 use flat_machine::CODE_START;
 use std::test::Fail;
+use test_cases::{Case, Program, check_orders};
 
 #[test]
 fn orders_are_listed(rt: HostRuntime) -> Result<(), Fail> {
-    check_orders(&rt, &CASES)
+    check_orders(rt.alloc(), &CASES)
 }
 
 /// An instruction of its own processor alone. What stands behind it is no instruction.

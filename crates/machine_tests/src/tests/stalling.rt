@@ -1,14 +1,14 @@
 //! Steps that do nothing: what they meet, and that nothing changes.
 
-use super::cases::{Case, check};
+use super::REFERENCES;
 use super::combining::FOUR_ADDS;
-use super::{Program, REFERENCES};
 use flat_machine::CODE_START;
 use std::test::Fail;
+use test_cases::{Case, Program, check};
 
 #[test]
 fn steps_stall(rt: HostRuntime) -> Result<(), Fail> {
-    check(&rt, &CASES)
+    check(rt.alloc(), &CASES)
 }
 
 /// Numbers that name no place of a machine of four processors and two stages.

@@ -1,13 +1,12 @@
 //! Whole instructions, one at a time.
 
-use super::Program;
-use super::cases::{Case, check};
 use flat_machine::CODE_START;
 use std::test::Fail;
+use test_cases::{Case, Program, check};
 
 #[test]
 fn instructions_are_whole(rt: HostRuntime) -> Result<(), Fail> {
-    check(&rt, &CASES)
+    check(rt.alloc(), &CASES)
 }
 
 /// One instruction that refers to the shared word at `a2`, one that refers to none, and a stop.

@@ -1,26 +1,31 @@
 //! Cases: a machine, what it is asked, and what it has to answer.
 
-use super::watched::Watched;
-use super::words::{
+use crate::programs::{Program, machine_of};
+use crate::watched::Watched;
+use crate::words::{
     Words, low, next_words, number_words, read_words, said, status_words, step_of, truth_words,
 };
-use super::{A0, A1, Program, machine_of, poke, poke_word};
-use flat_machine::{Config, Entry};
+use flat_machine::{Config, Entry, Poke, SHARED_START};
 use machine_runs::{Machine, drain, drain_step, order};
-use std::alloc::{AllocError, AllocGlobal, Global};
-use std::process::Abort;
+use std::alloc::{AllocError, Global};
+use std::fmt::Debug;
 use std::test::Fail;
-use steps::Step;
-use test_devices::assert_same;
+use steps::{Outcome, Step};
 
-/// A machine, what it is asked, and what it has to answer. The text is of words as `words.rt` reads them: a verb and
-/// numbers, with commas between calls.
+/// The registers `a0` and `a1`.
+const A0: u8 = 10;
+
+const A1: u8 = 11;
+
+/// A machine, what it is asked, and what it has to answer. The texts are of words: a verb and numbers, with commas
+/// between calls (`words.rt`).
 #[derive(Clone, Copy, Drop)]
 pub struct Case {
     /// What the case shows.
     pub name: &'static str,
     /// `machine`, and its `k`, `c`, `b` and number of shared words. Its `r` is 1, that of `machine_2` is 2, and that of `machine_3` 3.
     pub machine: &'static str,
+    /// The program that it opens on.
     pub program: &'static Program<'static>,
     /// What is poked before all else. Beside the pokes of steps, `word I V` writes shared word I, byte by byte.
     pub pokes: &'static [&'static str],
@@ -32,57 +37,67 @@ pub struct Case {
 }
 
 /// Runs each of these cases.
-pub fn check(rt: &(impl Abort + AllocGlobal), cases: &[Case]) -> Result<(), Fail> {
+///
+/// # Errors
+///
+/// The first answer that is not the wanted one, what a case cannot be read for, and want of memory.
+pub fn check(alloc: Global, cases: &[Case]) -> Result<(), Fail> {
     for case in cases {
-        run(rt, case)?;
+        run(alloc, case)?;
     }
     Ok(())
 }
 
 /// Runs each of these cases, which consist of steps and of what changes nothing. Then a machine lists the serial order
 /// of the same steps, and is left as the one that took them one by one.
-pub fn check_orders(rt: &(impl Abort + AllocGlobal), cases: &[Case]) -> Result<(), Fail> {
+///
+/// # Errors
+///
+/// Those of [`check`].
+pub fn check_orders(alloc: Global, cases: &[Case]) -> Result<(), Fail> {
     for case in cases {
-        run_both_ways(rt, case)?;
+        run_both_ways(alloc, case)?;
     }
     Ok(())
 }
 
-fn run_both_ways(rt: &(impl Abort + AllocGlobal), case: &Case) -> Result<(), Fail> {
-    let wanted = run(rt, case)?;
-    let found = run_as_list(rt, case)?;
-    assert_same!(rt; found.as_slice(), wanted.as_slice(), case.name);
-    Ok(())
+/// Refuses the case at which the two differ, and tells them.
+fn same<T: PartialEq + Debug, A: Debug>(found: &T, wanted: &T, at: &A) -> Result<(), Fail> {
+    if found == wanted {
+        return Ok(());
+    }
+    Err(Fail::new(format_args!("{at:?}: {found:?}, and not {wanted:?}")))
+}
+
+fn run_both_ways(alloc: Global, case: &Case) -> Result<(), Fail> {
+    let wanted = run(alloc, case)?;
+    let found = run_as_list(alloc, case)?;
+    same(&found.as_slice(), &wanted.as_slice(), &case.name)
 }
 
 /// Runs a case. Gives what is seen of the machine at its end.
-fn run(rt: &(impl Abort + AllocGlobal), case: &Case) -> Result<Vec<Words<'static>>, Fail> {
-    let mut watched = Watched::new(rt.alloc(), opened(rt, case)?);
-    ask_all(rt, &mut watched, case)?;
-    Ok(seen(rt.alloc(), &watched.machine)?)
+fn run(alloc: Global, case: &Case) -> Result<Vec<Words<'static>>, Fail> {
+    let mut watched = Watched::new(alloc, opened(alloc, case)?);
+    ask_all(alloc, &mut watched, case)?;
+    Ok(seen(alloc, &watched.machine)?)
 }
 
-fn ask_all(
-    rt: &(impl Abort + AllocGlobal),
-    watched: &mut Watched,
-    case: &Case,
-) -> Result<(), Fail> {
+fn ask_all(alloc: Global, watched: &mut Watched, case: &Case) -> Result<(), Fail> {
     for lines in case.calls {
-        run_lines(rt, watched, case.name, lines)?;
+        run_lines(alloc, watched, case.name, lines)?;
     }
-    expect_order(rt, case, watched.order.as_slice())
+    expect_order(alloc, case, watched.order.as_slice())
 }
 
-fn expect_order(rt: &(impl Abort + AllocGlobal), case: &Case, found: &[Entry]) -> Result<(), Fail> {
-    let wanted = entries_of(rt.alloc(), case.order)?;
-    assert_same!(rt; found, wanted.as_slice(), case.name);
-    Ok(())
+fn expect_order(alloc: Global, case: &Case, found: &[Entry]) -> Result<(), Fail> {
+    let wanted = entries_of(alloc, case.order)?;
+    same(&found, &wanted.as_slice(), &case.name)
 }
 
 /// The machine of a case, idle, after its pokes.
-fn opened(rt: &(impl Abort + AllocGlobal), case: &Case) -> Result<Machine, Fail> {
-    let mut machine = machine_of(rt, case.program, config_of(case.machine)?)?;
-    prepare(rt, &mut machine, case)?;
+fn opened(alloc: Global, case: &Case) -> Result<Machine, Fail> {
+    let mut machine = machine_of(alloc, case.program, config_of(case.machine)?)?;
+    prepare(&mut machine, case)?;
     Ok(machine)
 }
 
@@ -104,47 +119,57 @@ fn config_of(text: &str) -> Result<Config, Fail> {
 }
 
 /// The machine is the opening of a case, and gets its pokes.
-fn prepare(rt: &impl Abort, machine: &mut Machine, case: &Case) -> Result<(), Fail> {
+fn prepare(machine: &mut Machine, case: &Case) -> Result<(), Fail> {
     let config = config_of(case.machine)?;
-    assert_same!(rt; machine.config(), config);
-    assert_same!(rt; machine.image().layout().entry, case.program.entry);
-    assert_same!(rt; machine.image().shared_words(), config.shared_words);
+    let name = case.name;
+    same(&machine.config(), &config, &name)?;
+    same(&machine.image().layout().entry, &case.program.entry, &name)?;
+    same(&machine.image().shared_words(), &config.shared_words, &name)?;
     for calls in case.pokes {
-        poke_all(rt, machine, calls)?;
+        poke_all(machine, calls)?;
     }
-    assert!(rt; machine.is_idle());
+    same(&machine.is_idle(), &true, &name)
+}
+
+fn poke_all(machine: &mut Machine, calls: &str) -> Result<(), Fail> {
+    for call in calls.split(',') {
+        poke_asked(machine, read_words(call)?)?;
+    }
     Ok(())
 }
 
 /// Writes a shared word, or what a step pokes.
-fn poke_asked(rt: &impl Abort, machine: &mut Machine, asked: Words) {
+fn poke_asked(machine: &mut Machine, asked: Words) -> Result<(), Fail> {
     let [number, value, _, _] = asked.numbers;
     match step_of(asked) {
-        Some(Step::Poke(step)) => poke(rt, machine, step),
+        Some(Step::Poke(step)) => poke(machine, step),
         _ => {
-            assert_same!(rt; asked.verb, "word");
-            poke_word(rt, machine, number, value);
+            same(&asked.verb, &"word", &"a poke")?;
+            poke_word(machine, number, value)
         }
     }
 }
 
-fn poke_all(rt: &impl Abort, machine: &mut Machine, calls: &str) -> Result<(), Fail> {
-    for call in calls.split(',') {
-        poke_asked(rt, machine, read_words(call)?);
+/// Writes what a poke writes.
+fn poke(machine: &mut Machine, poke: Poke) -> Result<(), Fail> {
+    same(&machine.apply(Step::Poke(poke)), &Outcome::Poked, &poke)
+}
+
+/// Writes a shared word, byte by byte, the lowest first.
+fn poke_word(machine: &mut Machine, number: u32, word: u32) -> Result<(), Fail> {
+    let mut address = number.wrapping_mul(4).wrapping_add(SHARED_START);
+    for value in word.to_le_bytes() {
+        poke(machine, Poke::Shared { address, value })?;
+        address = address.wrapping_add(1);
     }
     Ok(())
 }
 
 /// Asks what these lines ask.
-fn run_lines(
-    rt: &(impl Abort + AllocGlobal),
-    watched: &mut Watched,
-    name: &str,
-    lines: &str,
-) -> Result<(), Fail> {
+fn run_lines(alloc: Global, watched: &mut Watched, name: &str, lines: &str) -> Result<(), Fail> {
     for line in lines.lines() {
         let (asked, wanted) = parts_of(line);
-        run_calls(rt, watched, name, asked, read_words(wanted)?)?;
+        run_calls(alloc, watched, name, asked, read_words(wanted)?)?;
     }
     Ok(())
 }
@@ -155,15 +180,15 @@ fn parts_of(line: &str) -> (&str, &str) {
 }
 
 fn run_calls(
-    rt: &(impl Abort + AllocGlobal),
+    alloc: Global,
     watched: &mut Watched,
     name: &str,
     asked: &str,
     wanted: Words,
 ) -> Result<(), Fail> {
     for call in asked.split(',') {
-        let found = ask(rt.alloc(), watched, read_words(call)?)?;
-        assert_same!(rt; found, wanted, (&name, &call));
+        let found = ask(alloc, watched, read_words(call)?)?;
+        same(&found, &wanted, &(&name, &call))?;
     }
     Ok(())
 }
@@ -242,21 +267,19 @@ fn is_blank(machine: &Machine, p: u8) -> bool {
 }
 
 /// Gives the steps of a case to a machine as a list, which answers the case's order. Gives what is seen of it then.
-fn run_as_list(rt: &(impl Abort + AllocGlobal), case: &Case) -> Result<Vec<Words<'static>>, Fail> {
-    let mut machine = opened(rt, case)?;
-    list_order(rt, &mut machine, case)?;
-    Ok(seen(rt.alloc(), &machine)?)
+fn run_as_list(alloc: Global, case: &Case) -> Result<Vec<Words<'static>>, Fail> {
+    let mut machine = opened(alloc, case)?;
+    list_order(alloc, &mut machine, case)?;
+    Ok(seen(alloc, &machine)?)
 }
 
-fn list_order(
-    rt: &(impl Abort + AllocGlobal),
-    machine: &mut Machine,
-    case: &Case,
-) -> Result<(), Fail> {
-    let steps = steps_of(rt.alloc(), case.calls)?;
-    assert!(rt; machine.is_idle());
-    let order = order(machine, rt.alloc(), steps.as_slice())?;
-    expect_order(rt, case, order.as_slice())
+fn list_order(alloc: Global, machine: &mut Machine, case: &Case) -> Result<(), Fail> {
+    let steps = steps_of(alloc, case.calls)?;
+    if !machine.is_idle() {
+        return Err(Fail::new("a reference is open"));
+    }
+    let order = order(machine, alloc, steps.as_slice())?;
+    expect_order(alloc, case, order.as_slice())
 }
 
 /// The steps among these calls.

@@ -3,10 +3,10 @@
 
 ghost use Rattle.std.specs.Prelude.{◌<◌};
 
-use super::watched::Shown;
 use super::{A1, A2};
 use flat_machine::{CODE_START, Entry, Poke, SHARED_START};
 use std::alloc::{AllocError, Global};
+use test_cases::Shown;
 
 /// What the instructions of the program do. `a2` is the address of a shared word.
 #[derive(Clone, Copy, Drop)]

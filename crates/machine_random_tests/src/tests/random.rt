@@ -2,14 +2,14 @@
 //! whole instructions in the serial order that the outcomes tell.
 
 use super::plain::{Plain, program};
-use super::watched::{Shown, Watched};
-use super::{A0, A1, A2, PC, Program, machine_of, register};
-use flat_machine::{CODE_START, Config, Poke, SHARED_START};
+use super::{A0, A1, A2};
+use flat_machine::{CODE_START, Config, PC, Poke, SHARED_START};
 use machine_runs::Machine;
 use std::alloc::{AllocError, AllocGlobal, Global};
 use std::process::Abort;
 use std::test::Fail;
 use steps::Step;
+use test_cases::{Program, Shown, Watched, machine_of};
 use test_devices::assert_same;
 
 /// How many lists are run for each configuration, and how many steps each has.
@@ -29,6 +29,15 @@ impl Random {
         self.state ^= self.state >> 17;
         self.state ^= self.state << 5;
         self.state
+    }
+}
+
+/// A write of a register, or of `pc`.
+fn register(processor: u8, register: u8, value: u32) -> Poke {
+    Poke::Register {
+        processor,
+        register,
+        value,
     }
 }
 
@@ -97,15 +106,15 @@ fn lost_step(kind: u8, number: u8, stage: u8, high_stage: u8, wires: u8, value: 
 }
 
 /// A machine that runs the program.
-fn opened(rt: &(impl Abort + AllocGlobal), config: Config) -> Result<Watched, Fail> {
-    let words = program(rt.alloc())?;
+fn opened(alloc: Global, config: Config) -> Result<Watched, Fail> {
+    let words = program(alloc)?;
     let program = Program {
         entry: CODE_START,
         code: words.as_slice(),
         local: &[],
         shared: &[],
     };
-    Ok(Watched::new(rt.alloc(), machine_of(rt, &program, config)?))
+    Ok(Watched::new(alloc, machine_of(alloc, &program, config)?))
 }
 
 /// Puts each processor at another place of the program, with operands of its own.
@@ -200,7 +209,7 @@ fn run_list(
     random: &mut Random,
     config: Config,
 ) -> Result<bool, Fail> {
-    let mut watched = opened(rt, config)?;
+    let mut watched = opened(rt.alloc(), config)?;
     run_list_on(rt, &mut watched, random, config.k)
 }
 

@@ -21,17 +21,19 @@ use steps::{Outcome, Step};
 /// A verb and its numbers, with zeros behind them.
 #[derive(Clone, Copy, Debug, PartialEq, Eq, Drop)]
 pub struct Words<'a> {
+    /// What is asked or told.
     pub verb: &'a str,
+    /// The numbers behind it.
     pub numbers: [u32; 4],
 }
 
 /// A verb and numbers.
-pub fn said(verb: &str, numbers: [u32; 4]) -> Words<'_> {
+pub(crate) fn said(verb: &str, numbers: [u32; 4]) -> Words<'_> {
     Words { verb, numbers }
 }
 
 /// Reads a verb and up to four numbers.
-pub fn read_words(text: &str) -> Result<Words<'_>, Fail> {
+pub(crate) fn read_words(text: &str) -> Result<Words<'_>, Fail> {
     let mut pieces = text.split_whitespace();
     let verb = pieces.next().unwrap_or("");
     let a = number_of(pieces.next())?;
@@ -51,13 +53,13 @@ fn number_of(piece: Option<&str>) -> Result<u32, ParseIntError> {
 }
 
 /// The lowest byte of a number.
-pub fn low(number: u32) -> u8 {
+pub(crate) fn low(number: u32) -> u8 {
     let [byte, _, _, _] = number.to_le_bytes();
     byte
 }
 
 /// The step that is asked for.
-pub fn step_of(asked: Words) -> Option<Step> {
+pub(crate) fn step_of(asked: Words) -> Option<Step> {
     let [a, b, c, _] = asked.numbers;
     match asked.verb {
         "turn" => Some(Step::Turn(low(a))),
@@ -89,7 +91,7 @@ pub fn step_of(asked: Words) -> Option<Step> {
 }
 
 /// What a step did.
-pub fn outcome_words(outcome: Outcome) -> Words<'static> {
+pub(crate) fn outcome_words(outcome: Outcome) -> Words<'static> {
     match outcome {
         Outcome::Retired(retired) => retired_words(&retired),
         Outcome::Issued => said("issued", [0; 4]),
@@ -131,7 +133,7 @@ fn retired_words(retired: &Retired) -> Words<'static> {
 }
 
 /// A number, or none.
-pub fn number_words(number: Option<u32>) -> Words<'static> {
+pub(crate) fn number_words(number: Option<u32>) -> Words<'static> {
     match number {
         Some(number) => said("is", [number, 0, 0, 0]),
         None => said("none", [0; 4]),
@@ -139,12 +141,12 @@ pub fn number_words(number: Option<u32>) -> Words<'static> {
 }
 
 /// Whether something is so.
-pub fn truth_words(is_so: bool) -> Words<'static> {
+pub(crate) fn truth_words(is_so: bool) -> Words<'static> {
     said(if is_so { "yes" } else { "no" }, [0; 4])
 }
 
 /// What a processor is doing, or that there is none.
-pub fn status_words(status: Option<Status>) -> Words<'static> {
+pub(crate) fn status_words(status: Option<Status>) -> Words<'static> {
     match status {
         Some(Status::Running) => said("running", [0; 4]),
         Some(Status::Halted(byte)) => said("halted", [u32::from(byte), 0, 0, 0]),
@@ -154,7 +156,7 @@ pub fn status_words(status: Option<Status>) -> Words<'static> {
 }
 
 /// A step that a drain takes next, which is a turn or a move, or that there is none.
-pub fn next_words(step: Option<Step>) -> Words<'static> {
+pub(crate) fn next_words(step: Option<Step>) -> Words<'static> {
     match step {
         Some(Step::Turn(p)) => said("turn", [u32::from(p), 0, 0, 0]),
         Some(Step::Up { stage, wire }) => said("up", [u32::from(stage), u32::from(wire), 0, 0]),

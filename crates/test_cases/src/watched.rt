@@ -2,7 +2,7 @@
 
 ghost use Rattle.std.specs.Prelude.{◌<◌};
 
-use super::words::{Words, outcome_words};
+use crate::words::{Words, outcome_words};
 use flat_machine::Entry;
 use machine_runs::{Machine, drain_step, one};
 use std::alloc::{AllocError, Global};
@@ -11,14 +11,18 @@ use steps::{Outcome, Step};
 /// An instruction that retired: on which processor, where it stands, and what it wrote to a register.
 #[derive(Clone, Copy, Debug, PartialEq, Eq, Drop)]
 pub struct Shown {
+    /// The processor.
     pub processor: u8,
+    /// Where the instruction stands.
     pub pc: u32,
+    /// What it wrote, if it did.
     pub result: Option<u32>,
 }
 
 /// A machine of at most eight processors, whose steps are watched from where no reference was open in it.
 #[derive(Drop)]
 pub struct Watched {
+    /// The machine.
     pub machine: Machine,
     /// Whether each processor is open.
     is_open: [bool; 8],
@@ -40,6 +44,7 @@ fn place(processor: u8) -> usize
 }
 
 impl Watched {
+    /// A machine in which no reference is open.
     pub fn new(alloc: Global, machine: Machine) -> Self {
         Watched {
             machine,
@@ -69,7 +74,7 @@ impl Watched {
     }
 
     /// Takes a whole instruction, and learns from its outcome, which it tells.
-    pub fn one(&mut self, p: u8) -> Result<Words<'static>, AllocError> {
+    pub(crate) fn one(&mut self, p: u8) -> Result<Words<'static>, AllocError> {
         let outcome = one(&mut self.machine, p);
         match outcome {
             Outcome::Retired(_) | Outcome::Stopped(_) => self.order.push(Entry::Processor(p))?,
