@@ -6,20 +6,17 @@ mod ends;
 mod programs;
 mod witnesses;
 
-use super::image_of;
 use explore_command::{Search, Unwatched, explore_command};
 use flat_machine::Config;
 use link::Meter;
 use std::alloc::Global;
+use test_machines::size;
 
 /// A machine of so many processors, with 16 shared words.
 fn config_of(k: u8) -> Config {
     Config {
-        k,
-        c: 4,
-        b: 4,
-        r: 1,
         shared_words: 16,
+        ..size(k)
     }
 }
 

@@ -7,24 +7,13 @@ mod memory;
 mod replays;
 mod reports;
 
-use super::image_of;
 use flat_machine::Config;
 use link::Meter;
 use run_commands::{replay_command, run_command};
 use std::alloc::Global;
 use std::io;
 use std::test::Fail;
-
-/// A machine with queues of four and four records.
-const fn size(k: u8) -> Config {
-    Config {
-        k,
-        c: 4,
-        b: 4,
-        r: 1,
-        shared_words: 1024,
-    }
-}
+use test_machines::image_of;
 
 /// A budget that no program here uses up, unless it has no end.
 const AMPLE: u32 = 200_000;

@@ -1,9 +1,10 @@
 //! What is told where there are no lines.
 
-use super::{config_of, explore, image_of};
+use super::{config_of, explore};
 use flat_machine::Config;
 use std::test::Fail;
 use test_devices::{EBREAK, assert_same};
+use test_machines::image_of;
 
 /// A loop that needs no shared word.
 const SPIN: &str = "spin: jal x0, spin";

@@ -1,8 +1,9 @@
 //! Results of small programs, by hand.
 
-use super::{config_of, explore, image_of};
+use super::{config_of, explore};
 use std::test::Fail;
 use test_devices::assert_same;
+use test_machines::image_of;
 
 /// Each adds 1 to the first word by a load and a store: an addition may be lost.
 const LOST_SUM: &str = "

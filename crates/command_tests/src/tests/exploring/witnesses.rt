@@ -1,13 +1,13 @@
 //! Witnesses: the trace of each result replays to it, and none is written where there is none.
 
 use super::config_of;
-use crate::tests::image_of;
 use explore_command::{Search, Unwatched, explore_command};
 use link::Meter;
 use run_commands::replay_command;
 use std::alloc::Global;
 use std::test::Fail;
 use test_devices::assert_same;
+use test_machines::image_of;
 
 /// Each adds 1 by a load and a store.
 const LOST: &str = "lui x1, 0x80000\nlw x2, 0(x1)\naddi x2, x2, 1\nsw x2, 0(x1)\necall";

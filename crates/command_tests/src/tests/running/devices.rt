@@ -2,12 +2,13 @@
 
 ghost use Rattle.std.specs.Prelude.{◌≡◌, false};
 
-use super::{AMPLE, image_of, size};
+use super::AMPLE;
 use link::{Link, Meter};
 use run_commands::{replay_command, run_command};
 use std::alloc::Global;
 use std::test::Fail;
 use test_devices::{Deaf, EBREAK, ONE_TURN, Sink, Source, assert_same};
+use test_machines::{image_of, size};
 
 /// The report of an image of `ebreak` on one processor.
 const STOPPED: &[u8] = b"processor 0 pc 00010000 fault 8 retired 0 console -\n";

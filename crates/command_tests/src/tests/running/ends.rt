@@ -1,6 +1,6 @@
 //! How runs end, and what is told where there is no report.
 
-use super::{AMPLE, Ran, image_of, replay, run, run_text, size};
+use super::{AMPLE, Ran, replay, run, run_text};
 use command_io::Fault;
 use flat_machine::Config;
 use link::Meter;
@@ -8,6 +8,7 @@ use std::io::{self, ErrorKind};
 use std::process::Abort;
 use std::test::Fail;
 use test_devices::{EBREAK, Endless, ONE_TURN, assert_same};
+use test_machines::{image_of, size};
 
 /// Nothing is printed and no trace is written, and this is told.
 fn assert_told(rt: &impl Abort, ran: &Ran, told: &str, status: u8) {

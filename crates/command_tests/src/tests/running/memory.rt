@@ -1,11 +1,12 @@
 //! Each allocation of these tests is to be refused in turn. Then the answer is that of ample memory, or
 //! that there is none.
 
-use super::{AMPLE, size};
+use super::AMPLE;
 use link::Meter;
 use run_commands::{replay_command, run_command};
 use std::test::Fail;
 use test_devices::{EBREAK, ONE_TURN, Sink, assert_same};
+use test_machines::size;
 
 /// The report of an image of `ebreak` on one processor.
 const STOPPED: &[u8] = b"processor 0 pc 00010000 fault 8 retired 0 console -\n";

@@ -1,8 +1,9 @@
 //! Replays of traces by hand.
 
-use super::{AMPLE, image_of, replay, run_text, size};
+use super::{AMPLE, replay, run_text};
 use std::test::Fail;
 use test_devices::{ONE_TURN, assert_same};
+use test_machines::{image_of, size};
 
 /// The trace of a run of one `ecall`, and its replay.
 #[test]

@@ -1,9 +1,10 @@
 //! Reports of programs that end.
 
-use super::{AMPLE, image_of, replay, run_text, size};
+use super::{AMPLE, replay, run_text};
 use std::fmt::Write;
 use std::test::Fail;
 use test_devices::{HUNDRED_ADDS, assert_same};
+use test_machines::{image_of, size};
 
 /// Three instructions at the beginning, three for each of the hundred adds, and eight behind them, of
 /// which the last halts and does not retire: 311. `ecall` stands at 0x00010038.
