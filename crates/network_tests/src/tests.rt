@@ -1,14 +1,11 @@
-//! Small networks and their parts, with each answer worked out by hand, and long runs beside a plain network.
+//! Small networks and their parts, with each answer worked out by hand.
 
 ghost use Rattle.std.specs.Prelude.{◌≡◌};
 
-mod both;
 mod buffers;
 mod cells;
 mod indexed;
 mod memory;
-mod plain;
-mod random;
 mod runs;
 mod switches;
 mod wires;

@@ -1,8 +1,9 @@
 //! Long random runs of networks beside a plain one.
 
+ghost use Rattle.std.specs.Prelude.{◌≡◌};
+
 use super::plain::Plain;
-use super::request;
-use messages::Reply;
+use messages::{Reply, Request};
 use omega_network::Network;
 use phi_algebra::{Phi, SignedRange};
 use std::test::Fail;
@@ -29,8 +30,20 @@ impl Random {
     }
 }
 
-/// A function of one of four kinds.
-pub fn phi_of(kind: u32, value: u32) -> Phi {
+/// A request as it comes from a processor, whose function is of one of four kinds.
+pub fn request_of(leader: u8, word: u32, kind: u32, value: u32) -> Request
+    ensures { result.leader ≡ leader }
+{
+    Request {
+        leader,
+        word,
+        phi: phi_of(kind, value),
+        marks: 0,
+    }
+}
+
+/// The function.
+fn phi_of(kind: u32, value: u32) -> Phi {
     match kind {
         0 => Phi::Bits {
             and: u32::MAX,
@@ -76,8 +89,7 @@ impl Pair {
         if self.network.names(p) {
             return Some(false);
         }
-        self.network
-            .inject(p, request(p, word, phi_of(kind, value)));
+        self.network.inject(p, request_of(p, word, kind, value));
         self.plain.inject(p, word, phi_of(kind, value))?;
         self.is_open[usize::from(p & 63)] = true;
         Some(true)

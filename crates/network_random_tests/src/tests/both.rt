@@ -1,7 +1,6 @@
 //! Long random runs of the network with rings and of the network with a pool, side by side.
 
-use super::random::{Random, phi_of};
-use super::request;
+use super::random::{Random, request_of};
 use messages::Reply;
 use omega_network::Network;
 use ring_network::Network as RingNetwork;
@@ -50,8 +49,8 @@ impl Both {
         {
             return false;
         }
-        self.rings.inject(p, request(p, word, phi_of(kind, value)));
-        self.pool.inject(p, request(p, word, phi_of(kind, value)));
+        self.rings.inject(p, request_of(p, word, kind, value));
+        self.pool.inject(p, request_of(p, word, kind, value));
         true
     }
 
