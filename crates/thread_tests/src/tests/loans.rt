@@ -43,12 +43,7 @@ fn run_once<N: Run, R: Wait + Abort>(
 }
 
 /// Whether a turn of the pass's processor is answered so. While its core is lent, the pass is not told.
-fn turn_is<N: Run, R: Wait>(
-    rt: &R,
-    shared: &Shared<N>,
-    pass: &mut Pass<N>,
-    wanted: Outcome,
-) -> bool
+fn turn_is<N: Run, R: Wait>(rt: &R, shared: &Shared<N>, pass: &mut Pass<N>, wanted: Outcome) -> bool
     ensures { (most : ℕ) → pass.old.row.lent ≡ Some most → pass.new ≡ pass.old }
 {
     match shared.turn(rt, pass) {
