@@ -9,3 +9,4 @@ pub mod Crosses
 pub mod Lemmas
 pub mod Stopping
 pub mod Stalling
+pub mod Waiting

@@ -1,5 +1,5 @@
 -- What the outcomes of steps give each processor: its retirements and its stop, each with its place among the steps.
-use Rattle.std.specs.Prelude.{ℕ, suc, ◌≤◌, ◌==◌, nat_lt, Bool, true, false, not, List, [], ◌∷◌, ◌++◌, map, if◌then◌else◌}
+use Rattle.std.specs.Prelude.{◌≡◌, ℕ, suc, ◌≤◌, ◌==◌, nat_lt, Bool, true, false, not, List, [], ◌∷◌, ◌++◌, map, if◌then◌else◌}
 use Rattle.std.specs.List.{list_all}
 use Rattle.flat_machine.specs.declared.config.Config.{Config}
 use Rattle.flat_machine.specs.declared.event.Event.TheVariants as event
@@ -10,6 +10,7 @@ use Rattle.steps.specs.declared.step.Step.{Step}
 use Rattle.steps.specs.declared.step.Step.TheVariants as step
 use Rattle.steps.specs.declared.step.Outcome.{Outcome}
 use Rattle.steps.specs.declared.step.Outcome.TheVariants.{Retired, Issued, Stopped, Moved, Combined, Served, Answered, Poked, Stalled}
+use Rattle.machine.specs.Machines.{MachineLists, machine_of}
 use Rattle.machine_log.specs.Logs.{is_named}
 use Rattle.machine_passes.specs.declared.row.Notice.{Notice}
 
@@ -40,6 +41,14 @@ is_of_network (step.Poke poke) = false
 -- one that the machine has
 abbrev pub is_net : Config → Step → Bool
 is_net c s = if is_of_network s then is_named c s else false
+
+-- The step would stall now.
+abbrev pub Stalls : MachineLists → Step → Type 0
+Stalls m s = outcome_of m.config m.code (machine_of m (λ p. [])) s ≡ Stalled
+
+-- a step of the network that the machine has and that would stall
+abbrev pub IsQuietMove : MachineLists → Step → Type 0
+IsQuietMove m s = (is_net m.config s ≡ true) × Stalls m s
 
 -- a turn of one of so many processors, or no turn
 abbrev pub is_turn_below : ℕ → Step → Bool

@@ -1,6 +1,6 @@
 -- What contracts see of a pass and of the desk.
 use Rattle.std.specs.Prelude.{◌≡◌, ℕ, zero, suc, ◌≤◌, ◌^◌, ◌↔◌, Bool, true, false, List, [], ◌∷◌, ◌++◌, length, map, count_by, slice_get}
-use Rattle.std.specs.Prelude.{Option, Some, None, Result, Ok, Err}
+use Rattle.std.specs.Prelude.{Option, Some, None, Result, Ok, Err, if◌then◌else◌}
 use Rattle.flat_machine.specs.declared.config.Config.{Config}
 use Rattle.flat_machine.specs.declared.event.Retired.{Retired}
 use Rattle.hart.specs.State.{CoreState}
@@ -8,6 +8,7 @@ use Rattle.steps.specs.declared.step.Step.{Step}
 use Rattle.steps.specs.declared.step.Step.TheVariants.{Turn}
 use Rattle.steps.specs.declared.step.Outcome.{Outcome}
 use Rattle.steps.specs.declared.step.Outcome.TheVariants.{Stalled}
+use Rattle.steps.specs.declared.step.Outcome.TheVariants as outcome
 use Rattle.machine_log.specs.machine_runs.Machines.{MachineLists}
 use Rattle.machine_log.specs.machine_runs.Runs.{answer_after}
 use Rattle.machine_log.specs.Logs.{Log, entered}
@@ -74,6 +75,54 @@ pub record AreTold (from : ℕ) (c : Config) (old : Held) (turn : Outcome) (s : 
   pub turn_is : IsTurned old.row.lent from old turn between
   pub net_is : IsAsked from c turn between s net new
 
+-- ---- rounds
+
+-- A turn was asked for, and then a step of the network; or the turn was refused.
+abbrev pub GoesOnWith : (from : ℕ) → Config → (old : Held) → (answer : Result Round LogRefusal) → Step → (new : Held) → Type 0
+GoesOnWith from c old (Ok r) s new = AreTold from c old r.turn s r.net new
+GoesOnWith from c old (Err refusal) s new = new ≡ old
+
+-- a turn behind which its processor waits: it has begun a reference, or stalled
+abbrev pub is_waiting : Outcome → Bool
+is_waiting outcome.Issued = true
+is_waiting outcome.Stalled = true
+is_waiting (outcome.Retired retired) = false
+is_waiting (outcome.Stopped cause) = false
+is_waiting outcome.Moved = false
+is_waiting (outcome.Combined first second) = false
+is_waiting (outcome.Served leader) = false
+is_waiting (outcome.Answered to) = false
+is_waiting outcome.Poked = false
+
+abbrev pub is_answered : Option (Result Outcome LogRefusal) → Bool
+is_answered None = false
+is_answered (Some (Ok o)) = true
+is_answered (Some (Err refusal)) = false
+
+-- a round behind which its processor waits, and in which nothing was refused
+abbrev pub leaves_waiting : Result Round LogRefusal → Bool
+leaves_waiting (Ok r) = if is_waiting r.turn then is_answered r.net else false
+leaves_waiting (Err refusal) = false
+
+-- Rounds were gone through with these steps, one behind the other, and each left the processor waiting.
+abbrev pub HaveWaited : (from : ℕ) → Config → (old : Held) → List Step → (new : Held) → Type 0
+HaveWaited from c old [] new = new ≡ old
+HaveWaited from c old (s ∷ later) new = (answer : Result Round LogRefusal) × (between : Held) × (leaves_waiting answer ≡ true)
+    × GoesOnWith from c old answer s between × HaveWaited from c between later new
+
+-- Rounds were gone through with the first of these steps, so many. All but the last left the processor waiting. The last was answered so,
+-- and did not, where steps are left.
+pub record HaveGone (from : ℕ) (c : Config) (old : Held) (steps : List Step) (gone : ℕ) (answer : Result Round LogRefusal) (new : Held) : Type 0 where
+  pub earlier : List Step
+  pub last : Step
+  pub later : List Step
+  pub steps_are : steps ≡ earlier ++ last ∷ later
+  pub count : gone ≡ suc (length earlier)
+  pub between : Held
+  pub waited : HaveWaited from c old earlier between
+  pub round : GoesOnWith from c between answer last new
+  pub over : leaves_waiting answer ≡ true → later ≡ []
+
 -- ---- a loan
 
 -- What a loan has: whose core it is, how it was lent, how it stands, and what it has retired since.
@@ -116,15 +165,12 @@ pub record IsReturned (from : ℕ) (old : Held) (retired : List Retired) (new : 
   pub follows : Follows old.row.last place
   pub pass : new ≡ held old.processor (with_loan (told_all old.processor old.row place retired) None)
 
--- Behind it a turn was asked for, and then a step of the network; or the turn was refused.
-abbrev pub GoesOnWith : (from : ℕ) → Config → (old : Held) → (answer : Result Round LogRefusal) → Step → (new : Held) → Type 0
-GoesOnWith from c old (Ok r) s new = AreTold from c old r.turn s r.net new
-GoesOnWith from c old (Err refusal) s new = new ≡ old
-
-pub record HasEnded (from : ℕ) (c : Config) (old : Held) (retired : List Retired) (answer : Result Round LogRefusal) (s : Step) (new : Held) : Type 0 where
+-- Behind it rounds were gone through.
+pub record HasEnded (from : ℕ) (c : Config) (old : Held) (retired : List Retired) (steps : List Step) (gone : ℕ) (answer : Result Round LogRefusal)
+    (new : Held) : Type 0 where
   pub between : Held
   pub back : IsReturned from old retired between
-  pub round : GoesOnWith from c between answer s new
+  pub rounds : HaveGone from c between steps gone answer new
 
 -- ---- the passes of all processors
 

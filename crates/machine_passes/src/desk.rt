@@ -1,6 +1,6 @@
 //! What lies under the lock.
 
-ghost use Rattle.std.specs.Prelude.{◌≡◌, ℕ, ◌≤◌, ◌<◌, ◌+◌, ◌^◌, ◌↔◌, [], ◌∷◌, length, true, false, Some, Err, slice_get, is_some, Ok};
+ghost use Rattle.std.specs.Prelude.{◌≡◌, ℕ, ◌≤◌, ◌<◌, ◌+◌, ◌^◌, ◌↔◌, [], ◌∷◌, length, take, true, false, Some, Err, slice_get, is_some, Ok};
 ghost use Rattle.std.specs.Prelude.{IfOk, IfErr, OnOk, OnErr, None, vec_len, vec_capacity};
 ghost use Rattle.std.specs.Arc.{arc_value};
 ghost use Rattle.agreed_rows.specs.Rows.{IsWritten};
@@ -8,12 +8,12 @@ ghost use Rattle.local_runs.specs.LocalRuns.{RetirementList};
 ghost use Rattle.machine_log.specs.Logs.{is_named};
 ghost use Rattle.machine_loans.specs.Lendings.{OfOthers, may_lend, promised};
 ghost use Rattle.machine_passes.specs.Lists.{is_net, is_poke, is_turn_of};
-ghost use Rattle.machine_passes.specs.Passes.{row_of, AreTold, IsAgreed, IsAnswered, IsLentOn, IsLoanOf, IsReturned, IsTold, IsTurned};
+ghost use Rattle.machine_passes.specs.Passes.{row_of, leaves_waiting, AreTold, HaveGone, HaveWaited, IsAgreed, IsAnswered, IsLentOn, IsLoanOf, IsReturned, IsTold, IsTurned};
 
-use crate::kinds::{is_of_network, is_stop};
+use crate::kinds::{is_of_network, is_stop, is_waiting};
 use crate::loan::Loan;
 use crate::pass::Pass;
-use crate::quiet::is_quiet;
+use crate::quiet::{is_quiet, quiet_rounds};
 use crate::row::Row;
 use crate::run::Run;
 use crate::stored::Stored;
@@ -32,6 +32,15 @@ use steps::{Outcome, Step};
 pub struct Round {
     pub turn: Outcome,
     pub net: Option<Result<Outcome, LogRefusal>>,
+}
+
+/// Rounds that were gone through.
+#[derive(Clone, Copy, Debug, PartialEq, Eq, Drop)]
+pub struct Rounds {
+    /// How many.
+    pub gone: usize,
+    /// What the last of them answered.
+    pub answer: Result<Round, LogRefusal>,
 }
 
 /// The logged machine, which lends cores, with the keeper that knows what every pass stores. Contracts see it as the log and all
@@ -107,6 +116,17 @@ fn take(
             Ok(())
         }
         Err(refusal) => Err(refusal),
+    }
+}
+
+// Whether the processor waits behind a round, and nothing was refused in it.
+#[inline(always)]
+fn leaves_waiting(answer: &Result<Round, LogRefusal>) -> bool
+    ensures { result ≡ leaves_waiting answer.now }
+{
+    match answer {
+        Ok(round) => is_waiting(&round.turn) && matches!(round.net, Some(Ok(_))),
+        Err(_) => false,
     }
 }
 
@@ -250,6 +270,50 @@ impl<N: Run> Desk<N> {
         }
         let net = Some(self.net(pass, step));
         Ok(Round { turn, net })
+    }
+
+    /// Goes through rounds with these steps, until one does not leave the processor waiting.
+    #[inline(always)]
+    pub(crate) fn rounds(&mut self, pass: &mut Pass<N>, steps: &[Step]) -> Rounds
+        requires some { 1 ≤ length steps.now }
+        ensures told { HaveGone (length N.first) N.opening.config pass.old steps.now result.gone result.answer pass.new }
+        ensures named { result.answer ≡ Err LogRefusal.Unnamed → ⊥ }
+        ensures processor { pass.new.processor ≡ pass.old.processor }
+    {
+        let mut gone = 0;
+        loop {
+            gone += self.stand_by(pass, &steps[gone..]);
+            let answer = self.round(pass, steps[gone]);
+            gone += 1;
+            if gone == steps.len() || !leaves_waiting(&answer) {
+                return Rounds { gone, answer };
+            }
+        }
+    }
+
+    /// Goes through the rounds with the first of these steps that find nothing, and answers how many they are. Most rounds of a processor that
+    /// waits are such. The pass is told what the last of them has answered, and that is what it would store behind all. The last
+    /// step is left over.
+    #[inline(always)]
+    fn stand_by(&mut self, pass: &mut Pass<N>, steps: &[Step]) -> usize
+        requires some { 1 ≤ length steps.now }
+        ensures few { result < length steps.now }
+        ensures waited { HaveWaited (length N.first) N.opening.config pass.old (take result steps.now) pass.new }
+        ensures processor { pass.new.processor ≡ pass.old.processor }
+    {
+        if pass.is_lent() || !pass.stored.has_room_for(1) {
+            return 0;
+        }
+        self.meet(pass);
+        lending_is_kept(&self.lending);
+        let quiet = quiet_rounds(self.lending.machine(), pass.processor, steps);
+        if quiet == 0 {
+            return 0;
+        }
+        match self.net(pass, steps[quiet - 1]) {
+            Ok(_) => quiet,
+            Err(_) => 0,
+        }
     }
 
     /// What the pass stores is the keeper's row.

@@ -2,6 +2,7 @@
 
 ghost use Rattle.std.specs.Prelude.{◌≡◌};
 ghost use Rattle.machine_passes.specs.Lists.{is_of_network, is_stop, is_turn_of};
+ghost use Rattle.machine_passes.specs.Passes.{is_waiting};
 ghost use Rattle.machine_passes.specs.Rows.{counted};
 
 use steps::{Outcome, Step};
@@ -28,6 +29,13 @@ pub(crate) fn is_stop(outcome: &Outcome) -> bool
     ensures { result ≡ is_stop outcome.now }
 {
     matches!(outcome, Outcome::Stopped(_))
+}
+
+/// Whether its processor waits behind such a turn: it has begun a reference, or stalled.
+pub(crate) fn is_waiting(outcome: &Outcome) -> bool
+    ensures { result ≡ is_waiting outcome.now }
+{
+    matches!(outcome, Outcome::Issued | Outcome::Stalled)
 }
 
 /// 1 for a step that is entered.

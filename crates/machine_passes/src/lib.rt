@@ -17,7 +17,7 @@ mod run;
 mod shared;
 mod stored;
 
-pub use desk::{Desk, Round};
+pub use desk::{Desk, Round, Rounds};
 pub use laws::{events_are_listed, lists_are_joined, places_rise, stopped_are_shut};
 pub use loan::Loan;
 pub use pass::Pass;

@@ -1,21 +1,22 @@
 //! Steps for which there is no message.
 
-ghost use Rattle.std.specs.Prelude.{◌≡◌, ◌≤◌, ◌<◌, ◌^◌, [], true};
+ghost use Rattle.std.specs.Prelude.{◌≡◌, ℕ, ◌≤◌, ◌<◌, ◌^◌, [], true, length, slice_get, Some};
 ghost use Rattle.machine.specs.machine_program.Processors.{open_at};
-ghost use Rattle.machine.specs.machine_program.Steps.{outcome_of};
-ghost use Rattle.machine.specs.Machines.{machine_of};
 ghost use Rattle.machine_log.specs.machine_runs.omega_network.Networks.{net_of};
 ghost use Rattle.machine_log.specs.Logs.{is_named};
+ghost use Rattle.machine_passes.specs.Lists.{IsQuietMove, Stalls};
 
+use crate::kinds::is_of_network;
+use machine_log::names;
 use machine_runs::{Machine, machine_is_sound};
-use steps::{Outcome, Step};
+use steps::Step;
 
 /// Whether a step has no message, and so stalls: no request to move or to serve, no reply to move, or none for which an open processor
 /// waits. Most steps that threads ask for are such, and a look at a bit tells it. Others may stall too.
 #[inline(always)]
 pub(crate) fn is_quiet(machine: &Machine, step: Step) -> bool
     requires { is_named machine.now.config step ≡ true }
-    ensures { result ≡ true → outcome_of machine.now.config machine.now.code (machine_of machine.now (λ p. [])) step ≡ Outcome.Stalled }
+    ensures { result ≡ true → Stalls machine.now step }
 {
     machine_is_sound(machine);
     match step {
@@ -25,6 +26,36 @@ pub(crate) fn is_quiet(machine: &Machine, step: Step) -> bool
         Step::Down { stage, wire } => has_no_reply(machine, stage + 1, wire),
         Step::Poke(_) => false,
     }
+}
+
+/// How many rounds of a processor with these steps find nothing, one behind the other: its turn no reply, for which it waits, and each step, which
+/// is one of the network that the machine has, no message. The machine is the same behind them. The last step is not looked at.
+pub(crate) fn quiet_rounds(machine: &Machine, processor: u8, steps: &[Step]) -> usize
+    requires processor { processor < 2 ^ machine.now.config.k }
+    requires some { 1 ≤ length steps.now }
+    ensures few { result < length steps.now }
+    ensures turn { 1 ≤ result → Stalls machine.now (Step.Turn processor) }
+    ensures moves { (place : ℕ) (s : _) → place < result → slice_get steps.now place ≡ Some s → IsQuietMove machine.now s }
+{
+    if !is_quiet(machine, Step::Turn(processor)) {
+        return 0;
+    }
+    let last = steps.len() - 1;
+    for place in 0..last {
+        if !is_quiet_move(machine, steps[place]) {
+            return place;
+        }
+    }
+    last
+}
+
+/// Whether it is a step of the network that the machine has, and has no message.
+#[inline(always)]
+fn is_quiet_move(machine: &Machine, step: Step) -> bool
+    ensures { result ≡ true → IsQuietMove machine.now step }
+{
+    machine_is_sound(machine);
+    is_of_network(step) && names(machine.config(), &step) && is_quiet(machine, step)
 }
 
 /// Whether a processor has a reference open.

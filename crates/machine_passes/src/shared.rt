@@ -3,9 +3,9 @@
 ghost use Rattle.std.specs.Prelude.{◌≡◌, ◌≤◌, ◌^◌, ◌↔◌, length, is_some, true, false, None, Ok, Err, IfOk, IfErr, OnOk, OnErr};
 ghost use Rattle.machine_passes.specs.Lists.{is_net};
 ghost use Rattle.machine_passes.specs.Rows.{Fits};
-ghost use Rattle.machine_passes.specs.Passes.{AreTold, HasEnded, IsLentOn, IsLoanOf, IsReturned, IsTold, IsTurned, IsWhole, TotalsAgree, new_passes, rows_of};
+ghost use Rattle.machine_passes.specs.Passes.{HasEnded, HaveGone, IsLentOn, IsLoanOf, IsReturned, IsTold, IsTurned, IsWhole, TotalsAgree, new_passes, rows_of};
 
-use crate::desk::{Desk, Round};
+use crate::desk::{Desk, Rounds};
 use crate::loan::Loan;
 use crate::pass::Pass;
 use crate::row::Row;
@@ -32,7 +32,8 @@ const WAIT: u32 = 256;
 /// How often it then lets others run, before it sleeps until it is called.
 const YIELDS: u32 = 16;
 
-/// A logged machine that threads share. A call waits for the lock, and then takes one step, or lends a core or takes one back.
+/// A logged machine that threads share. A call waits for the lock, and then takes one step or goes through rounds, or lends a core or takes
+/// one back.
 #[derive(Drop)]
 pub struct Shared<N: Run> {
     desk: Mutex<Desk<N>>,
@@ -176,30 +177,22 @@ impl<N: Run> Shared<N> {
         self.take(rt).net(pass, step)
     }
 
-    /// Takes a turn of the pass's processor, as [`Shared::turn`] does and then, unless that has stopped the processor, a step of the
-    /// network as [`Shared::net`] does, with no other thread's step between them.
-    ///
-    /// # Errors
-    ///
-    /// Those of [`Shared::turn`], where the turn is refused. Then no step is asked for.
+    /// Goes through rounds, with no other thread's step between them. A round takes a turn of the pass's processor, as [`Shared::turn`] does and
+    /// then, unless that has stopped the processor, the next of these steps, as [`Shared::net`] does. They end with one that does not leave the
+    /// processor waiting, since its turn has retired an instruction or stopped it, or something was refused, and where no step is left.
     #[inline(always)]
-    pub fn round<R: Wait>(
-        &self,
-        rt: &R,
-        pass: &mut Pass<N>,
-        step: Step,
-    ) -> Result<Round, LogRefusal>
-        ensures told { IfOk result (λ r. AreTold (length N.first) N.opening.config pass.old r.turn step r.net pass.new) }
-        ensures named { result ≡ Err LogRefusal.Unnamed → ⊥ }
-        ensures err { OnErr result (pass.new ≡ pass.old) }
+    pub fn rounds<R: Wait>(&self, rt: &R, pass: &mut Pass<N>, steps: &[Step]) -> Rounds
+        requires some { 1 ≤ length steps.now }
+        ensures told { HaveGone (length N.first) N.opening.config pass.old steps.now result.gone result.answer pass.new }
+        ensures named { result.answer ≡ Err LogRefusal.Unnamed → ⊥ }
         ensures processor { pass.new.processor ≡ pass.old.processor }
     {
         pass.make_room(1);
-        self.take(rt).round(pass, step)
+        self.take(rt).rounds(pass, steps)
     }
 
-    /// Takes a loan back, as [`Shared::give_back`] does, and then a round, as [`Shared::round`] does, with no other thread's step between them.
-    /// The answer is that of the round.
+    /// Takes a loan back, as [`Shared::give_back`] does, and then goes through rounds, as [`Shared::rounds`] does, with no other thread's step
+    /// between them.
     ///
     /// # Errors
     ///
@@ -210,17 +203,18 @@ impl<N: Run> Shared<N> {
         rt: &R,
         pass: &mut Pass<N>,
         loan: Loan<N>,
-        step: Step,
-    ) -> Result<Result<Round, LogRefusal>, Loan<N>>
-        requires { IsLoanOf pass.old loan }
-        ensures told { IfOk result (λ answer. HasEnded (length N.first) N.opening.config pass.old loan.retired answer step pass.new) }
+        steps: &[Step],
+    ) -> Result<Rounds, Loan<N>>
+        requires loan { IsLoanOf pass.old loan }
+        requires some { 1 ≤ length steps.now }
+        ensures told { IfOk result (λ r. HasEnded (length N.first) N.opening.config pass.old loan.retired steps.now r.gone r.answer pass.new) }
         ensures handed { IfErr result (λ handed. handed ≡ loan) }
         ensures err { OnErr result (pass.new ≡ pass.old) }
         ensures processor { pass.new.processor ≡ pass.old.processor }
     {
         let mut desk = self.take(rt);
         desk.give_back(pass, loan)?;
-        Ok(desk.round(pass, step))
+        Ok(desk.rounds(pass, steps))
     }
 
     /// The desk, once no other thread has it.

@@ -1,5 +1,6 @@
 -- What a call tells a pass is sent, or is held.
-use Rattle.std.proofs.Common.{◌≡◌, ℕ, Bool, true, false, List, [], ◌∷◌, ◌++◌, refl, sym, ap, ◌∙◌, subst, append_assoc, arith, eq-eqb, ◌⊎◌, inl, inr}
+use Rattle.std.proofs.Common.{◌≡◌, ℕ, ◌+◌, Bool, true, false, List, [], ◌∷◌, ◌++◌, length, length-append, refl, sym, ap, ◌∙◌, subst, append_assoc, arith, eq-eqb}
+use Rattle.std.proofs.Common.{◌⊎◌, inl, inr}
 use Rattle.std.specs.Prelude.{suc, All, map, Option, Some, None, Result, Ok, Err, IfOk, OnOk, OnErr, is_ok, if◌then◌else◌}
 use Rattle.std.specs.Result.{result_ok}
 use Rattle.std.proofs.lemmas.List.{append-nil, map-append}
@@ -18,14 +19,17 @@ use Rattle.machine_log.specs.declared.log.LogRefusal.{LogRefusal}
 use Rattle.machine_passes.specs.declared.row.Notice.{Notice}
 use Rattle.machine_passes.specs.Lists.{given_to, shown_at, is_turn_of, is_of_network, is_net, is_stop}
 use Rattle.machine_passes.specs.declared.desk.Round.{Round}
+use Rattle.machine_passes.specs.declared.desk.Rounds.{Rounds}
 use Rattle.machine_passes.specs.declared.row.Row.{Row}
 use Rattle.machine_passes.specs.Rows.{told, told_all}
-use Rattle.machine_passes.specs.Passes.{Held, held, IsTold, IsTurned, IsAsked, AreTold, GoesOnWith, HasGoneOn, IsReturned, LoanState}
+use Rattle.machine_passes.specs.Passes.{Held, held, is_answered, is_waiting, leaves_waiting, IsTold, IsTurned, IsAsked, AreTold, GoesOnWith, HaveGone}
+use Rattle.machine_passes.specs.Passes.{HaveWaited, HasGoneOn, IsReturned, LoanState}
 use Rattle.local_runs.specs.LocalRuns.{EndsAt, IsQuiet, RetirementList}
 use Rattle.local_runs.specs.declared.run.LocalEnd.{LocalEnd}
 use Rattle.local_runs.specs.declared.run.LocalEnd.TheVariants.{Out, Most, Other}
-use Rattle.processor_threads.specs.Consoles.{console_bytes, console_of, byte_of, end_queue, given_by, IsHeard}
+use Rattle.processor_threads.specs.Consoles.{console_bytes, console_of, byte_of, end_queue, given_by, HoldsAnswer, IsHeard, IsWithin}
 use Rattle.processor_threads.specs.declared.fault.RunFault.{RunFault}
+use Rattle.processor_threads.specs.declared.hand.Gone.{Gone}
 use Rattle.processor_threads.specs.Endings.{EndsWithStop}
 
 abbrev events : List Notice → List Event
@@ -211,29 +215,82 @@ stops_round c from old new o s net t stop =
 
 -- ---- the answer to a round
 
-pub goes_on : (c : Config) (from : ℕ) (old new : Held) (answer : Result Round LogRefusal) (s : Step) →
-    IfOk answer (λ r. AreTold from c old r.turn s r.net new) → OnErr answer (new ≡ old) → GoesOnWith from c old answer s new
-goes_on c from old new (Ok r) s told same = told
-goes_on c from old new (Err refusal) s told same = same
-
 -- What was given is sent or held once the answer is heard, where nothing was held before.
-pub heard : (c : Config) (from : ℕ) (old new : Held) (answer : Result Round LogRefusal) (s : Step) (end end' : End) (over : Result Bool RunFault) →
-    GoesOnWith from c old answer s new → IsHeard answer end end' over → end.held ≡ None → console_of old ≡ sent_by end → console_of new ≡ sent_by end'
+heard : (c : Config) (from : ℕ) (old new : Held) (answer : Result Round LogRefusal) (s : Step) (end end' : End) (over : Result Gone RunFault) →
+    GoesOnWith from c old answer s new → HoldsAnswer answer end end' over → end.held ≡ None → console_of old ≡ sent_by end → console_of new ≡ sent_by end'
 heard c from old new (Ok r) s end end' over on is none sent =
     turned_round c from old new r.turn s r.net (put_of end.sender) on (sent ∙ ap (λ held. put_of end.sender ++ held_of held) none)
     ∙ ap sent_by (sym is.0)
 heard c from old new (Err refusal) s end end' over on is none sent = ap console_of on ∙ sent ∙ ap sent_by (sym is.0)
 
-pub heard_queue : (answer : Result Round LogRefusal) (end end' : End) (over : Result Bool RunFault) → IsHeard answer end end' over →
+-- A round that is told as the last one has stopped the processor.
+heard_stop : (c : Config) (from : ℕ) (old new : Held) (answer : Result Round LogRefusal) (s : Step) (end end' : End) (over : Result Gone RunFault) (gone : Gone) →
+    GoesOnWith from c old answer s new → HoldsAnswer answer end end' over → over ≡ Ok gone → gone.stopped ≡ true → EndsWithStop new
+heard_stop c from old new (Ok r) s end end' over gone on is told stop = stops_round c from old new r.turn s r.net on (is.1 gone told stop)
+heard_stop c from old new (Err refusal) s end end' over gone on is told stop = absurd (is.1 gone told stop)
+
+-- ---- rounds behind which the processor waits
+
+first_of : (a b : Bool) → (if a then b else false) ≡ true → a ≡ true
+first_of true b e = refl
+first_of false b e = absurd (cc)
+
+-- Such a turn gives nothing.
+waiting_gives : (o : Outcome) → is_waiting o ≡ true → byte_of o ≡ None
+waiting_gives Issued e = refl
+waiting_gives Stalled e = refl
+waiting_gives (Retired retired) e = absurd (cc)
+waiting_gives (Stopped cause) e = absurd (cc)
+waiting_gives Moved e = absurd (cc)
+waiting_gives (Combined first second) e = absurd (cc)
+waiting_gives (Served leader) e = absurd (cc)
+waiting_gives (Answered to) e = absurd (cc)
+waiting_gives Poked e = absurd (cc)
+
+wait_given : (c : Config) (from : ℕ) (old new : Held) (answer : Result Round LogRefusal) (s : Step) → leaves_waiting answer ≡ true →
+    GoesOnWith from c old answer s new → console_of new ≡ console_of old
+wait_given c from old new (Ok r) s waits on =
+    turned_round c from old new r.turn s r.net (console_of old) on (sym (append-nil (console_of old)))
+    ∙ ap (λ o. console_of old ++ held_of o) (waiting_gives r.turn (first_of (is_waiting r.turn) (is_answered r.net) waits))
+    ∙ append-nil (console_of old)
+wait_given c from old new (Err refusal) s waits on = ap console_of on
+
+waits_given : (c : Config) (from : ℕ) (old new : Held) (steps : List Step) → HaveWaited from c old steps new → console_of new ≡ console_of old
+waits_given c from old new [] w = ap console_of w
+waits_given c from old new (s ∷ steps) w = waits_given c from w.1 new steps w.4 ∙ wait_given c from old w.1 w.0 s w.2 w.3
+
+-- ---- the answer to rounds
+
+module _ (c : Config) (from : ℕ) (old new : Held) (steps : List Step) (rounds : Rounds) (end end' : End) (over : Result Gone RunFault)
+    (gone : HaveGone from c old steps rounds.gone rounds.answer new) (is : IsHeard rounds end end' over) where
+  -- What was given is sent or held once it is heard, where nothing was held before.
+  pub heard_all : end.held ≡ None → console_of old ≡ sent_by end → console_of new ≡ sent_by end'
+  heard_all none sent =
+      heard c from gone.between new rounds.answer gone.last end end' over gone.round is.answer none (waits_given c from old gone.between gone.earlier gone.waited ∙ sent)
+
+  -- Rounds of which it is told that they stopped the processor did.
+  pub heard_end : (told : Gone) → over ≡ Ok told → told.stopped ≡ true → EndsWithStop new
+  heard_end told e stop = heard_stop c from gone.between new rounds.answer gone.last end end' over told gone.round is.answer e stop
+
+  -- As many are told as there were, which is one at least, and not more than there are steps.
+  pub heard_count : IfOk over (λ told. IsWithin told.rounds (length steps))
+  heard_count = within over is.count
+    where
+      within : (over : Result Gone RunFault) → IfOk over (λ told. told.rounds ≡ rounds.gone) → IfOk over (λ told. IsWithin told.rounds (length steps))
+      within (Ok told) same =
+          let all : length steps ≡ length gone.earlier + length (gone.last ∷ gone.later) = ap length gone.steps_are
+          ∙ length-append gone.earlier (gone.last ∷ gone.later) in
+          let count = gone.count in
+          (omega (arith, same, count), omega (arith, same, count, all))
+      within (Err fault) same = tt
+
+heard_queue : (answer : Result Round LogRefusal) (end end' : End) (over : Result Gone RunFault) → HoldsAnswer answer end end' over →
     end_queue end' ≡ end_queue end
 heard_queue (Ok r) end end' over is = ap end_queue is.0
 heard_queue (Err refusal) end end' over is = ap end_queue is.0
 
--- A round that is told as the last one has stopped the processor.
-pub heard_stop : (c : Config) (from : ℕ) (old new : Held) (answer : Result Round LogRefusal) (s : Step) (end end' : End) (over : Result Bool RunFault) →
-    GoesOnWith from c old answer s new → IsHeard answer end end' over → over ≡ Ok true → EndsWithStop new
-heard_stop c from old new (Ok r) s end end' over on is stop = stops_round c from old new r.turn s r.net on (is.1 stop)
-heard_stop c from old new (Err refusal) s end end' over on is stop = absurd (is.1 stop)
+pub heard_queues : (rounds : Rounds) (end end' : End) (over : Result Gone RunFault) → IsHeard rounds end end' over → end_queue end' ≡ end_queue end
+heard_queues rounds end end' over is = heard_queue rounds.answer end end' over is.answer
 
 -- ---- what a call has answered
 

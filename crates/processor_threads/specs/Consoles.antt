@@ -1,5 +1,5 @@
 -- The bytes that a processor sends to the console.
-use Rattle.std.specs.Prelude.{◌≡◌, ℕ, Bool, true, List, [], ◌∷◌, ◌++◌, map, Option, None, Result, Ok, Err, Vec}
+use Rattle.std.specs.Prelude.{◌≡◌, ℕ, ◌≤◌, true, List, [], ◌∷◌, ◌++◌, map, Option, None, Result, Ok, Err, IfOk, Vec}
 use Rattle.std.specs.Global.{Global}
 use Rattle.flat_machine.specs.declared.event.Event.{Event}
 use Rattle.flat_machine.specs.declared.event.Event.TheVariants as event
@@ -7,12 +7,14 @@ use Rattle.steps.specs.declared.step.Outcome.{Outcome}
 use Rattle.steps.specs.declared.step.Outcome.TheVariants.{Retired, Issued, Stopped, Moved, Combined, Served, Answered, Poked, Stalled}
 use Rattle.machine_log.specs.declared.log.LogRefusal.{LogRefusal}
 use Rattle.machine_passes.specs.declared.desk.Round.{Round}
+use Rattle.machine_passes.specs.declared.desk.Rounds.{Rounds}
 use Rattle.machine_passes.specs.Lists.{is_stop}
 use Rattle.console_monitor.specs.Ends.{held_of, sender_queue}
 use Rattle.console_monitor.specs.declared.monitor.End.{End}
 use Rattle.agreed_rows.specs.atomic_table.Seated.{TableId}
 use Rattle.machine_passes.specs.Passes.{Held}
 use Rattle.processor_threads.specs.declared.fault.RunFault.{RunFault}
+use Rattle.processor_threads.specs.declared.hand.Gone.{Gone}
 
 -- what an event gives the console
 abbrev pub given_by : Event → List ℕ
@@ -51,10 +53,21 @@ byte_of (Answered to) = None
 byte_of Poked = None
 byte_of Stalled = None
 
--- The end of a console's queue holds the byte that a round's turn has given; only a turn that has stopped its processor is told as one.
-abbrev pub IsHeard : (answer : Result Round LogRefusal) → (old new : End) → (is_over : Result Bool RunFault) → Type 0
-IsHeard (Ok round) old new is_over = (new ≡ record old { held = byte_of round.turn }) × (is_over ≡ Ok true → is_stop round.turn ≡ true)
-IsHeard (Err refusal) old new is_over = (new ≡ old) × (is_over ≡ Ok true → ⊥)
+-- from one to so many
+abbrev pub IsWithin : ℕ → ℕ → Type 0
+IsWithin count most = (1 ≤ count) × (count ≤ most)
+
+-- The end of a console's queue holds the byte that the last round's turn has given; only a turn that has stopped its processor is told as
+-- one.
+abbrev pub HoldsAnswer : (answer : Result Round LogRefusal) → (old new : End) → (over : Result Gone RunFault) → Type 0
+HoldsAnswer (Ok round) old new over =
+    (new ≡ record old { held = byte_of round.turn }) × ((gone : Gone) → over ≡ Ok gone → gone.stopped ≡ true → is_stop round.turn ≡ true)
+HoldsAnswer (Err refusal) old new over = (new ≡ old) × ((gone : Gone) → over ≡ Ok gone → gone.stopped ≡ true → ⊥)
+
+-- The answer to the last of the rounds is heard so, and as many are told as were gone through.
+pub record IsHeard (rounds : Rounds) (old new : End) (over : Result Gone RunFault) : Type 0 where
+  pub answer : HoldsAnswer rounds.answer old new over
+  pub count : IfOk over (λ gone. gone.rounds ≡ rounds.gone)
 
 -- the bytes of a list in memory
 abbrev pub bytes_of : Vec ℕ Global → List ℕ

@@ -4,6 +4,7 @@ ghost use Rattle.std.specs.Prelude.{◌≡◌, ◌+◌, ◌≤◌, ◌<◌, [], 
 ghost use Rattle.console_monitor.specs.Ends.{queues_of};
 ghost use Rattle.processor_threads.specs.Endings.{AllComeBack, AreSent, ComesBack};
 
+use crate::ahead::Ahead;
 use crate::fault::{RunFault, graver_of};
 use crate::gate::Gate;
 use crate::hand::Hand;
@@ -74,6 +75,7 @@ impl<N: Run, A: Arbiter + Drop> Crew<N, A> {
                 waits: false,
             },
             arbiter,
+            ahead: Ahead::new(),
             turns: 0,
         })
     }

@@ -1,10 +1,11 @@
 //! What the thread of a processor holds of the machine and of the console.
 
-ghost use Rattle.std.specs.Prelude.{◌≡◌, [], true, None, Ok};
+ghost use Rattle.std.specs.Prelude.{◌≡◌, ◌≤◌, [], length, true, None, Ok, IfOk};
 ghost use Rattle.machine_passes.specs.Lists.{is_stop, is_turn_of};
 ghost use Rattle.machine_passes.specs.Passes.{IsLoanOf};
 ghost use Rattle.console_monitor.specs.Ends.{held_of, sent_by};
-ghost use Rattle.processor_threads.specs.Consoles.{byte_of, console_of, end_queue, IsHeard};
+ghost use Rattle.processor_threads.specs.Consoles.{byte_of, console_of, end_queue, IsHeard, IsWithin};
+ghost use Rattle.processor_threads.specs.declared.hand.Gone.{Gone};
 ghost use Rattle.processor_threads.specs.Endings.{EndsWithStop};
 
 use crate::fault::{RunFault, heed};
@@ -13,13 +14,22 @@ use console_monitor::End;
 use local_runs::LocalEnd;
 use machine_loans::LendRefusal;
 use machine_log::LogRefusal;
-use machine_passes::{Loan, Pass, Round, Run, Shared};
+use machine_passes::{Loan, Pass, Rounds, Run, Shared};
 use std::alloc::Global;
 use std::sync::Wait;
 use steps::{Outcome, Step};
 
 /// How many instructions a core is lent for at most.
 const MOST: u32 = 64;
+
+/// Rounds that a thread has gone through.
+#[derive(Clone, Copy, Debug, PartialEq, Eq, Drop)]
+pub(crate) struct Gone {
+    /// How many.
+    pub(crate) rounds: usize,
+    /// Whether the last of them has stopped the processor.
+    pub(crate) stopped: bool,
+}
 
 /// The pass of a processor, and the end of its console's queue. All that the pass has stored is sent: it was put into the queue, but for
 /// one byte that is held at most.
@@ -45,52 +55,56 @@ impl<N: Run> Hand<N> {
     }
 
     /// Takes local instructions with the core on loan, where there may be some, and then, unless one has given the console a byte, a turn of
-    /// the processor. Answers whether that has stopped; unless it has, it asks for a step of the network too. A byte for the console
-    /// is held then.
+    /// the processor. Unless that has stopped it, it asks for the first of these steps of the network too. As long as the processor
+    /// waits, it goes on with rounds that take a turn and ask for the next of these steps. A byte for the console is held then.
     ///
     /// # Errors
     ///
     /// [`RunFault::Full`] where the log is full, [`RunFault::Memory`], and [`RunFault::Loan`] where a loan is handed back.
-    pub(crate) fn round<R: Wait>(
+    pub(crate) fn rounds<R: Wait>(
         &mut self,
         rt: &R,
         alloc: Global,
         shared: &Shared<N>,
-        step: Step,
-    ) -> Result<bool, RunFault>
-        requires { self.old.end.held ≡ None }
-        ensures stopped { result ≡ Ok true → EndsWithStop self.new.pass }
+        steps: &[Step],
+    ) -> Result<Gone, RunFault>
+        requires held { self.old.end.held ≡ None }
+        requires some { 1 ≤ length steps.now }
+        ensures stopped { (gone : Gone) → result ≡ Ok gone → gone.stopped ≡ true → EndsWithStop self.new.pass }
+        ensures rounds { IfOk result (λ gone. IsWithin gone.rounds (length steps.now)) }
         ensures processor { self.new.pass.processor ≡ self.old.pass.processor }
         ensures queue { end_queue self.new.end ≡ end_queue self.old.end }
     {
         if self.waits {
-            return self.turn(rt, shared, step);
+            return self.turns(rt, shared, steps);
         }
         match shared.lend(rt, alloc, &mut self.pass, MOST) {
-            Ok(loan) => self.run_alone(rt, shared, loan, step),
+            Ok(loan) => self.run_alone(rt, shared, loan, steps),
             Err(LendRefusal::Memory) => Err(RunFault::Memory),
-            Err(LendRefusal::Full | LendRefusal::NotFree) => self.turn(rt, shared, step),
+            Err(LendRefusal::Full | LendRefusal::NotFree) => self.turns(rt, shared, steps),
         }
     }
 
     /// Takes local instructions with a core that was lent on the pass, and gives it back. Unless the last of them has given the console a byte,
-    /// which is held then, a turn follows, as [`Hand::turn`] takes it. Answers whether the processor has stopped.
+    /// which is held then, turns follow, as [`Hand::turns`] takes them.
     ///
     /// # Errors
     ///
-    /// Those of [`Hand::round`].
+    /// Those of [`Hand::rounds`].
     #[inline(always)]
     fn run_alone<R: Wait>(
         &mut self,
         rt: &R,
         shared: &Shared<N>,
         mut loan: Loan<N>,
-        step: Step,
-    ) -> Result<bool, RunFault>
+        steps: &[Step],
+    ) -> Result<Gone, RunFault>
         requires held { self.old.end.held ≡ None }
         requires lent { IsLoanOf self.old.pass loan }
         requires none { loan.retired ≡ [] }
-        ensures stopped { result ≡ Ok true → EndsWithStop self.new.pass }
+        requires some { 1 ≤ length steps.now }
+        ensures stopped { (gone : Gone) → result ≡ Ok gone → gone.stopped ≡ true → EndsWithStop self.new.pass }
+        ensures rounds { IfOk result (λ gone. IsWithin gone.rounds (length steps.now)) }
         ensures processor { self.new.pass.processor ≡ self.old.pass.processor }
         ensures queue { end_queue self.new.end ≡ end_queue self.old.end }
     {
@@ -100,33 +114,43 @@ impl<N: Run> Hand<N> {
                     return Err(RunFault::Loan);
                 };
                 self.end.held = Some(byte);
-                self.net(rt, shared, step)?;
-                Ok(false)
+                self.net(rt, shared, steps[0])?;
+                Ok(Gone {
+                    rounds: 1,
+                    stopped: false,
+                })
             }
             LocalEnd::Most | LocalEnd::Other => {
-                let Some(answer) = shared.end_loan(rt, &mut self.pass, loan, step).ok() else {
+                let Some(rounds) = shared.end_loan(rt, &mut self.pass, loan, steps).ok() else {
                     return Err(RunFault::Loan);
                 };
-                hear(&mut self.end, &mut self.waits, answer)
+                hear(&mut self.end, &mut self.waits, rounds)
             }
         }
     }
 
-    /// Takes a turn of the processor, and answers whether that has stopped. A byte for the console is held then. Unless it has stopped, it
-    /// asks for a step of the network too.
+    /// Takes a turn of the processor. A byte for the console is held then. Unless it has stopped, it asks for the first of these steps of
+    /// the network too, and as long as the processor waits, it goes on so with the next.
     ///
     /// # Errors
     ///
     /// [`RunFault::Full`] where the log is full, and [`RunFault::Memory`].
     #[inline(always)]
-    fn turn<R: Wait>(&mut self, rt: &R, shared: &Shared<N>, step: Step) -> Result<bool, RunFault>
-        requires { self.old.end.held ≡ None }
-        ensures stopped { result ≡ Ok true → EndsWithStop self.new.pass }
+    fn turns<R: Wait>(
+        &mut self,
+        rt: &R,
+        shared: &Shared<N>,
+        steps: &[Step],
+    ) -> Result<Gone, RunFault>
+        requires held { self.old.end.held ≡ None }
+        requires some { 1 ≤ length steps.now }
+        ensures stopped { (gone : Gone) → result ≡ Ok gone → gone.stopped ≡ true → EndsWithStop self.new.pass }
+        ensures rounds { IfOk result (λ gone. IsWithin gone.rounds (length steps.now)) }
         ensures processor { self.new.pass.processor ≡ self.old.pass.processor }
         ensures queue { end_queue self.new.end ≡ end_queue self.old.end }
     {
-        let answer = shared.round(rt, &mut self.pass, step);
-        hear(&mut self.end, &mut self.waits, answer)
+        let rounds = shared.rounds(rt, &mut self.pass, steps);
+        hear(&mut self.end, &mut self.waits, rounds)
     }
 
     /// Asks for a step of the network. One that names a place that the machine has not is no fault.
@@ -150,29 +174,32 @@ impl<N: Run> Hand<N> {
     }
 }
 
-/// Holds the byte that a round's turn has given, and notes whether its processor waits. Answers whether the turn has stopped it.
+/// Holds the byte that the last round's turn has given, and notes whether its processor waits.
 ///
 /// # Errors
 ///
 /// Those of [`heed`], of the turn or of the step of the network.
 #[inline(always)]
-fn hear(
-    end: &mut End,
-    waits: &mut bool,
-    answer: Result<Round, LogRefusal>,
-) -> Result<bool, RunFault>
-    ensures { IsHeard answer end.old end.new result }
+fn hear(end: &mut End, waits: &mut bool, rounds: Rounds) -> Result<Gone, RunFault>
+    ensures { IsHeard rounds end.old end.new result }
 {
+    let Rounds { gone, answer } = rounds;
     match answer {
         Ok(round) => {
             end.held = byte_of(&round.turn);
             *waits = matches!(round.turn, Outcome::Issued | Outcome::Stalled);
             heed_net(round.net)?;
-            Ok(is_stop(&round.turn))
+            Ok(Gone {
+                rounds: gone,
+                stopped: is_stop(&round.turn),
+            })
         }
         Err(refusal) => {
             heed(refusal)?;
-            Ok(false)
+            Ok(Gone {
+                rounds: gone,
+                stopped: false,
+            })
         }
     }
 }

@@ -5,6 +5,7 @@
 //! threads have ended, the log, what the passes store and the consoles agree, whatever the threads did side by side.
 #![tactic(auto)]
 
+mod ahead;
 mod crew;
 mod fault;
 mod gate;

@@ -1,26 +1,38 @@
 //! The rounds of one processor's thread.
 
-ghost use Rattle.std.specs.Prelude.{◌≡◌, ◌+◌, ◌≤◌, ◌<◌, ◌^◌, true, Ok, OnOk};
-ghost use Rattle.processor_threads.specs.Consoles.{end_queue};
+ghost use Rattle.std.specs.Prelude.{◌≡◌, ◌+◌, ◌≤◌, ◌<◌, ◌^◌, true, Ok, OnOk, IfOk};
+ghost use Rattle.processor_threads.specs.Consoles.{end_queue, IsWithin};
+ghost use Rattle.processor_threads.specs.declared.hand.Gone.{Gone};
 ghost use Rattle.processor_threads.specs.Endings.{ComesBack, EndsWithStop};
 
+use crate::ahead::Ahead;
 use crate::fault::RunFault;
 use crate::gate::Gate;
-use crate::hand::Hand;
+use crate::hand::{Gone, Hand};
 use crate::terms::Terms;
 use flat_machine::Event;
 use machine_passes::{Run, Shared};
 use shuffled::Arbiter;
 use std::sync::Wait;
 
-/// How many rounds a thread goes through between two times that it tells how far it is.
+/// How many rounds a thread goes through, at least, between two times that it tells how far it is.
 const ROUNDS_TOLD: u32 = 1024;
+
+/// What a thread has told of how far it is.
+#[derive(Clone, Copy, Debug, PartialEq, Eq, Drop)]
+struct Told {
+    rounds: u32,
+    /// The instructions that its processor has retired.
+    retired: u64,
+}
 
 /// What the thread of a processor begins with.
 #[derive(Drop)]
 pub(crate) struct Worker<N: Run, A: Drop> {
     pub(crate) hand: Hand<N>,
     pub(crate) arbiter: A,
+    /// Steps that the arbiter has named.
+    pub(crate) ahead: Ahead,
     /// How many turns it has taken.
     pub(crate) turns: u64,
 }
@@ -68,23 +80,31 @@ impl<N: Run, A: Arbiter + Drop> Worker<N, A> {
         ensures processor { self.new.hand.pass.processor ≡ self.old.hand.pass.processor }
         ensures queue { end_queue self.new.hand.end ≡ end_queue self.old.hand.end }
     {
-        let mut told = 0;
-        for round in 0..terms.budget {
-            if self.round(rt, shared, terms, gate)? {
-                self.tell(round % ROUNDS_TOLD + 1, told, gate);
+        let mut gone = 0;
+        let mut told = Told {
+            rounds: 0,
+            retired: 0,
+        };
+        while gone < terms.budget {
+            let more = self.go_on(rt, shared, terms, gate, terms.budget - gone)?;
+            gone += more.rounds as u32;
+            if more.stopped {
+                self.tell(gone, told, gate);
                 return Ok(());
             }
-            if round % ROUNDS_TOLD == ROUNDS_TOLD - 1 {
-                told = self.tell(ROUNDS_TOLD, told, gate);
+            if gone - told.rounds >= ROUNDS_TOLD {
+                told = self.tell(gone, told, gate);
             }
         }
-        self.tell(terms.budget % ROUNDS_TOLD, told, gate);
+        self.tell(gone, told, gate);
         Err(RunFault::Budget)
     }
 
-    /// Tells the gate of further rounds, and of the instructions that were retired in them. So many were told before; answers how many
-    /// are told now.
-    fn tell<G: Gate>(&self, rounds: u32, told: u64, gate: &G) -> u64 {
+    /// Tells the gate of the rounds that are gone, and of the instructions that were retired in them, but for those that were told before.
+    /// Answers what is told now.
+    fn tell<G: Gate>(&self, gone: u32, told: Told, gate: &G) -> Told
+        ensures { result.rounds ≡ gone }
+    {
         let notices = self.hand.pass.notices();
         // The stop of a processor is its last notice.
         let stops = match notices.last() {
@@ -92,39 +112,59 @@ impl<N: Run, A: Arbiter + Drop> Worker<N, A> {
             None => 0,
         };
         let retired = (notices.len() as u64).saturating_sub(stops);
-        gate.gone(u64::from(rounds), retired.saturating_sub(told));
-        retired
+        gate.gone(
+            u64::from(gone.saturating_sub(told.rounds)),
+            retired.saturating_sub(told.retired),
+        );
+        Told {
+            rounds: gone,
+            retired,
+        }
     }
 
-    /// One round: where a byte is held, it tries to put it, else it passes the gate and takes local instructions and a turn; then it asks
-    /// for the step of the network that its arbiter names. Answers whether the processor has stopped: then it asks for none. The
-    /// arbiter, which is not told what a turn answers, is asked before, so that the turn and the step are taken with one lock.
+    /// Goes through rounds, at least one and so many at most. In a round, where a byte is held, it tries to put it, else it passes the gate and
+    /// takes local instructions and a turn; then it asks for the step of the network that its arbiter names, unless the processor has
+    /// stopped. The arbiter, which is not told what a turn answers, is asked before, so that the turn and the step are taken with one lock;
+    /// and so are those of the next rounds while the processor waits, as many as the gate lets pass at once.
     ///
     /// # Errors
     ///
-    /// Those of [`Hand::round`].
-    fn round<G: Gate, R: Wait>(
+    /// Those of [`Hand::rounds`].
+    fn go_on<G: Gate, R: Wait>(
         &mut self,
         rt: &R,
         shared: &Shared<N>,
         terms: &Terms,
         gate: &G,
-    ) -> Result<bool, RunFault>
-        requires { self.old.turns + 1 < 2 ^ 64 }
-        ensures stopped { result ≡ Ok true → EndsWithStop self.new.hand.pass }
+        most: u32,
+    ) -> Result<Gone, RunFault>
+        requires some { 1 ≤ most }
+        requires turns { self.old.turns + most < 2 ^ 64 }
+        ensures stopped { (gone : Gone) → result ≡ Ok gone → gone.stopped ≡ true → EndsWithStop self.new.hand.pass }
+        ensures rounds { IfOk result (λ gone. IsWithin gone.rounds most) }
         ensures processor { self.new.hand.pass.processor ≡ self.old.hand.pass.processor }
         ensures queue { end_queue self.new.hand.end ≡ end_queue self.old.hand.end }
-        ensures turns { self.new.turns ≤ self.old.turns + 1 }
+        ensures turns { IfOk result (λ gone. self.new.turns ≤ self.old.turns + gone.rounds) }
     {
         if self.hand.end.held.is_some() {
             self.hand.put(rt, terms);
-            let step = self.arbiter.next(terms.stages);
-            self.hand.net(rt, shared, step)?;
-            return Ok(false);
+            self.ahead
+                .fill(&mut self.arbiter, terms.stages, gate.at_once());
+            self.hand.net(rt, shared, self.ahead.steps(1)[0])?;
+            self.ahead.pass(1);
+            return Ok(Gone {
+                rounds: 1,
+                stopped: false,
+            });
         }
         gate.before(self.hand.pass.processor(), self.turns);
-        self.turns += 1;
-        let step = self.arbiter.next(terms.stages);
-        self.hand.round(rt, terms.alloc, shared, step)
+        self.ahead
+            .fill(&mut self.arbiter, terms.stages, gate.at_once());
+        let gone = self
+            .hand
+            .rounds(rt, terms.alloc, shared, self.ahead.steps(most as usize))?;
+        self.ahead.pass(gone.rounds);
+        self.turns += gone.rounds as u64;
+        Ok(gone)
     }
 }

@@ -6,6 +6,7 @@ mod passes;
 mod rounds;
 mod runs;
 mod stray;
+mod together;
 
 use std::fmt::Debug;
 use std::process::Abort;

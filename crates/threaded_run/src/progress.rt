@@ -58,6 +58,10 @@ impl<'a, C: Clock, E: Eprint> Progress<'a, C, E> {
 impl<C: Clock, E: Eprint> Gate for Progress<'_, C, E> {
     fn before(&self, _p: u8, _turn: u64) {}
 
+    fn at_once(&self) -> usize {
+        usize::MAX
+    }
+
     fn gone(&self, rounds: u64, retired: u64) {
         self.rounds.fetch_add(rounds, Ordering::SeqCst);
         self.retired.fetch_add(retired, Ordering::SeqCst);

@@ -3,7 +3,6 @@
 ghost use Rattle.std.specs.Prelude.{◌≡◌, ◌≤◌, ◌^◌, ℕ, Some};
 ghost use Rattle.machine_passes.specs.Passes.{IsWhole};
 
-use super::rounds::log_of;
 use agreed_rows::Room;
 use flat_machine::{CODE_START, Status};
 use local_runs::LocalEnd;
@@ -16,6 +15,7 @@ use std::sync::Wait;
 use std::test::Fail;
 use steps::Outcome;
 use test_devices::{HUNDRED_ADDS, assert_same};
+use test_machines::{log_of, size};
 
 /// A processor that writes the byte 65 to the console by its fourth instruction.
 const WRITES: &str =
@@ -115,7 +115,7 @@ fn lend_both<N: Run, R: Wait + Abort>(
 #[test]
 fn both_cores_away(rt: HostRuntime) -> Result<(), Fail> {
     let alloc = rt.alloc();
-    let logged = log_of(&rt, alloc, HUNDRED_ADDS, 1)?;
+    let logged = log_of(alloc, HUNDRED_ADDS, size(1))?;
     lend_both::<Brand, _>(&rt, alloc, Room::new(alloc)?, logged)
 }
 
@@ -147,7 +147,7 @@ fn lend_twice<N: Run, R: Wait + Abort>(
 #[test]
 fn one_core_twice_or_short_of_memory(rt: HostRuntime) -> Result<(), Fail> {
     let alloc = rt.alloc();
-    let logged = log_of(&rt, alloc, WRITES, 0)?;
+    let logged = log_of(alloc, WRITES, size(0))?;
     lend_twice::<Brand, _>(&rt, alloc, Room::new(alloc)?, logged)
 }
 
@@ -196,7 +196,7 @@ fn gather_without<N: Run, R: Wait + Abort>(
 #[test]
 fn core_that_is_lost(rt: HostRuntime) -> Result<(), Fail> {
     let alloc = rt.alloc();
-    let logged = log_of(&rt, alloc, HUNDRED_ADDS, 0)?;
+    let logged = log_of(alloc, HUNDRED_ADDS, size(0))?;
     let logged = gather_without::<Brand, _>(&rt, alloc, Room::new(alloc)?, logged)?;
     assert_same!(rt; logged.steps().len(), 0);
     let machine = logged.machine();

@@ -4,7 +4,6 @@
 ghost use Rattle.std.specs.Prelude.{◌≡◌, ◌^◌};
 ghost use Rattle.machine_passes.specs.Passes.{IsWhole};
 
-use super::rounds::log_of;
 use agreed_rows::Room;
 use flat_machine::{CODE_START, Event, Poke, Retired, SHARED_START};
 use machine_log::{LogRefusal, Logged};
@@ -18,6 +17,7 @@ use std::sync::Wait;
 use std::test::Fail;
 use steps::{Outcome, Step};
 use test_devices::assert_same;
+use test_machines::{log_of, size};
 
 /// The writes before: word 0 is 10, and each processor has its addend in `a1` and the word's address in `a2`.
 fn pokes() -> [Poke; 9] {
@@ -48,7 +48,7 @@ fn register(processor: u8, register: u8, value: u32) -> Poke {
 
 /// The log of a machine of four processors, with these writes as its steps.
 fn four_adds(rt: &impl Abort, alloc: Global) -> Result<Logged, Fail> {
-    let mut log = log_of(rt, alloc, "amoadd.w a0, a1, (a2)", 2)?;
+    let mut log = log_of(alloc, "amoadd.w a0, a1, (a2)", size(2))?;
     for poke in pokes() {
         assert_same!(rt; log.step(Step::Poke(poke)), Ok(Outcome::Poked));
     }

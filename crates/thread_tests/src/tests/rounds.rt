@@ -3,18 +3,13 @@
 ghost use Rattle.std.specs.Prelude.{◌≡◌, ◌^◌, IfOk, vec_len};
 
 use agreed_rows::Room;
-use assembler::assemble;
-use elf_image::read_image;
-use flat_machine::{Config, Event, Status};
-use link::Meter;
+use flat_machine::{Event, Status};
 use machine_log::Logged;
 use machine_passes::{Pass, Row, Run};
-use machine_runs::Machine;
 use processor_threads::{Gate, Open, RunFault, run_threads};
 use shuffled::{Arbiter, Shuffled};
 use std::alloc::Global;
 use std::marker::Brand;
-use std::process::Abort;
 use std::sync::Wait;
 use std::sync::atomic::{AtomicU64, Ordering};
 use std::test::Fail;
@@ -22,22 +17,7 @@ use std::thread;
 use std::thread::Threads;
 use std::time::{Clock, Duration};
 use test_devices::{HUNDRED_ADDS, assert_same};
-
-/// The log of a machine of `k` stages that opens on the image of a text.
-pub(super) fn log_of(rt: &impl Abort, alloc: Global, text: &str, k: u8) -> Result<Logged, Fail> {
-    let size = Config {
-        k,
-        c: 4,
-        b: 4,
-        r: 1,
-        shared_words: 1024,
-    };
-    let file = assemble(alloc, text)?.to_elf(alloc)?;
-    let image = read_image(alloc, &mut Meter::new(file.as_slice()), &size)?;
-    let machine = Machine::new(alloc, image, size)?;
-    assert!(rt; machine.is_idle());
-    Ok(Logged::new(alloc, machine))
-}
+use test_machines::{log_of, size};
 
 /// The arbiters of a log's processors, in a run that begins with 1.
 fn arbiters(alloc: Global, logged: &Logged) -> Result<Vec<Shuffled>, Fail>
@@ -104,7 +84,7 @@ fn retired_by<N: Run>(pass: &Pass<N>) -> usize {
 }
 
 /// Runs the image of a text.
-fn run_text<G: Gate + Sync, R: Threads + Wait + Abort + Sync>(
+fn run_text<G: Gate + Sync, R: Threads + Wait + Sync>(
     rt: &R,
     alloc: Global,
     text: &str,
@@ -112,7 +92,7 @@ fn run_text<G: Gate + Sync, R: Threads + Wait + Abort + Sync>(
     gate: &G,
     budget: u32,
 ) -> Result<Seen, Fail> {
-    let logged = log_of(rt, alloc, text, k)?;
+    let logged = log_of(alloc, text, size(k))?;
     let room = Room::new(alloc)?;
     let arbiters = arbiters(alloc, &logged)?;
     run::<Brand, Shuffled, G, R>(rt, alloc, room, logged, arbiters, gate, budget)

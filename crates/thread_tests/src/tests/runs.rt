@@ -4,35 +4,17 @@
 mod ends;
 mod reports;
 
-use assembler::assemble;
 use flat_machine::Config;
 use link::Meter;
 use processor_threads::Open;
 use run_commands::replay_command;
 use std::alloc::Global;
 use std::sync::Wait;
-use std::test::Fail;
 use std::thread::Threads;
 use threaded_run::threaded_run_command;
 
-/// A machine with queues of four and four records.
-const fn size(k: u8) -> Config {
-    Config {
-        k,
-        c: 4,
-        b: 4,
-        r: 1,
-        shared_words: 1024,
-    }
-}
-
 /// A budget that no program here uses up, unless a thread cannot go on.
 const AMPLE: u32 = 10_000_000;
-
-/// The image of a text.
-fn image_of(alloc: Global, text: &str) -> Result<Vec<u8>, Fail> {
-    Ok(assemble(alloc, text)?.to_elf(alloc)?)
-}
 
 /// What a command comes to.
 #[derive(Drop)]

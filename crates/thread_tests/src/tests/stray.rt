@@ -2,19 +2,19 @@
 
 ghost use Rattle.std.specs.Prelude.{◌≡◌, ◌≤◌, ◌^◌, IfOk, vec_len};
 
-use super::rounds::{Seen, log_of, run};
+use super::rounds::{Seen, run};
 use agreed_rows::Room;
 use machine_log::Logged;
 use processor_threads::{Open, RunFault};
 use shuffled::Arbiter;
 use std::alloc::Global;
 use std::marker::Brand;
-use std::process::Abort;
 use std::sync::Wait;
 use std::test::Fail;
 use std::thread::Threads;
 use steps::Step;
 use test_devices::{HUNDRED_ADDS, assert_same};
+use test_machines::{log_of, size};
 
 /// Always asks for the service of a module that no machine has.
 #[derive(Drop)]
@@ -40,7 +40,7 @@ fn strays(alloc: Global, logged: &Logged) -> Result<Vec<Stray>, Fail>
 }
 
 /// Runs a log with such arbiters.
-fn run_astray<R: Threads + Wait + Abort + Sync>(
+fn run_astray<R: Threads + Wait + Sync>(
     rt: &R,
     alloc: Global,
     logged: Logged,
@@ -55,7 +55,7 @@ fn run_astray<R: Threads + Wait + Abort + Sync>(
 /// back. A drain then brings both references home, with four moves each.
 #[test]
 fn no_place_of_the_machine(rt: HostRuntime) -> Result<(), Fail> {
-    let logged = log_of(&rt, rt.alloc(), HUNDRED_ADDS, 1)?;
+    let logged = log_of(rt.alloc(), HUNDRED_ADDS, size(1))?;
     let mut seen = run_astray(&rt, rt.alloc(), logged, 1000)?;
     assert_same!(rt; seen.fault, Some(RunFault::Budget));
     assert_same!(rt; seen.retired.as_slice(), [3, 3].as_slice());

@@ -2,7 +2,7 @@
 
 ghost use Rattle.std.specs.Prelude.{◌≡◌, false};
 
-use super::{AMPLE, Ran, image_of, run, size};
+use super::{AMPLE, Ran, run};
 use flat_machine::Config;
 use link::{Link, Meter};
 use processor_threads::Open;
@@ -11,6 +11,7 @@ use std::fmt::Write;
 use std::process::Abort;
 use std::test::Fail;
 use test_devices::{EBREAK, Sink, assert_same};
+use test_machines::{image_of, size};
 use threaded_run::threaded_run_command;
 
 /// Nothing is printed and no trace is written, and this is told.

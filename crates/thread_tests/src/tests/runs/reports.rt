@@ -1,6 +1,6 @@
 //! Reports of programs that end.
 
-use super::{AMPLE, image_of, replay, run, size};
+use super::{AMPLE, replay, run};
 use std::alloc::Global;
 use std::fmt::Write;
 use std::process::Abort;
@@ -8,6 +8,7 @@ use std::sync::Wait;
 use std::test::Fail;
 use std::thread::Threads;
 use test_devices::{HUNDRED_ADDS, assert_same};
+use test_machines::{image_of, size};
 
 /// The run of a text comes to this report and status, and its trace replays to them.
 fn assert_reported<R: Threads + Wait + Abort + Sync>(

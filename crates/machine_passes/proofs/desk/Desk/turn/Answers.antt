@@ -1,12 +1,8 @@
-use Rattle.std.proofs.Common.{◌≡◌, ℕ, Option, None, Some, length, false, refl, sym, ◌∙◌, subst}
-use Rattle.std.specs.Prelude.{IfOk, is_some}
+use Rattle.std.proofs.Common.{length, sym, ◌∙◌, subst}
+use Rattle.std.specs.Prelude.{IfOk}
 use Rattle.machine_passes.specs.Passes.{IsTurned}
+use Rattle.machine_passes.proofs.Waiting.{is_none}
 use Rattle.machine_passes.proofs.desk.Desk.turn.Goals as goal
-
--- none, where it is not some
-is_none : (l : Option ℕ) → is_some l ≡ false → l ≡ None
-is_none None e = refl
-is_none (Some most) e = absurd (cc)
 
 pub returns-clause-told : goal.returns-clause-told
 returns-clause-told g c =

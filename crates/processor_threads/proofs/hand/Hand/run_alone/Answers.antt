@@ -1,5 +1,5 @@
 use Rattle.std.proofs.Common.{◌∙◌}
-use Rattle.processor_threads.proofs.Sending.{answered, byte_held, heard, nothing_given, was_answered}
+use Rattle.processor_threads.proofs.Sending.{answered, byte_held, heard_all, heard_count, heard_end, heard_queues, nothing_given, was_answered}
 use Rattle.processor_threads.proofs.hand.Hand.run_alone.Goals as goal
 
 pub invariant_of-self-in-Out : goal.invariant_of-self-in-Out
@@ -14,11 +14,24 @@ invariant_of-self-in-Out g c =
 pub invariant_of-self-in-Most : goal.invariant_of-self-in-Most
 invariant_of-self-in-Most g c =
     let old = c.args.self.now in
-    let answer = c.in-Some-ok.answer in
-    let told = answered c.end_loan.result _ answer c.end_loan.ensures.told c.in-Some-ok.ensures.value in
+    let rounds = c.in-Some-ok.rounds in
+    let told = answered c.end_loan.result _ rounds c.end_loan.ensures.told c.in-Some-ok.ensures.value in
     let same = nothing_given _ _ old.pass told.between c.args.loan c.run_local.new.self c.run_local.result c.requires.none c.run_local.ensures told.back
     c.in-Most.is in
     record {
-      sent = heard _ _ told.between c.end_loan.new.pass answer c.args.step old.end c.hear.new.end c.hear.result told.round c.hear.ensures c.requires.held
-          (same ∙ old.sent);
+      sent = heard_all _ _ told.between c.end_loan.new.pass c.args.steps.now rounds old.end c.hear.new.end c.hear.result told.rounds c.hear.ensures
+          c.requires.held (same ∙ old.sent);
+    }
+
+pub returns-in-Some-ok : goal.returns-in-Some-ok
+returns-in-Some-ok g c =
+    let rounds = c.in-Some-ok.rounds in
+    let told = answered c.end_loan.result _ rounds c.end_loan.ensures.told c.in-Some-ok.ensures.value in
+    record {
+      stopped = heard_end _ _ told.between c.end_loan.new.pass c.args.steps.now rounds c.args.self.now.end c.hear.new.end c.hear.result told.rounds
+          c.hear.ensures;
+      rounds = heard_count _ _ told.between c.end_loan.new.pass c.args.steps.now rounds c.args.self.now.end c.hear.new.end c.hear.result told.rounds
+          c.hear.ensures;
+      processor = c.end_loan.ensures.processor;
+      queue = heard_queues rounds c.args.self.now.end c.hear.new.end c.hear.result c.hear.ensures;
     }
