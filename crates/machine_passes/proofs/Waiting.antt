@@ -1,5 +1,6 @@
 -- Rounds behind which a processor waits, and one more behind them.
-use Rattle.std.proofs.Common.{◌≡◌, ℕ, zero, suc, ◌+◌, ◌-◌, ◌≤◌, ◌<◌, List, [], ◌∷◌, ◌++◌, length, take, drop, true, false, Bool, refl, sym, ap, ◌∙◌, subst, arith}
+use Rattle.std.proofs.Common.{◌≡◌, ℕ, zero, suc, ◌+◌, ◌-◌, ◌≤◌, ◌<◌, List, [], ◌∷◌, ◌++◌, length, take, drop, true, false, Bool}
+use Rattle.std.proofs.Common.{refl, sym, ap, ◌∙◌, subst, arith}
 use Rattle.std.specs.Prelude.{Option, Result, Ok, Err, IfOk, OnErr, None, Some, is_some, slice_get, if◌then◌else◌}
 use Rattle.std.proofs.lemmas.List.{append-nil}
 use Rattle.std.proofs.Math.Seq.{take-add}
@@ -159,7 +160,8 @@ module _ (from : ℕ) (c : Config) where
         stood_by moved new later n s o home (λ k y less at. moves (suc k) y (omega (arith, less)) at) here (behind_stall from turned new s o t' x),
       )
 
-  module _ (old between new : Held) (steps : List Step) (n : ℕ) (s : Step) (answer : Result Round LogRefusal) (waited : HaveWaited from c old (take n steps) between)
+  module _ (old between new : Held) (steps : List Step) (n : ℕ) (s : Step) (answer : Result Round LogRefusal)
+      (waited : HaveWaited from c old (take n steps) between)
       (here : slice_get steps n ≡ Some s) (on : GoesOnWith from c between answer s new) where
     -- Where it waits again, the rounds go on.
     pub waits_again : leaves_waiting answer ≡ true → HaveWaited from c old (take (n + 1) steps) new

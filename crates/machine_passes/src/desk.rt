@@ -8,7 +8,8 @@ ghost use Rattle.local_runs.specs.LocalRuns.{RetirementList};
 ghost use Rattle.machine_log.specs.Logs.{is_named};
 ghost use Rattle.machine_loans.specs.Lendings.{OfOthers, may_lend, promised};
 ghost use Rattle.machine_passes.specs.Lists.{is_net, is_poke, is_turn_of};
-ghost use Rattle.machine_passes.specs.Passes.{row_of, leaves_waiting, AreTold, HaveGone, HaveWaited, IsAgreed, IsAnswered, IsLentOn, IsLoanOf, IsReturned, IsTold, IsTurned};
+ghost use Rattle.machine_passes.specs.Passes.{row_of, leaves_waiting, AreTold, HaveGone, HaveWaited, IsAgreed, IsAnswered, IsTold, IsTurned};
+ghost use Rattle.machine_passes.specs.Passes.{IsLentOn, IsLoanOf, IsReturned};
 
 use crate::kinds::{is_of_network, is_stop, is_waiting};
 use crate::loan::Loan;

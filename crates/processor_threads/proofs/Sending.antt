@@ -1,6 +1,6 @@
 -- What a call tells a pass is sent, or is held.
-use Rattle.std.proofs.Common.{◌≡◌, ℕ, ◌+◌, Bool, true, false, List, [], ◌∷◌, ◌++◌, length, length-append, refl, sym, ap, ◌∙◌, subst, append_assoc, arith, eq-eqb}
-use Rattle.std.proofs.Common.{◌⊎◌, inl, inr}
+use Rattle.std.proofs.Common.{◌≡◌, ℕ, ◌+◌, Bool, true, false, List, [], ◌∷◌, ◌++◌, length, length-append, refl, sym, ap, ◌∙◌, subst}
+use Rattle.std.proofs.Common.{append_assoc, arith, eq-eqb, ◌⊎◌, inl, inr}
 use Rattle.std.specs.Prelude.{suc, All, map, Option, Some, None, Result, Ok, Err, IfOk, OnOk, OnErr, is_ok, if◌then◌else◌}
 use Rattle.std.specs.Result.{result_ok}
 use Rattle.std.proofs.lemmas.List.{append-nil, map-append}
@@ -224,8 +224,8 @@ heard c from old new (Ok r) s end end' over on is none sent =
 heard c from old new (Err refusal) s end end' over on is none sent = ap console_of on ∙ sent ∙ ap sent_by (sym is.0)
 
 -- A round that is told as the last one has stopped the processor.
-heard_stop : (c : Config) (from : ℕ) (old new : Held) (answer : Result Round LogRefusal) (s : Step) (end end' : End) (over : Result Gone RunFault) (gone : Gone) →
-    GoesOnWith from c old answer s new → HoldsAnswer answer end end' over → over ≡ Ok gone → gone.stopped ≡ true → EndsWithStop new
+heard_stop : (c : Config) (from : ℕ) (old new : Held) (answer : Result Round LogRefusal) (s : Step) (end end' : End) (over : Result Gone RunFault)
+    (gone : Gone) → GoesOnWith from c old answer s new → HoldsAnswer answer end end' over → over ≡ Ok gone → gone.stopped ≡ true → EndsWithStop new
 heard_stop c from old new (Ok r) s end end' over gone on is told stop = stops_round c from old new r.turn s r.net on (is.1 gone told stop)
 heard_stop c from old new (Err refusal) s end end' over gone on is told stop = absurd (is.1 gone told stop)
 
@@ -266,7 +266,8 @@ module _ (c : Config) (from : ℕ) (old new : Held) (steps : List Step) (rounds 
   -- What was given is sent or held once it is heard, where nothing was held before.
   pub heard_all : end.held ≡ None → console_of old ≡ sent_by end → console_of new ≡ sent_by end'
   heard_all none sent =
-      heard c from gone.between new rounds.answer gone.last end end' over gone.round is.answer none (waits_given c from old gone.between gone.earlier gone.waited ∙ sent)
+      heard c from gone.between new rounds.answer gone.last end end' over gone.round is.answer none
+      (waits_given c from old gone.between gone.earlier gone.waited ∙ sent)
 
   -- Rounds of which it is told that they stopped the processor did.
   pub heard_end : (told : Gone) → over ≡ Ok told → told.stopped ≡ true → EndsWithStop new
