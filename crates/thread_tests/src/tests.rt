@@ -1,6 +1,7 @@
 //! From single bytes to the reports of runs.
 
 mod consoles;
+mod listed;
 mod loans;
 mod passes;
 mod rounds;
