@@ -1,7 +1,7 @@
 -- What a call tells a pass is sent, or is held.
 use Rattle.std.proofs.Common.{◌≡◌, ℕ, ◌+◌, Bool, true, false, List, [], ◌∷◌, ◌++◌, length, length-append, refl, sym, ap, ◌∙◌, subst}
 use Rattle.std.proofs.Common.{append_assoc, arith, eq-eqb, ◌⊎◌, inl, inr}
-use Rattle.std.specs.Prelude.{suc, All, map, Option, Some, None, Result, Ok, Err, IfOk, OnOk, OnErr, is_ok, if◌then◌else◌}
+use Rattle.std.specs.Prelude.{suc, All, map, Option, Some, None, Result, Ok, Err, IfOk, OnOk, is_ok, if◌then◌else◌}
 use Rattle.std.specs.Result.{result_ok}
 use Rattle.std.proofs.lemmas.List.{append-nil, map-append}
 use Rattle.flat_machine.specs.declared.event.Event.{Event}

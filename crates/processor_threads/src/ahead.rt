@@ -57,6 +57,11 @@ impl Ahead {
         &self.steps[self.next..end]
     }
 
+    /// Whether none is left.
+    pub(crate) fn is_used_up(&self) -> bool {
+        self.next == MOST
+    }
+
     /// The thread has asked for so many of them.
     pub(crate) fn pass(&mut self, count: usize)
         requires { self.old.next + count ≤ 512 }

@@ -14,6 +14,7 @@ use flat_machine::Event;
 use machine_passes::{Run, Shared};
 use shuffled::Arbiter;
 use std::sync::Wait;
+use std::thread::yield_now;
 
 /// How many rounds a thread goes through, at least, between two times that it tells how far it is.
 const ROUNDS_TOLD: u32 = 1024;
@@ -68,6 +69,13 @@ impl<N: Run, A: Arbiter + Drop> Worker<N, A> {
         }
     }
 
+    /// Goes through rounds. Each time that all steps are asked for which the arbiter has named, it lets other threads run: where the host has
+    /// fewer processors than there are threads, or has other work, a processor that waits for another one would use up its budget
+    /// while that one's thread does not run.
+    ///
+    /// # Errors
+    ///
+    /// Those of [`Hand::rounds`], and [`RunFault::Budget`].
     fn rounds<G: Gate, R: Wait>(
         &mut self,
         rt: &R,
@@ -88,6 +96,9 @@ impl<N: Run, A: Arbiter + Drop> Worker<N, A> {
         while gone < terms.budget {
             let more = self.go_on(rt, shared, terms, gate, terms.budget - gone)?;
             gone += more.rounds as u32;
+            if self.ahead.is_used_up() {
+                yield_now();
+            }
             if more.stopped {
                 self.tell(gone, told, gate);
                 return Ok(());
