@@ -7,13 +7,14 @@ use Rattle.std.proofs.Math.Seq.{take-add}
 use Rattle.flat_machine.specs.declared.config.Config.{Config}
 use Rattle.steps.specs.declared.step.Step.{Step}
 use Rattle.steps.specs.declared.step.Step.TheVariants.{Turn}
+use Rattle.steps.specs.declared.step.Step.TheVariants as step
 use Rattle.steps.specs.declared.step.Outcome.{Outcome}
 use Rattle.steps.specs.declared.step.Outcome.TheVariants.{Stalled}
 use Rattle.machine_log.specs.declared.log.LogRefusal.{LogRefusal}
 use Rattle.machine_passes.specs.declared.desk.Round.{Round}
 use Rattle.machine_passes.specs.declared.row.Notice.{Notice}
 use Rattle.machine_passes.specs.declared.row.Row.{Row}
-use Rattle.machine_passes.specs.Lists.{is_net, is_turn_of}
+use Rattle.machine_passes.specs.Lists.{is_net, is_of_network, is_turn_of}
 use Rattle.machine_passes.specs.Rows.{answer, row, told}
 use Rattle.machine_passes.specs.Passes.{Held, held, AreTold, GoesOnWith, HaveGone, HaveWaited, IsTold, IsTurned, leaves_waiting}
 
@@ -21,6 +22,14 @@ use Rattle.machine_passes.specs.Passes.{Held, held, AreTold, GoesOnWith, HaveGon
 pub is_none : (l : Option ℕ) → is_some l ≡ false → l ≡ None
 is_none None e = refl
 is_none (Some most) e = absurd (cc)
+
+-- A step of the network that the machine has is one of the network.
+pub of_net : (c : Config) (s : Step) → is_net c s ≡ true → is_of_network s ≡ true
+of_net c (step.Turn p) e = absurd (cc)
+of_net c (step.Up s w) e = refl
+of_net c (step.Serve m) e = refl
+of_net c (step.Down s w) e = refl
+of_net c (step.Poke poke) e = absurd (cc)
 
 -- ---- the parts of a list
 

@@ -7,7 +7,7 @@ ghost use Rattle.agreed_rows.specs.Rows.{IsWritten};
 ghost use Rattle.local_runs.specs.LocalRuns.{RetirementList};
 ghost use Rattle.machine_log.specs.Logs.{is_named};
 ghost use Rattle.machine_loans.specs.Lendings.{OfOthers, may_lend, promised};
-ghost use Rattle.machine_passes.specs.Lists.{is_net, is_poke, is_turn_of};
+ghost use Rattle.machine_passes.specs.Lists.{is_net, is_poke, is_turn_of, Stalls};
 ghost use Rattle.machine_passes.specs.Passes.{row_of, leaves_waiting, AreTold, HaveGone, HaveWaited, IsAgreed, IsAnswered, IsTold, IsTurned};
 ghost use Rattle.machine_passes.specs.Passes.{IsLentOn, IsLoanOf, IsReturned};
 
@@ -300,6 +300,8 @@ impl<N: Run> Desk<N> {
         requires some { 1 ≤ length steps.now }
         ensures few { result < length steps.now }
         ensures waited { HaveWaited (length N.first) N.opening.config pass.old (take result steps.now) pass.new }
+        ensures turn { 1 ≤ result → Stalls self.old.log.machine (Step.Turn pass.old.processor) }
+        ensures quiet { (place : ℕ) (s : _) → place < result → slice_get steps.now place ≡ Some s → Stalls self.old.log.machine s }
         ensures processor { pass.new.processor ≡ pass.old.processor }
     {
         if pass.is_lent() || !pass.stored.has_room_for(1) {
