@@ -5,3 +5,4 @@ pub mod Loads
 pub mod Meant
 pub mod Causes
 pub mod Numbers
+pub mod Lemmas

@@ -17,22 +17,8 @@ use Rattle.elf_image.specs.Headers.{file_header}
 use Rattle.elf_image.specs.Regions.{region_start, region_length}
 use Rattle.elf_image.specs.Images.{HasBytes, IsMeant}
 use Rattle.elf_image.specs.Openings.{padded, region_of_bytes, words_of, opening_processor, opening}
+use Rattle.elf_image.proofs.Lemmas.local_memory.{byte_of_padded, zero_of_replicate}
 use Rattle.image_laws.specs.Laws.{IsByteAt, IsPlacedAt, IsOpeningProcessor, IsOpening, IsFileOpening, IsLayoutOpening, IsOpenable}
-
-pub zero_of_replicate : (n i : ℕ) → slice_index (replicate n 0) i ≡ 0
-zero_of_replicate zero i = refl
-zero_of_replicate (suc n) zero = refl
-zero_of_replicate (suc n) (suc i) = zero_of_replicate n i
-
-pub padded_same : (n : ℕ) (bytes : List ℕ) (i : ℕ) → slice_index (padded n bytes) i ≡ slice_index bytes i
-unfolding padded
-padded_same n bytes i =
-    elim (cases_lt i (length bytes)) [
-      | inl less ↦ get_or_append_left bytes (replicate (n - length bytes) 0) 0 i less
-      | inr past ↦
-          get_or-append_right bytes (replicate (n - length bytes) 0) (length bytes) i 0 refl past ∙ zero_of_replicate (n - length bytes) (i - length bytes)
-          ∙ sym (get_or_past bytes i 0 past)
-    ]
 
 pub length-region_of_bytes : (bytes : List ℕ) → length bytes ≤ 65536 → length (region_of_bytes bytes) ≡ 65536
 unfolding padded
@@ -113,7 +99,7 @@ module _ (config : Config) (layout : Layout) (openable : IsOpenable layout) wher
       let at : a % 65536 ≡ a - 0x20000 = omega (arith, q) in
       record {
         code = λ h. let r : a / 65536 ≡ 1 = grind (arith, nat_tests, h) in absurd (omega (arith, q, r));
-        local = λ h. padded_same (2 ^ 16) layout.local (a % 65536) ∙ ap (slice_index layout.local) at;
+        local = λ h. byte_of_padded (2 ^ 16) layout.local (a % 65536) ∙ ap (slice_index layout.local) at;
         shared = λ h. absurd (omega (arith, q, h));
       }
 
@@ -122,7 +108,7 @@ module _ (config : Config) (layout : Layout) (openable : IsOpenable layout) wher
       let q : a / 65536 ≡ 1 = grind (arith, nat_tests, e) in
       let at : a % 65536 ≡ a - 0x10000 = omega (arith, q) in
       record {
-        code = λ h. padded_same (2 ^ 16) layout.code (a % 65536) ∙ ap (slice_index layout.code) at;
+        code = λ h. byte_of_padded (2 ^ 16) layout.code (a % 65536) ∙ ap (slice_index layout.code) at;
         local = λ h. let r : a / 65536 ≡ 2 = grind (arith, nat_tests, h) in absurd (omega (arith, q, r));
         shared = λ h. absurd (omega (arith, q, h));
       }

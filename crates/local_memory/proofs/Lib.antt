@@ -1,1 +1,2 @@
-mod Padded
+pub mod Padded
+pub mod Lemmas

@@ -8,7 +8,7 @@ use Rattle.local_memory.specs.Accesses.{padded}
 
 -- ---- one byte
 
-zero_of_replicate : (n i : ℕ) → slice_index (replicate n 0) i ≡ 0
+pub zero_of_replicate : (n i : ℕ) → slice_index (replicate n 0) i ≡ 0
 zero_of_replicate zero i = refl
 zero_of_replicate (suc n) zero = refl
 zero_of_replicate (suc n) (suc i) = zero_of_replicate n i
