@@ -25,14 +25,14 @@ pub(crate) fn is_turn_of(processor: u8, step: Step) -> bool
 }
 
 /// Whether a turn has stopped its processor.
-pub(crate) fn is_stop(outcome: &Outcome) -> bool
+pub fn is_stop(outcome: &Outcome) -> bool
     ensures { result ≡ is_stop outcome.now }
 {
     matches!(outcome, Outcome::Stopped(_))
 }
 
 /// Whether its processor waits behind such a turn: it has begun a reference, or stalled.
-pub(crate) fn is_waiting(outcome: &Outcome) -> bool
+pub fn is_waiting(outcome: &Outcome) -> bool
     ensures { result ≡ is_waiting outcome.now }
 {
     matches!(outcome, Outcome::Issued | Outcome::Stalled)

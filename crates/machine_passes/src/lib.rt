@@ -18,6 +18,7 @@ mod shared;
 mod stored;
 
 pub use desk::{Desk, Round, Rounds};
+pub use kinds::{is_stop, is_waiting};
 pub use laws::{events_are_listed, lists_are_joined, places_rise, stopped_are_shut};
 pub use loan::Loan;
 pub use pass::Pass;

@@ -1,7 +1,6 @@
 //! What the thread of a processor holds of the machine and of the console.
 
 ghost use Rattle.std.specs.Prelude.{◌≡◌, ◌≤◌, [], length, true, None, Ok, IfOk};
-ghost use Rattle.machine_passes.specs.Lists.{is_stop, is_turn_of};
 ghost use Rattle.machine_passes.specs.Passes.{IsLoanOf};
 ghost use Rattle.console_monitor.specs.Ends.{held_of, sent_by};
 ghost use Rattle.processor_threads.specs.Consoles.{byte_of, console_of, end_queue, IsHeard, IsWithin};
@@ -14,7 +13,7 @@ use console_monitor::End;
 use local_runs::LocalEnd;
 use machine_loans::LendRefusal;
 use machine_log::LogRefusal;
-use machine_passes::{Loan, Pass, Rounds, Run, Shared};
+use machine_passes::{Loan, Pass, Rounds, Run, Shared, is_stop, is_waiting};
 use std::alloc::Global;
 use std::sync::Wait;
 use steps::{Outcome, Step};
@@ -187,7 +186,7 @@ fn hear(end: &mut End, waits: &mut bool, rounds: Rounds) -> Result<Gone, RunFaul
     match answer {
         Ok(round) => {
             end.held = byte_of(&round.turn);
-            *waits = matches!(round.turn, Outcome::Issued | Outcome::Stalled);
+            *waits = is_waiting(&round.turn);
             heed_net(round.net)?;
             Ok(Gone {
                 rounds: gone,
@@ -220,11 +219,4 @@ fn byte_of(outcome: &Outcome) -> Option<u8>
         Outcome::Retired(retired) => retired.out,
         _ => None,
     }
-}
-
-/// Whether a turn has stopped the processor.
-fn is_stop(outcome: &Outcome) -> bool
-    ensures { result ≡ is_stop outcome.now }
-{
-    matches!(outcome, Outcome::Stopped(_))
 }
