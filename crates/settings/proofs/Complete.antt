@@ -8,38 +8,23 @@ use Rattle.std.specs.Option.{option_map_or}
 use Rattle.std.specs.Str.{bytes_eq}
 use Rattle.std.proofs.lemmas.Slice.Eq.{bytes_eq-Decides}
 use Rattle.clap.specs.Kinds.{check_kinds}
-use Rattle.clap.specs.Faults.{check_fault, defaults_fault, entered_fault, fault_of, is_simple_and_free, level_fault, settle_fault, walk_fault}
-use Rattle.clap.specs.Simple.{App, Shape, argument_words, built, built_leaf, entered, is_simple, label_of, names_of, rows_at}
+use Rattle.clap.specs.Faults.{check_fault, defaults_fault, entered_fault, fault_of, level_fault, settle_fault, walk_fault}
+use Rattle.clap.specs.Simple.{App, Shape, argument_words, built, built_leaf, entered, label_of, names_of, rows_at}
 use Rattle.clap.specs.Simple.{subcommand_of}
 use Rattle.clap.specs.Takes.{is_given}
 use Rattle.clap.specs.Walk.{Row, Text, answers_to, finished, nothing_held, rows_after, settled, walk, walk_from}
-use Rattle.settings.specs.Lines.{Bounds, asm_command, budget, check_command, combinations, debug_command, dis_command, explain_command, explore_command}
-use Rattle.settings.specs.Lines.{hunt_command}
-use Rattle.settings.specs.Lines.{order_command, port, processor, queue, records, picture_command, replay_command, run_command}
-use Rattle.settings.specs.Lines.{runs, shared_word, shared_words, stages, start, states}
-use Rattle.settings.specs.Lines.{stats_command, step, steps, story_command, ultra_command, witness, words_command}
+use Rattle.command_forms.specs.Commands.{Bounds, asm_command, budget, check_command, combinations, debug_command, dis_command, explain_command, explore_command}
+use Rattle.command_forms.specs.Commands.{hunt_command}
+use Rattle.command_forms.specs.Commands.{order_command, port, processor, queue, records, picture_command, replay_command, run_command}
+use Rattle.command_forms.specs.Commands.{runs, shared_word, shared_words, stages, start, states}
+use Rattle.command_forms.specs.Commands.{stats_command, step, steps, story_command, ultra_command, witness, words_command}
+use Rattle.command_forms.proofs.Lemmas.{commands}
 use Rattle.settings.specs.Given.{HasAsm, HasDebug, HasDis, HasExplore, HasHunt, HasOrder, HasPath, HasPicture, HasReplay, HasRun, HasSizes, IsComplete, IsOneOf}
 use Rattle.settings.specs.Given.{IsWhole, command_names}
 use Rattle.settings.proofs.NoHelp.{IsNoHelp, StopsAtNoHelp, walk_stops}
 use Rattle.settings.proofs.Numbers.{is_apart_or_number, number_there}
 use Rattle.settings.proofs.Rows.{gives_value, required_there}
 use Rattle.settings.proofs.Walks.{neither}
-
--- what a proof unfolds to compute with the program's command
-unfoldable pub commands : ⊤
-unfolding ultra_command words_command check_command asm_command dis_command run_command hunt_command explore_command replay_command order_command
-    story_command stats_command picture_command debug_command explain_command
-commands = tt
-
--- clap gives its matches as a function of the words
-pub is_simple_ultra : is_simple ultra_command ≡ true
-unfolding commands
-is_simple_ultra = refl
-
--- and the kinds of its errors too
-pub is_free_ultra : is_simple_and_free ultra_command ≡ true
-unfolding commands
-is_free_ultra = refl
 
 -- a required argument that is missing is a fault
 required : (given : Bool) → check_kinds false false (not given || false) ≡ [] → given ≡ true

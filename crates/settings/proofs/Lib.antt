@@ -1,4 +1,3 @@
-pub mod Adding
 pub mod Complete
 pub mod Getters
 pub mod NoHelp

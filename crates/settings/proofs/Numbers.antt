@@ -27,7 +27,7 @@ use Rattle.clap.specs.declared.builder.value_parser.ValueParser.TheVariants as v
 use Rattle.clap.specs.declared.error.kind.ErrorKind.TheVariants as kind
 use Rattle.clap.specs.declared.parser.matches.ValueSource.{ValueSource}
 use Rattle.clap.specs.declared.parser.matches.ValueSource.TheVariants.{DefaultValue, CommandLine}
-use Rattle.settings.specs.Lines.{Bounds}
+use Rattle.command_forms.specs.Commands.{Bounds}
 use Rattle.settings.specs.Given.{HasNumber}
 use Rattle.settings.proofs.Walks.{neither, rows_kept}
 

@@ -19,10 +19,11 @@ use Rattle.clap.proofs.OnLiterals.{clap_on_literals}
 use Rattle.settings.specs.declared.choice.Replay.{Replay}
 use Rattle.settings.specs.Lines.{IsAsked, IsChosen, GivesAsm, GivesCheck, GivesDis, GivesExplain, GivesExplore, GivesHunt, GivesOrder}
 use Rattle.settings.specs.Lines.{GivesPicture, GivesReplay, GivesRun, GivesSession}
-use Rattle.settings.specs.Lines.{GivesWords, Named, ultra_command}
+use Rattle.settings.specs.Lines.{GivesWords, Named}
+use Rattle.command_forms.specs.Commands.{ultra_command}
 use Rattle.settings.specs.Plain.{AreAsmOf, AreCheckOf, AreDebugOf, AreDisOf, AreExplainOf, AreExploreOf, AreHuntOf, AreOrderOf, ArePictureOf, AreReplayOf}
 use Rattle.settings.specs.Plain.{AreRunOf, AreStatsOf, AreStoryOf, AreWordsOf, IsPlain, IsReplayOf, NameExplainOf, NamesFile, NamesFiles}
-use Rattle.settings.proofs.Complete.{commands}
+use Rattle.command_forms.proofs.Lemmas.{commands}
 
 no_hyphen : (file : Text) → IsPlain file → strip_byte 45 file ≡ None
 no_hyphen [] h = refl

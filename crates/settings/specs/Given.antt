@@ -2,8 +2,8 @@
 use Rattle.std.specs.Prelude.{◌≡◌, ◌⊎◌, pos, true, List, [], ◌∷◌, codes, Option, is_some, option_map}
 use Rattle.std.specs.Prelude.{IfSome, IsSomeAnd}
 use Rattle.clap.specs.Words.{IsSignedIn, Row, Text, first_of, one_of, without_minus}
-use Rattle.settings.specs.Lines.{Bounds, budget, combinations, port, processor, queue, records, runs, shared_word, shared_words, stages, start, states}
-use Rattle.settings.specs.Lines.{step, steps, witness}
+use Rattle.command_forms.specs.Commands.{Bounds, budget, combinations, port, processor, queue, records, runs, shared_word, shared_words, stages, start, states}
+use Rattle.command_forms.specs.Commands.{step, steps, witness}
 
 abbrev pub HasPath : Text → List Row → Type 0
 HasPath id rows = is_some (first_of id rows) ≡ true

@@ -1,31 +1,24 @@
 //! The words of the command line, as settings.
 ghost use Rattle.std.specs.Prelude.{◌≡◌, ◌≢◌, ℕ, List, Option, IfOk, MatchResult, codes, map};
-ghost use Rattle.clap.specs.Words.{FailsBy, fault_of, kind_of, subcommand_of, subcommand_rows_of};
-ghost use Rattle.settings.specs.Lines.{IsAsked, ultra_command};
+ghost use Rattle.clap.specs.Words.{FailsBy, fault_of, kind_of};
+ghost use Rattle.command_forms.specs.Commands.{ultra_command};
+ghost use Rattle.settings.specs.Lines.{IsAsked};
 ghost use Rattle.settings.specs.Plain.{AreAsmOf, AreCheckOf, AreDebugOf, AreDisOf, AreExplainOf, AreExploreOf, AreHuntOf, AreOrderOf, ArePictureOf};
 ghost use Rattle.settings.specs.Plain.{AreReplayOf, AreRunOf, AreStatsOf, AreStoryOf, AreWordsOf, NameExplainOf, NamesFile, NamesFiles};
 
 use crate::choice::Settings;
-use crate::command::ultra_shape;
 use crate::reads::chosen;
+use clap::Error;
 use clap::error::ErrorKind;
-use clap::{ArgMatches, Error};
+use command_forms::matches_of;
 use std::alloc::Global;
-
-/// What `clap` makes of the words.
-fn matched<'a>(alloc: Global, words: &'a [&'a str]) -> Result<ArgMatches<'a>, Error>
-    ensures rows { IfOk result (λ m. subcommand_rows_of m ≡ subcommand_of ultra_command (map (λ w. w.now) words.entry.now)) }
-    ensures kinds { FailsBy (fault_of ultra_command (map (λ w. w.now) words.entry.now)) result }
-{
-    ultra_shape(alloc)?.try_get_matches_from(words)
-}
 
 /// What the words ask for, as `settings` says.
 fn read<'a>(alloc: Global, words: &'a [&'a str]) -> Result<Settings<'a>, Error>
     ensures asked { IfOk result (IsAsked (map (λ w. w.now) words.entry.now)) }
     ensures kinds { FailsBy (fault_of ultra_command (map (λ w. w.now) words.entry.now)) result }
 {
-    let matches = matched(alloc, words)?;
+    let matches = matches_of(alloc, words)?;
     Ok(chosen(&matches))
 }
 

@@ -1,13 +1,8 @@
 //! What the words of the command line ask for.
 #![tactic(auto)]
 
-mod args;
 mod asked;
 mod choice;
-mod command;
-mod forms;
-mod help;
-mod ranges;
 mod reads;
 
 pub use asked::{settings, status_of};

@@ -6,17 +6,17 @@ ghost use Rattle.settings.specs.Lines.{IsNumber, IsOption};
 ghost use Rattle.settings.specs.Lines.{GivesOrder, IsPath, GivesPicture, GivesReplay, GivesRun, GivesSession, GivesWords};
 ghost use Rattle.settings.specs.Given.{HasAsm, HasDebug, HasDis, HasExplore, HasHunt, HasNumber, HasOrder, HasPath, HasPicture, HasReplay, HasRun, HasSizes};
 ghost use Rattle.settings.specs.Given.{IsComplete};
-ghost use Rattle.settings.specs.Forms.{bounded, bounds_as, ranged, ranged_as};
+ghost use Rattle.command_forms.specs.Forms.{bounded, bounds_as, ranged, ranged_as};
 
 use crate::choice::{
     Asm, Check, Dis, Explain, Explore, Hunt, Order, Picture, Replay, Run, Session, Settings, Sizes,
     Words,
 };
-use crate::ranges::{
+use clap::ArgMatches;
+use command_forms::{
     BUDGET, COMBINATIONS, ChoiceOption, FIRST_START, NumberOption, PORT, PROCESSOR, QUEUE, RECORDS,
     RUN_STEPS, RUNS, SHARED_WORD, SHARED_WORDS, STAGES, START, STATES, STEP, STEPS, WITNESS,
 };
-use clap::ArgMatches;
 
 /// A file that has to be given.
 fn path<'a>(matches: &ArgMatches<'a>, id: &str) -> &'a str

@@ -1,10 +1,10 @@
 //! The commands of the program, each with its arguments and with what its help says.
 
 ghost use Rattle.std.specs.Prelude.{◌≡◌};
-ghost use Rattle.settings.specs.Forms.{app_of_form, with_forms};
-ghost use Rattle.settings.specs.Lines.{asm_command, check_command, debug_command, dis_command, explain_command, explore_command, hunt_command};
-ghost use Rattle.settings.specs.Lines.{order_command, picture_command, program, replay_command, run_command, stats_command, story_command};
-ghost use Rattle.settings.specs.Lines.{ultra_command, words_command};
+ghost use Rattle.command_forms.specs.Forms.{app_of_form, with_forms};
+ghost use Rattle.command_forms.specs.Commands.{asm_command, check_command, debug_command, dis_command, explain_command, explore_command, hunt_command};
+ghost use Rattle.command_forms.specs.Commands.{order_command, picture_command, program, replay_command, run_command, stats_command, story_command};
+ghost use Rattle.command_forms.specs.Commands.{ultra_command, words_command};
 
 use crate::help::{
     ASM_ENDS, CHECK_ENDS, DEBUG_ENDS, DIS_ENDS, EXPLAIN_ENDS, EXPLORE_ENDS, HUNT_ENDS, ORDER_ENDS,
@@ -270,98 +270,98 @@ const EXPLAIN: CommandForm = CommandForm {
 
 // A function for each command, so that no proof but its own has the texts.
 
-#[tactic(auto, unfolding(crate::specs::Lines::words_command))]
+#[tactic(auto, unfolding(crate::specs::Commands::words_command))]
 fn words() -> CommandForm
     ensures { app_of_form result ≡ words_command }
 {
     WORDS
 }
 
-#[tactic(auto, unfolding(crate::specs::Lines::check_command))]
+#[tactic(auto, unfolding(crate::specs::Commands::check_command))]
 fn check() -> CommandForm
     ensures { app_of_form result ≡ check_command }
 {
     CHECK
 }
 
-#[tactic(auto, unfolding(crate::specs::Lines::asm_command))]
+#[tactic(auto, unfolding(crate::specs::Commands::asm_command))]
 fn asm() -> CommandForm
     ensures { app_of_form result ≡ asm_command }
 {
     ASM
 }
 
-#[tactic(auto, unfolding(crate::specs::Lines::dis_command))]
+#[tactic(auto, unfolding(crate::specs::Commands::dis_command))]
 fn dis() -> CommandForm
     ensures { app_of_form result ≡ dis_command }
 {
     DIS
 }
 
-#[tactic(auto, unfolding(crate::specs::Lines::run_command))]
+#[tactic(auto, unfolding(crate::specs::Commands::run_command))]
 fn run() -> CommandForm
     ensures { app_of_form result ≡ run_command }
 {
     RUN
 }
 
-#[tactic(auto, unfolding(crate::specs::Lines::hunt_command))]
+#[tactic(auto, unfolding(crate::specs::Commands::hunt_command))]
 fn hunt() -> CommandForm
     ensures { app_of_form result ≡ hunt_command }
 {
     HUNT
 }
 
-#[tactic(auto, unfolding(crate::specs::Lines::explore_command))]
+#[tactic(auto, unfolding(crate::specs::Commands::explore_command))]
 fn explore() -> CommandForm
     ensures { app_of_form result ≡ explore_command }
 {
     EXPLORE
 }
 
-#[tactic(auto, unfolding(crate::specs::Lines::replay_command))]
+#[tactic(auto, unfolding(crate::specs::Commands::replay_command))]
 fn replay() -> CommandForm
     ensures { app_of_form result ≡ replay_command }
 {
     REPLAY
 }
 
-#[tactic(auto, unfolding(crate::specs::Lines::order_command))]
+#[tactic(auto, unfolding(crate::specs::Commands::order_command))]
 fn order() -> CommandForm
     ensures { app_of_form result ≡ order_command }
 {
     ORDER
 }
 
-#[tactic(auto, unfolding(crate::specs::Lines::story_command))]
+#[tactic(auto, unfolding(crate::specs::Commands::story_command))]
 fn story() -> CommandForm
     ensures { app_of_form result ≡ story_command }
 {
     STORY
 }
 
-#[tactic(auto, unfolding(crate::specs::Lines::stats_command))]
+#[tactic(auto, unfolding(crate::specs::Commands::stats_command))]
 fn stats() -> CommandForm
     ensures { app_of_form result ≡ stats_command }
 {
     STATS
 }
 
-#[tactic(auto, unfolding(crate::specs::Lines::picture_command))]
+#[tactic(auto, unfolding(crate::specs::Commands::picture_command))]
 fn picture() -> CommandForm
     ensures { app_of_form result ≡ picture_command }
 {
     PICTURE
 }
 
-#[tactic(auto, unfolding(crate::specs::Lines::debug_command))]
+#[tactic(auto, unfolding(crate::specs::Commands::debug_command))]
 fn debug() -> CommandForm
     ensures { app_of_form result ≡ debug_command }
 {
     DEBUG
 }
 
-#[tactic(auto, unfolding(crate::specs::Lines::explain_command))]
+#[tactic(auto, unfolding(crate::specs::Commands::explain_command))]
 fn explain() -> CommandForm
     ensures { app_of_form result ≡ explain_command }
 {

@@ -1,8 +1,8 @@
 //! The arguments of a command.
 ghost use Rattle.std.specs.Prelude.{◌≡◌, false};
 ghost use Rattle.clap.specs.Words.{rule_of};
-ghost use Rattle.settings.specs.Lines.{number};
-ghost use Rattle.settings.specs.Forms.{bounds_as, rule_of_argument};
+ghost use Rattle.command_forms.specs.Commands.{number};
+ghost use Rattle.command_forms.specs.Forms.{bounds_as, rule_of_argument};
 
 use crate::forms::Argument;
 use clap::{Arg, ArgAction};

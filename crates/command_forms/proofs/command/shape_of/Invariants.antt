@@ -1,8 +1,8 @@
 use Rattle.std.proofs.Common.{◌≡◌, drop, false}
 use Rattle.clap.specs.Words.{app_of}
 use Rattle.clap.specs.declared.builder.command.Command.TheViews.{out-Command}
-use Rattle.settings.specs.Forms.{with_arguments}
-use Rattle.settings.proofs.command.shape_of.Given as goal
+use Rattle.command_forms.specs.Forms.{with_arguments}
+use Rattle.command_forms.proofs.command.shape_of.Given as goal
 
 abbrev pub invariant-loop-argument : goal.invariant-loop-argument
 invariant-loop-argument l =

@@ -1,12 +1,12 @@
 -- The commands as the code has them: what their forms are to the parser of the command line.
 use Rattle.std.specs.Prelude.{ℕ, List, [], ◌∷◌}
 use Rattle.clap.specs.Words.{App, Rule, Text, new_app, new_rule, with_rule, with_subcommand}
-use Rattle.settings.specs.Lines.{Bounds, Ranged, flag, number, option, path}
-use Rattle.settings.specs.declared.forms.Argument.{Argument}
-use Rattle.settings.specs.declared.forms.Argument.TheVariants as argument
-use Rattle.settings.specs.declared.forms.CommandForm.{CommandForm}
-use Rattle.settings.specs.declared.ranges.ChoiceOption.{ChoiceOption}
-use Rattle.settings.specs.declared.ranges.NumberOption.{NumberOption}
+use Rattle.command_forms.specs.Commands.{Bounds, Ranged, flag, number, option, path}
+use Rattle.command_forms.specs.declared.forms.Argument.{Argument}
+use Rattle.command_forms.specs.declared.forms.Argument.TheVariants as argument
+use Rattle.command_forms.specs.declared.forms.CommandForm.{CommandForm}
+use Rattle.command_forms.specs.declared.ranges.ChoiceOption.{ChoiceOption}
+use Rattle.command_forms.specs.declared.ranges.NumberOption.{NumberOption}
 
 abbrev pub bounds_as : Text → (low high : ℕ) → Bounds
 bounds_as name low high = record { name = name; low = low; high = high }

@@ -2,8 +2,8 @@ use Rattle.std.proofs.Common.{◌∙◌, List, ap, map}
 use Rattle.std.proofs.lemmas.Result.{IfOk-weaker}
 use Rattle.clap.specs.Words.{App, Text, fault_of, is_simple, is_simple_and_free, subcommand_of}
 use Rattle.clap.proofs.FaultLemmas.{fails_as}
-use Rattle.settings.proofs.Complete.{is_free_ultra, is_simple_ultra}
-use Rattle.settings.proofs.asked.matched.Goals as goal
+use Rattle.command_forms.proofs.Simple.{is_free_ultra, is_simple_ultra}
+use Rattle.command_forms.proofs.matching.matches_of.Goals as goal
 
 pub returns-clause-rows : goal.returns-clause-rows
 returns-clause-rows c =

@@ -2,8 +2,8 @@
 use Rattle.std.proofs.Common.{◌≡◌, ◌∙◌, ◌<◌, ◌+◌, ℕ, ap, sym, List, ◌∷◌, length, drop, get_or}
 use Rattle.std.proofs.lemmas.List.{at_drop_more}
 use Rattle.clap.specs.Words.{App, with_subcommand}
-use Rattle.settings.specs.Forms.{app_of_form, with_forms}
-use Rattle.settings.specs.declared.forms.CommandForm.{CommandForm}
+use Rattle.command_forms.specs.Forms.{app_of_form, with_forms}
+use Rattle.command_forms.specs.declared.forms.CommandForm.{CommandForm}
 
 -- the program with the command of one form more, and with those of the forms behind it
 pub one_more : (fs : List CommandForm) (i : ℕ) (d : CommandForm) (a command new : App) → i < length fs → command ≡ app_of_form (get_or fs i d)

@@ -1,7 +1,7 @@
 use Rattle.std.proofs.Common.{◌∙◌, ◌<◌, length, rules}
 use Rattle.clap.specs.Words.{app_of}
-use Rattle.settings.proofs.Adding.{one_more}
-use Rattle.settings.proofs.command.ultra_shape.Goals as goal
+use Rattle.command_forms.proofs.Adding.{one_more}
+use Rattle.command_forms.proofs.command.ultra_shape.Goals as goal
 
 pub loop-form-preserved : goal.loop-form-preserved
 loop-form-preserved c =

@@ -2,19 +2,19 @@
 
 /// An option that takes a number.
 #[derive(Clone, Copy, Drop)]
-pub(crate) struct NumberOption {
-    pub(crate) name: &'static str,
+pub struct NumberOption {
+    pub name: &'static str,
     /// The number where the option is not given.
-    pub(crate) default: u32,
+    pub default: u32,
     /// The least number that it takes.
-    pub(crate) low: u32,
+    pub low: u32,
     /// The greatest number that it takes.
-    pub(crate) high: u32,
-    pub(crate) help: &'static str,
+    pub high: u32,
+    pub help: &'static str,
 }
 
 /// How many stages of switches the machine has.
-pub(crate) const STAGES: NumberOption = NumberOption {
+pub const STAGES: NumberOption = NumberOption {
     name: "k",
     default: 2,
     low: 0,
@@ -23,7 +23,7 @@ pub(crate) const STAGES: NumberOption = NumberOption {
 };
 
 /// How many messages a queue of a switch holds.
-pub(crate) const QUEUE: NumberOption = NumberOption {
+pub const QUEUE: NumberOption = NumberOption {
     name: "c",
     default: 4,
     low: 2,
@@ -32,7 +32,7 @@ pub(crate) const QUEUE: NumberOption = NumberOption {
 };
 
 /// How many records a wait buffer of a switch holds.
-pub(crate) const RECORDS: NumberOption = NumberOption {
+pub const RECORDS: NumberOption = NumberOption {
     name: "b",
     default: 4,
     low: 0,
@@ -41,7 +41,7 @@ pub(crate) const RECORDS: NumberOption = NumberOption {
 };
 
 /// How often an entry of a queue is combined.
-pub(crate) const COMBINATIONS: NumberOption = NumberOption {
+pub const COMBINATIONS: NumberOption = NumberOption {
     name: "r",
     default: 1,
     low: 1,
@@ -50,7 +50,7 @@ pub(crate) const COMBINATIONS: NumberOption = NumberOption {
 };
 
 /// How many shared words the machine has.
-pub(crate) const SHARED_WORDS: NumberOption = NumberOption {
+pub const SHARED_WORDS: NumberOption = NumberOption {
     name: "words",
     default: 1024,
     low: 1,
@@ -59,7 +59,7 @@ pub(crate) const SHARED_WORDS: NumberOption = NumberOption {
 };
 
 /// How long a run may take.
-pub(crate) const BUDGET: NumberOption = NumberOption {
+pub const BUDGET: NumberOption = NumberOption {
     name: "budget",
     default: 10_000_000,
     low: 1,
@@ -68,7 +68,7 @@ pub(crate) const BUDGET: NumberOption = NumberOption {
 };
 
 /// How many steps one command of a debugger may take.
-pub(crate) const STEPS: NumberOption = NumberOption {
+pub const STEPS: NumberOption = NumberOption {
     name: "budget",
     default: 100_000,
     low: 1,
@@ -77,7 +77,7 @@ pub(crate) const STEPS: NumberOption = NumberOption {
 };
 
 /// The port at which a debugger is awaited.
-pub(crate) const PORT: NumberOption = NumberOption {
+pub const PORT: NumberOption = NumberOption {
     name: "port",
     default: 3333,
     low: 1,
@@ -86,7 +86,7 @@ pub(crate) const PORT: NumberOption = NumberOption {
 };
 
 /// How many steps each run of a hunt may take.
-pub(crate) const RUN_STEPS: NumberOption = NumberOption {
+pub const RUN_STEPS: NumberOption = NumberOption {
     name: "budget",
     default: 100_000,
     low: 1,
@@ -95,7 +95,7 @@ pub(crate) const RUN_STEPS: NumberOption = NumberOption {
 };
 
 /// How many runs a hunt takes.
-pub(crate) const RUNS: NumberOption = NumberOption {
+pub const RUNS: NumberOption = NumberOption {
     name: "runs",
     default: 1000,
     low: 1,
@@ -104,7 +104,7 @@ pub(crate) const RUNS: NumberOption = NumberOption {
 };
 
 /// With how many states an exploration is given up.
-pub(crate) const STATES: NumberOption = NumberOption {
+pub const STATES: NumberOption = NumberOption {
     name: "states",
     default: 1_000_000,
     low: 1,
@@ -113,7 +113,7 @@ pub(crate) const STATES: NumberOption = NumberOption {
 };
 
 /// Where the choices of the threads begin.
-pub(crate) const START: NumberOption = NumberOption {
+pub const START: NumberOption = NumberOption {
     name: "start",
     default: 1,
     low: 0,
@@ -122,7 +122,7 @@ pub(crate) const START: NumberOption = NumberOption {
 };
 
 /// Where the choices of a hunt's first run begin.
-pub(crate) const FIRST_START: NumberOption = NumberOption {
+pub const FIRST_START: NumberOption = NumberOption {
     name: "start",
     default: 1,
     low: 0,
@@ -132,17 +132,17 @@ pub(crate) const FIRST_START: NumberOption = NumberOption {
 
 /// An option that takes a number, and has no default.
 #[derive(Clone, Copy, Drop)]
-pub(crate) struct ChoiceOption {
-    pub(crate) name: &'static str,
+pub struct ChoiceOption {
+    pub name: &'static str,
     /// The least number that it takes.
-    pub(crate) low: u32,
+    pub low: u32,
     /// The greatest number that it takes.
-    pub(crate) high: u32,
-    pub(crate) help: &'static str,
+    pub high: u32,
+    pub help: &'static str,
 }
 
 /// The processor whose entries are asked for.
-pub(crate) const PROCESSOR: ChoiceOption = ChoiceOption {
+pub const PROCESSOR: ChoiceOption = ChoiceOption {
     name: "processor",
     low: 0,
     high: 63,
@@ -150,7 +150,7 @@ pub(crate) const PROCESSOR: ChoiceOption = ChoiceOption {
 };
 
 /// The result that a witness ends in.
-pub(crate) const WITNESS: ChoiceOption = ChoiceOption {
+pub const WITNESS: ChoiceOption = ChoiceOption {
     name: "witness",
     low: 0,
     high: u32::MAX,
@@ -158,7 +158,7 @@ pub(crate) const WITNESS: ChoiceOption = ChoiceOption {
 };
 
 /// How many steps the machine has taken that is drawn.
-pub(crate) const STEP: ChoiceOption = ChoiceOption {
+pub const STEP: ChoiceOption = ChoiceOption {
     name: "step",
     low: 0,
     high: u32::MAX,
@@ -166,7 +166,7 @@ pub(crate) const STEP: ChoiceOption = ChoiceOption {
 };
 
 /// The shared word on which the entries act that are asked for.
-pub(crate) const SHARED_WORD: ChoiceOption = ChoiceOption {
+pub const SHARED_WORD: ChoiceOption = ChoiceOption {
     name: "word",
     low: 0,
     high: 262_143,

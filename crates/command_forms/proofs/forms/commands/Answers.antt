@@ -1,6 +1,6 @@
 use Rattle.std.proofs.Common.{refl}
-use Rattle.settings.proofs.forms.commands.Goals as goal
-use Rattle.settings.specs.Lines.{ultra_command}
+use Rattle.command_forms.proofs.forms.commands.Goals as goal
+use Rattle.command_forms.specs.Commands.{ultra_command}
 
 pub returns : goal.returns
 unfolding ultra_command

@@ -2,8 +2,8 @@
 ghost use Rattle.std.specs.Prelude.{◌≡◌, false, IfOk};
 ghost use Rattle.clap.specs.Words.{app_of, with_subcommand};
 ghost use Rattle.clap.specs.declared.builder.command.Command.TheViews.{out-Command};
-ghost use Rattle.settings.specs.Forms.{app_of_form};
-ghost use Rattle.settings.specs.Lines.{program, ultra_command};
+ghost use Rattle.command_forms.specs.Forms.{app_of_form};
+ghost use Rattle.command_forms.specs.Commands.{program, ultra_command};
 
 use crate::args::arg_of;
 use crate::forms::{CommandForm, commands};

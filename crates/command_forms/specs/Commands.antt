@@ -1,0 +1,185 @@
+-- The command that `clap` parses: its subcommands, each with its files and its options.
+use Rattle.std.specs.Prelude.{ℕ, pos, List, [], ◌∷◌, codes, Some, true}
+use Rattle.clap.specs.Words.{App, Rule, Text, new_app, new_rule, with_rule, with_subcommand}
+use Rattle.clap.specs.Simple.{Shape, on_top}
+use Rattle.clap.specs.declared.builder.action.ArgAction.TheVariants.{SetTrue}
+use Rattle.clap.specs.declared.builder.value_parser.ValueParser.TheVariants as vp
+
+-- ---- the options with a number
+
+-- its name, and the least and the most that it takes
+pub record Bounds : Type 0 where
+  pub name : Text
+  pub low : ℕ
+  pub high : ℕ
+
+-- with the number that stands where the option is not given
+pub record Ranged : Type 0 where
+  pub bounds : Bounds
+  pub default : ℕ
+
+-- how many stages of switches the machine has
+abbrev pub stages : Ranged
+stages = record { bounds = record { name = codes "k"; low = 0; high = 6 }; default = 2 }
+
+-- how many messages a queue of a switch holds
+abbrev pub queue : Ranged
+queue = record { bounds = record { name = codes "c"; low = 2; high = 16 }; default = 4 }
+
+-- how many records a wait buffer of a switch holds
+abbrev pub records : Ranged
+records = record { bounds = record { name = codes "b"; low = 0; high = 16 }; default = 4 }
+
+-- how often an entry of a queue is combined
+abbrev pub combinations : Ranged
+combinations = record { bounds = record { name = codes "r"; low = 1; high = 3 }; default = 1 }
+
+-- how many shared words the machine has
+abbrev pub shared_words : Ranged
+shared_words = record { bounds = record { name = codes "words"; low = 1; high = 262144 }; default = 1024 }
+
+-- how long a run may take
+abbrev pub budget : Ranged
+budget = record { bounds = record { name = codes "budget"; low = 1; high = 4294967295 }; default = 10000000 }
+
+-- how many steps one command of a debugger may take, or one run of a hunt
+abbrev pub steps : Ranged
+steps = record { bounds = record { name = codes "budget"; low = 1; high = 4000000 }; default = 100000 }
+
+-- the port at which a debugger is awaited
+abbrev pub port : Ranged
+port = record { bounds = record { name = codes "port"; low = 1; high = 65535 }; default = 3333 }
+
+-- with how many states an exploration is given up
+abbrev pub states : Ranged
+states = record { bounds = record { name = codes "states"; low = 1; high = 4294967295 }; default = 1000000 }
+
+-- how many runs a hunt takes
+abbrev pub runs : Ranged
+runs = record { bounds = record { name = codes "runs"; low = 1; high = 1000000 }; default = 1000 }
+
+-- where the choices of a run's schedule begin
+abbrev pub start : Ranged
+start = record { bounds = record { name = codes "start"; low = 0; high = 4294967295 }; default = 1 }
+
+-- the processor whose entries are asked for
+abbrev pub processor : Bounds
+processor = record { name = codes "processor"; low = 0; high = 63 }
+
+-- the shared word on which the entries act that are asked for
+abbrev pub shared_word : Bounds
+shared_word = record { name = codes "word"; low = 0; high = 262143 }
+
+-- the result that a witness ends in
+abbrev pub witness : Bounds
+witness = record { name = codes "witness"; low = 0; high = 4294967295 }
+
+-- how many steps the machine has taken that is drawn
+abbrev pub step : Bounds
+step = record { name = codes "step"; low = 0; high = 4294967295 }
+
+-- ---- the command
+
+-- a file, which has to be given
+abbrev pub path : Text → Rule
+path id = record (new_rule id) { required = true }
+
+-- `--NAME TEXT`
+abbrev pub option : Text → Rule
+option name = record (new_rule name) { long = Some name; value_names = 1 }
+
+-- `--NAME NUMBER`, in its range
+abbrev pub number : Bounds → Rule
+number o = record (option o.name) { parser = Some (vp.Signed (pos o.low) (pos o.high)) }
+
+-- `--NAME`
+abbrev pub flag : Text → Rule
+flag name = record (new_rule name) { long = Some name; action = Some SetTrue }
+
+abbrev pub with_file : App → App
+with_file a = with_rule a (path (codes "FILE"))
+
+abbrev pub with_number : Ranged → App → App
+with_number o a = with_rule a (number o.bounds)
+
+unfoldable pub words_command : App
+words_command = with_file (new_app (codes "words"))
+
+unfoldable pub check_command : App
+check_command = with_file (new_app (codes "check"))
+
+unfoldable pub asm_command : App
+asm_command = with_rule (with_file (new_app (codes "asm"))) (path (codes "OUT"))
+
+unfoldable pub dis_command : App
+dis_command = with_number shared_words (with_file (new_app (codes "dis")))
+
+-- a machine's sizes
+abbrev pub with_sizes : App → App
+with_sizes a = with_number shared_words (with_number combinations (with_number records (with_number queue (with_number stages a))))
+
+unfoldable pub run_command : App
+run_command =
+    with_number start (with_number budget (with_sizes
+    (with_rule (with_rule (with_rule (with_file (new_app (codes "run"))) (option (codes "trace"))) (flag (codes "sweep"))) (flag (codes "quiet")))))
+
+-- a trace and the image of its run
+abbrev pub replaying : Text → App
+replaying name = with_number shared_words (with_file (with_rule (new_app name) (path (codes "TRACE"))))
+
+unfoldable pub replay_command : App
+replay_command = replaying (codes "replay")
+
+unfoldable pub explain_command : App
+explain_command = with_rule (new_app (codes "explain")) (new_rule (codes "CODE"))
+
+unfoldable pub order_command : App
+order_command = with_rule (with_rule (replaying (codes "order")) (number processor)) (number shared_word)
+
+unfoldable pub debug_command : App
+debug_command = with_number port (with_number steps (with_sizes (with_file (new_app (codes "debug")))))
+
+unfoldable pub story_command : App
+story_command = replaying (codes "story")
+
+unfoldable pub stats_command : App
+stats_command = replaying (codes "stats")
+
+unfoldable pub picture_command : App
+picture_command = with_rule (replaying (codes "picture")) (number step)
+
+unfoldable pub explore_command : App
+explore_command =
+    with_rule (with_number states
+    (with_sizes (with_rule (with_rule (with_file (new_app (codes "explore"))) (option (codes "trace"))) (flag (codes "quiet"))))) (number witness)
+
+unfoldable pub hunt_command : App
+hunt_command =
+    with_number start (with_number runs (with_number steps (with_sizes (with_rule (with_file (new_app (codes "hunt"))) (option (codes "trace"))))))
+
+-- the program, which has a version and is told what to do
+abbrev pub program : App
+program = on_top (λ s. record s { has_version = true; subcommand_required = true }) (new_app (codes "ultra"))
+
+abbrev pub with_subcommands : List Shape → App → App
+with_subcommands [] a = a
+with_subcommands (s ∷ ss) a = with_subcommands ss (with_subcommand a s)
+
+-- each subcommand is a leaf of its own
+unfoldable pub ultra_command : App
+ultra_command = with_subcommands (
+    words_command.top
+    ∷ check_command.top
+    ∷ asm_command.top
+    ∷ dis_command.top
+    ∷ run_command.top
+    ∷ hunt_command.top
+    ∷ explore_command.top
+    ∷ replay_command.top
+    ∷ order_command.top
+    ∷ story_command.top
+    ∷ stats_command.top
+    ∷ picture_command.top
+    ∷ debug_command.top
+    ∷ explain_command.top
+    ∷ []) program

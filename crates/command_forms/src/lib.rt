@@ -1,0 +1,15 @@
+//! The commands of the program with their arguments and their help, and what `clap` makes of the words of a command line.
+#![tactic(auto)]
+
+mod args;
+mod command;
+mod forms;
+mod help;
+mod matching;
+mod ranges;
+
+pub use matching::matches_of;
+pub use ranges::{
+    BUDGET, COMBINATIONS, ChoiceOption, FIRST_START, NumberOption, PORT, PROCESSOR, QUEUE, RECORDS,
+    RUN_STEPS, RUNS, SHARED_WORD, SHARED_WORDS, STAGES, START, STATES, STEP, STEPS, WITNESS,
+};
