@@ -3,9 +3,9 @@
 use crate::words::push_word;
 use asm_lines::Section;
 use command_io::push_word as push_address;
+use line_faults::{Hint, Wanted};
 use std::alloc::{AllocError, Global};
 use std::fmt::Write;
-use text_faults::{Hint, Wanted};
 
 /// What would be right in place of a word at fault.
 pub fn advice_of(alloc: Global, hint: &Hint<'_>) -> Result<String, AllocError> {

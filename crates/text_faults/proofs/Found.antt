@@ -12,8 +12,8 @@ use Rattle.assembler.specs.declared.fault.AsmFault.{AsmFault}
 use Rattle.assembler.specs.Meaning.{Labels, Piece, start, after, line_piece, pieces_from, pieces_of, lines_of, labels_of}
 use Rattle.assembler.specs.Passes.{nows}
 use Rattle.text_faults.specs.declared.text_fault.TextFault.{TextFault}
-use Rattle.text_faults.specs.declared.cursor.Cursor.{Cursor}
-use Rattle.text_faults.specs.Places.{place_of}
+use Rattle.line_faults.specs.declared.cursor.Cursor.{Cursor}
+use Rattle.line_faults.specs.Places.{place_of}
 use Rattle.text_faults.specs.Listing.{error_of, error_at, errors_from, IsAt, IsInPlace, AreFaultsOf, AreTheFaults}
 
 pub at_item : (lines : List (Bor (List ℕ))) (i : ℕ) (d : Bor (List ℕ)) → i < length lines →

@@ -1,3 +1,2 @@
-pub mod OneMore
 pub mod Found
 pub mod Present

@@ -3,9 +3,8 @@ use Rattle.std.specs.Prelude.{◌≡◌, ◌<◌, ◌≤◌, ℕ, ◌+◌, ◌-�
 use Rattle.std.specs.Option.{option_map}
 use Rattle.assembler.specs.declared.fault.AsmFault.{AsmFault}
 use Rattle.assembler.specs.declared.fault.AsmError.{AsmError}
-use Rattle.asm_lines.specs.Statements.{Said}
-use Rattle.assembler.specs.Faults.{◌>>=◌}
-use Rattle.assembler.specs.Meaning.{Labels, Place, Piece, lines_of, pieces_of, place_said, piece_of}
+use Rattle.assembler.specs.Meaning.{Piece, lines_of, pieces_of}
+use Rattle.line_faults.specs.Faults.{fault_in}
 use Rattle.text_faults.specs.declared.text_fault.TextFault.{TextFault}
 
 -- the line and the fault of what is listed
@@ -25,15 +24,6 @@ pub record IsInPlace (lines : List (List ℕ)) (t : TextFault) : Type 0 where
   pub at : IsAt line t.column t.word.now
 
 -- ---- line by line
-
--- the fault of an answer, if it is one
-abbrev pub fault_in : {A : Type 0} → Result A AsmFault → Option AsmFault
-fault_in (Ok x) = None
-fault_in (Err f) = Some f
-
--- the fault of a line that says this at its place
-abbrev pub said_fault : Labels → Place → Said → Option AsmFault
-said_fault labels at said = fault_in (place_said at said >>= piece_of labels)
 
 -- the fault of the line with this number, which places that
 abbrev pub error_at : ℕ → Result Piece AsmFault → Option AsmError

@@ -10,24 +10,10 @@
 //! `specs/Listing.antt` says what is listed. Which word of the line is named, and what would be right, is no part of it.
 #![tactic(auto)]
 
-mod cursor;
-mod edits;
-mod hint;
-mod labels;
 mod laws;
 mod listing;
-mod operands;
-mod parts;
-mod piece;
-mod places;
-mod shape;
-mod spot;
 mod text_fault;
-mod values;
-mod words;
 
-pub use hint::Hint;
 pub use laws::{listed_where_present, none_where_there_is_a_meaning};
 pub use listing::text_faults;
-pub use shape::Wanted;
 pub use text_fault::TextFault;

@@ -5,15 +5,12 @@ ghost use Rattle.std.specs.Option.{option_map};
 ghost use Rattle.assembler.specs.Meaning.{start, after, labels_of, line_piece, pieces_from};
 ghost use Rattle.assembler.specs.Passes.{nows};
 ghost use Rattle.text_faults.specs.Listing.{AreTheFaults, AreFaultsOf, IsAt, error_of, error_at};
-ghost use Rattle.text_faults.specs.Places.{label_values, place_of};
+ghost use Rattle.line_faults.specs.Places.{label_values, place_of};
 
-use crate::cursor::Cursor;
-use crate::labels::{Label, Search};
-use crate::piece::Piece;
-use crate::spot::{Around, Spot, spot_of};
 use crate::text_fault::TextFault;
 use asm_lines::{LineError, parts_at, read_line};
 use assembler::AsmFault;
+use line_faults::{Around, Cursor, Label, Piece, Search, Spot, spot_of};
 use std::alloc::{AllocError, Global};
 use std::collections::BTreeMap;
 

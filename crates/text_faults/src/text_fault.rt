@@ -1,7 +1,7 @@
 //! A fault of a text.
 
-use crate::hint::Hint;
 use assembler::AsmFault;
+use line_faults::Hint;
 
 /// What is wrong with a line of a text, and where.
 #[derive(Clone, Copy, Debug, Drop)]

@@ -1,7 +1,7 @@
 use Rattle.std.proofs.Common.{[], arith}
 use Rattle.std.specs.Prelude.{string_bytes}
 use Rattle.assembler.specs.declared.fault.AsmFault.TheVariants.{UnknownWord}
-use Rattle.text_faults.specs.declared.hint.Hint.TheVariants.{NoWord}
+use Rattle.line_faults.specs.declared.hint.Hint.TheVariants.{NoWord}
 use Rattle.text_faults.specs.declared.text_fault.TextFault.{TextFault}
 use Rattle.check_command.proofs.Told.{told_none, told_more, told_all}
 use Rattle.check_command.proofs.lines.list_of.Goals as goal

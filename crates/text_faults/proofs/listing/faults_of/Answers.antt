@@ -1,5 +1,5 @@
 use Rattle.std.proofs.Common.{arith, Bor, List, [], ℕ, rules}
-use Rattle.text_faults.specs.Places.{label_values}
+use Rattle.line_faults.specs.Places.{label_values}
 use Rattle.text_faults.proofs.Found.{found_more, found_all}
 use Rattle.text_faults.proofs.listing.faults_of.Goals as goal
 

@@ -1,4 +1,4 @@
-use Rattle.text_faults.specs.Places.{label_values}
+use Rattle.line_faults.specs.Places.{label_values}
 use Rattle.text_faults.proofs.Found.{FoundSoFar}
 use Rattle.text_faults.proofs.listing.faults_of.Given as goal
 

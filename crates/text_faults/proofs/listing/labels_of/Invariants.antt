@@ -2,7 +2,7 @@ use Rattle.std.proofs.Common.{◌≡◌, drop}
 use Rattle.std.specs.Prelude.{fold}
 use Rattle.assembler.specs.Meaning.{start, after}
 use Rattle.assembler.specs.Passes.{nows}
-use Rattle.text_faults.specs.Places.{place_of}
+use Rattle.line_faults.specs.Places.{place_of}
 use Rattle.text_faults.proofs.listing.labels_of.Given as goal
 
 abbrev pub invariant-loop-at : goal.invariant-loop-at

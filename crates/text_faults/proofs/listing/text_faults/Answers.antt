@@ -2,7 +2,7 @@ use Rattle.std.proofs.Common.{◌≡◌, ◌∙◌, ap}
 use Rattle.std.proofs.lemmas.Result.{IfOk-weaker}
 use Rattle.assembler.specs.Meaning.{lines_of, labels_of}
 use Rattle.assembler.specs.Passes.{nows}
-use Rattle.text_faults.specs.Places.{label_values}
+use Rattle.line_faults.specs.Places.{label_values}
 use Rattle.text_faults.proofs.Found.{all_of_text}
 use Rattle.text_faults.proofs.listing.text_faults.Goals as goal
 

@@ -15,7 +15,9 @@ use std::collections::BTreeMap;
 /// The word at fault, and what would be right.
 #[derive(Drop)]
 pub struct Spot<'a> {
+    /// The word at fault.
     pub piece: Piece<'a>,
+    /// What would be right.
     pub hint: Hint<'a>,
 }
 

@@ -2,10 +2,12 @@
 
 use asm_lines::{cut_last, trim};
 
-/// A piece of a line, and where it begins in the line, counted in bytes from 0.
+/// A piece of a line.
 #[derive(Clone, Copy, Drop)]
 pub struct Piece<'a> {
+    /// Where it begins in the line, counted in bytes from 0.
     pub start: usize,
+    /// Its bytes.
     pub bytes: &'a [u8],
 }
 

@@ -3,8 +3,8 @@
 ghost use Rattle.std.specs.Prelude.{◌≡◌, ◌^◌, ◌≤ℤ◌, ℕ, ℤ, pos, Some, Ok, IfOk, IfErr, map};
 ghost use Rattle.asm_lines.specs.Statements.{val_of, stmt_of, instr_of};
 ghost use Rattle.assembler.specs.Meaning.{part_of, offset_from, offset_of, insn_at, words_bytes, statement_bytes};
-ghost use Rattle.text_faults.specs.Listing.{fault_in};
-ghost use Rattle.text_faults.specs.Places.{label_values};
+ghost use Rattle.line_faults.specs.Faults.{fault_in};
+ghost use Rattle.line_faults.specs.Places.{label_values};
 
 use crate::labels::Label;
 use asm_lines::{Instruction, Statement, Value, low_bits};

@@ -1,5 +1,5 @@
-use Rattle.text_faults.proofs.OneMore.{label_added}
-use Rattle.text_faults.proofs.cursor.Cursor.add_label.Goals as goal
+use Rattle.line_faults.proofs.OneMore.{label_added}
+use Rattle.line_faults.proofs.cursor.Cursor.add_label.Goals as goal
 
 pub returns : goal.returns
 returns c = rw c.in-Some.is (

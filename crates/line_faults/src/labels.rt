@@ -8,6 +8,7 @@ use std::collections::BTreeMap;
 /// What a label stands for.
 #[derive(Clone, Copy, Drop)]
 pub struct Label {
+    /// The section of the label's last line.
     pub section: Section,
     /// The address of the section's next byte at the label's line: the last of its lines.
     pub address: u64,
@@ -26,6 +27,7 @@ impl Search {
     /// How many names are looked at for one text.
     const MAX_NAMES: usize = 262_144;
 
+    /// A search that has looked at no name.
     pub fn new() -> Search {
         Search {
             left: Search::MAX_NAMES,

@@ -7,8 +7,8 @@ use Rattle.std.specs.Ordering.{nat_cmp}
 use Rattle.std.specs.Option.{option_map}
 use Rattle.assembler.specs.declared.symbol.Symbol.{Symbol}
 use Rattle.assembler.specs.Meaning.{Labels, Place}
-use Rattle.text_faults.specs.declared.labels.Label.{Label}
-use Rattle.text_faults.specs.declared.cursor.Cursor.{Cursor}
+use Rattle.line_faults.specs.declared.labels.Label.{Label}
+use Rattle.line_faults.specs.declared.cursor.Cursor.{Cursor}
 
 abbrev pub symbol_of : Label → Symbol
 symbol_of l = record { section = l.section; address = l.address }

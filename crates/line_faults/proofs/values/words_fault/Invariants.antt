@@ -1,9 +1,9 @@
 use Rattle.std.proofs.Common.{◌≡◌, map, length}
 use Rattle.asm_lines.specs.Statements.{val_of}
 use Rattle.assembler.specs.Meaning.{words_bytes}
-use Rattle.text_faults.specs.Listing.{fault_in}
-use Rattle.text_faults.specs.Places.{label_values}
-use Rattle.text_faults.proofs.values.words_fault.Given as goal
+use Rattle.line_faults.specs.Faults.{fault_in}
+use Rattle.line_faults.specs.Places.{label_values}
+use Rattle.line_faults.proofs.values.words_fault.Given as goal
 
 abbrev pub invariant-loop-rest : goal.invariant-loop-rest
 invariant-loop-rest l =

@@ -10,8 +10,8 @@ use Rattle.std.proofs.lemmas.Map.Text.{btree_map_updates_str}
 use Rattle.std.specs.Prelude.{Bool, true, false}
 use Rattle.asm_lines.specs.declared.statement.Section.{Section}
 use Rattle.assembler.specs.Meaning.{Labels, Place, labelled, address}
-use Rattle.text_faults.specs.declared.labels.Label.{Label}
-use Rattle.text_faults.specs.Places.{label_values, symbol_of}
+use Rattle.line_faults.specs.declared.labels.Label.{Label}
+use Rattle.line_faults.specs.Places.{label_values, symbol_of}
 
 pub one_more : (name : List ℕ) (m n : BTreeMap (Bor (List ℕ)) Label) (l : Label) →
     UpdatesBy (λ (x y : Bor (List ℕ)). slice_cmp nat_cmp x.now y.now) (λ (k : Bor (List ℕ)). slice_cmp nat_cmp name k.now) m n (Some l)
