@@ -1,7 +1,11 @@
 //! The search of a machine.
 
-ghost use Rattle.std.specs.Prelude.{◌≡◌, ◌≤◌, ◌^◌, All, Contains, length, IfOk};
-ghost use Rattle.exploration.specs.Endings.{IsOnce};
+ghost use Rattle.std.specs.Prelude.{◌≡◌, ◌≤◌, ◌<◌, ◌^◌, ℕ, All, Contains, length, IfOk};
+ghost use Rattle.exploration.specs.Endings.{HaveStopped, IsEnding, IsOnce, result_at};
+ghost use Rattle.move_ranks.specs.Ranks.{no_move};
+ghost use Rattle.move_ranks.specs.Schedules.{AreTold};
+ghost use Rattle.station_search.specs.Ends.{AreRows};
+ghost use Rattle.station_search.specs.Search.{state_at};
 ghost use Rattle.station_search.specs.Scheduled.{AreSchedulesOf};
 ghost use Rattle.machine.specs.Machines.{AreHome, IsIdle};
 ghost use Rattle.machine.specs.Openings.{flat_state};
@@ -17,8 +21,8 @@ use local_memory::Code;
 use machine::{Machine, machine_is_sound};
 use move_ranks::schedules_of;
 use results::results_are_those_of_the_flat_machine;
-use station_search::{Extent, Refusal, Tables, Watch, moves_tell_of_schedules, search};
-use std::alloc::Global;
+use station_search::{Extent, Found, Refusal, Tables, Watch, moves_tell_of_schedules, search};
+use std::alloc::{AllocError, Global};
 
 /// All final results that a machine of up to 8 processors can have: each in which some steps without
 /// writes from outside end, after which no processor runs. How many states are found is told as they are.
@@ -92,17 +96,35 @@ fn explored<G: Watch>(
     let mut tables = Tables::new(alloc, live);
     let first = tables.open(alloc, code, extent, cores, words)?;
     let found = search(alloc, &mut tables, code, extent, first, limit, watch)?;
-    let rows = found.rows.as_slice();
-    let Ok(results) = results_of(alloc, &tables, extent, rows) else {
+    let Ok(explored) = told(alloc, &tables, extent, found) else {
         return Err(Refusal::Memory);
     };
-    let moves = found.moves;
-    let Ok(schedules) = schedules_of(alloc, moves.as_slice(), extent.processors) else {
-        return Err(Refusal::Memory);
-    };
+    Ok(explored)
+}
+
+/// The results of the rows that a search has found, and what their moves tell of schedules.
+// A function of its own, so that none has many values to drop at each of its ends.
+fn told(
+    alloc: Global,
+    tables: &Tables,
+    extent: Extent,
+    found: Found,
+) -> Result<Explored, AllocError>
+    requires rows { AreRows extent tables.now found.rows.keys }
+    requires room { extent.processors ≤ 8 }
+    requires few { length found.rows.keys ≤ no_move }
+    requires all { length found.moves.items ≡ length found.rows.keys }
+    ensures sound { IfOk result (λ e. All (IsEnding extent tables.now found.rows.keys) e.results.items) }
+    ensures once { IfOk result (λ e. IsOnce e.results.items) }
+    ensures complete { IfOk result (λ e. (i : ℕ) → i < length found.rows.keys → HaveStopped (state_at extent tables.now found.rows.keys i)
+        → Contains e.results.items (result_at (state_at extent tables.now found.rows.keys i))) }
+    ensures schedules { IfOk result (λ e. AreTold found.moves.items extent.processors e.schedules) }
+{
+    let results = results_of(alloc, tables, extent, found.rows.as_slice())?;
+    let schedules = schedules_of(alloc, found.moves.as_slice(), extent.processors)?;
     Ok(Explored {
         results,
         schedules,
-        moves,
+        moves: found.moves,
     })
 }

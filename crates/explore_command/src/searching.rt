@@ -3,6 +3,7 @@
 ghost use Rattle.std.specs.Prelude.{◌≡◌, ◌≤◌, IfOk, IfErr, OnOk, string_bytes};
 ghost use Rattle.machine_runs.specs.machine.Openings.{flat_state};
 ghost use Rattle.machine_runs.specs.Machines.{AreHome, IsIdle};
+ghost use Rattle.machine_runs.specs.Runs.{IsOpening};
 ghost use Rattle.exploration.specs.station_search.Scheduled.{AreSchedulesOf};
 ghost use Rattle.run_commands.specs.Commands.{IsWorking};
 ghost use Rattle.explore_command.specs.Causes.{IsNotFound, IsNotSaved, IsNotSearched};
@@ -43,7 +44,29 @@ pub(crate) fn explored<T: LinkWrite, G: Watch>(
         return Err(Refused::Fault(Fault::Size));
     }
     let machine = machine_of(alloc, image, config)?;
-    let found = found(alloc, &machine, search.limit, watch)?;
+    explored_from(alloc, &machine, config, search, trace, watch)
+}
+
+/// The lines of the results of a machine that has just opened, and the exit status. Where a trace is asked for, that of a witness is
+/// written.
+// A function of its own, so that none has many values to drop at each of its ends.
+fn explored_from<T: LinkWrite, G: Watch>(
+    alloc: Global,
+    machine: &Machine,
+    config: Config,
+    search: Search,
+    trace: &mut Option<T>,
+    watch: &mut G,
+) -> Result<(String, u8), Refused>
+    requires opens { IsOpening config machine.now.image machine.now }
+    requires few { config.k ≤ 3 }
+    requires words { machine.now.image.shared_words ≡ config.shared_words }
+    requires works { IsWorking T.has_failed trace.old }
+    ensures lines { IfOk result (λ done. AreExplored T.contents config machine.now.image search.witness trace.old trace.new (string_bytes done.0) done.1) }
+    ensures low { IfOk result (λ done. done.1 ≤ 1) }
+    ensures refused { IfErr result (IsNotFound T.contents config machine.now.image search.witness trace.old trace.new) }
+{
+    let found = found(alloc, machine, search.limit, watch)?;
     let results = found.results.as_slice();
     let text = results_text(alloc, results, found.moves.len(), found.schedules)?;
     save_witness(alloc, machine.image(), config, &found, search, trace)?;

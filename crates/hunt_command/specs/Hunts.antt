@@ -49,6 +49,10 @@ pub record IsLogOf (c : Config) (image : ImageContents) (most number : ℕ) (end
   pub ran : IsRandomRun c image number most end log
   pub trace : IsTrace (trace_of c log.steps)
 
+-- the log of some run
+abbrev pub IsSomeLog : Config → ImageContents → SweepEnd → Log → Type 0
+IsSomeLog c image end log = (most : ℕ) × (number : ℕ) × IsLogOf c image most number end log
+
 -- ---- many runs
 
 -- the number of the run at a place

@@ -1,6 +1,7 @@
 //! `ultra hunt`: from the bytes of an image to the lines of what its runs come to.
 
-ghost use Rattle.std.specs.Prelude.{◌≡◌, ◌≤◌, ◌↔◌, true, false, IfOk, IfErr, IsErrOf, OnErr};
+ghost use Rattle.std.specs.Prelude.{◌≡◌, ◌≤◌, ◌↔◌, ℕ, List, Option, true, false, IfOk, IfErr, IsErrOf, OnErr};
+ghost use Rattle.elf_image.specs.Files.{IsImageOf};
 ghost use Rattle.command_io.specs.Printing.{IsPrinted, IsTold};
 ghost use Rattle.hunt_command.specs.Hunts.{IsHunt, IsNoHunt};
 
@@ -8,6 +9,7 @@ use crate::findings::findings_text;
 use crate::runs::findings_of;
 use crate::saving::{Traces, save_all};
 use command_io::{Fault, image_of, print, tell};
+use elf_image::Image;
 use flat_machine::Config;
 use link::LinkWrite;
 use std::alloc::Global;
@@ -67,16 +69,32 @@ fn carried_out<R: Read + Drop, T: Traces, W: LinkWrite>(
     ensures silent { OnErr result (W.has_failed out.new ≡ false → out.new ≡ out.old) }
 {
     let image = image_of(alloc, file, &config)?;
-    let (findings, status) = findings_of(
-        alloc,
-        &image,
-        config,
-        hunt.budget,
-        hunt.start,
-        hunt.runs,
-    )?;
+    hunt_image(alloc, &image, config, hunt, traces, out)
+}
+
+/// Prints what the runs of an image come to, and writes their traces before, where these are asked for.
+// A function of its own, so that none has many values to drop at each of its ends.
+fn hunt_image<T: Traces, W: LinkWrite>(
+    alloc: Global,
+    image: &Image,
+    config: Config,
+    hunt: Hunt,
+    traces: &mut Option<T>,
+    out: &mut W,
+) -> Result<u8, Fault>
+    requires works { W.has_failed out.old ≡ false }
+    requires words { image.now.shared_words ≡ config.shared_words }
+    ensures failed { IsErrOf result Fault.Link ↔ (W.has_failed out.new ≡ true) }
+    ensures printed { IfOk result (λ status. (known : Option (List ℕ)) → IsImageOf config.shared_words known image.now
+        → IsPrinted (IsHunt config hunt known status) (W.contents out.old) (W.contents out.new)) }
+    ensures low { IfOk result (λ status. status ≤ 1) }
+    ensures told { IfErr result (λ fault. (known : Option (List ℕ)) → IsImageOf config.shared_words known image.now
+        → IsNoHunt config hunt known (W.contents out.old) (W.contents out.new) fault) }
+    ensures silent { OnErr result (W.has_failed out.new ≡ false → out.new ≡ out.old) }
+{
+    let (findings, status) = findings_of(alloc, image, config, hunt.budget, hunt.start, hunt.runs)?;
     let text = findings_text(alloc, findings.found())?;
-    save_all(alloc, &image, config, hunt.budget, findings.found(), traces)?;
+    save_all(alloc, image, config, hunt.budget, findings.found(), traces)?;
     print(out, text.as_str())?;
     Ok(status)
 }

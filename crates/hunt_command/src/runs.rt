@@ -1,10 +1,10 @@
 //! Runs, and what they come to.
 
-ghost use Rattle.std.specs.Prelude.{◌≡◌, ◌≤◌, IfErr, IfOk, string_bytes};
+ghost use Rattle.std.specs.Prelude.{◌≡◌, ◌≤◌, ℕ, IfErr, IfOk, string_bytes};
 ghost use Rattle.machine_runs.specs.Runs.{IsOpening};
 ghost use Rattle.machine_sweep.specs.Sweeps.{most_of};
 ghost use Rattle.run_commands.specs.Causes.{IsFaultOfSize};
-ghost use Rattle.hunt_command.specs.Hunts.{AreFound, IsLogOf, IsResultOf, greater};
+ghost use Rattle.hunt_command.specs.Hunts.{AreFound, IsLogOf, IsResultOf, IsSomeLog, greater};
 
 use crate::findings::Findings;
 use crate::lines::result_text;
@@ -67,6 +67,25 @@ fn result_of(
     ensures refused { IfErr result (IsFaultOfSize config) }
 {
     let (log, end) = run_of(alloc, image, config, budget, number)?;
+    result_of_log(alloc, image, config, &log, end)
+}
+
+/// What the log of a run, which ended so, comes to.
+// A function of its own, so that none has many values to drop at each of its ends.
+fn result_of_log(
+    alloc: Global,
+    image: &Image,
+    config: Config,
+    log: &Logged,
+    end: SweepEnd,
+) -> Result<(String, u8), Fault>
+    requires words { image.now.shared_words ≡ config.shared_words }
+    requires ran { IsSomeLog config image.now end log.now }
+    ensures result { IfOk result (λ done. (most number : ℕ) → IsLogOf config image.now most number end log.now
+        → IsResultOf config image.now most number (record { text = string_bytes done.0; status = done.1 })) }
+    ensures low { IfOk result (λ done. done.1 ≤ 1) }
+    ensures refused { IfErr result (IsFaultOfSize config) }
+{
     let mut machine = opened(alloc, image, config)?;
     let tally = retaken(alloc, &mut machine, log.steps())?;
     let text = result_text(alloc, end, &machine, &tally)?;

@@ -74,13 +74,72 @@ fn image(alloc: Global, config: &Config) -> anyhow::Result<Image> {
     Ok(read_image(alloc, &mut reader, config)?)
 }
 
-fn main(rt: HostRuntime) -> anyhow::Result<()> {
-    let arguments = env::args(&rt)?.skip(1).collect::<Vec<String>>(rt.alloc())?;
-    let (k, runs): (u8, u32) = match arguments.as_slice() {
-        [] => (2, 1),
-        [k, runs] => (k.parse()?, runs.parse()?),
+/// How many stages the machines have, and how many are run.
+fn asked(rt: &HostRuntime) -> anyhow::Result<(u8, u32)> {
+    let arguments = env::args(rt)?.skip(1).collect::<Vec<String>>(rt.alloc())?;
+    match arguments.as_slice() {
+        [] => Ok((2, 1)),
+        [k, runs] => Ok((k.parse()?, runs.parse()?)),
         _ => bail!("usage: machine_bench [K RUNS]"),
+    }
+}
+
+/// Tells what a run came to.
+fn tell_result(rt: &HostRuntime, machine: &Machine, counts: &Counts) -> anyhow::Result<()> {
+    let word = machine.word(0).unwrap_or(0);
+    println!(rt;
+        "k {}: {} instructions retire, and word 0 is {}",
+        machine.config().k,
+        counts.retired,
+        word
+    )?;
+    Ok(())
+}
+
+/// The time of a run of a machine. The first tells its result.
+fn time_of(
+    rt: &HostRuntime,
+    machine: &mut Machine,
+    counts: &mut Counts,
+    is_first: bool,
+) -> anyhow::Result<Duration> {
+    let start = Instant::now(rt)?;
+    sweep(machine, counts);
+    let time = start.elapsed(rt)?;
+    if is_first {
+        tell_result(rt, machine, counts)?;
+    }
+    Ok(time)
+}
+
+/// A machine that has not run.
+fn new_machine(alloc: Global, config: Config) -> anyhow::Result<Machine> {
+    Ok(Machine::new(alloc, image(alloc, &config)?, config)?)
+}
+
+/// Runs so many machines, and tells how long that took.
+fn measure(rt: &HostRuntime, config: Config, runs: u32) -> anyhow::Result<()> {
+    let mut counts = Counts {
+        moved: 0,
+        retired: 0,
     };
+    let mut time = Duration::ZERO;
+    for run in 0..runs {
+        let mut machine = new_machine(rt.alloc(), config)?;
+        time = time.saturating_add(time_of(rt, &mut machine, &mut counts, run == 0)?);
+    }
+    eprintln!(rt;
+        "k {}: {} runs, {} steps that did something in {} microseconds",
+        config.k,
+        runs,
+        counts.moved,
+        time.as_micros()
+    )?;
+    Ok(())
+}
+
+fn main(rt: HostRuntime) -> anyhow::Result<()> {
+    let (k, runs) = asked(&rt)?;
     let config = Config {
         k,
         c: 4,
@@ -88,30 +147,5 @@ fn main(rt: HostRuntime) -> anyhow::Result<()> {
         r: 1,
         shared_words: 1024,
     };
-    let mut counts = Counts {
-        moved: 0,
-        retired: 0,
-    };
-    let mut time = Duration::ZERO;
-    for run in 0..runs {
-        let mut machine = Machine::new(rt.alloc(), image(rt.alloc(), &config)?, config)?;
-        let start = Instant::now(&rt)?;
-        sweep(&mut machine, &mut counts);
-        time = time.saturating_add(start.elapsed(&rt)?);
-        if run == 0 {
-            let word = machine.word(0).unwrap_or(0);
-            println!(rt;
-                "k {}: {} instructions retire, and word 0 is {}",
-                k, counts.retired, word
-            )?;
-        }
-    }
-    eprintln!(rt;
-        "k {}: {} runs, {} steps that did something in {} microseconds",
-        k,
-        runs,
-        counts.moved,
-        time.as_micros()
-    )?;
-    Ok(())
+    measure(&rt, config, runs)
 }

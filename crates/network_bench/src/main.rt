@@ -197,29 +197,40 @@ fn run_rounds(alloc: Global, clock: &impl Clock, kind: Kind, rounds: u32) -> any
     Ok(bench)
 }
 
-fn main(rt: HostRuntime) -> anyhow::Result<()> {
-    let arguments = env::args(&rt)?.skip(1).collect::<Vec<String>>(rt.alloc())?;
-    let (kinds, rounds): (&[Kind], u32) = match arguments.as_slice() {
-        [] => (&[Kind::One, Kind::Each], 10),
-        [kind, rounds] if kind.as_str() == "one" => (&[Kind::One], rounds.parse()?),
-        [kind, rounds] if kind.as_str() == "each" => (&[Kind::Each], rounds.parse()?),
+/// Which kinds of moves are measured, and how many rounds.
+fn asked(rt: &HostRuntime) -> anyhow::Result<(&'static [Kind], u32)> {
+    let arguments = env::args(rt)?.skip(1).collect::<Vec<String>>(rt.alloc())?;
+    match arguments.as_slice() {
+        [] => Ok((&[Kind::One, Kind::Each], 10)),
+        [kind, rounds] if kind.as_str() == "one" => Ok((&[Kind::One], rounds.parse()?)),
+        [kind, rounds] if kind.as_str() == "each" => Ok((&[Kind::Each], rounds.parse()?)),
         _ => bail!("usage: network_bench [one|each ROUNDS]"),
-    };
+    }
+}
+
+/// Tells what rounds came to.
+fn tell(rt: &HostRuntime, kind: Kind, rounds: u32, bench: &Bench) -> anyhow::Result<()> {
+    println!(rt;
+        "{}: {} rounds, {} moves, {} replies, their sum {}",
+        kind.name(),
+        rounds,
+        bench.moves,
+        bench.replies,
+        bench.sum
+    )?;
+    eprintln!(rt;
+        "{}: moves in {} microseconds",
+        kind.name(),
+        bench.time.as_micros()
+    )?;
+    Ok(())
+}
+
+fn main(rt: HostRuntime) -> anyhow::Result<()> {
+    let (kinds, rounds) = asked(&rt)?;
     for kind in kinds {
         let bench = run_rounds(rt.alloc(), &rt, *kind, rounds)?;
-        println!(rt;
-            "{}: {} rounds, {} moves, {} replies, their sum {}",
-            kind.name(),
-            rounds,
-            bench.moves,
-            bench.replies,
-            bench.sum
-        )?;
-        eprintln!(rt;
-            "{}: moves in {} microseconds",
-            kind.name(),
-            bench.time.as_micros()
-        )?;
+        tell(&rt, *kind, rounds, &bench)?;
     }
     Ok(())
 }

@@ -1,16 +1,19 @@
 //! `ultra order`: from the bytes of a trace and of an image to the lines of a serial order.
 
-ghost use Rattle.std.specs.Prelude.{◌≡◌, ◌≤◌, true, false, IfOk, IfErr, IsErr, length, string_bytes};
+ghost use Rattle.std.specs.Prelude.{◌≡◌, ◌≤◌, true, false, List, IfOk, IfErr, IsErr, length, string_bytes};
+ghost use Rattle.steps.specs.declared.step.Step.{Step};
+ghost use Rattle.machine_runs.specs.Machines.{MachineLists};
+ghost use Rattle.machine_runs.specs.Runs.{IsOpening, passed};
 ghost use Rattle.command_io.specs.Printing.{IsPrinted, IsTold};
-ghost use Rattle.run_commands.specs.Causes.{IsNotPrinted, IsNotTaken};
+ghost use Rattle.run_commands.specs.Causes.{IsFaultOfSize, IsNotPrinted, IsNotTaken};
 ghost use Rattle.run_commands.specs.Commands.{known_of};
-ghost use Rattle.order_command.specs.Orders.{AreOrderLines, IsOrder, IsSomeOrder};
+ghost use Rattle.order_command.specs.Orders.{AreOrderLines, IsBroughtHome, IsOrder, IsSomeOrder};
 
 use crate::lines::order_text;
 use crate::machines::{brought_home, entries_of};
 use command_io::Fault;
 use elf_image::Image;
-use flat_machine::Config;
+use flat_machine::{Config, Entry};
 use link::LinkWrite;
 use order_lines::Choice;
 use run_commands::{Account, account_command, exit_status, opened};
@@ -99,8 +102,27 @@ fn ordered(
 {
     let all = brought_home(alloc, image, config, steps)?;
     let entries = entries_of(alloc, image, config, all.as_slice())?;
+    lines_of_entries(alloc, image, config, entries.as_slice(), choice)
+}
+
+/// The chosen lines of these entries, one behind the other, on a machine of this size that opens on the image, and the exit status.
+// A function of its own, so that none has many values to drop at each of its ends.
+fn lines_of_entries(
+    alloc: Global,
+    image: &Image,
+    config: Config,
+    entries: &[Entry],
+    choice: Choice,
+) -> Result<(String, u8), Fault>
+    requires words { image.now.shared_words ≡ config.shared_words }
+    ensures lines { IfOk result (λ done. (steps all : List Step) → IsBroughtHome config image.now steps all
+        → ((opening : MachineLists) → IsOpening config image.now opening → entries.now ≡ (passed opening all).order)
+        → AreOrderLines config image.now steps choice (string_bytes done.0) done.1) }
+    ensures low { IfOk result (λ done. done.1 ≤ 1) }
+    ensures refused { IfErr result (IsFaultOfSize config) }
+{
     let mut before = opened(alloc, image, config)?;
     let mut after = opened(alloc, image, config)?;
-    let text = order_text(alloc, &mut before, &mut after, entries.as_slice(), choice)?;
+    let text = order_text(alloc, &mut before, &mut after, entries, choice)?;
     Ok((text, exit_status(&before)))
 }

@@ -111,6 +111,10 @@ pub record IsFinishedRun (c : Config) (budget : ℕ) (known : Option (List ℕ))
   pub over : IsRunOf c budget known Over log
   pub trace : IsTrace (trace_of c log.steps)
 
+-- the log of such a run, of whatever file and budget
+abbrev pub IsSomeFinishedRun : Config → Log → Type 0
+IsSomeFinishedRun c log = (budget : ℕ) × (known : Option (List ℕ)) × IsFinishedRun c budget known log
+
 -- A run of the image that a file means enters these steps; this is its report, and this its exit status.
 pub record IsReportedRun (c : Config) (budget : ℕ) (known : Option (List ℕ)) (steps : List Step) (text : List ℕ) (status : ℕ) : Type 0 where
   pub log : Log

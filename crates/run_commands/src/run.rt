@@ -1,10 +1,10 @@
 //! `ultra run`: from the bytes of an image to the report of its run.
 
-ghost use Rattle.std.specs.Prelude.{◌≡◌, ◌≤◌, ◌↔◌, true, false, IfOk, IfErr, IfSome, IsErrOf, OnErr, map, string_bytes};
+ghost use Rattle.std.specs.Prelude.{◌≡◌, ◌≤◌, ◌↔◌, ℕ, List, Option, true, false, IfOk, IfErr, IfSome, IsErrOf, OnErr, map, string_bytes};
 ghost use Rattle.machine_runs.specs.Machines.{IsIdle};
 ghost use Rattle.machine_runs.specs.Runs.{IsOpening};
 ghost use Rattle.run_commands.specs.Causes.{IsNoRun, IsNotRun};
-ghost use Rattle.run_commands.specs.Commands.{IsFinishedRun, IsReportOf, IsRunReport, IsWorking};
+ghost use Rattle.run_commands.specs.Commands.{IsFinishedRun, IsReportOf, IsRunReport, IsSomeFinishedRun, IsWorking};
 ghost use Rattle.run_commands.specs.Retaking.{AreConsoles};
 ghost use Rattle.command_io.specs.Printing.{IsPrinted, IsTold};
 
@@ -72,7 +72,30 @@ fn carried_out<R: Read + Drop, T: LinkWrite, W: LinkWrite>(
     ensures silent { OnErr result (W.has_failed out.new ≡ false → out.new ≡ out.old) }
 {
     let log = ran(alloc, file, config, budget)?;
-    let (text, status) = reported(alloc, &log, None)?;
+    print_run(alloc, &log, config, trace, out)
+}
+
+/// Writes the trace of a run, where one is asked for, and prints its report.
+// A function of its own, so that none has many values to drop at each of its ends.
+fn print_run<T: LinkWrite, W: LinkWrite>(
+    alloc: Global,
+    log: &Logged,
+    config: Config,
+    trace: &mut Option<T>,
+    out: &mut W,
+) -> Result<u8, Fault>
+    requires works { IsWorking T.has_failed trace.old }
+    requires prints { W.has_failed out.old ≡ false }
+    requires ran { IsSomeFinishedRun config log.now }
+    ensures failed { IsErrOf result Fault.Link ↔ (W.has_failed out.new ≡ true) }
+    ensures reported { IfOk result (λ status. (budget : ℕ) (known : Option (List ℕ)) → IsFinishedRun config budget known log.now
+        → IsPrinted (IsRunReport T.contents config budget known trace.old trace.new status) (W.contents out.old) (W.contents out.new)) }
+    ensures low { IfOk result (λ status. status ≤ 1) }
+    ensures told { IfErr result (λ fault. (budget : ℕ) (known : Option (List ℕ)) → IsFinishedRun config budget known log.now
+        → IsNoRun T.contents config budget known trace.old trace.new (W.contents out.old) (W.contents out.new) fault) }
+    ensures silent { OnErr result (W.has_failed out.new ≡ false → out.new ≡ out.old) }
+{
+    let (text, status) = reported(alloc, log, None)?;
     save(trace, &config, log.steps())?;
     print(out, text.as_str())?;
     Ok(status)

@@ -1,5 +1,5 @@
 -- Where a register that is not live is cleared, the same is kept.
-use Rattle.std.proofs.Common.{◌≡◌, ℕ, ◌<◌, Bool, false, cond, List, sym, ap, subst, ◌∙◌, arith, eqb, ne_eqb}
+use Rattle.std.proofs.Common.{◌≡◌, ℕ, ◌<◌, Bool, false, cond, List, sym, ap, subst, ◌∙◌, arith, ne_eqb}
 use Rattle.std.specs.Prelude.{slice_set}
 use Rattle.flat_machine.specs.State.{Processor}
 use Rattle.flat_machine.specs.Flat.{with_poked_register}

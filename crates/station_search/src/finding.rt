@@ -83,19 +83,50 @@ fn find_all<G: Watch>(
         (length found.rows.keys)) }
     ensures few { IfOk result (λ found. length found.rows.keys ≤ no_move) }
 {
-    let mut rows = IndexSet::new(alloc);
-    let mut moves = Vec::new(alloc);
     let mut memos = Memos::new(alloc);
-    let Ok(_) = rows.insert(first) else {
+    let mut found = Found {
+        rows: IndexSet::new(alloc),
+        moves: Vec::new(alloc),
+    };
+    follow(
+        tables, &mut memos, code, extent, first, limit, watch, &mut found,
+    )?;
+    Ok(found)
+}
+
+/// Finds rows, one behind the other, until no new one comes. As yet there is none.
+// What is found is the caller's, which a function with so many ends need not drop at each.
+fn follow<G: Watch>(
+    tables: &mut Tables,
+    memos: &mut Memos,
+    code: &Code,
+    extent: Extent,
+    first: Row,
+    limit: u32,
+    watch: &mut G,
+    found: &mut Found,
+) -> Result<(), Refusal>
+    requires live { HasAllLive code.now tables.old.live }
+    requires row { IsRow extent tables.old first }
+    requires room { extent.processors ≤ 8 }
+    requires stations { KnowsStations code.now tables.old memos.old.stations }
+    requires lists { KnowsLists tables.old memos.old.lists }
+    requires nothing { (found.old.rows.keys ≡ []) × (found.old.moves.items ≡ []) }
+    ensures kept { OnOk result (IsKept tables.old tables.new) }
+    ensures searched { OnOk result (Searched extent code.now tables.new found.new.rows.keys found.new.moves.items (means extent tables.old first)
+        (length found.new.rows.keys)) }
+    ensures few { OnOk result (length found.new.rows.keys ≤ no_move) }
+{
+    let Ok(_) = found.rows.insert(first) else {
         return Err(Refusal::Memory);
     };
     for at in 0..limit {
-        let Some(row) = rows.get_index(at as usize).copied() else {
-            return Ok(Found { rows, moves });
+        let Some(row) = found.rows.get_index(at as usize).copied() else {
+            return Ok(());
         };
-        watch.found(rows.len());
-        let targets = expand(tables, &mut memos, code, extent, &mut rows, at, row)?;
-        let Ok(()) = moves.push(targets) else {
+        watch.found(found.rows.len());
+        let targets = expand(tables, memos, code, extent, &mut found.rows, at, row)?;
+        let Ok(()) = found.moves.push(targets) else {
             return Err(Refusal::Memory);
         };
     }

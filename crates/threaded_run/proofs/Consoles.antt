@@ -1,8 +1,8 @@
 -- The passes of a run on threads tell what its processors have shown: each has stopped, none has a reference open, and what was sent to
 -- the consoles is what the processors gave to them.
-use Rattle.std.proofs.Common.{◌≡◌, ◌⊎◌, inl, inr, ℕ, ◌^◌, ◌<◌, false, List, [], ◌∷◌, ◌++◌, length, map, append_assoc, refl, sym, ap, ◌∙◌, subst, arith}
+use Rattle.std.proofs.Common.{◌≡◌, inl, inr, ℕ, ◌^◌, ◌<◌, false, List, [], ◌∷◌, ◌++◌, length, map, append_assoc, refl, sym, ap, ◌∙◌, subst, arith}
 use Rattle.std.specs.Prelude.{Option, Some, None, slice_get, slice_index_or}
-use Rattle.std.proofs.lemmas.List.{append-nil, get_or-map, length-map}
+use Rattle.std.proofs.lemmas.List.{append-nil, length-map}
 use Rattle.std.specs.Option.{option_map}
 use Rattle.std.proofs.lemmas.Option.{get_or_from_slice_get, none-some, slice_get-get_or, slice_get-map}
 use Rattle.flat_machine.specs.declared.config.Config.{Config}
@@ -14,16 +14,15 @@ use Rattle.machine_runs.specs.machine_program.Steps.{machine_of_parts}
 use Rattle.machine_runs.specs.serialization.Order.{from_machine}
 use Rattle.machine_runs.specs.steps.declared.step.Step.{Step}
 use Rattle.machine_runs.specs.Machines.{MachineLists, machine_of, IsIdle}
-use Rattle.machine_runs.specs.Runs.{all_after, events_of, passed}
-use Rattle.machine_runs.specs.Laws.{EventsAreTold, RunsAreSerialized, told_of_steps}
+use Rattle.machine_runs.specs.Runs.{all_after, events_of}
+use Rattle.machine_runs.specs.Laws.{EventsAreTold, RunsAreSerialized}
 use Rattle.machine_runs.proofs.Lemmas.{passes_machine}
 use Rattle.machine_log.specs.Logs.{Log, IsKept}
 use Rattle.machine_passes.specs.Laws.{EventsAreListed, StoppedAreShut}
-use Rattle.machine_passes.specs.Lists.{all_named, no_poke, notices_of}
+use Rattle.machine_passes.specs.Lists.{notices_of}
 use Rattle.machine_passes.specs.Passes.{Held, IsWhole, rows_of}
-use Rattle.machine_passes.specs.Rows.{Fits, machine_after}
+use Rattle.machine_passes.specs.Rows.{Fits}
 use Rattle.machine_passes.specs.declared.row.Notice.{Notice}
-use Rattle.machine_passes.specs.declared.row.Row.{Row}
 use Rattle.processor_threads.specs.console_monitor.Ends.{held_of}
 use Rattle.processor_threads.specs.Consoles.{console_bytes, console_of}
 use Rattle.processor_threads.specs.Endings.{EndsWithStop, IsOfMemory, WereMade}

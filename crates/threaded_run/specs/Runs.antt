@@ -15,7 +15,6 @@ use Rattle.machine_passes.specs.Lists.{all_named, no_poke}
 use Rattle.command_io.specs.declared.fault.Fault.{Fault}
 use Rattle.command_io.specs.declared.fault.Fault.TheVariants as fault
 use Rattle.run_commands.specs.Retaking.{AreConsoles, events_in}
-use Rattle.threaded_run.specs.Faults.{IsOfRun}
 
 -- The last event is a stop.
 pub record EndInStop (events : List Event) : Type 0 where
@@ -43,6 +42,10 @@ pub record IsThreaded (c : Config) (known : Option (List ℕ)) (log : Log) (cons
   pub opens : IsOpening c image opening
   pub ended : HasEnded opening log consoles
   pub trace : IsTrace (trace_of c log.steps)
+
+-- so has a run of some image
+abbrev pub IsSomeThreaded : (c : Config) → (log : Log) → (consoles : List (List ℕ)) → Type 0
+IsSomeThreaded c log consoles = (known : Option (List ℕ)) × IsThreaded c known log consoles
 
 -- A machine of this size opens on the image that a file means.
 pub record HasBegun (c : Config) (known : Option (List ℕ)) : Type 0 where

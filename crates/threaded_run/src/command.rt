@@ -1,11 +1,13 @@
 //! The command.
 
-ghost use Rattle.std.specs.Prelude.{◌≡◌, ◌≤◌, ◌↔◌, true, false, IfOk, IfErr, IsErrOf, OnErr};
+ghost use Rattle.std.specs.Prelude.{◌≡◌, ◌≤◌, ◌↔◌, ℕ, List, Option, true, false, IfOk, IfErr, IsErrOf, OnErr, map};
+ghost use Rattle.processor_threads.specs.Consoles.{bytes_of};
 ghost use Rattle.run_commands.specs.Commands.{IsWorking};
 ghost use Rattle.command_io.specs.Printing.{IsPrinted, IsTold};
 ghost use Rattle.threaded_run.specs.Commands.{IsNoThreadedRun, IsThreadedReport};
+ghost use Rattle.threaded_run.specs.Runs.{IsSomeThreaded, IsThreaded};
 
-use crate::run::ran;
+use crate::run::{Finished, ran};
 use command_io::{Fault, print, tell};
 use flat_machine::Config;
 use link::LinkWrite;
@@ -89,6 +91,29 @@ fn carried_out<
     ensures silent { OnErr result (W.has_failed out.new ≡ false → out.new ≡ out.old) }
 {
     let finished = ran(rt, alloc, file, config, start, gate, budget)?;
+    print_run(alloc, &finished, config, trace, out)
+}
+
+/// Writes the trace of a run, where one is asked for, and prints its report.
+// A function of its own, so that none has many values to drop at each of its ends.
+fn print_run<T: LinkWrite, W: LinkWrite>(
+    alloc: Global,
+    finished: &Finished,
+    config: Config,
+    trace: &mut Option<T>,
+    out: &mut W,
+) -> Result<u8, Fault>
+    requires works { IsWorking T.has_failed trace.old }
+    requires prints { W.has_failed out.old ≡ false }
+    requires ran { IsSomeThreaded config finished.now.log (map bytes_of finished.now.consoles.items) }
+    ensures failed { IsErrOf result Fault.Link ↔ (W.has_failed out.new ≡ true) }
+    ensures reported { IfOk result (λ status. (known : Option (List ℕ)) → IsThreaded config known finished.now.log (map bytes_of finished.now.consoles.items)
+        → IsPrinted (IsThreadedReport T.contents config known trace.old trace.new status) (W.contents out.old) (W.contents out.new)) }
+    ensures low { IfOk result (λ status. status ≤ 1) }
+    ensures told { IfErr result (λ fault. (known : Option (List ℕ)) → IsThreaded config known finished.now.log (map bytes_of finished.now.consoles.items)
+        → IsNoThreadedRun T.contents config known trace.old trace.new (W.contents out.old) (W.contents out.new) fault) }
+    ensures silent { OnErr result (W.has_failed out.new ≡ false → out.new ≡ out.old) }
+{
     let (text, status) = reported(alloc, &finished.log, Some(finished.consoles.as_slice()))?;
     save(trace, &config, finished.log.steps())?;
     print(out, text.as_str())?;

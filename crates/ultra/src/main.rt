@@ -25,7 +25,9 @@ use link::{LinkWrite, Meter};
 use order_lines::Choice;
 use processor_threads::Open;
 use run_commands::run_command;
-use settings::{Asm, Explore, Hunt, Run, Session, Settings, Sizes, settings, status_of};
+use settings::{
+    Asm, Check, Dis, Explore, Hunt, Run, Session, Settings, Sizes, Words, settings, status_of,
+};
 use std::alloc::{AllocError, Global};
 use std::io::{self, ErrorKind, IsTerminal, Read, Write};
 use std::net::Net;
@@ -67,48 +69,108 @@ fn carry_out<
     let Ok(arguments) = arguments.collect::<Vec<String>>(alloc) else {
         return tell(Fault::Memory, err);
     };
-    let Ok(words) = texts(alloc, arguments.as_slice()) else {
+    carry_out_words(rt, arguments.as_slice(), terminal, out, err)
+}
+
+/// Does what the words of a command line ask for.
+fn carry_out_words<
+    R: Files + Net + Threads + Wait + Clock + Eprint + Sync + AllocGlobal,
+    W: LinkWrite,
+    E: Write,
+>(rt: &R, arguments: &[String], terminal: bool, out: &mut W, err: &mut E) -> u8
+    requires works { W.has_failed out.old ≡ false }
+{
+    let Ok(words) = texts(rt.alloc(), arguments) else {
         return tell(Fault::Memory, err);
     };
-    match settings(alloc, words.as_slice()) {
-        Ok(Settings::Words(words)) => match fs::open(rt, words.file) {
-            Ok(file) => words_command(alloc, file, out, err),
-            Err(_) => tell(Fault::Link, err),
-        },
-        Ok(Settings::Check(check)) => match fs::open(rt, check.file) {
-            Ok(file) => check_command(alloc, file, out, err),
-            Err(_) => tell(Fault::Link, err),
-        },
-        Ok(Settings::Asm(asm)) => assemble_file(rt, &asm, err),
-        Ok(Settings::Dis(dis)) => match fs::open(rt, dis.file) {
-            Ok(file) => dis_command(alloc, file, dis.words, out, err),
-            Err(_) => tell(Fault::Link, err),
-        },
-        Ok(Settings::Run(run)) => run_file(rt, &run, terminal, out, err),
-        Ok(Settings::Hunt(hunt)) => hunt_file(rt, &hunt, out, err),
-        Ok(Settings::Explore(explore)) => explore_file(rt, &explore, terminal, out, err),
-        Ok(Settings::Replay(replay)) => tell_steps(rt, &replay, Telling::Report, out, err),
-        Ok(Settings::Order(order)) => {
+    match settings(rt.alloc(), words.as_slice()) {
+        Ok(settings) => obey(rt, &settings, terminal, out, err),
+        Err(error) => refuse(&error, out, err),
+    }
+}
+
+/// Does what settings ask for.
+fn obey<
+    R: Files + Net + Threads + Wait + Clock + Eprint + Sync + AllocGlobal,
+    W: LinkWrite,
+    E: Write,
+>(rt: &R, settings: &Settings<'_>, terminal: bool, out: &mut W, err: &mut E) -> u8
+    requires works { W.has_failed out.old ≡ false }
+{
+    match settings {
+        Settings::Words(words) => words_file(rt, words, out, err),
+        Settings::Check(check) => check_file(rt, check, out, err),
+        Settings::Asm(asm) => assemble_file(rt, asm, err),
+        Settings::Dis(dis) => dis_file(rt, dis, out, err),
+        Settings::Run(run) => run_file(rt, run, terminal, out, err),
+        Settings::Hunt(hunt) => hunt_file(rt, hunt, out, err),
+        Settings::Explore(explore) => explore_file(rt, explore, terminal, out, err),
+        Settings::Replay(replay) => tell_steps(rt, replay, Telling::Report, out, err),
+        Settings::Order(order) => {
             let choice = Choice {
                 processor: order.processor,
                 word: order.word,
             };
             tell_steps(rt, &order.replay, Telling::Order(choice), out, err)
         }
-        Ok(Settings::Story(replay)) => tell_steps(rt, &replay, Telling::Story, out, err),
-        Ok(Settings::Stats(replay)) => tell_steps(rt, &replay, Telling::Counts, out, err),
-        Ok(Settings::Picture(asked)) => {
+        Settings::Story(replay) => tell_steps(rt, replay, Telling::Story, out, err),
+        Settings::Stats(replay) => tell_steps(rt, replay, Telling::Counts, out, err),
+        Settings::Picture(asked) => {
             tell_steps(rt, &asked.replay, Telling::Picture(asked.step), out, err)
         }
-        Ok(Settings::Debug(session)) => debug_file(rt, &session, out, err),
-        Ok(Settings::Explain(explain)) => explain_command(
-            alloc,
+        Settings::Debug(session) => debug_file(rt, session, out, err),
+        Settings::Explain(explain) => explain_command(
+            rt.alloc(),
             &all_topics(),
             explain.code,
             out,
             err,
         ),
-        Err(error) => refuse(&error, out, err),
+    }
+}
+
+/// Does what `words FILE` asks for.
+fn words_file<R: Files + AllocGlobal, W: LinkWrite, E: Write>(
+    rt: &R,
+    words: &Words<'_>,
+    out: &mut W,
+    err: &mut E,
+) -> u8
+    requires works { W.has_failed out.old ≡ false }
+{
+    match fs::open(rt, words.file) {
+        Ok(file) => words_command(rt.alloc(), file, out, err),
+        Err(_) => tell(Fault::Link, err),
+    }
+}
+
+/// Does what `check FILE` asks for.
+fn check_file<R: Files + AllocGlobal, W: LinkWrite, E: Write>(
+    rt: &R,
+    check: &Check<'_>,
+    out: &mut W,
+    err: &mut E,
+) -> u8
+    requires works { W.has_failed out.old ≡ false }
+{
+    match fs::open(rt, check.file) {
+        Ok(file) => check_command(rt.alloc(), file, out, err),
+        Err(_) => tell(Fault::Link, err),
+    }
+}
+
+/// Does what `dis FILE` asks for.
+fn dis_file<R: Files + AllocGlobal, W: LinkWrite, E: Write>(
+    rt: &R,
+    dis: &Dis<'_>,
+    out: &mut W,
+    err: &mut E,
+) -> u8
+    requires works { W.has_failed out.old ≡ false }
+{
+    match fs::open(rt, dis.file) {
+        Ok(file) => dis_command(rt.alloc(), file, dis.words, out, err),
+        Err(_) => tell(Fault::Link, err),
     }
 }
 

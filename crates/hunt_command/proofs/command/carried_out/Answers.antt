@@ -1,42 +1,10 @@
-use Rattle.std.proofs.Common.{◌∙◌, ap, subst, rules}
-use Rattle.std.specs.Prelude.{string_bytes}
-use Rattle.std.specs.Io.KnownBytes.{Appends}
-use Rattle.std.proofs.lemmas.Result.{err_from_is_err_and}
-use Rattle.link.specs.Transfer.{AppendsPart}
-use Rattle.hunt_command.specs.Findings.{findings_lines}
+use Rattle.std.proofs.lemmas.Result.{IfOk-weaker, IfErr-weaker}
 use Rattle.hunt_command.proofs.command.carried_out.Goals as goal
 
 pub returns-clause-printed : goal.returns-clause-printed
 returns-clause-printed g c =
-    record {
-      text = string_bytes c.in_ok-text.text;
-      meant = record {
-        image = c.in_ok-image.image;
-        meant = search rules;
-        found = c.in_ok-findings.findings.found;
-        are = search rules;
-        lines = c.in_ok-text.ensures ∙ ap findings_lines c.found.ensures;
-      };
-      printed = subst (λ bytes. Appends (g.W.Write.contents c.args.out.now) (g.W.Write.contents c.print.new.out) bytes) c.as_str.ensures.value
-          c.in_ok-print.ensures.printed;
-    }
+    IfOk-weaker c.hunt_image.result _ _ (λ status all. all (g.R.Read.remaining c.args.file) c.in_ok-image.ensures.image) c.hunt_image.ensures.printed
 
-pub returns-in_err-print-clause-told : goal.returns-in_err-print-clause-told
-returns-in_err-print-clause-told g c =
-    let p = err_from_is_err_and c.from_residual-in_err-print.result c.from_residual-in_err-print.ensures.1 in
-    let f = c.in_err-print.ensures.begun in
-    rw (p.1, p.2, f.0)
-    (record {
-      text = string_bytes c.in_ok-text.text;
-      meant = (
-        c.in_ok-findings.status,
-        record {
-          image = c.in_ok-image.image;
-          meant = search rules;
-          found = c.in_ok-findings.findings.found;
-          are = search rules;
-          lines = c.in_ok-text.ensures ∙ ap findings_lines c.found.ensures;
-        },
-      );
-      part = subst (λ bytes. AppendsPart (g.W.Write.contents c.args.out.now) (g.W.Write.contents c.print.new.out) bytes) c.as_str.ensures.value f.1;
-    })
+pub returns-clause-told : goal.returns-clause-told
+returns-clause-told g c =
+    IfErr-weaker c.hunt_image.result _ _ (λ fault all. all (g.R.Read.remaining c.args.file) c.in_ok-image.ensures.image) c.hunt_image.ensures.told

@@ -1,38 +1,10 @@
-use Rattle.std.proofs.Common.{List, sym, subst}
-use Rattle.std.proofs.lemmas.Result.{err_from_is_err_and}
-use Rattle.machine_runs.specs.steps.declared.step.Step.{Step}
-use Rattle.machine_runs.proofs.Lemmas.{run_home}
+use Rattle.std.proofs.lemmas.Result.{IfOk-weaker}
 use Rattle.machine_sweep.specs.Sweeps.{most_of}
-use Rattle.run_commands.specs.Causes.{IsFaultOfSize}
-use Rattle.run_commands.specs.Retaking.{IsRetaken}
-use Rattle.hunt_command.proofs.Running.{not_stalled}
 use Rattle.hunt_command.proofs.runs.result_of.Goals as goal
 
-pub returns-in_err-tally-clause-refused : goal.returns-in_err-tally-clause-refused
-returns-in_err-tally-clause-refused c =
-    let p = err_from_is_err_and c.from_residual-in_err-tally.result c.from_residual-in_err-tally.ensures.1 in
-    rw (p.1, p.2)
-    (subst (IsFaultOfSize c.args.config)
-    (sym (not_stalled c.args.config c.args.image.now (most_of c.args.budget) c.args.number c.in_ok-log.end c.in_ok-log.log c.steps.result.now
-    c.in_ok-machine.machine c.retaken.new.machine c.in_ok-log.ensures.ran.ran c.steps.ensures.steps c.in_ok-machine.ensures.opening
-    c.in_err-tally.field-0.0 c.in_err-tally.ensures.refused)) tt)
-
-pub result_text-requires-clause-home : goal.result_text-requires-clause-home
-result_text-requires-clause-home c =
-    run_home c.in_ok-machine.machine c.retaken.new.machine c.steps.result.now c.in_ok-tally.ensures.taken.replay.run c.in_ok-machine.ensures.opening.home
+pub result_of_log-requires-clause-ran : goal.result_of_log-requires-clause-ran
+result_of_log-requires-clause-ran c = (most_of c.args.budget, c.args.number, c.in_ok-log.ensures.ran)
 
 pub returns-clause-result : goal.returns-clause-result
 returns-clause-result c =
-    record {
-      end = c.in_ok-log.end;
-      log = c.in_ok-log.log;
-      ran = c.in_ok-log.ensures.ran.ran;
-      opening = c.in_ok-machine.machine;
-      opens = c.in_ok-machine.ensures.opening;
-      machine = c.retaken.new.machine;
-      tally = c.in_ok-tally.tally;
-      retaken = subst (λ (xs : List Step). IsRetaken c.in_ok-machine.machine xs c.retaken.new.machine c.in_ok-tally.tally) c.steps.ensures.steps
-          c.in_ok-tally.ensures.taken;
-      is = c.in_ok-text.ensures;
-      exit = c.exit_status.ensures;
-    }
+    IfOk-weaker c.result_of_log.result _ _ (λ done all. all (most_of c.args.budget) c.args.number c.in_ok-log.ensures.ran) c.result_of_log.ensures.result

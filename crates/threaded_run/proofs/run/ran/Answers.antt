@@ -1,4 +1,4 @@
-use Rattle.std.proofs.Common.{ℕ, List, map, ap, sym, subst}
+use Rattle.std.proofs.Common.{map, ap, sym, subst}
 use Rattle.std.proofs.lemmas.Result.{IfErr-weaker, IfOk-weaker}
 use Rattle.machine_runs.specs.Runs.{IsOpening}
 use Rattle.machine_log.specs.Logs.{Log}

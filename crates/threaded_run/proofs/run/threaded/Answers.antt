@@ -1,4 +1,4 @@
-use Rattle.std.proofs.Common.{map, sym}
+use Rattle.std.proofs.Common.{map}
 use Rattle.processor_threads.specs.Consoles.{bytes_of}
 use Rattle.threaded_run.proofs.Consoles.{has_ended, were_made}
 use Rattle.threaded_run.proofs.run.threaded.Goals as goal

@@ -1,5 +1,4 @@
-use Rattle.std.proofs.Common.{◌≡◌, ◌<◌, false, sym, ap, subst, ◌∙◌, arith}
-use Rattle.live_registers.specs.Live.{is_live}
+use Rattle.std.proofs.Common.{◌≡◌, ◌<◌, sym, subst, ◌∙◌, arith}
 use Rattle.station_search.proofs.Clearing.{IsCleared, cleared_on}
 use Rattle.station_search.proofs.station.Station.forget.Goals as goal
 use Rattle.station_search.proofs.station.Station.forget.Goals.{then-not-has, else-not-has}
