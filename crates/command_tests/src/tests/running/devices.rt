@@ -1,11 +1,14 @@
 //! A read or a write that fails, at each call.
 
 ghost use Rattle.std.specs.Prelude.{◌≡◌, false};
+ghost use Rattle.run_commands.specs.Commands.{IsWorking};
 
-use super::AMPLE;
-use link::{Link, Meter};
+use super::{AMPLE, Ran};
+use link::{Link, LinkWrite, Meter};
 use run_commands::{replay_command, run_command};
-use std::alloc::Global;
+use std::alloc::{AllocGlobal, Global};
+use std::io::Read;
+use std::process::Abort;
 use std::test::Fail;
 use test_devices::{Deaf, EBREAK, ONE_TURN, Sink, Source, assert_same};
 use test_machines::{image_of, size};
@@ -31,42 +34,74 @@ fn failing_link(alloc: Global, fails_at: usize) -> Meter<Sink>
     Meter::new(empty_sink(alloc, fails_at))
 }
 
+/// Runs an image, where standard output fails at a call. The trace stays with who asks for it.
+fn run_over<R: Read + Drop, T: LinkWrite>(
+    alloc: Global,
+    file: R,
+    trace: &mut Option<T>,
+    fails_at: usize,
+) -> Ran
+    requires { IsWorking T.has_failed trace.old }
+{
+    let (mut out, mut err) = (failing_link(alloc, fails_at), empty_sink(alloc, 0));
+    let status = run_command(alloc, file, size(0), AMPLE, trace, &mut out, &mut err);
+    Ran {
+        status,
+        out: out.device.bytes,
+        err: err.bytes,
+        trace: Vec::new(alloc),
+    }
+}
+
+/// Replays a trace on an image, where standard output fails at a call.
+fn replay_over<T: Read + Drop, R: Read + Drop>(
+    alloc: Global,
+    trace: T,
+    file: R,
+    fails_at: usize,
+) -> Ran {
+    let (mut out, mut err) = (failing_link(alloc, fails_at), empty_sink(alloc, 0));
+    let status = replay_command(alloc, trace, Ok(file), 1024, &mut out, &mut err);
+    Ran {
+        status,
+        out: out.device.bytes,
+        err: err.bytes,
+        trace: Vec::new(alloc),
+    }
+}
+
+/// Sees that a command has printed this, told that, and answered a status.
+fn see(rt: &impl Abort, ran: &Ran, (out, told, status): (&[u8], &str, u8), at: usize) {
+    assert_same!(rt; ran.out.as_slice(), out, at);
+    assert_same!(rt; ran.err.as_slice(), told.as_bytes(), at);
+    assert_same!(rt; ran.status, status, at);
+}
+
+/// What is left where a file cannot be read, for which this is told; else the report.
+fn report_unless(fails: bool, told: &str) -> (&[u8], &str, u8) {
+    if fails {
+        (&[], told, 3)
+    } else {
+        (STOPPED, "", 1)
+    }
+}
+
 /// The 88 bytes take 88 calls, and the next tells that there are no more.
 #[test]
 fn image_that_cannot_be_read(rt: HostRuntime) {
     let alloc = rt.alloc();
     for fails_at in 0..91 {
-        let (mut out, mut err) = (failing_link(alloc, 0), empty_sink(alloc, 0));
-        let file = Source::new(&EBREAK, fails_at);
+        let wanted = report_unless(1 <= fails_at && fails_at <= 89, "ultra: I9\n");
         let mut trace = no_trace();
-        let status = run_command(alloc, file, size(0), AMPLE, &mut trace, &mut out, &mut err);
-        if 1 <= fails_at && fails_at <= 89 {
-            assert_same!(rt; err.bytes.as_slice(), b"ultra: I9\n".as_slice());
-            assert_same!(rt; out.device.bytes.len(), 0, fails_at);
-            assert_same!(rt; status, 3, fails_at);
-        } else {
-            assert_same!(rt; out.device.bytes.as_slice(), STOPPED);
-            assert_same!(rt; status, 1, fails_at);
-        }
-
-        let (mut out, mut err) = (failing_link(alloc, 0), empty_sink(alloc, 0));
-        let file = Source::new(&EBREAK, fails_at);
-        let status = replay_command(
+        let ran = run_over(alloc, Source::new(&EBREAK, fails_at), &mut trace, 0);
+        see(&rt, &ran, wanted, fails_at);
+        let ran = replay_over(
             alloc,
             ONE_TURN.as_slice(),
-            Ok(file),
-            1024,
-            &mut out,
-            &mut err,
+            Source::new(&EBREAK, fails_at),
+            0,
         );
-        if 1 <= fails_at && fails_at <= 89 {
-            assert_same!(rt; err.bytes.as_slice(), b"ultra: I9\n".as_slice());
-            assert_same!(rt; out.device.bytes.len(), 0, fails_at);
-            assert_same!(rt; status, 3, fails_at);
-        } else {
-            assert_same!(rt; out.device.bytes.as_slice(), STOPPED);
-            assert_same!(rt; status, 1, fails_at);
-        }
+        see(&rt, &ran, wanted, fails_at);
     }
 }
 
@@ -75,56 +110,48 @@ fn image_that_cannot_be_read(rt: HostRuntime) {
 fn trace_that_cannot_be_read(rt: HostRuntime) {
     let alloc = rt.alloc();
     for fails_at in 0..27 {
-        let (mut out, mut err) = (failing_link(alloc, 0), empty_sink(alloc, 0));
+        let wanted = report_unless(1 <= fails_at && fails_at <= 25, "ultra: X5\n");
         let trace = Source::new(&ONE_TURN, fails_at);
-        let status = replay_command(
-            alloc,
-            trace,
-            Ok(EBREAK.as_slice()),
-            1024,
-            &mut out,
-            &mut err,
-        );
-        if 1 <= fails_at && fails_at <= 25 {
-            assert_same!(rt; err.bytes.as_slice(), b"ultra: X5\n".as_slice());
-            assert_same!(rt; out.device.bytes.len(), 0, fails_at);
-            assert_same!(rt; status, 3, fails_at);
-        } else {
-            assert_same!(rt; out.device.bytes.as_slice(), STOPPED);
-            assert_same!(rt; status, 1, fails_at);
-        }
+        let ran = replay_over(alloc, trace, EBREAK.as_slice(), 0);
+        see(&rt, &ran, wanted, fails_at);
     }
 }
 
-/// A trace that cannot be written: the bytes of the calls before are, and no report is printed.
+/// The bytes of the calls before one that fails are written, and no report is printed.
+fn write_until(rt: &(impl Abort + AllocGlobal), image: &[u8], fails_at: usize) {
+    let alloc = rt.alloc();
+    let mut trace = Some(Meter::new(empty_sink(alloc, fails_at)));
+    let ran = run_over(alloc, image, &mut trace, 0);
+    let written = trace.as_ref().map(|trace| trace.device.bytes.as_slice());
+    if 1 <= fails_at && fails_at <= 24 {
+        assert_same!(rt; written, ONE_TURN.get(..fails_at - 1), fails_at);
+        see(rt, &ran, (&[], "ultra: X5\n", 3), fails_at);
+    } else {
+        assert_same!(rt; written, Some(ONE_TURN.as_slice()), fails_at);
+        assert_same!(rt; ran.err.len(), 0, fails_at);
+        assert_same!(rt; ran.status, 0, fails_at);
+    }
+}
+
+/// A trace that cannot be written. A writer may take nothing.
 #[test]
 fn trace_that_cannot_be_written(rt: HostRuntime) -> Result<(), Fail> {
-    let alloc = rt.alloc();
-    let image = image_of(alloc, "ecall")?;
+    let image = image_of(rt.alloc(), "ecall")?;
     for fails_at in 0..26 {
-        let (mut out, mut err) = (failing_link(alloc, 0), empty_sink(alloc, 0));
-        let mut trace = Some(Meter::new(empty_sink(alloc, fails_at)));
-        let file = image.as_slice();
-        let status = run_command(alloc, file, size(0), AMPLE, &mut trace, &mut out, &mut err);
-        let written = trace.as_ref().map(|trace| trace.device.bytes.as_slice());
-        if 1 <= fails_at && fails_at <= 24 {
-            assert_same!(rt; written, Some(&ONE_TURN[..fails_at - 1]));
-            assert_same!(rt; err.bytes.as_slice(), b"ultra: X5\n".as_slice());
-            assert_same!(rt; out.device.bytes.len(), 0, fails_at);
-            assert_same!(rt; status, 3, fails_at);
-        } else {
-            assert_same!(rt; written, Some(ONE_TURN.as_slice()));
-            assert_same!(rt; err.bytes.len(), 0, fails_at);
-            assert_same!(rt; status, 0, fails_at);
-        }
+        write_until(&rt, image.as_slice(), fails_at);
     }
-    let (mut out, mut err) = (failing_link(alloc, 0), empty_sink(alloc, 0));
     let mut trace = Some(Meter::new(Deaf));
-    let file = image.as_slice();
-    let status = run_command(alloc, file, size(0), AMPLE, &mut trace, &mut out, &mut err);
-    assert_same!(rt; err.bytes.as_slice(), b"ultra: X5\n".as_slice());
-    assert_same!(rt; status, 3);
+    let ran = run_over(rt.alloc(), image.as_slice(), &mut trace, 0);
+    see(&rt, &ran, (&[], "ultra: X5\n", 3), 0);
     Ok(())
+}
+
+/// What is left where standard output fails at a call, one byte at each.
+fn printed_until(fails_at: usize) -> (&'static [u8], &'static str, u8) {
+    match STOPPED.get(..fails_at.wrapping_sub(1)) {
+        Some(printed) if printed.len() < STOPPED.len() => (printed, "ultra: link\n", 3),
+        _ => (STOPPED, "", 1),
+    }
 }
 
 /// Standard output comes before the processor's fault. The trace is written before it fails.
@@ -132,44 +159,23 @@ fn trace_that_cannot_be_written(rt: HostRuntime) -> Result<(), Fail> {
 fn report_that_cannot_be_printed(rt: HostRuntime) {
     let alloc = rt.alloc();
     for fails_at in 0..54 {
-        let (mut out, mut err) = (failing_link(alloc, fails_at), empty_sink(alloc, 0));
+        let wanted = printed_until(fails_at);
         let mut trace = Some(Meter::new(empty_sink(alloc, 0)));
-        let file = EBREAK.as_slice();
-        let status = run_command(alloc, file, size(0), AMPLE, &mut trace, &mut out, &mut err);
+        let ran = run_over(alloc, EBREAK.as_slice(), &mut trace, fails_at);
+        see(&rt, &ran, wanted, fails_at);
         let written = trace.as_ref().map(|trace| trace.device.bytes.as_slice());
-        assert_same!(rt; written, Some(ONE_TURN.as_slice()));
-        if 1 <= fails_at && fails_at <= 52 {
-            assert_same!(rt; Some(out.device.bytes.as_slice()), STOPPED.get(..fails_at - 1));
-            assert_same!(rt; err.bytes.as_slice(), b"ultra: link\n".as_slice());
-            assert_same!(rt; status, 3, fails_at);
-        } else {
-            assert_same!(rt; out.device.bytes.as_slice(), STOPPED);
-            assert_same!(rt; status, 1, fails_at);
-        }
-
-        let (mut out, mut err) = (failing_link(alloc, fails_at), empty_sink(alloc, 0));
-        let trace = ONE_TURN.as_slice();
-        let status = replay_command(
-            alloc,
-            trace,
-            Ok(EBREAK.as_slice()),
-            1024,
-            &mut out,
-            &mut err,
-        );
-        if 1 <= fails_at && fails_at <= 52 {
-            assert_same!(rt; Some(out.device.bytes.as_slice()), STOPPED.get(..fails_at - 1));
-            assert_same!(rt; err.bytes.as_slice(), b"ultra: link\n".as_slice());
-            assert_same!(rt; status, 3, fails_at);
-        } else {
-            assert_same!(rt; out.device.bytes.as_slice(), STOPPED);
-            assert_same!(rt; status, 1, fails_at);
-        }
+        assert_same!(rt; written, Some(ONE_TURN.as_slice()), fails_at);
+        let ran = replay_over(alloc, ONE_TURN.as_slice(), EBREAK.as_slice(), fails_at);
+        see(&rt, &ran, wanted, fails_at);
     }
-    // Where standard error fails too, the exit status alone tells the fault.
-    let mut out = failing_link(alloc, 0);
+}
+
+/// Where standard error fails too, the exit status alone tells the fault.
+#[test]
+fn fault_that_cannot_be_told(rt: HostRuntime) {
+    let alloc = rt.alloc();
     let file = &EBREAK[..51];
-    let mut trace = no_trace();
+    let (mut out, mut trace) = (failing_link(alloc, 0), no_trace());
     let status = run_command(alloc, file, size(0), AMPLE, &mut trace, &mut out, &mut Deaf);
     assert_same!(rt; status, 2);
     let mut out = failing_link(alloc, 0);
