@@ -1,5 +1,5 @@
 -- Steps that are taken and entered, one after another.
-use Rattle.std.proofs.Common.{◌≡◌, ℕ, ◌+◌, ◌*◌, ◌<◌, ◌≤◌, Bool, true, false, List, [], ◌∷◌, ◌++◌, length, Some, None, refl, sym, ap, ◌∙◌, subst, arith}
+use Rattle.std.proofs.Common.{◌≡◌, ℕ, ◌+◌, ◌≤◌, Bool, true, false, List, [], ◌∷◌, ◌++◌, length, refl, sym, ap, ◌∙◌, subst, arith}
 use Rattle.std.specs.Prelude.{min, map, if◌then◌else◌}
 use Rattle.std.proofs.lemmas.Bool.{true≢false}
 use Rattle.std.proofs.lemmas.List.{length-append, append-nil, append_assoc, map-append}
@@ -12,15 +12,13 @@ use Rattle.flat_machine.specs.Flat.{flat_step, flat_run}
 use Rattle.steps.specs.declared.step.Step.{Step}
 use Rattle.steps.specs.declared.step.Step.TheVariants as step
 use Rattle.steps.specs.declared.step.Outcome.{Outcome}
-use Rattle.steps.specs.declared.step.Outcome.TheVariants.{Retired, Issued, Stopped, Moved, Combined, Served, Answered, Poked, Stalled}
+use Rattle.steps.specs.declared.step.Outcome.TheVariants.{Poked, Stalled}
 use Rattle.steps.specs.Answers.{is_stalled}
 use Rattle.machine_runs.specs.Machines.{MachineLists, machine_of, AreHome, IsIdle, IsMachine, IsStep}
 use Rattle.machine_runs.specs.machine_program.Processors.{is_lawful_poke}
 use Rattle.machine_runs.specs.Runs.{flat_state, IsReplay}
-use Rattle.machine_runs.specs.Draining.{drain_step, BringsNearer, drain_bound, drain_steps, IsDrained}
-use Rattle.machine_runs.specs.Whole.{steps_from, one_steps, IsOne, IsPoked, IsSent}
-use Rattle.machine_runs.proofs.Lemmas.{IsGoingHome, home_begins, home_goes_on, home_in_time, home_now, replay_begins, replay_kept, replay_more, stalled_is}
-use Rattle.machine_runs.proofs.Lemmas.{run_home, steps_back}
+use Rattle.machine_runs.specs.Whole.{IsPoked}
+use Rattle.machine_runs.proofs.Lemmas.{replay_begins, replay_joined, replay_kept, replay_more, run_home, stalled_is}
 use Rattle.machine_log.specs.Logs.{Log, entered, IsKept, IsEntered, ArePoked, places_of}
 
 -- ---- stalls
@@ -75,6 +73,17 @@ pub entered_most : (m new : MachineLists) (steps steps' : List Step) (a b : ℕ)
 entered_most m new steps steps' a b e few =
     record { sound = e.sound; more = e.more; is = e.is; count = (let x = e.count in omega (arith, x, few)); replay = e.replay }
 
+-- Steps that a machine has taken one after another, and a list has at its end.
+pub entered_all : (m new : MachineLists) (steps more steps' : List Step) (most : ℕ) → IsMachine new → steps' ≡ steps ++ more → length more ≤ most →
+    IsReplay m more new → IsEntered m steps most new steps'
+entered_all m new steps more steps' most is behind few replay = record {
+  sound = is;
+  more = more;
+  is = behind;
+  count = few;
+  replay = λ opening r. subst (λ xs. IsReplay opening xs new) (sym behind) (replay_joined opening m new steps more r replay);
+}
+
 -- how many steps there are then
 pub entered_length : (m new : MachineLists) (steps steps' : List Step) (most : ℕ) → IsEntered m steps most new steps' → length steps' ≤ length steps + most
 entered_length m new steps steps' most e =
@@ -98,70 +107,6 @@ kept_after l new steps' most k e room =
 -- no core is away in its machine either
 pub kept_home : (l : Log) → IsKept l → AreHome l.machine
 kept_home l k = run_home l.opening l.machine l.steps k.replay.run k.home
-
--- ---- a drain
-
--- So many steps of a drain are taken, and entered behind the steps that stood there.
-pub record IsHomeEntered (old : MachineLists) (steps : List Step) (i : ℕ) (m : MachineLists) (steps' : List Step) (last : Outcome) : Type 0 where
-  pub tail : List Step
-  pub home : IsGoingHome old tail i m last
-  pub is : steps' ≡ steps ++ tail
-  pub entered : IsEntered old steps i m steps'
-
-pub entering_begins : (m : MachineLists) (steps : List Step) → IsMachine m → IsHomeEntered m steps 0 m steps Issued
-entering_begins m steps is = record { tail = []; home = home_begins m is; is = sym (append-nil steps); entered = entered_none m steps 0 is }
-
-module _ (old : MachineLists) (steps : List Step) (i : ℕ) (m : MachineLists) (steps' : List Step) (last : Outcome)
-    (b : IsHomeEntered old steps i m steps' last) where
-  pub entering_goes_on : (s : Step) (o : Outcome) (new : MachineLists) (steps2 : List Step) → i < drain_bound old.config → drain_step m ≡ Some s
-      → BringsNearer m s →
-      IsStep m s o new →
-      steps2 ≡ entered steps' s o → IsEntered m steps' 1 new steps2 → IsHomeEntered old steps (i + 1) new steps2 o
-  entering_goes_on s o new steps2 within names goes st is e =
-      let moves : o ≡ Stalled → ⊥ = (λ f. goes.moves (sym st.step.outcome ∙ f)) in
-      record {
-        tail = b.tail ++ s ∷ [];
-        home = home_goes_on old b.tail i m last b.home s o new e.sound within names st;
-        is = is ∙ entered_moving steps' s o moves ∙ ap (λ xs. xs ++ s ∷ []) b.is ∙ append_assoc steps b.tail (s ∷ []);
-        entered = entered_join old m new steps steps' steps2 i 1 (i + 1) b.entered e (omega arith);
-      }
-
-  abbrev Ended : Type 0
-  Ended = (steps' ≡ steps ++ drain_steps old) × IsDrained old i m × ((before : MachineLists) (p : ℕ) → IsSent before p old → IsOne before p last m)
-
-  -- It ends where the drain names no step any more, and where as many were taken as there are.
-  pub entering_stops : drain_step m ≡ None → IsIdle m → Ended
-  entering_stops none idle = let e = home_now old b.tail i m last b.home none idle in (b.is ∙ ap (λ xs. steps ++ xs) (sym e.0), e.1, e.2)
-
-  pub entering_is_over : IsMachine old → length (drain_steps old) ≤ i → Ended
-  entering_is_over is few = let e = home_in_time old b.tail i m last b.home is few in (b.is ∙ ap (λ xs. steps ++ xs) (sym e.0), e.1, e.2)
-
--- ---- a whole instruction
-
--- of a turn that sends no request its own step is entered, unless it stalls
-turn_entered : (m : MachineLists) (steps : List Step) (s : Step) (o : Outcome) → (o ≡ Issued → ⊥) →
-    entered steps s o ≡ steps ++ steps_from m.config m.code (machine_of m (λ q. [])) s o
-turn_entered m steps s Issued other = absurd (other refl)
-turn_entered m steps s Stalled other = sym (append-nil steps)
-turn_entered m steps s (Retired retired) other = refl
-turn_entered m steps s (Stopped cause) other = refl
-turn_entered m steps s Moved other = refl
-turn_entered m steps s (Combined first second) other = refl
-turn_entered m steps s (Served leader) other = refl
-turn_entered m steps s (Answered to) other = refl
-turn_entered m steps s Poked other = refl
-
-pub one_entered : (m : MachineLists) (p : ℕ) (steps : List Step) (o : Outcome) (new : MachineLists) → IsStep m (step.Turn p) o new → (o ≡ Issued → ⊥) →
-    entered steps (step.Turn p) o ≡ steps ++ one_steps m p
-one_entered m p steps o new st other =
-    turn_entered m steps (step.Turn p) o other ∙ ap (λ x. steps ++ steps_from m.config m.code (machine_of m (λ q. [])) (step.Turn p) x) st.step.outcome
-
--- of one that sends a request that step and those of the drain after it
-pub sent_entered : (m : MachineLists) (p : ℕ) (steps steps' steps2 : List Step) (o : Outcome) (sent : MachineLists) → IsSent m p sent → o ≡ Issued →
-    steps' ≡ entered steps (step.Turn p) o → steps2 ≡ steps' ++ drain_steps sent → steps2 ≡ steps ++ one_steps m p
-sent_entered m p steps steps' steps2 o sent s issued first rest =
-    rest ∙ ap (λ xs. xs ++ drain_steps sent) (first ∙ ap (entered steps (step.Turn p)) issued)
-    ∙ append_assoc steps (step.Turn p ∷ []) (drain_steps sent) ∙ ap (λ xs. steps ++ xs) (sym (steps_back m p sent s))
 
 -- ---- pokes
 

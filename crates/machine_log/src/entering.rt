@@ -4,13 +4,13 @@ ghost use Rattle.std.specs.Prelude.{◌≡◌, ◌≤◌, ◌<◌, ◌+◌, ◌*
 ghost use Rattle.std.specs.Vec.{vec_capacity};
 ghost use Rattle.flat_machine.specs.declared.event.Event.{Event};
 ghost use Rattle.machine_runs.specs.machine_program.Steps.{outcome_of};
-ghost use Rattle.machine_runs.specs.Machines.{MachineLists, machine_of, AreHome, IsIdle, IsStep};
+ghost use Rattle.machine_runs.specs.Machines.{machine_of, AreHome, IsIdle, IsStep};
 ghost use Rattle.machine_runs.specs.Draining.{drain_bound, drain_steps, IsDrained};
-ghost use Rattle.machine_runs.specs.Whole.{one_steps, IsOne, IsPoked, IsSent};
+ghost use Rattle.machine_runs.specs.Whole.{one_steps, IsOne, IsPoked};
 ghost use Rattle.machine_log.specs.Logs.{entered, AreLawful, ArePoked, IsEntered};
 
 use flat_machine::Poke;
-use machine_runs::{Machine, drain_step, machine_is_sound};
+use machine_runs::{Machine, drain_noted, machine_is_sound, one_noted};
 use steps::{Outcome, Step};
 
 /// Takes a step, and enters it in a list unless it stalls. There is room for it.
@@ -42,37 +42,22 @@ pub(crate) fn one(machine: &mut Machine, steps: &mut Vec<Step>, p: u8) -> Outcom
     ensures entered { IsEntered machine.old steps.old.items (2 * machine.old.config.k + 3) machine.new steps.new.items }
     ensures capacity { vec_capacity steps.new ≡ vec_capacity steps.old }
 {
+    let Ok(outcome) = one_noted(machine, p, steps);
     machine_is_sound(machine);
-    let bound = 2 * u32::from(machine.config().k) + 2;
-    let outcome = enter(machine, steps, Step::Turn(p));
-    match outcome {
-        Outcome::Issued => bring_home(machine, steps, bound).1,
-        whole => whole,
-    }
+    outcome
 }
 
-/// Takes and enters the steps of a drain, and answers how many, and what the last of them answered: where
-/// one processor alone has sent a request, what it retires. There are no more than so many, and there is
-/// room for them.
-pub(crate) fn bring_home(machine: &mut Machine, steps: &mut Vec<Step>, bound: u32) -> (u32, Outcome)
-    requires enough { length (drain_steps machine.old) ≤ bound }
-    requires few { bound ≤ drain_bound machine.old.config }
-    requires room { length steps.old.items + bound ≤ vec_capacity steps.old }
-    ensures drained { IsDrained machine.old result.0 machine.new }
-    ensures home { (before : MachineLists) (p : ℕ) → IsSent before p machine.old → IsOne before p result.1 machine.new }
+/// Takes and enters the steps of a drain, and answers how many. There is room for them.
+pub(crate) fn drain(machine: &mut Machine, steps: &mut Vec<Step>) -> u32
+    requires room { length steps.old.items + drain_bound machine.old.config ≤ vec_capacity steps.old }
+    ensures drained { IsDrained machine.old result machine.new }
     ensures steps { steps.new.items ≡ steps.old.items ++ drain_steps machine.old }
-    ensures entered { IsEntered machine.old steps.old.items bound machine.new steps.new.items }
+    ensures entered { IsEntered machine.old steps.old.items (drain_bound machine.old.config) machine.new steps.new.items }
     ensures capacity { vec_capacity steps.new ≡ vec_capacity steps.old }
 {
+    let Ok(moves) = drain_noted(machine, steps);
     machine_is_sound(machine);
-    let mut last = Outcome::Issued;
-    for moves in 0..bound {
-        let Some(step) = drain_step(machine) else {
-            return (moves, last);
-        };
-        last = enter(machine, steps, step);
-    }
-    (bound, last)
+    moves
 }
 
 /// Takes and enters these pokes, each of which can be written, on a machine in which no reference is

@@ -10,7 +10,7 @@ ghost use Rattle.machine_log.specs.Logs.{AreLawful, HasPoked, HasTaken, IsKept, 
 use crate::entering;
 use crate::log::LogRefusal;
 use flat_machine::Poke;
-use machine_runs::{Machine, machine_is_sound, most_moves};
+use machine_runs::{Machine, machine_is_sound};
 use std::alloc::Global;
 use std::marker::Model;
 use std::snapshot::Snapshot;
@@ -145,8 +145,7 @@ impl Roomy {
         ensures opening { self.new.log.opening ≡ self.old.log.opening }
         ensures places { KeepsPlaces self.old self.new }
     {
-        let bound = most_moves(&self.machine);
-        entering::bring_home(&mut self.machine, &mut self.steps, bound).0
+        entering::drain(&mut self.machine, &mut self.steps)
     }
 
     /// Takes one whole instruction of a processor, as [`machine_runs::one`] does, and enters its steps: `2k + 3`

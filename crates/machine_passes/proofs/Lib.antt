@@ -8,5 +8,4 @@ pub mod Running
 pub mod Crosses
 pub mod Lemmas
 pub mod Stopping
-pub mod Stalling
 pub mod Waiting

@@ -17,7 +17,7 @@ none p = []
 
 -- ---- runs of machines that differ in what was shown
 
-abbrev Alikes : Machine Told → Machine Told → Type 0
+abbrev pub Alikes : Machine Told → Machine Told → Type 0
 Alikes M N = (told : ℕ → List Event) → retell told M ≡ retell told N
 
 -- a machine is told what it has shown
@@ -25,7 +25,7 @@ told_own : (M : Machine Told) → retell (events_of M) M ≡ M
 told_own M = refl
 
 module _ (c : Config) (code : List ℕ) where
-  after_alikes : (M N : Machine Told) (s : Step) → Alikes M N → Alikes (after c code M s) (after c code N s)
+  pub after_alikes : (M N : Machine Told) (s : Step) → Alikes M N → Alikes (after c code M s) (after c code N s)
   after_alikes M N s same told =
       sym (after_alike c code M none told s) ∙ ap (λ K. retell told (after c code K s)) (same none) ∙ after_alike c code N none told s
 
@@ -34,7 +34,7 @@ module _ (c : Config) (code : List ℕ) where
   all_alikes M N [] same = same
   all_alikes M N (s ∷ ss) same = all_alikes (after c code M s) (after c code N s) ss (after_alikes M N s same)
 
-  outcome_alike : (M N : Machine Told) (s : Step) → Alikes M N → outcome_of c code M s ≡ outcome_of c code N s
+  pub outcome_alike : (M N : Machine Told) (s : Step) → Alikes M N → outcome_of c code M s ≡ outcome_of c code N s
   outcome_alike M N s same = sym (outcome_same c code M none s) ∙ ap (λ K. outcome_of c code K s) (same none) ∙ outcome_same c code N none s
 
   none_alike : (M N : Machine Told) (steps : List Step) → Alikes M N → NoneStalls c code M steps → NoneStalls c code N steps
@@ -42,7 +42,7 @@ module _ (c : Config) (code : List ℕ) where
   none_alike M N (s ∷ ss) alike moves =
       (λ e. moves.0 (outcome_alike M N s alike ∙ e), none_alike (after c code M s) (after c code N s) ss (after_alikes M N s alike) moves.1)
 
-  all_joined : (M : Machine Told) (steps more : List Step) → all_after c code M (steps ++ more) ≡ all_after c code (all_after c code M steps) more
+  pub all_joined : (M : Machine Told) (steps more : List Step) → all_after c code M (steps ++ more) ≡ all_after c code (all_after c code M steps) more
   unfolding all_after
   all_joined M [] more = refl
   all_joined M (s ∷ ss) more = all_joined (after c code M s) ss more
@@ -59,7 +59,7 @@ unfolding machine_of_parts
 retold_alike m shown told = refl
 
 -- a machine after a run, whatever it has shown, is the one that the run's definition says but for that
-run_alike : (opening mid : MachineLists) (steps : List Step) → IsRun opening steps mid → (shown : ℕ → List Event) →
+pub run_alike : (opening mid : MachineLists) (steps : List Step) → IsRun opening steps mid → (shown : ℕ → List Event) →
     Alikes (machine_of mid shown) (all_after opening.config opening.code (machine_of opening none) steps)
 run_alike opening mid steps r shown told =
     let M1 : Machine Told = all_after opening.config opening.code (machine_of opening none) steps in

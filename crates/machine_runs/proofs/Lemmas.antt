@@ -7,10 +7,19 @@ pub use Rattle.machine_runs.proofs.Drained.{named_again, named_step, none_idle}
 pub use Rattle.machine_runs.proofs.Flattening.{opens}
 -- One processor alone has a reference open, and a drain brings it back: its entry comes to stand in the order, and no other.
 pub use Rattle.machine_runs.proofs.Lone.{FirstTurn, IsAnswered, IsAsking, IsLone, Named, drain_named, first_turn, goes_on as lone_goes_on, starts}
+-- Runs and replays, one after another.
+pub use Rattle.machine_runs.proofs.Cutting.{all_joined, replay_joined}
+-- Steps that are noted as they are taken, and the events that their outcomes tell of.
+pub use Rattle.machine_runs.proofs.Noting.{listed, noted_behind, noted_more}
+pub use Rattle.machine_runs.proofs.Telling.{steps_tell}
+-- All machines that open on one image are one.
+pub use Rattle.machine_runs.proofs.OneOpening.{alike, drained_alike, same_code, same_config, same_machine}
+-- Steps that find no message stall.
+pub use Rattle.machine_runs.proofs.Quiet.{down_stalls, none_there, serve_stalls, turn_stalls, up_stalls}
 -- Replays: runs in which each step does something.
 pub use Rattle.machine_runs.proofs.Replaying.{outcome_there, replay_begins, replay_kept, replay_more, stalled_is}
 -- Runs of the machine, and the theorem for them.
-pub use Rattle.machine_runs.proofs.Running.{all_after_more, passes_machine, serialized, shown_is}
+pub use Rattle.machine_runs.proofs.Running.{all_after_more, passes_machine, run_more, serialized, shown_is}
 -- Whatever steps a machine takes, the same cores are away.
 pub use Rattle.machine_runs.proofs.Staying.{run_home, run_stays}
 -- One instruction at a time: the flat machine's step.

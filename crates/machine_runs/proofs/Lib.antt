@@ -6,9 +6,12 @@ pub mod Draining
 pub mod Drained
 pub mod Lone
 pub mod Whole
+pub mod Noting
+pub mod Quiet
+pub mod OneOpening
 mod Grouping
 mod Ordering
-mod Cutting
-mod Telling
+pub mod Cutting
+pub mod Telling
 pub mod Staying
 pub mod Lemmas

@@ -1,5 +1,5 @@
 -- Whatever steps a machine takes, the same cores are away.
-use Rattle.std.proofs.Common.{◌≡◌, ℕ, ◌^◌, ◌<◌, List, [], ◌∷◌, refl, sym, ap, ◌∙◌, subst}
+use Rattle.std.proofs.Common.{◌≡◌, ℕ, ◌^◌, ◌<◌, List, [], ◌∷◌, refl, ap, ◌∙◌, subst}
 use Rattle.flat_machine.specs.declared.config.Config.{Config}
 use Rattle.machine_theorem.specs.machine_program.Theory as theory
 use Rattle.machine_theorem.specs.machine_program.Processors.{Told}

@@ -145,7 +145,7 @@ module _ (c : Config) (code : List ℕ) (M : Machine Told) where
 
 -- ---- a list of steps
 
-steps_tell : (c : Config) (code : List ℕ) (M : Machine Told) (steps : List Step) →
+pub steps_tell : (c : Config) (code : List ℕ) (M : Machine Told) (steps : List Step) →
     told_after c code M steps (events_of M) ≡ events_of (all_after c code M steps)
 unfolding told_after all_after
 steps_tell c code M [] = refl

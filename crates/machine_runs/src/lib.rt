@@ -5,7 +5,8 @@
 //! which no reference is open, after whatever steps, one serial order of whole instructions explains
 //! what the machine did (`IsSerialized`). [`order`] lists that order, [`drain`] brings every open
 //! reference to its end, and [`one`] takes one instruction, whole: it is a step of the flat machine
-//! (`IsOne`).
+//! (`IsOne`). Who keeps steps as they are taken, as a log does, has them told ([`drain_noted`],
+//! [`one_noted`]).
 #![tactic(auto)]
 
 mod laws;
@@ -18,4 +19,4 @@ pub use laws::{
     replays_go_on, runs_are_joined, runs_are_serialized,
 };
 pub use machine::{Machine, NewError, machine_is_sound};
-pub use runs::{drain, drain_step, most_moves, one, order, run};
+pub use runs::{drain, drain_noted, drain_step, most_moves, one, one_noted, order, run};

@@ -1,11 +1,12 @@
 //! Runs of a machine: many steps, drains, and whole instructions.
 
-ghost use Rattle.std.specs.Prelude.{◌≡◌, ◌↔◌, ℕ, None, IfOk, IfSome, OnOk, OnErr};
-ghost use Rattle.machine.specs.Machines.{MachineLists, IsIdle};
-ghost use Rattle.machine_runs.specs.Draining.{drain_bound, drain_step, BringsNearer, IsDrained};
+ghost use Rattle.std.specs.Prelude.{◌≡◌, ◌≤◌, ◌+◌, ◌*◌, ◌↔◌, ℕ, None, IfOk, IfSome, OnOk, OnErr, length};
+ghost use Rattle.machine.specs.Machines.{MachineLists, IsIdle, IsMachine, IsStep};
+ghost use Rattle.machine_runs.specs.Draining.{drain_bound, drain_step, drain_steps, BringsNearer, IsDrained};
+ghost use Rattle.machine_runs.specs.Noting.{AreNoted};
 ghost use Rattle.machine_runs.specs.Ordering.{is_open_at};
-ghost use Rattle.machine_runs.specs.Runs.{IsRun, IsSerialized, passed};
-ghost use Rattle.machine_runs.specs.Whole.{IsOne, IsSent};
+ghost use Rattle.machine_runs.specs.Runs.{IsReplay, IsRun, IsSerialized, passed};
+ghost use Rattle.machine_runs.specs.Whole.{one_steps, IsOne, IsSent};
 
 use crate::searching::next_step;
 use crate::serial_order::SerialOrder;
@@ -13,6 +14,7 @@ use flat_machine::Entry;
 use machine::{Machine, machine_is_sound};
 use std::alloc::{AllocError, Global};
 use steps::{Outcome, Step};
+use told_steps::{Nobody, Notes};
 
 /// Applies each of these steps in turn.
 pub fn run(machine: &mut Machine, steps: &[Step])
@@ -80,7 +82,23 @@ pub fn drain_step(machine: &Machine) -> Option<Step>
 pub fn drain(machine: &mut Machine) -> u32
     ensures { IsDrained machine.old result machine.new }
 {
-    bring_home(machine).0
+    let Ok(moves) = drain_noted(machine, &mut Nobody);
+    moves
+}
+
+/// Drains the machine, as [`drain`] does, and tells each step to the notes.
+///
+/// # Errors
+///
+/// That of the notes, where a step could not be noted. The machine has taken it, and those before.
+pub fn drain_noted<N: Notes>(machine: &mut Machine, notes: &mut N) -> Result<u32, N::Refusal>
+    requires room { N.has_room notes.old (drain_bound machine.old.config) }
+    ensures drained { IfOk result (λ moves. IsDrained machine.old moves machine.new) }
+    ensures replay { OnOk result (IsReplay machine.old (drain_steps machine.old) machine.new) }
+    ensures noted { OnOk result (AreNoted N.noted machine.old (drain_steps machine.old) notes.old notes.new) }
+{
+    let bound = most_moves(machine);
+    Ok(bring_home(machine, bound, notes)?.0)
 }
 
 /// How many steps a drain takes at most: `2^k * (2k + 2)`.
@@ -100,31 +118,80 @@ pub fn one(machine: &mut Machine, p: u8) -> Outcome
     ensures whole { IsIdle machine.old → IsOne machine.old p result machine.new }
     ensures busy { (IsIdle machine.old → ⊥) → (result ≡ Outcome.Stalled) × (machine.new ≡ machine.old) }
 {
+    let Ok(outcome) = one_noted(machine, p, &mut Nobody);
+    outcome
+}
+
+/// Takes one instruction of a processor, whole, as [`one`] does, and tells its steps to the notes:
+/// `2k + 3` at most.
+///
+/// # Errors
+///
+/// That of the notes, where a step could not be noted. The machine has taken it, and those before.
+pub fn one_noted<N: Notes>(
+    machine: &mut Machine,
+    p: u8,
+    notes: &mut N,
+) -> Result<Outcome, N::Refusal>
+    requires room { N.has_room notes.old (2 * machine.old.config.k + 3) }
+    ensures whole { IfOk result (λ o. IsIdle machine.old → IsOne machine.old p o machine.new) }
+    ensures noted { OnOk result (IsIdle machine.old → AreNoted N.noted machine.old (one_steps machine.old p) notes.old notes.new) }
+    ensures few { OnOk result (IsIdle machine.old → length (one_steps machine.old p) ≤ 2 * machine.old.config.k + 3) }
+    ensures busy { IfOk result (λ o. (IsIdle machine.old → ⊥) → (o ≡ Outcome.Stalled) × (machine.new ≡ machine.old) × (notes.new ≡ notes.old)) }
+{
     machine_is_sound(machine);
     if !machine.is_idle() {
-        return Outcome::Stalled;
+        return Ok(Outcome::Stalled);
     }
-    let outcome = machine.apply(Step::Turn(p));
+    let bound = 2 * u32::from(machine.config().k) + 2;
+    let turn = Step::Turn(p);
+    let outcome = machine.apply(turn);
+    if outcome.is_stalled() {
+        return Ok(outcome);
+    }
+    notes.note(turn, &outcome)?;
     match outcome {
-        Outcome::Issued => bring_home(machine).1,
-        whole => whole,
+        Outcome::Issued => Ok(bring_home(machine, bound, notes)?.1),
+        whole => Ok(whole),
     }
 }
 
-/// Takes steps until no reference is open, and answers how many, and what the last of them answered: where
-/// one processor alone has sent a request, what it retires.
-fn bring_home(machine: &mut Machine) -> (u32, Outcome)
-    ensures drained { IsDrained machine.old result.0 machine.new }
-    ensures home { (before : MachineLists) (p : ℕ) → IsSent before p machine.old → IsOne before p result.1 machine.new }
+/// Takes steps until no reference is open, tells them to the notes, and answers how many, and what the last
+/// of them answered: where one processor alone has sent a request, what it retires. There are no more than
+/// so many.
+fn bring_home<N: Notes>(
+    machine: &mut Machine,
+    bound: u32,
+    notes: &mut N,
+) -> Result<(u32, Outcome), N::Refusal>
+    requires enough { length (drain_steps machine.old) ≤ bound }
+    requires few { bound ≤ drain_bound machine.old.config }
+    requires room { N.has_room notes.old bound }
+    ensures drained { IfOk result (λ done. IsDrained machine.old done.0 machine.new) }
+    ensures home { IfOk result (λ done. (before : MachineLists) (p : ℕ) → IsSent before p machine.old → IsOne before p done.1 machine.new) }
+    ensures replay { OnOk result (IsReplay machine.old (drain_steps machine.old) machine.new) }
+    ensures noted { OnOk result (AreNoted N.noted machine.old (drain_steps machine.old) notes.old notes.new) }
 {
     machine_is_sound(machine);
-    let bound = most_moves(machine);
     let mut last = Outcome::Issued;
     for moves in 0..bound {
         let Some(step) = drain_step(machine) else {
-            return (moves, last);
+            return Ok((moves, last));
         };
-        last = machine.apply(step);
+        last = take(machine, step, notes)?;
     }
-    (bound, last)
+    Ok((bound, last))
+}
+
+/// Takes a step, and tells it to the notes.
+fn take<N: Notes>(machine: &mut Machine, step: Step, notes: &mut N) -> Result<Outcome, N::Refusal>
+    requires room { (more : ℕ) × N.has_room notes.old (more + 1) }
+    ensures step { IfOk result (λ outcome. IsStep machine.old step outcome machine.new) }
+    ensures noted { IfOk result (λ outcome. N.noted notes.old step outcome notes.new) }
+    ensures room { OnOk result ((more : ℕ) → N.has_room notes.old (more + 1) → N.has_room notes.new more) }
+    ensures sound { IsMachine machine.new }
+{
+    let outcome = machine.apply(step);
+    notes.note(step, &outcome)?;
+    Ok(outcome)
 }

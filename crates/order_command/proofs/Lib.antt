@@ -1,4 +1,3 @@
-pub mod Homing
 pub mod Answering
 pub mod Words
 pub mod Telling

@@ -10,7 +10,9 @@ ghost use Rattle.order_command.specs.Orders.{IsBroughtHome};
 use command_io::Fault;
 use elf_image::Image;
 use flat_machine::{Config, Entry};
-use machine_runs::{Machine, drain_step, machine_is_sound, most_moves, order, runs_are_serialized};
+use machine_runs::{
+    Machine, drain_noted, machine_is_sound, most_moves, order, runs_are_serialized,
+};
 use run_commands::opened;
 use std::alloc::{AllocError, Global};
 use steps::Step;
@@ -50,14 +52,8 @@ fn push_drain(machine: &mut Machine, steps: &mut Vec<Step>) -> Result<(), AllocE
     ensures steps { OnOk result (steps.new.items ≡ steps.old.items ++ drain_steps machine.old) }
     ensures replay { OnOk result ((opening : MachineLists) → IsReplay opening steps.old.items machine.old → IsReplay opening steps.new.items machine.new) }
 {
-    machine_is_sound(machine);
-    for _ in 0..most_moves(machine) {
-        let Some(step) = drain_step(machine) else {
-            return Ok(());
-        };
-        machine.apply(step);
-        steps.push(step)?;
-    }
+    steps.reserve(most_moves(machine) as usize)?;
+    let Ok(_) = drain_noted(machine, steps);
     Ok(())
 }
 

@@ -19,14 +19,13 @@ use Rattle.machine_runs.specs.machine_program.Processors.{Told, no_port, no_proc
 use Rattle.machine_runs.specs.machine_program.Steps.{machine_of_parts}
 use Rattle.machine_runs.specs.Machines.{MachineLists, machine_of, IsIdle}
 use Rattle.machine_runs.specs.Runs.{IsOpening, IsReplay, IsSerialized, events_of, flat_state, passed}
-use Rattle.machine_runs.proofs.Lemmas.{passes_machine}
-use Rattle.trace_replay.proofs.Lemmas.{alike}
+use Rattle.machine_runs.proofs.Lemmas.{alike, passes_machine}
 use Rattle.run_report.specs.Events.{shown_by}
 use Rattle.run_report.specs.Lines.{processor_line, word_lines}
 use Rattle.run_report.specs.Tallies.{ShownBy, TallyState, nothing_shown}
 use Rattle.machine_sweep.specs.Standing.{HasFaulted, IsFaulted, processor_of}
 use Rattle.run_commands.specs.Commands.{IsReportOf}
-use Rattle.run_commands.specs.Reports.{HasFlatFaulted, IsExitOf, IsFlatReport, flat_processor, flat_processor_lines, flat_report, flat_shared_lines}
+use Rattle.run_commands.specs.Reports.{HasFlatFaulted, IsExitOf, flat_processor, flat_processor_lines, flat_report, flat_shared_lines}
 use Rattle.run_commands.specs.Reports.{processor_lines, report_of, shared_lines}
 use Rattle.run_commands.specs.Retaking.{IsRetaken, events_in}
 

@@ -11,7 +11,7 @@ use Rattle.machine_runs.specs.machine_program.Processors.{Told}
 use Rattle.steps.specs.declared.step.Step.{Step}
 use Rattle.machine_runs.specs.Machines.{MachineLists}
 use Rattle.machine_runs.specs.Runs.{IsOpening, events_of}
-use Rattle.trace_replay.proofs.Lemmas.{alike}
+use Rattle.machine_runs.proofs.Lemmas.{alike}
 use Rattle.run_report.specs.Events.{shown_by}
 use Rattle.run_report.specs.Tallies.{ShownBy, TallyState, nothing_shown}
 use Rattle.run_commands.specs.Reports.{AreHeard}

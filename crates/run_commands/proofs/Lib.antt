@@ -1,5 +1,5 @@
 pub mod Tallying
-pub mod StepByStep
+pub mod TakenAgain
 pub mod Logging
 pub mod FlatReports
 pub mod OneReport

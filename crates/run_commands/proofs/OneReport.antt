@@ -11,7 +11,7 @@ use Rattle.machine_runs.specs.machine_program.Processors.{Told, word_at}
 use Rattle.machine_runs.specs.machine_program.Steps.{machine_of_parts}
 use Rattle.machine_runs.specs.Machines.{MachineLists, machine_of}
 use Rattle.machine_runs.specs.Runs.{all_after, events_of}
-use Rattle.trace_replay.proofs.Lemmas.{alike}
+use Rattle.machine_runs.proofs.Lemmas.{alike}
 use Rattle.run_report.specs.Events.{shown_by}
 use Rattle.run_report.specs.Lines.{processor_line, word_lines}
 use Rattle.run_report.specs.Tallies.{ShownBy, TallyState, nothing_shown}

@@ -7,11 +7,12 @@ ghost use Rattle.machine_runs.specs.Draining.{drain_steps};
 ghost use Rattle.run_commands.specs.declared.taking.RetakeError.TheVariants.{Memory as NoMemory};
 ghost use Rattle.run_commands.specs.Retaking.{IsRetaken, IsNotRetaken};
 
-use machine_runs::{Machine, drain_step, machine_is_sound, most_moves};
+use machine_runs::{Machine, drain_noted, machine_is_sound};
 use run_report::Tally;
 use std::alloc::{AllocError, Global};
 use steps::Step;
 use thiserror::Error;
+use trace_replay::replay_noted;
 
 /// Why not all steps were taken.
 #[derive(Clone, Copy, Debug, PartialEq, Eq, Drop, Error)]
@@ -44,14 +45,10 @@ pub fn retaken(alloc: Global, machine: &mut Machine, steps: &[Step]) -> Result<T
     ensures refused { IfErr result (IsNotRetaken machine.old steps.now machine.new) }
 {
     let mut tally = Tally::new(alloc, machine.config().processors())?;
-    for (place, step) in steps.iter().enumerate() {
-        let outcome = machine.apply(*step);
-        if outcome.is_stalled() {
-            return Err(RetakeError::Stalled(place));
-        }
-        tally.note(*step, outcome)?;
+    match replay_noted(machine, steps, &mut tally)? {
+        Ok(()) => Ok(tally),
+        Err(stalled) => Err(RetakeError::Stalled(stalled.place)),
     }
-    Ok(tally)
 }
 
 /// Takes steps until no reference is open, as [`machine_runs::drain`] does, and notes what each answers.
@@ -66,12 +63,6 @@ pub fn drained(machine: &mut Machine, tally: &mut Tally) -> Result<(), AllocErro
         IsRetaken opening (steps ++ drain_steps machine.old) machine.new tally.new) }
 {
     machine_is_sound(machine);
-    for _ in 0..most_moves(machine) {
-        let Some(step) = drain_step(machine) else {
-            return Ok(());
-        };
-        let outcome = machine.apply(step);
-        tally.note(step, outcome)?;
-    }
+    drain_noted(machine, tally)?;
     Ok(())
 }

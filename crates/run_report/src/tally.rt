@@ -8,6 +8,7 @@ use crate::shown::Shown;
 use std::alloc::{AllocError, Global};
 use std::marker::Model;
 use steps::{Outcome, Step};
+use told_steps::Notes;
 
 /// What each processor of a machine has shown in the steps that are noted.
 #[derive(Debug, Drop)]
@@ -46,26 +47,6 @@ impl Tally {
         })
     }
 
-    /// Notes what a step answered.
-    ///
-    /// # Errors
-    ///
-    /// [`AllocError`] where there is no memory for a byte of the console.
-    // Of what a step answers little is read.
-    #[inline(always)]
-    pub fn note(&mut self, step: Step, outcome: Outcome) -> Result<(), AllocError>
-        requires { self.old.noted + 1 < 2 ^ 32 }
-        ensures noted { OnOk result (self.new ≡ noted_after self.old step outcome) }
-    {
-        self.noted += 1;
-        match (step, outcome) {
-            (Step::Turn(p), Outcome::Retired(retired)) => {
-                self.retire(usize::from(p), retired.out)
-            }
-            _ => Ok(()),
-        }
-    }
-
     /// An instruction of the processor at this place has retired.
     fn retire(&mut self, place: usize, out: Option<u8>) -> Result<(), AllocError>
         requires small { self.old.noted < 2 ^ 32 }
@@ -86,5 +67,34 @@ impl Tally {
         ensures { option_copied result ≡ slice_get self.now.shown processor }
     {
         self.processors.get(usize::from(processor))
+    }
+}
+
+/// A tally counts up to 2^32 steps.
+impl Notes for Tally {
+    ghost use Rattle.std.specs.Prelude.{◌≡◌, ◌<◌, ◌+◌, ◌^◌};
+    ghost use Rattle.run_report.specs.Tallies.{noted_after};
+
+    type Refusal = AllocError;
+
+    ghost has_room = { λ t more. t.noted + more < 2 ^ 32 };
+
+    ghost noted = { λ old step outcome new. new ≡ noted_after old step outcome };
+
+    /// Notes what a step answered.
+    ///
+    /// # Errors
+    ///
+    /// [`AllocError`] where there is no memory for a byte of the console.
+    // Of what a step answers little is read.
+    #[inline(always)]
+    fn note(&mut self, step: Step, outcome: &Outcome) -> Result<(), AllocError> {
+        self.noted += 1;
+        match (step, *outcome) {
+            (Step::Turn(p), Outcome::Retired(retired)) => {
+                self.retire(usize::from(p), retired.out)
+            }
+            _ => Ok(()),
+        }
     }
 }

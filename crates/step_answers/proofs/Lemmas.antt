@@ -1,18 +1,16 @@
 -- The lemmas that crates above may cite: answers begin with none, and go on with the outcome of each
 -- step that is taken next.
-use Rattle.std.proofs.Common.{◌≡◌, ℕ, suc, List, [], ◌∷◌, ◌++◌, length, refl, sym, ap, ap₂, ◌∙◌}
+use Rattle.std.proofs.Common.{◌≡◌, ℕ, suc, List, [], ◌∷◌, ◌++◌, length, refl, sym, ap, ◌∙◌}
 use Rattle.machine_runs.specs.flat_machine.declared.config.Config.{Config}
-use Rattle.machine_runs.specs.flat_machine.declared.event.Event.{Event}
-use Rattle.machine_runs.specs.omega_network.Networks.{net_of}
 use Rattle.machine_runs.specs.machine_program.Theory as theory
 use Rattle.machine_runs.specs.steps.declared.step.Step.{Step}
 use Rattle.machine_runs.specs.steps.declared.step.Outcome.{Outcome}
 use Rattle.machine_runs.specs.machine_program.Processors.{Told}
-use Rattle.machine_runs.specs.machine_program.Steps.{outcome_of, after, with_shown, machine_of_parts}
+use Rattle.machine_runs.specs.machine_program.Steps.{outcome_of, after}
 use Rattle.machine_runs.specs.Machines.{MachineLists, machine_of, IsStep}
-use Rattle.machine_runs.specs.Runs.{all_after, events_of, IsRun}
-use Rattle.machine_runs.proofs.Lemmas.{all_after_more, outcome_there, replay_begins, shown_is}
-use Rattle.told_steps.specs.Answers.{Answer, answer}
+use Rattle.machine_runs.specs.Runs.{all_after, IsRun}
+use Rattle.machine_runs.proofs.Lemmas.{outcome_there, replay_begins, run_more}
+use Rattle.machine_runs.specs.told_steps.Answers.{Answer, answer}
 use Rattle.step_answers.specs.Answers.{answers_from, answers_of}
 
 answers_none : (m : MachineLists) → answers_of m [] ≡ []
@@ -30,24 +28,6 @@ answered_more c code M [] s = refl
 answered_more c code M (x ∷ done) s = ap (λ xs. answer x (outcome_of c code M x) ∷ xs) (answered_more c code (after c code M x) done s)
 
 module _ (old m new : MachineLists) (done : List Step) (s : Step) (o : Outcome) (r : IsRun old done m) (is : IsStep m s o new) where
-  run_more : IsRun old (done ++ s ∷ []) new
-  run_more = record {
-    config = is.config ∙ r.config;
-    image = is.image ∙ r.image;
-    code = is.code ∙ r.code;
-    after = λ shown.
-        let M : theory.Machine Told = all_after old.config old.code (machine_of old shown) done in
-        let told : ℕ → List Event = with_shown (events_of M) s o in
-        let there : machine_of new told ≡ after old.config old.code M s =
-        ap (λ c. machine_of_parts c (net_of new.network) new.ports new.modules told) is.config
-        ∙ is.step.after (events_of M)
-        ∙ ap₂ (λ c code. after c code (machine_of m (events_of M)) s) r.config r.code
-        ∙ ap (λ M. after old.config old.code M s) (r.after shown) in
-        let all = there ∙ sym (all_after_more old.config old.code (machine_of old shown) done s) in
-        let events : told ≡ events_of (all_after old.config old.code (machine_of old shown) (done ++ s ∷ [])) = sym (shown_is new told) ∙ ap events_of all in
-        ap (machine_of new) (sym events) ∙ all;
-  }
-
   told_more : answers_of old (done ++ s ∷ []) ≡ answers_of old done ++ answer s o ∷ []
   unfolding answers_of
   told_more =

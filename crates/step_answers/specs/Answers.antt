@@ -4,7 +4,7 @@ use Rattle.machine_runs.specs.flat_machine.declared.config.Config.{Config}
 use Rattle.machine_runs.specs.machine_program.Theory as theory
 use Rattle.machine_runs.specs.steps.declared.step.Step.{Step}
 use Rattle.machine_runs.specs.steps.declared.step.Outcome.{Outcome}
-use Rattle.told_steps.specs.Answers.{Answer, answer}
+use Rattle.machine_runs.specs.told_steps.Answers.{Answer, answer}
 use Rattle.machine_runs.specs.machine_program.Processors.{Told}
 use Rattle.machine_runs.specs.machine_program.Steps.{outcome_of, after}
 use Rattle.machine_runs.specs.Machines.{MachineLists, machine_of, IsStep}

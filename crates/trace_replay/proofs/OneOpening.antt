@@ -1,9 +1,6 @@
--- All machines that open on one image are one: they stand alike after the same steps, and none of the steps that one of them
--- takes stalls in another.
-use Rattle.std.proofs.Common.{◌≡◌, ℕ, zero, suc, ◌<◌, List, [], ◌∷◌, length, take, slice_index_or, sym, ap, ◌∙◌, subst, arith}
+-- All machines that open on one image are one: none of the steps that one of them takes stalls in another.
+use Rattle.std.proofs.Common.{◌≡◌, ℕ, zero, suc, ◌<◌, List, [], ◌∷◌, length, take, slice_index_or, ◌∙◌, subst, arith}
 use Rattle.machine_runs.specs.flat_machine.declared.config.Config.{Config}
-use Rattle.machine_runs.specs.flat_machine.declared.event.Event.{Event}
-use Rattle.machine_runs.specs.flat_machine.State.{FlatState}
 use Rattle.machine_runs.specs.elf_image.Images.{ImageContents}
 use Rattle.machine_runs.specs.machine_program.Theory as theory
 use Rattle.steps.specs.declared.step.Step.{Step}
@@ -13,7 +10,7 @@ use Rattle.machine_runs.specs.machine_program.Processors.{Told}
 use Rattle.machine_runs.specs.machine_program.Steps.{outcome_of, after}
 use Rattle.machine_runs.specs.Machines.{MachineLists, machine_of}
 use Rattle.machine_runs.specs.Runs.{IsOpening, IsReplay, NoneStalls, all_after}
-use Rattle.machine_runs.proofs.Lemmas.{outcome_there}
+use Rattle.machine_runs.proofs.Lemmas.{outcome_there, same_code, same_config, same_machine}
 use Rattle.trace_replay.specs.Replays.{StallsAt}
 
 -- a step of a replay does something where it is taken
@@ -25,23 +22,11 @@ moves_there c code M (s ∷ ss) zero moved inside = moved.0
 moves_there c code M (s ∷ ss) (suc place) moved inside = moves_there c code (after c code M s) ss place moved.1 (omega (arith, inside))
 
 module _ (c : Config) (image : ImageContents) (first second : MachineLists) (one : IsOpening c image first) (two : IsOpening c image second) where
-  config_is : first.config ≡ second.config
-  config_is = one.config ∙ sym two.config
-
-  code_is : first.code ≡ second.code
-  code_is = ap (λ (s : FlatState). s.code) one.flat ∙ sym (ap (λ (s : FlatState). s.code) two.flat)
-
-  machine_is : (shown : ℕ → List Event) → machine_of first shown ≡ machine_of second shown
-  machine_is shown = one.machine shown ∙ sym (two.machine shown)
-
-  pub alike : (steps : List Step) (shown : ℕ → List Event) →
-      all_after first.config first.code (machine_of first shown) steps ≡ all_after second.config second.code (machine_of second shown) steps
-  alike steps shown i = all_after (config_is i) (code_is i) (machine_is shown i) steps
-
   moves : (steps : List Step) → NoneStalls first.config first.code (machine_of first (λ p. [])) steps →
       NoneStalls second.config second.code (machine_of second (λ p. [])) steps
   moves steps moved =
-      subst (λ (m : Config × List ℕ × theory.Machine Told). NoneStalls m.0 m.1 m.2 steps) (λ i. (config_is i, code_is i, machine_is (λ p. []) i)) moved
+      subst (λ (m : Config × List ℕ × theory.Machine Told). NoneStalls m.0 m.1 m.2 steps) (λ i.
+      (same_config c image first second one two i, same_code c image first second one two i, same_machine c image first second one two (λ p. []) i)) moved
 
   pub none_stalls : (steps : List Step) (last : MachineLists) → IsReplay first steps last → (place : ℕ) (m : MachineLists) → StallsAt second steps place m → ⊥
   none_stalls steps last replay place m stalled =

@@ -1,5 +1,5 @@
 -- Where a replay stops.
-use Rattle.std.proofs.Common.{◌≡◌, ℕ, ◌<◌, List, [], length, take, slice_index_or, sym, ap, ap₂, ◌∙◌, subst}
+use Rattle.std.proofs.Common.{◌≡◌, ℕ, ◌<◌, List, [], length, take, slice_index_or, sym, ap, ap₂, ◌∙◌}
 use Rattle.machine_runs.specs.flat_machine.declared.event.Event.{Event}
 use Rattle.steps.specs.declared.step.Step.{Step}
 use Rattle.steps.specs.declared.step.Step.TheVariants as step

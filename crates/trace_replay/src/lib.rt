@@ -3,4 +3,4 @@
 
 mod replaying;
 
-pub use replaying::{StalledStep, replay};
+pub use replaying::{StalledStep, replay, replay_noted};

@@ -6,6 +6,7 @@ use rv_table::Insn;
 use std::test::Fail;
 use steps::{Outcome, Step};
 use test_devices::assert_same;
+use told_steps::Notes;
 
 /// An environment call that has retired, and given this byte to the console.
 fn call(out: Option<u8>) -> Outcome {
@@ -22,12 +23,12 @@ fn call(out: Option<u8>) -> Outcome {
 fn counts_retirements(rt: HostRuntime) -> Result<(), Fail> {
     let alloc = rt.alloc();
     let mut tally = Tally::new(alloc, 2)?;
-    tally.note(Step::Turn(0), call(Some(0x41)))?;
-    tally.note(Step::Turn(1), call(None))?;
-    tally.note(Step::Turn(1), Outcome::Issued)?;
-    tally.note(Step::Serve(1), Outcome::Served { leader: 1 })?;
-    tally.note(Step::Turn(0), call(Some(0x0A)))?;
-    tally.note(Step::Turn(2), call(Some(0x42)))?;
+    tally.note(Step::Turn(0), &call(Some(0x41)))?;
+    tally.note(Step::Turn(1), &call(None))?;
+    tally.note(Step::Turn(1), &Outcome::Issued)?;
+    tally.note(Step::Serve(1), &Outcome::Served { leader: 1 })?;
+    tally.note(Step::Turn(0), &call(Some(0x0A)))?;
+    tally.note(Step::Turn(2), &call(Some(0x42)))?;
     for (p, retired, console) in [(0, 2, b"A\n".as_slice()), (1, 1, b"".as_slice())] {
         let shown = tally.of(p).ok_or("a processor")?;
         assert_same!(rt; shown.retired(), retired, p);

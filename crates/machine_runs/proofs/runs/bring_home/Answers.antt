@@ -1,34 +1,54 @@
-use Rattle.std.proofs.Common.{◌≡◌, ◌∙◌, ◌<◌, [], ◌∷◌, ◌++◌, sym, subst, arith}
+use Rattle.std.proofs.Common.{◌≡◌, ◌∙◌, ◌<◌, ◌-◌, ◌+◌, sym, subst, arith}
 use Rattle.machine_runs.specs.Draining.{IsDrained}
-use Rattle.machine_runs.proofs.Drained.{drain_is_bounded}
-use Rattle.machine_runs.proofs.Whole.{home_begins, home_goes_on, home_now, home_in_time}
+use Rattle.machine_runs.proofs.Noting.{noting_begins, noting_goes_on, noting_is_over, noting_stops}
 use Rattle.machine_runs.proofs.runs.bring_home.Goals as goal
 
 pub loop-moves-init : goal.loop-moves-init
-loop-moves-init c = ([], home_begins c.args.machine.now c.machine_is_sound.ensures)
+loop-moves-init g c = record {
+  home = noting_begins g.N.Notes.noted c.args.machine.now c.args.notes.now c.machine_is_sound.ensures;
+  room = λ left all. subst (g.N.Notes.has_room c.args.notes.now) (omega (arith, all)) c.requires.room;
+}
 
 pub returns-in_default : goal.returns-in_default
-returns-in_default c =
-    let w = c.loop-moves.invariant in
+returns-in_default g c =
+    let l = c.loop-moves in
     let ended =
-    home_now c.args.machine.now w.0 c.loop-moves.moves c.loop-moves.machine c.loop-moves.last w.1 (sym c.drain_step.ensures.next ∙ c.in_default.is)
-    (c.drain_step.ensures.none.0 c.in_default.is) in
-    record { drained = ended.1; home = ended.2 }
+    noting_stops g.N.Notes.noted c.args.machine.now c.args.notes.now l.moves l.machine l.last l.notes l.invariant.home
+    (sym c.drain_step.ensures.next ∙ c.in_default.is) (c.drain_step.ensures.none.0 c.in_default.is) in
+    record { drained = ended.drained; home = ended.home; replay = ended.replay; noted = ended.noted }
+
+pub take-requires : goal.take-requires
+take-requires g c =
+    let l = c.loop-moves in
+    let within : l.moves < c.args.bound = c.loop-moves-test.true in
+    let left = c.args.bound - (l.moves + 1) in record { room = (left, l.invariant.room (left + 1) (omega (arith, within))) }
 
 pub loop-moves-preserved : goal.loop-moves-preserved
-loop-moves-preserved c =
-    let w = c.loop-moves.invariant in (
-      w.0 ++ c.in-Some.step ∷ [],
-      home_goes_on c.args.machine.now w.0 c.loop-moves.moves c.loop-moves.machine c.loop-moves.last w.1 c.in-Some.step c.apply-last.result c.apply-last.new.self
-          c.apply-last.ensures.sound (subst (λ n. c.loop-moves.moves < n) c.most_moves-bound.ensures c.loop-moves-test.true)
-          (sym c.drain_step.ensures.next ∙ c.in-Some.is) c.apply-last.ensures.step,
-    )
+loop-moves-preserved g c =
+    let l = c.loop-moves in
+    let within : l.moves < c.args.bound = c.loop-moves-test.true in
+    let few = c.requires.few in
+    let last = c.in_ok-last.last in
+    let taken = c.in_ok-last.ensures in
+    record {
+      home =
+          noting_goes_on g.N.Notes.noted c.args.machine.now c.args.notes.now l.moves l.machine l.last l.notes l.invariant.home c.in-Some.step last
+          c.take.new.machine c.take.new.notes c.take.ensures.sound (omega (arith, within, few)) (sym c.drain_step.ensures.next ∙ c.in-Some.is)
+          c.in-Some.ensures.goes_on taken.step taken.noted;
+      room = λ left all. taken.room left (l.invariant.room (left + 1) (omega (arith, all)));
+    }
 
 pub returns : goal.returns
-returns c =
-    let w = c.loop-moves.invariant in
-    let over : c.loop-moves.moves ≡ c.most_moves-bound.result = omega (arith, c.loop-moves-test.false, c.loop-moves.auto.moves-end) in
+returns g c =
+    let l = c.loop-moves in
+    let over : l.moves ≡ c.args.bound = omega (arith, c.loop-moves-test.false, l.auto.moves-end) in
+    let enough = c.requires.enough in
     let ended =
-    home_in_time c.args.machine.now w.0 c.loop-moves.moves c.loop-moves.machine c.loop-moves.last w.1 c.machine_is_sound.ensures
-    (omega (arith, over, c.most_moves-bound.ensures, drain_is_bounded c.args.machine.now)) in
-    record { drained = subst (λ n. IsDrained c.args.machine.now n c.loop-moves.machine) over ended.1; home = ended.2 }
+    noting_is_over g.N.Notes.noted c.args.machine.now c.args.notes.now l.moves l.machine l.last l.notes l.invariant.home c.machine_is_sound.ensures
+    (omega (arith, over, enough)) in
+    record {
+      drained = subst (λ n. IsDrained c.args.machine.now n l.machine) over ended.drained;
+      home = ended.home;
+      replay = ended.replay;
+      noted = ended.noted;
+    }

@@ -1,41 +1,17 @@
-use Rattle.std.proofs.Common.{◌≡◌, ◌∙◌, ◌<◌, sym, subst, arith}
-use Rattle.order_command.proofs.Homing.{none_taken, one_taken, all_are_taken, bound_is_taken}
+use Rattle.std.proofs.Common.{◌≡◌, ◌∙◌, ◌++◌, ap, sym, subst}
+use Rattle.std.specs.Vec.{vec_capacity}
+use Rattle.machine_runs.specs.Draining.{drain_steps}
+use Rattle.machine_runs.specs.Runs.{IsReplay}
+use Rattle.machine_runs.proofs.Lemmas.{listed, replay_joined}
 use Rattle.order_command.proofs.machines.push_drain.Goals as goal
-
-pub loop-init : goal.loop-init
-loop-init c = none_taken c.args.machine.now c.args.steps.now.items
-
-pub returns-in_default-clause-steps : goal.returns-in_default-clause-steps
-returns-in_default-clause-steps c =
-    (all_are_taken c.args.machine.now c.args.steps.now.items c.loop.counter c.loop.machine c.loop.steps.items c.loop.invariant
-    (sym c.drain_step.ensures.next ∙ c.in_default.is)).0
-
-pub returns-in_default-clause-replay : goal.returns-in_default-clause-replay
-returns-in_default-clause-replay c =
-    (all_are_taken c.args.machine.now c.args.steps.now.items c.loop.counter c.loop.machine c.loop.steps.items c.loop.invariant
-    (sym c.drain_step.ensures.next ∙ c.in_default.is)).1
-
-pub loop-preserved : goal.loop-preserved
-loop-preserved c =
-    one_taken c.args.machine.now c.args.steps.now.items c.loop.counter c.loop.machine c.loop.steps.items c.loop.invariant c.in-Some.step c.apply.result
-    c.apply.new.self c.push.new.self.items
-    (subst (λ n. c.loop.counter < n) c.most_moves-end.ensures c.loop-test.true)
-    (sym c.drain_step.ensures.next ∙ c.in-Some.is) c.in-Some.ensures.goes_on c.apply.ensures.step c.in_ok-push.ensures.items
-
-pub returns-clause-idle : goal.returns-clause-idle
-returns-clause-idle c =
-    let over : c.loop.counter ≡ c.most_moves-end.result = omega (arith, c.loop-test.false, c.loop.auto.counter-end) in
-    (bound_is_taken c.args.machine.now c.args.steps.now.items c.loop.counter c.loop.machine c.loop.steps.items c.loop.invariant c.machine_is_sound.ensures
-    (over ∙ c.most_moves-end.ensures)).0
 
 pub returns-clause-steps : goal.returns-clause-steps
 returns-clause-steps c =
-    let over : c.loop.counter ≡ c.most_moves-end.result = omega (arith, c.loop-test.false, c.loop.auto.counter-end) in
-    (bound_is_taken c.args.machine.now c.args.steps.now.items c.loop.counter c.loop.machine c.loop.steps.items c.loop.invariant c.machine_is_sound.ensures
-    (over ∙ c.most_moves-end.ensures)).1.0
+    let m = c.args.machine.now in
+    (listed (λ list. list.items) vec_capacity m (drain_steps m) c.reserve.new.self c.drain_noted.new.notes c.in-Ok.ensures.noted).0
+    ∙ ap (λ steps. steps ++ drain_steps m) c.in_ok-reserve.ensures.items
 
 pub returns-clause-replay : goal.returns-clause-replay
-returns-clause-replay c =
-    let over : c.loop.counter ≡ c.most_moves-end.result = omega (arith, c.loop-test.false, c.loop.auto.counter-end) in
-    (bound_is_taken c.args.machine.now c.args.steps.now.items c.loop.counter c.loop.machine c.loop.steps.items c.loop.invariant c.machine_is_sound.ensures
-    (over ∙ c.most_moves-end.ensures)).1.1
+returns-clause-replay c opening r =
+    subst (λ steps. IsReplay opening steps c.drain_noted.new.machine) (sym (returns-clause-steps c))
+    (replay_joined opening c.args.machine.now c.drain_noted.new.machine c.args.steps.now.items (drain_steps c.args.machine.now) r c.in-Ok.ensures.replay)
