@@ -6,13 +6,15 @@
 //! error the time of the steps that did something, which does not have that of making the machines.
 #![tactic(auto)]
 
+ghost use Rattle.std.specs.Prelude.{◌≡◌};
+
 use anyhow::bail;
 use assembler::assemble;
 use elf_image::{Image, read_image, write_image};
 use flat_machine::{Config, Status};
 use link::Meter;
-use machine_runs::Machine;
-use machine_sweep::Round;
+use machine_runs::{Machine, machine_is_sound};
+use machine_sweep::{Downs, Row, Services, Turns, Ups};
 use std::alloc::Global;
 use std::env;
 use std::time::{Duration, Instant};
@@ -42,11 +44,44 @@ impl Counts {
     }
 }
 
+/// The steps of a row that may do something.
+// A part of its caller, for each kind of row, as in the sweep.
+#[inline(always)]
+fn take_row<R: Row>(machine: &mut Machine, counts: &mut Counts, row: &R)
+    requires there { R.is_there row.now machine.old.config.k }
+    ensures config { machine.new.config ≡ machine.old.config }
+{
+    machine_is_sound(machine);
+    let mut wire = 0;
+    while let Some(next) = row.first(machine, wire) {
+        counts.add(&machine.apply(row.step(next)));
+        wire = next + 1;
+    }
+}
+
 /// One round of the sweep: each of its steps that may do something.
-fn round(machine: &mut Machine, counts: &mut Counts) {
-    let mut round = Round::new(machine.config().k);
-    while let Some(step) = round.next(machine) {
-        counts.add(&machine.apply(step));
+fn take_round(machine: &mut Machine, counts: &mut Counts) {
+    take_row(machine, counts, &Turns);
+    take_ups(machine, counts);
+    take_row(machine, counts, &Services);
+    take_downs(machine, counts);
+}
+
+/// The requests move up, those before the last stage first.
+fn take_ups(machine: &mut Machine, counts: &mut Counts) {
+    let stages = machine.config().k;
+    for passed in 0..stages {
+        let row = Ups {
+            stage: stages - 1 - passed,
+        };
+        take_row(machine, counts, &row);
+    }
+}
+
+/// The replies move down, those after the first stage first.
+fn take_downs(machine: &mut Machine, counts: &mut Counts) {
+    for stage in 0..machine.config().k {
+        take_row(machine, counts, &Downs { stage });
     }
 }
 
@@ -61,7 +96,7 @@ fn sweep(machine: &mut Machine, counts: &mut Counts) {
         if !is_running(machine) {
             return;
         }
-        round(machine, counts);
+        take_round(machine, counts);
     }
 }
 

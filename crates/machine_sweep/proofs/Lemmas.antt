@@ -9,7 +9,7 @@ pub use Rattle.machine_sweep.proofs.RoundEnds.{step_first, step_over, step_under
 pub use Rattle.machine_sweep.proofs.Own.{drain_steps_are_own, own_behind, own_both, own_each, own_entered}
 pub use Rattle.machine_sweep.proofs.Recorded.{drained_has_records}
 -- Machines that are one take the same steps.
-pub use Rattle.machine_sweep.proofs.OneLog.{no_longer, over_there, same_drain, same_entered, told_nothing}
+pub use Rattle.machine_sweep.proofs.OneLog.{no_longer, over_there, same_entered}
 -- Lemmas of lower crates, passed on.
-pub use Rattle.machine_runs.proofs.Lemmas.machine.{retell}
+pub use Rattle.machine_runs.proofs.Lemmas.{drained_alike, same_code, same_config, same_machine}
 pub use Rattle.machine_runs.proofs.Lemmas.messages.{put_other, put_same}

@@ -9,6 +9,8 @@ pub mod Following
 pub mod Recorded
 pub mod Quiet
 pub mod Rows
+pub mod OfKinds
 pub mod Skipping
+pub mod Going
 pub mod OneLog
 pub mod Lemmas

@@ -1,21 +1,15 @@
 -- The steps that a run enters are a function of the machine's size, the image and the most steps that its sweep enters.
-use Rattle.std.proofs.Common.{◌≡◌, ℕ, zero, suc, ◌+◌, ◌-◌, ◌^◌, ◌<◌, ◌≤◌, ◌⊎◌, inl, inr, List, [], ◌∷◌, ◌++◌, length, take, drop, map, refl, sym, ap, ap₂, ◌∙◌}
+use Rattle.std.proofs.Common.{◌≡◌, ℕ, zero, suc, ◌+◌, ◌-◌, ◌^◌, ◌<◌, ◌≤◌, ◌⊎◌, inl, inr, List, [], ◌∷◌, ◌++◌, length, take, drop, refl, sym, ap, ap₂, ◌∙◌}
 use Rattle.std.proofs.Common.{subst, arith, append_assoc}
 use Rattle.std.proofs.lemmas.Bool.{cases_lt, cases_eq}
 use Rattle.std.proofs.lemmas.List.{append-nil, length-append, take-append-drop, take_at}
 use Rattle.flat_machine.specs.declared.config.Config.{Config}
-use Rattle.flat_machine.specs.declared.event.Event.{Event}
-use Rattle.flat_machine.specs.State.{FlatState}
 use Rattle.machine_runs.specs.elf_image.Images.{ImageContents}
-use Rattle.machine_runs.specs.elf_image.Openings.{opening as flat_opening}
-use Rattle.machine_runs.specs.abstract_machine.Draining as draining
 use Rattle.steps.specs.declared.step.Step.{Step}
-use Rattle.machine_runs.specs.machine_program.Processors.{sizes_of, program}
-use Rattle.machine_runs.specs.machine_program.Steps.{machine_of_parts, outcome_of}
-use Rattle.machine_runs.specs.Draining.{drain_bound, drain_steps, step_of}
+use Rattle.machine_runs.specs.machine_program.Steps.{outcome_of}
 use Rattle.machine_runs.specs.Machines.{MachineLists, machine_of}
-use Rattle.machine_runs.specs.Runs.{IsReplay, all_after, events_of, answer_after}
-use Rattle.machine_runs.proofs.Lemmas.machine.{retell}
+use Rattle.machine_runs.specs.Runs.{IsReplay, all_after, answer_after}
+use Rattle.machine_runs.proofs.Lemmas.{drained_alike, same_code, same_config, same_machine}
 use Rattle.machine_log.specs.Logs.{Log, entered}
 use Rattle.machine_sweep.specs.Rounds.{round}
 use Rattle.machine_sweep.specs.Sweeps.{EndsAt, IsFault, IsOver, IsWholeRun, RunsAfter, entered_of, rounds, status_after}
@@ -106,16 +100,6 @@ module _ (m n : MachineLists) (config : m.config ≡ n.config) (code : m.code �
       inl (record { before = f.before; last = f.last; is = f.is; behind = f.behind; fault = subst IsFault (same_answer f.before f.last) f.fault })
   over_there start done (inr none) = inr (λ runs. none (runs_there done runs))
 
--- a machine is what its steps left, whatever its processors have shown
-pub told_nothing : (m : MachineLists) (shown : ℕ → List Event) → retell (λ p. []) (machine_of m shown) ≡ machine_of m (λ p. [])
-unfolding machine_of_parts
-told_nothing m shown = refl
-
--- a drain takes the same steps on machines that are one
-pub same_drain : (m n : MachineLists) → m.config ≡ n.config → m.code ≡ n.code → machine_of m (λ p. []) ≡ machine_of n (λ p. []) → drain_steps m ≡ drain_steps n
-same_drain m n config code machine i =
-    map step_of (draining.drain_steps (sizes_of (config i)) (program (config i) (code i)) (drain_bound (config i)) (machine i))
-
 -- ---- two runs
 
 module _ (c : Config) (image : ImageContents) (most : ℕ) (end other : SweepEnd) (a b : Log) (one : IsWholeRun c image most end a)
@@ -127,13 +111,13 @@ module _ (c : Config) (image : ImageContents) (most : ℕ) (end other : SweepEnd
   second = two.swept.middle
 
   config_is : b.opening.config ≡ a.opening.config
-  config_is = two.opens.config ∙ sym one.opens.config
+  config_is = same_config c image b.opening a.opening two.opens one.opens
 
   code_is : b.opening.code ≡ a.opening.code
-  code_is = ap (λ (s : FlatState). s.code) two.opens.flat ∙ sym (ap (λ (s : FlatState). s.code) one.opens.flat)
+  code_is = same_code c image b.opening a.opening two.opens one.opens
 
   machine_is : machine_of b.opening (λ p. []) ≡ machine_of a.opening (λ p. [])
-  machine_is = two.opens.machine (λ p. []) ∙ sym (one.opens.machine (λ p. []))
+  machine_is = same_machine c image b.opening a.opening two.opens one.opens (λ p. [])
 
   -- the asked steps of a run, with the number of stages of the size
   by_size : (l : Log) (e : SweepEnd) (w : IsWholeRun c image most e l) →
@@ -176,39 +160,14 @@ module _ (c : Config) (image : ImageContents) (most : ℕ) (end other : SweepEnd
 -- where two runs followed the same steps, they were drained of the same
 module _ (c : Config) (image : ImageContents) (most : ℕ) (end other : SweepEnd) (a b : Log) (one : IsWholeRun c image most end a)
     (two : IsWholeRun c image most other b) (same : one.swept.middle.steps ≡ two.swept.middle.steps) where
-  -- the machine where the sweep of a run ended
-  machine_there : (l : Log) (e : SweepEnd) (w : IsWholeRun c image most e l) →
-      machine_of w.swept.middle.machine (λ p. []) ≡ retell (λ p. [])
-      (all_after l.opening.config l.opening.code (machine_of l.opening (λ p. [])) w.swept.middle.steps)
-  machine_there l e w =
-      let f = w.swept.followed in
-      let r = subst (λ m. IsReplay m w.swept.middle.steps w.swept.middle.machine) f.opening f.replay in
-      sym (told_nothing w.swept.middle.machine (events_of (all_after l.opening.config l.opening.code (machine_of l.opening (λ p. [])) w.swept.middle.steps)))
-      ∙ ap (retell (λ p. [])) (r.run.after (λ p. []))
-
-  config_there : (l : Log) (e : SweepEnd) (w : IsWholeRun c image most e l) → w.swept.middle.machine.config ≡ c
-  config_there l e w = w.swept.followed.replay.run.config ∙ ap (λ (m : MachineLists). m.config) w.swept.followed.opening ∙ w.opens.config
-
-  code_there : (l : Log) (e : SweepEnd) (w : IsWholeRun c image most e l) → w.swept.middle.machine.code ≡ (flat_opening c image.layout).code
-  code_there l e w = w.swept.followed.replay.run.code ∙ ap (λ (m : MachineLists). m.code) w.swept.followed.opening ∙ ap (λ (s : FlatState). s.code) w.opens.flat
-
-  drained_alike : drain_steps one.swept.middle.machine ≡ drain_steps two.swept.middle.machine
-  drained_alike =
-      same_drain one.swept.middle.machine two.swept.middle.machine (config_there a end one ∙ sym (config_there b other two))
-      (code_there a end one ∙ sym (code_there b other two))
-      (machine_there a end one
-      ∙ ap (retell (λ p. []))
-      (ap (all_after a.opening.config a.opening.code (machine_of a.opening (λ p. []))) same ∙ sym (alike_opened (two.swept.middle.steps)))
-      ∙ sym (machine_there b other two))
-    where
-      alike_opened : (steps : List Step) → all_after b.opening.config b.opening.code (machine_of b.opening (λ p. [])) steps
-          ≡ all_after a.opening.config a.opening.code (machine_of a.opening (λ p. [])) steps
-      alike_opened steps i =
-          all_after (config_is c image most end other a b one two i) (code_is c image most end other a b one two i)
-          (machine_is c image most end other a b one two i) steps
+  replayed : (l : Log) (e : SweepEnd) (w : IsWholeRun c image most e l) → IsReplay l.opening w.swept.middle.steps w.swept.middle.machine
+  replayed l e w = subst (λ m. IsReplay m w.swept.middle.steps w.swept.middle.machine) w.swept.followed.opening w.swept.followed.replay
 
   pub logs_alike : a.steps ≡ b.steps
-  logs_alike = one.swept.steps ∙ ap₂ (λ (xs ys : List Step). xs ++ ys) same drained_alike ∙ sym two.swept.steps
+  logs_alike = one.swept.steps ∙ ap₂ (λ (xs ys : List Step). xs ++ ys) same
+      (drained_alike c image a.opening b.opening one.opens two.opens two.swept.middle.steps one.swept.middle.machine two.swept.middle.machine
+      (subst (λ xs. IsReplay a.opening xs one.swept.middle.machine) same (replayed a end one)) (replayed b other two))
+      ∙ sym two.swept.steps
 
 -- two runs of one image enter the same steps
 pub one_log : (c : Config) (image : ImageContents) (most : ℕ) (end other : SweepEnd) (a b : Log) → IsWholeRun c image most end a →

@@ -1,7 +1,6 @@
 -- What is left out of a round enters nothing.
-use Rattle.std.proofs.Common.{◌≡◌, ℕ, zero, suc, ◌+◌, ◌-◌, ◌<◌, ◌≤◌, ◌⊎◌, inl, inr, List, [], ◌∷◌, length, take, get_or, Some, sym, ap, ◌∙◌, subst, arith}
+use Rattle.std.proofs.Common.{◌≡◌, ℕ, zero, suc, ◌+◌, ◌-◌, ◌<◌, ◌≤◌, List, [], ◌∷◌, length, take, get_or, Some, sym, ap, ◌∙◌, subst, arith}
 use Rattle.std.specs.Prelude.{slice_get}
-use Rattle.std.proofs.lemmas.Bool.{cases_lt}
 use Rattle.std.proofs.lemmas.Option.{slice_get-get_or, slice_get_within}
 use Rattle.steps.specs.declared.step.Step.{Step}
 use Rattle.steps.specs.declared.step.Step.TheVariants as step
@@ -46,7 +45,7 @@ module _ (old l : Log) (opens : l.opening ≡ old.opening) (size : l.machine.con
       (left_out l s r (quiet_here (i + n) s (quiet (i + n) (omega arith) (omega arith)) there)) in
       subst (HasAsked l.steps) (let same : i + n + 1 ≡ i + suc n = omega arith in same) more
 
-  skipped_to : (i j : ℕ) → i ≤ j → j ≤ length all → AreQuiet l.machine i j → HasAsked l.steps i → HasAsked l.steps j
+  pub skipped_to : (i j : ℕ) → i ≤ j → j ≤ length all → AreQuiet l.machine i j → HasAsked l.steps i → HasAsked l.steps j
   skipped_to i j ahead within quiet before =
       let same : i + (j - i) ≡ j = omega (arith, ahead) in
       subst (HasAsked l.steps) same (skipped i (j - i) (subst (λ n. n ≤ length all) (sym same) within) (subst (AreQuiet l.machine i) (sym same) quiet) before)
@@ -59,16 +58,3 @@ module _ (old l : Log) (opens : l.opening ≡ old.opening) (size : l.machine.con
       let inside : n.place < length all = slice_get_within all n.place s there in
       let so_far : HasAsked l.steps n.place = skipped_to i n.place n.reached (omega (arith, inside)) n.quiet before in
       subst (HasAsked steps') (sym n.next) (next_asked old l old.machine.config.k n.place s steps' opens inside there so_far is)
-
-  -- the rest of the round is left out
-  pub rest_is_asked : (i : ℕ) → AreQuiet l.machine i (length (round l.machine.config.k)) → HasAsked l.steps i → (j : ℕ) × HasAsked l.steps j × (length all ≤ j)
-  rest_is_asked i quiet before = by (cases_lt i (length all))
-    where
-      by : (i < length all) ⊎ (length all ≤ i) → (j : ℕ) × HasAsked l.steps j × (length all ≤ j)
-      by (inl less) = (
-        length all,
-        skipped_to i (length all) (omega (arith, less)) (omega arith)
-            (subst (λ k. AreQuiet l.machine i (length (round k))) size quiet) before,
-        omega arith,
-      )
-      by (inr over) = (i, before, over)

@@ -1,5 +1,5 @@
 -- What a machine's log enters by the sweep, and where a sweep ends.
-use Rattle.std.specs.Prelude.{◌≡◌, ◌⊎◌, ℕ, zero, suc, ◌+◌, ◌^◌, ◌≤◌, ◌<◌, Bool, true, false, min, List, [], ◌∷◌, ◌++◌, length, take}
+use Rattle.std.specs.Prelude.{◌≡◌, ◌⊎◌, ℕ, zero, suc, ◌+◌, ◌^◌, ◌≤◌, ◌<◌, Bool, true, false, min, List, [], ◌∷◌, ◌++◌, length, take, Option, Some, None}
 use Rattle.flat_machine.specs.declared.config.Config.{Config}
 use Rattle.flat_machine.specs.declared.event.Cause.TheVariants as cause
 use Rattle.flat_machine.specs.declared.event.Status.{Status}
@@ -121,3 +121,23 @@ pub record WasAskedRound (limit : ℕ) (old : Log) (is_over : Bool) (new : Log) 
   pub first : (place : ℕ) → length old.steps ≤ place → place < length new.steps → IsOver old.opening (length old.steps) (take place new.steps) → ⊥
   pub over : is_over ≡ true → IsOver old.opening (length old.steps) new.steps
   pub goes_on : is_over ≡ false → IsUnderWay limit old part new
+
+-- ---- a part of a round
+
+-- So many steps of a round were asked for, and the sweep is not over.
+pub record IsInRound (limit : ℕ) (old : Log) (part : ℕ) (new : Log) : Type 0 where
+  pub opening : new.opening ≡ old.opening
+  pub config : new.machine.config ≡ old.machine.config
+  pub replay : IsReplay new.opening new.steps new.machine
+  pub steps : new.steps ≡ entered_of old.opening old.steps (take part (round old.machine.config.k))
+  pub few : length new.steps ≤ limit
+  pub first : (place : ℕ) → length old.steps ≤ place → place < length new.steps → IsOver old.opening (length old.steps) (take place new.steps) → ⊥
+  pub running : RunsAfter old.opening new.steps
+  pub sound : EndsInFault old.opening (length old.steps) new.steps → ⊥
+
+-- A round that had come to one place has come to another. Or it has ended in between: the sweep is over, or there is no room.
+pub record HasGone (limit from to : ℕ) (old : Log) (end : Option Bool) (new : Log) : Type 0 where
+  pub config : new.machine.config ≡ old.machine.config
+  pub on : end ≡ None → (start : Log) → IsInRound limit start from old → IsInRound limit start to new
+  pub ended : (is_over : Bool) → end ≡ Some is_over → (start : Log) → length start.steps < limit → IsInRound limit start from old →
+      WasAskedRound limit start is_over new

@@ -1,15 +1,14 @@
 //! A round of the sweep, from step to step that may do something.
 
-ghost use Rattle.std.specs.Prelude.{◌≡◌, ◌≤◌, ◌<◌, ◌+◌, ◌*◌, ◌^◌, ℕ, false, None, IfSome, length};
+ghost use Rattle.std.specs.Prelude.{◌≡◌, ◌≤◌, ◌<◌, ◌+◌, ◌*◌, ◌^◌, None, IfSome, length};
 ghost use Rattle.machine_sweep.specs.Rounds.{round};
-ghost use Rattle.wire_sets.specs.Members.{members};
-ghost use Rattle.machine_sweep.specs.Skips.{AreQuiet, IsNext, IsQuiet};
+ghost use Rattle.machine_sweep.specs.Skips.{AreQuiet, IsNext};
 
+use crate::row::{Downs, Row, Services, Turns, Ups};
 use crate::schedule::step_at;
 use machine_runs::Machine;
 use std::marker::Model;
 use steps::Step;
-use wire_sets::WireSet;
 
 /// How far a machine has come in a round of the sweep.
 #[derive(Debug, Drop)]
@@ -69,30 +68,17 @@ fn first_from(machine: &Machine, row: u8, wire: u8) -> Option<u8>
         × AreQuiet machine.now (row * 2 ^ machine.now.config.k + wire) (row * 2 ^ machine.now.config.k + w)) }
     ensures none { result ≡ None → AreQuiet machine.now (row * 2 ^ machine.now.config.k + wire) ((row + 1) * 2 ^ machine.now.config.k) }
 {
-    if row > 0 {
-        return wires_of(machine, row).first_from(wire);
-    }
-    // A processor may do something in each of its turns.
-    if wire < machine.config().processors() {
-        Some(wire)
-    } else {
-        None
-    }
-}
-
-/// The wires of a row behind the turns on which a message stands that the row's steps move or serve.
-fn wires_of(machine: &Machine, row: u8) -> WireSet
-    requires some { 0 < row }
-    requires row { row < 2 * machine.now.config.k + 2 }
-    ensures few { (w : ℕ) → 2 ^ machine.now.config.k ≤ w → members result w ≡ false }
-    ensures quiet { (w : ℕ) → w < 2 ^ machine.now.config.k → members result w ≡ false → IsQuiet machine.now (row * 2 ^ machine.now.config.k + w) }
-{
     let k = machine.config().k;
-    if row <= k {
-        machine.request_wires(k - row)
+    if row == 0 {
+        Turns.first(machine, wire)
+    } else if row <= k {
+        Ups { stage: k - row }.first(machine, wire)
     } else if row == k + 1 {
-        machine.request_wires(k)
+        Services.first(machine, wire)
     } else {
-        machine.reply_wires(row - (k + 1))
+        Downs {
+            stage: row - (k + 2),
+        }
+        .first(machine, wire)
     }
 }

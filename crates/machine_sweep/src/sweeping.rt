@@ -1,12 +1,13 @@
 //! Running a machine by the sweep.
 
-ghost use Rattle.std.specs.Prelude.{◌≡◌, ◌≤◌, ◌<◌, ◌+◌, ◌↔◌, ◌⊎◌, Err, IfOk, OnErr, OnOk, length, true, false};
+ghost use Rattle.std.specs.Prelude.{◌≡◌, ◌≤◌, ◌<◌, ◌+◌, ◌*◌, ◌^◌, ◌↔◌, ◌⊎◌, Err, IfOk, OnErr, OnOk, length, true, false};
 ghost use Rattle.trace_file.specs.Traces.{HaveRecords};
 ghost use Rattle.machine_runs.specs.Draining.{drain_bound};
+ghost use Rattle.machine_sweep.specs.Rounds.{round};
 ghost use Rattle.machine_sweep.specs.Standing.{HasRunning};
-ghost use Rattle.machine_sweep.specs.Sweeps.{HasFollowed, IsFault, IsStop, IsSwept, WasAskedRound, most_of};
+ghost use Rattle.machine_sweep.specs.Sweeps.{HasFollowed, HasGone, IsFault, IsStop, IsSwept, WasAskedRound, most_of};
 
-use crate::round::Round;
+use crate::row::{Downs, Row, Services, Turns, Ups};
 use crate::states::any_runs;
 use flat_machine::Cause;
 use machine_log::{LogRefusal, Logged, Roomy, roomy_is_kept};
@@ -101,17 +102,89 @@ fn take_round(log: &mut Roomy, limit: usize) -> bool
     ensures room { length log.new.log.steps + log.new.places ≡ length log.old.log.steps + log.old.places }
 {
     roomy_is_kept(log);
-    let mut round = Round::new(log.machine().config().k);
-    while log.steps().len() < limit {
-        let Some(step) = round.next(log.machine()) else {
-            return false;
+    match take_rows(log, limit) {
+        Some(is_over) => is_over,
+        None => false,
+    }
+}
+
+/// Goes through all rows of a round, as [`take_row`] does through one.
+fn take_rows(log: &mut Roomy, limit: usize) -> Option<bool>
+    requires room { limit ≤ length log.old.log.steps + log.old.places }
+    ensures gone { HasGone limit 0 (length (round log.old.log.machine.config.k)) log.old.log result log.new.log }
+    ensures room { length log.new.log.steps + log.new.places ≡ length log.old.log.steps + log.old.places }
+{
+    roomy_is_kept(log);
+    if let Some(is_over) = take_row(log, limit, &Turns) {
+        return Some(is_over);
+    }
+    if let Some(is_over) = take_ups(log, limit) {
+        return Some(is_over);
+    }
+    if let Some(is_over) = take_row(log, limit, &Services) {
+        return Some(is_over);
+    }
+    take_downs(log, limit)
+}
+
+/// Goes through the rows of a round in which requests move up.
+fn take_ups(log: &mut Roomy, limit: usize) -> Option<bool>
+    requires room { limit ≤ length log.old.log.steps + log.old.places }
+    ensures gone { HasGone limit (2 ^ log.old.log.machine.config.k) ((log.old.log.machine.config.k + 1) * 2 ^ log.old.log.machine.config.k)
+        log.old.log result log.new.log }
+    ensures room { length log.new.log.steps + log.new.places ≡ length log.old.log.steps + log.old.places }
+{
+    roomy_is_kept(log);
+    let stages = log.machine().config().k;
+    for passed in 0..stages {
+        let row = Ups {
+            stage: stages - 1 - passed,
         };
-        let outcome = log.step(step);
-        if is_over(&outcome, log.machine()) {
-            return true;
+        if let Some(is_over) = take_row(log, limit, &row) {
+            return Some(is_over);
         }
     }
-    false
+    None
+}
+
+/// Goes through the rows of a round in which replies move down.
+fn take_downs(log: &mut Roomy, limit: usize) -> Option<bool>
+    requires room { limit ≤ length log.old.log.steps + log.old.places }
+    ensures gone { HasGone limit ((log.old.log.machine.config.k + 2) * 2 ^ log.old.log.machine.config.k)
+        ((2 * log.old.log.machine.config.k + 2) * 2 ^ log.old.log.machine.config.k) log.old.log result log.new.log }
+    ensures room { length log.new.log.steps + log.new.places ≡ length log.old.log.steps + log.old.places }
+{
+    roomy_is_kept(log);
+    for stage in 0..log.machine().config().k {
+        if let Some(is_over) = take_row(log, limit, &Downs { stage }) {
+            return Some(is_over);
+        }
+    }
+    None
+}
+
+/// Asks for the steps of a row that may do something, one after another. Where the round ends among them, answers whether the sweep is
+/// over: it is by the last step, or else the log has so many steps.
+// A part of its caller, for each kind of row: what a step of one kind may do, and answer, is known there.
+#[inline(always)]
+fn take_row<R: Row>(log: &mut Roomy, limit: usize, row: &R) -> Option<bool>
+    requires there { R.is_there row.now log.old.log.machine.config.k }
+    requires room { limit ≤ length log.old.log.steps + log.old.places }
+    ensures gone { HasGone limit (R.number row.now log.old.log.machine.config.k * 2 ^ log.old.log.machine.config.k)
+        ((R.number row.now log.old.log.machine.config.k + 1) * 2 ^ log.old.log.machine.config.k) log.old.log result log.new.log }
+    ensures room { length log.new.log.steps + log.new.places ≡ length log.old.log.steps + log.old.places }
+{
+    roomy_is_kept(log);
+    let mut wire = 0;
+    while log.steps().len() < limit {
+        let next = row.first(log.machine(), wire)?;
+        let outcome = log.step(row.step(next));
+        if is_over(&outcome, log.machine()) {
+            return Some(true);
+        }
+        wire = next + 1;
+    }
+    Some(false)
 }
 
 /// Whether a sweep is over behind a step that answered this, on the machine that it left.

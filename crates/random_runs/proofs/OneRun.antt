@@ -10,13 +10,13 @@ use Rattle.steps.specs.declared.step.Step.{Step}
 use Rattle.machine_log.specs.machine_runs.Draining.{drain_steps}
 use Rattle.machine_log.specs.machine_runs.Machines.{MachineLists, machine_of}
 use Rattle.machine_log.specs.machine_runs.Runs.{IsReplay, all_after, events_of}
-use Rattle.machine_sweep.proofs.Lemmas.{retell}
+use Rattle.machine_sweep.proofs.Lemmas.{drained_alike, same_code, same_config, same_machine}
 use Rattle.machine_log.specs.Logs.{Log}
 use Rattle.machine_sweep.specs.Own.{AreOwn}
 use Rattle.machine_sweep.specs.Sweeps.{IsOver, entered_of}
 use Rattle.machine_sweep.specs.declared.sweeping.SweepEnd.{SweepEnd}
 use Rattle.machine_sweep.specs.declared.sweeping.SweepEnd.TheVariants.{Over, Budget}
-use Rattle.machine_sweep.proofs.Lemmas.{asked_append, no_longer, none_asked, over_there, own_behind, own_entered, same_drain, same_entered, told_nothing}
+use Rattle.machine_sweep.proofs.Lemmas.{asked_append, no_longer, none_asked, over_there, own_behind, own_entered, same_entered}
 use Rattle.random_runs.specs.Runs.{EndsWith, IsRandomRun}
 use Rattle.random_runs.specs.Schedules.{schedule}
 use Rattle.random_runs.proofs.Plans.{own_schedule}
@@ -55,13 +55,13 @@ module _ (c : Config) (image : ImageContents) (number most : ℕ) (end other : S
   second = two.ran.middle
 
   config_is : b.opening.config ≡ a.opening.config
-  config_is = two.opens.config ∙ sym one.opens.config
+  config_is = same_config c image b.opening a.opening two.opens one.opens
 
   code_is : b.opening.code ≡ a.opening.code
-  code_is = ap (λ (s : FlatState). s.code) two.opens.flat ∙ sym (ap (λ (s : FlatState). s.code) one.opens.flat)
+  code_is = same_code c image b.opening a.opening two.opens one.opens
 
   machine_is : machine_of b.opening (λ p. []) ≡ machine_of a.opening (λ p. [])
-  machine_is = two.opens.machine (λ p. []) ∙ sym (one.opens.machine (λ p. []))
+  machine_is = same_machine c image b.opening a.opening two.opens one.opens (λ p. [])
 
   -- the schedule of a run, with the number of stages of the size
   plan_is : (l : Log) (e : SweepEnd) (w : IsRandomRun c image number most e l) → schedule c.k number most ≡ w.ran.asked.asked ++ w.ran.asked.unasked
@@ -119,39 +119,14 @@ module _ (c : Config) (image : ImageContents) (number most : ℕ) (end other : S
 -- where two runs were asked for the same, they were drained of the same
 module _ (c : Config) (image : ImageContents) (number most : ℕ) (end other : SweepEnd) (a b : Log) (one : IsRandomRun c image number most end a)
     (two : IsRandomRun c image number most other b) (same : one.ran.middle.steps ≡ two.ran.middle.steps) where
-  -- the machine where the run ended
-  machine_there : (l : Log) (e : SweepEnd) (w : IsRandomRun c image number most e l) →
-      machine_of w.ran.middle.machine (λ p. []) ≡ retell (λ p. [])
-      (all_after l.opening.config l.opening.code (machine_of l.opening (λ p. [])) w.ran.middle.steps)
-  machine_there l e w =
-      let f = w.ran.asked in
-      let r = subst (λ m. IsReplay m w.ran.middle.steps w.ran.middle.machine) f.opening f.replay in
-      sym (told_nothing w.ran.middle.machine (events_of (all_after l.opening.config l.opening.code (machine_of l.opening (λ p. [])) w.ran.middle.steps)))
-      ∙ ap (retell (λ p. [])) (r.run.after (λ p. []))
-
-  config_there : (l : Log) (e : SweepEnd) (w : IsRandomRun c image number most e l) → w.ran.middle.machine.config ≡ c
-  config_there l e w = w.ran.asked.replay.run.config ∙ ap (λ (m : MachineLists). m.config) w.ran.asked.opening ∙ w.opens.config
-
-  code_there : (l : Log) (e : SweepEnd) (w : IsRandomRun c image number most e l) → w.ran.middle.machine.code ≡ (flat_opening c image.layout).code
-  code_there l e w = w.ran.asked.replay.run.code ∙ ap (λ (m : MachineLists). m.code) w.ran.asked.opening ∙ ap (λ (s : FlatState). s.code) w.opens.flat
-
-  drained_alike : drain_steps one.ran.middle.machine ≡ drain_steps two.ran.middle.machine
-  drained_alike =
-      same_drain one.ran.middle.machine two.ran.middle.machine (config_there a end one ∙ sym (config_there b other two))
-      (code_there a end one ∙ sym (code_there b other two))
-      (machine_there a end one
-      ∙ ap (retell (λ p. []))
-      (ap (all_after a.opening.config a.opening.code (machine_of a.opening (λ p. []))) same ∙ sym (alike_opened (two.ran.middle.steps)))
-      ∙ sym (machine_there b other two))
-    where
-      alike_opened : (steps : List Step) → all_after b.opening.config b.opening.code (machine_of b.opening (λ p. [])) steps
-          ≡ all_after a.opening.config a.opening.code (machine_of a.opening (λ p. [])) steps
-      alike_opened steps i =
-          all_after (config_is c image number most end other a b one two i) (code_is c image number most end other a b one two i)
-          (machine_is c image number most end other a b one two i) steps
+  replayed : (l : Log) (e : SweepEnd) (w : IsRandomRun c image number most e l) → IsReplay l.opening w.ran.middle.steps w.ran.middle.machine
+  replayed l e w = subst (λ m. IsReplay m w.ran.middle.steps w.ran.middle.machine) w.ran.asked.opening w.ran.asked.replay
 
   pub logs_alike : a.steps ≡ b.steps
-  logs_alike = one.ran.steps ∙ ap₂ (λ (xs ys : List Step). xs ++ ys) same drained_alike ∙ sym two.ran.steps
+  logs_alike = one.ran.steps ∙ ap₂ (λ (xs ys : List Step). xs ++ ys) same
+      (drained_alike c image a.opening b.opening one.opens two.opens two.ran.middle.steps one.ran.middle.machine two.ran.middle.machine
+      (subst (λ xs. IsReplay a.opening xs one.ran.middle.machine) same (replayed a end one)) (replayed b other two))
+      ∙ sym two.ran.steps
 
 -- two runs of one number enter the same steps
 pub one_run : (c : Config) (image : ImageContents) (number most : ℕ) (end other : SweepEnd) (a b : Log) → IsRandomRun c image number most end a →
