@@ -164,14 +164,9 @@ module _ (old m : MachineLists) (bound : ℕ) (done : List Step) (d : IsUnderWay
   ended : draining.drain_steps (sizes_of old.config) (program old.config old.code) d.left here ≡ [] → first_steps bound old ≡ done
   ended e = d.rest ∙ ap (λ xs. done ++ map step_of xs) e ∙ append-nil done
 
-  -- all steps were taken where no more is named, and at the bound
+  -- all steps were taken where no more is named
   pub all_taken : drain_step m ≡ None → first_steps bound old ≡ done
   all_taken none = ended (no_rest d.left (same_next ∙ some_none (draining.drain_step (sizes_of m.config) (machine_of m (λ p. []))) none))
-
-  pub bound_taken : length done ≡ bound → first_steps bound old ≡ done
-  bound_taken over =
-      let nothing : d.left ≡ zero = (let split = d.split in omega (arith, split, over)) in
-      ended (ap (λ n. draining.drain_steps (sizes_of old.config) (program old.config old.code) n here) nothing ∙ none_left)
 
   -- and where as many were taken as there are
   pub none_more : length (first_steps bound old) ≤ length done → first_steps bound old ≡ done
@@ -247,10 +242,6 @@ module _ (old m : MachineLists) (done : List Step) (d : IsUnderWay old (drain_bo
       let f = distances_are (sizes_of old.config) (program old.config old.code) M is.role is.steady in
       is_drained e (taken_idle old m (drain_bound old.config) done d is e f.0 f.1
       (distances_bound (sizes_of old.config) (program old.config old.code) M is.role is.steady f.0 f.1))
-
-  -- and at the bound
-  pub drain_is_over : IsMachine old → length done ≡ drain_bound old.config → IsDrained old (length done) m
-  drain_is_over is over = drain_is_whole is (bound_taken old m (drain_bound old.config) done d over)
 
 -- ---- how many steps a drain takes
 

@@ -1,7 +1,7 @@
 -- The lemmas that crates above may cite: they name no other file of these proofs.
 
 -- The next step of a drain, and where a drain ends.
-pub use Rattle.machine_runs.proofs.Drained.{IsUnderWay, all_taken, bound_taken, drain_begins, drain_goes_on, drain_is_bounded, drain_is_over, goes_on}
+pub use Rattle.machine_runs.proofs.Drained.{drain_is_bounded, goes_on}
 pub use Rattle.machine_runs.proofs.Drained.{named_again, named_step, none_idle}
 -- A machine in which no reference is open is the flat machine of its processors, words and code.
 pub use Rattle.machine_runs.proofs.Flattening.{opens}
@@ -21,9 +21,7 @@ pub use Rattle.machine_runs.proofs.Replaying.{outcome_there, replay_begins, repl
 -- Runs of the machine, and the theorem for them.
 pub use Rattle.machine_runs.proofs.Running.{all_after_more, passes_machine, run_more, serialized, shown_is}
 -- Whatever steps a machine takes, the same cores are away.
-pub use Rattle.machine_runs.proofs.Staying.{run_home, run_stays}
--- One instruction at a time: the flat machine's step.
-pub use Rattle.machine_runs.proofs.Whole.{IsGoingHome, few_moves, home_begins, home_goes_on, home_in_time, home_now, sent_is_short, steps_back, turn_whole}
+pub use Rattle.machine_runs.proofs.Staying.{run_home}
 -- Lemmas of lower crates, passed on to those above.
 pub use Rattle.machine_theorem.proofs.Lemmas.messages as messages
 pub use Rattle.machine_theorem.proofs.Lemmas.abstract_machine as abstract_machine
