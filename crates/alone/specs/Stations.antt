@@ -1,5 +1,5 @@
 -- Processors with what they have printed, and what each does alone: up to its next reference to a shared word, or its stop.
-use Rattle.std.specs.Prelude.{◌≡◌, ℕ, zero, suc, true, ◌==◌, List, [], ◌∷◌, ◌++◌, Option, Some, None, if◌then◌else◌}
+use Rattle.std.specs.Prelude.{◌≡◌, ℕ, zero, suc, true, ◌==◌, List, [], ◌∷◌, if◌then◌else◌}
 use Rattle.flat_machine.specs.declared.setting.Setting.{Setting}
 use Rattle.flat_machine.specs.declared.event.Event.{Event}
 use Rattle.flat_machine.specs.declared.event.Event.TheVariants as event
@@ -9,12 +9,9 @@ use Rattle.flat_machine.specs.declared.poke.Entry.{Entry}
 use Rattle.flat_machine.specs.declared.poke.Entry.TheVariants as entry
 use Rattle.flat_machine.specs.State.{Processor, is_running, status_of}
 use Rattle.flat_machine.specs.Turns.{Turn, Retires, Reaches, Stops, turn_of}
+pub use Rattle.flat_machine.specs.Turns.{IsReference, with_byte}
 
 -- ---- what processors print
-
-abbrev pub with_byte : List ℕ → Option ℕ → List ℕ
-with_byte console None = console
-with_byte console (Some byte) = console ++ byte ∷ []
 
 abbrev pub printed_after : List ℕ → Event → List ℕ
 printed_after console (event.Retired retired) = with_byte console retired.out
@@ -62,11 +59,6 @@ alone_once s code a = if is_running a.processor.status then alone_by a (turn_of 
 abbrev pub alone : (count : ℕ) → Setting → (code : List ℕ) → Station → Station
 alone zero s code a = a
 alone (suc n) s code a = alone n s code (alone_once s code a)
-
-abbrev pub IsReference : Turn → Type 0
-IsReference (Retires after retired) = ⊥
-IsReference (Reaches word change after) = Unit {0}
-IsReference (Stops cause) = ⊥
 
 -- The processor has stopped, or its next turn is a reference.
 abbrev pub IsSettled : Setting → (code : List ℕ) → Processor → Type 0

@@ -104,7 +104,7 @@ fn offset_of<'a>(
 }
 
 /// The target of a branch, in steps of two bytes.
-fn branch_offset<'a>(
+fn branch_field<'a>(
     labels: &BTreeMap<&'a [u8], Symbol>,
     at: u32,
     target: &Value<'a>,
@@ -116,7 +116,7 @@ fn branch_offset<'a>(
 }
 
 /// The target of a jump, in steps of two bytes.
-fn jump_offset<'a>(
+fn jump_field<'a>(
     labels: &BTreeMap<&'a [u8], Symbol>,
     at: u32,
     target: &Value<'a>,
@@ -169,7 +169,7 @@ pub fn insn_at<'a>(
             op: *op,
             rs1: *rs1,
             rs2: *rs2,
-            offset: branch_offset(labels, at, target)?,
+            offset: branch_field(labels, at, target)?,
         },
         Instruction::Upper {
             op,
@@ -182,7 +182,7 @@ pub fn insn_at<'a>(
         },
         Instruction::Jal { rd, target } => Insn::Jal {
             rd: *rd,
-            offset: jump_offset(labels, at, target)?,
+            offset: jump_field(labels, at, target)?,
         },
         Instruction::Jalr { rd, rs1, imm } => Insn::Jalr {
             rd: *rd,

@@ -12,5 +12,5 @@ pub const REFUSED: u8 = 2;
 /// A file or standard output could not be opened, read or written.
 pub const LINK_FAILED: u8 = 3;
 
-/// There was no memory, or no room in the log, or a thread could not be started, or the budget was used up.
+/// A limit was used up, or the host gave no memory or no thread.
 pub const SPENT: u8 = 4;

@@ -39,7 +39,7 @@ pub enum Fault {
     /// The budget is used up, a processor runs, and no fault has stopped one.
     #[error("budget")]
     Budget,
-    /// The log of a run on threads is full: it has 4,194,304 steps.
+    /// The log is full: it has 4,194,304 steps.
     #[error("L2")]
     Full,
     /// A core that a thread had on loan was not taken back.

@@ -84,6 +84,7 @@ impl Lesson<u8, Account> for Takes {
     ghost fact = { λ v items. v.put ≡ v.taken ++ items };
 }
 
+/// A processor's queue, of 256 bytes: what is taken is what was put, in that order.
 pub type Queue = RuledArrayQueue<u8, Account, Ordered>;
 
 /// The end of a queue at which a processor puts its bytes.

@@ -8,6 +8,7 @@ mod opening;
 mod operations;
 mod ports;
 mod tables;
+mod turns;
 
 use std::fmt::Debug;
 use std::process::Abort;

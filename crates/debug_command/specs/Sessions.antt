@@ -7,6 +7,7 @@ use Rattle.machine_runs.specs.elf_image.Images.{ImageContents}
 use Rattle.machine_runs.specs.Machines.{MachineLists}
 use Rattle.machine_runs.specs.Runs.{IsOpening}
 use Rattle.machine_log.specs.Logs.{Log}
+pub use Rattle.machine_log.specs.Logs.{opened}
 use Rattle.command_io.specs.declared.fault.Fault.{Fault}
 use Rattle.command_io.specs.declared.fault.Fault.TheVariants as fault
 use Rattle.command_io.specs.Faults.{status_of_fault}
@@ -24,10 +25,6 @@ IsStatusOf ReadFailed m status = status ≡ 3
 IsStatusOf WriteFailed m status = status ≡ 3
 IsStatusOf Memory m status = status ≡ 4
 IsStatusOf TraceFull m status = status ≡ 4
-
--- The log of a machine that has just opened.
-abbrev pub opened : MachineLists → Log
-opened m = record { opening = m; steps = []; machine = m }
 
 -- A session of the machine of this size that opens on the image that a file means, over a link that was given. Where there was no
 -- memory, or no room, for its first steps, the log is as it was.

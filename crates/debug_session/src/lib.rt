@@ -1,7 +1,7 @@
 //! A debugger's session: lines of commands from a link, carried out on a machine, and a reply line to each.
 //!
 //! `specs/Answers.antt` says what each command does, and what is answered to it, by the flat machine that the session's machine
-//! is. `specs/Dialogue.antt` says it of all events of a stream, and `specs/Conversations.antt` what a session takes from its
+//! is. `specs/Dialogues.antt` says it of all events of a stream, and `specs/Conversations.antt` what a session takes from its
 //! reader and writes. [`serve`] is such a session.
 #![tactic(auto)]
 

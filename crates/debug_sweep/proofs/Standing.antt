@@ -11,7 +11,7 @@ use Rattle.machine_runs.specs.Runs.{IsReplay}
 use Rattle.machine_sweep.specs.Standing.{HasRunning, processor_of}
 use Rattle.machine_sweep.specs.Sweeps.{RunsAfter}
 use Rattle.debug_replies.specs.Breaking.{is_break}
-use Rattle.debug_sweep.specs.Breaks.{AreNoted, IsAtBreak, StandsAtBreak, machine_after, processor_after}
+use Rattle.debug_sweep.specs.Breaks.{AreFlagged, IsAtBreak, StandsAtBreak, machine_after, processor_after}
 
 module _ (opening m : MachineLists) (steps : List Step) (r : IsReplay opening steps m) where
   processor_is : (p : ℕ) → processor_of m p ≡ processor_after opening steps p
@@ -28,7 +28,7 @@ module _ (opening m : MachineLists) (steps : List Step) (r : IsReplay opening st
   pub has_running : RunsAfter opening steps → HasRunning m
   has_running (p, within, runs) = (p, subst (λ (k : ℕ). p < 2 ^ k) (sym size) within, ap (λ (q : Processor). q.status) (processor_is p) ∙ runs)
 
-  module _ (breaks flags : List Bool) (start : ℕ) (noted : AreNoted opening start flags steps) (p : ℕ) where
+  module _ (breaks flags : List Bool) (start : ℕ) (noted : AreFlagged opening start flags steps) (p : ℕ) where
     pub at_break : StandsAtBreak opening breaks start steps p → IsAtBreak m breaks flags p
     at_break s = record {
       there = subst (λ (k : ℕ). p < 2 ^ k) (sym size) s.there;

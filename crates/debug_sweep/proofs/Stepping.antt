@@ -13,7 +13,7 @@ use Rattle.machine_log.specs.Logs.{HasTaken, Log, entered}
 use Rattle.machine_sweep.specs.Own.{AreOwn, IsOwn}
 use Rattle.machine_sweep.specs.Standing.{HasRunning}
 use Rattle.machine_sweep.specs.Sweeps.{EndsInFault, IsFault}
-use Rattle.debug_sweep.specs.Breaks.{AreNoted, HasRetired, IsRetirement, MeetsBreak, Retires, StandsAtBreak, is_noted}
+use Rattle.debug_sweep.specs.Breaks.{AreFlagged, HasRetired, IsRetirement, MeetsBreak, Retires, StandsAtBreak, is_noted}
 use Rattle.debug_sweep.specs.Sweeps.{EndsHere, FaultsAreLast, HasNoFault, HasSwept, IsUnderWay, NoBreakIsPassed}
 use Rattle.debug_sweep.proofs.Noting.{retired_either, retired_more, retired_now}
 use Rattle.debug_sweep.proofs.Splits.{split_last}
@@ -140,7 +140,7 @@ module _ (breaks : List Bool) (limit : ℕ) (old l new : Log) (flags : List Bool
           by (inl (stalled, same)) = u.sound before rest t (sym same ∙ is) from fault
           by (inr one) = split (split_last l.steps before rest s t (sym one ∙ is))
 
-      noted : AreNoted m start flags' new.steps
+      noted : AreFlagged m start flags' new.steps
       noted p within = by either
         where
           now : Retires s o p → Retires s (answer_after m l.steps s) p

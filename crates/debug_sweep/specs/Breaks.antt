@@ -1,21 +1,17 @@
 -- Processors that stand at a break.
-use Rattle.std.specs.Prelude.{◌≡◌, ℕ, ◌^◌, ◌<◌, ◌≤◌, Bool, true, false, List, [], ◌∷◌, ◌++◌, length, slice_index_or, ◌↔◌}
+use Rattle.std.specs.Prelude.{◌≡◌, ℕ, ◌^◌, ◌<◌, ◌≤◌, Bool, true, false, List, ◌∷◌, ◌++◌, length, slice_index_or, ◌↔◌}
 use Rattle.flat_machine.specs.declared.event.Status.TheVariants.{Running}
 use Rattle.flat_machine.specs.State.{Processor}
 use Rattle.steps.specs.declared.step.Step.{Step}
 use Rattle.steps.specs.declared.step.Step.TheVariants as step
 use Rattle.steps.specs.declared.step.Outcome.{Outcome}
 use Rattle.steps.specs.declared.step.Outcome.TheVariants as outcome
-use Rattle.machine_runs.specs.machine_program.Processors.{Told, open_at}
-use Rattle.machine_runs.specs.machine_program.Theory as theory
-use Rattle.machine_runs.specs.Machines.{MachineLists, machine_of}
-use Rattle.machine_runs.specs.Runs.{all_after, answer_after}
+use Rattle.machine_runs.specs.machine_program.Processors.{open_at}
+use Rattle.machine_runs.specs.Machines.{MachineLists}
+use Rattle.machine_runs.specs.Runs.{answer_after}
+pub use Rattle.machine_runs.specs.Runs.{machine_after}
 use Rattle.machine_sweep.specs.Standing.{processor_of}
 use Rattle.debug_replies.specs.Breaking.{is_break}
-
--- the machine that these steps leave
-abbrev pub machine_after : (opening : MachineLists) → (done : List Step) → theory.Machine Told
-machine_after m done = all_after m.config m.code (machine_of m (λ q. [])) done
 
 abbrev pub processor_after : (opening : MachineLists) → (done : List Step) → (p : ℕ) → Processor
 processor_after m done p = ((machine_after m done).core p).state
@@ -56,8 +52,8 @@ Retires (step.Down s w) o p = ⊥
 Retires (step.Poke q) o p = ⊥
 
 -- the flags tell which processors have retired an instruction behind the first so many steps
-abbrev pub AreNoted : (opening : MachineLists) → (start : ℕ) → (flags : List Bool) → (done : List Step) → Type 0
-AreNoted m start flags done = (p : ℕ) → p < 2 ^ m.config.k → (is_noted flags p ≡ true) ↔ HasRetired m start done p
+abbrev pub AreFlagged : (opening : MachineLists) → (start : ℕ) → (flags : List Bool) → (done : List Step) → Type 0
+AreFlagged m start flags done = (p : ℕ) → p < 2 ^ m.config.k → (is_noted flags p ≡ true) ↔ HasRetired m start done p
 
 -- on a machine of which the flags tell, processor p stands at a break
 pub record IsAtBreak (m : MachineLists) (breaks flags : List Bool) (p : ℕ) : Type 0 where

@@ -8,7 +8,7 @@ use Rattle.machine_runs.specs.Runs.{answer_after, IsReplay}
 use Rattle.machine_log.specs.Logs.{Log}
 use Rattle.machine_sweep.specs.Own.{AreOwn}
 use Rattle.machine_sweep.specs.Sweeps.{EndsInFault, IsFault, RunsAfter}
-use Rattle.debug_sweep.specs.Breaks.{AreNoted, StandsAtBreak}
+use Rattle.debug_sweep.specs.Breaks.{AreFlagged, StandsAtBreak}
 
 -- Behind a step in which a fault stopped a processor there is none, the first so many steps aside.
 abbrev pub FaultsAreLast : (opening : MachineLists) → (start : ℕ) → (steps : List Step) → Type 0
@@ -62,4 +62,4 @@ pub record IsUnderWay (breaks : List Bool) (limit : ℕ) (old : Log) (flags : Li
   pub few : length l.steps ≤ limit
   pub sound : HasNoFault old.opening (length old.steps) l.steps
   pub breaks_are_met : NoBreakIsPassed old.opening breaks (length old.steps) l.steps
-  pub noted : AreNoted old.opening (length old.steps) flags l.steps
+  pub noted : AreFlagged old.opening (length old.steps) flags l.steps

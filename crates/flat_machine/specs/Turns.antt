@@ -1,5 +1,5 @@
 -- One turn of a processor, as far as it goes alone.
-use Rattle.std.specs.Prelude.{ℕ, ◌*◌, ◌%◌, ◌^◌, Bool, true, false, ◌==◌, not, List, Option, Some, None, Result, Ok, Err, if◌then◌else◌}
+use Rattle.std.specs.Prelude.{ℕ, ◌*◌, ◌%◌, ◌^◌, Bool, true, false, ◌==◌, not, List, [], ◌∷◌, ◌++◌, Option, Some, None, Result, Ok, Err, if◌then◌else◌}
 use Rattle.rv_table.specs.Rows.{insn_of}
 use Rattle.rv_table.specs.declared.insn.Insn.{Insn}
 use Rattle.flat_machine.specs.declared.fault.Fault.{Fault}
@@ -25,6 +25,21 @@ pub data Turn : Type 0 where
   Reaches : (word : ℕ) → (change : ℕ → ℕ) → (after : ℕ → Processor × Retired) → Turn
   -- The processor stops.
   Stops : Cause → Turn
+
+-- the turn needs no word but the processor's own
+abbrev pub IsLocal : Turn → Type 0
+IsLocal (Retires after retired) = Unit {0}
+IsLocal _ = ⊥
+
+-- the turn acts on a shared word
+abbrev pub IsReference : Turn → Type 0
+IsReference (Reaches word change after) = Unit {0}
+IsReference _ = ⊥
+
+-- what an instruction that retires gives the console, behind what is there
+abbrev pub with_byte : List ℕ → Option ℕ → List ℕ
+with_byte console None = console
+with_byte console (Some byte) = console ++ byte ∷ []
 
 -- the event of an instruction at pc that wrote a register
 abbrev pub retired_writing : (pc : ℕ) → Insn → (rd value : ℕ) → Retired

@@ -12,6 +12,7 @@ use Rattle.flat_machine.specs.declared.setting.Setting.{Setting}
 use Rattle.flat_machine.specs.Operations.{store_size}
 use Rattle.flat_machine.specs.State.{Processor}
 use Rattle.flat_machine.specs.Turns.{Turn, Retires, Reaches, Stops}
+pub use Rattle.flat_machine.specs.Turns.{IsLocal, IsReference}
 use Rattle.hart.specs.declared.decision.Decision.{Decision}
 use Rattle.hart.specs.declared.decision.Decision.TheVariants.{Local, Refer, Halt, Fault}
 use Rattle.hart.specs.declared.decision.Shape.TheVariants as shape
@@ -28,15 +29,11 @@ Decides (Halt byte) (Stops cause) = cause ≡ because.Halt byte
 Decides (Fault fault) (Stops cause) = cause ≡ because.Fault fault
 Decides _ _ = ⊥
 
--- the turn needs no word but the processor's own
-abbrev pub IsLocal : Turn → Type 0
-IsLocal (Retires after retired) = Unit {0}
-IsLocal _ = ⊥
-
--- the turn acts on a shared word
-abbrev pub IsReference : Turn → Type 0
-IsReference (Reaches word change after) = Unit {0}
-IsReference _ = ⊥
+-- the call that may follow a decision: what is local is taken, and a reference retires
+abbrev pub Allows : Decision → Turn → Type 0
+Allows Local turn = IsLocal turn
+Allows (Refer word phi shape) turn = IsReference turn
+Allows _ turn = Unit {0}
 
 -- what such a turn leaves, once the word before is known
 abbrev pub after_reply : Turn → (reply : ℕ) → Option (Processor × Retired)

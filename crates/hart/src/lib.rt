@@ -13,8 +13,6 @@
 
 mod decision;
 mod processor;
-#[cfg(test)]
-mod tests;
 
 pub use decision::{Decision, Shape, Taken};
 pub use processor::{Core, core_has_registers};

@@ -16,6 +16,7 @@ pub struct Parts<'a> {
 }
 
 impl<'a> Parts<'a> {
+    /// The parts of a line; a comment is none of them.
     pub fn of(line: &'a [u8]) -> Parts<'a> {
         let whole = Piece {
             start: 0,

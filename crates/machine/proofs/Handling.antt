@@ -40,7 +40,7 @@ use Rattle.machine_opening.proofs.Lemmas.machine_program.{slot_free}
 use Rattle.machine_opening.proofs.Lemmas.machine_program.{unlawful, unnamed, word_poked, word_there}
 use Rattle.machine_opening.specs.machine_program.Turning.{IsBegun, IsFinishedBy, told_of_up, told_of_down}
 use Rattle.machine.specs.Machines.{MachineLists, AreHome, ArePorts, AreModules, IsIdle, IsMachine, IsStep}
-use Rattle.machine.specs.Serving.{IsKept, IsExecuted}
+use Rattle.machine.specs.Serving.{DoesNothing, IsExecuted}
 use Rattle.machine.proofs.Keeping.{parts_kept, begun_kept, finished_kept, home_set, ports_set, modules_set, module_there, place_there}
 
 abbrev pub with_network : MachineLists → NetworkLists → MachineLists
@@ -190,7 +190,7 @@ module _ (m : MachineLists) (is : IsMachine m) where
         let w = word_there c m.code (net_of m.network) m.ports m.modules (λ q. []) is.role is.steady i x f.0 f.1 is.ports.words in
         subst (λ k. x.word / 2 ^ k < length words) (sym k_is) (place_there c m.modules is.modules i x.word 0 a.0 w)
 
-    kept_done : (s : Step) (o : Outcome) (net' : NetworkLists) (words' : List ℕ) → IsKept (net_of m.network) words o (net_of net') words' →
+    kept_done : (s : Step) (o : Outcome) (net' : NetworkLists) (words' : List ℕ) → DoesNothing (net_of m.network) words o (net_of net') words' →
         IsStepOf c m.code (net_of m.network) m.ports m.modules s Stalled (net_of m.network) m.ports m.modules →
         network.sizes_of net' ≡ network.sizes_of m.network → Done m s o (with_module m net' i words')
     kept_done s o net' words' kept st sizes =
@@ -229,7 +229,7 @@ module _ (m : MachineLists) (is : IsMachine m) where
             (place_there c m.modules is.modules i x.word 0 home.0 there) is.modules.words done_so.2 done_so.1))
 
     pub serve_full : (words' : List ℕ) (o : Outcome) (net' : NetworkLists) → ((net_of m.network).replies m.network.k i ≡ [] → ⊥) →
-        IsKept (net_of m.network) words o (net_of net') words' →
+        DoesNothing (net_of m.network) words o (net_of net') words' →
         network.sizes_of net' ≡ network.sizes_of m.network → Done m (step.Serve i) o (with_module m net' i words')
     serve_full words' o net' full e sizes =
         kept_done (step.Serve i) o net' words' e (no_place c m.code (net_of m.network) m.ports m.modules i within
@@ -411,7 +411,7 @@ module _ (m : MachineLists) (is : IsMachine m) (i place : ℕ) (same : place ≡
       ((net_of m.network).replies m.network.k i ≡ [] →
       IsExecuted (network.sizes_of m.network) i (net_of m.network) words (slice_get ((net_of m.network).requests m.network.k i) 0) o
       (net_of net') words') →
-      (((net_of m.network).replies m.network.k i ≡ [] → ⊥) → IsKept (net_of m.network) words o (net_of net') words') →
+      (((net_of m.network).replies m.network.k i ≡ [] → ⊥) → DoesNothing (net_of m.network) words o (net_of net') words') →
       network.sizes_of net' ≡ network.sizes_of m.network → Done m (step.Serve i) o (with_module m net' place words')
   serve_there words' o net' executed full sizes =
       subst (λ j. Done m (step.Serve i) o (with_module m net' j words')) (sym same) (by ((net_of m.network).replies m.network.k i) refl)
@@ -423,7 +423,7 @@ module _ (m : MachineLists) (is : IsMachine m) (i place : ℕ) (same : place ≡
           (net_of net') words') words_are (executed e)) sizes
       by (y ∷ ys) e =
           let some : (net_of m.network).replies m.network.k i ≡ [] → ⊥ = λ none. let no : y ∷ ys ≡ [] = sym e ∙ none in absurd (cc) in
-          serve_full m is i within words' o net' some (subst (λ (xs : List ℕ). IsKept (net_of m.network) xs o (net_of net') words') words_are (full some)) sizes
+          serve_full m is i within words' o net' some (subst (λ (xs : List ℕ). DoesNothing (net_of m.network) xs o (net_of net') words') words_are (full some)) sizes
 
   pub shared_there : (address value : ℕ) (phi : Phi) (words' : List ℕ) → IsIdle m → AreHome m → value < 256 → 2 ^ 31 ≤ address →
       (address - 2 ^ 31) / 4 < m.config.shared_words → i ≡ (address - 2 ^ 31) / 4 % 2 ^ m.config.k →

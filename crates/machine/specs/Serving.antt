@@ -11,12 +11,12 @@ use Rattle.steps.specs.declared.step.Outcome.{Outcome}
 use Rattle.steps.specs.declared.step.Outcome.TheVariants.{Served, Stalled}
 
 -- nothing is done
-abbrev pub IsKept : Net → List ℕ → Outcome → Net → List ℕ → Type 0
-IsKept net memory o net' memory' = (o ≡ Stalled) × (net' ≡ net) × (memory' ≡ memory)
+abbrev pub DoesNothing : Net → List ℕ → Outcome → Net → List ℕ → Type 0
+DoesNothing net memory o net' memory' = (o ≡ Stalled) × (net' ≡ net) × (memory' ≡ memory)
 
 -- The request is executed at its place, where a word comes to stand again, and the word before goes into the reply slot.
 abbrev pub IsExecuted : Sizes → ℕ → Net → List ℕ → Option Request → Outcome → Net → List ℕ → Type 0
-IsExecuted z m net memory None o net' memory' = IsKept net memory o net' memory'
+IsExecuted z m net memory None o net' memory' = DoesNothing net memory o net' memory'
 IsExecuted z m net memory (Some x) o net' memory' =
     let place = x.word / 2 ^ z.k in
     (o ≡ Served x.leader)

@@ -2,7 +2,7 @@
 
 ghost use Rattle.std.specs.Prelude.{◌≡◌, ◌<◌, ◌≤◌, ◌^◌, ◌/◌, Some, length};
 ghost use Rattle.indexed_network.specs.omega_network.Networks.{net_of, sizes_of};
-ghost use Rattle.machine.specs.Serving.{request_at, HasItsWord, IsExecuted, IsFree, IsKept, IsServed, MayBeAnswered, MayReply};
+ghost use Rattle.machine.specs.Serving.{request_at, HasItsWord, IsExecuted, IsFree, DoesNothing, IsServed, MayBeAnswered, MayReply};
 
 use indexed_network::IndexedNetwork;
 use memory_module::Module;
@@ -18,7 +18,7 @@ pub(crate) fn execute(memory: &mut Module, network: &mut IndexedNetwork, m: u8) 
     requires place { HasItsWord network.old m memory.old }
     requires leader { MayReply network.old m }
     ensures executed { IsFree network.old m → IsServed m network.old memory.old result network.new memory.new }
-    ensures full { (IsFree network.old m → ⊥) → IsKept (net_of network.old) memory.old result (net_of network.new) memory.new }
+    ensures full { (IsFree network.old m → ⊥) → DoesNothing (net_of network.old) memory.old result (net_of network.new) memory.new }
     ensures sizes { sizes_of network.new ≡ sizes_of network.old }
 {
     if !network.module_is_free(m) {

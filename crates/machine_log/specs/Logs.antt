@@ -22,6 +22,10 @@ pub record Log : Type 0 where
   -- the machine after them
   pub machine : MachineLists
 
+-- the log of a machine that has taken no step yet
+abbrev pub opened : MachineLists → Log
+opened m = record { opening = m; steps = []; machine = m }
+
 -- A log with room for so many steps more: they can be entered without memory, and the log stays within its limit.
 pub record RoomyLog : Type 0 where
   pub log : Log

@@ -7,7 +7,7 @@ ghost use Rattle.machine_runs.specs.Machines.{AreHome, IsIdle};
 ghost use Rattle.machine_runs.specs.Draining.{drain_bound, drain_steps, IsDrained};
 ghost use Rattle.machine_runs.specs.Runs.{answer_after, IsReplay, IsSerialized};
 ghost use Rattle.machine_runs.specs.Whole.{one_steps, IsOne, IsPoked};
-ghost use Rattle.machine_log.specs.Logs.{is_named, AreLawful, HasPoked, HasTaken, IsKept, IsLonger};
+ghost use Rattle.machine_log.specs.Logs.{is_named, opened, AreLawful, HasPoked, HasTaken, IsKept, IsLonger};
 ghost use Rattle.machine_log.specs.Lending.{LendsRoom};
 
 use crate::roomy::{Roomy, roomy_is_kept};
@@ -53,7 +53,7 @@ impl Logged {
     pub fn new(alloc: Global, machine: Machine) -> Self
         requires idle { IsIdle machine }
         requires home { AreHome machine }
-        ensures { result ≡ record { opening = machine; steps = []; machine = machine } }
+        ensures { result ≡ opened machine }
     {
         Logged {
             log: Roomy::new(alloc, machine),

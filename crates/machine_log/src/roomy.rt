@@ -5,7 +5,7 @@ ghost use Rattle.machine_runs.specs.Machines.{AreHome, IsIdle};
 ghost use Rattle.machine_runs.specs.Draining.{drain_bound, drain_steps, IsDrained};
 ghost use Rattle.machine_runs.specs.Runs.{answer_after, IsReplay, IsSerialized};
 ghost use Rattle.machine_runs.specs.Whole.{one_steps, IsOne, IsPoked};
-ghost use Rattle.machine_log.specs.Logs.{AreLawful, HasPoked, HasTaken, IsKept, IsLonger, KeepsPlaces};
+ghost use Rattle.machine_log.specs.Logs.{opened, AreLawful, HasPoked, HasTaken, IsKept, IsLonger, KeepsPlaces};
 
 use crate::entering;
 use crate::log::LogRefusal;
@@ -44,7 +44,7 @@ impl Roomy {
     pub(crate) fn new(alloc: Global, machine: Machine) -> Self
         requires idle { IsIdle machine }
         requires home { AreHome machine }
-        ensures { result.log ≡ record { opening = machine; steps = []; machine = machine } }
+        ensures { result.log ≡ opened machine }
     {
         machine_is_sound(&machine);
         let opening = Snapshot::of(&machine);

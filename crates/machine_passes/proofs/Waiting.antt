@@ -16,7 +16,7 @@ use Rattle.machine_passes.specs.declared.row.Notice.{Notice}
 use Rattle.machine_passes.specs.declared.row.Row.{Row}
 use Rattle.machine_passes.specs.Lists.{is_net, is_of_network, is_turn_of}
 use Rattle.machine_passes.specs.Rows.{answer, row, told}
-use Rattle.machine_passes.specs.Passes.{Held, held, AreTold, GoesOnWith, HaveGone, HaveWaited, IsTold, IsTurned, leaves_waiting}
+use Rattle.machine_passes.specs.Passes.{Held, held, TurnAndStep, GoesOnWith, HaveGone, HaveWaited, IsTold, IsTurned, leaves_waiting}
 
 -- none, where it is not some
 pub is_none : (l : Option ℕ) → is_some l ≡ false → l ≡ None
@@ -108,7 +108,7 @@ module _ (from : ℕ) (old new : Held) (s : Step) (o : Outcome) (t : IsTold from
 
 module _ (from : ℕ) (c : Config) where
   -- A round goes on as it is answered.
-  pub goes_on : (old new : Held) (answer : Result Round LogRefusal) (s : Step) → IfOk answer (λ r. AreTold from c old r.turn s r.net new) →
+  pub goes_on : (old new : Held) (answer : Result Round LogRefusal) (s : Step) → IfOk answer (λ r. TurnAndStep from c old r.turn s r.net new) →
       OnErr answer (new ≡ old) → GoesOnWith from c old answer s new
   goes_on old new (Ok r) s told same = told
   goes_on old new (Err refusal) s told same = same

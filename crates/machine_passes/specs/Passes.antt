@@ -70,7 +70,7 @@ IsAsked from c turn old s (Some (Ok o)) new = (is_stop turn ≡ false) × (is_ne
 IsAsked from c turn old s (Some (Err e)) new = (is_stop turn ≡ false) × ((e ≡ Unnamed) ↔ (is_net c s ≡ false)) × (new ≡ old)
 
 -- A turn was asked for, and then a step of the network.
-pub record AreTold (from : ℕ) (c : Config) (old : Held) (turn : Outcome) (s : Step) (net : Option (Result Outcome LogRefusal)) (new : Held) : Type 0 where
+pub record TurnAndStep (from : ℕ) (c : Config) (old : Held) (turn : Outcome) (s : Step) (net : Option (Result Outcome LogRefusal)) (new : Held) : Type 0 where
   pub between : Held
   pub turn_is : IsTurned old.row.lent from old turn between
   pub net_is : IsAsked from c turn between s net new
@@ -79,7 +79,7 @@ pub record AreTold (from : ℕ) (c : Config) (old : Held) (turn : Outcome) (s : 
 
 -- A turn was asked for, and then a step of the network; or the turn was refused.
 abbrev pub GoesOnWith : (from : ℕ) → Config → (old : Held) → (answer : Result Round LogRefusal) → Step → (new : Held) → Type 0
-GoesOnWith from c old (Ok r) s new = AreTold from c old r.turn s r.net new
+GoesOnWith from c old (Ok r) s new = TurnAndStep from c old r.turn s r.net new
 GoesOnWith from c old (Err refusal) s new = new ≡ old
 
 -- a turn behind which its processor waits: it has begun a reference, or stalled

@@ -1,15 +1,14 @@
 -- What the passes store, beside the steps of the log.
 use Rattle.std.specs.Prelude.{◌≡◌, ℕ, suc, ◌+◌, ◌≤◌, true, false, List, [], ◌∷◌, ◌++◌, length, take, drop, Option, Some, None, slice_get, if◌then◌else◌}
-use Rattle.machine.specs.machine_program.Theory as theory
-use Rattle.machine.specs.machine_program.Processors.{Told}
 use Rattle.flat_machine.specs.declared.event.Retired.{Retired}
 use Rattle.steps.specs.declared.step.Step.{Step}
 use Rattle.steps.specs.declared.step.Step.TheVariants as step
 use Rattle.steps.specs.declared.step.Outcome.{Outcome}
 use Rattle.steps.specs.declared.step.Outcome.TheVariants as outcome
 use Rattle.steps.specs.Answers.{is_stalled}
-use Rattle.machine_log.specs.machine_runs.Machines.{MachineLists, machine_of}
-use Rattle.machine_log.specs.machine_runs.Runs.{all_after, answer_after}
+use Rattle.machine_log.specs.machine_runs.Machines.{MachineLists}
+use Rattle.machine_log.specs.machine_runs.Runs.{answer_after}
+pub use Rattle.machine_log.specs.machine_runs.Runs.{machine_after}
 use Rattle.machine_passes.specs.declared.row.Notice.{Notice}
 use Rattle.machine_passes.specs.declared.row.Answer.{Answer}
 use Rattle.machine_passes.specs.declared.row.Row.{Row}
@@ -53,10 +52,6 @@ Follows None place = Unit {0}
 Follows (Some a) place = behind a ≤ place
 
 -- ---- the rows and the steps
-
--- the machine after these steps
-abbrev pub machine_after : MachineLists → List Step → theory.Machine Told
-machine_after m steps = all_after m.config m.code (machine_of m (λ p. [])) steps
 
 -- what p was given behind the first steps
 abbrev pub notices_since : (opening : MachineLists) → (first : List Step) → (p : ℕ) → List Step → List Notice

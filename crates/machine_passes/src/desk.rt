@@ -8,7 +8,7 @@ ghost use Rattle.local_runs.specs.LocalRuns.{RetirementList};
 ghost use Rattle.machine_log.specs.Logs.{is_named};
 ghost use Rattle.machine_loans.specs.Lendings.{OfOthers, may_lend, promised};
 ghost use Rattle.machine_passes.specs.Lists.{is_net, is_poke, is_turn_of, Stalls};
-ghost use Rattle.machine_passes.specs.Passes.{row_of, leaves_waiting, AreTold, HaveGone, HaveWaited, IsAgreed, IsAnswered, IsTold, IsTurned};
+ghost use Rattle.machine_passes.specs.Passes.{row_of, leaves_waiting, TurnAndStep, HaveGone, HaveWaited, IsAgreed, IsAnswered, IsTold, IsTurned};
 ghost use Rattle.machine_passes.specs.Passes.{IsLentOn, IsLoanOf, IsReturned};
 
 use crate::kinds::{is_of_network, is_stop, is_waiting};
@@ -260,7 +260,7 @@ impl<N: Run> Desk<N> {
     /// Those of [`Desk::turn`]. Then no step is asked for.
     #[inline(always)]
     pub(crate) fn round(&mut self, pass: &mut Pass<N>, step: Step) -> Result<Round, LogRefusal>
-        ensures told { IfOk result (λ r. AreTold (length N.first) N.opening.config pass.old r.turn step r.net pass.new) }
+        ensures told { IfOk result (λ r. TurnAndStep (length N.first) N.opening.config pass.old r.turn step r.net pass.new) }
         ensures named { result ≡ Err LogRefusal.Unnamed → ⊥ }
         ensures err { OnErr result (pass.new ≡ pass.old) }
         ensures processor { pass.new.processor ≡ pass.old.processor }

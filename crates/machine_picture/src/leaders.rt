@@ -9,8 +9,8 @@ use messages::Record;
 /// How many processors a machine has at most.
 const PROCESSORS: usize = 64;
 
-/// How often a reference is combined at most: once a stage.
-const MOST_COMBINATIONS: u8 = 6;
+/// How many stages there are at most. A reference is combined once in each at most.
+const MAX_STAGES: u8 = 6;
 
 /// Into whose request the requests of processors were combined, by the wait records of a network.
 #[derive(Debug, Drop)]
@@ -52,7 +52,7 @@ impl Leaders {
     /// Who leads the message in which the reference of a processor is: its request was combined into another's, and so on.
     pub fn of_processor(&self, processor: u8) -> u8 {
         let mut leader = processor;
-        for _ in 0..MOST_COMBINATIONS {
+        for _ in 0..MAX_STAGES {
             leader = self.next(leader);
         }
         leader

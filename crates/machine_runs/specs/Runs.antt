@@ -29,9 +29,13 @@ abbrev pub NoneStalls : Config → (code : List ℕ) → theory.Machine Told →
 NoneStalls c code M [] = Unit {0}
 NoneStalls c code M (s ∷ ss) = (outcome_of c code M s ≡ Stalled → ⊥) × NoneStalls c code (after c code M s) ss
 
--- what a step answers on the machine that these steps leave
+-- the machine that these steps leave
+abbrev pub machine_after : (opening : MachineLists) → (done : List Step) → theory.Machine Told
+machine_after m done = all_after m.config m.code (machine_of m (λ p. [])) done
+
+-- what a step answers on it
 abbrev pub answer_after : (opening : MachineLists) → (done : List Step) → Step → Outcome
-answer_after m done s = outcome_of m.config m.code (all_after m.config m.code (machine_of m (λ p. [])) done) s
+answer_after m done s = outcome_of m.config m.code (machine_after m done) s
 
 -- what a machine's processors have shown
 abbrev pub events_of : theory.Machine Told → ℕ → List Event

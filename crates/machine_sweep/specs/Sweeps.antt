@@ -9,9 +9,10 @@ use Rattle.steps.specs.declared.step.Step.{Step}
 use Rattle.steps.specs.declared.step.Outcome.{Outcome}
 use Rattle.steps.specs.declared.step.Outcome.TheVariants as outcome
 use Rattle.machine_runs.specs.Draining.{drain_steps}
-use Rattle.machine_runs.specs.Machines.{MachineLists, machine_of, IsIdle}
-use Rattle.machine_runs.specs.Runs.{all_after, answer_after, IsOpening, IsReplay}
+use Rattle.machine_runs.specs.Machines.{MachineLists, IsIdle}
+use Rattle.machine_runs.specs.Runs.{answer_after, machine_after, IsOpening, IsReplay}
 use Rattle.machine_log.specs.Logs.{Log, entered}
+pub use Rattle.machine_log.specs.Logs.{opened}
 use Rattle.machine_sweep.specs.Rounds.{round}
 use Rattle.machine_sweep.specs.declared.sweeping.SweepEnd.{SweepEnd}
 use Rattle.machine_sweep.specs.declared.sweeping.SweepEnd.TheVariants.{Over, Budget}
@@ -35,7 +36,7 @@ most_of budget = min budget 4000000
 
 -- what processor p is doing on the machine that these steps leave
 abbrev pub status_after : (opening : MachineLists) → (done : List Step) → (p : ℕ) → Status
-status_after m done p = ((all_after m.config m.code (machine_of m (λ q. [])) done).core p).state.status
+status_after m done p = ((machine_after m done).core p).state.status
 
 -- after these steps a processor runs
 abbrev pub RunsAfter : (opening : MachineLists) → (done : List Step) → Type 0
@@ -91,10 +92,6 @@ pub record IsSwept (most : ℕ) (old : Log) (end : SweepEnd) (new : Log) : Type 
   pub idle : IsIdle new.machine
 
 -- ---- a whole run
-
--- the log of a machine that has opened, and taken no step
-abbrev pub opened : MachineLists → Log
-opened m = record { opening = m; steps = []; machine = m }
 
 -- The log has followed the sweep from its machine's opening on an image, for so many steps at most, and was drained.
 pub record IsWholeRun (c : Config) (image : ImageContents) (most : ℕ) (end : SweepEnd) (log : Log) : Type 0 where

@@ -19,4 +19,4 @@ pub use round::Round;
 pub use row::{Downs, Row, Services, Turns, Ups};
 pub use schedule::step_at;
 pub use states::{any_is_faulted, any_runs};
-pub use sweeping::{MOST_STEPS, SweepEnd, follow_sweep, is_over, most_steps};
+pub use sweeping::{MAX_BUDGET, SweepEnd, follow_sweep, is_over, most_steps};

@@ -14,9 +14,9 @@ use machine_log::{LogRefusal, Logged, Roomy, roomy_is_kept};
 use machine_runs::{Machine, machine_is_sound, most_moves};
 use steps::Outcome;
 
-/// The most steps that a sweep enters, whatever its budget. The log of a new machine has room for them, and
+/// The largest budget: a sweep enters so many steps at most. The log of a new machine has room for them, and
 /// for those of a drain.
-pub const MOST_STEPS: u32 = 4_000_000;
+pub const MAX_BUDGET: u32 = 4_000_000;
 
 /// Where a sweep ended.
 #[derive(Clone, Copy, Debug, PartialEq, Eq, Drop)]
@@ -28,7 +28,7 @@ pub enum SweepEnd {
 }
 
 /// Follows the sweep, from the beginning of a round, until a fault stops a processor, no processor runs, or
-/// as many steps are entered as the budget has, [`MOST_STEPS`] at most. Then takes steps until no reference
+/// as many steps are entered as the budget has, [`MAX_BUDGET`] at most. Then takes steps until no reference
 /// is open, as [`Logged::drain`] does. For all these steps it makes room first.
 ///
 /// # Errors
@@ -42,7 +42,7 @@ pub fn follow_sweep(log: &mut Logged, budget: u32) -> Result<SweepEnd, LogRefusa
     ensures named { result ≡ Err LogRefusal.Unnamed → ⊥ }
     ensures refused { OnErr result (log.new ≡ log.old) }
 {
-    let most = budget.min(MOST_STEPS);
+    let most = budget.min(MAX_BUDGET);
     let room = most_steps(log.machine(), most);
     Ok(sweep(log.room(room)?, most))
 }

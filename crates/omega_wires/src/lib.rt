@@ -24,6 +24,5 @@ pub use laws::{
     replies_go_back_the_same_way, rotations_are_inverse,
 };
 pub use wires::{
-    MAX_STAGES, bit, input_port, module_of, path, rotate_left, rotate_right, switch_of, wire_after,
-    wire_before,
+    bit, input_port, module_of, path, rotate_left, rotate_right, switch_of, wire_after, wire_before,
 };

@@ -3,9 +3,6 @@
 ghost use Rattle.std.specs.Prelude.{◌≡◌, ◌<◌, ◌≤◌, ◌^◌, ◌%◌, suc};
 ghost use Rattle.omega_wires.specs.Wires.{bit, input_port, path, rotated_left, rotated_right, switch_of, wire_after, wire_before};
 
-/// The greatest number of stages, with 64 wires.
-pub const MAX_STAGES: u8 = 6;
-
 /// Bit `i` of a number below 256: the lowest is bit 0.
 pub fn bit(i: u8, number: u8) -> u8
     requires { i < 8 }

@@ -22,7 +22,7 @@ use Rattle.machine_passes.specs.declared.desk.Round.{Round}
 use Rattle.machine_passes.specs.declared.desk.Rounds.{Rounds}
 use Rattle.machine_passes.specs.declared.row.Row.{Row}
 use Rattle.machine_passes.specs.Rows.{told, told_all}
-use Rattle.machine_passes.specs.Passes.{Held, held, is_answered, is_waiting, leaves_waiting, IsTold, IsTurned, IsAsked, AreTold, GoesOnWith, HaveGone}
+use Rattle.machine_passes.specs.Passes.{Held, held, is_answered, is_waiting, leaves_waiting, IsTold, IsTurned, IsAsked, TurnAndStep, GoesOnWith, HaveGone}
 use Rattle.machine_passes.specs.Passes.{HaveWaited, HasGoneOn, IsReturned, LoanState}
 use Rattle.local_runs.specs.LocalRuns.{EndsAt, IsQuiet, RetirementList}
 use Rattle.local_runs.specs.declared.run.LocalEnd.{LocalEnd}
@@ -197,7 +197,7 @@ asked c from turn old new s (Some (Err e)) a = ap console_of a.2
 
 -- A round holds the byte that its turn gives, where none was held.
 pub turned_round : (c : Config) (from : ℕ) (old new : Held) (o : Outcome) (s : Step) (net : Option (Result Outcome LogRefusal)) (put : List ℕ) →
-    AreTold from c old o s net new → console_of old ≡ put ++ [] → console_of new ≡ put ++ held_of (byte_of o)
+    TurnAndStep from c old o s net new → console_of old ≡ put ++ [] → console_of new ≡ put ++ held_of (byte_of o)
 turned_round c from old new o s net put t e = asked c from o t.between new s net t.net_is ∙ turn_given old.row.lent from old t.between o put t.turn_is e
 
 -- Behind a turn that stops the processor nothing is asked for.
@@ -209,7 +209,7 @@ none_asked c from turn old new s (Some (Err e)) a stop = let no = a.0 in absurd 
 
 -- So a round whose turn stops the processor ends its list with the stop.
 pub stops_round : (c : Config) (from : ℕ) (old new : Held) (o : Outcome) (s : Step) (net : Option (Result Outcome LogRefusal)) →
-    AreTold from c old o s net new → is_stop o ≡ true → EndsWithStop new
+    TurnAndStep from c old o s net new → is_stop o ≡ true → EndsWithStop new
 stops_round c from old new o s net t stop =
     subst EndsWithStop (sym (none_asked c from o t.between new s net t.net_is stop)) (turn_stops old.row.lent from old t.between o t.turn_is stop)
 

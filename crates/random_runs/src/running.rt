@@ -9,10 +9,10 @@ ghost use Rattle.machine_sweep.specs.trace_file.Traces.{HaveRecords};
 
 use crate::schedule::Schedule;
 use machine_log::{LogRefusal, Logged, Roomy, roomy_is_kept};
-use machine_sweep::{MOST_STEPS, SweepEnd, any_runs, is_over, most_steps};
+use machine_sweep::{MAX_BUDGET, SweepEnd, any_runs, is_over, most_steps};
 
 /// Asks for the steps of the schedule of a number, until a fault stops a processor, no processor runs, or as many steps are
-/// entered, or as many turns asked for, as the budget has, [`MOST_STEPS`] at most. Then takes steps until no reference is open, as
+/// entered, or as many turns asked for, as the budget has, [`MAX_BUDGET`] at most. Then takes steps until no reference is open, as
 /// [`Logged::drain`] does. For all these steps it makes room first.
 ///
 /// # Errors
@@ -26,7 +26,7 @@ pub fn random_run(log: &mut Logged, number: u32, budget: u32) -> Result<SweepEnd
     ensures named { result ≡ Err LogRefusal.Unnamed → ⊥ }
     ensures refused { OnErr result (log.new ≡ log.old) }
 {
-    let most = budget.min(MOST_STEPS);
+    let most = budget.min(MAX_BUDGET);
     let room = most_steps(log.machine(), most);
     Ok(run(log.room(room)?, number, most))
 }

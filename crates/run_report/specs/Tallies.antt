@@ -1,6 +1,7 @@
 -- What processors have shown.
-use Rattle.std.specs.Prelude.{ℕ, ◌+◌, ◌≤◌, All, List, [], ◌∷◌, ◌++◌, Option, Some, None, slice_get, slice_set}
+use Rattle.std.specs.Prelude.{ℕ, ◌+◌, ◌≤◌, All, List, [], Option, Some, None, slice_get, slice_set}
 use Rattle.flat_machine.specs.declared.event.Retired as retirement
+pub use Rattle.flat_machine.specs.Turns.{with_byte}
 use Rattle.steps.specs.declared.step.Step.{Step}
 use Rattle.steps.specs.declared.step.Step.TheVariants.{Turn}
 use Rattle.steps.specs.declared.step.Outcome.{Outcome}
@@ -14,11 +15,6 @@ pub record ShownBy : Type 0 where
 -- a processor that has shown nothing
 abbrev pub nothing_shown : ShownBy
 nothing_shown = record { retired = 0; console = [] }
-
--- with one byte more, if there is one
-abbrev pub with_byte : List ℕ → Option ℕ → List ℕ
-with_byte console None = console
-with_byte console (Some byte) = console ++ byte ∷ []
 
 -- one instruction more has retired
 abbrev pub with_retired : ShownBy → (out : Option ℕ) → ShownBy

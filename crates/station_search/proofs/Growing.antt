@@ -5,13 +5,13 @@ use Rattle.std.proofs.lemmas.List.{get_or_append_left}
 use Rattle.live_registers.specs.Forgetting.{kept_by}
 use Rattle.station_search.specs.declared.tables.Extent.{Extent}
 use Rattle.station_search.specs.Placed.{Placed}
-use Rattle.station_search.specs.Tables.{TableLists, nowhere, placed_at, words_at, IsKept, means, IsRow}
+use Rattle.station_search.specs.Tables.{TableLists, nowhere, placed_at, words_at, HasGrown, means, IsRow}
 use Rattle.station_search.proofs.Lemmas.{listed_same}
 
-pub kept_all : (t : TableLists) → IsKept t t
+pub kept_all : (t : TableLists) → HasGrown t t
 kept_all t = record { live = refl; stations = omega arith; words = omega arith; same_station = λ i l. refl; same_words = λ i l. refl }
 
-pub kept_on : (t u v : TableLists) → IsKept t u → IsKept u v → IsKept t v
+pub kept_on : (t u v : TableLists) → HasGrown t u → HasGrown u v → HasGrown t v
 kept_on t u v h k = record {
   live = k.live ∙ h.live;
   stations = omega (arith, h.stations, k.stations);
@@ -21,7 +21,7 @@ kept_on t u v h k = record {
 }
 
 pub station_pushed : (live : List (List Bool)) (stations : List Placed) (words : List (List ℕ)) (a : Placed) →
-    IsKept (record { live = live; stations = stations; words = words }) (record { live = live; stations = stations ++ a ∷ []; words = words })
+    HasGrown (record { live = live; stations = stations; words = words }) (record { live = live; stations = stations ++ a ∷ []; words = words })
 station_pushed live stations words a = record {
   live = refl;
   stations = omega (arith, length-append stations (a ∷ []));
@@ -31,7 +31,7 @@ station_pushed live stations words a = record {
 }
 
 pub words_pushed : (live : List (List Bool)) (stations : List Placed) (words : List (List ℕ)) (list : List ℕ) →
-    IsKept (record { live = live; stations = stations; words = words }) (record { live = live; stations = stations; words = words ++ list ∷ [] })
+    HasGrown (record { live = live; stations = stations; words = words }) (record { live = live; stations = stations; words = words ++ list ∷ [] })
 words_pushed live stations words list = record {
   live = refl;
   stations = omega arith;
@@ -40,7 +40,7 @@ words_pushed live stations words list = record {
   same_words = λ i l. get_or_append_left words (list ∷ []) [] i l;
 }
 
-module _ (e : Extent) (t u : TableLists) (row : List ℕ) (kept : IsKept t u) (h : IsRow e t row) where
+module _ (e : Extent) (t u : TableLists) (row : List ℕ) (kept : HasGrown t u) (h : IsRow e t row) where
   pub row_kept : IsRow e u row
   row_kept = record {
     there = λ p l. let a = h.there p l in omega (arith, a, kept.stations);

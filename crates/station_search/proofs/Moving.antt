@@ -22,7 +22,7 @@ use Rattle.live_registers.specs.Forgetting.{with_live, kept_by, DeadAreForgotten
 use Rattle.station_search.specs.declared.tables.Extent.{Extent}
 use Rattle.station_search.specs.Placed.{Placed}
 use Rattle.station_search.specs.Words.{IsWritten}
-use Rattle.station_search.specs.Tables.{TableLists, placed_at, words_at, IsKept, setting_at, means, IsRow, IsBehind}
+use Rattle.station_search.specs.Tables.{TableLists, placed_at, words_at, HasGrown, setting_at, means, IsRow, IsBehind}
 use Rattle.station_search.specs.Search.{IsNext, MayMove}
 use Rattle.station_search.proofs.Lemmas.{listed_at, listed_there, listed_is, listed_set}
 use Rattle.station_search.proofs.Growing.{kept_on}
@@ -65,8 +65,8 @@ module _ (e : Extent) (code : List ℕ) (t u v : TableLists) (row next : List �
     pub few : p < e.processors
     pub room : e.processors ≤ 8
     pub long : length row ≡ 9
-    pub first_kept : IsKept t u
-    pub then_kept : IsKept u v
+    pub first_kept : HasGrown t u
+    pub then_kept : HasGrown u v
     pub runs : is_running (placed_at t (slice_index row p)).station.processor.status ≡ true
     pub refers : IsReferred word before value
         (turn_of (placed_at t (slice_index row p)).setting code (placed_at t (slice_index row p)).station.processor)
@@ -97,7 +97,7 @@ module _ (e : Extent) (code : List ℕ) (t u v : TableLists) (row next : List �
         ap (λ r. slice_index r q) h.next_is
         ∙ (get_or-set_other (slice_set row p number) 8 q written 0 (λ same. omega (arith, few, h.room)) ∙ get_or-set_other row p q number 0 other)
 
-    kept : IsKept t v
+    kept : HasGrown t v
     kept = kept_on t u v h.first_kept h.then_kept
 
     at_number : placed_at v number ≡ placed_at u number

@@ -13,7 +13,7 @@ use Rattle.live_registers.specs.Forgetting.{kept_by}
 use Rattle.station_search.specs.declared.tables.Extent.{Extent}
 use Rattle.station_search.specs.Placed.{Placed, placed_of}
 use Rattle.station_search.specs.Words.{HasSameWords}
-use Rattle.station_search.specs.Tables.{TableLists, placed_at, words_at, IsKept, setting_at, means, IsRow}
+use Rattle.station_search.specs.Tables.{TableLists, placed_at, words_at, HasGrown, setting_at, means, IsRow}
 use Rattle.station_search.specs.Opening.{AreOfExtent, flat_of, IsOpened}
 use Rattle.station_search.proofs.Lemmas.{found_at, listed_there}
 
@@ -31,7 +31,7 @@ pub record AreOpened (code : List ℕ) (cores : List CoreState) (t : TableLists)
 pub none_opened : (code : List ℕ) (cores : List CoreState) (t : TableLists) (row : List ℕ) → length row ≡ 9 → AreOpened code cores t row 0
 none_opened code cores t row long = record { long = long; opened = λ p c l. absurd (omega (arith, l)) }
 
-pub opened_kept : (code : List ℕ) (c : CoreState) (t u : TableLists) (number : ℕ) → IsKept t u → IsOpened code c t number → IsOpened code c u number
+pub opened_kept : (code : List ℕ) (c : CoreState) (t u : TableLists) (number : ℕ) → HasGrown t u → IsOpened code c t number → IsOpened code c u number
 opened_kept code c t u number kept h =
     let same : placed_at u number ≡ placed_at t number = kept.same_station number h.there in
     record {
@@ -44,7 +44,7 @@ opened_kept code c t u number kept h =
     }
 
 pub opened_on : (code : List ℕ) (cores : List CoreState) (t u : TableLists) (row : List ℕ) (done number : ℕ) (core : CoreState) → done < 8 →
-    slice_get cores done ≡ Some core → IsKept t u → AreOpened code cores t row done → IsOpened code core u number →
+    slice_get cores done ≡ Some core → HasGrown t u → AreOpened code cores t row done → IsOpened code core u number →
     AreOpened code cores u (slice_set row done number) (done + 1)
 opened_on code cores t u row done number core few is kept h here = record {
   long = length-set row done number ∙ h.long;
@@ -65,7 +65,7 @@ opened_on code cores t u row done number core few is kept h here = record {
         subst (IsOpened code c u) (sym at) (opened_kept code c t u (slice_index row p) kept (h.opened p c below found))
 
 module _ (e : Extent) (code : List ℕ) (cores : List CoreState) (words : List ℕ) (t u : TableLists) (row : List ℕ) (number : ℕ)
-    (of_extent : AreOfExtent e cores) (room : e.processors ≤ 8) (wide : length words ≡ e.shared_words) (kept : IsKept t u)
+    (of_extent : AreOfExtent e cores) (room : e.processors ≤ 8) (wide : length words ≡ e.shared_words) (kept : HasGrown t u)
     (h : AreOpened code cores t row (length cores)) (words_there : number < length u.words) (same : HasSameWords words (words_at u number)) where
   first : List ℕ
   first = slice_set row 8 number

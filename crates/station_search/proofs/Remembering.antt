@@ -12,10 +12,10 @@ use Rattle.alone.specs.Stations.{behind, alone}
 use Rattle.live_registers.specs.Forgetting.{kept_by}
 use Rattle.station_search.specs.Placed.{Placed}
 use Rattle.station_search.specs.Words.{IsWritten}
-use Rattle.station_search.specs.Tables.{TableLists, placed_at, words_at, IsKept, IsBehind}
+use Rattle.station_search.specs.Tables.{TableLists, placed_at, words_at, HasGrown, IsBehind}
 use Rattle.station_search.specs.Memo.{Remembered, nothing, answer_to, IsNoted, KnowsStations, KnowsLists}
 
-pub behind_kept : (code : List ℕ) (before : ℕ) (old : Placed) (t u : TableLists) (number : ℕ) → IsKept t u → IsBehind code before old t number →
+pub behind_kept : (code : List ℕ) (before : ℕ) (old : Placed) (t u : TableLists) (number : ℕ) → HasGrown t u → IsBehind code before old t number →
     IsBehind code before old u number
 behind_kept code before old t u number kept h =
     let same = kept.same_station number h.there in
@@ -29,7 +29,7 @@ behind_kept code before old t u number kept h =
       settled = h.settled;
     }
 
-pub stations_kept : (code : List ℕ) (t u : TableLists) (m : Remembered) → IsKept t u → KnowsStations code t m → KnowsStations code u m
+pub stations_kept : (code : List ℕ) (t u : TableLists) (m : Remembered) → HasGrown t u → KnowsStations code t m → KnowsStations code u m
 stations_kept code t u m kept h number word before behind told =
     let k = h number word before behind told in (
       omega (arith, k.0, kept.stations),
@@ -37,7 +37,7 @@ stations_kept code t u m kept h number word before behind told =
           (behind_kept code before (placed_at t number) t u behind kept k.1),
     )
 
-pub lists_kept : (t u : TableLists) (m : Remembered) → IsKept t u → KnowsLists t m → KnowsLists u m
+pub lists_kept : (t u : TableLists) (m : Remembered) → HasGrown t u → KnowsLists t m → KnowsLists u m
 lists_kept t u m kept h number word value written told =
     let k = h number word value written told in (
       omega (arith, k.0, kept.words),

@@ -10,7 +10,7 @@ use Rattle.alone.specs.Closing.{Standing}
 use Rattle.live_registers.specs.Forgetting.{kept_by}
 use Rattle.move_ranks.specs.Ranks.{no_move, target_at}
 use Rattle.station_search.specs.declared.tables.Extent.{Extent}
-use Rattle.station_search.specs.Tables.{TableLists, IsKept, setting_at, means, IsRow}
+use Rattle.station_search.specs.Tables.{TableLists, HasGrown, setting_at, means, IsRow}
 use Rattle.station_search.specs.Search.{state_at, IsPlaced, IsNoted, Moves, IsReached, MayMove, IsNext, IsTarget, Searched, Expanded}
 use Rattle.station_search.proofs.Lemmas.{found_at, way_on}
 use Rattle.station_search.proofs.Growing.{row_kept, means_kept}
@@ -70,7 +70,7 @@ module _ (e : Extent) (code : List ℕ) where
 
   -- ---- tables that grow
 
-  module _ (t u : TableLists) (kept : IsKept t u) (rows moves : List (List ℕ)) (first : Standing) (done : ℕ) where
+  module _ (t u : TableLists) (kept : HasGrown t u) (rows moves : List (List ℕ)) (first : Standing) (done : ℕ) where
     module _ (h : Searched e code t rows moves first done) where
       same : (i : ℕ) → i < length rows → state_at e t rows i ≡ state_at e u rows i
       same i l = means_kept e t u (slice_index_or rows i []) kept (h.are_rows i l)
@@ -153,7 +153,7 @@ module _ (e : Extent) (code : List ℕ) where
 
   -- ---- one processor more
 
-  module _ (t u : TableLists) (kept : IsKept t u) (rows moves : List (List ℕ)) (first : Standing) (targets : List ℕ) (done p target : ℕ) (row : List ℕ)
+  module _ (t u : TableLists) (kept : HasGrown t u) (rows moves : List (List ℕ)) (first : Standing) (targets : List ℕ) (done p target : ℕ) (row : List ℕ)
       (wide : p < length targets) (h : Expanded e code t rows moves first targets done p) (is : slice_index_or rows done [] ≡ row) where
     abbrev put : List ℕ
     put = slice_set targets p target

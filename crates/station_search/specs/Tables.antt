@@ -35,7 +35,7 @@ words_at t i = slice_index_or t.words i []
 -- ---- tables that grow
 
 -- What has a number in the old tables has it in the new ones.
-pub record IsKept (old new : TableLists) : Type 0 where
+pub record HasGrown (old new : TableLists) : Type 0 where
   pub live : new.live ≡ old.live
   pub stations : length old.stations ≤ length new.stations
   pub words : length old.words ≤ length new.words

@@ -7,7 +7,7 @@ ghost use Rattle.move_ranks.specs.Ranks.{no_move};
 ghost use Rattle.station_search.specs.Ends.{AreMoves, AreReached, AreRows, AreTurns, HaveAllEnds};
 ghost use Rattle.station_search.specs.Memo.{KnowsLists, KnowsStations};
 ghost use Rattle.station_search.specs.Search.{IsNoted, IsPlaced, Searched};
-ghost use Rattle.station_search.specs.Tables.{IsKept, IsRow, means};
+ghost use Rattle.station_search.specs.Tables.{HasGrown, IsRow, means};
 
 use crate::memo::Memos;
 use crate::refusal::Refusal;
@@ -47,7 +47,7 @@ pub fn search<G: Watch>(
     requires live { HasAllLive code.now tables.old.live }
     requires row { IsRow extent tables.old first }
     requires room { extent.processors ≤ 8 }
-    ensures kept { OnOk result (IsKept tables.old tables.new) }
+    ensures kept { OnOk result (HasGrown tables.old tables.new) }
     ensures rows { IfOk result (λ found. AreRows extent tables.new found.rows.keys) }
     ensures ends { IfOk result (λ found. HaveAllEnds extent code.now tables.new found.rows.keys (means extent tables.old first)) }
     ensures turns { IfOk result (λ found. AreTurns extent code.now tables.new found.rows.keys (means extent tables.old first)) }
@@ -78,7 +78,7 @@ fn find_all<G: Watch>(
     requires live { HasAllLive code.now tables.old.live }
     requires row { IsRow extent tables.old first }
     requires room { extent.processors ≤ 8 }
-    ensures kept { OnOk result (IsKept tables.old tables.new) }
+    ensures kept { OnOk result (HasGrown tables.old tables.new) }
     ensures searched { IfOk result (λ found. Searched extent code.now tables.new found.rows.keys found.moves.items (means extent tables.old first)
         (length found.rows.keys)) }
     ensures few { IfOk result (λ found. length found.rows.keys ≤ no_move) }
@@ -112,7 +112,7 @@ fn follow<G: Watch>(
     requires stations { KnowsStations code.now tables.old memos.old.stations }
     requires lists { KnowsLists tables.old memos.old.lists }
     requires nothing { (found.old.rows.keys ≡ []) × (found.old.moves.items ≡ []) }
-    ensures kept { OnOk result (IsKept tables.old tables.new) }
+    ensures kept { OnOk result (HasGrown tables.old tables.new) }
     ensures searched { OnOk result (Searched extent code.now tables.new found.new.rows.keys found.new.moves.items (means extent tables.old first)
         (length found.new.rows.keys)) }
     ensures few { OnOk result (length found.new.rows.keys ≤ no_move) }
@@ -150,7 +150,7 @@ fn expand(
     requires room { extent.processors ≤ 8 }
     requires stations { KnowsStations code.now tables.old memos.old.stations }
     requires lists { KnowsLists tables.old memos.old.lists }
-    ensures kept { OnOk result (IsKept tables.old tables.new) }
+    ensures kept { OnOk result (HasGrown tables.old tables.new) }
     ensures stations { OnOk result (KnowsStations code.now tables.new memos.new.stations) }
     ensures lists { OnOk result (KnowsLists tables.new memos.new.lists) }
     ensures searched { IfOk result (λ targets. (first : Standing) (moves : List (List ℕ)) → Searched extent code.now tables.old rows.old.keys moves first at

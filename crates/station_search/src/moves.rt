@@ -6,7 +6,7 @@ ghost use Rattle.hart.specs.Deciding.{IsReference};
 ghost use Rattle.live_registers.specs.Live.{HasAllLive};
 ghost use Rattle.station_search.specs.Memo.{KnowsLists, KnowsStations};
 ghost use Rattle.station_search.specs.Search.{IsNext};
-ghost use Rattle.station_search.specs.Tables.{IsBehind, IsKept, IsRow, means, placed_at, words_at};
+ghost use Rattle.station_search.specs.Tables.{IsBehind, HasGrown, IsRow, means, placed_at, words_at};
 ghost use Rattle.station_search.specs.Words.{IsWritten};
 
 use crate::memo::{Memo, Memos};
@@ -39,7 +39,7 @@ impl Tables {
         requires room { extent.processors ≤ 8 }
         requires stations { KnowsStations code.now self.old memos.old.stations }
         requires lists { KnowsLists self.old memos.old.lists }
-        ensures kept { OnOk result (IsKept self.old self.new) }
+        ensures kept { OnOk result (HasGrown self.old self.new) }
         ensures stations { OnOk result (KnowsStations code.now self.new memos.new.stations) }
         ensures lists { OnOk result (KnowsLists self.new memos.new.lists) }
         ensures next { IfOk result (IsNext extent code.now self.new (means extent self.old row) p) }
@@ -76,7 +76,7 @@ impl Tables {
         requires there { number < length self.old.stations }
         requires refers { IsReference (turn_of (placed_at self.old number).setting code.now (placed_at self.old number).station.processor) }
         requires known { KnowsStations code.now self.old memo.old }
-        ensures kept { OnOk result (IsKept self.old self.new) }
+        ensures kept { OnOk result (HasGrown self.old self.new) }
         ensures known { OnOk result (KnowsStations code.now self.new memo.new) }
         ensures behind { IfOk result (IsBehind code.now before (placed_at self.old number) self.new) }
     {
@@ -92,7 +92,7 @@ impl Tables {
     fn retired(&mut self, code: &Code, number: u32, before: u32) -> Result<u32, Refusal>
         requires there { number < length self.old.stations }
         requires refers { IsReference (turn_of (placed_at self.old number).setting code.now (placed_at self.old number).station.processor) }
-        ensures kept { OnOk result (IsKept self.old self.new) }
+        ensures kept { OnOk result (HasGrown self.old self.new) }
         ensures behind { IfOk result (IsBehind code.now before (placed_at self.old number) self.new) }
     {
         let Ok(mut station) = self.station(number).copy() else {
@@ -115,7 +115,7 @@ impl Tables {
     ) -> Result<u32, Refusal>
         requires there { number < length self.old.words }
         requires known { KnowsLists self.old memo.old }
-        ensures kept { OnOk result (IsKept self.old self.new) }
+        ensures kept { OnOk result (HasGrown self.old self.new) }
         ensures known { OnOk result (KnowsLists self.new memo.new) }
         ensures there { IfOk result (λ written. written < length self.new.words) }
         ensures written { IfOk result (λ written. IsWritten (words_at self.old number) word value (words_at self.new written)) }
@@ -131,7 +131,7 @@ impl Tables {
     /// Writes the word, and gives the number of the list that has it.
     fn written(&mut self, number: u32, word: u32, value: u32) -> Result<u32, Refusal>
         requires { number < length self.old.words }
-        ensures kept { OnOk result (IsKept self.old self.new) }
+        ensures kept { OnOk result (HasGrown self.old self.new) }
         ensures there { IfOk result (λ written. written < length self.new.words) }
         ensures written { IfOk result (λ written. IsWritten (words_at self.old number) word value (words_at self.new written)) }
     {

@@ -4,7 +4,7 @@ ghost use Rattle.std.specs.Prelude.{◌≡◌, ◌<◌, ◌≤◌, [], length, I
 ghost use Rattle.alone.specs.Closing.{Settles};
 ghost use Rattle.live_registers.specs.Forgetting.{kept_by};
 ghost use Rattle.station_search.specs.Opening.{AreOfExtent, IsOpened, flat_of};
-ghost use Rattle.station_search.specs.Tables.{IsKept, IsRow, means, setting_at, words_at};
+ghost use Rattle.station_search.specs.Tables.{HasGrown, IsRow, means, setting_at, words_at};
 ghost use Rattle.station_search.specs.Words.{HasSameWords};
 
 use crate::refusal::Refusal;
@@ -33,7 +33,7 @@ impl Tables {
         requires cores { AreOfExtent extent cores.now }
         requires room { extent.processors ≤ 8 }
         requires words { length words.items ≡ extent.shared_words }
-        ensures kept { OnOk result (IsKept self.old self.new) }
+        ensures kept { OnOk result (HasGrown self.old self.new) }
         ensures row { IfOk result (IsRow extent self.new) }
         ensures settles { IfOk result (λ row.
             Settles (setting_at extent) code.now (kept_by self.new.live) (flat_of code.now cores.now words.items) (λ k. []) (means extent self.new row)) }
@@ -48,7 +48,7 @@ impl Tables {
 
     /// The number of the station at which a processor settles that has printed nothing.
     fn opened(&mut self, alloc: Global, code: &Code, core: &Core) -> Result<u32, Refusal>
-        ensures kept { OnOk result (IsKept self.old self.new) }
+        ensures kept { OnOk result (HasGrown self.old self.new) }
         ensures opened { IfOk result (IsOpened code.now core.now self.new) }
     {
         let Ok(mut station) = Station::new(alloc, core) else {
@@ -60,7 +60,7 @@ impl Tables {
 
     /// The number of a list of words, of which those at the end that are zero are left out.
     fn trimmed_number(&mut self, words: Vec<u32>) -> Result<u32, Refusal>
-        ensures kept { OnOk result (IsKept self.old self.new) }
+        ensures kept { OnOk result (HasGrown self.old self.new) }
         ensures there { IfOk result (λ number. number < length self.new.words) }
         ensures same { IfOk result (λ number. HasSameWords words.items (words_at self.new number)) }
     {

@@ -2,7 +2,7 @@
 
 ghost use Rattle.std.specs.Prelude.{◌≡◌, ◌<◌, [], length, IfOk, IfSome, OnOk};
 ghost use Rattle.station_search.specs.Placed.{IsEqual, IsSame};
-ghost use Rattle.station_search.specs.Tables.{IsKept, placed_at, words_at};
+ghost use Rattle.station_search.specs.Tables.{HasGrown, placed_at, words_at};
 
 use crate::refusal::Refusal;
 use crate::station::Station;
@@ -83,7 +83,7 @@ impl Tables {
     ///
     /// [`Refusal::Memory`].
     pub fn station_number(&mut self, station: Station) -> Result<u32, Refusal>
-        ensures kept { OnOk result (IsKept self.old self.new) }
+        ensures kept { OnOk result (HasGrown self.old self.new) }
         ensures there { IfOk result (λ number. number < length self.new.stations) }
         ensures same { IfOk result (λ number. IsSame self.new.live (placed_at self.new number) station) }
     {
@@ -110,7 +110,7 @@ impl Tables {
 
     /// Gives a station the next number.
     fn add(&mut self, station: Station) -> Result<u32, Refusal>
-        ensures kept { OnOk result (IsKept self.old self.new) }
+        ensures kept { OnOk result (HasGrown self.old self.new) }
         ensures there { IfOk result (λ number. number < length self.new.stations) }
         ensures same { IfOk result (λ number. placed_at self.new number ≡ station) }
     {
@@ -129,7 +129,7 @@ impl Tables {
     ///
     /// [`Refusal::Memory`].
     pub fn words_number(&mut self, words: Vec<u32>) -> Result<u32, Refusal>
-        ensures kept { OnOk result (IsKept self.old self.new) }
+        ensures kept { OnOk result (HasGrown self.old self.new) }
         ensures there { IfOk result (λ number. number < length self.new.words) }
         ensures same { IfOk result (λ number. words_at self.new number ≡ words.items) }
     {

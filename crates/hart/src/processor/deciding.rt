@@ -4,7 +4,7 @@ ghost use Rattle.std.specs.Prelude.{◌≡◌, ℕ, List, Ok};
 ghost use Rattle.flat_machine.specs.Effects.{effect_of};
 ghost use Rattle.flat_machine.specs.Turns.{fetched, performed, turn_of};
 ghost use Rattle.rv_table.specs.declared.insn.Insn.{Insn};
-ghost use Rattle.hart.specs.Deciding.{Decides, IsOfEffect, NamesWord};
+ghost use Rattle.hart.specs.Deciding.{Allows, Decides, IsOfEffect, NamesWord};
 
 use super::Core;
 use crate::decision::{Decision, Shape};
@@ -14,12 +14,15 @@ use local_memory::Code;
 use rv_table::{AmoOp, LoadOp, StoreOp};
 
 impl Core {
-    /// What the next turn of the processor is, where it runs.
+    /// What the next turn of the processor is, where it runs. One that is local may be taken ([`Core::take_local`]), and a
+    /// reference may retire ([`Core::retire`]).
+    #[tactic(auto, using(crate::proofs::Decisions::allowed))]
     pub fn decide(&self, code: &Code) -> Decision
         ensures turn { Decides result (turn_of self.now.setting code.now self.now.state) }
         ensures table { (i : Insn) → fetched code.now self.now.state.pc ≡ Ok i
             → IsOfEffect result (effect_of self.now.setting self.now.state.pc self.now.state.registers i) }
         ensures word { NamesWord result self.now.setting }
+        ensures allows { Allows result (turn_of self.now.setting code.now self.now.state) }
     {
         match code.fetch(self.pc()) {
             Ok(insn) => self.decision(self.effect(&insn)),

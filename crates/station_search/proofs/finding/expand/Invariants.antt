@@ -3,12 +3,12 @@ use Rattle.std.specs.Prelude.{slice_index_or}
 use Rattle.alone.specs.Closing.{Standing}
 use Rattle.station_search.specs.Search.{Searched, Expanded}
 use Rattle.station_search.specs.Memo.{KnowsLists, KnowsStations}
-use Rattle.station_search.specs.Tables.{IsKept, IsRow}
+use Rattle.station_search.specs.Tables.{HasGrown, IsRow}
 use Rattle.station_search.proofs.finding.expand.Given as goal
 
 abbrev pub invariant-loop-p : goal.invariant-loop-p
 invariant-loop-p l = record {
-  kept : IsKept l.fn.tables l.tables;
+  kept : HasGrown l.fn.tables l.tables;
   stations : KnowsStations l.code l.tables l.memos.stations;
   lists : KnowsLists l.tables l.memos.lists;
   wide : length l.targets ≡ 8;

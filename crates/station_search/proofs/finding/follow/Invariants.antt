@@ -1,11 +1,11 @@
 use Rattle.station_search.specs.Search.{Searched}
 use Rattle.station_search.specs.Memo.{KnowsLists, KnowsStations}
-use Rattle.station_search.specs.Tables.{IsKept, means}
+use Rattle.station_search.specs.Tables.{HasGrown, means}
 use Rattle.station_search.proofs.finding.follow.Given as goal
 
 abbrev pub invariant-loop-at : goal.invariant-loop-at
 invariant-loop-at g l = record {
-  kept : IsKept l.fn.tables l.tables;
+  kept : HasGrown l.fn.tables l.tables;
   stations : KnowsStations l.code l.tables l.memos.stations;
   lists : KnowsLists l.tables l.memos.lists;
   searched : Searched l.extent l.code l.tables l.found.rows.keys l.found.moves.items (means l.extent l.fn.tables l.fn.first) l.at;

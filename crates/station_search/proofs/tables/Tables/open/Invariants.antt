@@ -1,9 +1,9 @@
-use Rattle.station_search.specs.Tables.{IsKept}
+use Rattle.station_search.specs.Tables.{HasGrown}
 use Rattle.station_search.proofs.Opened.{AreOpened}
 use Rattle.station_search.proofs.tables.Tables.open.Given as goal
 
 abbrev pub invariant-loop-p : goal.invariant-loop-p
 invariant-loop-p l = record {
-  kept : IsKept l.fn.self l.self;
+  kept : HasGrown l.fn.self l.self;
   opened : AreOpened l.code l.cores l.self l.row l.p;
 }

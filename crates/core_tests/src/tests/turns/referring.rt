@@ -3,10 +3,11 @@
 ghost use Rattle.std.specs.Prelude.{◌≤◌, ◌≤ℤ◌};
 
 use super::at_word;
-use crate::{Decision, Shape};
+use hart::{Decision, Shape};
 use phi_algebra::{Phi, SignedRange, UnsignedRange};
 use rv_table::{AmoOp, LoadOp, StoreOp};
 use std::test::Fail;
+use test_devices::assert_same;
 
 struct Row {
     text: &'static str,
@@ -55,7 +56,7 @@ fn instructions_refer(rt: HostRuntime) -> Result<(), Fail> {
             },
             shape: row.shape,
         };
-        assert_eq!(rt; rig.core.decide(&rig.code), wanted, "{}", row.text);
+        assert_same!(rt; rig.core.decide(&rig.code), wanted, row.text);
     }
     Ok(())
 }
@@ -77,7 +78,7 @@ fn sums_and_clamps(rt: HostRuntime) -> Result<(), Fail> {
             phi,
             shape: Shape::Amo(op),
         };
-        assert_eq!(rt; rig.core.decide(&rig.code), wanted);
+        assert_same!(rt; rig.core.decide(&rig.code), wanted);
     }
     Ok(())
 }

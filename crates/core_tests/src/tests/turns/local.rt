@@ -3,6 +3,7 @@
 use super::{Rig, at_word};
 use std::process::Abort;
 use std::test::Fail;
+use test_devices::assert_same;
 
 struct Row {
     text: &'static str,
@@ -65,8 +66,8 @@ fn local_words_change(rt: HostRuntime) -> Result<(), Fail> {
             row.x2,
             (row.rd, row.before),
         );
-        assert_eq!(rt; local_word(&rt, &rig, 0x0002_0000)?, row.after, "{text}");
-        assert_eq!(rt; local_word(&rt, &rig, 0x0002_0004)?, 0, "{text}");
+        assert_same!(rt; local_word(&rt, &rig, 0x0002_0000)?, row.after, text);
+        assert_same!(rt; local_word(&rt, &rig, 0x0002_0004)?, 0, text);
     }
     Ok(())
 }

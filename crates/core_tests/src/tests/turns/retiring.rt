@@ -3,6 +3,7 @@
 use super::at_word;
 use flat_machine::{Event, Retired, Status};
 use std::test::Fail;
+use test_devices::assert_same;
 
 struct Row {
     text: &'static str,
@@ -166,9 +167,9 @@ fn instructions_retire(rt: HostRuntime) -> Result<(), Fail> {
             result: if row.rd == 0 { None } else { Some(row.value) },
             out: None,
         };
-        assert_eq!(rt; rig.turn(0x80FF_7F01), Event::Retired(retired), "{text}");
+        assert_same!(rt; rig.turn(0x80FF_7F01), Event::Retired(retired), text);
         rig.stands(&rt, text, row.pc, row.x1, row.x2, (row.rd, row.value));
-        assert_eq!(rt; rig.core.status(), Status::Running, "{text}");
+        assert_same!(rt; rig.core.status(), Status::Running, text);
     }
     Ok(())
 }

@@ -2,11 +2,12 @@
 //! reads and writes.
 
 use super::at_word;
-use crate::{Decision, Shape};
 use flat_machine::{CODE_START, Cause, Event, Fault, Retired, Status};
+use hart::{Decision, Shape};
 use phi_algebra::Phi;
 use rv_table::{AmoOp, Insn, Register};
 use std::test::Fail;
+use test_devices::assert_same;
 
 const ECALL: u32 = 0x0000_0073;
 
@@ -28,10 +29,10 @@ fn calls_retire(rt: HostRuntime) -> Result<(), Fail> {
             result,
             out,
         };
-        assert_eq!(rt; rig.turn(0), Event::Retired(retired), "call {a7}");
-        assert_eq!(rt; rig.core.pc(), CODE_START + 4, "call {a7}");
-        assert_eq!(rt; rig.core.registers()[10], a0, "call {a7}");
-        assert_eq!(rt; rig.core.registers()[17], a7, "call {a7}");
+        assert_same!(rt; rig.turn(0), Event::Retired(retired), a7);
+        assert_same!(rt; rig.core.pc(), CODE_START + 4, a7);
+        assert_same!(rt; rig.core.registers()[10], a0, a7);
+        assert_same!(rt; rig.core.registers()[17], a7, a7);
     }
     Ok(())
 }
@@ -44,10 +45,10 @@ fn calls_stop(rt: HostRuntime) -> Result<(), Fail> {
         let mut rig = at_word(&rt, ECALL, 0, 0, &[])?;
         rig.core.set_register(Register::new(10), 0x1234_56FE);
         rig.core.set_register(Register::new(17), a7);
-        assert_eq!(rt; rig.turn(0), Event::Stopped(cause), "call {a7}");
-        assert_eq!(rt; rig.core.pc(), CODE_START, "call {a7}");
-        assert_eq!(rt; rig.core.registers()[10], 0x1234_56FE, "call {a7}");
-        assert_eq!(rt; rig.core.status(), cause.status(), "call {a7}");
+        assert_same!(rt; rig.turn(0), Event::Stopped(cause), a7);
+        assert_same!(rt; rig.core.pc(), CODE_START, a7);
+        assert_same!(rt; rig.core.registers()[10], 0x1234_56FE, a7);
+        assert_same!(rt; rig.core.status(), cause.status(), a7);
     }
     Ok(())
 }
@@ -59,7 +60,7 @@ fn jumps_out_of_code(rt: HostRuntime) -> Result<(), Fail> {
     rig.turn(0);
     rig.stands(&rt, "jalr", 0x0002_0000, 0x0002_0000, 0, (3, 0x0001_0004));
     let fault = Fault::FetchOutsideCode;
-    assert_eq!(rt; rig.turn(0), Event::Stopped(Cause::Fault(fault)));
+    assert_same!(rt; rig.turn(0), Event::Stopped(Cause::Fault(fault)));
     rig.stands(
         &rt,
         "its target",
@@ -68,7 +69,7 @@ fn jumps_out_of_code(rt: HostRuntime) -> Result<(), Fail> {
         0,
         (3, 0x0001_0004),
     );
-    assert_eq!(rt; rig.core.status(), Status::Faulted(fault));
+    assert_same!(rt; rig.core.status(), Status::Faulted(fault));
     Ok(())
 }
 
@@ -85,9 +86,9 @@ fn ordering_bits_have_no_effect(rt: HostRuntime) -> Result<(), Fail> {
             phi: Phi::Add(0x8000_0000),
             shape: Shape::Amo(AmoOp::Add),
         };
-        assert_eq!(rt; rig.core.decide(&rig.code), wanted);
+        assert_same!(rt; rig.core.decide(&rig.code), wanted);
         rig.turn(10);
-        assert_eq!(rt; rig.core.registers()[10], 10);
+        assert_same!(rt; rig.core.registers()[10], 10);
     }
     Ok(())
 }
@@ -99,9 +100,9 @@ fn reads_and_pokes(rt: HostRuntime) -> Result<(), Fail> {
     rig.core.set_register(Register::new(31), 7);
     rig.core.set_pc(0x0001_0010);
     rig.stands(&rt, "pokes", 0x0001_0010, 0, 0, (31, 7));
-    assert_eq!(rt; rig.core.setting().number, 2);
-    assert_eq!(rt; rig.core.setting().processors, 4);
-    assert_eq!(rt; rig.core.setting().shared_words, 16);
+    assert_same!(rt; rig.core.setting().number, 2);
+    assert_same!(rt; rig.core.setting().processors, 4);
+    assert_same!(rt; rig.core.setting().shared_words, 16);
     rig.core.set_byte(0x0002_FFFF, 9);
     for (address, byte) in [
         (0x0001_FFFF, Err(Fault::NoRegion)),
@@ -110,7 +111,7 @@ fn reads_and_pokes(rt: HostRuntime) -> Result<(), Fail> {
         (0x0002_FFFF, Ok(9)),
         (0x0003_0000, Err(Fault::NoRegion)),
     ] {
-        assert_eq!(rt; rig.core.byte(address), byte, "at {address:x}");
+        assert_same!(rt; rig.core.byte(address), byte, address);
     }
     Ok(())
 }

@@ -6,13 +6,14 @@ mod others;
 mod referring;
 mod retiring;
 
-use crate::{Core, Decision};
 use flat_machine::{CODE_START, Cause, Event, Setting};
+use hart::{Core, Decision};
 use local_memory::Code;
 use rv_table::Register;
 use std::alloc::AllocGlobal;
 use std::process::Abort;
 use std::test::Fail;
+use test_devices::assert_same;
 
 /// A core, and the code that it runs.
 #[derive(Drop)]
@@ -46,7 +47,6 @@ fn at_word(
 
 impl Rig {
     /// Takes one turn, in which a shared word has this value.
-    #[tactic(auto, using(crate::proofs::Decisions::local_may, crate::proofs::Decisions::refer_may))]
     fn turn(&mut self, reply: u32) -> Event {
         match self.core.decide(&self.code) {
             Decision::Local => Event::Retired(self.core.take_local(&self.code)),
@@ -79,7 +79,7 @@ impl Rig {
             assert!(rt; rd < 32);
             registers[rd] = value;
         }
-        assert_eq!(rt; self.core.pc(), pc, "pc after {text}");
-        assert_eq!(rt; *self.core.registers(), registers, "registers after {text}");
+        assert_same!(rt; self.core.pc(), pc, text);
+        assert_same!(rt; *self.core.registers(), registers, text);
     }
 }

@@ -3,6 +3,7 @@
 use super::at_word;
 use flat_machine::{Cause, Event, Status};
 use std::test::Fail;
+use test_devices::assert_same;
 
 struct Row {
     text: &'static str,
@@ -52,13 +53,13 @@ fn instructions_fault(rt: HostRuntime) -> Result<(), Fail> {
         let mut rig = at_word(&rt, row.word, row.x1, 0, &[1, 2, 3, 4])?;
         match rig.turn(0) {
             Event::Stopped(Cause::Fault(fault)) => {
-                assert_eq!(rt; fault.number(), row.fault, "{text}");
-                assert_eq!(rt; rig.core.status(), Status::Faulted(fault), "{text}");
+                assert_same!(rt; fault.number(), row.fault, text);
+                assert_same!(rt; rig.core.status(), Status::Faulted(fault), text);
             }
             event => assert!(rt; false, "{text}: {event:?}"),
         }
         rig.stands(&rt, text, 0x0001_0000, row.x1, 0, (0, 0));
-        assert_eq!(rt; rig.core.byte(0x0002_0000), Ok(1), "{text}");
+        assert_same!(rt; rig.core.byte(0x0002_0000), Ok(1), text);
     }
     Ok(())
 }
