@@ -423,7 +423,8 @@ module _ (m : MachineLists) (is : IsMachine m) (i place : ℕ) (same : place ≡
           (net_of net') words') words_are (executed e)) sizes
       by (y ∷ ys) e =
           let some : (net_of m.network).replies m.network.k i ≡ [] → ⊥ = λ none. let no : y ∷ ys ≡ [] = sym e ∙ none in absurd (cc) in
-          serve_full m is i within words' o net' some (subst (λ (xs : List ℕ). DoesNothing (net_of m.network) xs o (net_of net') words') words_are (full some)) sizes
+          serve_full m is i within words' o net' some
+          (subst (λ (xs : List ℕ). DoesNothing (net_of m.network) xs o (net_of net') words') words_are (full some)) sizes
 
   pub shared_there : (address value : ℕ) (phi : Phi) (words' : List ℕ) → IsIdle m → AreHome m → value < 256 → 2 ^ 31 ≤ address →
       (address - 2 ^ 31) / 4 < m.config.shared_words → i ≡ (address - 2 ^ 31) / 4 % 2 ^ m.config.k →
