@@ -1,6 +1,7 @@
 pub mod Algebra
 pub mod Giving
 pub mod Records
+pub mod Putting
 pub mod Roles
 pub mod Executing
 pub mod Meaning

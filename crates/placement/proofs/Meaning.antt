@@ -18,10 +18,11 @@ use Rattle.placement.specs.Roles.{Role, Idle, Asking, Told, Placed}
 use Rattle.placement.specs.Changes.{ServingExecutesTheGroup, ServingEndsTheGroup}
 use Rattle.placement.specs.Meaning.{RequestMeans, ReplyMeans, Means, Groups, execute_all, joined}
 use Rattle.placement.proofs.Algebra.{composed_law, composed_in_range}
-use Rattle.messages.proofs.Lemmas.{Distinct-append, In-append, In-append_left, In-append_right, In-put2, put2_other, put2_same, put_other, put_same}
+use Rattle.messages.proofs.Lemmas.{Distinct-append, In-append, In-append_left, In-append_right, put2_other, put2_same, put_other, put_same}
 use Rattle.placement.proofs.Giving.{finds-append, leaves-append, gives_frame, gives_below, gives_further, gives_more, gives_leader, gives_second}
 use Rattle.placement.proofs.Giving.{gives_unnamed, finds_agree, leaves_agree, leaves_one, finds_one, gives_first, gives_leads, In-finds}
 use Rattle.placement.proofs.Records.{In-records_on, records_other_stage, records_push_other, records_push_same, records_drop_other, records_path}
+use Rattle.placement.proofs.Putting.{each_fewer, each_pushed, each_put}
 use Rattle.placement.proofs.Roles.{others_request}
 use Rattle.placement.proofs.Executing.{executed_other, executed_owed}
 
@@ -111,10 +112,7 @@ pub means_pop_request : (own : ℕ → Phi) (word : ℕ → ℕ) (path : ℕ →
     (rest : List Request)
     → Means own word path group owed net → net.requests d w ≡ x ∷ rest → Means own word path group owed (put_requests net d w rest)
 means_pop_request own word path group owed net d w x rest ok e = record {
-  requests = λ d' w' y m. elim (In-put2 net.requests d w rest d' w' y m) [
-    | inl h ↦ rw h.0 (ok.requests d w y (rw e (inr h.2)))
-    | inr h ↦ ok.requests d' w' y h.1
-  ];
+  requests = each_fewer (λ d' w'. RequestMeans own word group (records_on path net.records) d') net.requests d w rest (λ y m. rw e (inr m)) ok.requests;
   replies = ok.replies;
 }
 
@@ -122,16 +120,13 @@ pub means_push_request : (own : ℕ → Phi) (word : ℕ → ℕ) (path : ℕ �
     → Means own word path group owed net → RequestMeans own word group (records_on path net.records) d x
     → Means own word path group owed (put_requests net d w (net.requests d w ++ x ∷ []))
 means_push_request own word path group owed net d w x ok h = record {
-  requests = λ d' w' y m. elim (In-put2 net.requests d w (net.requests d w ++ x ∷ []) d' w' y m) [
-    | inl g ↦ rw g.0 (elim (In-append y (net.requests d w) (x ∷ []) g.2) [
-      | inl o ↦ ok.requests d w y o
-      | inr (inl e) ↦ subst (RequestMeans own word group (records_on path net.records) d) (sym e) h
-      | inr (inr i) ↦ absurd i
-    ])
-    | inr g ↦ ok.requests d' w' y g.1
-  ];
+  requests = each_pushed (λ d' w'. RequestMeans own word group (records_on path net.records) d') net.requests d w x h ok.requests;
   replies = ok.replies;
 }
+
+-- whom nothing names is no record's second
+no_second : (path : ℕ → ℕ → ℕ) (net : Net) (p : ℕ) → Unnamed net p → (q s : ℕ) (z : Record) → In z (records_on path net.records q s) → z.second ≡ p → ⊥
+no_second path net p free q s z m = free.records s (path q (suc s)) z ((In-records_on path net.records q s z m).0)
 
 -- another leader's request keeps its meaning
 request_frame : (own : ℕ → Phi) (word : ℕ → ℕ) (group group' : ℕ → List ℕ) (R S : ℕ → ℕ → List Record) (p d : ℕ) (x : Request)
@@ -144,6 +139,16 @@ request_frame own word group group' R S p d x same others n e h = record {
   function = λ v. h.function v ∙ ap (λ l. leaves own l v) (sym e);
   answers = λ v. gives_frame R S p same others d x.leader v n ∙ h.answers v ∙ ap (λ l. finds own l v) (sym e);
 }
+
+-- and all of them do, where the group of one that nothing names changes
+others_mean : (own : ℕ → Phi) (word : ℕ → ℕ) (path : ℕ → ℕ → ℕ) (group : ℕ → List ℕ) (owed : ℕ → Option ℕ) (net : Net) (p : ℕ) (js : List ℕ)
+    → Means own word path group owed net → Unnamed net p → (d w : ℕ) (x : Request) → In x (net.requests d w)
+    → RequestMeans own word (put group p js) (records_on path net.records) d x
+others_mean own word path group owed net p js ok free d w x m =
+    let R : ℕ → ℕ → List Record = records_on path net.records in
+    let n = free.requests d w x m in
+    request_frame own word group (put group p js) R R p d x (λ q s o. refl) (no_second path net p free) n (put_other group p js x.leader n)
+    (ok.requests d w x m)
 
 -- a request, that nothing names, is combined with an entry
 pub means_combine : (own : ℕ → Phi) (word : ℕ → ℕ) (path : ℕ → ℕ → ℕ) (group : ℕ → List ℕ) (owed : ℕ → Option ℕ) (k : ℕ) (role : ℕ → Role) (net : Net)
@@ -163,8 +168,7 @@ means_combine own word path group owed k role net s w front behind x y a z place
     let lone : Unnamed (put_requests net (suc s) w (front ++ behind)) p = others_request k path role net (suc s) w front behind x placed e in
     let mine : RequestMeans own word group R (suc s) x = ok.requests (suc s) w x here in
     let same : (i t : ℕ) → (i ≡ p → ⊥) → S i t ≡ R i t = (λ i t m. records_push_other path net.records s w z i t (λ f. m (f ∙ zl))) in
-    let others : (i t : ℕ) (b : Record) → In b (R i t) → b.second ≡ p
-    → ⊥ = (λ i t b m. lone.records t (path i (suc t)) b ((In-records_on path net.records i t b m).0)) in
+    let others = no_second path (put_requests net (suc s) w (front ++ behind)) p lone in
     let more : S p s ≡ R p s ++ z ∷ [] = ap (λ l. S l s) (sym zl)
     ∙ records_push_same path net.records s w z (ap (λ l. path l (suc s)) zl ∙ (placed.requests (suc s) w x here).wire) ∙ ap (λ l. R l s ++ z ∷ []) zl in
     let below : (i t : ℕ) → t < s → S i t ≡ R i t = (λ i t l. records_other_stage path net.records s w _ i t (λ f. omega arith)) in
@@ -182,20 +186,18 @@ means_combine own word path group owed k role net s w front behind x y a z place
           ((λ i. gives R (zs i) s (applied (zp i) v)) ∙ ask.answers (applied x.phi v) ∙ ap (finds own (group q)) (mine.function v))
           ∙ sym (finds-append own (group p) (group q) v) ∙ ap (λ l. finds own l v) (sym (ap (joined group p q) yl ∙ joined_first group p q n));
     } in
+    let left : (b : Request) → In b (net.requests (suc s) w) → In b (front ++ behind) → RequestMeans own word (joined group p q) S (suc s) b
+    = (λ b m o. keep (suc s) b (lone.requests (suc s) w b (rw (put2_same net.requests (suc s) w (front ++ behind)) o)) (free.requests (suc s) w b m)
+    (ok.requests (suc s) w b m)) in
     record {
-      requests = λ d' w' b m. elim (In-put2 net.requests (suc s) w (front ++ y ∷ behind) d' w' b m) [
-        | inl h ↦ rw h.0 (elim (In-append b front (y ∷ behind) h.2) [
-          | inl o ↦ (let old : In b (net.requests (suc s) w) = rw e (In-append_left b front (x ∷ behind) o) in
-              keep (suc s) b (lone.requests (suc s) w b (rw (put2_same net.requests (suc s) w (front ++ behind)) (In-append_left b front behind o)))
-              (free.requests (suc s) w b old) (ok.requests (suc s) w b old))
-          | inr (inl f) ↦ subst (RequestMeans own word (joined group p q) S (suc s)) (sym f) entry
-          | inr (inr o) ↦ (let old : In b (net.requests (suc s) w) = rw e (In-append_right b front (x ∷ behind) (inr o)) in
-              keep (suc s) b (lone.requests (suc s) w b (rw (put2_same net.requests (suc s) w (front ++ behind)) (In-append_right b front behind o)))
-              (free.requests (suc s) w b old) (ok.requests (suc s) w b old))
-        ])
-        | inr h ↦ keep d' b (lone.requests d' w' b (rw (put2_other net.requests (suc s) w (front ++ behind) d' w' h.0) h.1)) (free.requests d' w' b h.1)
-            (ok.requests d' w' b h.1)
-      ];
+      requests = each_put (λ d' w'. RequestMeans own word (joined group p q) S d') net.requests (suc s) w (front ++ y ∷ behind)
+          (λ b m. elim (In-append b front (y ∷ behind) m) [
+            | inl o ↦ left b (rw e (In-append_left b front (x ∷ behind) o)) (In-append_left b front behind o)
+            | inr (inl f) ↦ subst (RequestMeans own word (joined group p q) S (suc s)) (sym f) entry
+            | inr (inr o) ↦ left b (rw e (In-append_right b front (x ∷ behind) (inr o))) (In-append_right b front behind o)
+          ])
+          (λ d' w' b n m. keep d' b (lone.requests d' w' b (rw (put2_other net.requests (suc s) w (front ++ behind) d' w' n) m)) (free.requests d' w' b m)
+          (ok.requests d' w' b m));
       replies = λ d' w' b m g i. ok.replies d' w' b m g (subst (In g) (gives_frame R S p same others d' b.leader b.value (lone.replies d' w' b m)) i);
     }
 
@@ -204,10 +206,7 @@ pub means_pop_reply : (own : ℕ → Phi) (word : ℕ → ℕ) (path : ℕ → �
     → Means own word path group owed net → net.replies d w ≡ x ∷ rest → Means own word path group owed (put_replies net d w rest)
 means_pop_reply own word path group owed net d w x rest ok e = record {
   requests = ok.requests;
-  replies = λ d' w' y m. elim (In-put2 net.replies d w rest d' w' y m) [
-    | inl h ↦ rw h.0 (ok.replies d w y (rw e (inr h.2)))
-    | inr h ↦ ok.replies d' w' y h.1
-  ];
+  replies = each_fewer (λ d' w'. ReplyMeans owed (records_on path net.records) d') net.replies d w rest (λ y m. rw e (inr m)) ok.replies;
 }
 
 pub means_push_reply : (own : ℕ → Phi) (word : ℕ → ℕ) (path : ℕ → ℕ → ℕ) (group : ℕ → List ℕ) (owed : ℕ → Option ℕ) (net : Net) (d w : ℕ) (x : Reply)
@@ -215,14 +214,7 @@ pub means_push_reply : (own : ℕ → Phi) (word : ℕ → ℕ) (path : ℕ → 
     → Means own word path group owed (put_replies net d w (net.replies d w ++ x ∷ []))
 means_push_reply own word path group owed net d w x ok h = record {
   requests = ok.requests;
-  replies = λ d' w' y m. elim (In-put2 net.replies d w (net.replies d w ++ x ∷ []) d' w' y m) [
-    | inl g ↦ rw g.0 (elim (In-append y (net.replies d w) (x ∷ []) g.2) [
-      | inl o ↦ ok.replies d w y o
-      | inr (inl e) ↦ subst (ReplyMeans owed (records_on path net.records) d) (sym e) h
-      | inr (inr i) ↦ absurd i
-    ])
-    | inr g ↦ ok.replies d' w' y g.1
-  ];
+  replies = each_pushed (λ d' w'. ReplyMeans owed (records_on path net.records) d') net.replies d w x h ok.replies;
 }
 
 pub means_push_all : (own : ℕ → Phi) (word : ℕ → ℕ) (path : ℕ → ℕ → ℕ) (group : ℕ → List ℕ) (owed : ℕ → Option ℕ) (wire : ℕ → ℕ) (s : ℕ) (ys : List Reply)
@@ -242,8 +234,7 @@ means_drop own word path group owed net s w p ok free =
     let R : ℕ → ℕ → List Record = records_on path net.records in
     let S : ℕ → ℕ → List Record = records_on path (put2 net.records s w (records_but p (net.records s w))) in
     let same : (i t : ℕ) → (i ≡ p → ⊥) → S i t ≡ R i t = (λ i t m. records_drop_other path net.records s w p i t m) in
-    let others : (i t : ℕ) (b : Record) → In b (R i t) → b.second ≡ p
-    → ⊥ = (λ i t b m. free.records t (path i (suc t)) b ((In-records_on path net.records i t b m).0)) in
+    let others = no_second path net p free in
     record {
       requests = λ d v b m. request_frame own word group group R S p d b same others (free.requests d v b m) refl (ok.requests d v b m);
       replies = λ d v b m g i. ok.replies d v b m g (subst (In g) (gives_frame R S p same others d b.leader b.value (free.replies d v b m)) i);
@@ -283,9 +274,7 @@ means_serve own word open_now path group f net d w x y ok grp h free yl yv =
     let a : ℕ = word p in
     let owed' : ℕ → Option ℕ = (execute_all own word f (group p)).owed in
     let others : Means own word path (put group p []) owed' net = record {
-      requests = λ d' w' b m. request_frame own word group (put group p []) R R p d' b (λ i t n. refl)
-          (λ i t z j. free.records t (path i (suc t)) z ((In-records_on path net.records i t z j).0)) (free.requests d' w' b m)
-          (put_other group p [] b.leader (free.requests d' w' b m)) (ok.requests d' w' b m);
+      requests = others_mean own word path group f.owed net p [] ok free;
       replies = λ d' w' b m g i. let o = ok.replies d' w' b m g i in executed_other own word f (group p) g.0 (λ j. let n = grp.unserved p g.0 j in cc) ∙ o;
     } in
     means_push_reply own word path (put group p []) owed' net d w y others
@@ -321,8 +310,7 @@ means_change own own' word word' open_now path path' group owed owed' net p ok f
     let R : ℕ → ℕ → List Record = records_on path net.records in
     let S : ℕ → ℕ → List Record = records_on path' net.records in
     let same : (i t : ℕ) → (i ≡ p → ⊥) → S i t ≡ R i t = (λ i t n. records_path path path' net.records i t (same_path i (suc t) n)) in
-    let others : (i t : ℕ) (b : Record) → In b (R i t) → b.second ≡ p
-    → ⊥ = (λ i t b m. free.records t (path i (suc t)) b ((In-records_on path net.records i t b m).0)) in
+    let others = no_second path net p free in
     let agree : (i j : ℕ) → In j (group i) → own' j ≡ own j = (λ i j m. same_own j (λ e. wire_after i (subst (λ l. In l (group i)) e m))) in
     record {
       requests = λ d w x m. let h = ok.requests d w x m in let n = free.requests d w x m in record {
@@ -392,12 +380,7 @@ means_issue own word path group owed net p w x ok free xl xw xp xr =
     let group' : ℕ → List ℕ = put group p (p ∷ []) in
     let gl : group' x.leader ≡ p ∷ [] = ap group' xl ∙ put_same group p (p ∷ []) in
     means_push_request own word path group' owed net 0 w x
-    (record {
-      requests = λ d v b m. request_frame own word group group' R R p d b (λ i t n. refl)
-          (λ i t z j. free.records t (path i (suc t)) z ((In-records_on path net.records i t z j).0)) (free.requests d v b m)
-          (put_other group p (p ∷ []) b.leader (free.requests d v b m)) (ok.requests d v b m);
-      replies = ok.replies;
-    })
+    (record { requests = others_mean own word path group owed net p (p ∷ []) ok free; replies = ok.replies })
     (record {
       word_is = xw ∙ ap word (sym xl);
       in_range = xr;

@@ -5,27 +5,97 @@ use Rattle.std.proofs.lemmas.List.{map-append}
 use Rattle.messages.specs.declared.message.Request.{Request}
 use Rattle.messages.specs.declared.message.Reply.{Reply}
 use Rattle.messages.specs.declared.message.Record.{Record}
-use Rattle.messages.specs.Places.{put, In, Distinct, ApartBy}
+use Rattle.messages.specs.Places.{put, put2, In, Distinct, ApartBy}
 use Rattle.messages.specs.Queues.{applied, records_but}
 use Rattle.messages.specs.Network.{Net, put_requests, put_records, put_replies}
 use Rattle.messages.specs.Naming.{Unnamed}
 use Rattle.messages.specs.Moves.{push_all}
 use Rattle.placement.specs.Roles.{Role, Idle, Asking, Waiting, Told, depth, Placed, RequestPlaced, RecordPlaced, ReplyPlaced, told_all}
 use Rattle.messages.proofs.Lemmas.{ApartBy-filter, ApartBy-middle, ApartBy-push, ApartBy-same, In-append, In-append_left, In-append_right, In-filter, In-map}
-use Rattle.messages.proofs.Lemmas.{In-put2, each_put2, put_other, put_same}
+use Rattle.messages.proofs.Lemmas.{each_put2, put_other, put_same}
+use Rattle.placement.proofs.Putting.{each_fewer, each_pushed, each_put}
+
+-- the records of a leader stand below its depth
+pub below_role : (k : ℕ) (path : ℕ → ℕ → ℕ) (role : ℕ → Role) (net : Net) (p : ℕ) (r : Role) → Placed k path role net → role p ≡ r → (s w : ℕ) (z : Record)
+    → In z (net.records s w) → z.leader ≡ p → s < depth r
+below_role k path role net p r ok is s w z m e = subst (λ j. s < depth j) (ap role e ∙ is) ((ok.records s w z m).beyond)
+
+-- ---- another role for one that nothing names
+
+-- one whose records all stand below the role's depth
+new_role : (k : ℕ) (path : ℕ → ℕ → ℕ) (role : ℕ → Role) (net : Net) (p : ℕ) (r : Role)
+    → Placed k path role net → Unnamed net p → ((s w : ℕ) (z : Record) → In z (net.records s w) → z.leader ≡ p → s < depth r)
+    → Placed k path (put role p r) net
+new_role k path role net p r ok free below = record {
+  requests = λ d w x m. let h = ok.requests d w x m in record {
+    asks = put_other role p r x.leader (free.requests d w x m) ∙ h.asks;
+    wire = h.wire;
+    deep = h.deep;
+  };
+  records = λ s w x m. let h = ok.records s w x m in record {
+    waits = put_other role p r x.second (free.records s w x m) ∙ h.waits;
+    beyond = elim (cases_eq x.leader p) [
+      | inl e ↦ subst (λ z. s < depth z) (sym (ap (put role p r) e ∙ put_same role p r)) (below s w x m e)
+      | inr n ↦ subst (λ z. s < depth z) (sym (put_other role p r x.leader n)) h.beyond
+    ];
+    wire = h.wire;
+    wire_second = h.wire_second;
+    deep = h.deep;
+  };
+  replies = λ d w x m. let h = ok.replies d w x m in record {
+    told = put_other role p r x.leader (free.replies d w x m) ∙ h.told;
+    wire = h.wire;
+    deep = h.deep;
+  };
+  requests_apart = ok.requests_apart;
+  records_apart = ok.records_apart;
+  replies_apart = ok.replies_apart;
+}
+
+-- ---- requests and replies: what is led by processors, each at the place that its role says
+
+module _ {X : Type 0} (lead : X → ℕ) (f : ℕ → ℕ → List X) (d w : ℕ) (apart : (d' w' : ℕ) → ApartBy lead (f d' w')) where
+  -- the first of a place goes
+  apart_popped : (x : X) (rest : List X) → f d w ≡ x ∷ rest → (d' w' : ℕ) → ApartBy lead (put2 f d w rest d' w')
+  apart_popped x rest e = each_put2 (ApartBy lead) f d w rest ((subst (ApartBy lead) e (apart d w)).1) apart
+
+  -- one comes to the end of a place, of a processor that leads none there
+  apart_pushed : (x : X) → ((y : X) → In y (f d w) → lead y ≡ lead x → ⊥) → (d' w' : ℕ) → ApartBy lead (put2 f d w (f d w ++ x ∷ []) d' w')
+  apart_pushed x none = each_put2 (ApartBy lead) f d w (f d w ++ x ∷ []) (ApartBy-push lead (f d w) x (apart d w) none) apart
+
+  -- where one of a place goes, none has its leader
+  none_left : (path : ℕ → ℕ → ℕ) (role : ℕ → Role) (at : ℕ → Role) → ((i j : ℕ) → at i ≡ at j → i ≡ j)
+      → ((d' w' : ℕ) (y : X) → In y (f d' w') → (role (lead y) ≡ at d') × (path (lead y) d' ≡ w'))
+      → (front behind : List X) (x : X) → f d w ≡ front ++ x ∷ behind
+      → (d' w' : ℕ) (y : X) → In y (put2 f d w (front ++ behind) d' w') → lead y ≡ lead x → ⊥
+  none_left path role at one placed front behind x e = each_put (λ d' w' y. lead y ≡ lead x → ⊥) f d w (front ++ behind)
+      (ApartBy-middle lead front x behind (subst (ApartBy lead) e (apart d w)))
+      (λ d' w' y other m same.
+      let p = placed d w x (rw e (In-append_right x front (x ∷ behind) (inl refl))) in
+      let q = placed d' w' y m in
+      let de : d' ≡ d = one d' d (sym q.0 ∙ ap role same ∙ p.0) in
+      other de (sym q.1 ∙ ap (λ j. path j d') same ∙ ap (path (lead x)) de ∙ p.1))
+
+-- where a request of a place goes, nothing else names its leader
+pub others_request : (k : ℕ) (path : ℕ → ℕ → ℕ) (role : ℕ → Role) (net : Net) (d w : ℕ) (front behind : List Request) (x : Request)
+    → Placed k path role net → net.requests d w ≡ front ++ x ∷ behind → Unnamed (put_requests net d w (front ++ behind)) x.leader
+others_request k path role net d w front behind x ok e =
+    let p = ok.requests d w x (rw e (In-append_right x front (x ∷ behind) (inl refl))) in
+    record {
+      requests = none_left (λ (z : Request). z.leader) net.requests d w ok.requests_apart path role Asking (λ i j same. cc)
+          (λ d' w' y m. let q = ok.requests d' w' y m in (q.asks, q.wire)) front behind x e;
+      records = λ s' w' y m same. let q = ok.records s' w' y m in let f = sym q.waits ∙ ap role same ∙ p.asks in cc;
+      replies = λ d' w' y m same. let q = ok.replies d' w' y m in let f = sym q.told ∙ ap role same ∙ p.asks in cc;
+    }
 
 -- the first request of a place goes
 pub pop_request : (k : ℕ) (path : ℕ → ℕ → ℕ) (role : ℕ → Role) (net : Net) (d w : ℕ) (x : Request) (rest : List Request)
     → Placed k path role net → net.requests d w ≡ x ∷ rest → Placed k path role (put_requests net d w rest)
 pop_request k path role net d w x rest ok e = record {
-  requests = λ d' w' y m. elim (In-put2 net.requests d w rest d' w' y m) [
-    | inl h ↦ ok.requests d' w' y (rw (h.0, h.1, e) (inr h.2))
-    | inr h ↦ ok.requests d' w' y h.1
-  ];
+  requests = each_fewer (RequestPlaced k path role) net.requests d w rest (λ y m. rw e (inr m)) ok.requests;
   records = ok.records;
   replies = ok.replies;
-  requests_apart = each_put2 (ApartBy (λ (z : Request). z.leader)) net.requests d w rest
-      ((subst (ApartBy (λ (z : Request). z.leader)) e (ok.requests_apart d w)).1) ok.requests_apart;
+  requests_apart = apart_popped (λ (z : Request). z.leader) net.requests d w ok.requests_apart x rest e;
   records_apart = ok.records_apart;
   replies_apart = ok.replies_apart;
 }
@@ -33,41 +103,7 @@ pop_request k path role net d w x rest ok e = record {
 -- and then its leader is named nowhere
 pub pop_request_unnamed : (k : ℕ) (path : ℕ → ℕ → ℕ) (role : ℕ → Role) (net : Net) (d w : ℕ) (x : Request) (rest : List Request)
     → Placed k path role net → net.requests d w ≡ x ∷ rest → Unnamed (put_requests net d w rest) x.leader
-pop_request_unnamed k path role net d w x rest ok e =
-    let here : In x (net.requests d w) = rw e (inl refl) in
-    let p = ok.requests d w x here in
-    let apart : ApartBy (λ (z : Request). z.leader) (x ∷ rest) = subst (ApartBy (λ (z : Request). z.leader)) e (ok.requests_apart d w) in
-    record {
-      requests = λ d' w' y m same. elim (In-put2 net.requests d w rest d' w' y m) [
-        | inl h ↦ apart.0 (subst (λ j. In j (map (λ (z : Request). z.leader) rest)) same (In-map (λ (z : Request). z.leader) y rest h.2))
-        | inr h ↦ (let q = ok.requests d' w' y h.1 in
-            let de : d' ≡ d = (let f = sym q.asks ∙ ap role same ∙ p.asks in cc) in
-            h.0 de (sym q.wire ∙ ap (λ j. path j d') same ∙ ap (path x.leader) de ∙ p.wire))
-      ];
-      records = λ s' w' y m same. let q = ok.records s' w' y m in let f = sym q.waits ∙ ap role same ∙ p.asks in cc;
-      replies = λ d' w' y m same. let q = ok.replies d' w' y m in let f = sym q.told ∙ ap role same ∙ p.asks in cc;
-    }
-
-keep_request : (k : ℕ) (path : ℕ → ℕ → ℕ) (role : ℕ → Role) (p : ℕ) (r : Role) (d w : ℕ) (y : Request) → RequestPlaced k path role d w y → (y.leader ≡ p → ⊥)
-    → RequestPlaced k path (put role p r) d w y
-keep_request k path role p r d w y h n = record { asks = put_other role p r y.leader n ∙ h.asks; wire = h.wire; deep = h.deep }
-
-keep_reply : (k : ℕ) (path : ℕ → ℕ → ℕ) (role : ℕ → Role) (p : ℕ) (r : Role) (d w : ℕ) (y : Reply) → ReplyPlaced k path role d w y → (y.leader ≡ p → ⊥)
-    → ReplyPlaced k path (put role p r) d w y
-keep_reply k path role p r d w y h n = record { told = put_other role p r y.leader n ∙ h.told; wire = h.wire; deep = h.deep }
-
-keep_record : (k : ℕ) (path : ℕ → ℕ → ℕ) (role : ℕ → Role) (p : ℕ) (r : Role) (s w : ℕ) (y : Record) → RecordPlaced k path role s w y → (y.second ≡ p → ⊥)
-    → (y.leader ≡ p → s < depth r) → RecordPlaced k path (put role p r) s w y
-keep_record k path role p r s w y h n l = record {
-  waits = put_other role p r y.second n ∙ h.waits;
-  beyond = elim (cases_eq y.leader p) [
-    | inl e ↦ subst (λ z. s < depth z) (sym (ap (put role p r) e ∙ put_same role p r)) (l e)
-    | inr m ↦ subst (λ z. s < depth z) (sym (put_other role p r y.leader m)) h.beyond
-  ];
-  wire = h.wire;
-  wire_second = h.wire_second;
-  deep = h.deep;
-}
+pop_request_unnamed k path role net d w x rest ok e = others_request k path role net d w [] rest x ok e
 
 -- a request comes to the end of a place, of a processor that nothing names
 pub push_request : (k : ℕ) (path : ℕ → ℕ → ℕ) (role : ℕ → Role) (net : Net) (d w : ℕ) (x : Request)
@@ -76,19 +112,13 @@ pub push_request : (k : ℕ) (path : ℕ → ℕ → ℕ) (role : ℕ → Role) 
     → Placed k path (put role x.leader (Asking d)) (put_requests net d w (net.requests d w ++ x ∷ []))
 push_request k path role net d w x ok free below on deep =
     let role' = put role x.leader (Asking d) in
+    let others = new_role k path role net x.leader (Asking d) ok free below in
     record {
-      requests = λ d' w' y m. elim (In-put2 net.requests d w (net.requests d w ++ x ∷ []) d' w' y m) [
-        | inl h ↦ rw (h.0, h.1) (elim (In-append y (net.requests d w) (x ∷ []) h.2) [
-          | inl o ↦ keep_request k path role x.leader (Asking d) d w y (ok.requests d w y o) (free.requests d w y o)
-          | inr (inl e) ↦ subst (RequestPlaced k path role' d w) (sym e) (record { asks = put_same role x.leader (Asking d); wire = on; deep = deep })
-          | inr (inr i) ↦ absurd i
-        ])
-        | inr h ↦ keep_request k path role x.leader (Asking d) d' w' y (ok.requests d' w' y h.1) (free.requests d' w' y h.1)
-      ];
-      records = λ s w' y m. keep_record k path role x.leader (Asking d) s w' y (ok.records s w' y m) (free.records s w' y m) (below s w' y m);
-      replies = λ d' w' y m. keep_reply k path role x.leader (Asking d) d' w' y (ok.replies d' w' y m) (free.replies d' w' y m);
-      requests_apart = each_put2 (ApartBy (λ (z : Request). z.leader)) net.requests d w _
-          (ApartBy-push (λ (z : Request). z.leader) (net.requests d w) x (ok.requests_apart d w) (λ y m. free.requests d w y m)) ok.requests_apart;
+      requests = each_pushed (RequestPlaced k path role') net.requests d w x (record { asks = put_same role x.leader (Asking d); wire = on; deep = deep })
+          others.requests;
+      records = others.records;
+      replies = others.replies;
+      requests_apart = apart_pushed (λ (z : Request). z.leader) net.requests d w ok.requests_apart x (free.requests d w);
       records_apart = ok.records_apart;
       replies_apart = ok.replies_apart;
     }
@@ -100,55 +130,41 @@ pub push_reply : (k : ℕ) (path : ℕ → ℕ → ℕ) (role : ℕ → Role) (n
     → Placed k path (put role x.leader (Told d)) (put_replies net d w (net.replies d w ++ x ∷ []))
 push_reply k path role net d w x ok free below on deep =
     let role' = put role x.leader (Told d) in
+    let others = new_role k path role net x.leader (Told d) ok free below in
     record {
-      replies = λ d' w' y m. elim (In-put2 net.replies d w (net.replies d w ++ x ∷ []) d' w' y m) [
-        | inl h ↦ rw (h.0, h.1) (elim (In-append y (net.replies d w) (x ∷ []) h.2) [
-          | inl o ↦ keep_reply k path role x.leader (Told d) d w y (ok.replies d w y o) (free.replies d w y o)
-          | inr (inl e) ↦ subst (ReplyPlaced k path role' d w) (sym e) (record { told = put_same role x.leader (Told d); wire = on; deep = deep })
-          | inr (inr i) ↦ absurd i
-        ])
-        | inr h ↦ keep_reply k path role x.leader (Told d) d' w' y (ok.replies d' w' y h.1) (free.replies d' w' y h.1)
-      ];
-      records = λ s w' y m. keep_record k path role x.leader (Told d) s w' y (ok.records s w' y m) (free.records s w' y m) (below s w' y m);
-      requests = λ d' w' y m. keep_request k path role x.leader (Told d) d' w' y (ok.requests d' w' y m) (free.requests d' w' y m);
-      replies_apart = each_put2 (ApartBy (λ (z : Reply). z.leader)) net.replies d w _
-          (ApartBy-push (λ (z : Reply). z.leader) (net.replies d w) x (ok.replies_apart d w) (λ y m. free.replies d w y m)) ok.replies_apart;
-      records_apart = ok.records_apart;
+      requests = others.requests;
+      records = others.records;
+      replies = each_pushed (ReplyPlaced k path role') net.replies d w x (record { told = put_same role x.leader (Told d); wire = on; deep = deep })
+          others.replies;
       requests_apart = ok.requests_apart;
+      records_apart = ok.records_apart;
+      replies_apart = apart_pushed (λ (z : Reply). z.leader) net.replies d w ok.replies_apart x (free.replies d w);
     }
 
 -- the first reply of a place goes
 pub pop_reply : (k : ℕ) (path : ℕ → ℕ → ℕ) (role : ℕ → Role) (net : Net) (d w : ℕ) (x : Reply) (rest : List Reply)
     → Placed k path role net → net.replies d w ≡ x ∷ rest → Placed k path role (put_replies net d w rest)
 pop_reply k path role net d w x rest ok e = record {
-  replies = λ d' w' y m. elim (In-put2 net.replies d w rest d' w' y m) [
-    | inl h ↦ ok.replies d' w' y (rw (h.0, h.1, e) (inr h.2))
-    | inr h ↦ ok.replies d' w' y h.1
-  ];
-  records = ok.records;
   requests = ok.requests;
-  replies_apart = each_put2 (ApartBy (λ (z : Reply). z.leader)) net.replies d w rest
-      ((subst (ApartBy (λ (z : Reply). z.leader)) e (ok.replies_apart d w)).1) ok.replies_apart;
-  records_apart = ok.records_apart;
+  records = ok.records;
+  replies = each_fewer (ReplyPlaced k path role) net.replies d w rest (λ y m. rw e (inr m)) ok.replies;
   requests_apart = ok.requests_apart;
+  records_apart = ok.records_apart;
+  replies_apart = apart_popped (λ (z : Reply). z.leader) net.replies d w ok.replies_apart x rest e;
 }
 
 pub pop_reply_unnamed : (k : ℕ) (path : ℕ → ℕ → ℕ) (role : ℕ → Role) (net : Net) (d w : ℕ) (x : Reply) (rest : List Reply)
     → Placed k path role net → net.replies d w ≡ x ∷ rest → Unnamed (put_replies net d w rest) x.leader
 pop_reply_unnamed k path role net d w x rest ok e =
-    let here : In x (net.replies d w) = rw e (inl refl) in
-    let p = ok.replies d w x here in
-    let apart : ApartBy (λ (z : Reply). z.leader) (x ∷ rest) = subst (ApartBy (λ (z : Reply). z.leader)) e (ok.replies_apart d w) in
+    let p = ok.replies d w x (rw e (inl refl)) in
     record {
-      replies = λ d' w' y m same. elim (In-put2 net.replies d w rest d' w' y m) [
-        | inl h ↦ apart.0 (subst (λ j. In j (map (λ (z : Reply). z.leader) rest)) same (In-map (λ (z : Reply). z.leader) y rest h.2))
-        | inr h ↦ (let q = ok.replies d' w' y h.1 in
-            let de : d' ≡ d = (let f = sym q.told ∙ ap role same ∙ p.told in cc) in
-            h.0 de (sym q.wire ∙ ap (λ j. path j d') same ∙ ap (path x.leader) de ∙ p.wire))
-      ];
-      records = λ s' w' y m same. let q = ok.records s' w' y m in let f = sym q.waits ∙ ap role same ∙ p.told in cc;
       requests = λ d' w' y m same. let q = ok.requests d' w' y m in let f = sym q.asks ∙ ap role same ∙ p.told in cc;
+      records = λ s' w' y m same. let q = ok.records s' w' y m in let f = sym q.waits ∙ ap role same ∙ p.told in cc;
+      replies = none_left (λ (z : Reply). z.leader) net.replies d w ok.replies_apart path role Told (λ i j same. cc)
+          (λ d' w' y m. let q = ok.replies d' w' y m in (q.told, q.wire)) [] rest x e;
     }
+
+-- ---- combining, and records
 
 -- a request that nothing names is combined with an entry: the entry changes, but for its leader, and a record of it comes
 pub combine : (k : ℕ) (path : ℕ → ℕ → ℕ) (role : ℕ → Role) (net : Net) (s w : ℕ) (front behind : List Request) (x y : Request) (z : Record)
@@ -160,41 +176,31 @@ combine k path role net s w front behind x y z ok e ey ez free near on =
     let here : In x (net.requests (suc s) w) = rw e (In-append_right x front (x ∷ behind) (inl refl)) in
     let p = ok.requests (suc s) w x here in
     let other : x.leader ≡ z.second → ⊥ = free.requests (suc s) w x here in
-    let under : (t v : ℕ) (a : Record) → In a (net.records t v) → a.leader ≡ z.second
-    → t < s = (λ t v a m same. let q = ok.records t v a m in let b : t < depth (role z.second) = subst (λ j. t < depth (role j)) same q.beyond in
-    omega arith) in
-    let keep : (d' w' : ℕ) (a : Request) → In a (net.requests d' w')
-    → RequestPlaced k path role' d' w' a =
-    (λ d' w' a o. keep_request k path role z.second (Waiting s z.leader) d' w' a (ok.requests d' w' a o) (free.requests d' w' a o)) in
-    let from : (a : Request) → In a (front ++ y ∷ behind) → RequestPlaced k path role' (suc s) w a = (λ a m. elim (In-append a front (y ∷ behind) m) [
-      | inl o ↦ keep (suc s) w a (rw e (In-append_left a front (x ∷ behind) o))
-      | inr (inl q) ↦ (let l = ap (λ (b : Request). b.leader) q ∙ ey in record {
-        asks = ap role' l ∙ put_other role z.second (Waiting s z.leader) x.leader other ∙ p.asks;
-        wire = ap (λ j. path j (suc s)) l ∙ p.wire;
-        deep = p.deep;
-      })
-      | inr (inr o) ↦ keep (suc s) w a (rw e (In-append_right a front (x ∷ behind) (inr o)))
-    ]) in
+    let under : (t v : ℕ) (a : Record) → In a (net.records t v) → a.leader ≡ z.second → t < s
+    = (λ t v a m same. let b : t < depth (role z.second) = below_role k path role net z.second (role z.second) ok refl t v a m same in omega arith) in
+    let others = new_role k path role net z.second (Waiting s z.leader) ok free under in
     record {
-      requests = λ d' w' a m. elim (In-put2 net.requests (suc s) w (front ++ y ∷ behind) d' w' a m) [
-        | inl h ↦ rw (h.0, h.1) (from a h.2)
-        | inr h ↦ keep d' w' a h.1
-      ];
-      records = λ t v a m. elim (In-put2 net.records s w (net.records s w ++ z ∷ []) t v a m) [
-        | inl h ↦ rw (h.0, h.1) (elim (In-append a (net.records s w) (z ∷ []) h.2) [
-          | inl o ↦ keep_record k path role z.second (Waiting s z.leader) s w a (ok.records s w a o) (free.records s w a o) (λ same. under s w a o same)
-          | inr (inl q) ↦ subst (RecordPlaced k path role' s w) (sym q) (record {
+      requests = each_put (RequestPlaced k path role') net.requests (suc s) w (front ++ y ∷ behind)
+          (λ a m. elim (In-append a front (y ∷ behind) m) [
+            | inl o ↦ others.requests (suc s) w a (rw e (In-append_left a front (x ∷ behind) o))
+            | inr (inl q) ↦ (let l = ap (λ (b : Request). b.leader) q ∙ ey in record {
+              asks = ap role' l ∙ put_other role z.second (Waiting s z.leader) x.leader other ∙ p.asks;
+              wire = ap (λ j. path j (suc s)) l ∙ p.wire;
+              deep = p.deep;
+            })
+            | inr (inr o) ↦ others.requests (suc s) w a (rw e (In-append_right a front (x ∷ behind) (inr o)))
+          ])
+          (λ d' w' a n m. others.requests d' w' a m);
+      records = each_pushed (RecordPlaced k path role') net.records s w z
+          (record {
             waits = put_same role z.second (Waiting s z.leader);
             beyond = subst (λ j. s < depth j) (sym (ap role' ez ∙ put_other role z.second (Waiting s z.leader) x.leader other ∙ p.asks)) (omega arith);
             wire = ap (λ j. path j (suc s)) ez ∙ p.wire;
             wire_second = on;
             deep = p.deep;
           })
-          | inr (inr i) ↦ absurd i
-        ])
-        | inr h ↦ keep_record k path role z.second (Waiting s z.leader) t v a (ok.records t v a h.1) (free.records t v a h.1) (λ same. under t v a h.1 same)
-      ];
-      replies = λ d' w' a m. keep_reply k path role z.second (Waiting s z.leader) d' w' a (ok.replies d' w' a m) (free.replies d' w' a m);
+          others.records;
+      replies = others.replies;
       requests_apart = each_put2 (ApartBy (λ (b : Request). b.leader)) net.requests (suc s) w (front ++ y ∷ behind)
           (let h : ApartBy (λ (b : Request). b.leader) (front ++ x ∷ behind) = subst (ApartBy (λ (b : Request). b.leader)) e (ok.requests_apart (suc s) w) in
           let same : map (λ (b : Request). b.leader) (front ++ y ∷ behind) ≡ map (λ (b : Request). b.leader) (front ++ x ∷ behind) =
@@ -203,8 +209,7 @@ combine k path role net s w front behind x y z ok e ey ez free near on =
           ∙ sym (map-append (λ (b : Request). b.leader) front (x ∷ behind)) in
           subst Distinct (sym same) h)
           ok.requests_apart;
-      records_apart = each_put2 (ApartBy (λ (b : Record). b.second)) net.records s w _
-          (ApartBy-push (λ (b : Record). b.second) (net.records s w) z (ok.records_apart s w) (λ a m. free.records s w a m)) ok.records_apart;
+      records_apart = apart_pushed (λ (b : Record). b.second) net.records s w ok.records_apart z (free.records s w);
       replies_apart = ok.replies_apart;
     }
 
@@ -214,15 +219,16 @@ pub drop_records : (k : ℕ) (path : ℕ → ℕ → ℕ) (role : ℕ → Role) 
 drop_records k path role net s w p ok = record {
   requests = ok.requests;
   replies = ok.replies;
-  records = λ t v a m. elim (In-put2 net.records s w (records_but p (net.records s w)) t v a m) [
-    | inl h ↦ rw (h.0, h.1) (ok.records s w a ((In-filter (λ (e : Record). not (e.leader == p)) a (net.records s w) h.2).0))
-    | inr h ↦ ok.records t v a h.1
-  ];
+  records = each_fewer (RecordPlaced k path role) net.records s w (records_but p (net.records s w))
+      (λ a m. (In-filter (λ (e : Record). not (e.leader == p)) a (net.records s w) m).0) ok.records;
   requests_apart = ok.requests_apart;
   replies_apart = ok.replies_apart;
   records_apart = each_put2 (ApartBy (λ (b : Record). b.second)) net.records s w _
       (ApartBy-filter (λ (b : Record). b.second) (λ (x : Record). not (x.leader == p)) (net.records s w) (ok.records_apart s w)) ok.records_apart;
 }
+
+pub not_led : (a b : ℕ) → a ≡ b → not (a == b) ≡ true → ⊥
+not_led a b e f = true≢false (sym f ∙ ap not (eq-eqb a b e))
 
 -- and then their seconds are named nowhere
 pub drop_records_unnamed : (k : ℕ) (path : ℕ → ℕ → ℕ) (role : ℕ → Role) (net : Net) (s w p : ℕ) (z : Record)
@@ -232,35 +238,15 @@ drop_records_unnamed k path role net s w p z ok here led =
     record {
       requests = λ d' w' y m same. let q = ok.requests d' w' y m in let f = sym q.asks ∙ ap role same ∙ r.waits in cc;
       replies = λ d' w' y m same. let q = ok.replies d' w' y m in let f = sym q.told ∙ ap role same ∙ r.waits in cc;
-      records = λ t v a m same. elim (In-put2 net.records s w (records_but p (net.records s w)) t v a m) [
-        | inl h ↦ (let g = In-filter (λ (e : Record). not (e.leader == p)) a (net.records s w) h.2 in
-            let is : a ≡ z = ApartBy-same (λ (b : Record). b.second) a z (net.records s w) (ok.records_apart s w) g.0 here same in
-            not_led a.leader p (ap (λ (b : Record). b.leader) is ∙ led) g.1)
-        | inr h ↦ (let q = ok.records t v a h.1 in
-            let te : t ≡ s = (let f = sym q.waits ∙ ap role same ∙ r.waits in cc) in
-            h.0 te (sym q.wire_second ∙ ap (λ j. path j (suc t)) same ∙ ap (λ j. path z.second (suc j)) te ∙ r.wire_second))
-      ];
-    }
-  where
-    not_led : (a b : ℕ) → a ≡ b → not (a == b) ≡ true → ⊥
-    not_led a b e f = true≢false (sym f ∙ ap not (eq-eqb a b e))
-
--- where an entry of a place goes, nothing else names its leader
-pub others_request : (k : ℕ) (path : ℕ → ℕ → ℕ) (role : ℕ → Role) (net : Net) (d w : ℕ) (front behind : List Request) (x : Request)
-    → Placed k path role net → net.requests d w ≡ front ++ x ∷ behind → Unnamed (put_requests net d w (front ++ behind)) x.leader
-others_request k path role net d w front behind x ok e =
-    let here : In x (net.requests d w) = rw e (In-append_right x front (x ∷ behind) (inl refl)) in
-    let p = ok.requests d w x here in
-    let apart : ApartBy (λ (z : Request). z.leader) (front ++ x ∷ behind) = subst (ApartBy (λ (z : Request). z.leader)) e (ok.requests_apart d w) in
-    record {
-      requests = λ d' w' y m same. elim (In-put2 net.requests d w (front ++ behind) d' w' y m) [
-        | inl h ↦ ApartBy-middle (λ (z : Request). z.leader) front x behind apart y h.2 same
-        | inr h ↦ (let q = ok.requests d' w' y h.1 in
-            let de : d' ≡ d = (let f = sym q.asks ∙ ap role same ∙ p.asks in cc) in
-            h.0 de (sym q.wire ∙ ap (λ j. path j d') same ∙ ap (path x.leader) de ∙ p.wire))
-      ];
-      records = λ s' w' y m same. let q = ok.records s' w' y m in let f = sym q.waits ∙ ap role same ∙ p.asks in cc;
-      replies = λ d' w' y m same. let q = ok.replies d' w' y m in let f = sym q.told ∙ ap role same ∙ p.asks in cc;
+      records = each_put (λ t v a. a.second ≡ z.second → ⊥) net.records s w (records_but p (net.records s w))
+          (λ a m same.
+          let g = In-filter (λ (e : Record). not (e.leader == p)) a (net.records s w) m in
+          let is : a ≡ z = ApartBy-same (λ (b : Record). b.second) a z (net.records s w) (ok.records_apart s w) g.0 here same in
+          not_led a.leader p (ap (λ (b : Record). b.leader) is ∙ led) g.1)
+          (λ t v a n m same.
+          let q = ok.records t v a m in
+          let te : t ≡ s = (let f = sym q.waits ∙ ap role same ∙ r.waits in cc) in
+          n te (sym q.wire_second ∙ ap (λ j. path j (suc t)) same ∙ ap (λ j. path z.second (suc j)) te ∙ r.wire_second));
     }
 
 unnamed_push_reply : (net : Net) (d w : ℕ) (x : Reply) (p : ℕ) → Unnamed net p → (x.leader ≡ p → ⊥)
@@ -268,14 +254,7 @@ unnamed_push_reply : (net : Net) (d w : ℕ) (x : Reply) (p : ℕ) → Unnamed n
 unnamed_push_reply net d w x p free n = record {
   requests = free.requests;
   records = free.records;
-  replies = λ d' w' y m same. elim (In-put2 net.replies d w (net.replies d w ++ x ∷ []) d' w' y m) [
-    | inl h ↦ elim (In-append y (net.replies d w) (x ∷ []) h.2) [
-      | inl o ↦ free.replies d w y o same
-      | inr (inl e) ↦ n (ap (λ (z : Reply). z.leader) (sym e) ∙ same)
-      | inr (inr i) ↦ i
-    ]
-    | inr h ↦ free.replies d' w' y h.1 same
-  ];
+  replies = each_pushed (λ d' w' y. y.leader ≡ p → ⊥) net.replies d w x n free.replies;
 }
 
 -- all of them are put
@@ -301,30 +280,22 @@ placed_push_all k path wire s (y ∷ ys) role net ok deep apart each =
 pub placed_change : (k : ℕ) (path path' : ℕ → ℕ → ℕ) (role : ℕ → Role) (r : Role) (net : Net) (p : ℕ)
     → Placed k path role net → Unnamed net p → ((s w : ℕ) (z : Record) → In z (net.records s w) → z.leader ≡ p → ⊥)
     → ((q d : ℕ) → (q ≡ p → ⊥) → path' q d ≡ path q d) → Placed k path' (put role p r) net
-placed_change k path path' role r net p ok free none same = record {
-  requests = λ d w x m. let h = ok.requests d w x m in let n = free.requests d w x m in record {
-    asks = put_other role p r x.leader n ∙ h.asks;
-    wire = same x.leader d n ∙ h.wire;
-    deep = h.deep;
-  };
-  records = λ s w x m. let h = keep_record k path role p r s w x (ok.records s w x m) (free.records s w x m) (λ e. absurd (none s w x m e)) in
-      record {
-        waits = h.waits;
-        beyond = h.beyond;
-        wire = same x.leader (suc s) (none s w x m) ∙ h.wire;
-        wire_second = same x.second (suc s) (free.records s w x m)
-            ∙ h.wire_second;
-        deep = h.deep;
+placed_change k path path' role r net p ok free none same =
+    let h = new_role k path role net p r ok free (λ s w x m e. absurd (none s w x m e)) in
+    record {
+      requests = λ d w x m. let q = h.requests d w x m in record { asks = q.asks; wire = same x.leader d (free.requests d w x m) ∙ q.wire; deep = q.deep };
+      records = λ s w x m. let q = h.records s w x m in record {
+        waits = q.waits;
+        beyond = q.beyond;
+        wire = same x.leader (suc s) (none s w x m) ∙ q.wire;
+        wire_second = same x.second (suc s) (free.records s w x m) ∙ q.wire_second;
+        deep = q.deep;
       };
-  replies = λ d w x m. let h = ok.replies d w x m in let n = free.replies d w x m in record {
-    told = put_other role p r x.leader n ∙ h.told;
-    wire = same x.leader d n ∙ h.wire;
-    deep = h.deep;
-  };
-  requests_apart = ok.requests_apart;
-  records_apart = ok.records_apart;
-  replies_apart = ok.replies_apart;
-}
+      replies = λ d w x m. let q = h.replies d w x m in record { told = q.told; wire = same x.leader d (free.replies d w x m) ∙ q.wire; deep = q.deep };
+      requests_apart = h.requests_apart;
+      records_apart = h.records_apart;
+      replies_apart = h.replies_apart;
+    }
 
 -- ---- by roles
 
@@ -335,11 +306,6 @@ unnamed_idle k path role net p ok idle = record {
   records = λ s w x m e. let h = ok.records s w x m in let f = sym h.waits ∙ ap role e ∙ idle in cc;
   replies = λ d w x m e. let h = ok.replies d w x m in let f = sym h.told ∙ ap role e ∙ idle in cc;
 }
-
--- the records of a leader stand below its depth
-pub below_role : (k : ℕ) (path : ℕ → ℕ → ℕ) (role : ℕ → Role) (net : Net) (p : ℕ) (r : Role) → Placed k path role net → role p ≡ r → (s w : ℕ) (z : Record)
-    → In z (net.records s w) → z.leader ≡ p → s < depth r
-below_role k path role net p r ok is s w z m e = subst (λ j. s < depth j) (ap role e ∙ is) ((ok.records s w z m).beyond)
 
 pub not_idle : (role : ℕ → Role) (p q : ℕ) (r : Role) → role p ≡ r → (r ≡ Idle → ⊥) → role q ≡ Idle → q ≡ p → ⊥
 not_idle role p q r is n idle e = n (sym is ∙ ap role (sym e) ∙ idle)
@@ -367,10 +333,7 @@ pub unnamed_fewer : (net : Net) (s w : ℕ) (xs : List Record) (p : ℕ) → Unn
 unnamed_fewer net s w xs p free sub = record {
   requests = free.requests;
   replies = free.replies;
-  records = λ t v a m e. elim (In-put2 net.records s w xs t v a m) [
-    | inl h ↦ free.records s w a (sub a h.2) e
-    | inr h ↦ free.records t v a h.1 e
-  ];
+  records = each_fewer (λ t v a. a.second ≡ p → ⊥) net.records s w xs sub free.records;
 }
 
 pub told_other : (s : ℕ) (ys : List Reply) (role : ℕ → Role) (q : ℕ) → ((y : Reply) → In y ys → y.leader ≡ q → ⊥) → told_all s ys role q ≡ role q
@@ -378,9 +341,6 @@ unfolding told_all
 told_other s [] role q n = refl
 told_other s (y ∷ ys) role q n = told_other s ys (put role y.leader (Told s)) q (λ x m. n x (inr m))
     ∙ put_other role y.leader (Told s) q (λ e. n y (inl refl) (sym e))
-
-pub not_led : (a b : ℕ) → a ≡ b → not (a == b) ≡ true → ⊥
-not_led a b e f = true≢false (sym f ∙ ap not (eq-eqb a b e))
 
 pub seconds : (x : Reply) (rs : List Record) → map (λ (y : Reply). y.leader) (map (λ (r : Record). record {
   leader = r.second;
