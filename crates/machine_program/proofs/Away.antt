@@ -5,7 +5,6 @@ use Rattle.std.proofs.lemmas.Bool.{cases_eq}
 use Rattle.machine_ports.specs.flat_machine.declared.config.Config.{Config}
 use Rattle.machine_ports.specs.flat_machine.declared.poke.Poke.{Poke}
 use Rattle.machine_ports.specs.flat_machine.declared.poke.Poke.TheVariants as poke
-use Rattle.machine_ports.specs.flat_machine.State.{Processor}
 use Rattle.machine_ports.specs.flat_machine.Turns.{Turn, Retires, Reaches, Stops}
 use Rattle.machine_ports.specs.flat_machine.Flat.{with_poked_register}
 use Rattle.machine_ports.specs.hart.Deciding.{after_reply}

@@ -18,11 +18,11 @@ use Rattle.abstract_machine.specs.Machine.{Machine, poked, all_shut}
 use Rattle.abstract_machine.proofs.Lemmas.{all_shut_is}
 use Rattle.steps.specs.declared.step.Step.TheVariants as step
 use Rattle.steps.specs.declared.step.Outcome.TheVariants.{Poked, Stalled}
-use Rattle.machine_program.specs.Theory.{Result, stalled}
-use Rattle.machine_program.specs.Processors.{Told, program, port_at, word_at, told_at, open_at, are_home, changed, is_lawful_poke, may_poke, poked_words}
+use Rattle.machine_program.specs.Theory.{stalled}
+use Rattle.machine_program.specs.Processors.{Told, program, port_at, word_at, told_at, open_at, are_home, changed, is_lawful_poke, poked_words}
 use Rattle.machine_program.specs.Processors.{poked_processors}
 use Rattle.machine_program.specs.Steps.{taken, machine_of_parts, IsStepOf}
-use Rattle.machine_program.proofs.TurnSteps.{step_of}
+use Rattle.machine_program.proofs.TurnSteps.{stalls, step_of}
 use Rattle.machine_program.proofs.PortSets.{core_changed, open_kept}
 use Rattle.machine_program.proofs.ServeSteps.{words_set}
 
@@ -67,12 +67,7 @@ module _ (c : Config) (code : List ℕ) (net : Net) (ports : List PortState) (mo
   pub poke_refused : (q : Poke) → (all_shut (2 ^ c.k) (open_at ports) && (all_home && is_lawful_poke c q)) ≡ false →
       IsStepOf c code net ports modules (step.Poke q) Stalled net ports modules
   unfolding machine_of_parts
-  poke_refused q e = step_of c code net net ports ports modules modules (step.Poke q) Stalled (record {
-    result = λ shown. stalled (M shown);
-    is = λ shown. poke_by q false e shown;
-    answers = refl;
-    leaves = λ shown. refl;
-  })
+  poke_refused q e = stalls c code net ports modules (step.Poke q) (poke_by q false e)
 
   pub not_idle : (q : Poke) → (((p : ℕ) → p < 2 ^ c.k → open_at ports p ≡ false) → ⊥) →
       IsStepOf c code net ports modules (step.Poke q) Stalled net ports modules

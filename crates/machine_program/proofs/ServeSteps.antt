@@ -20,10 +20,10 @@ use Rattle.abstract_machine.specs.messages.Moves.{module_taken, module_replied}
 use Rattle.abstract_machine.specs.Machine.{Machine}
 use Rattle.steps.specs.declared.step.Step.TheVariants as step
 use Rattle.steps.specs.declared.step.Outcome.TheVariants.{Served, Stalled}
-use Rattle.machine_program.specs.Theory.{Result, stalled, serve_from}
+use Rattle.machine_program.specs.Theory.{stalled, serve_from}
 use Rattle.machine_program.specs.Processors.{Told, sizes_of, word_at, told_at, open_at}
 use Rattle.machine_program.specs.Steps.{taken, machine_of_parts, IsStepOf}
-use Rattle.machine_program.proofs.TurnSteps.{step_of}
+use Rattle.machine_program.proofs.TurnSteps.{stalls, step_of}
 
 -- on a word, the value is the function's
 pub applied_word : (phi : Phi) (x : ℕ) → x < 2 ^ 32 → applied phi x ≡ apply phi x
@@ -74,13 +74,8 @@ module _ (c : Config) (code : List ℕ) (net : Net) (ports : List PortState) (mo
   -- where nothing is served, nothing changes
   pub no_module : (m : ℕ) → 2 ^ c.k ≤ m → IsStepOf c code net ports modules (step.Serve m) Stalled net ports modules
   unfolding machine_of_parts
-  no_module m past = step_of c code net net ports ports modules modules (step.Serve m) Stalled (record {
-    result = λ shown. stalled (M shown);
-    is = λ shown. ap (λ b. if b then serve_from (sizes_of c) (M shown) m (net.requests c.k m) (net.replies c.k m)
-        else stalled (M shown)) (le-ltb m (2 ^ c.k) past);
-    answers = refl;
-    leaves = λ shown. refl;
-  })
+  no_module m past = stalls c code net ports modules (step.Serve m) (λ shown.
+      ap (λ b. if b then serve_from (sizes_of c) (M shown) m (net.requests c.k m) (net.replies c.k m) else stalled (M shown)) (le-ltb m (2 ^ c.k) past))
 
   served_is : (m : ℕ) → m < 2 ^ c.k → (shown : ℕ → List Event) →
       taken c code (M shown) (step.Serve m) ≡ serve_from (sizes_of c) (M shown) m (net.requests c.k m) (net.replies c.k m)
@@ -90,21 +85,13 @@ module _ (c : Config) (code : List ℕ) (net : Net) (ports : List PortState) (mo
 
   pub no_request : (m : ℕ) → m < 2 ^ c.k → net.requests c.k m ≡ [] → IsStepOf c code net ports modules (step.Serve m) Stalled net ports modules
   unfolding machine_of_parts
-  no_request m within none = step_of c code net net ports ports modules modules (step.Serve m) Stalled (record {
-    result = λ shown. stalled (M shown);
-    is = λ shown. served_is m within shown ∙ ap (λ xs. serve_from (sizes_of c) (M shown) m xs (net.replies c.k m)) none;
-    answers = refl;
-    leaves = λ shown. refl;
-  })
+  no_request m within none = stalls c code net ports modules (step.Serve m) (λ shown.
+      served_is m within shown ∙ ap (λ xs. serve_from (sizes_of c) (M shown) m xs (net.replies c.k m)) none)
 
   pub no_place : (m : ℕ) → m < 2 ^ c.k → (net.replies c.k m ≡ [] → ⊥) → IsStepOf c code net ports modules (step.Serve m) Stalled net ports modules
   unfolding machine_of_parts
-  no_place m within full = step_of c code net net ports ports modules modules (step.Serve m) Stalled (record {
-    result = λ shown. stalled (M shown);
-    is = λ shown. served_is m within shown ∙ by (net.requests c.k m) (net.replies c.k m) full shown;
-    answers = refl;
-    leaves = λ shown. refl;
-  })
+  no_place m within full = stalls c code net ports modules (step.Serve m) (λ shown.
+      served_is m within shown ∙ by (net.requests c.k m) (net.replies c.k m) full shown)
     where
       by : (xs : List Request) (ys : List Reply) → (ys ≡ [] → ⊥) → (shown : ℕ → List Event) → serve_from (sizes_of c) (M shown) m xs ys ≡ stalled (M shown)
       by [] ys some shown = refl

@@ -20,7 +20,6 @@ use Rattle.abstract_machine.specs.Steadiness.{Steady}
 use Rattle.abstract_machine.proofs.Lemmas.{goes_step}
 use Rattle.steps.specs.declared.step.Step.{Step}
 use Rattle.steps.specs.declared.step.Outcome.{Outcome}
-use Rattle.machine_program.specs.Theory.{Result}
 use Rattle.machine_program.specs.Processors.{Told, sizes_of, setting_of, word_by, next, program, port_at, open_at}
 use Rattle.machine_program.specs.Steps.{named, with_shown, after, machine_of_parts, IsStepOf}
 use Rattle.machine_program.proofs.TurnKinds.{Reached, reaches_of, runs_by}

@@ -43,6 +43,24 @@ module _ (c : Config) (code : List ℕ) where
     after = λ shown. t.leaves shown ∙ ap (λ (r : Result Told). r.machine) (sym (t.is shown));
   }
 
+  none_shown : (s : Step) (shown : ℕ → List Event) → with_shown shown s Stalled ≡ shown
+  none_shown (step.Turn p) shown = refl
+  none_shown (step.Up st w) shown = refl
+  none_shown (step.Serve m) shown = refl
+  none_shown (step.Down st w) shown = refl
+  none_shown (step.Poke poke) shown = refl
+
+  -- a step that stalls
+  pub stalls : (net : Net) (ports : List PortState) (modules : List (List ℕ)) (s : Step) →
+      ((shown : ℕ → List Event) → taken c code (machine_of_parts c net ports modules shown) s ≡ stalled (machine_of_parts c net ports modules shown)) →
+      IsStepOf c code net ports modules s Stalled net ports modules
+  stalls net ports modules s is = step_of net net ports ports modules modules s Stalled (record {
+    result = λ shown. stalled (machine_of_parts c net ports modules shown);
+    is = is;
+    answers = refl;
+    leaves = λ shown. ap (machine_of_parts c net ports modules) (none_shown s shown);
+  })
+
   module _ (net : Net) (ports : List PortState) (modules : List (List ℕ)) where
     abbrev M : (ℕ → List Event) → Machine Told
     M shown = machine_of_parts c net ports modules shown
@@ -51,25 +69,16 @@ module _ (c : Config) (code : List ℕ) where
 
     pub unnamed : (p : ℕ) → 2 ^ c.k ≤ p → IsStepOf c code net ports modules (step.Turn p) Stalled net ports modules
     unfolding machine_of_parts
-    unnamed p past = step_of net net ports ports modules modules (step.Turn p) Stalled (record {
-      result = λ shown. stalled (M shown);
-      is = λ shown. ap (λ b. if b then turned (program c code) (M shown) p ((M shown).is_open p) else stalled (M shown)) (le-ltb p (2 ^ c.k) past);
-      answers = refl;
-      leaves = λ shown. refl;
-    })
+    unnamed p past = stalls net ports modules (step.Turn p)
+        (λ shown. ap (λ b. if b then turned (program c code) (M shown) p ((M shown).is_open p) else stalled (M shown)) (le-ltb p (2 ^ c.k) past))
 
     pub rests : (p : ℕ) → p < 2 ^ c.k → (port_at ports p).is_open ≡ false → is_running (port_at ports p).core.state.status ≡ false →
         IsStepOf c code net ports modules (step.Turn p) Stalled net ports modules
     unfolding machine_of_parts
-    rests p within shut rest = step_of net net ports ports modules modules (step.Turn p) Stalled (record {
-      result = λ shown. stalled (M shown);
-      is = λ shown.
-          ap (λ b. if b then turned (program c code) (M shown) p ((M shown).is_open p) else stalled (M shown)) (lt-ltb p (2 ^ c.k) within)
-          ∙ ap (turned (program c code) (M shown) p) shut
-          ∙ ap (λ b. begin (program c code) (M shown) p (kind_of b (next c code p (port_at ports p).core.state))) rest;
-      answers = refl;
-      leaves = λ shown. refl;
-    })
+    rests p within shut rest = stalls net ports modules (step.Turn p) (λ shown.
+        ap (λ b. if b then turned (program c code) (M shown) p ((M shown).is_open p) else stalled (M shown)) (lt-ltb p (2 ^ c.k) within)
+        ∙ ap (turned (program c code) (M shown) p) shut
+        ∙ ap (λ b. begin (program c code) (M shown) p (kind_of b (next c code p (port_at ports p).core.state))) rest)
 
     -- ---- a turn begins
 
