@@ -1,5 +1,5 @@
 -- What a call tells of a reply that was answered at a switch.
-use Rattle.std.proofs.Common.{◌≡◌, ℕ, ◌%◌, ◌/◌, Bool, List, set, refl, sym, ap, ◌∙◌, subst}
+use Rattle.std.proofs.Common.{◌≡◌, ℕ, ◌%◌, ◌/◌, Bool, set, refl, sym, ap, ◌∙◌, subst}
 use Rattle.std.specs.Prelude.{IsTrue, ◌↔◌}
 use Rattle.messages.specs.declared.message.Reply.{Reply}
 use Rattle.messages.specs.declared.moves.DownMove.{DownMove}
@@ -21,7 +21,7 @@ pub record Replied (m : NetworkLists) (s w : ℕ) (x : Reply) (answer : DownMove
   pub answer_is : answer ≡ (moves.answer (sizes_of m) (net_of m) (net_of m) s w x (records_of x.leader (records_behind m s w))).0
   pub net_is : net_of l ≡ (moves.answer (sizes_of m) (net_of m) (net_of m) s w x (records_of x.leader (records_behind m s w))).1
 
-module _ (n m : NetworkLists) (s w number : ℕ) (u : SwitchState) (found : Found n m s w number u) (x : Reply) where
+module _ {n m : NetworkLists} {s w number : ℕ} {u : SwitchState} (found : Found n m s w number u) (x : Reply) where
   abbrev t : SwitchState
   t = switch_at n s (w / 2)
 
@@ -37,10 +37,10 @@ module _ (n m : NetworkLists) (s w number : ℕ) (u : SwitchState) (found : Foun
       subst (λ (y : SwitchState). CanBeQueued n.pool (answers (records_of x.leader (records_at y (w % 2))) x)) (sym found.found)
       (can_be_queued n found.is s w found.stage found.wire x (subst (λ (l : NetworkLists). MayLead l x.leader) (sym found.view) may))
 
-  pub answer_ends : MayLead m x.leader → (pool : PoolLists) (v : SwitchState) (a : Answered) (answer : DownMove) → answer ≡ down_of a →
+  pub answer_ends : {pool : PoolLists} {v : SwitchState} {a : Answered} {answer : DownMove} → MayLead m x.leader → answer ≡ down_of a →
       a ≡ (answered u n.pool (w % 2) x).0 → v ≡ (answered u n.pool (w % 2) x).1 → pool ≡ (answered u n.pool (w % 2) x).2
       → Replied m s w x answer (left_by n number pool v)
-  answer_ends may pool v a answer told a_is v_is pool_is =
+  answer_ends {pool} {v} {a} {answer} may told a_is v_is pool_is =
       subst (λ (l : NetworkLists). Replied l s w x answer (left_by n number pool v)) found.view (record {
         is = subst IsNetwork (sym left)
             (answered_keeps n found.is s w found.stage found.wire x may' (answered t n.pool (w % 2) x) refl);

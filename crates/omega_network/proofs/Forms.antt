@@ -1,9 +1,7 @@
 -- What the outputs and inputs of a network's switch are, by its form.
-use Rattle.std.proofs.Common.{◌≡◌, ℕ, zero, suc, ◌+◌, ◌-◌, ◌*◌, ◌/◌, ◌%◌, ◌^◌, ◌<◌, ◌≤◌, List, [], ◌∷◌, length, get_or, refl, sym, ap, ◌∙◌, subst, arith}
+use Rattle.std.proofs.Common.{◌≡◌, ℕ, zero, suc, ◌+◌, ◌*◌, ◌/◌, ◌%◌, ◌^◌, ◌<◌, [], ◌∷◌, length, get_or, sym, ap, ◌∙◌, subst, arith}
 use Rattle.omega_wires.specs.Wires.{bit, bit_of_stage, wire_before}
-use Rattle.messages.specs.declared.message.Record.{Record}
-use Rattle.message_cells.specs.Pools.{PoolLists}
-use Rattle.combining_switch.specs.Outputs.{OutputLists, OutputState, output_in}
+use Rattle.combining_switch.specs.Outputs.{OutputState, output_in}
 use Rattle.combining_switch.specs.Switches.{StandsIn, SwitchState, input_for, input_of, output_of, records_at}
 use Rattle.omega_network.specs.Networks.{IsNetwork, NetworkLists, half, net_of, place, sizes_of, switch_at, the_switch}
 use Rattle.omega_network.proofs.Changes.{at_output, at_queue}

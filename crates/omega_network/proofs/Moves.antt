@@ -1,6 +1,6 @@
 -- A move is what the switch does with a message that was taken out of its place, if the switch, asked before, would take it.
 use Rattle.std.proofs.Common.{◌≡◌, ℕ, suc, ◌^◌, ◌%◌, ◌<◌, Bool, true, false, ◌&&◌, List, [], ◌∷◌, ◌++◌, length, drop, nat_lt, Option, Some, None, ◌⊎◌, inl, inr}
-use Rattle.std.proofs.Common.{refl, sym, ap, ◌∙◌, subst, arith, lt-ltb}
+use Rattle.std.proofs.Common.{refl, sym, ap, ◌∙◌, arith, lt-ltb}
 use Rattle.std.specs.Prelude.{IsTrue, is_some, nat_le, not, slice_get, if◌then◌else◌}
 use Rattle.omega_wires.specs.Wires.{wire_after, wire_before}
 use Rattle.messages.specs.declared.message.Request.{Request}
@@ -11,7 +11,7 @@ use Rattle.messages.specs.declared.moves.UpMove.TheVariants as up
 use Rattle.messages.specs.declared.moves.DownMove.{DownMove}
 use Rattle.messages.specs.declared.moves.DownMove.TheVariants as down
 use Rattle.messages.specs.Places.{put2}
-use Rattle.messages.specs.Queues.{Combination, answers, combination, records_but, records_of}
+use Rattle.messages.specs.Queues.{Combination, answers, combination, records_but, records_of, unmarked}
 use Rattle.messages.specs.Seconds.{seconds_told}
 use Rattle.messages.specs.Network.{Net, Sizes, put_records, put_replies, put_requests, wires}
 use Rattle.messages.specs.Moves as moves
@@ -36,6 +36,19 @@ free_is {X} (y ∷ ys) o false e f = ((λ t. absurd (let h : false ≡ true = t 
 
 apart : (s : ℕ) → s ≡ suc s → ⊥
 apart s e = omega arith
+
+-- where one of two results stalls and the other does not
+either_case : {Kind : Type 0} (b : Bool) (stalled : Kind) (went : Kind × Net) (net taken : Net) → (went.0 ≡ stalled → ⊥) →
+    ((if b then went else (stalled, net)).0 ≡ stalled → (if b then went else (stalled, net)) ≡ (stalled, net))
+    × (((if b then went else (stalled, net)).0 ≡ stalled → ⊥) → (if b then went else (stalled, net)) ≡ (if b then went else (stalled, taken)))
+either_case true stalled went net taken moves = ((λ e. absurd (moves e)), (λ n. refl))
+either_case false stalled went net taken moves = ((λ e. refl), (λ n. absurd (n refl)))
+
+-- what is not told to move stalls
+stalls : {Kind : Type 0} (stalled answer : Kind) (b : Bool) → (answer ≡ stalled) ⊎ (answer ≡ stalled → ⊥) → ((answer ≡ stalled → ⊥) → IsTrue b) → b ≡ false
+    → answer ≡ stalled
+stalls stalled answer b (inl e) told none = e
+stalls stalled answer b (inr n) told none = absurd (let no : true ≡ false = sym (told n) ∙ none in cc)
 
 -- ---- up
 
@@ -65,13 +78,9 @@ module _ (z : Sizes) (s out : ℕ) (x : Request) where
         ((moves.accepted z net taken s out x j).0 ≡ up.Stalled → moves.accepted z net taken s out x j ≡ (up.Stalled, net))
         × (((moves.accepted z net taken s out x j).0 ≡ up.Stalled → ⊥) → moves.accepted z net taken s out x j ≡ moves.accepted z taken taken s out x j)
     by_combination (Some j) = ((λ e. absurd (let no : up.Combined j.made.leader j.made.second ≡ up.Stalled = e in cc)), (λ n. refl))
-    by_combination None = go (nat_lt (length (taken.requests (suc s) out)) z.c) refl
-      where
-        go : (b : Bool) → nat_lt (length (taken.requests (suc s) out)) z.c ≡ b
-            → ((moves.queued z net taken s out x).0 ≡ up.Stalled → moves.queued z net taken s out x ≡ (up.Stalled, net))
-            × (((moves.queued z net taken s out x).0 ≡ up.Stalled → ⊥) → moves.queued z net taken s out x ≡ moves.queued z taken taken s out x)
-        go true e = rw e ((λ h. absurd (let no : up.Moved ≡ up.Stalled = h in cc)), (λ n. refl))
-        go false e = rw e ((λ h. refl), (λ n. absurd (n refl)))
+    by_combination None = either_case (nat_lt (length (taken.requests (suc s) out)) z.c) up.Stalled
+        (up.Moved, put_requests taken (suc s) out (taken.requests (suc s) out ++ unmarked x ∷ [])) net taken
+        (λ e. let no : up.Moved ≡ up.Stalled = e in cc)
 
     pub offered_cases : ((moves.offered z net taken s out x).0 ≡ up.Stalled → moves.offered z net taken s out x ≡ (up.Stalled, net))
         × (((moves.offered z net taken s out x).0 ≡ up.Stalled → ⊥) → moves.offered z net taken s out x ≡ moves.offered z taken taken s out x)
@@ -143,13 +152,7 @@ module _ (z : Sizes) (s w : ℕ) (x : Reply) (es : List Record) where
 
   pub answer_cases : (net taken : Net) → ((moves.answer z net taken s w x es).0 ≡ down.Stalled → moves.answer z net taken s w x es ≡ (down.Stalled, net))
       × (((moves.answer z net taken s w x es).0 ≡ down.Stalled → ⊥) → moves.answer z net taken s w x es ≡ moves.answer z taken taken s w x es)
-  answer_cases net taken = go (moves.has_room z.c wire s (all taken) ys) refl
-    where
-      go : (b : Bool) → moves.has_room z.c wire s (all taken) ys ≡ b
-          → ((moves.answer z net taken s w x es).0 ≡ down.Stalled → moves.answer z net taken s w x es ≡ (down.Stalled, net))
-          × (((moves.answer z net taken s w x es).0 ≡ down.Stalled → ⊥) → moves.answer z net taken s w x es ≡ moves.answer z taken taken s w x es)
-      go true e = rw e ((λ h. absurd (moved_on es h)), (λ n. refl))
-      go false e = rw e ((λ h. refl), (λ n. absurd (n refl)))
+  answer_cases net taken = either_case (moves.has_room z.c wire s (all taken) ys) down.Stalled (moves.answered es, all taken) net taken (moved_on es)
 
   pub same_answer_down : (net : Net) (rest : List Reply) →
       (moves.answer z net (put_replies net (suc s) w rest) s w x es).0 ≡ (moves.answer z net net s w x es).0
@@ -186,14 +189,8 @@ pub up_stalled : (m : NetworkLists) (w : ℕ) {l : NetworkLists} {s out target :
 up_stalled m w {l} {s} {out} {target} {x} {b} view stage found way aim told none =
     up_is (sizes_of m) (net_of m) s w out x stage found (way_is m l s w out target x view way aim)
     ∙ (offered_cases (sizes_of m) s out x (net_of m) (put_requests (net_of m) s w (drop 1 ((net_of m).requests s w)))).0
-    (same_answer (sizes_of m) s out x (net_of m) w (drop 1 ((net_of m).requests s w)) ∙ go (up_stalls_or_not
-    ((moves.offered (sizes_of m) (net_of m) (net_of m) s out x).0)))
-  where
-    go : ((moves.offered (sizes_of m) (net_of m) (net_of m) s out x).0 ≡ up.Stalled)
-        ⊎ ((moves.offered (sizes_of m) (net_of m) (net_of m) s out x).0 ≡ up.Stalled → ⊥)
-        → (moves.offered (sizes_of m) (net_of m) (net_of m) s out x).0 ≡ up.Stalled
-    go (inl e) = e
-    go (inr n) = absurd (let no : true ≡ false = sym (told.1 n) ∙ none in cc)
+    (same_answer (sizes_of m) s out x (net_of m) w (drop 1 ((net_of m).requests s w))
+    ∙ stalls up.Stalled _ b (up_stalls_or_not ((moves.offered (sizes_of m) (net_of m) (net_of m) s out x).0)) told.1 none)
 
 pub up_went : (m : NetworkLists) (w : ℕ) {l : NetworkLists} {s out target : ℕ} {x : Request} {b : Bool} {net : Net} → l ≡ m → s < m.k →
     slice_get ((net_of m).requests s w) 0 ≡ Some x → out ≡ wire_after l.k s w target → target ≡ x.word % 2 ^ l.k →
@@ -216,13 +213,8 @@ down_stalled m w {s} {x} {b} stage found told none =
     ∙ (answer_cases (sizes_of m) s w x (records_of x.leader ((net_of m).records s w)) (net_of m)
     (put_replies (net_of m) (suc s) w (drop 1 ((net_of m).replies (suc s) w)))).0
     (same_answer_down (sizes_of m) s w x (records_of x.leader ((net_of m).records s w)) (net_of m) (drop 1 ((net_of m).replies (suc s) w))
-    ∙ go (down_stalls_or_not ((moves.answer (sizes_of m) (net_of m) (net_of m) s w x (records_of x.leader ((net_of m).records s w))).0)))
-  where
-    go : ((moves.answer (sizes_of m) (net_of m) (net_of m) s w x (records_of x.leader ((net_of m).records s w))).0 ≡ down.Stalled)
-        ⊎ ((moves.answer (sizes_of m) (net_of m) (net_of m) s w x (records_of x.leader ((net_of m).records s w))).0 ≡ down.Stalled → ⊥)
-        → (moves.answer (sizes_of m) (net_of m) (net_of m) s w x (records_of x.leader ((net_of m).records s w))).0 ≡ down.Stalled
-    go (inl e) = e
-    go (inr n) = absurd (let no : true ≡ false = sym (told.1 n) ∙ none in cc)
+    ∙ stalls down.Stalled _ b
+    (down_stalls_or_not ((moves.answer (sizes_of m) (net_of m) (net_of m) s w x (records_of x.leader ((net_of m).records s w))).0)) told.1 none)
 
 pub down_went : (m : NetworkLists) (w : ℕ) {s : ℕ} {x : Reply} {b : Bool} {net : Net} → s < m.k → slice_get ((net_of m).replies (suc s) w) 0 ≡ Some x →
     (IsTrue b → (moves.answer (sizes_of m) (net_of m) (net_of m) s w x (records_of x.leader ((net_of m).records s w))).0 ≡ down.Stalled → ⊥)

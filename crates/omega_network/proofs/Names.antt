@@ -12,9 +12,9 @@ use Rattle.messages.specs.Places.{In}
 use Rattle.messages.proofs.Lemmas.{In-map}
 use Rattle.message_cells.specs.Pools.{IsFree, leader_of_reply, leader_of_request, replies_at, requests_at}
 use Rattle.combining_switch.specs.Switches.{SwitchState, records_at}
-use Rattle.omega_network.specs.Networks.{IsNetwork, NetworkLists, half, net_of, no_switch, on_wire, place, records_behind, replies_before, requests_before}
+use Rattle.omega_network.specs.Networks.{IsNetwork, NetworkLists, half, no_switch, on_wire, place, records_behind, replies_before, requests_before}
 use Rattle.omega_network.specs.Networks.{switch_at}
-use Rattle.omega_network.proofs.Changes.{at_output, at_queue, at_reply_queue, inside, outside}
+use Rattle.omega_network.proofs.Changes.{at_queue, at_reply_queue, inside, outside}
 use Rattle.omega_network.proofs.Empty.{at_number, on_a_wire, place_of}
 
 -- ---- messages

@@ -1,5 +1,5 @@
 -- The network after a request was offered to a switch, and what a call tells of it.
-use Rattle.std.proofs.Common.{◌≡◌, ℕ, suc, ◌+◌, ◌*◌, ◌/◌, ◌%◌, ◌^◌, ◌<◌, ◌≤◌, Bool, true, false, List, [], ◌∷◌, ◌++◌, length, map, get_or, set, ◌⊎◌, inl, inr}
+use Rattle.std.proofs.Common.{◌≡◌, ℕ, suc, ◌+◌, ◌*◌, ◌/◌, ◌%◌, ◌^◌, ◌<◌, Bool, length, map, get_or, set, ◌⊎◌, inl, inr}
 use Rattle.std.proofs.Common.{refl, sym, ap, ◌∙◌, subst, arith, length-set}
 use Rattle.std.specs.Prelude.{IsTrue, ◌↔◌}
 use Rattle.std.proofs.lemmas.List.{get_or_default}
@@ -11,7 +11,7 @@ use Rattle.messages.specs.Places.{In, put2}
 use Rattle.messages.specs.Network.{Net, put_records, put_requests}
 use Rattle.messages.specs.Moves as moves
 use Rattle.messages.proofs.Lemmas.{put2_id}
-use Rattle.message_cells.specs.Pools.{IsFree, PoolLists, leader_of_request, requests_at, with_requests}
+use Rattle.message_cells.specs.Pools.{IsFree, PoolLists, leader_of_request, with_requests}
 use Rattle.message_cells.proofs.Lemmas.{free_of_requests}
 use Rattle.combining_switch.specs.declared.answers.Accepted.{Accepted}
 use Rattle.combining_switch.specs.declared.answers.Accepted.TheVariants.{Full}
@@ -135,16 +135,16 @@ pub record Offers (m : NetworkLists) (s w : ℕ) (x : Request) (answer : UpMove)
   pub answer_is : answer ≡ (moves.offered (sizes_of m) (net_of m) (net_of m) s w x).0
   pub net_is : net_of l ≡ (moves.offered (sizes_of m) (net_of m) (net_of m) s w x).1
 
-module _ (n m : NetworkLists) (s w number : ℕ) (u : SwitchState) (found : Found n m s w number u) (x : Request) where
+module _ {n m : NetworkLists} {s w number : ℕ} {u : SwitchState} (found : Found n m s w number u) (x : Request) where
   abbrev t' : SwitchState
   t' = switch_at n s (w / 2)
 
-  pub offer_ends : MayLead m x.leader → (pool : PoolLists) (v : SwitchState) (a : Accepted) (answer : UpMove) → answer ≡ up_of a x.leader →
+  pub offer_ends : {pool : PoolLists} {v : SwitchState} {a : Accepted} {answer : UpMove} → MayLead m x.leader → answer ≡ up_of a x.leader →
       a ≡ (accepted (output_in n.pool (output_of u (w % 2))) x).0 →
       v ≡ with_records u (w % 2) (accepted (output_in n.pool (output_of u (w % 2))) x).1.records →
       pool ≡ with_requests n.pool (output_of u (w % 2)).queue (accepted (output_in n.pool (output_of u (w % 2))) x).1.requests
       → Offers m s w x answer (left_by n number pool v)
-  offer_ends may pool v a answer told_is a_is v_is pool_is =
+  offer_ends {pool} {v} {a} {answer} may told_is a_is v_is pool_is =
       subst (λ (l : NetworkLists). Offers l s w x answer (left_by n number pool v)) found.view (record {
         is = subst IsNetwork (sym same) (offered_keeps n found.is s w found.stage found.wire x may');
         answer_is = told_is ∙ ap (λ b. up_of b x.leader) (a_is ∙ ap (λ (y : SwitchState). (accepted (output_in n.pool (output_of y (w % 2))) x).0) found.found)
@@ -190,5 +190,5 @@ module _ (n m : NetworkLists) (s w number : ℕ) (u : SwitchState) (found : Foun
 
 -- ---- what the switch's calls require
 
-pub stood : (n m : NetworkLists) (s w number : ℕ) (u : SwitchState) → Found n m s w number u → StandsIn u n.pool
-stood n m s w number u found = subst (λ (y : SwitchState). StandsIn y n.pool) (sym found.found) (in_pool n found.is s w found.stage found.wire)
+pub stood : {n m : NetworkLists} {s w number : ℕ} {u : SwitchState} → Found n m s w number u → StandsIn u n.pool
+stood {n} {m} {s} {w} {number} {u} found = subst (λ (y : SwitchState). StandsIn y n.pool) (sym found.found) (in_pool n found.is s w found.stage found.wire)

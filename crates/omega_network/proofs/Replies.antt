@@ -23,14 +23,14 @@ use Rattle.combining_switch.specs.declared.answers.Answered.TheVariants.{One, Ma
 use Rattle.combining_switch.specs.Switches.{CanBeQueued, SwitchState, answered, answered_for, has_room, input_for, put_replies, put_reply, records_at}
 use Rattle.combining_switch.specs.Switches.{with_records}
 use Rattle.omega_network.specs.Answers.{down_of}
-use Rattle.omega_network.specs.Networks.{AreSeconds, IsNetwork, MayLead, NetworkLists, half, net_of, no_switch, place, records_behind, replies_before}
+use Rattle.omega_network.specs.Networks.{IsNetwork, MayLead, NetworkLists, half, net_of, no_switch, place, records_behind, replies_before}
 use Rattle.omega_network.specs.Networks.{second_of}
 use Rattle.omega_network.specs.Networks.{sizes_of, switch_at}
 use Rattle.omega_network.proofs.Changes.{at_output, at_reply_queue, replies_put, switch_records_put}
 use Rattle.omega_network.proofs.Forms.{form, input_is, on_way}
 use Rattle.omega_network.proofs.Kept.{IsLike, pool_kept, records_kept}
 use Rattle.omega_network.proofs.Seconds.{queues_changed, records_dropped, was_there}
-use Rattle.omega_network.proofs.Switches.{half_of_wire, queue_within, with_pool, with_switch}
+use Rattle.omega_network.proofs.Switches.{queue_within, with_pool, with_switch}
 
 -- ---- what putting leaves
 

@@ -1,5 +1,5 @@
 -- The cells of those who are the second of a record stay free, and each is the second of one.
-use Rattle.std.proofs.Common.{◌≡◌, ℕ, ◌<◌, List, [], ◌∷◌, ◌++◌, ◌⊎◌, inl, inr, refl, sym, ap, ◌∙◌, subst}
+use Rattle.std.proofs.Common.{◌≡◌, ℕ, ◌<◌, List, [], ◌∷◌, ◌++◌, ◌⊎◌, inl, inr, sym, ap, ◌∙◌, subst}
 use Rattle.messages.specs.declared.message.Record.{Record}
 use Rattle.messages.specs.Places.{ApartBy, In, put2}
 use Rattle.messages.proofs.Lemmas.{ApartBy-push, In-append, In-put2, each_put2}

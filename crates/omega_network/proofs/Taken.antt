@@ -1,7 +1,7 @@
 -- A message that is put into a queue or taken out of it, in a network of places.
 use Rattle.std.proofs.Common.{◌≡◌, ℕ, suc, ◌^◌, ◌<◌, ◌≤◌, List, [], ◌∷◌, ◌++◌, length, map, drop, Option, Some, None, ◌⊎◌, inl, inr, refl, sym, ap, ◌∙◌, subst}
 use Rattle.std.proofs.Common.{length-set}
-use Rattle.std.specs.Prelude.{IfSome, slice_get}
+use Rattle.std.specs.Prelude.{◌*◌, IfSome, slice_get, slice_index_or}
 use Rattle.std.proofs.lemmas.List.{map-append}
 use Rattle.messages.specs.declared.message.Request.{Request}
 use Rattle.messages.specs.declared.message.Reply.{Reply}
@@ -10,11 +10,11 @@ use Rattle.messages.specs.Places.{In}
 use Rattle.messages.specs.Network.{Net, put_replies, put_requests}
 use Rattle.messages.proofs.Lemmas.{In-append}
 use Rattle.messages.specs.Naming.{Names, Unnamed}
-use Rattle.message_cells.specs.Pools.{IsFree, PoolLists, leader_of_reply, leader_of_request, replies_at, requests_at, with_replies, with_requests}
+use Rattle.message_cells.specs.Pools.{IsFree, PoolLists, leader_of_reply, leader_of_request, with_replies, with_requests}
 use Rattle.message_cells.proofs.Lemmas.{free_of_replies, free_of_requests}
 use Rattle.omega_network.specs.Networks.{IsNetwork, MayLead, NetworkLists, net_of, place, records_behind, replies_before, requests_before}
 use Rattle.omega_network.proofs.Changes.{at_queue, at_reply_queue, replies_put, requests_put}
-use Rattle.omega_network.proofs.Kept.{pool_kept}
+use Rattle.omega_network.proofs.Kept.{IsLike, pool_kept}
 use Rattle.omega_network.proofs.Naming.{unnamed_is_free}
 use Rattle.omega_network.proofs.Seconds.{queues_changed}
 use Rattle.omega_network.proofs.Switches.{queue_within, with_pool}
@@ -53,153 +53,145 @@ first_in : {X : Type 0} (f : X → ℕ) (xs : List X) (x : X) → Some x ≡ sli
 first_in f [] x e = cc
 first_in f (y ∷ ys) x e = let same : x ≡ y = cc in inl (ap f same)
 
--- ---- a queue of requests
+-- ---- requests, and replies
 
-module _ (n m : NetworkLists) (view : n ≡ m) (is : IsNetwork n) (d w q : ℕ) (depth : d ≤ m.k) (wire : w < 2 ^ m.k) (at : q ≡ place m.k d w) where
-  wire' : w < 2 ^ n.k
-  wire' = subst (λ (l : NetworkLists). w < 2 ^ l.k) (sym view) wire
+-- a kind of message: how a pool has its queues, and a network its places, and what is known of them
+pub record Kind (X : Type 0) : Type 0 where
+  pub leader : X → ℕ
+  pub queues : PoolLists → List (List X)
+  pub with_queue : PoolLists → ℕ → List X → PoolLists
+  pub before : NetworkLists → ℕ → ℕ → List X
+  pub put : Net → ℕ → ℕ → List X → Net
+  pub all : (n : NetworkLists) → IsNetwork n → length (queues n.pool) ≡ suc n.k * 2 ^ n.k
+  pub there : (n : NetworkLists) (d w : ℕ) → w < 2 ^ n.k → before n d w ≡ slice_index_or (queues n.pool) (place n.k d w) []
+  pub puts : (n : NetworkLists) (d w : ℕ) → w < 2 ^ n.k → (xs : List X) → place n.k d w < length (queues n.pool)
+      → net_of (with_pool n (with_queue n.pool (place n.k d w) xs)) ≡ put (net_of n) d w xs
+  pub like : (l : PoolLists) (q : ℕ) (xs : List X) → IsLike l (with_queue l q xs)
+  pub none_led : (l : PoolLists) (p : ℕ) → IsFree l p → (q : ℕ) → In p (map leader (slice_index_or (queues l) q [])) → ⊥
+  pub stays_free : (l : PoolLists) (q p : ℕ) (xs : List X) → (In p (map leader xs) → ⊥) → IsFree l p → IsFree (with_queue l q xs) p
 
-  at' : q ≡ place n.k d w
-  at' = subst (λ (l : NetworkLists). q ≡ place l.k d w) (sym view) at
+abbrev pub requests : Kind Request
+requests = record {
+  leader = leader_of_request;
+  queues = λ l. l.requests;
+  with_queue = with_requests;
+  before = requests_before;
+  put = put_requests;
+  all = λ n is. is.all_requests;
+  there = at_queue;
+  puts = requests_put;
+  like = λ l q xs. record { cells = refl; requests = length-set l.requests q xs; replies = refl };
+  none_led = λ l p free. free.no_request;
+  stays_free = free_of_requests;
+}
 
-  depth' : d ≤ n.k
-  depth' = subst (λ (l : NetworkLists). d ≤ l.k) (sym view) depth
+abbrev pub replies : Kind Reply
+replies = record {
+  leader = leader_of_reply;
+  queues = λ l. l.replies;
+  with_queue = with_replies;
+  before = replies_before;
+  put = put_replies;
+  all = λ n is. is.all_replies;
+  there = at_reply_queue;
+  puts = replies_put;
+  like = λ l q ys. record { cells = refl; requests = refl; replies = length-set l.replies q ys };
+  none_led = λ l p free. free.no_reply;
+  stays_free = free_of_replies;
+}
 
-  pub request_place : q < length n.pool.requests
-  request_place = subst (λ p. p < length n.pool.requests) (sym at') (queue_within n.k d w (length n.pool.requests) depth' wire' is.all_requests)
+-- ---- the queues that a call finds
 
-  pub reply_place : q < length n.pool.replies
-  reply_place = subst (λ p. p < length n.pool.replies) (sym at') (queue_within n.k d w (length n.pool.replies) depth' wire' is.all_replies)
+pub record Queues (n m : NetworkLists) (d w q : ℕ) : Type 0 where
+  pub view : n ≡ m
+  pub is : IsNetwork n
+  pub depth : d ≤ n.k
+  pub wire : w < 2 ^ n.k
+  pub at : q ≡ place n.k d w
 
-  pub requests_there : requests_at n.pool q ≡ requests_before m d w
-  requests_there = ap (requests_at n.pool) at' ∙ sym (at_queue n d w wire') ∙ ap (λ (l : NetworkLists). requests_before l d w) view
+pub queues_are : {n m : NetworkLists} {d w q : ℕ} → n ≡ m → IsNetwork n → d ≤ m.k → w < 2 ^ m.k → q ≡ place m.k d w → Queues n m d w q
+queues_are {n} {m} {d} {w} {q} view is depth wire at = record {
+  view = view;
+  is = is;
+  depth = subst (λ (l : NetworkLists). d ≤ l.k) (sym view) depth;
+  wire = subst (λ (l : NetworkLists). w < 2 ^ l.k) (sym view) wire;
+  at = subst (λ (l : NetworkLists). q ≡ place l.k d w) (sym view) at;
+}
 
-  pub replies_there : replies_at n.pool q ≡ replies_before m d w
-  replies_there = ap (replies_at n.pool) at' ∙ sym (at_reply_queue n d w wire') ∙ ap (λ (l : NetworkLists). replies_before l d w) view
+module _ {X : Type 0} (K : Kind X) {n m : NetworkLists} {d w q : ℕ} (found : Queues n m d w q) where
+  abbrev here : List X
+  here = slice_index_or (K.queues n.pool) q []
 
-  -- other requests in the queue, led by some of those before or by one who is no second
-  module _ (pool : PoolLists) (xs : List Request) (pool_is : pool ≡ with_requests n.pool q xs) where
-    pub requests_net : net_of (with_pool n pool) ≡ put_requests (net_of m) d w xs
-    requests_net =
+  pub within : q < length (K.queues n.pool)
+  within = subst (λ p. p < length (K.queues n.pool)) (sym found.at)
+      (queue_within n.k d w (length (K.queues n.pool)) found.depth found.wire (K.all n found.is))
+
+  pub before_is : here ≡ K.before m d w
+  before_is = ap (λ p. slice_index_or (K.queues n.pool) p []) found.at ∙ sym (K.there n d w found.wire) ∙ ap (λ (l : NetworkLists). K.before l d w) found.view
+
+  -- other messages in the queue, led by some of those before or by one who is no second
+  module _ (xs : List X) {pool : PoolLists} (pool_is : pool ≡ K.with_queue n.pool q xs) where
+    net_is : net_of (with_pool n pool) ≡ K.put (net_of m) d w xs
+    net_is =
         ap (λ (p : PoolLists). net_of (with_pool n p)) pool_is
-        ∙ ap (λ v. net_of (with_pool n (with_requests n.pool v xs))) at'
-        ∙ requests_put n d w wire' xs (subst (λ v. v < length n.pool.requests) at' request_place)
-        ∙ ap (λ (l : NetworkLists). put_requests (net_of l) d w xs) view
+        ∙ ap (λ v. net_of (with_pool n (K.with_queue n.pool v xs))) found.at
+        ∙ K.puts n d w found.wire xs (subst (λ v. v < length (K.queues n.pool)) found.at within)
+        ∙ ap (λ (l : NetworkLists). K.put (net_of l) d w xs) found.view
 
-    pub requests_kept : ((p : ℕ) → In p (map leader_of_request xs) → In p (map leader_of_request (requests_at n.pool q)) ⊎ ((s v : ℕ) (e : Record) →
-        In e (records_behind n s v) → e.second ≡ p → ⊥)) → IsNetwork (with_pool n pool)
-    requests_kept led = subst (λ (p : PoolLists). IsNetwork (with_pool n p)) (sym pool_is)
-        (pool_kept n (with_requests n.pool q xs) is (record { cells = refl; requests = length-set n.pool.requests q xs; replies = refl })
-        (queues_changed n.pool (with_requests n.pool q xs) (records_behind n) is.seconds refl
-        (λ s v e m free. free_of_requests n.pool q e.second xs (λ o. none s v e m free (led e.second o)) free)))
+    kept : ((p : ℕ) → In p (map K.leader xs) → In p (map K.leader here) ⊎ ((s v : ℕ) (e : Record) → In e (records_behind n s v) → e.second ≡ p → ⊥))
+        → IsNetwork (with_pool n pool)
+    kept led = subst (λ (p : PoolLists). IsNetwork (with_pool n p)) (sym pool_is)
+        (pool_kept n (K.with_queue n.pool q xs) found.is (K.like n.pool q xs)
+        (queues_changed n.pool (K.with_queue n.pool q xs) (records_behind n) found.is.seconds (sym (K.like n.pool q xs).cells)
+        (λ s v e m free. K.stays_free n.pool q e.second xs (λ o. none s v e m free (led e.second o)) free)))
       where
         none : (s v : ℕ) (e : Record) → In e (records_behind n s v) → IsFree n.pool e.second
-            → In e.second (map leader_of_request (requests_at n.pool q)) ⊎ ((s v : ℕ) (f : Record) → In f (records_behind n s v) → f.second ≡ e.second → ⊥) → ⊥
-        none s v e m free (inl o) = free.no_request q o
+            → In e.second (map K.leader here) ⊎ ((s v : ℕ) (f : Record) → In f (records_behind n s v) → f.second ≡ e.second → ⊥) → ⊥
+        none s v e m free (inl o) = K.none_led n.pool e.second free q o
         none s v e m free (inr none_of) = none_of s v e m refl
 
-  module _ (pool : PoolLists) (ys : List Reply) (pool_is : pool ≡ with_replies n.pool q ys) where
-    pub replies_net : net_of (with_pool n pool) ≡ put_replies (net_of m) d w ys
-    replies_net =
-        ap (λ (p : PoolLists). net_of (with_pool n p)) pool_is
-        ∙ ap (λ v. net_of (with_pool n (with_replies n.pool v ys))) at'
-        ∙ replies_put n d w wire' ys (subst (λ v. v < length n.pool.replies) at' reply_place)
-        ∙ ap (λ (l : NetworkLists). put_replies (net_of l) d w ys) view
+  -- the first message is taken
+  module _ {pool : PoolLists} (taken : pool ≡ K.with_queue n.pool q (drop 1 here)) where
+    pub taken_kept : IsNetwork (with_pool n pool)
+    taken_kept = kept (drop 1 here) taken (λ p o. inl (some_of K.leader p here o))
 
-    pub replies_kept : ((p : ℕ) → In p (map leader_of_reply ys) → In p (map leader_of_reply (replies_at n.pool q)) ⊎ ((s v : ℕ) (e : Record) →
-        In e (records_behind n s v) → e.second ≡ p → ⊥)) → IsNetwork (with_pool n pool)
-    replies_kept led = subst (λ (p : PoolLists). IsNetwork (with_pool n p)) (sym pool_is)
-        (pool_kept n (with_replies n.pool q ys) is (record { cells = refl; requests = refl; replies = length-set n.pool.replies q ys })
-        (queues_changed n.pool (with_replies n.pool q ys) (records_behind n) is.seconds refl
-        (λ s v e m free. free_of_replies n.pool q e.second ys (λ o. none s v e m free (led e.second o)) free)))
-      where
-        none : (s v : ℕ) (e : Record) → In e (records_behind n s v) → IsFree n.pool e.second
-            → In e.second (map leader_of_reply (replies_at n.pool q)) ⊎ ((s v : ℕ) (f : Record) → In f (records_behind n s v) → f.second ≡ e.second → ⊥) → ⊥
-        none s v e m free (inl o) = free.no_reply q o
-        none s v e m free (inr none_of) = none_of s v e m refl
+    pub taken_net : net_of (with_pool n pool) ≡ K.put (net_of m) d w (drop 1 (K.before m d w))
+    taken_net = net_is (drop 1 here) taken ∙ ap (λ xs. K.put (net_of m) d w (drop 1 xs)) before_is
 
-  -- ---- the calls
-
-  pub request_taken_kept : (pool : PoolLists) → pool ≡ with_requests n.pool q (drop 1 (requests_at n.pool q)) → IsNetwork (with_pool n pool)
-  request_taken_kept pool e = requests_kept pool (drop 1 (requests_at n.pool q)) e (λ p o. inl (some_of leader_of_request p (requests_at n.pool q) o))
-
-  pub request_taken_net : (pool : PoolLists) → pool ≡ with_requests n.pool q (drop 1 (requests_at n.pool q))
-      → net_of (with_pool n pool) ≡ put_requests (net_of m) d w (drop 1 (requests_before m d w))
-  request_taken_net pool e =
-      requests_net pool (drop 1 (requests_at n.pool q)) e ∙ ap (λ xs. put_requests (net_of m) d w (drop 1 xs)) requests_there
-
-  pub reply_taken_kept : (pool : PoolLists) → pool ≡ with_replies n.pool q (drop 1 (replies_at n.pool q)) → IsNetwork (with_pool n pool)
-  reply_taken_kept pool e = replies_kept pool (drop 1 (replies_at n.pool q)) e (λ p o. inl (some_of leader_of_reply p (replies_at n.pool q) o))
-
-  pub reply_taken_net : (pool : PoolLists) → pool ≡ with_replies n.pool q (drop 1 (replies_at n.pool q))
-      → net_of (with_pool n pool) ≡ put_replies (net_of m) d w (drop 1 (replies_before m d w))
-  reply_taken_net pool e =
-      replies_net pool (drop 1 (replies_at n.pool q)) e ∙ ap (λ ys. put_replies (net_of m) d w (drop 1 ys)) replies_there
-
-  -- who led the message that is taken may lead one again
-  pub request_leader : (pool : PoolLists) → pool ≡ with_requests n.pool q (drop 1 (requests_at n.pool q)) → (o : Option Request)
-      → o ≡ slice_get (requests_at n.pool q) 0 → IfSome o (λ x. x.leader < n.pool.cells) → IfSome o (λ x. IsFree pool x.leader)
-      → IfSome o (λ x. MayLead (with_pool n pool) x.leader)
-  unfolding records_behind
-  request_leader pool e None first below free = tt
-  request_leader pool e (Some x) first below free = record {
-    below = subst (λ (p : PoolLists). x.leader < p.cells) (sym e) below;
-    free = free;
-    no_second = λ s v f m same. (is.seconds.free s v f m).no_request q
-        (subst (λ p. In p (map leader_of_request (requests_at n.pool q))) (sym same) (first_in leader_of_request (requests_at n.pool q) x first));
-  }
-
-  pub reply_leader : (pool : PoolLists) → pool ≡ with_replies n.pool q (drop 1 (replies_at n.pool q)) → (o : Option Reply)
-      → o ≡ slice_get (replies_at n.pool q) 0 → IfSome o (λ y. y.leader < n.pool.cells) → IfSome o (λ y. IsFree pool y.leader)
-      → IfSome o (λ y. MayLead (with_pool n pool) y.leader)
-  unfolding records_behind
-  reply_leader pool e None first below free = tt
-  reply_leader pool e (Some y) first below free = record {
-    below = subst (λ (p : PoolLists). y.leader < p.cells) (sym e) below;
-    free = free;
-    no_second = λ s v f m same. (is.seconds.free s v f m).no_reply q
-        (subst (λ p. In p (map leader_of_reply (replies_at n.pool q))) (sym same) (first_in leader_of_reply (replies_at n.pool q) y first));
-  }
+    -- and who led it may lead one again
+    pub leader_may : (o : Option X) → o ≡ slice_get here 0 → IfSome o (λ x. K.leader x < n.pool.cells) → IfSome o (λ x. IsFree pool (K.leader x))
+        → IfSome o (λ x. MayLead (with_pool n pool) (K.leader x))
+    unfolding records_behind
+    leader_may None first below free = tt
+    leader_may (Some x) first below free = record {
+      below = subst (λ (p : PoolLists). K.leader x < p.cells) (sym taken) (subst (λ c. K.leader x < c) (sym (K.like n.pool q (drop 1 here)).cells) below);
+      free = free;
+      no_second = λ s v f m same. K.none_led n.pool f.second (found.is.seconds.free s v f m) q
+          (subst (λ p. In p (map K.leader here)) (sym same) (first_in K.leader here x first));
+    }
 
   -- a message comes of one who may lead it
-  pub request_put_kept : (pool : PoolLists) (x : Request) → pool ≡ with_requests n.pool q (requests_at n.pool q ++ x ∷ []) → MayLead n x.leader
-      → IsNetwork (with_pool n pool)
-  request_put_kept pool x e may = requests_kept pool (requests_at n.pool q ++ x ∷ []) e
-      (λ p o. go p (one_of_more leader_of_request p (requests_at n.pool q) x o))
-    where
-      go : (p : ℕ) → In p (map leader_of_request (requests_at n.pool q)) ⊎ (p ≡ x.leader)
-          → In p (map leader_of_request (requests_at n.pool q)) ⊎ ((s v : ℕ) (f : Record) → In f (records_behind n s v) → f.second ≡ p → ⊥)
-      go p (inl o) = inl o
-      go p (inr e) = inr (λ s v f m same. may.no_second s v f m (same ∙ e))
+  module _ (x : X) {pool : PoolLists} (put : pool ≡ K.with_queue n.pool q (here ++ x ∷ [])) where
+    pub put_kept : MayLead n (K.leader x) → IsNetwork (with_pool n pool)
+    put_kept may = kept (here ++ x ∷ []) put (λ p o. go p (one_of_more K.leader p here x o))
+      where
+        go : (p : ℕ) → In p (map K.leader here) ⊎ (p ≡ K.leader x)
+            → In p (map K.leader here) ⊎ ((s v : ℕ) (f : Record) → In f (records_behind n s v) → f.second ≡ p → ⊥)
+        go p (inl o) = inl o
+        go p (inr e) = inr (λ s v f m same. may.no_second s v f m (same ∙ e))
 
-  pub request_put_net : (pool : PoolLists) (x : Request) → pool ≡ with_requests n.pool q (requests_at n.pool q ++ x ∷ [])
-      → net_of (with_pool n pool) ≡ put_requests (net_of m) d w (requests_before m d w ++ x ∷ [])
-  request_put_net pool x e =
-      requests_net pool (requests_at n.pool q ++ x ∷ []) e ∙ ap (λ xs. put_requests (net_of m) d w (xs ++ x ∷ [])) requests_there
-
-  pub reply_put_kept : (pool : PoolLists) (y : Reply) → pool ≡ with_replies n.pool q (replies_at n.pool q ++ y ∷ []) → MayLead n y.leader
-      → IsNetwork (with_pool n pool)
-  reply_put_kept pool y e may = replies_kept pool (replies_at n.pool q ++ y ∷ []) e (λ p o. go p (one_of_more leader_of_reply p (replies_at n.pool q) y o))
-    where
-      go : (p : ℕ) → In p (map leader_of_reply (replies_at n.pool q)) ⊎ (p ≡ y.leader)
-          → In p (map leader_of_reply (replies_at n.pool q)) ⊎ ((s v : ℕ) (f : Record) → In f (records_behind n s v) → f.second ≡ p → ⊥)
-      go p (inl o) = inl o
-      go p (inr e) = inr (λ s v f m same. may.no_second s v f m (same ∙ e))
-
-  pub reply_put_net : (pool : PoolLists) (y : Reply) → pool ≡ with_replies n.pool q (replies_at n.pool q ++ y ∷ [])
-      → net_of (with_pool n pool) ≡ put_replies (net_of m) d w (replies_before m d w ++ y ∷ [])
-  reply_put_net pool y e =
-      replies_net pool (replies_at n.pool q ++ y ∷ []) e ∙ ap (λ ys. put_replies (net_of m) d w (ys ++ y ∷ [])) replies_there
+    pub put_net : net_of (with_pool n pool) ≡ K.put (net_of m) d w (K.before m d w ++ x ∷ [])
+    put_net = net_is (here ++ x ∷ []) put ∙ ap (λ xs. K.put (net_of m) d w (xs ++ x ∷ [])) before_is
 
 -- ---- messages from outside
 
-pub injected_may : (n m : NetworkLists) → n ≡ m → IsNetwork n → (p : ℕ) (x : Request) → x.leader ≡ p → p < 2 ^ m.k → (Names (net_of m) p → ⊥) → MayLead n
-    x.leader
-injected_may n m view is p x leader below none =
+pub injected_may : {n m : NetworkLists} {p : ℕ} (x : Request) → n ≡ m → IsNetwork n → x.leader ≡ p → p < 2 ^ m.k → (Names (net_of m) p → ⊥)
+    → MayLead n x.leader
+injected_may {n} {m} {p} x view is leader below none =
     subst (MayLead n) (sym leader) (may_lead n p is (subst (λ (l : NetworkLists). p < 2 ^ l.k) (sym view) below)
     (subst (λ (l : NetworkLists). Unnamed (net_of l) p) (sym view) (unnamed_is (net_of m) p none)))
 
-pub replied_may : (n m : NetworkLists) → n ≡ m → IsNetwork n → (y : Reply) → y.leader < 2 ^ m.k → Unnamed (net_of m) y.leader → MayLead n y.leader
-replied_may n m view is y below none =
+pub replied_may : {n m : NetworkLists} (y : Reply) → n ≡ m → IsNetwork n → y.leader < 2 ^ m.k → Unnamed (net_of m) y.leader → MayLead n y.leader
+replied_may {n} {m} y view is below none =
     may_lead n y.leader is (subst (λ (l : NetworkLists). y.leader < 2 ^ l.k) (sym view) below)
     (subst (λ (l : NetworkLists). Unnamed (net_of l) y.leader) (sym view) none)

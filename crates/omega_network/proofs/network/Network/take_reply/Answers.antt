@@ -1,26 +1,21 @@
-use Rattle.std.proofs.Common.{ap, ◌∙◌}
+use Rattle.std.proofs.Common.{ap, ◌∙◌, rules}
 use Rattle.std.specs.Prelude.{slice_get}
-use Rattle.omega_network.proofs.Taken.{reply_leader, reply_place, reply_taken_kept, reply_taken_net, replies_there}
+use Rattle.omega_network.proofs.Taken.{before_is, leader_may, queues_are, replies, taken_kept, taken_net, within}
 use Rattle.omega_network.proofs.network.Network.take_reply.Goals as goal
 
 pub pop_reply-requires : goal.pop_reply-requires
-pop_reply-requires c = reply_place _ c.args.self.now c.self.view_is c.self.invariant c.args.stage c.args.wire c.place-queue.result c.requires.stage
-    c.requires.wire c.place-queue.ensures.exact
+pop_reply-requires c = within replies (queues_are c.self.view_is c.self.invariant c.requires.stage c.requires.wire c.place-queue.ensures.exact)
 
 pub invariant_of-self : goal.invariant_of-self
-invariant_of-self c = reply_taken_kept _ c.args.self.now c.self.view_is c.self.invariant c.args.stage c.args.wire c.place-queue.result c.requires.stage
-    c.requires.wire c.place-queue.ensures.exact c.pop_reply.new.self c.pop_reply.ensures.after
+invariant_of-self c = taken_kept replies (queues_are c.self.view_is c.self.invariant c.requires.stage c.requires.wire c.place-queue.ensures.exact) c.pop_reply.ensures.after
 
-pub returns-clause-first : goal.returns-clause-first
-returns-clause-first c = c.pop_reply.ensures.first ∙ ap (λ xs. slice_get xs 0)
-    (replies_there _ c.args.self.now c.self.view_is c.self.invariant c.args.stage c.args.wire c.place-queue.result c.requires.stage c.requires.wire
-    c.place-queue.ensures.exact)
-
-pub returns-clause-taken : goal.returns-clause-taken
-returns-clause-taken c = reply_taken_net _ c.args.self.now c.self.view_is c.self.invariant c.args.stage c.args.wire c.place-queue.result c.requires.stage
-    c.requires.wire c.place-queue.ensures.exact c.pop_reply.new.self c.pop_reply.ensures.after
-
-pub returns-clause-unnamed : goal.returns-clause-unnamed
-returns-clause-unnamed c = reply_leader _ c.args.self.now c.self.view_is c.self.invariant c.args.stage c.args.wire c.place-queue.result c.requires.stage
-    c.requires.wire c.place-queue.ensures.exact c.pop_reply.new.self c.pop_reply.ensures.after c.pop_reply.result
-    c.pop_reply.ensures.first c.pop_reply.ensures.cell c.pop_reply.ensures.freed
+pub returns : goal.returns
+returns c =
+    let found = queues_are c.self.view_is c.self.invariant c.requires.stage c.requires.wire c.place-queue.ensures.exact in
+    let popped = c.pop_reply.ensures in
+    record {
+      first = popped.first ∙ ap (λ xs. slice_get xs 0) (before_is replies found);
+      taken = taken_net replies found popped.after;
+      sizes = search rules;
+      unnamed = leader_may replies found popped.after c.pop_reply.result popped.first popped.cell popped.freed;
+    }
