@@ -28,7 +28,8 @@ returns c =
     let e = ap (λ (z : Sizes). answer z net net c.args.stage c.args.wire c.args.reply (records_of c.args.reply.leader (net.records c.args.stage c.args.wire)))
     c.take_reply.ensures.sizes
     ∙ sym (down_went c.args.self.now c.args.wire c.requires.stage c.requires.first c.would_answer.ensures c.if-not-would_answer.false
-    (c.take_reply.ensures.taken ∙ ap (λ d. put_replies (net_of c.args.self.now) d c.args.wire (drop 1 ((net_of c.args.self.now).replies d c.args.wire))) next)) in
+    (c.take_reply.ensures.taken ∙ ap (λ d. put_replies (net_of c.args.self.now) d c.args.wire (drop 1 ((net_of c.args.self.now).replies d c.args.wire)))
+    next)) in
     record {
       outcome = c.answer.ensures.outcome ∙ ap (λ (r : DownMove × Net). r.0) e;
       after = c.answer.ensures.after ∙ ap (λ (r : DownMove × Net). r.1) e;

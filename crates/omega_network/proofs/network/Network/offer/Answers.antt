@@ -3,7 +3,8 @@ use Rattle.omega_network.proofs.Offering.{found_is, offer_ends, stood}
 use Rattle.omega_network.proofs.network.Network.offer.Goals as goal
 
 pub accept-answer-requires-clause-queues : goal.accept-answer-requires-clause-queues
-accept-answer-requires-clause-queues c = stood (found_is c.self.view_is c.self.invariant c.requires.stage c.requires.wire c.switch_behind-place.ensures.exact c.index_mut.ensures.value)
+accept-answer-requires-clause-queues c = stood (found_is c.self.view_is c.self.invariant c.requires.stage c.requires.wire c.switch_behind-place.ensures.exact
+    c.index_mut.ensures.value)
 
 pub invariant_of-self : goal.invariant_of-self
 invariant_of-self c =

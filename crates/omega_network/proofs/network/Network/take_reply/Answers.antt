@@ -7,7 +7,8 @@ pub pop_reply-requires : goal.pop_reply-requires
 pop_reply-requires c = within replies (queues_are c.self.view_is c.self.invariant c.requires.stage c.requires.wire c.place-queue.ensures.exact)
 
 pub invariant_of-self : goal.invariant_of-self
-invariant_of-self c = taken_kept replies (queues_are c.self.view_is c.self.invariant c.requires.stage c.requires.wire c.place-queue.ensures.exact) c.pop_reply.ensures.after
+invariant_of-self c = taken_kept replies (queues_are c.self.view_is c.self.invariant c.requires.stage c.requires.wire c.place-queue.ensures.exact)
+    c.pop_reply.ensures.after
 
 pub returns : goal.returns
 returns c =

@@ -7,7 +7,8 @@ pub pop_request-requires : goal.pop_request-requires
 pop_request-requires c = within requests (queues_are c.self.view_is c.self.invariant c.requires.stage c.requires.wire c.place-queue.ensures.exact)
 
 pub invariant_of-self : goal.invariant_of-self
-invariant_of-self c = taken_kept requests (queues_are c.self.view_is c.self.invariant c.requires.stage c.requires.wire c.place-queue.ensures.exact) c.pop_request.ensures.after
+invariant_of-self c = taken_kept requests (queues_are c.self.view_is c.self.invariant c.requires.stage c.requires.wire c.place-queue.ensures.exact)
+    c.pop_request.ensures.after
 
 pub returns : goal.returns
 returns c =

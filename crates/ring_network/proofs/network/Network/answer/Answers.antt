@@ -1,4 +1,4 @@
-use Rattle.std.proofs.Common.{◌%◌, ◌/◌, arith}
+use Rattle.std.proofs.Common.{◌%◌, ◌/◌, arith, rules}
 use Rattle.ring_network.proofs.Kept.{answer_stays, found_behind}
 use Rattle.ring_network.proofs.Replies.{answer_net}
 use Rattle.ring_network.proofs.network.Network.answer.Goals as goal
@@ -9,16 +9,10 @@ invariant_of-self c =
     (found_behind c.self.view_is c.self.invariant c.requires.stage c.requires.wire c.place_behind-place.ensures.exact c.index_mut.ensures.value)
     (c.args.wire % 2) c.args.reply c.answer.new.self (omega arith) c.answer.ensures.after
 
-pub returns-clause-answer : goal.returns-clause-answer
-returns-clause-answer c =
-    (answer_net c.rotations_are_inverse.ensures.inverse c.rotations_are_inverse.ensures.small _ c.args.self.now c.args.stage c.args.wire
+pub returns : goal.returns
+returns c =
+    let net = answer_net c.rotations_are_inverse.ensures.inverse c.rotations_are_inverse.ensures.small _ c.args.self.now c.args.stage c.args.wire
     c.place_behind-place.result c.index_mut.result.now
     (found_behind c.self.view_is c.self.invariant c.requires.stage c.requires.wire c.place_behind-place.ensures.exact c.index_mut.ensures.value)
-    c.requires.wire c.args.reply c.answer.new.self c.answer.result c.answer.ensures.answer c.answer.ensures.after).0
-
-pub returns-clause-after : goal.returns-clause-after
-returns-clause-after c =
-    (answer_net c.rotations_are_inverse.ensures.inverse c.rotations_are_inverse.ensures.small _ c.args.self.now c.args.stage c.args.wire
-    c.place_behind-place.result c.index_mut.result.now
-    (found_behind c.self.view_is c.self.invariant c.requires.stage c.requires.wire c.place_behind-place.ensures.exact c.index_mut.ensures.value)
-    c.requires.wire c.args.reply c.answer.new.self c.answer.result c.answer.ensures.answer c.answer.ensures.after).1
+    c.requires.wire c.args.reply c.answer.new.self c.answer.result c.answer.ensures.answer c.answer.ensures.after in
+    record { answer = net.0; after = net.1; sizes = search rules }
