@@ -60,17 +60,6 @@ module _ (limit : ℕ) (start l new : Log) (i j : ℕ) (s : Step) (o : Outcome) 
       (step_over start l new s o b.opening b.replay own taken (under_of limit start i l b) replayed
       (subst (λ xs. length start.steps ≤ length xs) (sym b.steps) (longer start.opening start.steps (take i (round start.machine.config.k)))) over)
 
--- a step of a row comes next, where those of the wires before are left out
-pub next_of_row : (m : MachineLists) (k from wire next : ℕ) (s : Step) → m.config.k ≡ k → wire ≤ next → slice_get (round k) (from + next) ≡ Some s →
-    AreQuiet m (from + wire) (from + next) → IsNext m (from + wire) s (from + (next + 1))
-next_of_row m k from wire next s same ahead there quiet = record {
-  place = from + next;
-  there = subst (λ n. slice_get (round n) (from + next) ≡ Some s) (sym same) there;
-  reached = omega (arith, ahead);
-  next = omega arith;
-  quiet = quiet;
-}
-
 -- ---- steps that are left out
 
 pub quiet_goes_on : (limit : ℕ) (start l : Log) (i j : ℕ) → IsInRound limit start i l → i ≤ j → j ≤ length (round start.machine.config.k) →
@@ -95,13 +84,26 @@ full_ends limit start l i b room full =
 -- ---- a row
 
 -- the first wire of a row that is found, on a machine of so many stages
-abbrev pub IsFound : (number : ℕ → ℕ) → MachineLists → (k wire next : ℕ) → Type 0
+abbrev IsFound : (number : ℕ → ℕ) → MachineLists → (k wire next : ℕ) → Type 0
 IsFound number m k wire next = (wire ≤ next) × (next < 2 ^ k) × AreQuiet m (number k * 2 ^ k + wire) (number k * 2 ^ k + next)
 
-pub found_here : (number : ℕ → ℕ) (seen m : MachineLists) (k wire next : ℕ) → seen ≡ m → m.config.k ≡ k → IsFound number seen seen.config.k wire next →
-    IsFound number m k wire next
-found_here number seen m k wire next same size found =
-    subst (λ n. IsFound number m n wire next) size (subst (λ (x : MachineLists). IsFound number x x.config.k wire next) same found)
+-- the step of that wire is there, and comes next
+pub row_step : (number : ℕ → ℕ) (seen m : MachineLists) (k wire next : ℕ) (s : Step) → seen ≡ m → m.config.k ≡ k →
+    IsFound number seen seen.config.k wire next → (next < 2 ^ k → slice_get (round k) (number k * 2 ^ k + next) ≡ Some s) →
+    (next < 2 ^ k) × IsNext m (number k * 2 ^ k + wire) s (number k * 2 ^ k + (next + 1))
+row_step number seen m k wire next s same size first there =
+    let found : IsFound number m k wire next = subst (λ n. IsFound number m n wire next) size
+    (subst (λ (x : MachineLists). IsFound number x x.config.k wire next) same first) in
+    let ahead = found.0 in (
+      found.1,
+      record {
+        place = number k * 2 ^ k + next;
+        there = subst (λ n. slice_get (round n) (number k * 2 ^ k + next) ≡ Some s) (sym size) (there found.1);
+        reached = omega (arith, ahead);
+        next = omega arith;
+        quiet = found.2;
+      },
+    )
 
 pub quiet_here : (number : ℕ → ℕ) (seen m : MachineLists) (k wire : ℕ) → seen ≡ m → m.config.k ≡ k →
     AreQuiet seen (number seen.config.k * 2 ^ seen.config.k + wire) ((number seen.config.k + 1) * 2 ^ seen.config.k) →
@@ -138,26 +140,34 @@ gone_on limit i j k old mid new end first second = record {
   ended = λ is_over e start room b. second.ended is_over e start room (first.on refl start b);
 }
 
-pub gone_at : (limit i j i' j' : ℕ) (old new : Log) (end : Option Bool) → i ≡ i' → j ≡ j' → HasGone limit i j old end new → HasGone limit i' j' old end new
-gone_at limit i j i' j' old new end same same' gone =
+pub gone_at : {limit i j i' j' : ℕ} {old new : Log} {end : Option Bool} → HasGone limit i j old end new → i ≡ i' → j ≡ j' → HasGone limit i' j' old end new
+gone_at {limit} {i} {j} {i'} {j'} {old} {new} {end} gone same same' =
     subst (λ n. HasGone limit n j' old end new) same (subst (λ n. HasGone limit i n old end new) same' gone)
 
 -- a round that has ended has ended, wherever it might have come to
-pub ended_before : (limit i j j' : ℕ) (old new : Log) (is_over : Bool) → HasGone limit i j old (Some is_over) new → HasGone limit i j' old (Some is_over) new
-ended_before limit i j j' old new is_over gone = record { config = gone.config; on = λ e. absurd (cc); ended = gone.ended }
+pub ended_before : {limit i j j' : ℕ} {old new : Log} {is_over : Bool} → HasGone limit i j old (Some is_over) new → HasGone limit i j' old (Some is_over) new
+ended_before gone = record { config = gone.config; on = λ e. absurd (cc); ended = gone.ended }
+
+abbrev pub stages_of : Log → ℕ
+stages_of l = l.machine.config.k
+
+pub same_stages : {d : Config} {m n : MachineLists} → d ≡ m.config → m ≡ n → d.k ≡ n.config.k
+same_stages config machine = ap (λ (d : Config). d.k) (config ∙ ap (λ (m : MachineLists). m.config) machine)
 
 -- it goes on from where it has come to, on a machine of as many stages
-pub then_gone : (limit i k k' : ℕ) (from to : ℕ → ℕ) (old l new : Log) (end : Option Bool) → k' ≡ k → HasGone limit i (from k) old None l →
-    HasGone limit (from k') (to k') l end new → HasGone limit i (to k) old end new
-then_gone limit i k k' from to old l new end size before gone =
-    gone_on limit i (from k) (to k) old l new end before (subst (λ n. HasGone limit (from n) (to n) l end new) size gone)
+pub then_gone : (limit i : ℕ) (from to : ℕ → ℕ) (old l new : Log) (end : Option Bool) → HasGone limit i (from (stages_of old)) old None l →
+    HasGone limit (from (stages_of l)) (to (stages_of l)) l end new → HasGone limit i (to (stages_of old)) old end new
+then_gone limit i from to old l new end before gone =
+    let k = stages_of old in
+    gone_on limit i (from k) (to k) old l new end before
+    (subst (λ n. HasGone limit (from n) (to n) l end new) (ap (λ (d : Config). d.k) before.config) gone)
 
 -- by a row
-pub row_gone : (limit from k k' row number : ℕ) (old l new : Log) (end : Option Bool) → k' ≡ k → number ≡ row → HasGone limit from (row * 2 ^ k) old None l →
-    HasGone limit (number * 2 ^ k') ((number + 1) * 2 ^ k') l end new → HasGone limit from ((row + 1) * 2 ^ k) old end new
-row_gone limit from k k' row number old l new end size same before gone =
-    then_gone limit from k k' (λ n. row * 2 ^ n) (λ n. (row + 1) * 2 ^ n) old l new end size before
-    (subst (λ r. HasGone limit (r * 2 ^ k') ((r + 1) * 2 ^ k') l end new) same gone)
+pub row_gone : (limit from row number : ℕ) (old l new : Log) (end : Option Bool) → number ≡ row → HasGone limit from (row * 2 ^ stages_of old) old None l →
+    HasGone limit (number * 2 ^ stages_of l) ((number + 1) * 2 ^ stages_of l) l end new → HasGone limit from ((row + 1) * 2 ^ stages_of old) old end new
+row_gone limit from row number old l new end same before gone =
+    then_gone limit from (λ n. row * 2 ^ n) (λ n. (row + 1) * 2 ^ n) old l new end before
+    (subst (λ r. HasGone limit (r * 2 ^ stages_of l) ((r + 1) * 2 ^ stages_of l) l end new) same gone)
 
 -- ---- a whole round
 

@@ -12,5 +12,7 @@ pub mod Rows
 pub mod OfKinds
 pub mod Skipping
 pub mod Going
+pub mod Parts
+pub mod Alike
 pub mod OneLog
 pub mod Lemmas

@@ -2,7 +2,7 @@ use Rattle.std.proofs.Common.{◌≡◌, ◌+◌, ◌*◌, ◌^◌, ◌<◌, ◌
 use Rattle.flat_machine.specs.declared.config.Config.{Config}
 use Rattle.machine_sweep.specs.Standing.{HasRunning}
 use Rattle.machine_sweep.specs.Sweeps.{IsFault, IsInRound, IsStop, WasAskedRound}
-use Rattle.machine_sweep.proofs.Going.{found_here, next_of_row, quiet_here, row_goes_on, step_ends, step_goes_on}
+use Rattle.machine_sweep.proofs.Going.{quiet_here, row_goes_on, row_step, step_ends, step_goes_on}
 use Rattle.machine_sweep.proofs.sweeping.take_row.Goals as goal
 
 pub loop-log-init : goal.loop-log-init
@@ -40,9 +40,8 @@ returns-then-is_over-clause-gone g c =
     let number = g.R.Row.number c.args.row.now in
     let next = c.in_ok-next.next in
     let size : l.machine.config.k ≡ k = ap (λ (d : Config). d.k) i.config in
-    let found = found_here number c.machine.result.now l.machine k c.loop-log.wire next c.machine.ensures.machine size c.in_ok-next.ensures.first in
-    let there = c.step.ensures k c.roomy_is_kept.ensures.kept.sound.limits.stages c.requires.there found.1 in
-    let is = next_of_row l.machine k (number k * 2 ^ k) c.loop-log.wire next c.step.result size found.0 there found.2 in
+    let there = row_step number c.machine.result.now l.machine k c.loop-log.wire next c.step.result c.machine.ensures.machine size c.in_ok-next.ensures.first
+    (c.step.ensures k c.roomy_is_kept.ensures.kept.sound.limits.stages c.requires.there) in
     let taken = c.step-outcome.ensures.taken in
     let inside : length l.steps < c.args.limit = (let len = ap length c.steps.ensures.steps in omega (arith, len, c.loop-log-test.true)) in
     let new = c.step-outcome.new.self.log in
@@ -54,7 +53,7 @@ returns-then-is_over-clause-gone g c =
       ended = λ is_over e start room b.
           subst (λ x. WasAskedRound c.args.limit start x new) (let same : true ≡ is_over = cc in same)
           (step_ends c.args.limit start l new (number k * 2 ^ k + c.loop-log.wire) (number k * 2 ^ k + (next + 1)) c.step.result c.step-outcome.result
-          (i.on start b) is taken c.machine-in-loop-log.ensures.replay inside over);
+          (i.on start b) there.1 taken c.machine-in-loop-log.ensures.replay inside over);
     }
 
 pub loop-log-preserved : goal.loop-log-preserved
@@ -65,9 +64,8 @@ loop-log-preserved g c =
     let number = g.R.Row.number c.args.row.now in
     let next = c.in_ok-next.next in
     let size : l.machine.config.k ≡ k = ap (λ (d : Config). d.k) i.config in
-    let found = found_here number c.machine.result.now l.machine k c.loop-log.wire next c.machine.ensures.machine size c.in_ok-next.ensures.first in
-    let there = c.step.ensures k c.roomy_is_kept.ensures.kept.sound.limits.stages c.requires.there found.1 in
-    let is = next_of_row l.machine k (number k * 2 ^ k) c.loop-log.wire next c.step.result size found.0 there found.2 in
+    let there = row_step number c.machine.result.now l.machine k c.loop-log.wire next c.step.result c.machine.ensures.machine size c.in_ok-next.ensures.first
+    (c.step.ensures k c.roomy_is_kept.ensures.kept.sound.limits.stages c.requires.there) in
     let taken = c.step-outcome.ensures.taken in
     let inside : length l.steps < c.args.limit = (let len = ap length c.steps.ensures.steps in omega (arith, len, c.loop-log-test.true)) in
     let new = c.step-outcome.new.self.log in
@@ -79,8 +77,8 @@ loop-log-preserved g c =
       config = taken.step.config ∙ i.config;
       stages = subst (λ (d : Config). d.k ≤ 6) (sym taken.step.config) i.stages;
       room = c.step-outcome.ensures.places ∙ i.room;
-      wire = let less = found.1 in omega (arith, less);
+      wire = let less = there.0 in omega (arith, less);
       on = λ start b.
           step_goes_on c.args.limit start l new (number k * 2 ^ k + c.loop-log.wire) (number k * 2 ^ k + (next + 1)) c.step.result c.step-outcome.result
-          (i.on start b) is taken c.machine-in-loop-log.ensures.replay inside plain;
+          (i.on start b) there.1 taken c.machine-in-loop-log.ensures.replay inside plain;
     }

@@ -1,7 +1,6 @@
-use Rattle.std.proofs.Common.{◌≡◌, ◌+◌, ◌-◌, ◌*◌, ◌^◌, Some, None, refl, ap, ◌∙◌, arith}
-use Rattle.flat_machine.specs.declared.config.Config.{Config}
-use Rattle.machine_runs.specs.Machines.{MachineLists}
-use Rattle.machine_sweep.proofs.Going.{ended_before, gone_at, gone_nowhere, row_gone}
+use Rattle.std.proofs.Common.{◌≡◌, ◌+◌, ◌*◌, ◌^◌, refl, ap, ◌∙◌, arith}
+use Rattle.machine_sweep.proofs.Going.{ended_before, gone_at, gone_nowhere, same_stages}
+use Rattle.machine_sweep.proofs.Parts.{up_gone}
 use Rattle.machine_sweep.proofs.sweeping.take_ups.Goals as goal
 
 pub loop-passed-init : goal.loop-passed-init
@@ -13,45 +12,20 @@ loop-passed-init c = record {
 
 pub returns-in-Some-clause-gone : goal.returns-in-Some-clause-gone
 returns-in-Some-clause-gone c =
-    let k = c.args.log.now.log.machine.config.k in
-    let old = c.args.log.now.log in
-    let l = c.loop-passed.log.log in
-    let passed = c.loop-passed.passed in
-    let size : l.machine.config.k ≡ k = ap (λ (d : Config). d.k) c.loop-passed.invariant.gone.config in
-    let stages : c.config-stages.result.k ≡ k =
-    ap (λ (d : Config). d.k) (c.config-stages.ensures.config ∙ ap (λ (m : MachineLists). m.config) c.machine.ensures.machine) in
-    let number : l.machine.config.k - (c.config-stages.result.k - 1 - passed) ≡ passed + 1 = omega (arith, size, stages, c.loop-passed-test.true) in
-    let new = c.take_row.new.log.log in
-    let end = Some c.in-Some.is_over in
-    gone_at c.args.limit (1 * 2 ^ k) ((k + 1) * 2 ^ k) (2 ^ k) ((k + 1) * 2 ^ k) old new end (omega arith) refl
-    (ended_before c.args.limit (1 * 2 ^ k) ((passed + 1 + 1) * 2 ^ k) ((k + 1) * 2 ^ k) old new c.in-Some.is_over
-    (row_gone c.args.limit (1 * 2 ^ k) k l.machine.config.k (passed + 1) (l.machine.config.k - (c.config-stages.result.k - 1 - passed)) old l new end size
-    number
-    c.loop-passed.invariant.gone c.in-Some.ensures.gone))
+    gone_at (ended_before (up_gone (same_stages c.config-stages.ensures.config c.machine.ensures.machine) c.loop-passed-test.true c.loop-passed.invariant.gone
+    c.in-Some.ensures.gone)) (omega arith) refl
 
 pub loop-passed-preserved : goal.loop-passed-preserved
-loop-passed-preserved c =
-    let k = c.args.log.now.log.machine.config.k in
-    let old = c.args.log.now.log in
-    let l = c.loop-passed.log.log in
-    let passed = c.loop-passed.passed in
-    let size : l.machine.config.k ≡ k = ap (λ (d : Config). d.k) c.loop-passed.invariant.gone.config in
-    let stages : c.config-stages.result.k ≡ k =
-    ap (λ (d : Config). d.k) (c.config-stages.ensures.config ∙ ap (λ (m : MachineLists). m.config) c.machine.ensures.machine) in
-    let number : l.machine.config.k - (c.config-stages.result.k - 1 - passed) ≡ passed + 1 = omega (arith, size, stages, c.loop-passed-test.true) in
-    record {
-      gone = row_gone c.args.limit (1 * 2 ^ k) k l.machine.config.k (passed + 1) (l.machine.config.k - (c.config-stages.result.k - 1 - passed)) old l
-          c.take_row.new.log.log None size number c.loop-passed.invariant.gone c.in_default.ensures.gone;
-      room = c.take_row.ensures.room ∙ c.loop-passed.invariant.room;
-      few = c.loop-passed.invariant.few;
-    }
+loop-passed-preserved c = record {
+  gone = up_gone (same_stages c.config-stages.ensures.config c.machine.ensures.machine) c.loop-passed-test.true c.loop-passed.invariant.gone
+      c.in_default.ensures.gone;
+  room = c.take_row.ensures.room ∙ c.loop-passed.invariant.room;
+  few = c.loop-passed.invariant.few;
+}
 
 pub returns-clause-gone : goal.returns-clause-gone
 returns-clause-gone c =
     let k = c.args.log.now.log.machine.config.k in
-    let passed = c.loop-passed.passed in
-    let stages : c.config-stages.result.k ≡ k =
-    ap (λ (d : Config). d.k) (c.config-stages.ensures.config ∙ ap (λ (m : MachineLists). m.config) c.machine.ensures.machine) in
-    let all : passed ≡ k = omega (arith, stages, c.loop-passed-test.false, c.loop-passed.auto.passed-end) in
-    gone_at c.args.limit (1 * 2 ^ k) ((passed + 1) * 2 ^ k) (2 ^ k) ((k + 1) * 2 ^ k) c.args.log.now.log c.loop-passed.log.log None (omega arith)
-    (ap (λ n. (n + 1) * 2 ^ k) all) c.loop-passed.invariant.gone
+    let stages : c.config-stages.result.k ≡ k = same_stages c.config-stages.ensures.config c.machine.ensures.machine in
+    let all : c.loop-passed.passed ≡ k = omega (arith, stages, c.loop-passed-test.false, c.loop-passed.auto.passed-end) in
+    gone_at c.loop-passed.invariant.gone (omega arith) (ap (λ n. (n + 1) * 2 ^ k) all)
