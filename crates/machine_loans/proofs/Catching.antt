@@ -33,10 +33,10 @@ use Rattle.machine_log.specs.machine_runs.Runs.{NoneStalls, all_after, events_of
 use Rattle.loan_theory.specs.Laws.{LocalTurnsCatchUp}
 use Rattle.loan_theory.specs.Loans.{after_all, answers_of, told_of, turns_of, with_core}
 use Rattle.loan_theory.specs.local_runs.LocalRuns.{TakesLocal}
-use Rattle.machine_loans.specs.Lendings.{AreAnswered, IsLending, lent_at, whole, with_lent}
+use Rattle.machine_loans.specs.Lendings.{AreAnswered, IsLending, lent_at, whole, with_lent, LendingLog}
 use Rattle.machine_loans.specs.declared.lent.Lent.{Lent}
 use Rattle.machine_loans.proofs.Backing.{promise_less}
-use Rattle.machine_loans.proofs.Changing.{as_long, back_port, lends_so, whole_set}
+use Rattle.machine_loans.proofs.Changing.{IsAway, as_long, back_port, lends_so, whole_set}
 
 -- ---- words stay words
 
@@ -149,10 +149,37 @@ module _ (catches : LocalTurnsCatchUp) (joined : ReplaysAreJoined) (opening : Ma
 
 -- ---- a core that has come back
 
-module _ (catches : LocalTurnsCatchUp) (joined : ReplaysAreJoined) (opening m : MachineLists) (steps : List Step) (capacity : ℕ) (lent : List (Option Lent))
-    (is : IsLending opening m steps capacity lent) (p : ℕ) (within : p < 2 ^ m.config.k) (l : Lent) (e : lent_at lent p ≡ Some l) (core : CoreState)
-    (taken : List retirement.Retired) (setting : core.setting ≡ l.core.setting) (home : is_away core.state ≡ false)
-    (local : TakesLocal l.core.setting m.code l.core.state taken core.state) (few : length taken ≤ l.most) where
+-- The core of p, of which this is known, has come back as it is after these instructions.
+pub record ComesBack (opening m : MachineLists) (steps : List Step) (capacity : ℕ) (lent : List (Option Lent)) (p : ℕ) (l : Lent) (core : CoreState)
+    (taken : List retirement.Retired) : Type 0 where
+  pub catches : LocalTurnsCatchUp
+  pub joined : ReplaysAreJoined
+  pub is : IsLending opening m steps capacity lent
+  pub away : IsAway m lent p l
+  pub setting : core.setting ≡ l.core.setting
+  pub home : is_away core.state ≡ false
+  pub local : TakesLocal l.core.setting m.code l.core.state taken core.state
+  pub few : length taken ≤ l.most
+
+-- as a call finds it
+pub comes_back : {opening m : MachineLists} {steps : List Step} {capacity : ℕ} {lent : List (Option Lent)} {p : ℕ} {l : Lent} {core : CoreState}
+    {taken : List retirement.Retired} {x : LendingLog} → LocalTurnsCatchUp → ReplaysAreJoined → IsLending opening m steps capacity lent → IsAway m lent p l →
+    record { log = record { opening = opening; steps = steps; machine = whole m lent }; lent = lent } ≡ x → core.setting ≡ l.core.setting →
+    is_away core.state ≡ false → TakesLocal l.core.setting x.log.machine.code l.core.state taken core.state → length taken ≤ l.most →
+    ComesBack opening m steps capacity lent p l core taken
+comes_back {l = l} {core = core} {taken = taken} catches joined is away view setting home local few = record {
+  catches = catches;
+  joined = joined;
+  is = is;
+  away = away;
+  setting = setting;
+  home = home;
+  local = subst (λ (y : LendingLog). TakesLocal l.core.setting y.log.machine.code l.core.state taken core.state) (sym view) local;
+  few = few;
+}
+
+module _ {opening m : MachineLists} {steps : List Step} {capacity : ℕ} {lent : List (Option Lent)} {p : ℕ} {l : Lent} {core : CoreState}
+    {taken : List retirement.Retired} (b : ComesBack opening m steps capacity lent p l core taken) where
   abbrev V : MachineLists
   V = whole m lent
 
@@ -160,36 +187,38 @@ module _ (catches : LocalTurnsCatchUp) (joined : ReplaysAreJoined) (opening m : 
   turns' = turns_of p (length taken)
 
   long : length lent ≡ length m.ports
-  long = as_long opening m steps capacity lent is p within core None
+  long = as_long opening m steps capacity lent b.is p b.away.within core None
 
   port_is : port_at V.ports p ≡ with_lent (port_at m.ports p) (Some l)
-  port_is = back_port m lent p long ∙ ap (with_lent (port_at m.ports p)) e
+  port_is = back_port m lent p long ∙ ap (with_lent (port_at m.ports p)) b.away.known
 
   setting_is : l.core.setting ≡ setting_of m.config p
-  setting_is = (is.away p l e).setting
+  setting_is = (b.is.away p l b.away.known).setting
 
   shut : open_at V.ports p ≡ false
-  shut = ap (λ (x : PortState). x.is_open) port_is ∙ away_shut m is.sound p within (is.away p l e).away
+  shut = ap (λ (x : PortState). x.is_open) port_is ∙ away_shut m b.is.sound p b.away.within (b.is.away p l b.away.known).away
 
   local_there : TakesLocal (setting_of m.config p) m.code (port_at V.ports p).core.state taken core.state
   local_there = subst (λ (x : Setting × Processor). TakesLocal x.0 m.code x.1 taken core.state)
-      (λ i. (setting_is i, sym (ap (λ (x : PortState). x.core.state) port_is) i)) local
+      (λ i. (setting_is i, sym (ap (λ (x : PortState). x.core.state) port_is) i)) b.local
 
   pub core_words : HasWords core.state
-  core_words = words_kept m.config p m.code l.core.state core.state taken is.sound.limits.stages within is.sound.code (is.away p l e).words
-      (subst (λ s. TakesLocal s m.code l.core.state taken core.state) setting_is local)
+  core_words = words_kept m.config p m.code l.core.state core.state taken b.is.sound.limits.stages b.away.within b.is.sound.code
+      (b.is.away p l b.away.known).words
+      (subst (λ s. TakesLocal s m.code l.core.state taken core.state) setting_is b.local)
 
   pub back_replay : IsReplay V (turns_of p (length taken)) (with_core_at V p core)
-  back_replay = turns_replay catches V is.kept.sound p within shut core taken local_there
+  back_replay = turns_replay b.catches V b.is.kept.sound p b.away.within shut core taken local_there
 
   pub back_answered : AreAnswered opening steps p taken
   back_answered =
-      each_answers catches joined opening V steps p core.setting core.state taken is.kept.sound within shut
-      (setting ∙ setting_is ∙ sym (is.kept.sound.ports.settings p within)) is.kept.replay local_there
+      each_answers b.catches b.joined opening V steps p core.setting core.state taken b.is.kept.sound b.away.within shut
+      (b.setting ∙ setting_is ∙ sym (b.is.kept.sound.ports.settings p b.away.within)) b.is.kept.replay local_there
 
   back_sound : IsMachine (with_core_at V p core)
-  back_sound = put_is_machine V is.kept.sound p within core shut (setting ∙ setting_is ∙ sym (is.kept.sound.ports.settings p within)) core_words
-      (λ away. absurd (true≢false (sym away ∙ home)))
+  back_sound = put_is_machine V b.is.kept.sound p b.away.within core shut (b.setting ∙ setting_is ∙ sym (b.is.kept.sound.ports.settings p b.away.within))
+      core_words
+      (λ away. absurd (true≢false (sym away ∙ b.home)))
 
   entered : length (steps ++ turns_of p (length taken)) ≡ length steps + length taken
   entered = length-append steps (turns_of p (length taken)) ∙ ap (λ n. length steps + n) (length-replicate (length taken) _)
@@ -201,18 +230,19 @@ module _ (catches : LocalTurnsCatchUp) (joined : ReplaysAreJoined) (opening m : 
       steps' ≡ steps ++ turns_of p (length taken) → capacity' ≡ capacity → length steps ≤ capacity →
       IsLending opening m' steps' capacity' (slice_set lent p None)
   returned m' steps' capacity' same sound s c fits =
-      let less = promise_less lent p l e in
-      let places = is.places in
-      let room = is.room in
+      let less = promise_less lent p l b.away.known in
+      let places = b.is.places in
+      let room = b.is.room in
+      let few = b.few in
       let count : length steps' ≡ length steps + length taken = ap length s ∙ entered in
       subst (λ x. IsLending opening x steps' capacity' (slice_set lent p None)) (sym same)
-      (lends_so opening m steps capacity lent is p within core None steps' capacity' (subst IsMachine same sound) (record {
-        opens = is.kept.opens;
-        idle = is.kept.idle;
-        home = is.kept.home;
+      (lends_so opening m steps capacity lent b.is p b.away.within core None steps' capacity' (subst IsMachine same sound) (record {
+        opens = b.is.kept.opens;
+        idle = b.is.kept.idle;
+        home = b.is.kept.home;
         sound = back_sound;
         replay = subst (λ xs. IsReplay opening xs (with_core_at V p core)) (sym s)
-            (joined opening V (with_core_at V p core) steps (turns_of p (length taken)) is.kept.replay back_replay);
+            (b.joined opening V (with_core_at V p core) steps (turns_of p (length taken)) b.is.kept.replay back_replay);
         room = omega (arith, count, less, room, few);
       })
       (λ k f. absurd (cc)) (omega (arith, count, less, places, few, c, fits)) (omega (arith, count, less, room, few)))

@@ -2,11 +2,12 @@
 use Rattle.std.proofs.Common.{◌≡◌, ◌≢◌, ℕ, ◌+◌, ◌-◌, ◌^◌, ◌<◌, ◌≤◌, Bool, true, false, List, length, Option, Some, None, ◌⊎◌, inl, inr, refl, sym, ap}
 use Rattle.std.proofs.Common.{◌∙◌, subst}
 use Rattle.std.proofs.Common.{get_or-set_same, get_or-set_other, length-set, arith}
-use Rattle.std.specs.Prelude.{◌&&◌, is_some, nat_lt, not, slice_set}
+use Rattle.std.specs.Prelude.{◌&&◌, is_some, nat_lt, not, slice_index_or, slice_set}
 use Rattle.std.proofs.lemmas.Bool.{and_parts, cases_eq, ltb-true, true≢false}
 use Rattle.std.proofs.lemmas.List.{set-get_or}
 use Rattle.hart.specs.State.{CoreState}
 use Rattle.steps.specs.declared.step.Step.{Step}
+use Rattle.flat_machine.specs.declared.config.Config.{Config}
 use Rattle.flat_machine.specs.Laws.{HasWords}
 use Rattle.flat_machine.specs.State.{is_running}
 use Rattle.machine.specs.machine_ports.Ports.{PortState, is_away, no_processor}
@@ -16,7 +17,7 @@ use Rattle.machine_log.specs.Logs.{IsKept}
 use Rattle.machine_log.proofs.Lemmas.{kept_home}
 use Rattle.machine_loans.specs.Lendings.{IsLending, IsLent, LendingLog, all_back, lent_at, may_lend, promised, whole, with_lent}
 use Rattle.machine_loans.specs.declared.lent.Lent.{Lent}
-use Rattle.machine_loans.proofs.Backing.{back_at, back_set, promise_less, promise_more}
+use Rattle.machine_loans.proofs.Backing.{back_at, back_none, back_set, found_at, none_past, promise_less, promise_more}
 
 -- a core that is put where it stands changes nothing
 pub same_core : (m : MachineLists) (p : ℕ) → with_core_at m p (port_at m.ports p).core ≡ m
@@ -86,14 +87,35 @@ module _ (opening m : MachineLists) (steps : List Step) (capacity : ℕ) (lent :
 
 -- ---- a core is put back as it was lent
 
-module _ (opening m : MachineLists) (steps : List Step) (capacity : ℕ) (lent : List (Option Lent)) (is : IsLending opening m steps capacity lent) (p : ℕ)
-    (within : p < 2 ^ m.config.k) (l : Lent) (e : lent_at lent p ≡ Some l) where
+-- the core of p is away, and this is known of it
+pub record IsAway (m : MachineLists) (lent : List (Option Lent)) (p : ℕ) (l : Lent) : Type 0 where
+  pub within : p < 2 ^ m.config.k
+  pub known : lent_at lent p ≡ Some l
+
+-- as a call finds it
+module _ {opening m : MachineLists} {steps : List Step} {capacity : ℕ} {lent : List (Option Lent)} (is : IsLending opening m steps capacity lent)
+    {x : LendingLog} (view : record { log = record { opening = opening; steps = steps; machine = whole m lent }; lent = lent } ≡ x)
+    {p : ℕ} (there : p < 2 ^ x.log.machine.config.k) where
+  pub known_away : {l : Lent} → lent_at x.lent p ≡ Some l → IsAway m lent p l
+  known_away told = record {
+    within = subst (λ (y : LendingLog). p < 2 ^ y.log.machine.config.k) (sym view) there;
+    known = ap (λ (y : LendingLog). lent_at y.lent p) view ∙ told;
+  }
+
+  pub found_away : {place : ℕ} {found : Option Lent} {l : Lent} → place ≡ p → found ≡ slice_index_or lent place found → Some l ≡ found → IsAway m lent p l
+  found_away {place} {found} {l} same at some =
+      let within : p < 2 ^ m.config.k = subst (λ (y : LendingLog). p < 2 ^ y.log.machine.config.k) (sym view) there in
+      let inside : p < length lent = subst (λ n. p < n) (sym is.all) within in
+      record { within = within; known = sym (some ∙ found_at lent p place None found same inside at) }
+
+module _ {opening m : MachineLists} {steps : List Step} {capacity : ℕ} {lent : List (Option Lent)} (is : IsLending opening m steps capacity lent) {p : ℕ}
+    {l : Lent} (away : IsAway m lent p l) where
   long : length lent ≡ length m.ports
-  long = as_long opening m steps capacity lent is p within l.core None
+  long = as_long opening m steps capacity lent is p away.within l.core None
 
   stands_so : with_core_at (whole m lent) p l.core ≡ whole m lent
   stands_so =
-      ap (with_core_at (whole m lent) p) (sym (ap (λ (x : PortState). x.core) (back_port m lent p long ∙ ap (with_lent (port_at m.ports p)) e)))
+      ap (with_core_at (whole m lent) p) (sym (ap (λ (x : PortState). x.core) (back_port m lent p long ∙ ap (with_lent (port_at m.ports p)) away.known)))
       ∙ same_core (whole m lent) p
 
   pub whole_back : (m' : MachineLists) → m' ≡ with_core_at m p l.core → whole m' (slice_set lent p None) ≡ whole m lent
@@ -101,18 +123,27 @@ module _ (opening m : MachineLists) (steps : List Step) (capacity : ℕ) (lent :
 
   pub brought_back : (m' : MachineLists) → m' ≡ with_core_at m p l.core → IsMachine m' → IsLending opening m' steps capacity (slice_set lent p None)
   brought_back m' same sound =
-      let less = promise_less lent p l e in
+      let less = promise_less lent p l away.known in
       let places = is.places in
       let room = is.room in
       subst (λ x. IsLending opening x steps capacity (slice_set lent p None)) (sym same)
-      (lends_so opening m steps capacity lent is p within l.core None steps capacity (subst IsMachine same sound)
+      (lends_so opening m steps capacity lent is p away.within l.core None steps capacity (subst IsMachine same sound)
       (subst (λ (x : MachineLists). IsKept (record { opening = opening; steps = steps; machine = x })) (sym stands_so) is.kept)
       (λ k f. absurd (cc)) (omega (arith, less, places)) (omega (arith, less, room)))
+
+-- where none of so many is known to be away, all cores are back
+pub back_all : {opening m : MachineLists} {steps : List Step} {capacity : ℕ} {lent : List (Option Lent)} {x : LendingLog} {size : Config} {end n : ℕ} →
+    IsLending opening m steps capacity lent → record { log = record { opening = opening; steps = steps; machine = whole m lent }; lent = lent } ≡ x →
+    x.log.machine.config ≡ size → end ≡ 2 ^ size.k → end ≤ n → ((q : ℕ) → q < n → lent_at x.lent q ≡ None) → whole m lent ≡ m
+back_all {m = m} {lent = lent} {end = end} {n = n} is view same count past none =
+    let all : length lent ≡ end = is.all ∙ ap (λ (d : Config). 2 ^ d.k) (ap (λ (y : LendingLog). y.log.machine.config) view ∙ same) ∙ sym count in
+    ap (λ ports. record m { ports = ports }) (back_none m.ports lent (none_past lent n (omega (arith, all, past))
+    (subst (λ (y : LendingLog). (q : ℕ) → q < n → lent_at y.lent q ≡ None) (sym view) none)))
 
 -- ---- a core is lent
 
 -- what the machine without the lent cores shows of a processor whose core is not lent
-module _ (opening m : MachineLists) (steps : List Step) (capacity : ℕ) (lent : List (Option Lent)) (is : IsLending opening m steps capacity lent) where
+module _ {opening m : MachineLists} {steps : List Step} {capacity : ℕ} {lent : List (Option Lent)} (is : IsLending opening m steps capacity lent) where
   abbrev view : LendingLog
   view = record { log = record { opening = opening; steps = steps; machine = whole m lent }; lent = lent }
 
@@ -138,6 +169,10 @@ module _ (opening m : MachineLists) (steps : List Step) (capacity : ℕ) (lent :
       ap (λ (x : PortState). nat_lt p (2 ^ m.config.k) && (not (is_some (lent_at lent p)) && (is_running x.core.state.status && not x.is_open)))
       (back_port m lent p long_enough)
       ∙ free_by p (lent_at lent p) refl (nat_lt p (2 ^ m.config.k)) refl
+
+  -- as a call finds it
+  pub found_free : {x : LendingLog} {b : Bool} → view ≡ x → (p : ℕ) → b ≡ may_lend x p → b ≡ true → is_free m p ≡ true
+  found_free same p told may = sym (free_is p) ∙ ap (λ (x : LendingLog). may_lend x p) same ∙ sym told ∙ may
 
   module _ (p : ℕ) (free : is_free m p ≡ true) where
     parts : (is_there m p ≡ true) × (runs p ≡ true)

@@ -3,7 +3,8 @@ use Rattle.flat_machine.specs.declared.config.Config.{Config}
 use Rattle.machine.specs.Machines.{MachineLists}
 use Rattle.machine_log.specs.Logs.{IsKept, Log}
 use Rattle.machine_loans.specs.Lendings.{LendingLog, lent_at}
-use Rattle.machine_loans.proofs.Backing.{back_none, none_past, none_set}
+use Rattle.machine_loans.proofs.Backing.{none_set}
+use Rattle.machine_loans.proofs.Changing.{back_all}
 use Rattle.machine_loans.proofs.lending.Lending.into_logged.Goals as goal
 
 pub loop-p-preserved : goal.loop-p-preserved
@@ -16,26 +17,19 @@ loop-p-preserved c = (
 pub of_parts-requires : goal.of_parts-requires
 of_parts-requires c =
     let l = c.self-2.inside in
-    let is = c.self-2.invariant.0 in
-    let size : (l.machine).config ≡ c.config.result =
-    ap (λ (x : LendingLog). x.log.machine.config) c.self-2.view_is ∙ ap (λ (x : Log). x.machine.config) c.loop-p.invariant.0
-    ∙ sym (ap (λ (x : LendingLog). x.log.machine.config) c.self.view_is) ∙ sym c.config.ensures.config in
-    let all : length l.lent.items ≡ c.processors-p-end.result = is.all ∙ ap (λ (s : Config). 2 ^ s.k) size ∙ sym c.processors-p-end.ensures in
-    let none = subst (λ (x : LendingLog). (q : _) → q < c.loop-p.p → lent_at x.lent q ≡ None) (sym c.self-2.view_is) c.loop-p.invariant.1 in
-    let machine = ap (λ ports. record l.machine { ports = ports }) (back_none (l.machine).ports l.lent.items
-    (none_past l.lent.items c.loop-p.p (omega (arith, all, c.loop-p-test.false)) none)) in
-    record { kept = subst (λ (x : MachineLists). IsKept (record { opening = l.opening.value; steps = l.steps.items; machine = x })) machine is.kept }
+    let size = ap (λ (x : Log). x.machine.config) c.loop-p.invariant.0 ∙ sym (ap (λ (x : LendingLog). x.log.machine.config) c.self.view_is)
+    ∙ sym c.config.ensures.config in
+    let machine = back_all c.self-2.invariant.0 c.self-2.view_is size c.processors-p-end.ensures c.loop-p-test.false c.loop-p.invariant.1 in
+    record {
+      kept = subst (λ (x : MachineLists). IsKept (record { opening = l.opening.value; steps = l.steps.items; machine = x })) machine
+          c.self-2.invariant.0.kept;
+    }
 
 pub returns : goal.returns
 returns c =
     let l = c.self-2.inside in
-    let is = c.self-2.invariant.0 in
-    let size : (l.machine).config ≡ c.config.result =
-    ap (λ (x : LendingLog). x.log.machine.config) c.self-2.view_is ∙ ap (λ (x : Log). x.machine.config) c.loop-p.invariant.0
-    ∙ sym (ap (λ (x : LendingLog). x.log.machine.config) c.self.view_is) ∙ sym c.config.ensures.config in
-    let all : length l.lent.items ≡ c.processors-p-end.result = is.all ∙ ap (λ (s : Config). 2 ^ s.k) size ∙ sym c.processors-p-end.ensures in
-    let none = subst (λ (x : LendingLog). (q : _) → q < c.loop-p.p → lent_at x.lent q ≡ None) (sym c.self-2.view_is) c.loop-p.invariant.1 in
-    let machine = ap (λ ports. record l.machine { ports = ports }) (back_none (l.machine).ports l.lent.items
-    (none_past l.lent.items c.loop-p.p (omega (arith, all, c.loop-p-test.false)) none)) in
+    let size = ap (λ (x : Log). x.machine.config) c.loop-p.invariant.0 ∙ sym (ap (λ (x : LendingLog). x.log.machine.config) c.self.view_is)
+    ∙ sym c.config.ensures.config in
+    let machine = back_all c.self-2.invariant.0 c.self-2.view_is size c.processors-p-end.ensures c.loop-p-test.false c.loop-p.invariant.1 in
     c.of_parts.ensures ∙ (λ i. record { opening = l.opening.value; steps = l.steps.items; machine = sym machine i })
     ∙ ap (λ (x : LendingLog). x.log) c.self-2.view_is ∙ c.loop-p.invariant.0

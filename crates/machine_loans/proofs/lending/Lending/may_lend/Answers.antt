@@ -1,11 +1,8 @@
 use Rattle.std.proofs.Common.{◌∙◌, sym, ap}
-use Rattle.std.specs.Vec.{vec_capacity}
 use Rattle.machine_loans.specs.Lendings.{LendingLog, may_lend}
 use Rattle.machine_loans.proofs.Changing.{free_is}
 use Rattle.machine_loans.proofs.lending.Lending.may_lend.Goals as goal
 
 pub returns : goal.returns
-returns c =
-    let l = c.self.inside in
-    c.is_free.ensures ∙ sym (free_is l.opening.value l.machine l.steps.items (vec_capacity l.steps) l.lent.items c.self.invariant.0 c.args.p)
+returns c = c.is_free.ensures ∙ sym (free_is c.self.invariant.0 c.args.p)
     ∙ ap (λ (x : LendingLog). may_lend x c.args.p) c.self.view_is
