@@ -6,6 +6,7 @@ pub mod Poking
 pub mod Seeing
 pub mod Telling
 -- Words of lower crates, passed on to those above.
+pub use Rattle.flat_machine.specs as flat_machine
 pub use Rattle.elf_image.specs as elf_image
 pub use Rattle.hart.specs as hart
 pub use Rattle.machine_ports.specs as machine_ports

@@ -1,8 +1,8 @@
 -- A replay that is cut in two, and runs that are joined: what processors have shown before changes nothing but what they
 -- have shown.
 use Rattle.std.proofs.Common.{◌≡◌, ℕ, List, [], ◌∷◌, ◌++◌, refl, sym, ap, ◌∙◌, subst}
-use Rattle.flat_machine.specs.declared.config.Config.{Config}
-use Rattle.flat_machine.specs.declared.event.Event.{Event}
+use Rattle.machine.specs.flat_machine.declared.config.Config.{Config}
+use Rattle.machine.specs.flat_machine.declared.event.Event.{Event}
 use Rattle.machine_theorem.specs.abstract_machine.Machine.{Machine}
 use Rattle.steps.specs.declared.step.Step.{Step}
 use Rattle.machine_theorem.specs.machine_program.Processors.{Told}

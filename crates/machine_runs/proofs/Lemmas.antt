@@ -19,7 +19,7 @@ pub use Rattle.machine_runs.proofs.Quiet.{down_stalls, none_there, serve_stalls,
 -- Replays: runs in which each step does something.
 pub use Rattle.machine_runs.proofs.Replaying.{outcome_there, replay_begins, replay_kept, replay_more, stalled_is}
 -- Runs of the machine, and the theorem for them.
-pub use Rattle.machine_runs.proofs.Running.{all_after_more, passes_machine, run_more, serialized, shown_is}
+pub use Rattle.machine_runs.proofs.Running.{all_after_more, passes_machine, run_begins, run_more, serialized, shown_is}
 -- Whatever steps a machine takes, the same cores are away.
 pub use Rattle.machine_runs.proofs.Staying.{run_home}
 -- Lemmas of lower crates, passed on to those above.

@@ -9,8 +9,6 @@ pub mod Whole
 pub mod Noting
 pub mod Quiet
 pub mod OneOpening
-mod Grouping
-mod Ordering
 pub mod Cutting
 pub mod Telling
 pub mod Staying

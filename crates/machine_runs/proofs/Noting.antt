@@ -1,7 +1,7 @@
 -- Steps that are noted as they are taken: one after another, those of a drain, and those of a whole instruction.
 use Rattle.std.proofs.Common.{◌≡◌, ℕ, ◌+◌, ◌<◌, ◌≤◌, List, [], ◌∷◌, ◌++◌, length, Some, None, refl, sym, ap, ◌∙◌, subst}
 use Rattle.std.proofs.lemmas.List.{append-nil, append_assoc}
-use Rattle.flat_machine.specs.declared.config.Config.{Config}
+use Rattle.machine.specs.flat_machine.declared.config.Config.{Config}
 use Rattle.indexed_network.specs.omega_network.Networks.{net_of}
 use Rattle.machine_theorem.specs.machine_program.Theory as theory
 use Rattle.machine_theorem.specs.machine_program.Processors.{Told}

@@ -1,9 +1,9 @@
 -- All machines that open on one image are one: they stand alike after the same steps, and are drained of the same then.
 use Rattle.std.proofs.Common.{◌≡◌, ℕ, List, [], refl, sym, ap, ◌∙◌}
 use Rattle.std.specs.Prelude.{map}
-use Rattle.flat_machine.specs.declared.config.Config.{Config}
-use Rattle.flat_machine.specs.declared.event.Event.{Event}
-use Rattle.flat_machine.specs.State.{FlatState}
+use Rattle.machine.specs.flat_machine.declared.config.Config.{Config}
+use Rattle.machine.specs.flat_machine.declared.event.Event.{Event}
+use Rattle.machine.specs.flat_machine.State.{FlatState}
 use Rattle.steps.specs.declared.step.Step.{Step}
 use Rattle.machine_theorem.specs.abstract_machine.Draining as draining
 use Rattle.machine_theorem.specs.machine_program.Processors.{sizes_of, program}

@@ -2,7 +2,7 @@
 use Rattle.std.proofs.Common.{◌≡◌, ℕ, suc, ◌^◌, Bool, true, false, nat_lt, List, [], ◌∷◌, ◌∙◌, refl, ap}
 use Rattle.std.specs.Prelude.{is_some, slice_get, if◌then◌else◌}
 use Rattle.std.proofs.lemmas.Bool.{true≢false}
-use Rattle.flat_machine.specs.declared.config.Config.{Config}
+use Rattle.machine.specs.flat_machine.declared.config.Config.{Config}
 use Rattle.machine_theorem.specs.messages.declared.moves.UpMove.TheVariants as up
 use Rattle.machine_theorem.specs.messages.declared.moves.DownMove.TheVariants as down
 use Rattle.machine_theorem.specs.messages.Moves.{moved_up, moved_down, up_from, down_from}

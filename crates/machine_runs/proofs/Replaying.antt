@@ -1,8 +1,8 @@
 -- Replays: runs in which each step does something.
 use Rattle.std.proofs.Common.{◌≡◌, ℕ, true, List, [], ◌∷◌, ◌++◌, refl, sym, ap, ap₂, ◌∙◌}
 use Rattle.std.proofs.lemmas.Bool.{true≢false}
-use Rattle.flat_machine.specs.declared.config.Config.{Config}
-use Rattle.flat_machine.specs.declared.event.Event.{Event}
+use Rattle.machine.specs.flat_machine.declared.config.Config.{Config}
+use Rattle.machine.specs.flat_machine.declared.event.Event.{Event}
 use Rattle.machine_theorem.specs.abstract_machine.Machine.{Machine}
 use Rattle.steps.specs.declared.step.Step.{Step}
 use Rattle.steps.specs.declared.step.Outcome.{Outcome}

@@ -1,14 +1,14 @@
 -- What processors have shown before changes no outcome, and of a step's machine nothing but what they have shown.
 use Rattle.std.proofs.Common.{cond, eqb, Option, Some, None, ◌≡◌, ℕ, ◌^◌, Bool, true, false, List, [], ◌∷◌, nat_lt, refl, ap}
 use Rattle.std.specs.Prelude.{◌&&◌, if◌then◌else◌}
-use Rattle.flat_machine.specs.declared.config.Config.{Config}
-use Rattle.flat_machine.specs.declared.event.Event.{Event}
-use Rattle.flat_machine.specs.declared.event.Retired as retirement
-use Rattle.flat_machine.specs.declared.poke.Poke.{Poke}
-use Rattle.flat_machine.specs.declared.poke.Poke.TheVariants as poke
-use Rattle.flat_machine.specs.State.{Processor, is_running, status_of}
-use Rattle.flat_machine.specs.Turns.{Turn, Retires, Reaches, Stops}
-use Rattle.flat_machine.specs.Flat.{with_poked_register, with_poked_byte}
+use Rattle.machine.specs.flat_machine.declared.config.Config.{Config}
+use Rattle.machine.specs.flat_machine.declared.event.Event.{Event}
+use Rattle.machine.specs.flat_machine.declared.event.Retired as retirement
+use Rattle.machine.specs.flat_machine.declared.poke.Poke.{Poke}
+use Rattle.machine.specs.flat_machine.declared.poke.Poke.TheVariants as poke
+use Rattle.machine.specs.flat_machine.State.{Processor, is_running, status_of}
+use Rattle.machine.specs.flat_machine.Turns.{Turn, Retires, Reaches, Stops}
+use Rattle.machine.specs.flat_machine.Flat.{with_poked_register, with_poked_byte}
 use Rattle.machine_theorem.specs.messages.Places.{put}
 use Rattle.machine_theorem.specs.hart.Deciding.{after_reply}
 use Rattle.machine_theorem.specs.messages.declared.message.Request.{Request}

@@ -1,10 +1,10 @@
 -- Runs of the machine, and the theorem for them.
 use Rattle.std.proofs.Common.{◌≡◌, ℕ, false, List, [], ◌∷◌, ◌++◌, refl, sym, ap, ap₂, ◌∙◌, subst}
 use Rattle.std.specs.Prelude.{map, slice_index, slice_index_or}
-use Rattle.flat_machine.specs.declared.config.Config.{Config}
-use Rattle.flat_machine.specs.declared.event.Event.{Event}
-use Rattle.flat_machine.specs.State.{FlatState}
-use Rattle.flat_machine.specs.Flat.{flat_run, flat_events}
+use Rattle.machine.specs.flat_machine.declared.config.Config.{Config}
+use Rattle.machine.specs.flat_machine.declared.event.Event.{Event}
+use Rattle.machine.specs.flat_machine.State.{FlatState}
+use Rattle.machine.specs.flat_machine.Flat.{flat_run, flat_events}
 use Rattle.indexed_network.specs.omega_network.Networks.{net_of}
 use Rattle.machine_theorem.specs.machine_program.Theory as theory
 use Rattle.machine_theorem.specs.serialization.Order.{pass, passes, from_machine}

@@ -1,6 +1,6 @@
 -- Whatever steps a machine takes, the same cores are away.
 use Rattle.std.proofs.Common.{◌≡◌, ℕ, ◌^◌, ◌<◌, List, [], ◌∷◌, refl, ap, ◌∙◌, subst}
-use Rattle.flat_machine.specs.declared.config.Config.{Config}
+use Rattle.machine.specs.flat_machine.declared.config.Config.{Config}
 use Rattle.machine_theorem.specs.machine_program.Theory as theory
 use Rattle.machine_theorem.specs.machine_program.Processors.{Told}
 use Rattle.machine_theorem.specs.machine_program.Steps.{after, machine_of_parts}

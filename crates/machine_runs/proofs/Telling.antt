@@ -5,15 +5,15 @@ use Rattle.std.specs.Prelude.{◌&&◌, map, if◌then◌else◌}
 use Rattle.std.proofs.lemmas.Bool.{cases_eq}
 use Rattle.std.proofs.lemmas.List.{append-nil}
 use mathlib.Core.Path.{fun_ext}
-use Rattle.flat_machine.specs.declared.config.Config.{Config}
-use Rattle.flat_machine.specs.declared.event.Event.{Event}
-use Rattle.flat_machine.specs.declared.event.Event.TheVariants as event
-use Rattle.flat_machine.specs.declared.event.Retired as retirement
-use Rattle.flat_machine.specs.declared.poke.Poke.{Poke}
-use Rattle.flat_machine.specs.declared.poke.Poke.TheVariants as poke
-use Rattle.flat_machine.specs.State.{Processor, is_running}
-use Rattle.flat_machine.specs.Turns.{Turn, Retires, Reaches, Stops}
-use Rattle.flat_machine.specs.Flat.{with_poked_register, with_poked_byte}
+use Rattle.machine.specs.flat_machine.declared.config.Config.{Config}
+use Rattle.machine.specs.flat_machine.declared.event.Event.{Event}
+use Rattle.machine.specs.flat_machine.declared.event.Event.TheVariants as event
+use Rattle.machine.specs.flat_machine.declared.event.Retired as retirement
+use Rattle.machine.specs.flat_machine.declared.poke.Poke.{Poke}
+use Rattle.machine.specs.flat_machine.declared.poke.Poke.TheVariants as poke
+use Rattle.machine.specs.flat_machine.State.{Processor, is_running}
+use Rattle.machine.specs.flat_machine.Turns.{Turn, Retires, Reaches, Stops}
+use Rattle.machine.specs.flat_machine.Flat.{with_poked_register, with_poked_byte}
 use Rattle.machine_theorem.specs.hart.Deciding.{after_reply}
 use Rattle.machine_theorem.specs.messages.declared.message.Request.{Request}
 use Rattle.machine_theorem.specs.messages.declared.message.Reply.{Reply}

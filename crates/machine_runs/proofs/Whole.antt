@@ -6,17 +6,17 @@ use Rattle.std.proofs.lemmas.Bool.{true≢false, lt-ltb}
 use Rattle.std.proofs.lemmas.List.{length-append}
 use Rattle.std.proofs.lemmas.Nat.{pow_pos}
 use Rattle.indexed_network.specs.omega_network.Networks.{net_of}
-use Rattle.flat_machine.specs.declared.config.Config.{Config}
-use Rattle.flat_machine.specs.declared.event.Event.{Event}
-use Rattle.flat_machine.specs.declared.event.Event.TheVariants as event
-use Rattle.flat_machine.specs.declared.poke.Entry.TheVariants as entry
-use Rattle.flat_machine.specs.State.{Processor, is_running}
-use Rattle.flat_machine.specs.Turns.{Turn, Retires, Reaches, Stops}
-use Rattle.flat_machine.specs.declared.event.Retired as retirement
+use Rattle.machine.specs.flat_machine.declared.config.Config.{Config}
+use Rattle.machine.specs.flat_machine.declared.event.Event.{Event}
+use Rattle.machine.specs.flat_machine.declared.event.Event.TheVariants as event
+use Rattle.machine.specs.flat_machine.declared.poke.Entry.TheVariants as entry
+use Rattle.machine.specs.flat_machine.State.{Processor, is_running}
+use Rattle.machine.specs.flat_machine.Turns.{Turn, Retires, Reaches, Stops}
+use Rattle.machine.specs.flat_machine.declared.event.Retired as retirement
 use Rattle.machine_theorem.specs.hart.Deciding.{after_reply}
 use Rattle.machine_theorem.specs.messages.declared.message.Reply.{Reply}
-use Rattle.flat_machine.specs.Flat.{flat_step, flat_event, flat_run, flat_events, with_taken, turned, turn_event, with_processor_number}
-use Rattle.flat_machine.specs.Flat.{step_of as flat_step_of}
+use Rattle.machine.specs.flat_machine.Flat.{flat_step, flat_event, flat_run, flat_events, with_taken, turned, turn_event, with_processor_number}
+use Rattle.machine.specs.flat_machine.Flat.{step_of as flat_step_of}
 use Rattle.machine_theorem.proofs.Lemmas.messages.{put_same}
 use Rattle.machine_theorem.specs.abstract_machine.Program.{Rests}
 use Rattle.machine_theorem.specs.Order.{Passed, passed_by}

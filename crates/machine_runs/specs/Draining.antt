@@ -1,6 +1,6 @@
 -- What a drain does: the steps that bring every reference to its end, by the theory's drain.
 use Rattle.std.specs.Prelude.{◌≡◌, ℕ, ◌*◌, ◌+◌, ◌^◌, ◌≤◌, ◌<◌, List, [], length, map, Option, Some, None}
-use Rattle.flat_machine.specs.declared.config.Config.{Config}
+use Rattle.machine.specs.flat_machine.declared.config.Config.{Config}
 use Rattle.machine_theorem.specs.machine_program.Theory as theory
 use Rattle.machine_theorem.specs.messages.Network.{Sizes, Net, wires}
 use Rattle.indexed_network.specs.omega_network.Networks.{NetworkLists}

@@ -1,8 +1,8 @@
 -- What holds of all runs, stated of machines. Each value of `Machine` is one (`IsMachine`).
 use Rattle.std.specs.Prelude.{◌≡◌, ℕ, ◌^◌, ◌<◌, ◌≤◌, false, List, [], ◌∷◌, ◌++◌, length, Some, None, slice_get, slice_index}
-use Rattle.flat_machine.specs.declared.config.Config.{Config}
-use Rattle.flat_machine.specs.declared.event.Event.{Event}
-use Rattle.flat_machine.specs.Flat.{flat_events}
+use Rattle.machine.specs.flat_machine.declared.config.Config.{Config}
+use Rattle.machine.specs.flat_machine.declared.event.Event.{Event}
+use Rattle.machine.specs.flat_machine.Flat.{flat_events}
 use Rattle.machine_theorem.specs.machine_program.Theory as theory
 use Rattle.steps.specs.declared.step.Step.{Step}
 use Rattle.steps.specs.declared.step.Outcome.{Outcome}

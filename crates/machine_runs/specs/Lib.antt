@@ -1,12 +1,11 @@
 pub mod Machines
 pub mod Runs
 pub mod Draining
-pub mod Ordering
 pub mod Whole
 pub mod Noting
 pub mod Laws
 -- Words of lower crates, passed on to those above.
-pub use Rattle.flat_machine.specs as flat_machine
+pub use Rattle.machine.specs.flat_machine as flat_machine
 pub use Rattle.machine.specs.elf_image as elf_image
 pub use Rattle.machine_theorem.specs.hart as hart
 pub use Rattle.machine.specs.machine_ports as machine_ports

@@ -1,6 +1,6 @@
 -- What is noted of the steps of a machine.
 use Rattle.std.specs.Prelude.{◌≡◌, ℕ, List, [], ◌∷◌}
-use Rattle.flat_machine.specs.declared.config.Config.{Config}
+use Rattle.machine.specs.flat_machine.declared.config.Config.{Config}
 use Rattle.machine_theorem.specs.machine_program.Theory as theory
 use Rattle.machine_theorem.specs.machine_program.Processors.{Told}
 use Rattle.machine_theorem.specs.machine_program.Steps.{outcome_of, after}

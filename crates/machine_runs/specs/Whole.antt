@@ -1,10 +1,10 @@
 -- What one whole instruction does: a step of the flat machine.
 use Rattle.std.specs.Prelude.{◌≡◌, ℕ, List, [], ◌∷◌, Option, Some, None}
-use Rattle.flat_machine.specs.declared.config.Config.{Config}
-use Rattle.flat_machine.specs.declared.event.Event.{Event}
-use Rattle.flat_machine.specs.declared.event.Event.TheVariants as event
-use Rattle.flat_machine.specs.declared.poke.Entry.TheVariants as entry
-use Rattle.flat_machine.specs.Flat.{flat_step, flat_event}
+use Rattle.machine.specs.flat_machine.declared.config.Config.{Config}
+use Rattle.machine.specs.flat_machine.declared.event.Event.{Event}
+use Rattle.machine.specs.flat_machine.declared.event.Event.TheVariants as event
+use Rattle.machine.specs.flat_machine.declared.poke.Entry.TheVariants as entry
+use Rattle.machine.specs.flat_machine.Flat.{flat_step, flat_event}
 use Rattle.machine_theorem.specs.machine_program.Theory as theory
 use Rattle.steps.specs.declared.step.Step.{Step}
 use Rattle.steps.specs.declared.step.Step.TheVariants as step

@@ -1,22 +1,20 @@
-//! Runs of a machine: the laws of many steps, the serial order that they give, drains and whole
+//! Runs of a machine: the laws of many steps, the serial order that explains them, drains and whole
 //! instructions.
 //!
 //! The machine and its step are of the crate `machine`. [`run`] carries the theorem: from a machine in
 //! which no reference is open, after whatever steps, one serial order of whole instructions explains
-//! what the machine did (`IsSerialized`). [`order`] lists that order, [`drain`] brings every open
-//! reference to its end, and [`one`] takes one instruction, whole: it is a step of the flat machine
-//! (`IsOne`). Who keeps steps as they are taken, as a log does, has them told ([`drain_noted`],
-//! [`one_noted`]).
+//! what the machine did (`IsSerialized`). [`drain`] brings every open reference to its end, and [`one`]
+//! takes one instruction, whole: it is a step of the flat machine (`IsOne`). Who keeps steps as they are
+//! taken, as a log does, has them told ([`drain_noted`], [`one_noted`]).
 #![tactic(auto)]
 
 mod laws;
 mod runs;
 mod searching;
-mod serial_order;
 
 pub use laws::{
     answers_are_of_the_steps, cores_stay_home, flat_states_are_read, replays_are_cut,
     replays_go_on, runs_are_joined, runs_are_serialized,
 };
 pub use machine::{Machine, NewError, machine_is_sound};
-pub use runs::{drain, drain_noted, drain_step, most_moves, one, one_noted, order, run};
+pub use runs::{drain, drain_noted, drain_step, most_moves, one, one_noted, run};

@@ -1,18 +1,14 @@
 //! Runs of a machine: many steps, drains, and whole instructions.
 
-ghost use Rattle.std.specs.Prelude.{◌≡◌, ◌≤◌, ◌+◌, ◌*◌, ◌↔◌, ℕ, None, IfOk, IfSome, OnOk, OnErr, length};
+ghost use Rattle.std.specs.Prelude.{◌≡◌, ◌≤◌, ◌+◌, ◌*◌, ◌↔◌, ℕ, None, IfOk, IfSome, OnOk, length};
 ghost use Rattle.machine.specs.Machines.{MachineLists, IsIdle, IsMachine, IsStep};
 ghost use Rattle.machine_runs.specs.Draining.{drain_bound, drain_step, drain_steps, BringsNearer, IsDrained};
 ghost use Rattle.machine_runs.specs.Noting.{AreNoted};
-ghost use Rattle.machine_runs.specs.Ordering.{is_open_at};
-ghost use Rattle.machine_runs.specs.Runs.{IsReplay, IsRun, IsSerialized, passed};
+ghost use Rattle.machine_runs.specs.Runs.{IsReplay, IsRun, IsSerialized};
 ghost use Rattle.machine_runs.specs.Whole.{one_steps, IsOne, IsSent};
 
 use crate::searching::next_step;
-use crate::serial_order::SerialOrder;
-use flat_machine::Entry;
 use machine::{Machine, machine_is_sound};
-use std::alloc::{AllocError, Global};
 use steps::{Outcome, Step};
 use told_steps::{Nobody, Notes};
 
@@ -26,45 +22,6 @@ pub fn run(machine: &mut Machine, steps: &[Step])
         machine.apply(*step);
     }
     machine_is_sound(machine);
-}
-
-/// Applies each of these steps in turn, as [`run`] does, and lists the serial order that the outcomes
-/// give: the flat machine that takes it does what this one did. No reference may be open before. It
-/// asks first for one place a step, and for the groups of references that wait.
-///
-/// # Errors
-///
-/// [`AllocError`] where there is no memory for them. Then no step is taken.
-pub fn order(machine: &mut Machine, alloc: Global, steps: &[Step]) -> Result<Vec<Entry>, AllocError>
-    requires idle { IsIdle machine.old }
-    ensures order { IfOk result (λ entries. entries.items ≡ (passed machine.old steps.now).order) }
-    ensures run { OnOk result (IsRun machine.old steps.now machine.new) }
-    ensures serialized { OnOk result (IsSerialized machine.old steps.now machine.new) }
-    ensures refused { OnErr result (machine.new ≡ machine.old) }
-{
-    let mut order = SerialOrder::new(alloc, steps.len())?;
-    machine_is_sound(machine);
-    for &step in steps {
-        let was_open = is_open_at(machine, step);
-        let outcome = machine.apply(step);
-        order.enter(step, was_open, outcome);
-    }
-    machine_is_sound(machine);
-    Ok(order.into_entries())
-}
-
-/// Whether the step is a turn of a processor that is open.
-fn is_open_at(machine: &Machine, step: Step) -> bool
-    ensures { result ≡ is_open_at machine.now step }
-{
-    machine_is_sound(machine);
-    match step {
-        Step::Turn(p) => match machine.is_open(p) {
-            Some(is_open) => is_open,
-            None => false,
-        },
-        _ => false,
-    }
 }
 
 /// The step that a drain takes next. None where no reference is open.

@@ -10,10 +10,9 @@ ghost use Rattle.order_command.specs.Orders.{IsBroughtHome};
 use command_io::Fault;
 use elf_image::Image;
 use flat_machine::{Config, Entry};
-use machine_runs::{
-    Machine, drain_noted, machine_is_sound, most_moves, order, runs_are_serialized,
-};
+use machine_runs::{Machine, drain_noted, machine_is_sound, most_moves, runs_are_serialized};
 use run_commands::opened;
+use serial_order::order;
 use std::alloc::{AllocError, Global};
 use steps::Step;
 use trace_replay::replay;

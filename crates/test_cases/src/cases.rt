@@ -6,7 +6,8 @@ use crate::words::{
     Words, low, next_words, number_words, read_words, said, status_words, step_of, truth_words,
 };
 use flat_machine::{Config, Entry, Poke, SHARED_START};
-use machine_runs::{Machine, drain, drain_step, order};
+use machine_runs::{Machine, drain, drain_step};
+use serial_order::order;
 use std::alloc::{AllocError, Global};
 use std::fmt::Debug;
 use std::test::Fail;

@@ -1,6 +1,6 @@
 use Rattle.std.proofs.Common.{◌≡◌, ◌∙◌, ◌+◌, ◌*◌, ◌≤◌, length, sym, ap, subst, arith}
 use Rattle.std.proofs.lemmas.Bool.{true≢false}
-use Rattle.flat_machine.specs.declared.config.Config.{Config}
+use Rattle.machine.specs.flat_machine.declared.config.Config.{Config}
 use Rattle.steps.specs.declared.step.Step.TheVariants as step
 use Rattle.steps.specs.declared.step.Outcome.TheVariants.{Stalled}
 use Rattle.steps.specs.Answers.{is_stalled}

@@ -8,12 +8,12 @@ use Rattle.arrayvec.specs.ArrayVec.{ArrayVec}
 use Rattle.flat_machine.specs.declared.poke.Entry.{Entry}
 use Rattle.flat_machine.specs.declared.poke.Entry.TheVariants as entry
 use Rattle.flat_machine.specs.declared.poke.Poke.{Poke}
-use Rattle.machine_theorem.specs.messages.Places.{put}
-use Rattle.machine_theorem.specs.placement.Meaning.{joined}
-use Rattle.machine_theorem.proofs.Lemmas.messages.{put_other, put_same}
-use Rattle.machine_theorem.proofs.Lemmas.placement.{joined_first}
-use Rattle.machine_theorem.specs.machine_program.Theory as theory
-use Rattle.machine_runs.specs.Ordering.{no_group, group_in, count_in, IsEntered}
+use Rattle.machine_runs.specs.messages.Places.{put}
+use Rattle.machine_runs.specs.placement.Meaning.{joined}
+use Rattle.machine_runs.proofs.Lemmas.messages.{put_other, put_same}
+use Rattle.machine_runs.proofs.Lemmas.machine_theorem.placement.{joined_first}
+use Rattle.machine_runs.specs.machine_program.Theory as theory
+use Rattle.serial_order.specs.Ordering.{no_group, group_in, count_in, IsEntered}
 
 -- ---- a list of groups
 

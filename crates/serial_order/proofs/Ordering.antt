@@ -12,38 +12,38 @@ use Rattle.flat_machine.specs.declared.event.Event.{Event}
 use Rattle.flat_machine.specs.declared.poke.Entry.{Entry}
 use Rattle.flat_machine.specs.State.{is_running}
 use Rattle.flat_machine.specs.Turns.{Turn, Retires, Reaches, Stops}
-use Rattle.machine_theorem.specs.hart.Deciding.{after_reply}
+use Rattle.machine_runs.specs.hart.Deciding.{after_reply}
 use Rattle.arrayvec.specs.ArrayVec.{ArrayVec}
-use Rattle.machine_theorem.specs.messages.declared.message.Request.{Request}
-use Rattle.machine_theorem.specs.messages.declared.message.Reply.{Reply}
-use Rattle.machine_theorem.specs.messages.declared.moves.UpMove.{UpMove}
-use Rattle.machine_theorem.specs.messages.declared.moves.UpMove.TheVariants as up
-use Rattle.machine_theorem.specs.messages.declared.moves.DownMove.{DownMove}
-use Rattle.machine_theorem.specs.messages.declared.moves.DownMove.TheVariants as down
-use Rattle.machine_theorem.specs.messages.Places.{In, Distinct}
-use Rattle.machine_theorem.specs.messages.Network.{Sizes, Net}
-use Rattle.machine_theorem.specs.messages.Moves.{moved_up, moved_down}
-use Rattle.machine_theorem.specs.abstract_machine.Program.{Kind, Rests, Alone, Refers}
-use Rattle.machine_theorem.specs.machine_program.Theory.{Program, Result, stalled, went_up, went_down, serve_from}
-use Rattle.machine_theorem.specs.Order.{segment, Passed, group_after}
-use Rattle.machine_theorem.specs.machine_program.Theory as theory
-use Rattle.machine_theorem.specs.abstract_machine.Machine.{Machine, retire_from, begin, turned, poked, all_shut}
-use Rattle.machine_theorem.specs.serialization.Order.{pass, passes, from_machine, ran}
-use Rattle.machine_theorem.specs.serialization.Serialization.{Begins}
-use Rattle.machine_theorem.proofs.Lemmas.serialization.{follows}
+use Rattle.machine_runs.specs.messages.declared.message.Request.{Request}
+use Rattle.machine_runs.specs.messages.declared.message.Reply.{Reply}
+use Rattle.machine_runs.specs.messages.declared.moves.UpMove.{UpMove}
+use Rattle.machine_runs.specs.messages.declared.moves.UpMove.TheVariants as up
+use Rattle.machine_runs.specs.messages.declared.moves.DownMove.{DownMove}
+use Rattle.machine_runs.specs.messages.declared.moves.DownMove.TheVariants as down
+use Rattle.machine_runs.specs.messages.Places.{In, Distinct}
+use Rattle.machine_runs.specs.messages.Network.{Sizes, Net}
+use Rattle.machine_runs.specs.messages.Moves.{moved_up, moved_down}
+use Rattle.machine_runs.specs.abstract_machine.Program.{Kind, Rests, Alone, Refers}
+use Rattle.machine_runs.specs.machine_program.Theory.{Program, Result, stalled, went_up, went_down, serve_from}
+use Rattle.machine_runs.specs.machine_theorem.Order.{segment, Passed, group_after}
+use Rattle.machine_runs.specs.machine_program.Theory as theory
+use Rattle.machine_runs.specs.abstract_machine.Machine.{Machine, retire_from, begin, turned, poked, all_shut}
+use Rattle.machine_runs.specs.serialization.Order.{pass, passes, from_machine, ran}
+use Rattle.machine_runs.specs.serialization.Serialization.{Begins}
+use Rattle.machine_runs.proofs.Lemmas.machine_theorem.serialization.{follows}
 use Rattle.steps.specs.declared.step.Step.{Step}
 use Rattle.steps.specs.declared.step.Step.TheVariants as step
 use Rattle.steps.specs.declared.step.Outcome.{Outcome}
-use Rattle.machine.specs.machine_ports.Ports.{PortState}
-use Rattle.machine_theorem.specs.machine_program.Processors.{Told, no_port, sizes_of, kind_of, next, program, may_poke, port_at}
-use Rattle.machine_theorem.specs.Flatness.{IsGood}
-use Rattle.machine_theorem.specs.machine_program.Steps.{named, taken, answer_of, told_of_turn, told_of_reply, outcome_of, after, machine_of_parts}
-use Rattle.machine_theorem.proofs.Lemmas.{keeps}
-use Rattle.machine.specs.Machines.{MachineLists, machine_of, IsIdle, IsMachine, IsStep}
+use Rattle.machine_runs.specs.machine_ports.Ports.{PortState}
+use Rattle.machine_runs.specs.machine_program.Processors.{Told, no_port, sizes_of, kind_of, next, program, may_poke, port_at}
+use Rattle.machine_runs.specs.machine_theorem.Flatness.{IsGood}
+use Rattle.machine_runs.specs.machine_program.Steps.{named, taken, answer_of, told_of_turn, told_of_reply, outcome_of, after, machine_of_parts}
+use Rattle.machine_runs.proofs.Lemmas.machine_theorem.{keeps}
+use Rattle.machine_runs.specs.Machines.{MachineLists, machine_of, IsIdle, IsMachine, IsStep}
 use Rattle.machine_runs.specs.Runs.{all_after, events_of, IsRun, passed}
-use Rattle.machine_runs.specs.Ordering.{told_by, turn_tells, is_open_at, group_in, IsEntered}
-use Rattle.machine.proofs.Lemmas.{count_small, past_end}
-use Rattle.machine_runs.proofs.Running.{run_begins, run_more, passes_machine}
+use Rattle.serial_order.specs.Ordering.{told_by, turn_tells, is_open_at, group_in, IsEntered}
+use Rattle.machine_runs.proofs.Lemmas.machine.{count_small, past_end}
+use Rattle.machine_runs.proofs.Lemmas.{run_begins, run_more, passes_machine}
 
 -- ---- what an outcome tells is what the theory's does
 

@@ -1,9 +1,9 @@
 use Rattle.std.proofs.Common.{◌∙◌, ◌∷◌, [], sym, ap, subst, arith}
 use Rattle.std.specs.Prelude.{slice_set}
-use Rattle.machine_theorem.specs.machine_program.Theory as theory
-use Rattle.machine_runs.specs.Ordering.{IsEntered}
-use Rattle.machine_runs.proofs.Grouping.{enters_issue}
-use Rattle.machine_runs.proofs.serial_order.SerialOrder.begin.Goals as goal
+use Rattle.machine_runs.specs.machine_program.Theory as theory
+use Rattle.serial_order.specs.Ordering.{IsEntered}
+use Rattle.serial_order.proofs.Grouping.{enters_issue}
+use Rattle.serial_order.proofs.entering.SerialOrder.begin.Goals as goal
 
 pub returns-clause-entered : goal.returns-clause-entered
 returns-clause-entered c =

@@ -2,10 +2,10 @@ use Rattle.std.proofs.Common.{◌≡◌, ◌∙◌, ◌<◌, ◌+◌, ◌++◌, 
 use Rattle.std.specs.Prelude.{slice_set}
 use Rattle.std.proofs.lemmas.List.{append-nil, length-append, length-map, length-take-le, take_all}
 use Rattle.flat_machine.specs.declared.poke.Entry.TheVariants as entry
-use Rattle.machine_theorem.specs.machine_program.Theory as theory
-use Rattle.machine_runs.specs.Ordering.{group_in, IsEntered}
-use Rattle.machine_runs.proofs.Grouping.{group_at, group_counts, enters_served}
-use Rattle.machine_runs.proofs.serial_order.SerialOrder.serve.Goals as goal
+use Rattle.machine_runs.specs.machine_program.Theory as theory
+use Rattle.serial_order.specs.Ordering.{group_in, IsEntered}
+use Rattle.serial_order.proofs.Grouping.{group_at, group_counts, enters_served}
+use Rattle.serial_order.proofs.entering.SerialOrder.serve.Goals as goal
 
 pub loop-p-init : goal.loop-p-init
 loop-p-init c = record { groups = refl; entries = sym (append-nil c.args.self.now.entries.items); capacity = refl }

@@ -3,9 +3,9 @@
 ghost use Rattle.std.specs.Prelude.{◌≡◌, ◌≤◌, ◌<◌, ◌+◌, ◌++◌, ◌∷◌, ℕ, [], length, IfOk};
 ghost use Rattle.std.specs.Vec.{vec_capacity};
 ghost use Rattle.flat_machine.specs.declared.poke.Entry.TheVariants as entry;
-ghost use Rattle.machine_theorem.specs.machine_program.Theory as theory;
-ghost use Rattle.machine_runs.specs.Ordering.{told_by, group_in, count_in, IsEntered, turn_tells, move_tells, poke_tells};
-ghost use Rattle.machine_theorem.specs.Order.{group_after};
+ghost use Rattle.machine_runs.specs.machine_program.Theory as theory;
+ghost use Rattle.serial_order.specs.Ordering.{told_by, group_in, count_in, IsEntered, turn_tells, move_tells, poke_tells};
+ghost use Rattle.machine_runs.specs.machine_theorem.Order.{group_after};
 
 use arrayvec::ArrayVec;
 use flat_machine::{Entry, Poke};

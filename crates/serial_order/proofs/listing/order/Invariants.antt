@@ -1,8 +1,8 @@
 use Rattle.std.proofs.Common.{◌≤◌, ◌+◌, length, take}
 use Rattle.std.specs.Vec.{vec_capacity}
-use Rattle.machine_runs.specs.Ordering.{count_in}
-use Rattle.machine_runs.proofs.Ordering.{IsOrdered}
-use Rattle.machine_runs.proofs.runs.order.Given as goal
+use Rattle.serial_order.specs.Ordering.{count_in}
+use Rattle.serial_order.proofs.Ordering.{IsOrdered}
+use Rattle.serial_order.proofs.listing.order.Given as goal
 
 abbrev pub invariant-loop-step : goal.invariant-loop-step
 invariant-loop-step l = record {

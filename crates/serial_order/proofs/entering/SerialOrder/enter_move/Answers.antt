@@ -1,7 +1,7 @@
 use Rattle.std.proofs.Common.{◌≤◌, ℕ, length, subst}
-use Rattle.machine_runs.specs.Ordering.{group_in, move_tells}
-use Rattle.machine_theorem.specs.Order.{group_after}
-use Rattle.machine_runs.proofs.serial_order.SerialOrder.enter_move.Goals as goal
+use Rattle.serial_order.specs.Ordering.{group_in, move_tells}
+use Rattle.machine_runs.specs.machine_theorem.Order.{group_after}
+use Rattle.serial_order.proofs.entering.SerialOrder.enter_move.Goals as goal
 
 pub join-requires-clause-few : goal.join-requires-clause-few
 join-requires-clause-few c =

@@ -1,6 +1,6 @@
 use Rattle.std.proofs.Common.{◌≡◌, ℕ, [], length}
-use Rattle.machine_runs.specs.Ordering.{group_in, count_in}
-use Rattle.machine_runs.proofs.serial_order.SerialOrder.new.Given as goal
+use Rattle.serial_order.specs.Ordering.{group_in, count_in}
+use Rattle.serial_order.proofs.entering.SerialOrder.new.Given as goal
 
 abbrev pub invariant-loop : goal.invariant-loop
 invariant-loop l = record {

@@ -2,11 +2,11 @@ use Rattle.std.proofs.Common.{◌≡◌, ◌≤◌, ℕ, length, take, slice_ind
 use Rattle.std.proofs.lemmas.List.{take_more, take_all}
 use Rattle.steps.specs.declared.step.Step.TheVariants as step
 use Rattle.machine_runs.specs.Runs.{passed}
-use Rattle.machine_runs.specs.Ordering.{told_by, group_in, IsEntered}
-use Rattle.machine_runs.proofs.Running.{serialized}
-use Rattle.machine_runs.proofs.Ordering.{IsOrdered, order_begins, few_after, order_goes_on}
-use Rattle.machine_theorem.specs.Order.{group_after}
-use Rattle.machine_runs.proofs.runs.order.Goals as goal
+use Rattle.serial_order.specs.Ordering.{told_by, group_in, IsEntered}
+use Rattle.machine_runs.proofs.Lemmas.{serialized}
+use Rattle.serial_order.proofs.Ordering.{IsOrdered, order_begins, few_after, order_goes_on}
+use Rattle.machine_runs.specs.machine_theorem.Order.{group_after}
+use Rattle.serial_order.proofs.listing.order.Goals as goal
 
 pub loop-step-init : goal.loop-step-init
 loop-step-init c =

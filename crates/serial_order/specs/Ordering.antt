@@ -3,14 +3,14 @@ use Rattle.std.specs.Prelude.{◌≡◌, ℕ, ◌+◌, ◌≤◌, Bool, true, fa
 use Rattle.arrayvec.specs.ArrayVec.{ArrayVec}
 use Rattle.flat_machine.specs.declared.poke.Entry.{Entry}
 use Rattle.flat_machine.specs.declared.poke.Poke.{Poke}
-use Rattle.machine_theorem.specs.Order.{segment, group_after}
-use Rattle.machine_theorem.specs.machine_program.Theory as theory
+use Rattle.machine_runs.specs.machine_theorem.Order.{segment, group_after}
+use Rattle.machine_runs.specs.machine_program.Theory as theory
 use Rattle.steps.specs.declared.step.Step.{Step}
 use Rattle.steps.specs.declared.step.Step.TheVariants as step
 use Rattle.steps.specs.declared.step.Outcome.{Outcome}
 use Rattle.steps.specs.declared.step.Outcome.TheVariants.{Retired, Issued, Stopped, Combined, Served, Poked}
-use Rattle.machine_theorem.specs.machine_program.Processors.{open_at}
-use Rattle.machine.specs.Machines.{MachineLists}
+use Rattle.machine_runs.specs.machine_program.Processors.{open_at}
+use Rattle.machine_runs.specs.Machines.{MachineLists}
 
 -- ---- what an outcome tells the order
 

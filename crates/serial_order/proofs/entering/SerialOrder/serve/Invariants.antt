@@ -1,7 +1,7 @@
 use Rattle.std.proofs.Common.{◌≡◌, ◌++◌, take, map}
 use Rattle.std.specs.Vec.{vec_capacity}
 use Rattle.flat_machine.specs.declared.poke.Entry.TheVariants as entry
-use Rattle.machine_runs.proofs.serial_order.SerialOrder.serve.Given as goal
+use Rattle.serial_order.proofs.entering.SerialOrder.serve.Given as goal
 
 abbrev pub invariant-loop-p : goal.invariant-loop-p
 invariant-loop-p l = record {

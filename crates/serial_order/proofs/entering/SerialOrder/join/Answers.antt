@@ -1,10 +1,10 @@
 use Rattle.std.proofs.Common.{◌≡◌, ◌∙◌, ◌≤◌, ◌<◌, ◌++◌, ℕ, length, sym, ap, ap₂, subst, arith}
 use Rattle.std.specs.Prelude.{slice_set}
-use Rattle.machine_theorem.specs.placement.Meaning.{joined}
-use Rattle.machine_theorem.specs.machine_program.Theory as theory
-use Rattle.machine_runs.specs.Ordering.{group_in, IsEntered}
-use Rattle.machine_runs.proofs.Grouping.{group_at, enters_combined}
-use Rattle.machine_runs.proofs.serial_order.SerialOrder.join.Goals as goal
+use Rattle.machine_runs.specs.placement.Meaning.{joined}
+use Rattle.machine_runs.specs.machine_program.Theory as theory
+use Rattle.serial_order.specs.Ordering.{group_in, IsEntered}
+use Rattle.serial_order.proofs.Grouping.{group_at, enters_combined}
+use Rattle.serial_order.proofs.entering.SerialOrder.join.Goals as goal
 
 pub returns-clause-entered : goal.returns-clause-entered
 returns-clause-entered c =
