@@ -1,10 +1,11 @@
 -- What holds of every machine is kept where a port, a module or the network changes.
-use Rattle.std.proofs.Common.{◌≡◌, ℕ, zero, suc, ◌/◌, ◌%◌, ◌^◌, ◌<◌, ◌≤◌, Bool, true, false, List, [], length, Some, ◌⊎◌, inl, inr, refl, sym, ap}
+use Rattle.std.proofs.Common.{◌≡◌, ℕ, ◌/◌, ◌%◌, ◌^◌, ◌<◌, ◌≤◌, Bool, true, false, List, [], length, Some, ◌⊎◌, inl, inr, refl, sym, ap}
 use Rattle.std.proofs.Common.{◌∙◌, subst, arith}
 use Rattle.std.proofs.Common.{get_or-set_same, get_or-set_other}
 use Rattle.std.specs.Prelude.{slice_index_or, slice_set}
 use Rattle.std.proofs.lemmas.Bool.{cases_eq, true≢false}
 use Rattle.std.proofs.lemmas.List.{length-set}
+use Rattle.std.proofs.Math.Nat.{pow-le-pow_right}
 use Rattle.std.proofs.lemmas.Nat.{mod_below, pow_pos}
 use Rattle.flat_machine.specs.declared.config.Config.{Config}
 use Rattle.flat_machine.specs.declared.event.Retired as retirement
@@ -94,14 +95,7 @@ module _ (c : Config) (ports : List PortState) (all : ArePorts c ports) (p : ℕ
 -- ---- what a turn leaves of a port
 
 pub count_small : (k : ℕ) → k ≤ 6 → 2 ^ k ≤ 64
-count_small zero l = omega arith
-count_small (suc zero) l = omega arith
-count_small (suc (suc zero)) l = omega arith
-count_small (suc (suc (suc zero))) l = omega arith
-count_small (suc (suc (suc (suc zero)))) l = omega arith
-count_small (suc (suc (suc (suc (suc zero))))) l = omega arith
-count_small (suc (suc (suc (suc (suc (suc zero)))))) l = omega arith
-count_small (suc (suc (suc (suc (suc (suc (suc k))))))) l = absurd (omega arith)
+count_small k few = pow-le-pow_right {n = 2} (omega arith) few
 
 module _ (c : Config) (code : List ℕ) (limits : IsWithinLimits c) (bytes : AreBelow 256 code) (ports : List PortState) (all : ArePorts c ports) (p : ℕ)
     (within : p < 2 ^ c.k) where

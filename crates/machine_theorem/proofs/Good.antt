@@ -1,6 +1,7 @@
 -- Processors keep their words, so their references go by functions in range.
-use Rattle.std.proofs.Common.{◌≡◌, ℕ, zero, suc, ◌-◌, ◌/◌, ◌%◌, ◌^◌, ◌<◌, ◌≤◌, Bool, true, false, eqb, List, ◌⊎◌, inl, inr, refl, sym, ap, ◌∙◌, subst, arith}
+use Rattle.std.proofs.Common.{◌≡◌, ℕ, ◌-◌, ◌/◌, ◌%◌, ◌^◌, ◌<◌, ◌≤◌, Bool, true, false, eqb, List, ◌⊎◌, inl, inr, refl, sym, ap, ◌∙◌, subst, arith}
 use Rattle.std.specs.Prelude.{◌&&◌, nat_lt, slice_set, if◌then◌else◌}
+use Rattle.std.proofs.Math.Nat.{pow-le-pow_right}
 use Rattle.std.proofs.lemmas.Bool.{cases_eq, ltb-true, and_parts}
 use Rattle.machine_program.specs.flat_machine.declared.config.Config.{Config}
 use Rattle.machine_program.specs.flat_machine.declared.poke.Poke.{Poke}
@@ -26,17 +27,7 @@ use Rattle.machine_theorem.proofs.Flat.{MeansChange}
 
 module _ (c : Config) (code : List ℕ) (few : c.k ≤ 6) (bytes : AreBelow 256 code) where
   count_small : 2 ^ c.k < 2 ^ 32
-  count_small = by_stage c.k few
-    where
-      by_stage : (k : ℕ) → k ≤ 6 → 2 ^ k < 2 ^ 32
-      by_stage zero l = omega arith
-      by_stage (suc zero) l = omega arith
-      by_stage (suc (suc zero)) l = omega arith
-      by_stage (suc (suc (suc zero))) l = omega arith
-      by_stage (suc (suc (suc (suc zero)))) l = omega arith
-      by_stage (suc (suc (suc (suc (suc zero))))) l = omega arith
-      by_stage (suc (suc (suc (suc (suc (suc zero)))))) l = omega arith
-      by_stage (suc (suc (suc (suc (suc (suc (suc k))))))) l = absurd (omega arith)
+  count_small = let most : 2 ^ c.k ≤ 2 ^ 6 = pow-le-pow_right {n = 2} (omega arith) few in omega (arith, most)
 
   number_small : (p : ℕ) (g : Told) → IsGood p g → is_running g.state.status ≡ true → p < 2 ^ 8
   number_small p g h runs = by_reason h.1

@@ -11,20 +11,18 @@ use Rattle.messages.specs.Laws.{NothingMovesDown, NothingMovesUp}
 use Rattle.messages.specs.Network.{Net}
 use Rattle.messages.specs.Moves.{down_from, moved_down, moved_up, up_from}
 
+one_of_both : {X : Type 0} (b : Bool) (x : X) → (if b then x else x) ≡ x
+one_of_both true x = refl
+one_of_both false x = refl
+
 pub nothing_moves_up : NothingMovesUp
 unfolding moved_up
 nothing_moves_up z net s w none =
-    ap (λ (q : List Request). if◌then◌else◌ {A = UpMove × Net} (nat_lt s z.k) (up_from z net s w q) (up.Stalled, net)) none ∙ either (nat_lt s z.k)
-  where
-    either : (b : Bool) → if◌then◌else◌ {A = UpMove × Net} b (up.Stalled, net) (up.Stalled, net) ≡ (up.Stalled, net)
-    either true = refl
-    either false = refl
+    ap (λ (q : List Request). if◌then◌else◌ {A = UpMove × Net} (nat_lt s z.k) (up_from z net s w q) (up.Stalled, net)) none
+    ∙ one_of_both (nat_lt s z.k) (up.Stalled, net)
 
 pub nothing_moves_down : NothingMovesDown
 unfolding moved_down
 nothing_moves_down z net s w none =
-    ap (λ (q : List Reply). if◌then◌else◌ {A = DownMove × Net} (nat_lt s z.k) (down_from z net s w q) (down.Stalled, net)) none ∙ either (nat_lt s z.k)
-  where
-    either : (b : Bool) → if◌then◌else◌ {A = DownMove × Net} b (down.Stalled, net) (down.Stalled, net) ≡ (down.Stalled, net)
-    either true = refl
-    either false = refl
+    ap (λ (q : List Reply). if◌then◌else◌ {A = DownMove × Net} (nat_lt s z.k) (down_from z net s w q) (down.Stalled, net)) none
+    ∙ one_of_both (nat_lt s z.k) (down.Stalled, net)
