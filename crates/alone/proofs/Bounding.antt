@@ -13,7 +13,7 @@ use Rattle.alone.specs.Stations.{consoles_after, turns, Station, IsReference}
 use Rattle.alone.specs.Closing.{IsForgetful, Standing, MayMove, IsShort, Settles}
 use Rattle.alone.specs.Schedules.{EveryScheduleEnds}
 use Rattle.alone.proofs.Settling.{one_events, one_event, one_length, stays, silent, absent, absent_silent, found_within, some_inj, put, put_here, put_other}
-use Rattle.alone.proofs.Settling.{SettlesIn, counted}
+use Rattle.alone.proofs.Settling.{SettlesIn, below, counted}
 use Rattle.alone.proofs.Covering.{retiring_turn, stopping_turn, reaching_turn, may_move}
 
 -- ---- sums of the first so many
@@ -21,16 +21,6 @@ use Rattle.alone.proofs.Covering.{retiring_turn, stopping_turn, reaching_turn, m
 abbrev total : (ℕ → ℕ) → ℕ → ℕ
 total f zero = 0
 total f (suc n) = total f n + f n
-
-below : (n k : ℕ) → k < suc n → (k < n) ⊎ (k ≡ n)
-below zero zero l = inr refl
-below (suc n) zero l = inl (omega arith)
-below zero (suc k) l = absurd (omega (arith, l))
-below (suc n) (suc k) l = up (below n k (omega (arith, l)))
-  where
-    up : (k < n) ⊎ (k ≡ n) → (suc k < suc n) ⊎ (suc k ≡ suc n)
-    up (inl e) = inl (omega (arith, e))
-    up (inr e) = inr (ap suc e)
 
 total_same : (f g : ℕ → ℕ) (n : ℕ) → ((i : ℕ) → i < n → f i ≡ g i) → total f n ≡ total g n
 total_same f g zero e = refl

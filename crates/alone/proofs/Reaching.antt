@@ -12,7 +12,7 @@ use Rattle.alone.specs.Stations.{consoles_after, turns, Station, behind, stopped
 use Rattle.alone.specs.Closing.{IsForgetful, Standing, IsMove, IsWay, station_of, Settles, IsKeptOf, AreSettled}
 use Rattle.alone.specs.Schedules.{turns_taken}
 use Rattle.alone.proofs.Settling.{settled_stays, one_events, one_event, set_there, found_within, found_there, some_inj, consoles_more, SettlesIn, counted}
-use Rattle.alone.proofs.Settling.{uncounted, put}
+use Rattle.alone.proofs.Settling.{below, uncounted, put}
 use Rattle.alone.proofs.Covering.{retiring_turn, stopping_turn, reaching_turn, becomes, printed, settled_kept}
 
 -- ---- some turns later
@@ -64,21 +64,8 @@ module _ (at : ℕ → Setting) (code : List ℕ) (kept : Station → Station) w
 
   calm_more : (k : ℕ) (s : Standing) (m : FlatState) (consoles : ℕ → List ℕ) (p : Processor) → Calm k s m consoles → slice_get m.processors k ≡ Some p →
       IsSettled (at k) code p → Calm (suc k) s m consoles
-  calm_more k s m consoles p h there settled = (h.0, λ i q less e. by i q (below i less) e)
+  calm_more k s m consoles p h there settled = (h.0, λ i q less e. by i q (below k i less) e)
     where
-      below : (i : ℕ) → i < suc k → (i < k) ⊎ (i ≡ k)
-      below i less = split i k less
-        where
-          split : (i k : ℕ) → i < suc k → (i < k) ⊎ (i ≡ k)
-          split zero zero less = inr refl
-          split zero (suc k) less = inl (omega arith)
-          split (suc i) zero less = absurd (omega (arith, less))
-          split (suc i) (suc k) less = up (split i k (omega (arith, less)))
-            where
-              up : (i < k) ⊎ (i ≡ k) → (suc i < suc k) ⊎ (suc i ≡ suc k)
-              up (inl e) = inl (omega (arith, e))
-              up (inr e) = inr (ap suc e)
-
       by : (i : ℕ) (q : Processor) → (i < k) ⊎ (i ≡ k) → slice_get m.processors i ≡ Some q → IsSettled (at i) code q
       by i q (inl less) e = h.1 i q less e
       by i q (inr same) e =

@@ -3,6 +3,7 @@ use Rattle.std.proofs.Common.{◌≡◌, ◌≢◌, ◌⊎◌, inl, inr, ℕ, �
 use Rattle.std.proofs.Common.{ap}
 use Rattle.std.proofs.Common.{subst, ◌∙◌, arith, eqb, eq-eqb, ne_eqb}
 use Rattle.std.specs.Prelude.{slice_get, slice_set, slice_index}
+use Rattle.std.proofs.lemmas.Bool.{cases_lt}
 use Rattle.std.proofs.lemmas.List.{length-set}
 use Rattle.flat_machine.specs.declared.setting.Setting.{Setting}
 use Rattle.flat_machine.specs.declared.event.Event.{Event}
@@ -14,6 +15,10 @@ use Rattle.flat_machine.specs.Flat.{taken, with_taken, turned, turn_event, flat_
 use Rattle.flat_machine.proofs.Lemmas.{set_other}
 use Rattle.alone.specs.Stations.{printed_after, console_after, consoles_after, Station, behind, stopped_by, alone_by, alone_once, alone, IsReference, IsSettled}
 use Rattle.alone.specs.Closing.{IsAlike, IsForgetful, Standing, gone, station_of, Settles}
+
+-- below one more, a number is below or the last
+pub below : (n k : ℕ) → k < suc n → (k < n) ⊎ (k ≡ n)
+below n k l = elim (cases_lt k n) [ inl less ↦ inl less | inr past ↦ inr (omega (arith, l, past)) ]
 
 -- ---- settled processors
 

@@ -16,7 +16,7 @@ use Rattle.station_search.specs.declared.tables.Extent.{Extent}
 use Rattle.station_search.specs.Tables.{TableLists, placed_at, setting_at}
 use Rattle.station_search.specs.Search.{state_at}
 use Rattle.station_search.specs.Ends.{AreMoves, AreReached}
-use Rattle.station_search.proofs.Lemmas.{there, found_at, listed_is, way_on}
+use Rattle.station_search.proofs.Lemmas.{there, found_at, listed_is, way_on, up_to}
 use Rattle.station_search.proofs.Moving.{referred_too}
 use Rattle.move_ranks.specs.declared.ranks.Rule.TheVariants as rule
 use Rattle.move_ranks.specs.Ranks.{no_move, target_at, rank_at, HasNone, AreBelow, HasBelow, AreRanks}
@@ -59,13 +59,6 @@ none_runs at code forget n consoles u forgets kept stopped k a found =
 nowhere_there : {X : Type 0} (i : ℕ) (x : X) → slice_get [] i ≡ Some x → ⊥
 nowhere_there i x found = cc
 
-up_to : (k n : ℕ) → k < suc n → (k < n) ⊎ (k ≡ n)
-up_to k n h = by (cases_lt k n)
-  where
-    by : (k < n) ⊎ (n ≤ k) → (k < n) ⊎ (k ≡ n)
-    by (inl below) = inl below
-    by (inr past) = inr (omega (arith, h, past))
-
 -- ---- a move to a row without a rank
 
 module _ (targets ranks : List ℕ) where
@@ -91,7 +84,7 @@ module _ (targets ranks : List ℕ) where
           ((k : ℕ) × (k < suc n) × IsUp k) ⊎ AreBelow targets (suc n) ranks no_move
       by (inl x) _ = let l = x.1 in inl (x.0, omega (arith, l), x.2)
       by (inr all) (inl up) = inl (n, omega arith, up)
-      by (inr all) (inr here) = inr (λ k l real. last k l real (up_to k n l))
+      by (inr all) (inr here) = inr (λ k l real. last k l real (up_to k n (omega (arith, l))))
         where
           last : (k : ℕ) → k < suc n → slice_index targets k ≢ no_move → (k < n) ⊎ (k ≡ n) → rank_at ranks (slice_index targets k) < no_move
           last k l real (inl below) = all k below real
@@ -194,7 +187,7 @@ module _ (e : Extent) (code : List ℕ) (t : TableLists) (rows moves : List (Lis
     picked_has : (n i : ℕ) → i < n → left_out i ≡ false → IsIn (picked n) (state_at e t rows i)
     unfolding picked
     picked_has zero i l inside = absurd (omega (arith, l))
-    picked_has (suc n) i l inside = by (λ below. picked_has n i below inside) (left_out n) refl (up_to i n l)
+    picked_has (suc n) i l inside = by (λ below. picked_has n i below inside) (left_out n) refl (up_to i n (omega (arith, l)))
       where
         by : (i < n → IsIn (picked n) (state_at e t rows i)) → (b : Bool) → left_out n ≡ b → (i < n) ⊎ (i ≡ n) →
             IsIn (cond b (picked n) (state_at e t rows n ∷ picked n)) (state_at e t rows i)

@@ -12,7 +12,7 @@ use Rattle.move_ranks.specs.Ranks.{no_move, target_at}
 use Rattle.station_search.specs.declared.tables.Extent.{Extent}
 use Rattle.station_search.specs.Tables.{TableLists, HasGrown, setting_at, means, IsRow}
 use Rattle.station_search.specs.Search.{state_at, IsPlaced, IsNoted, Moves, IsReached, MayMove, IsNext, IsTarget, Searched, Expanded}
-use Rattle.station_search.proofs.Lemmas.{found_at, way_on}
+use Rattle.station_search.proofs.Lemmas.{found_at, way_on, up_to}
 use Rattle.station_search.proofs.Growing.{row_kept, means_kept}
 
 -- ---- a list with a row inserted
@@ -140,16 +140,6 @@ module _ (e : Extent) (code : List ℕ) where
         reached_at : (i : ℕ) → (i < length rows) ⊎ (slice_index_or new i [] ≡ row) → IsReached e code t.live first (state_at e t new i)
         reached_at i (inl l) = subst (IsReached e code t.live first) (stays i l) (h.reached i l)
         reached_at i (inr is) = subst (λ r. IsReached e code t.live first (means e t r)) (sym is) reached
-
-  up_to : (k n : ℕ) → k < n + 1 → (k < n) ⊎ (k ≡ n)
-  up_to zero zero h = inr refl
-  up_to zero (suc n) h = inl (omega arith)
-  up_to (suc k) zero h = absurd (omega (arith, h))
-  up_to (suc k) (suc n) h = by (up_to k n (omega (arith, h)))
-    where
-      by : (k < n) ⊎ (k ≡ n) → (suc k < suc n) ⊎ (suc k ≡ suc n)
-      by (inl below) = inl (omega (arith, below))
-      by (inr same) = inr (ap suc same)
 
   -- ---- one processor more
 
