@@ -1,4 +1,4 @@
-use Rattle.std.proofs.Common.{◌≡◌, ℕ, ◌≤◌, true, false, List, length, None, sym, ap, subst, ◌∙◌}
+use Rattle.std.proofs.Common.{◌≡◌, ℕ, ◌≤◌, true, false, List, length, None, sym, ap, subst, ◌∙◌, rules}
 use Rattle.elf_image.specs.declared.header.FileHeader.{FileHeader}
 use Rattle.elf_image.specs.declared.layout.Layout.{Layout}
 use Rattle.elf_image.specs.declared.region.Region.TheVariants.{Code, Local, Shared}
@@ -6,7 +6,7 @@ use Rattle.elf_image.specs.declared.segment.ProgramHeader.{ProgramHeader}
 use Rattle.elf_image.specs.Headers.{file_header, segments}
 use Rattle.elf_image.specs.Refusals.{is_entry, header_refusal, segment_refusals, first_of, have_overlap}
 use Rattle.elf_image.specs.Loading.{IsLoaded}
-use Rattle.elf_image.specs.Images.{IsCause}
+use Rattle.elf_image.specs.Images.{IsCause, IsMeant}
 use Rattle.elf_image.proofs.Conditions.{if_err}
 use Rattle.elf_image.proofs.Meant.{Passed, accepted, meant, placed}
 use Rattle.elf_image.proofs.Causes.{cause_headers, cause_segments, cause_overlap, cause_entry}
@@ -28,29 +28,25 @@ checked_there : (w : ℕ) (file : List ℕ) (ps : List ProgramHeader) → ps ≡
     first_of (segment_refusals (length file) w (segments file)) ≡ None
 checked_there w file ps e h = ap (λ qs. first_of (segment_refusals (length file) w qs)) (sym e) ∙ h
 
-loaded_there : (w : ℕ) (file : List ℕ) (ps : List ProgramHeader) → ps ≡ segments file → (layout : Layout) →
-    IsLoaded file ps w Code layout.code → IsLoaded file ps w Local layout.local → IsLoaded file ps w Shared layout.shared →
-    IsLoaded file (segments file) w Code layout.code × IsLoaded file (segments file) w Local layout.local × IsLoaded file (segments file) w Shared layout.shared
-loaded_there w file ps e layout a b c = (
-  subst (λ qs. IsLoaded file qs w Code layout.code) e a,
-  subst (λ qs. IsLoaded file qs w Local layout.local) e b,
-  subst (λ qs. IsLoaded file qs w Shared layout.shared) e c,
-)
+meant_by : (w : ℕ) (file : List ℕ) (passed : Passed w file) (ps : List ProgramHeader) (layout : Layout) → ps ≡ segments file →
+    layout.entry ≡ (file_header file).e_entry →
+    IsLoaded file ps w Code layout.code → IsLoaded file ps w Local layout.local → IsLoaded file ps w Shared layout.shared → IsMeant w file layout
+meant_by w file passed ps layout same entry code local shared = meant w file passed layout entry (subst (λ qs. IsLoaded file qs w Code layout.code) same code)
+    (subst (λ qs. IsLoaded file qs w Local layout.local) same local) (subst (λ qs. IsLoaded file qs w Shared layout.shared) same shared)
 
 pub new-requires : goal.new-requires
 new-requires c =
     let file = c.args.file.now in
     let w = c.args.shared_words in
     let ps = c.segments_of-segments.ensures in
-    let header = c.in_ok-header.ensures.value in
-    let layout = c.in_ok-layout.layout in
-    let loads = loaded_there w file _ (c.as_slice-3.ensures.value ∙ ps) layout c.in_ok-layout.ensures.code c.in_ok-layout.ensures.local
-    c.in_ok-layout.ensures.shared in
     let passed =
     passed_by w file _ _ _ c.in_ok-header.ensures.value (c.as_slice.ensures.value ∙ ps)
     (c.as_slice-2.ensures.value ∙ ps) c.requires c.in_ok-header.ensures.ok c.in_ok-check_each.ensures.ok
     (sym c.have_overlap.ensures ∙ c.if-have_overlap.false) (sym c.has_entry.ensures ∙ c.if-not-has_entry.false) in
-    placed w file passed layout (meant w file passed layout (c.in_ok-layout.ensures.entry ∙ ap (λ h. h.e_entry) header) loads.0 loads.1 loads.2)
+    let layout = c.in_ok-layout.ensures in
+    let is_meant = meant_by w file passed _ c.in_ok-layout.layout (c.as_slice-3.ensures.value ∙ ps)
+    (layout.entry ∙ ap (λ h. h.e_entry) c.in_ok-header.ensures.value) layout.code layout.local layout.shared in
+    placed w file passed c.in_ok-layout.layout is_meant
 
 pub returns-in_err-header-clause-refused : goal.returns-in_err-header-clause-refused
 returns-in_err-header-clause-refused c =
@@ -83,8 +79,8 @@ returns-then-not-has_entry-clause-refused c =
     (ap have_overlap (sym (c.as_slice-2.ensures.value ∙ ps)) ∙ sym c.have_overlap.ensures ∙ c.if-have_overlap.false)
     (ap (λ h. is_entry h.e_entry) (sym c.in_ok-header.ensures.value) ∙ sym c.has_entry.ensures ∙ c.if-not-has_entry.true)
 
-pub returns-clause-accepted : goal.returns-clause-accepted
-returns-clause-accepted c =
+pub returns : goal.returns
+returns c =
     let file = c.args.file.now in
     let w = c.args.shared_words in
     let ps = c.segments_of-segments.ensures in
@@ -92,19 +88,7 @@ returns-clause-accepted c =
     passed_by w file _ _ _ c.in_ok-header.ensures.value (c.as_slice.ensures.value ∙ ps)
     (c.as_slice-2.ensures.value ∙ ps) c.requires c.in_ok-header.ensures.ok c.in_ok-check_each.ensures.ok
     (sym c.have_overlap.ensures ∙ c.if-have_overlap.false) (sym c.has_entry.ensures ∙ c.if-not-has_entry.false) in
-    accepted w file passed
-
-pub returns-clause-meant : goal.returns-clause-meant
-returns-clause-meant c =
-    let file = c.args.file.now in
-    let w = c.args.shared_words in
-    let ps = c.segments_of-segments.ensures in
-    let header = c.in_ok-header.ensures.value in
-    let layout = c.in_ok-layout.layout in
-    let loads = loaded_there w file _ (c.as_slice-3.ensures.value ∙ ps) layout c.in_ok-layout.ensures.code c.in_ok-layout.ensures.local
-    c.in_ok-layout.ensures.shared in
-    let passed =
-    passed_by w file _ _ _ c.in_ok-header.ensures.value (c.as_slice.ensures.value ∙ ps)
-    (c.as_slice-2.ensures.value ∙ ps) c.requires c.in_ok-header.ensures.ok c.in_ok-check_each.ensures.ok
-    (sym c.have_overlap.ensures ∙ c.if-have_overlap.false) (sym c.has_entry.ensures ∙ c.if-not-has_entry.false) in
-    rw c.new.ensures (meant w file passed layout (c.in_ok-layout.ensures.entry ∙ ap (λ h. h.e_entry) header) loads.0 loads.1 loads.2)
+    let layout = c.in_ok-layout.ensures in
+    let is_meant = meant_by w file passed _ c.in_ok-layout.layout (c.as_slice-3.ensures.value ∙ ps)
+    (layout.entry ∙ ap (λ h. h.e_entry) c.in_ok-header.ensures.value) layout.code layout.local layout.shared in
+    record { shared_words = search rules; accepted = accepted w file passed; meant = rw c.new.ensures is_meant; refused = search rules }
