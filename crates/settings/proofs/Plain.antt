@@ -147,37 +147,129 @@ replay_is : (trace file : Text) (r : Replay) → GivesReplay (trace_rows trace f
 unfolding row trace_rows
 replay_is trace file r said = (same_text trace r.trace.now said.0, same_text file r.file.now said.1, said.2.0)
 
--- ---- `words FILE`
+no_text : (o : Option (Bor Text)) → None ≡ option_map (λ t. t.now) o → o ≡ None
+no_text None e = refl
+no_text (Some t) e = cc
 
-words_met : (program file : Text) → IsPlain file → Meets (program ∷ codes "words" ∷ file ∷ []) (codes "words") (file_rows file)
+unset : (b : Bool) → (b ≡ true → Some (codes "false") ≡ Some (codes "true")) → b ≡ false
+unset false f = refl
+unset true f = let bad : Some (codes "false") ≡ Some (codes "true") = f refl in cc
+
+-- ---- the commands with one file: `words FILE`, `check FILE`, `dis FILE`, `debug FILE` and `hunt FILE`
+
+pub data FileCommand : Type 0 where
+  OfWords : FileCommand
+  OfCheck : FileCommand
+  OfDis : FileCommand
+  OfDebug : FileCommand
+  OfHunt : FileCommand
+
+abbrev pub file_command : FileCommand → Text
+file_command OfWords = codes "words"
+file_command OfCheck = codes "check"
+file_command OfDis = codes "dis"
+file_command OfDebug = codes "debug"
+file_command OfHunt = codes "hunt"
+
+abbrev pub AreOfFile : FileCommand → Text → Settings → Type 0
+AreOfFile OfWords = AreWordsOf
+AreOfFile OfCheck = AreCheckOf
+AreOfFile OfDis = AreDisOf
+AreOfFile OfDebug = AreDebugOf
+AreOfFile OfHunt = AreHuntOf
+
+file_met : (c : FileCommand) (program file : Text) → IsPlain file → Meets (program ∷ file_command c ∷ file ∷ []) (file_command c) (file_rows file)
 unfolding row file_rows clap_on_literals commands
-words_met program file h = rw (no_hyphens file h, no_hyphen file h, no_hyphen file h) (refl, refl)
+file_met OfWords program file h = rw (no_hyphens file h, no_hyphen file h, no_hyphen file h) (refl, refl)
+file_met OfCheck program file h = rw (no_hyphens file h, no_hyphen file h, no_hyphen file h) (refl, refl)
+file_met OfDis program file h = rw (no_hyphens file h, no_hyphen file h, no_hyphen file h) (refl, refl)
+file_met OfDebug program file h = rw (no_hyphens file h, no_hyphen file h, no_hyphen file h) (refl, refl)
+file_met OfHunt program file h = rw (no_hyphens file h, no_hyphen file h, no_hyphen file h) (refl, refl)
 
-words_are : (file : Text) (s : Settings) → (name_of s ≡ codes "words") × AreOf (file_rows file) s → AreWordsOf file s
+file_are : (c : FileCommand) (file : Text) (s : Settings) → (name_of s ≡ file_command c) × AreOf (file_rows file) s → AreOfFile c file s
 unfolding name_of row file_rows
-words_are file (asked.Words w) said = same_text file w.file.now said.1
-words_are file other said = apart (name_of other) (codes "words") refl said.0
+file_are OfWords file (asked.Words w) said = same_text file w.file.now said.1
+file_are OfWords file other said = apart (name_of other) (codes "words") refl said.0
+file_are OfCheck file (asked.Check c) said = same_text file c.file.now said.1
+file_are OfCheck file other said = apart (name_of other) (codes "check") refl said.0
+file_are OfDis file (asked.Dis d) said = (same_text file d.file.now said.1.0, said.1.1.0)
+file_are OfDis file other said = apart (name_of other) (codes "dis") refl said.0
+file_are OfDebug file (asked.Debug d) said =
+    let sizes = said.1.1 in
+    let budget = said.1.2 in
+    let port = said.1.3 in
+    (same_text file d.file.now said.1.0, (sizes.0.0, sizes.1.0, sizes.2.0, sizes.3.0, sizes.4.0), budget.0, port.0)
+file_are OfDebug file other said = apart (name_of other) (codes "debug") refl said.0
+file_are OfHunt file (asked.Hunt h) said =
+    let sizes = said.1.2 in
+    let budget = said.1.3 in
+    let runs = said.1.4 in
+    let start = said.1.5 in
+    (same_text file h.file.now said.1.0, no_text h.trace said.1.1, (sizes.0.0, sizes.1.0, sizes.2.0, sizes.3.0, sizes.4.0), budget.0, runs.0, start.0)
+file_are OfHunt file other said = apart (name_of other) (codes "hunt") refl said.0
 
--- `words FILE` gives the file
-pub words_given : (file : Text) (words : List Text) → NamesFile (codes "words") file words → Give words (AreWordsOf file)
-words_given file words named =
-    give (AreWordsOf file) words (codes "words") (file_rows file) (rw named.1 (words_met named.0 file named.2)) (words_are file)
+-- the command gives the file, no trace, and each number its default
+pub file_given : (c : FileCommand) (file : Text) (words : List Text) → NamesFile (file_command c) file words → Give words (AreOfFile c file)
+file_given c file words named =
+    give (AreOfFile c file) words (file_command c) (file_rows file) (rw named.1 (file_met c named.0 file named.2)) (file_are c file)
 
--- ---- `check FILE`
+-- ---- the commands with a trace and an image: `replay TRACE FILE`, `order TRACE FILE`, `picture TRACE FILE`, `story TRACE FILE` and `stats TRACE FILE`
 
-check_met : (program file : Text) → IsPlain file → Meets (program ∷ codes "check" ∷ file ∷ []) (codes "check") (file_rows file)
-unfolding row file_rows clap_on_literals commands
-check_met program file h = rw (no_hyphens file h, no_hyphen file h, no_hyphen file h) (refl, refl)
+pub data TraceCommand : Type 0 where
+  OfReplay : TraceCommand
+  OfOrder : TraceCommand
+  OfPicture : TraceCommand
+  OfStory : TraceCommand
+  OfStats : TraceCommand
 
-check_are : (file : Text) (s : Settings) → (name_of s ≡ codes "check") × AreOf (file_rows file) s → AreCheckOf file s
-unfolding name_of row file_rows
-check_are file (asked.Check c) said = same_text file c.file.now said.1
-check_are file other said = apart (name_of other) (codes "check") refl said.0
+abbrev pub trace_command : TraceCommand → Text
+trace_command OfReplay = codes "replay"
+trace_command OfOrder = codes "order"
+trace_command OfPicture = codes "picture"
+trace_command OfStory = codes "story"
+trace_command OfStats = codes "stats"
 
--- `check FILE` gives the file
-pub check_given : (file : Text) (words : List Text) → NamesFile (codes "check") file words → Give words (AreCheckOf file)
-check_given file words named =
-    give (AreCheckOf file) words (codes "check") (file_rows file) (rw named.1 (check_met named.0 file named.2)) (check_are file)
+abbrev pub AreOfTrace : TraceCommand → (trace file : Text) → Settings → Type 0
+AreOfTrace OfReplay = AreReplayOf
+AreOfTrace OfOrder = AreOrderOf
+AreOfTrace OfPicture = ArePictureOf
+AreOfTrace OfStory = AreStoryOf
+AreOfTrace OfStats = AreStatsOf
+
+trace_met : (c : TraceCommand) (program trace file : Text) → IsPlain trace → IsPlain file →
+    Meets (program ∷ trace_command c ∷ trace ∷ file ∷ []) (trace_command c) (trace_rows trace file)
+unfolding row trace_rows clap_on_literals commands
+trace_met OfReplay program trace file h k =
+    rw (no_hyphens trace h, no_hyphen trace h, no_hyphen trace h, no_hyphens file k, no_hyphen file k, no_hyphen file k) (refl, refl)
+trace_met OfOrder program trace file h k =
+    rw (no_hyphens trace h, no_hyphen trace h, no_hyphen trace h, no_hyphens file k, no_hyphen file k, no_hyphen file k) (refl, refl)
+trace_met OfPicture program trace file h k =
+    rw (no_hyphens trace h, no_hyphen trace h, no_hyphen trace h, no_hyphens file k, no_hyphen file k, no_hyphen file k) (refl, refl)
+trace_met OfStory program trace file h k =
+    rw (no_hyphens trace h, no_hyphen trace h, no_hyphen trace h, no_hyphens file k, no_hyphen file k, no_hyphen file k) (refl, refl)
+trace_met OfStats program trace file h k =
+    rw (no_hyphens trace h, no_hyphen trace h, no_hyphen trace h, no_hyphens file k, no_hyphen file k, no_hyphen file k) (refl, refl)
+
+trace_are : (c : TraceCommand) (trace file : Text) (s : Settings) → (name_of s ≡ trace_command c) × AreOf (trace_rows trace file) s →
+    AreOfTrace c trace file s
+unfolding name_of row trace_rows
+trace_are OfReplay trace file (asked.Replay r) said = replay_is trace file r said.1
+trace_are OfReplay trace file other said = apart (name_of other) (codes "replay") refl said.0
+trace_are OfOrder trace file (asked.Order o) said = (replay_is trace file o.replay said.1.0, said.1.1, said.1.2)
+trace_are OfOrder trace file other said = apart (name_of other) (codes "order") refl said.0
+trace_are OfPicture trace file (asked.Picture p) said = (replay_is trace file p.replay said.1.0, said.1.1)
+trace_are OfPicture trace file other said = apart (name_of other) (codes "picture") refl said.0
+trace_are OfStory trace file (asked.Story r) said = replay_is trace file r said.1
+trace_are OfStory trace file other said = apart (name_of other) (codes "story") refl said.0
+trace_are OfStats trace file (asked.Stats r) said = replay_is trace file r said.1
+trace_are OfStats trace file other said = apart (name_of other) (codes "stats") refl said.0
+
+-- the command gives both files, for 1,024 words, and chooses nothing
+pub trace_given : (c : TraceCommand) (trace file : Text) (words : List Text) → NamesFiles (trace_command c) trace file words →
+    Give words (AreOfTrace c trace file)
+trace_given c trace file words named =
+    give (AreOfTrace c trace file) words (trace_command c) (trace_rows trace file) (rw named.1 (trace_met c named.0 trace file named.2 named.3))
+    (trace_are c trace file)
 
 -- ---- `asm FILE OUT`
 
@@ -199,21 +291,6 @@ pub asm_given : (file out : Text) (words : List Text) → NamesFiles (codes "asm
 asm_given file out words named =
     give (AreAsmOf file out) words (codes "asm") (asm_rows file out) (rw named.1 (asm_met named.0 file out named.2 named.3)) (asm_are file out)
 
--- ---- `dis FILE`
-
-dis_met : (program file : Text) → IsPlain file → Meets (program ∷ codes "dis" ∷ file ∷ []) (codes "dis") (file_rows file)
-unfolding row file_rows clap_on_literals commands
-dis_met program file h = rw (no_hyphens file h, no_hyphen file h, no_hyphen file h) (refl, refl)
-
-dis_are : (file : Text) (s : Settings) → (name_of s ≡ codes "dis") × AreOf (file_rows file) s → AreDisOf file s
-unfolding name_of row file_rows
-dis_are file (asked.Dis d) said = (same_text file d.file.now said.1.0, said.1.1.0)
-dis_are file other said = apart (name_of other) (codes "dis") refl said.0
-
--- `dis FILE` gives the file, for 1,024 words
-pub dis_given : (file : Text) (words : List Text) → NamesFile (codes "dis") file words → Give words (AreDisOf file)
-dis_given file words named = give (AreDisOf file) words (codes "dis") (file_rows file) (rw named.1 (dis_met named.0 file named.2)) (dis_are file)
-
 -- ---- `run FILE`
 
 run_rows : (file : Text) → List Row
@@ -223,14 +300,6 @@ run_rows file =
 run_met : (program file : Text) → IsPlain file → Meets (program ∷ codes "run" ∷ file ∷ []) (codes "run") (run_rows file)
 unfolding row run_rows clap_on_literals commands
 run_met program file h = rw (no_hyphens file h, no_hyphen file h, no_hyphen file h) (refl, refl)
-
-no_text : (o : Option (Bor Text)) → None ≡ option_map (λ t. t.now) o → o ≡ None
-no_text None e = refl
-no_text (Some t) e = cc
-
-unset : (b : Bool) → (b ≡ true → Some (codes "false") ≡ Some (codes "true")) → b ≡ false
-unset false f = refl
-unset true f = let bad : Some (codes "false") ≡ Some (codes "true") = f refl in cc
 
 run_are : (file : Text) (s : Settings) → (name_of s ≡ codes "run") × AreOf (run_rows file) s → AreRunOf file s
 unfolding name_of row run_rows
@@ -251,25 +320,6 @@ run_are file other said = apart (name_of other) (codes "run") refl said.0
 -- `run FILE` gives the file, no trace, no flag, and each number its default
 pub run_given : (file : Text) (words : List Text) → NamesFile (codes "run") file words → Give words (AreRunOf file)
 run_given file words named = give (AreRunOf file) words (codes "run") (run_rows file) (rw named.1 (run_met named.0 file named.2)) (run_are file)
-
--- ---- `replay TRACE FILE`
-
-replay_met : (program trace file : Text) → IsPlain trace → IsPlain file →
-    Meets (program ∷ codes "replay" ∷ trace ∷ file ∷ []) (codes "replay") (trace_rows trace file)
-unfolding row trace_rows clap_on_literals commands
-replay_met program trace file h k =
-    rw (no_hyphens trace h, no_hyphen trace h, no_hyphen trace h, no_hyphens file k, no_hyphen file k, no_hyphen file k) (refl, refl)
-
-replay_are : (trace file : Text) (s : Settings) → (name_of s ≡ codes "replay") × AreOf (trace_rows trace file) s → AreReplayOf trace file s
-unfolding name_of
-replay_are trace file (asked.Replay r) said = replay_is trace file r said.1
-replay_are trace file other said = apart (name_of other) (codes "replay") refl said.0
-
--- `replay TRACE FILE` gives both files, for 1,024 words
-pub replay_given : (trace file : Text) (words : List Text) → NamesFiles (codes "replay") trace file words → Give words (AreReplayOf trace file)
-replay_given trace file words named =
-    give (AreReplayOf trace file) words (codes "replay") (trace_rows trace file) (rw named.1 (replay_met named.0 trace file named.2 named.3))
-    (replay_are trace file)
 
 -- ---- `explain [CODE]`
 
@@ -292,102 +342,6 @@ explain_are code other said = apart (name_of other) (codes "explain") refl said.
 pub explain_given : (code : Option Text) (words : List Text) → NameExplainOf code words → Give words (AreExplainOf code)
 explain_given code words named =
     give (AreExplainOf code) words (codes "explain") (explain_rows code) (explain_met code words named) (explain_are code)
-
--- ---- `order TRACE FILE`
-
-order_met : (program trace file : Text) → IsPlain trace → IsPlain file →
-    Meets (program ∷ codes "order" ∷ trace ∷ file ∷ []) (codes "order") (trace_rows trace file)
-unfolding row trace_rows clap_on_literals commands
-order_met program trace file h k =
-    rw (no_hyphens trace h, no_hyphen trace h, no_hyphen trace h, no_hyphens file k, no_hyphen file k, no_hyphen file k) (refl, refl)
-
-order_are : (trace file : Text) (s : Settings) → (name_of s ≡ codes "order") × AreOf (trace_rows trace file) s → AreOrderOf trace file s
-unfolding name_of row trace_rows
-order_are trace file (asked.Order o) said = (replay_is trace file o.replay said.1.0, said.1.1, said.1.2)
-order_are trace file other said = apart (name_of other) (codes "order") refl said.0
-
--- `order TRACE FILE` gives both files, for 1,024 words, and chooses nothing
-pub order_given : (trace file : Text) (words : List Text) → NamesFiles (codes "order") trace file words → Give words (AreOrderOf trace file)
-order_given trace file words named =
-    give (AreOrderOf trace file) words (codes "order") (trace_rows trace file) (rw named.1 (order_met named.0 trace file named.2 named.3))
-    (order_are trace file)
-
--- ---- `picture TRACE FILE`
-
-picture_met : (program trace file : Text) → IsPlain trace → IsPlain file →
-    Meets (program ∷ codes "picture" ∷ trace ∷ file ∷ []) (codes "picture") (trace_rows trace file)
-unfolding row trace_rows clap_on_literals commands
-picture_met program trace file h k =
-    rw (no_hyphens trace h, no_hyphen trace h, no_hyphen trace h, no_hyphens file k, no_hyphen file k, no_hyphen file k) (refl, refl)
-
-picture_are : (trace file : Text) (s : Settings) → (name_of s ≡ codes "picture") × AreOf (trace_rows trace file) s → ArePictureOf trace file s
-unfolding name_of row trace_rows
-picture_are trace file (asked.Picture p) said = (replay_is trace file p.replay said.1.0, said.1.1)
-picture_are trace file other said = apart (name_of other) (codes "picture") refl said.0
-
--- `picture TRACE FILE` gives both files, for 1,024 words, and no step
-pub picture_given : (trace file : Text) (words : List Text) → NamesFiles (codes "picture") trace file words → Give words (ArePictureOf trace file)
-picture_given trace file words named =
-    give (ArePictureOf trace file) words (codes "picture") (trace_rows trace file) (rw named.1 (picture_met named.0 trace file named.2 named.3))
-    (picture_are trace file)
-
--- ---- `debug FILE`
-
-debug_met : (program file : Text) → IsPlain file → Meets (program ∷ codes "debug" ∷ file ∷ []) (codes "debug") (file_rows file)
-unfolding row file_rows clap_on_literals commands
-debug_met program file h = rw (no_hyphens file h, no_hyphen file h, no_hyphen file h) (refl, refl)
-
-debug_are : (file : Text) (s : Settings) → (name_of s ≡ codes "debug") × AreOf (file_rows file) s → AreDebugOf file s
-unfolding name_of row file_rows
-debug_are file (asked.Debug d) said =
-    let sizes = said.1.1 in
-    let budget = said.1.2 in
-    let port = said.1.3 in
-    (same_text file d.file.now said.1.0, (sizes.0.0, sizes.1.0, sizes.2.0, sizes.3.0, sizes.4.0), budget.0, port.0)
-debug_are file other said = apart (name_of other) (codes "debug") refl said.0
-
--- `debug FILE` gives the file, and each number its default
-pub debug_given : (file : Text) (words : List Text) → NamesFile (codes "debug") file words → Give words (AreDebugOf file)
-debug_given file words named =
-    give (AreDebugOf file) words (codes "debug") (file_rows file) (rw named.1 (debug_met named.0 file named.2)) (debug_are file)
-
--- ---- `story TRACE FILE`
-
-story_met : (program trace file : Text) → IsPlain trace → IsPlain file →
-    Meets (program ∷ codes "story" ∷ trace ∷ file ∷ []) (codes "story") (trace_rows trace file)
-unfolding row trace_rows clap_on_literals commands
-story_met program trace file h k =
-    rw (no_hyphens trace h, no_hyphen trace h, no_hyphen trace h, no_hyphens file k, no_hyphen file k, no_hyphen file k) (refl, refl)
-
-story_are : (trace file : Text) (s : Settings) → (name_of s ≡ codes "story") × AreOf (trace_rows trace file) s → AreStoryOf trace file s
-unfolding name_of
-story_are trace file (asked.Story r) said = replay_is trace file r said.1
-story_are trace file other said = apart (name_of other) (codes "story") refl said.0
-
--- `story TRACE FILE` gives both files, for 1,024 words
-pub story_given : (trace file : Text) (words : List Text) → NamesFiles (codes "story") trace file words → Give words (AreStoryOf trace file)
-story_given trace file words named =
-    give (AreStoryOf trace file) words (codes "story") (trace_rows trace file) (rw named.1 (story_met named.0 trace file named.2 named.3))
-    (story_are trace file)
-
--- ---- `stats TRACE FILE`
-
-stats_met : (program trace file : Text) → IsPlain trace → IsPlain file →
-    Meets (program ∷ codes "stats" ∷ trace ∷ file ∷ []) (codes "stats") (trace_rows trace file)
-unfolding row trace_rows clap_on_literals commands
-stats_met program trace file h k =
-    rw (no_hyphens trace h, no_hyphen trace h, no_hyphen trace h, no_hyphens file k, no_hyphen file k, no_hyphen file k) (refl, refl)
-
-stats_are : (trace file : Text) (s : Settings) → (name_of s ≡ codes "stats") × AreOf (trace_rows trace file) s → AreStatsOf trace file s
-unfolding name_of
-stats_are trace file (asked.Stats r) said = replay_is trace file r said.1
-stats_are trace file other said = apart (name_of other) (codes "stats") refl said.0
-
--- `stats TRACE FILE` gives both files, for 1,024 words
-pub stats_given : (trace file : Text) (words : List Text) → NamesFiles (codes "stats") trace file words → Give words (AreStatsOf trace file)
-stats_given trace file words named =
-    give (AreStatsOf trace file) words (codes "stats") (trace_rows trace file) (rw named.1 (stats_met named.0 trace file named.2 named.3))
-    (stats_are trace file)
 
 -- ---- `explore FILE`
 
@@ -416,24 +370,3 @@ explore_are file other said = apart (name_of other) (codes "explore") refl said.
 pub explore_given : (file : Text) (words : List Text) → NamesFile (codes "explore") file words → Give words (AreExploreOf file)
 explore_given file words named =
     give (AreExploreOf file) words (codes "explore") (explore_rows file) (rw named.1 (explore_met named.0 file named.2)) (explore_are file)
-
--- ---- `hunt FILE`
-
-hunt_met : (program file : Text) → IsPlain file → Meets (program ∷ codes "hunt" ∷ file ∷ []) (codes "hunt") (file_rows file)
-unfolding row file_rows clap_on_literals commands
-hunt_met program file h = rw (no_hyphens file h, no_hyphen file h, no_hyphen file h) (refl, refl)
-
-hunt_are : (file : Text) (s : Settings) → (name_of s ≡ codes "hunt") × AreOf (file_rows file) s → AreHuntOf file s
-unfolding name_of row file_rows
-hunt_are file (asked.Hunt h) said =
-    let sizes = said.1.2 in
-    let budget = said.1.3 in
-    let runs = said.1.4 in
-    let start = said.1.5 in
-    (same_text file h.file.now said.1.0, no_text h.trace said.1.1, (sizes.0.0, sizes.1.0, sizes.2.0, sizes.3.0, sizes.4.0), budget.0, runs.0, start.0)
-hunt_are file other said = apart (name_of other) (codes "hunt") refl said.0
-
--- `hunt FILE` gives the file, no trace, and each number its default
-pub hunt_given : (file : Text) (words : List Text) → NamesFile (codes "hunt") file words → Give words (AreHuntOf file)
-hunt_given file words named =
-    give (AreHuntOf file) words (codes "hunt") (file_rows file) (rw named.1 (hunt_met named.0 file named.2)) (hunt_are file)
