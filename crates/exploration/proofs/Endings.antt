@@ -3,7 +3,6 @@ use Rattle.std.proofs.Common.{◌≡◌, ◌⊎◌, inl, inr, ℕ, ◌+◌, ◌<
 use Rattle.std.proofs.Common.{All, length, map, refl, sym, ap, subst, ◌∙◌, arith}
 use Rattle.std.specs.Prelude.{Contains, slice_get, slice_index}
 use Rattle.std.specs.List.{range_with_len}
-use Rattle.std.proofs.lemmas.Bool.{cases_lt}
 use Rattle.std.proofs.lemmas.List.{length-map}
 use Rattle.std.proofs.lemmas.List.Elements.{All-append, All-cons, All-nil, Contains-append_left, Contains-push}
 use Rattle.std.proofs.lemmas.List.FromFn.{length-map-range_with_len, fill_by_all}
@@ -14,7 +13,7 @@ use Rattle.results.specs.Results.{FinalResult}
 use Rattle.station_search.specs.declared.tables.Extent.{Extent}
 use Rattle.station_search.specs.Tables.{TableLists, nowhere, placed_at, means}
 use Rattle.station_search.specs.Search.{state_at}
-use Rattle.station_search.proofs.Lemmas.{found_at, listed_there, listed_is, mapped_at}
+use Rattle.station_search.proofs.Lemmas.{found_at, listed_there, listed_is, mapped_at, up_to}
 use Rattle.exploration.specs.Endings.{HaveStopped, IsAdded, IsEnding, IsOnce, result_at, station_result}
 
 -- ---- what is kept of a station
@@ -100,13 +99,6 @@ module _ (e : Extent) (t : TableLists) (rows : List (List ℕ)) where
 
   pub no_endings : AreEndings 0 []
   no_endings = record { sound = All-nil (IsEnding e t rows); complete = λ i l. absurd (omega (arith, l)); once = λ i j r e. absurd (nowhere_there i r e) }
-
-  up_to : (k n : ℕ) → k < n + 1 → (k < n) ⊎ (k ≡ n)
-  up_to k n h = by (cases_lt k n)
-    where
-      by : (k < n) ⊎ (n ≤ k) → (k < n) ⊎ (k ≡ n)
-      by (inl below) = inl below
-      by (inr past) = inr (omega (arith, h, past))
 
   pub ended : (done : ℕ) (results new : List FinalResult) (r : FinalResult) → AreEndings done results → done < length rows →
       HaveStopped (state_at e t rows done) → r ≡ result_at (state_at e t rows done) → IsAdded results r new → AreEndings (done + 1) new

@@ -1,8 +1,9 @@
 -- The results of the rows that a search has found are those of the machine.
-use Rattle.std.proofs.Common.{◌≡◌, ℕ, ◌<◌, ◌≤◌, ◌^◌, zero, suc, Bool, true, false, cond, List, [], Some, None, length, map, sym, ap, subst}
+use Rattle.std.proofs.Common.{◌≡◌, ℕ, ◌<◌, ◌≤◌, ◌^◌, Bool, true, false, cond, List, [], Some, None, length, map, sym, ap, subst}
 use Rattle.std.proofs.Common.{◌∙◌, arith}
 use Rattle.std.specs.Prelude.{slice_get, slice_index_or}
 use Rattle.std.specs.List.{range_with_len}
+use Rattle.std.proofs.Math.Nat.{pow-le-pow_right}
 use Rattle.std.proofs.lemmas.List.{length-map}
 use Rattle.std.proofs.lemmas.List.FromFn.{length-map-range_with_len, fill_by_all}
 use Rattle.flat_machine.specs.declared.event.Event.{Event}
@@ -82,38 +83,47 @@ module _ (e : Extent) (code : List ℕ) (t : TableLists) (rows : List (List ℕ)
 -- ---- the machine
 
 pub few_processors : (k : ℕ) → k ≤ 3 → 2 ^ k ≤ 8
-few_processors zero l = omega arith
-few_processors (suc zero) l = omega arith
-few_processors (suc (suc zero)) l = omega arith
-few_processors (suc (suc (suc zero))) l = omega arith
-few_processors (suc (suc (suc (suc k)))) l = absurd (omega (arith, l))
+few_processors k few = pow-le-pow_right {n = 2} (omega arith) few
 
-module _ (m : MachineLists) (sound : IsMachine m) (e : Extent) (processors : e.processors ≡ 2 ^ m.config.k) (words : e.shared_words ≡ m.config.shared_words)
-    (cores : List CoreState) (cores_are : cores ≡ map (λ p. (port_at m.ports p).core) (range_with_len 0 (2 ^ m.config.k)))
-    (list : List ℕ) (list_is : list ≡ map (word_at m.config.k m.modules) (range_with_len 0 m.config.shared_words)) where
+-- what is known of a machine's size, its cores and its words, as they were read
+pub record AreRead (m : MachineLists) (e : Extent) (cores : List CoreState) (words : List ℕ) : Type 0 where
+  pub sound : IsMachine m
+  pub extent : e ≡ record { processors = 2 ^ m.config.k; shared_words = m.config.shared_words }
+  pub cores_are : cores ≡ map (λ p. (port_at m.ports p).core) (range_with_len 0 (2 ^ m.config.k))
+  pub words_are : words ≡ map (word_at m.config.k m.modules) (range_with_len 0 m.config.shared_words)
+
+pub are_read : {m : MachineLists} {e : Extent} {cores : List CoreState} {words : List ℕ} → IsMachine m →
+    e ≡ record { processors = 2 ^ m.config.k; shared_words = m.config.shared_words } →
+    cores ≡ map (λ p. (port_at m.ports p).core) (range_with_len 0 (2 ^ m.config.k)) →
+    words ≡ map (word_at m.config.k m.modules) (range_with_len 0 m.config.shared_words) → AreRead m e cores words
+are_read sound extent cores_are words_are = record { sound = sound; extent = extent; cores_are = cores_are; words_are = words_are }
+
+module _ {m : MachineLists} {e : Extent} {cores : List CoreState} {list : List ℕ} (seen : AreRead m e cores list) where
   abbrev core : ℕ → CoreState
   core p = (port_at m.ports p).core
 
   pub of_extent : AreOfExtent e cores
   of_extent = record {
-    all = ap length cores_are ∙ (length-map-range_with_len core 0 (2 ^ m.config.k) ∙ sym processors);
-    settings = λ p c found. by p c (listed_is core (2 ^ m.config.k) p c (ap (λ xs. slice_get xs p) (sym cores_are) ∙ found));
+    all = ap length seen.cores_are ∙ (length-map-range_with_len core 0 (2 ^ m.config.k) ∙ sym (ap (λ (x : Extent). x.processors) seen.extent));
+    settings = λ p c found. by p c (listed_is core (2 ^ m.config.k) p c (ap (λ xs. slice_get xs p) (sym seen.cores_are) ∙ found));
   }
     where
       by : (p : ℕ) (c : CoreState) → (p < 2 ^ m.config.k) × (core p ≡ c) → c.setting ≡ setting_at e p
       by p c x =
           ap (λ (d : CoreState). d.setting) (sym x.1)
-          ∙ (sound.ports.settings p x.0 ∙ (λ i. record { number = p; processors = sym processors i; shared_words = sym words i }))
+          ∙ (seen.sound.ports.settings p x.0 ∙ ap (λ (x : Extent). record { number = p; processors = x.processors; shared_words = x.shared_words })
+          (sym seen.extent))
 
   pub wide : length list ≡ e.shared_words
-  wide = ap length list_is ∙ (length-map-range_with_len (word_at m.config.k m.modules) 0 m.config.shared_words ∙ sym words)
+  wide = ap length seen.words_are ∙ (length-map-range_with_len (word_at m.config.k m.modules) 0 m.config.shared_words ∙ sym
+      (ap (λ (x : Extent). x.shared_words) seen.extent))
 
   abbrev state : ℕ → Processor
   state p = (port_at m.ports p).core.state
 
   left : map (λ (c : CoreState). c.state) cores ≡ map state (range_with_len 0 (2 ^ m.config.k))
   left =
-      ap (map (λ (c : CoreState). c.state)) cores_are
+      ap (map (λ (c : CoreState). c.state)) seen.cores_are
       ∙ fill_by_all state (map (λ (c : CoreState). c.state) (map core (range_with_len 0 (2 ^ m.config.k)))) (2 ^ m.config.k) no_processor
       (length-map (map core (range_with_len 0 (2 ^ m.config.k))) (λ (c : CoreState). c.state) ∙ length-map-range_with_len core 0 (2 ^ m.config.k))
       (λ k l. mapped_at (λ (c : CoreState). c.state) (map core (range_with_len 0 (2 ^ m.config.k))) k (core k) no_processor
@@ -121,15 +131,15 @@ module _ (m : MachineLists) (sound : IsMachine m) (e : Extent) (processors : e.p
 
   right : map (λ (p : PortState). p.core.state) m.ports ≡ map state (range_with_len 0 (2 ^ m.config.k))
   right = fill_by_all state (map (λ (p : PortState). p.core.state) m.ports) (2 ^ m.config.k) no_processor
-      (length-map m.ports (λ (p : PortState). p.core.state) ∙ sound.ports.all)
+      (length-map m.ports (λ (p : PortState). p.core.state) ∙ seen.sound.ports.all)
       (λ k l. mapped_at (λ (p : PortState). p.core.state) m.ports k (port_at m.ports k) no_processor
-      (there m.ports k no_port (subst (λ n. k < n) (sym sound.ports.all) l)))
+      (there m.ports k no_port (subst (λ n. k < n) (sym seen.sound.ports.all) l)))
 
   both : map (λ (c : CoreState). c.state) cores ≡ map (λ (p : PortState). p.core.state) m.ports
   both = left ∙ sym right
 
   pub flat_is : flat_of m.code cores list ≡ flat_state m
-  flat_is = λ i. record { processors = both i; shared = list_is i; code = m.code }
+  flat_is = λ i. record { processors = both i; shared = seen.words_are i; code = m.code }
 
 -- what is there is what the test picked
 pub picked : {X : Type 0} (b : Bool) (x y : X) → Some x ≡ cond b (Some y) None → x ≡ y
