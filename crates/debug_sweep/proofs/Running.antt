@@ -9,7 +9,7 @@ use Rattle.machine_log.specs.Logs.{Log}
 use Rattle.machine_sweep.specs.Own.{AreOwn}
 use Rattle.debug_sweep.specs.Runs.{HasDriven}
 use Rattle.debug_sweep.specs.Sweeps.{HasContinued}
-use Rattle.debug_sweep.proofs.Stepping.{own_both}
+use Rattle.machine_sweep.proofs.Lemmas.{own_both}
 
 pub has_run : ReplaysAreCut → ((m : MachineLists) → AreOwn (drain_steps m)) → (breaks : List Bool) (budget : ℕ) (old new : Log) →
     HasContinued breaks budget old new → IsReplay old.opening old.steps old.machine →

@@ -13,6 +13,7 @@ use Rattle.machine_log.specs.Logs.{HasTaken, Log, entered}
 use Rattle.machine_sweep.specs.Own.{AreOwn, IsOwn}
 use Rattle.machine_sweep.specs.Standing.{HasRunning}
 use Rattle.machine_sweep.specs.Sweeps.{EndsInFault, IsFault}
+use Rattle.machine_sweep.proofs.Lemmas.{at_most_one, own_both}
 use Rattle.debug_sweep.specs.Breaks.{AreFlagged, HasRetired, IsRetirement, MeetsBreak, Retires, StandsAtBreak, is_noted}
 use Rattle.debug_sweep.specs.Sweeps.{EndsHere, FaultsAreLast, HasNoFault, HasSwept, IsUnderWay, NoBreakIsPassed}
 use Rattle.debug_sweep.proofs.Noting.{retired_either, retired_more, retired_now}
@@ -31,21 +32,6 @@ entered_either steps s (outcome.Combined first second) = inr refl
 entered_either steps s (outcome.Served leader) = inr refl
 entered_either steps s (outcome.Answered to) = inr refl
 entered_either steps s outcome.Poked = inr refl
-
-pub at_most_one : (steps : List Step) (s : Step) (o : Outcome) → length (entered steps s o) ≤ length steps + 1
-at_most_one steps s o = by (entered_either steps s o)
-  where
-    by : ((o ≡ outcome.Stalled) × (entered steps s o ≡ steps)) ⊎ (entered steps s o ≡ steps ++ s ∷ []) → length (entered steps s o) ≤ length steps + 1
-    by (inl (stalled, same)) = let count = ap length same in omega (arith, count)
-    by (inr more) = let count = ap length more in let one = length-append steps (s ∷ []) in omega (arith, count, one)
-
-own_more : (xs : List Step) (s : Step) → AreOwn xs → IsOwn s → AreOwn (xs ++ s ∷ [])
-own_more [] s all own = (own, tt)
-own_more (x ∷ xs) s all own = (all.0, own_more xs s all.1 own)
-
-pub own_both : (xs ys : List Step) → AreOwn xs → AreOwn ys → AreOwn (xs ++ ys)
-own_both [] ys a b = b
-own_both (x ∷ xs) ys a b = (a.0, own_both xs ys a.1 b)
 
 retires_none : (s : Step) (o : Outcome) (p : ℕ) → o ≡ outcome.Stalled → Retires s o p → ⊥
 retires_none (step.Turn q) o p stalled (same, retired) = absurd (subst IsRetirement stalled retired)
@@ -70,7 +56,7 @@ module _ (breaks : List Bool) (limit : ℕ) (old l new : Log) (flags : List Bool
   opens = taken.opening ∙ u.opening
 
   few : length new.steps ≤ limit
-  few = let count = ap length taken.steps in let one = at_most_one l.steps s o in omega (arith, count, one, room)
+  few = let one = at_most_one l.steps new.steps s o taken.steps in omega (arith, one, room)
 
   behind : start ≤ length l.steps
   behind = let count = ap length u.steps in let more = length-append old.steps u.more in omega (arith, count, more)
@@ -94,7 +80,11 @@ module _ (breaks : List Bool) (limit : ℕ) (old l new : Log) (flags : List Bool
     where
       by : Either → More
       by (inl (stalled, same)) = (u.more, same ∙ u.steps, u.own)
-      by (inr one) = (u.more ++ s ∷ [], one ∙ ap (λ xs. xs ++ s ∷ []) u.steps ∙ append_assoc old.steps u.more (s ∷ []), own_more u.more s u.own own)
+      by (inr one) = (
+        u.more ++ s ∷ [],
+        one ∙ ap (λ xs. xs ++ s ∷ []) u.steps ∙ append_assoc old.steps u.more (s ∷ []),
+        own_both u.more (s ∷ []) u.own (own, tt),
+      )
 
   -- the step is no turn at a break
   clear_now : (p : ℕ) → s ≡ step.Turn p → StandsAtBreak m breaks start l.steps p → ⊥
@@ -102,16 +92,23 @@ module _ (breaks : List Bool) (limit : ℕ) (old l new : Log) (flags : List Bool
       clear (subst (MeetsBreak l.machine breaks flags) (sym is)
       (at_break m l.machine l.steps (subst (λ n. IsReplay n l.steps l.machine) u.opening u.replay) breaks flags start u.noted p stands))
 
-  no_break : NoBreakIsPassed m breaks start new.steps
-  no_break before rest p is from stands = by either
-    where
-      split : ((rest ≡ []) × (l.steps ≡ before) × (s ≡ step.Turn p)) ⊎ ((rest' : List Step) × (l.steps ≡ before ++ step.Turn p ∷ rest')) → ⊥
-      split (inl (none, alike, last)) = clear_now p last (subst (λ xs. StandsAtBreak m breaks start xs p) (sym alike) stands)
-      split (inr (rest', there)) = u.breaks_are_met before rest' p there from stands
+  -- What stands among its steps is the new one, at the end, or stood there before.
+  abbrev Placed : List Step → List Step → Step → Type 0
+  Placed before rest t = ((rest ≡ []) × (l.steps ≡ before) × (s ≡ t)) ⊎ ((rest' : List Step) × (l.steps ≡ before ++ t ∷ rest'))
 
-      by : Either → ⊥
-      by (inl (stalled, same)) = u.breaks_are_met before rest p (sym same ∙ is) from stands
-      by (inr one) = split (split_last l.steps before rest s (step.Turn p) (sym one ∙ is))
+  placed : (before rest : List Step) (t : Step) → new.steps ≡ before ++ t ∷ rest → Placed before rest t
+  placed before rest t is = by either
+    where
+      by : Either → Placed before rest t
+      by (inl (stalled, same)) = inr (rest, sym same ∙ is)
+      by (inr one) = split_last l.steps before rest s t (sym one ∙ is)
+
+  no_break : NoBreakIsPassed m breaks start new.steps
+  no_break before rest p is from stands = by (placed before rest (step.Turn p) is)
+    where
+      by : Placed before rest (step.Turn p) → ⊥
+      by (inl (none, alike, last)) = clear_now p last (subst (λ xs. StandsAtBreak m breaks start xs p) (sym alike) stands)
+      by (inr (rest', there)) = u.breaks_are_met before rest' p there from stands
 
   -- a step that is no fault
   pub goes_on : (flags' : List Bool) → ((p : ℕ) → p < 2 ^ m.config.k → (is_noted flags' p ≡ true) ↔ ((is_noted flags p ≡ true) ⊎ Retires s o p)) →
@@ -129,16 +126,12 @@ module _ (breaks : List Bool) (limit : ℕ) (old l new : Log) (flags : List Bool
   }
     where
       sound : HasNoFault m start new.steps
-      sound before rest t is from fault = by either
+      sound before rest t is from fault = by (placed before rest t is)
         where
-          split : ((rest ≡ []) × (l.steps ≡ before) × (s ≡ t)) ⊎ ((rest' : List Step) × (l.steps ≡ before ++ t ∷ rest')) → ⊥
-          split (inl (none, alike, last)) =
+          by : Placed before rest t → ⊥
+          by (inl (none, alike, last)) =
               plain (subst IsFault (ap (answer_after m before) (sym last) ∙ ap (λ xs. answer_after m xs s) (sym alike) ∙ sym answer_is) fault)
-          split (inr (rest', there)) = u.sound before rest' t there from fault
-
-          by : Either → ⊥
-          by (inl (stalled, same)) = u.sound before rest t (sym same ∙ is) from fault
-          by (inr one) = split (split_last l.steps before rest s t (sym one ∙ is))
+          by (inr (rest', there)) = u.sound before rest' t there from fault
 
       noted : AreFlagged m start flags' new.steps
       noted p within = by either
@@ -187,15 +180,11 @@ module _ (breaks : List Bool) (limit : ℕ) (old l new : Log) (flags : List Bool
   }
     where
       faults : FaultsAreLast m start new.steps
-      faults before rest t is from wrong = by either
+      faults before rest t is from wrong = by (placed before rest t is)
         where
-          split : ((rest ≡ []) × (l.steps ≡ before) × (s ≡ t)) ⊎ ((rest' : List Step) × (l.steps ≡ before ++ t ∷ rest')) → rest ≡ []
-          split (inl (none, alike, last)) = none
-          split (inr (rest', there)) = absurd (u.sound before rest' t there from wrong)
-
-          by : Either → rest ≡ []
-          by (inl (stalled, same)) = absurd (u.sound before rest t (sym same ∙ is) from wrong)
-          by (inr one) = split (split_last l.steps before rest s t (sym one ∙ is))
+          by : Placed before rest t → rest ≡ []
+          by (inl (none, alike, last)) = none
+          by (inr (rest', there)) = absurd (u.sound before rest' t there from wrong)
 
       ends : Either → EndsInFault m start new.steps
       ends (inl (stalled, same)) = absurd (subst IsFault stalled fault)

@@ -7,7 +7,8 @@ use Rattle.machine_sweep.specs.Skips.{AreQuiet, IsNext}
 use Rattle.debug_sweep.specs.Breaks.{MeetsBreak}
 use Rattle.debug_sweep.proofs.Few.{below_64}
 use Rattle.debug_sweep.proofs.Quieting.{moved_more, some_moved}
-use Rattle.debug_sweep.proofs.Stepping.{at_most_one, ends_at_break, ends_by_fault, goes_on}
+use Rattle.machine_sweep.proofs.Lemmas.{at_most_one}
+use Rattle.debug_sweep.proofs.Stepping.{ends_at_break, ends_by_fault, goes_on}
 use Rattle.debug_sweep.proofs.sweep.take_round.Goals as goal
 
 pub returns-in_default-clause-some : goal.returns-in_default-clause-some
@@ -56,7 +57,7 @@ loop-round-preserved c =
       config = config ∙ i.config;
       places = c.step-outcome.ensures.places ∙ i.places;
       size = c.next.ensures.size ∙ i.size ∙ ap (λ (d : Config). d.k) (sym config);
-      few = (let count = ap length taken.steps in let one = at_most_one l.steps step c.step-outcome.result in omega (arith, count, one, room));
+      few = (let one = at_most_one l.steps new.steps step c.step-outcome.result taken.steps in omega (arith, one, room));
       moved = moved_more (length c.args.log.now.log.steps) c.loop-round.round.place c.next.new.self.place l new step c.step-outcome.result taken n i.moved;
       under_way = λ first before.
           let u = i.under_way first before in
