@@ -5,7 +5,7 @@ use Rattle.std.proofs.lemmas.Bool.{ne_eqb, le-leb, lt-leb}
 use Rattle.std.specs.Prelude.{◌/◌, ◌%◌, ◌^◌, ◌==◌, nat_le, if◌then◌else◌, map, slice_get}
 use Rattle.std.specs.Option.{option_map}
 use Rattle.std.specs.List.{range_with_len}
-use Rattle.std.proofs.lemmas.Nat.{div-mul-add, mod-mul-add}
+use Rattle.std.proofs.lemmas.Nat.{div-mul-add, mod-mul-add, mul-add-lt}
 use Rattle.std.proofs.lemmas.Option.{slice_get-map}
 use Rattle.std.proofs.lemmas.List.FromFn.{length-map-range_with_len}
 use Rattle.steps.specs.declared.step.Step.{Step}
@@ -75,20 +75,10 @@ down_in k row wire behind =
     let third : eqb row (k + 1) ≡ false = ne_eqb row (k + 1) (λ e. omega arith) in
     rw (first, second, third) refl
 
-inside : (k row wire : ℕ) → k ≤ 6 → row < 2 * k + 2 → wire < 2 ^ k → row * 2 ^ k + wire < 2 ^ k * (2 * k + 2)
-inside zero row wire few at_most within = omega arith
-inside (suc zero) row wire few at_most within = omega arith
-inside (suc (suc zero)) row wire few at_most within = omega arith
-inside (suc (suc (suc zero))) row wire few at_most within = omega arith
-inside (suc (suc (suc (suc zero)))) row wire few at_most within = omega arith
-inside (suc (suc (suc (suc (suc zero))))) row wire few at_most within = omega arith
-inside (suc (suc (suc (suc (suc (suc zero)))))) row wire few at_most within = omega arith
-inside (suc (suc (suc (suc (suc (suc (suc n))))))) row wire few at_most within = absurd (omega arith)
-
 module _ (k row wire : ℕ) (few : k ≤ 6) (at_most : row < 2 * k + 2) (within : wire < 2 ^ k) where
   at_wire : (s : Step) → in_row k row wire ≡ s → slice_get (round k) (row * 2 ^ k + wire) ≡ Some s
   at_wire s is =
-      round_at k (row * 2 ^ k + wire) few (inside k row wire few at_most within)
+      round_at k (row * 2 ^ k + wire) few (mul-add-lt row (2 ^ k) wire (2 * k + 2) at_most within)
       ∙ ap Some (ap₂ (in_row k) (div-mul-add row (2 ^ k) wire within) (mod-mul-add row (2 ^ k) wire within) ∙ is)
 
   pub turn_at : row ≡ 0 → slice_get (round k) (row * 2 ^ k + wire) ≡ Some (Turn wire)

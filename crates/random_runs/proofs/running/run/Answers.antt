@@ -13,25 +13,8 @@ pub ask-end-requires-clause-own : goal.ask-end-requires-clause-own
 ask-end-requires-clause-own c =
     subst AreOwn (sym c.new-schedule.ensures) (own_schedule c.config.result.k c.args.number c.args.most)
 
-pub returns-clause-ran : goal.returns-clause-ran
-returns-clause-ran c =
-    let old = c.args.log.now.log in
-    let middle = c.ask-end.new.log.log in
-    let plan : c.new-schedule.result ≡ schedule old.machine.config.k c.args.number c.args.most =
-    c.new-schedule.ensures ∙ ap (λ (d : Config). schedule d.k c.args.number c.args.most) (c.config.ensures.config
-    ∙ ap (λ (m : MachineLists). m.config) c.machine.ensures.machine) in
-    let asked = subst (λ (x : List Step × List Step). WasAsked x.0 (length x.1 + c.args.most) old c.ask-end.result middle)
-    (λ i. (plan i, c.steps.ensures.steps i)) c.ask-end.ensures.asked in
-    record {
-      middle = middle;
-      asked = asked;
-      opening = c.drain.ensures.opening ∙ asked.opening;
-      steps = c.drain.ensures.entered;
-      idle = c.drain.ensures.drained.idle;
-    }
-
-pub returns-clause-records : goal.returns-clause-records
-returns-clause-records c =
+pub returns : goal.returns
+returns c =
     let old = c.args.log.now.log in
     let new = c.drain.new.self.log in
     let middle = c.ask-end.new.log.log in
@@ -48,4 +31,8 @@ returns-clause-records c =
       steps = c.drain.ensures.entered;
       idle = c.drain.ensures.drained.idle;
     } in
-    run_has_records c.args.number c.args.most old c.ask-end.result new ran c.roomy_is_kept-2.ensures.replay c.roomy_is_kept.ensures.replay.run.config
+    record {
+      ran = ran;
+      records = run_has_records c.args.number c.args.most old c.ask-end.result new ran c.roomy_is_kept-2.ensures.replay
+          c.roomy_is_kept.ensures.replay.run.config;
+    }
