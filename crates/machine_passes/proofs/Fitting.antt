@@ -6,8 +6,6 @@ use Rattle.std.proofs.Common.{lt-ltb, eq-eqb}
 use Rattle.std.proofs.lemmas.List.{append-nil, drop-append-le, take-append-le}
 use Rattle.std.proofs.Math.Seq.{take-length, drop-length}
 use Rattle.std.proofs.lemmas.Option.{slice_get_within, slice_get-get_or}
-use mathlib.Core.Logic.{dite}
-use native.Mathlib.Decide.{ℕ_discrete}
 use Rattle.machine.specs.machine_program.Theory.{Machine}
 use Rattle.machine.specs.machine_program.Processors.{Told}
 use Rattle.machine.specs.machine_program.Steps.{outcome_of}
@@ -27,7 +25,7 @@ use Rattle.machine_passes.specs.Passes.{Held, held, most_of, rows_of, IsWhole, n
 use Rattle.machine_loans.specs.Lendings.{lent_at}
 use Rattle.machine_loans.proofs.Lemmas.{replicate_none}
 use Rattle.machine_passes.specs.Rows.{new_row, told, counted, behind, machine_after, notices_since, LastFits, RowFits, Fits, Follows, steps_of}
-use Rattle.machine_passes.proofs.Lists.{all_after-append, notices_pushed, all-push, get-front, get-last, get-set, get-set_else, length-slice_set}
+use Rattle.machine_passes.proofs.Lists.{all_after-append, all-push, each-set, get-front, get-last, notices_pushed, length-slice_set}
 
 is_off : (b : Bool) → (b ≡ true → ⊥) → b ≡ false
 is_off true h = absurd (h refl)
@@ -158,11 +156,8 @@ module _ (opening : MachineLists) (first : List Step) where
         turns = h.turns;
         named = h.named;
         many = length-slice_set rows p new ∙ h.many;
-        each = λ q x e. dite (ℕ_discrete q p)
-            (λ same.
-            let e' : slice_get (slice_set rows p new) p ≡ Some x = subst (λ k. slice_get (slice_set rows p new) k ≡ Some x) same e in
-            let x' : x ≡ new = get-set rows p new x e' in
-            subst (λ (y : ℕ × Row). RowFits opening first steps y.0 y.1) (λ i. (sym same i, sym x' i)) record {
+        each = each-set (RowFits opening first steps) rows p new
+            (record {
               notices = ap (λ ns. r.notices ++ ns) (none_stalled p (length steps) s o is) ∙ append-nil r.notices ∙ old.notices;
               last = record {
                 low = n.1;
@@ -173,7 +168,7 @@ module _ (opening : MachineLists) (first : List Step) where
                     ∙ drop-length steps)) refl;
               };
             })
-            (λ other. h.each q x (get-set_else rows p q new x other e));
+            (λ q x other e. h.each q x e);
         total = omega arith;
       }
   answered_at count steps rows p r s o false is h at may name own out =
@@ -195,11 +190,8 @@ module _ (opening : MachineLists) (first : List Step) where
         turns = subst (λ t. turns_below count t ≡ true) (sym dr) (all-push (is_turn_below count) rest s h.turns (own_turn s p count (omega arith) own));
         named = subst (λ t. all_named opening.config t ≡ true) (sym dr) (all-push (is_named opening.config) rest s h.named name);
         many = length-slice_set rows p new ∙ h.many;
-        each = λ q x e. dite (ℕ_discrete q p)
-            (λ same.
-            let e' : slice_get (slice_set rows p new) p ≡ Some x = subst (λ k. slice_get (slice_set rows p new) k ≡ Some x) same e in
-            let x' : x ≡ new = get-set rows p new x e' in
-            subst (λ (y : ℕ × Row). RowFits opening first now y.0 y.1) (λ i. (sym same i, sym x' i)) record {
+        each = each-set (RowFits opening first now) rows p new
+            (record {
               notices = ap (λ ns. ns ++ given_to p (length steps) s o) old.notices
                   ∙ ap (λ x. notices_since opening first p steps ++ given_to p (length steps) s x) out ∙ sym (list_more count steps rows p s h);
               last = record {
@@ -210,7 +202,7 @@ module _ (opening : MachineLists) (first : List Step) where
                 final = subst (λ t. no_turn p t ≡ true) (sym (ap (λ k. drop k now) (omega arith) ∙ drop-length now)) refl;
               };
             })
-            (λ other. row_more count steps rows q s x h (is_off (is_turn_of q s) (λ t. other (own q t))) (h.each q x (get-set_else rows p q new x other e)));
+            (λ q x other e. row_more count steps rows q s x h (is_off (is_turn_of q s) (λ t. other (own q t))) (h.each q x e));
         total = omega arith;
       }
 
@@ -317,10 +309,5 @@ pub whole_set : (n : ℕ) (hs : List Held) (k : ℕ) (h d : Held) → k < length
 whole_set n hs k h d less same whole =
     record {
       many = length-slice_set hs k h ∙ whole.many;
-      own = λ j x e. dite (ℕ_discrete j k)
-          (λ here.
-          let e' : slice_get (slice_set hs k h) k ≡ Some x = subst (λ i. slice_get (slice_set hs k h) i ≡ Some x) here e in
-          let is : x ≡ h = get-set hs k h x e' in
-          ap (λ (y : Held). y.processor) is ∙ same ∙ whole.own k (get_or hs k d) (slice_get-get_or hs k d less) ∙ sym here)
-          (λ other. whole.own j x (get-set_else hs k j h x other e));
+      own = each-set (λ j x. x.processor ≡ j) hs k h (same ∙ whole.own k (get_or hs k d) (slice_get-get_or hs k d less)) (λ j x other e. whole.own j x e);
     }

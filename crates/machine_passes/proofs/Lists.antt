@@ -1,8 +1,10 @@
 -- Lists over steps and one step more, and over steps and others.
-use Rattle.std.proofs.Common.{◌≡◌, ◌≢◌, ℕ, zero, suc, ◌+◌, Bool, true, ◌&&◌, List, [], ◌∷◌, ◌++◌, length, refl, sym, ap, ◌∙◌, arith, append_assoc}
+use Rattle.std.proofs.Common.{◌≡◌, ◌≢◌, ℕ, zero, suc, ◌+◌, Bool, true, ◌&&◌, List, [], ◌∷◌, ◌++◌, length, refl, sym, ap, ◌∙◌, subst, arith, append_assoc}
 use Rattle.std.specs.Prelude.{slice_get, slice_set, Some}
 use Rattle.std.specs.List.{list_all}
 use Rattle.std.proofs.lemmas.List.{append-nil}
+use mathlib.Core.Logic.{dite}
+use native.Mathlib.Decide.{ℕ_discrete}
 use Rattle.std.proofs.lemmas.List.Folds.{list_all-append}
 use Rattle.flat_machine.specs.declared.config.Config.{Config}
 use Rattle.machine.specs.machine_program.Theory.{Machine}
@@ -66,6 +68,15 @@ module _ {A : Type 0} where
   get-set_else (x ∷ xs) zero (suc j) r s ne e = e
   get-set_else (x ∷ xs) (suc k) zero r s ne e = e
   get-set_else (x ∷ xs) (suc k) (suc j) r s ne e = get-set_else xs k j r s (λ h. ne (ap suc h)) e
+
+  -- what holds of each, where one is set
+  pub each-set : (P : ℕ → A → Type 0) (xs : List A) (k : ℕ) (r : A) → P k r → ((j : ℕ) (s : A) → j ≢ k → slice_get xs j ≡ Some s → P j s) →
+      (j : ℕ) (s : A) → slice_get (slice_set xs k r) j ≡ Some s → P j s
+  each-set P xs k r here others j s e = dite (ℕ_discrete j k)
+      (λ same.
+      let is : s ≡ r = get-set xs k r s (subst (λ i. slice_get (slice_set xs k r) i ≡ Some s) same e) in
+      subst (λ (y : ℕ × A). P y.0 y.1) (λ i. (sym same i, sym is i)) here)
+      (λ other. others j s other (get-set_else xs k j r s other e))
 
   pub length-slice_set : (xs : List A) (k : ℕ) (r : A) → length (slice_set xs k r) ≡ length xs
   length-slice_set [] k r = refl

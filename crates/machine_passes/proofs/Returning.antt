@@ -4,8 +4,6 @@ use Rattle.std.proofs.Common.{length-append, append_assoc, eqb-true, ne_eqb}
 use Rattle.std.specs.Prelude.{slice_get, slice_set}
 use Rattle.std.proofs.lemmas.List.{append-nil, set-get_or, set-set}
 use Rattle.std.proofs.lemmas.Option.{slice_get_within}
-use mathlib.Core.Logic.{dite}
-use native.Mathlib.Decide.{ℕ_discrete}
 use Rattle.flat_machine.specs.declared.event.Retired.{Retired}
 use Rattle.steps.specs.declared.step.Step.{Step}
 use Rattle.steps.specs.declared.step.Step.TheVariants as step
@@ -20,7 +18,7 @@ use Rattle.machine_loans.specs.loan_theory.Loans.{IsOfOthers, turns_of}
 use Rattle.machine_passes.specs.declared.row.Row.{Row}
 use Rattle.machine_passes.specs.Rows.{Fits, RowFits, told, told_all, with_loan}
 use Rattle.machine_passes.proofs.Fitting.{answered, steps_of-set}
-use Rattle.machine_passes.proofs.Lists.{get-set, get-set_else, length-slice_set, set-same}
+use Rattle.machine_passes.proofs.Lists.{each-set, length-slice_set, set-same}
 
 get_set_here : (rows : List Row) (p : ℕ) (x : Row) → p < length rows → slice_get (slice_set rows p x) p ≡ Some x
 get_set_here [] p x inside = absurd (omega arith)
@@ -40,13 +38,8 @@ module _ (opening : MachineLists) (first : List Step) (count : ℕ) where
         turns = h.turns;
         named = h.named;
         many = length-slice_set rows p (with_loan r lent) ∙ h.many;
-        each = λ q x e. dite (ℕ_discrete q p)
-            (λ same.
-            let x_is : x ≡ with_loan r lent = get-set rows p (with_loan r lent) x
-            (subst (λ k. slice_get (slice_set rows p (with_loan r lent)) k ≡ Some x) same e) in
-            let old = h.each p r at in
-            subst (λ (y : ℕ × Row). RowFits opening first steps y.0 y.1) (λ i. (sym same i, sym x_is i)) record { notices = old.notices; last = old.last })
-            (λ other. h.each q x (get-set_else rows p q (with_loan r lent) x other e));
+        each = each-set (RowFits opening first steps) rows p (with_loan r lent)
+            (let old = h.each p r at in record { notices = old.notices; last = old.last }) (λ q x other e. h.each q x e);
         total = omega (arith, sum, total);
       }
 
@@ -89,11 +82,8 @@ SayLoans rows lent = (p : ℕ) (r : Row) → slice_get rows p ≡ Some r → r.l
 
 pub say_set : (rows : List Row) (lent lent' : List (Option Lent)) (p : ℕ) (new : Row) → SayLoans rows lent → (
     (q : ℕ) → (q ≡ p → ⊥) → lent_at lent' q ≡ lent_at lent q) → new.lent ≡ most_of (lent_at lent' p) → SayLoans (slice_set rows p new) lent'
-say_set rows lent lent' p new say others here q r e = dite (ℕ_discrete q p)
-    (λ same.
-    ap (λ (x : Row). x.lent) (get-set rows p new r (subst (λ k. slice_get (slice_set rows p new) k ≡ Some r) same e)) ∙ here
-    ∙ ap (λ i. most_of (lent_at lent' i)) (sym same))
-    (λ other. say q r (get-set_else rows p q new r other e) ∙ ap most_of (sym (others q other)))
+say_set rows lent lent' p new say others here = each-set (λ q r. r.lent ≡ most_of (lent_at lent' q)) rows p new here
+    (λ q r other e. say q r e ∙ ap most_of (sym (others q other)))
 
 -- a turn of a processor whose core is not lent is of none whose core is
 pub turn_others : (lent : List (Option Lent)) (p : ℕ) → None ≡ most_of (lent_at lent p) → OfOthers lent (step.Turn p)
