@@ -57,7 +57,7 @@ module _ (c : Config) (image : ImageContents) (steps all : List Step) (home : Is
   size_is = size ∙ opens.config
 
   pub are_lines : (choice : Choice) (text : List ℕ) (status : ℕ) → text ≡ lines_of choice (flat_state first) entries → IsExitOf m status →
-      AreOrderLines c image steps choice text status
+      AreOrderLines choice c image steps text status
   are_lines choice text status is exit = record {
     all = all;
     home = home;

@@ -1,5 +1,5 @@
 -- What the command prints: from the bytes of files to the lines of a serial order.
-use Rattle.std.specs.Prelude.{◌≡◌, ℕ, List, ◌++◌, Option}
+use Rattle.std.specs.Prelude.{◌≡◌, ℕ, List, ◌++◌}
 use Rattle.flat_machine.specs.declared.config.Config.{Config}
 use Rattle.flat_machine.specs.declared.poke.Entry.{Entry}
 use Rattle.flat_machine.specs.Flat.{flat_run}
@@ -12,7 +12,7 @@ use Rattle.machine_runs.specs.Runs.{IsOpening, IsReplay, IsSerialized, passed}
 use Rattle.machine_runs.specs.Draining.{drain_steps}
 use Rattle.order_lines.specs.declared.choice.Choice.{Choice}
 use Rattle.order_lines.specs.Lines.{lines_of}
-use Rattle.run_commands.specs.Commands.{IsAccount, IsSomeAccount, StandsAfter, Telling}
+use Rattle.run_commands.specs.Commands.{StandsAfter}
 use Rattle.run_commands.specs.Reports.{HasFlatFaulted}
 
 -- A run of the machine of this size that opens on the image: it has taken these steps, each of which did something, no reference
@@ -44,19 +44,7 @@ pub record AreFlatLines (c : Config) (opening : FlatState) (order : List Entry) 
   pub sound : (HasFlatFaulted c (flat_run opening order) → ⊥) → status ≡ 0
 
 -- These are the chosen lines of the serial order that explains the steps of a trace and those of a drain.
-pub record AreOrderLines (c : Config) (image : ImageContents) (steps : List Step) (choice : Choice) (text : List ℕ) (status : ℕ) : Type 0 where
+pub record AreOrderLines (choice : Choice) (c : Config) (image : ImageContents) (steps : List Step) (text : List ℕ) (status : ℕ) : Type 0 where
   pub all : List Step
   pub home : IsBroughtHome c image steps all
   pub flat : AreFlatLines c (flat_opening c image.layout) (order_of home.run) choice text status
-
--- what the command tells of steps
-abbrev pub tells_order : Choice → Telling
-tells_order choice c image steps text status = AreOrderLines c image steps choice text status
-
--- These are the lines of the order of a trace that is replayed, and then drained, on the image that a file means.
-abbrev pub IsOrder : (shared_words : ℕ) → Choice → (trace known : Option (List ℕ)) → (status : ℕ) → (text : List ℕ) → Type 0
-IsOrder shared_words choice = IsAccount (tells_order choice) shared_words
-
--- the lines, with whatever exit status
-abbrev pub IsSomeOrder : (shared_words : ℕ) → Choice → (trace known : Option (List ℕ)) → (text : List ℕ) → Type 0
-IsSomeOrder shared_words choice = IsSomeAccount (tells_order choice) shared_words

@@ -12,6 +12,6 @@ mod machines;
 mod reading;
 mod taking;
 
-pub use command::order_command;
+pub use command::Order;
 pub use lines::order_text;
 pub use machines::{brought_home, entries_of};

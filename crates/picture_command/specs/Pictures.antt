@@ -5,7 +5,7 @@ use Rattle.elf_image.specs.Images.{ImageContents}
 use Rattle.steps.specs.declared.step.Step.{Step}
 use Rattle.machine_runs.specs.Machines.{MachineLists}
 use Rattle.machine_runs.specs.Runs.{IsOpening, IsRun}
-use Rattle.run_commands.specs.Commands.{IsAccount, IsSomeAccount, Telling}
+use Rattle.run_commands.specs.Commands.{Telling}
 use Rattle.run_commands.specs.Reports.{IsExitOf}
 use Rattle.order_command.specs.Orders.{IsBroughtHome}
 
@@ -28,11 +28,3 @@ pub record IsDrawnBehind (c : Config) (image : ImageContents) (steps : List Step
 -- what is printed for steps: a picture, of which nothing is said but what was taken for it
 abbrev pub draws_behind : Option ℕ → Telling
 draws_behind step c image steps text status = IsDrawnBehind c image steps step status
-
--- This is printed for a trace that is replayed, and then drained, on the image that a file means.
-abbrev pub IsDrawnFor : (shared_words : ℕ) → Option ℕ → (trace known : Option (List ℕ)) → (status : ℕ) → (text : List ℕ) → Type 0
-IsDrawnFor shared_words step = IsAccount (draws_behind step) shared_words
-
--- so, with whatever exit status
-abbrev pub IsDrawnForSome : (shared_words : ℕ) → Option ℕ → (trace known : Option (List ℕ)) → (text : List ℕ) → Type 0
-IsDrawnForSome shared_words step = IsSomeAccount (draws_behind step) shared_words

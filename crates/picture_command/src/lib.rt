@@ -8,5 +8,5 @@
 mod command;
 mod drawing;
 
-pub use command::picture_command;
+pub use command::Picture;
 pub use drawing::picture_text;

@@ -5,7 +5,8 @@ mod ends;
 mod travelling;
 
 use link::Meter;
-use picture_command::picture_command;
+use picture_command::Picture;
+use run_commands::account_command;
 use std::alloc::Global;
 use std::fmt::Debug;
 use std::io;
@@ -34,7 +35,16 @@ fn run(
 ) -> Ran {
     let mut out = Meter::new(Vec::new(alloc));
     let mut err = Vec::new(alloc);
-    let status = picture_command(alloc, trace, file, shared_words, step, &mut out, &mut err);
+    let picture = Picture { step };
+    let status = account_command(
+        alloc,
+        trace,
+        file,
+        shared_words,
+        &picture,
+        &mut out,
+        &mut err,
+    );
     Ran {
         status,
         out: out.device,

@@ -3,6 +3,7 @@ pub mod TakenAgain
 pub mod Logging
 pub mod FlatReports
 pub mod OneReport
+pub mod Accounts
 pub mod OneRun
 pub mod Hearing
 pub mod Lemmas

@@ -82,22 +82,18 @@ pub record IsUnopened (trace out out' : Option (List ℕ)) : Type 0 where
   pub read : IsTraceOf trace steps
   pub nothing : out' ≡ out
 
--- Why what is to be printed of a replay is not: the trace is refused; the image is; the machine's size is out of its limits; a
--- step stalls; the image's file cannot be opened, or what is to be printed cannot be written. Of want of memory nothing is said.
-abbrev pub IsNotPrinted : (is_to_be_printed : List ℕ → Type 0) → (shared_words : ℕ) → (trace known : Option (List ℕ)) → (out out' : Option (List ℕ)) →
-    Fault → Type 0
-IsNotPrinted is_to_be_printed shared_words trace known out out' (fault.Trace e) = IsTraceRefusal trace e
-IsNotPrinted is_to_be_printed shared_words trace known out out' (fault.Image e) = ((steps : TraceContents) × IsTraceOf trace steps)
-    × IsImageRefusal shared_words known e
-IsNotPrinted is_to_be_printed shared_words trace known out out' fault.Size = IsOutOfLimits shared_words trace known
-IsNotPrinted is_to_be_printed shared_words trace known out out' (fault.Stalled place) = IsStalledReplay shared_words trace known place
-IsNotPrinted is_to_be_printed shared_words trace known out out' fault.Link = IsUnopened trace out out' ⊎ IsPartPrinted is_to_be_printed out out'
-IsNotPrinted is_to_be_printed shared_words trace known out out' fault.Memory = Unit {0}
-IsNotPrinted is_to_be_printed shared_words trace known out out' other = ⊥
-
--- why it is not told of a trace
+-- Why it is not told of a trace: the trace is refused; the image is; the machine's size is out of its limits; a step stalls; the
+-- image's file cannot be opened, or what is to be told cannot be printed. Of want of memory nothing is said.
 abbrev pub IsNoAccount : Telling → (shared_words : ℕ) → (trace known : Option (List ℕ)) → (out out' : Option (List ℕ)) → Fault → Type 0
-IsNoAccount tells shared_words trace known = IsNotPrinted (IsSomeAccount tells shared_words trace known) shared_words trace known
+IsNoAccount tells shared_words trace known out out' (fault.Trace e) = IsTraceRefusal trace e
+IsNoAccount tells shared_words trace known out out' (fault.Image e) = ((steps : TraceContents) × IsTraceOf trace steps)
+    × IsImageRefusal shared_words known e
+IsNoAccount tells shared_words trace known out out' fault.Size = IsOutOfLimits shared_words trace known
+IsNoAccount tells shared_words trace known out out' (fault.Stalled place) = IsStalledReplay shared_words trace known place
+IsNoAccount tells shared_words trace known out out' fault.Link =
+    IsUnopened trace out out' ⊎ IsPartPrinted (IsSomeAccount tells shared_words trace known) out out'
+IsNoAccount tells shared_words trace known out out' fault.Memory = Unit {0}
+IsNoAccount tells shared_words trace known out out' other = ⊥
 
 -- why a replay is not reported
 abbrev pub IsNoReplay : (shared_words : ℕ) → (trace known : Option (List ℕ)) → (out out' : Option (List ℕ)) → Fault → Type 0
@@ -123,3 +119,8 @@ IsNotTaken c image steps fault.Size = IsWithinLimits c → ⊥
 IsNotTaken c image steps (fault.Stalled place) = IsStalled c image steps place
 IsNotTaken c image steps fault.Memory = Unit {0}
 IsNotTaken c image steps other = ⊥
+
+-- why it is not told of steps: they are not taken; or what is to be told cannot be printed
+abbrev pub IsNotTold : Telling → (c : Config) → ImageContents → List Step → (out out' : Option (List ℕ)) → Fault → Type 0
+IsNotTold tells c image steps out out' fault.Link = IsPartPrinted (λ text. (status : ℕ) × tells c image steps text status) out out'
+IsNotTold tells c image steps out out' other = IsNotTaken c image steps other

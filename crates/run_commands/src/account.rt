@@ -1,8 +1,8 @@
 //! What commands tell of a trace: from the bytes of a trace and of an image to a text.
 
-ghost use Rattle.std.specs.Prelude.{◌≡◌, ◌≤◌, ◌⊎◌, true, false, ℕ, List, IfOk, IfErr, IsErr, IsErrOf, OnErr, length, string_bytes};
+ghost use Rattle.std.specs.Prelude.{◌≡◌, ◌≤◌, ◌⊎◌, ◌↔◌, true, false, ℕ, List, IfOk, IfErr, IsErr, IsErrOf, OnErr, length, string_bytes};
 ghost use Rattle.command_io.specs.Printing.{IsPrinted, IsTold};
-ghost use Rattle.run_commands.specs.Causes.{IsNoAccount, IsNotTaken};
+ghost use Rattle.run_commands.specs.Causes.{IsNoAccount, IsNotTaken, IsNotTold};
 ghost use Rattle.run_commands.specs.Commands.{IsAccount, known_of};
 
 use crate::input::trace_of;
@@ -16,14 +16,16 @@ use std::io::{Read, Write};
 use steps::Step;
 
 /// What is told of the steps of a trace: a report, a serial order, or else.
+///
+/// [`account_command`] is the command that tells it.
 pub trait Account {
     ghost use Rattle.run_commands.specs.Commands.{Telling};
 
     /// What the text and the exit status are.
     ghost tells: { Self → Telling };
 
-    /// Takes the steps on the machine of this size that opens on the image, which was read for as many shared words, and tells of them.
-    /// The exit status is 0, or 1 where a processor is faulted.
+    /// Takes the steps on a machine of this size that opens on a copy of the image, which was read for as many shared words, and tells of
+    /// them. The exit status is 0, or 1 where a processor is faulted.
     ///
     /// # Errors
     ///
@@ -31,15 +33,15 @@ pub trait Account {
     fn text(
         &self,
         alloc: Global,
-        image: Image,
+        image: &Image,
         config: Config,
         steps: &[Step],
     ) -> Result<(String, u8), Fault>
         requires few { length steps.now ≤ 4194304 }
-        requires words { image.shared_words ≡ config.shared_words }
-        ensures told { IfOk result (λ done. Self.tells self.now config image steps.now (string_bytes done.0) done.1) }
+        requires words { image.now.shared_words ≡ config.shared_words }
+        ensures told { IfOk result (λ done. Self.tells self.now config image.now steps.now (string_bytes done.0) done.1) }
         ensures low { IfOk result (λ done. done.1 ≤ 1) }
-        ensures refused { IfErr result (IsNotTaken config image steps.now) };
+        ensures refused { IfErr result (IsNotTaken config image.now steps.now) };
 }
 
 /// Tells of the steps of the trace that a file is, on the machine of the trace's size, and of so many shared words, that opens on the
@@ -90,12 +92,35 @@ fn carried_out<A: Account, T: Read + Drop, R: Read + Drop, W: LinkWrite>(
     ensures silent { OnErr result (W.has_failed out.new ≡ false → out.new ≡ out.old) }
 {
     let trace = trace_of(alloc, trace)?;
-    let config = trace.config(shared_words);
     let Ok(file) = file else {
         return Err(Fault::Link);
     };
+    let config = trace.config(shared_words);
     let image = image_of(alloc, file, &config)?;
-    let (text, status) = account.text(alloc, image, config, trace.steps())?;
+    print_account(alloc, &image, config, trace.steps(), account, out)
+}
+
+/// Prints what is told of steps.
+// A function of its own, so that none has many values to drop at each of its ends.
+fn print_account<A: Account, W: LinkWrite>(
+    alloc: Global,
+    image: &Image,
+    config: Config,
+    steps: &[Step],
+    account: &A,
+    out: &mut W,
+) -> Result<u8, Fault>
+    requires prints { W.has_failed out.old ≡ false }
+    requires few { length steps.now ≤ 4194304 }
+    requires words { image.now.shared_words ≡ config.shared_words }
+    ensures failed { IsErrOf result Fault.Link ↔ (W.has_failed out.new ≡ true) }
+    ensures printed { IfOk result (λ status. IsPrinted (λ text. A.tells account.now config image.now steps.now text status) (W.contents out.old)
+        (W.contents out.new)) }
+    ensures low { IfOk result (λ status. status ≤ 1) }
+    ensures told { IfErr result (IsNotTold (A.tells account.now) config image.now steps.now (W.contents out.old) (W.contents out.new)) }
+    ensures silent { OnErr result (W.has_failed out.new ≡ false → out.new ≡ out.old) }
+{
+    let (text, status) = account.text(alloc, image, config, steps)?;
     print(out, text.as_str())?;
     Ok(status)
 }

@@ -21,7 +21,7 @@ pub use account::{Account, account_command};
 pub use input::{machine_of, opened, trace_of};
 pub use laws::{runs_have_one_report, steps_have_one_report};
 pub use output::save;
-pub use replay::replay_command;
+pub use replay::{Report, replay_command};
 pub use reporting::{push_words, report};
 pub use run::{reported, run_command};
 pub use states::exit_status;

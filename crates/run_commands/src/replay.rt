@@ -1,12 +1,12 @@
 //! `ultra replay`: from the bytes of a trace and of an image to the report of the machine.
 
-ghost use Rattle.std.specs.Prelude.{◌≡◌, ◌≤◌, true, false, IfOk, IfErr, IsErr, length, string_bytes};
-ghost use Rattle.run_commands.specs.Causes.{IsNoReplay, IsNotTaken};
+ghost use Rattle.std.specs.Prelude.{◌≡◌, ◌≤◌, true, false, IsErr};
+ghost use Rattle.run_commands.specs.Causes.{IsNoReplay};
 ghost use Rattle.run_commands.specs.Commands.{IsReplayReport, known_of};
 ghost use Rattle.command_io.specs.Printing.{IsPrinted, IsTold};
 
 use crate::account::{Account, account_command};
-use crate::input::machine_of;
+use crate::input::opened;
 use crate::reporting::report;
 use crate::states::exit_status;
 use crate::taking::{drained, retaken};
@@ -46,9 +46,9 @@ pub fn replay_command<T: Read + Drop, R: Read + Drop, W: LinkWrite, E: Write>(
     account_command(alloc, trace, file, shared_words, &Report, out, err)
 }
 
-/// The report of the machine after the steps and a drain.
-#[derive(Drop)]
-struct Report;
+/// The report of the machine after the steps of a trace and a drain: what [`replay_command`] tells.
+#[derive(Clone, Copy, Debug, Drop)]
+pub struct Report;
 
 impl Account for Report {
     ghost use Rattle.run_commands.specs.Commands.{IsDrainedReport};
@@ -58,17 +58,11 @@ impl Account for Report {
     fn text(
         &self,
         alloc: Global,
-        image: Image,
+        image: &Image,
         config: Config,
         steps: &[Step],
-    ) -> Result<(String, u8), Fault>
-        requires few { length steps.now ≤ 4194304 }
-        requires words { image.shared_words ≡ config.shared_words }
-        ensures told { IfOk result (λ done. IsDrainedReport config image steps.now (string_bytes done.0) done.1) }
-        ensures low { IfOk result (λ done. done.1 ≤ 1) }
-        ensures refused { IfErr result (IsNotTaken config image steps.now) }
-    {
-        let mut machine = machine_of(alloc, image, config)?;
+    ) -> Result<(String, u8), Fault> {
+        let mut machine = opened(alloc, image, config)?;
         machine_is_sound(&machine);
         let mut tally = retaken(alloc, &mut machine, steps)?;
         drained(&mut machine, &mut tally)?;

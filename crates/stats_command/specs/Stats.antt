@@ -1,5 +1,5 @@
 -- What the command prints: from the bytes of files to counts of what the steps of a run did.
-use Rattle.std.specs.Prelude.{◌≡◌, ℕ, List, Option}
+use Rattle.std.specs.Prelude.{◌≡◌, ℕ, List}
 use Rattle.flat_machine.specs.declared.config.Config.{Config}
 use Rattle.elf_image.specs.Images.{ImageContents}
 use Rattle.steps.specs.declared.step.Step.{Step}
@@ -12,13 +12,11 @@ use Rattle.run_counts.specs.Lines.{lines_of}
 use Rattle.run_counts.specs.Rounds.{rounds_of}
 use Rattle.run_counts.specs.declared.longest.Longest.{Longest}
 use Rattle.stats_command.specs.Longest.{AreLongest}
-use Rattle.run_commands.specs.Commands.{IsAccount, IsSomeAccount}
 use Rattle.run_commands.specs.Reports.{IsExitOf}
 use Rattle.order_command.specs.Orders.{IsBroughtHome}
 
 -- These are the lines of the counts of what the machine of this size answers to the steps that opens on the image, and of its longest
--- queues. The exit status is
--- that of the machine behind the steps.
+-- queues. The exit status is that of the machine behind the steps.
 pub record AreCountedSteps (c : Config) (image : ImageContents) (steps : List Step) (text : List ℕ) (status : ℕ) : Type 0 where
   pub opening : MachineLists
   pub opens : IsOpening c image opening
@@ -36,11 +34,3 @@ pub record AreStatsLines (c : Config) (image : ImageContents) (steps : List Step
   pub all : List Step
   pub home : IsBroughtHome c image steps all
   pub counted : AreCountedSteps c image all text status
-
--- These are the counts of a trace that is replayed, and then drained, on the image that a file means.
-abbrev pub AreStats : (shared_words : ℕ) → (trace known : Option (List ℕ)) → (status : ℕ) → (text : List ℕ) → Type 0
-AreStats = IsAccount AreStatsLines
-
--- the counts, with whatever exit status
-abbrev pub AreSomeStats : (shared_words : ℕ) → (trace known : Option (List ℕ)) → (text : List ℕ) → Type 0
-AreSomeStats = IsSomeAccount AreStatsLines

@@ -9,5 +9,5 @@ mod command;
 mod counting;
 mod longest;
 
-pub use command::stats_command;
+pub use command::Stats;
 pub use counting::counted;

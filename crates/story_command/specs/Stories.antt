@@ -1,5 +1,5 @@
 -- What the command prints: from the bytes of files to the lines of the steps of a run.
-use Rattle.std.specs.Prelude.{◌≡◌, ℕ, List, Option}
+use Rattle.std.specs.Prelude.{◌≡◌, ℕ, List}
 use Rattle.flat_machine.specs.declared.config.Config.{Config}
 use Rattle.elf_image.specs.Images.{ImageContents}
 use Rattle.steps.specs.declared.step.Step.{Step}
@@ -7,7 +7,6 @@ use Rattle.machine_runs.specs.Machines.{MachineLists}
 use Rattle.machine_runs.specs.Runs.{IsOpening, IsRun}
 use Rattle.step_answers.specs.Answers.{answers_of}
 use Rattle.story_lines.specs.Lines.{story_of}
-use Rattle.run_commands.specs.Commands.{IsAccount, IsSomeAccount}
 use Rattle.run_commands.specs.Reports.{IsExitOf}
 use Rattle.order_command.specs.Orders.{IsBroughtHome}
 
@@ -26,11 +25,3 @@ pub record AreStoryLines (c : Config) (image : ImageContents) (steps : List Step
   pub all : List Step
   pub home : IsBroughtHome c image steps all
   pub told : AreToldSteps c image all text status
-
--- This is the story of a trace that is replayed, and then drained, on the image that a file means.
-abbrev pub IsStory : (shared_words : ℕ) → (trace known : Option (List ℕ)) → (status : ℕ) → (text : List ℕ) → Type 0
-IsStory = IsAccount AreStoryLines
-
--- the story, with whatever exit status
-abbrev pub IsSomeStory : (shared_words : ℕ) → (trace known : Option (List ℕ)) → (text : List ℕ) → Type 0
-IsSomeStory = IsSomeAccount AreStoryLines

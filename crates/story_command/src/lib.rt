@@ -9,5 +9,5 @@
 mod command;
 mod telling;
 
-pub use command::story_command;
+pub use command::Story;
 pub use telling::story_text;

@@ -9,14 +9,15 @@ mod orders;
 mod stories;
 
 use link::{LinkWrite, Meter};
-use order_command::order_command;
+use order_command::Order;
 use order_lines::Choice;
-use stats_command::stats_command;
+use run_commands::account_command;
+use stats_command::Stats;
 use std::alloc::Global;
 use std::fmt::Debug;
 use std::io::{self, Read, Write};
 use std::process::Abort;
-use story_command::story_command;
+use story_command::Story;
 
 /// Ends the test where the two differ, and tells them and the case that they are of ([`assert_same!`]).
 fn same<T: PartialEq + Debug, A: Debug>(rt: &impl Abort, found: &T, wanted: &T, at: &A) {
@@ -54,9 +55,12 @@ fn tell<T: Read + Drop, R: Read + Drop, W: LinkWrite, E: Write>(
     requires { W.has_failed out.old ≡ false }
 {
     match told {
-        Told::Order(choice) => { order_command(alloc, trace, file, shared_words, choice, out, err) }
-        Told::Story => story_command(alloc, trace, file, shared_words, out, err),
-        Told::Stats => stats_command(alloc, trace, file, shared_words, out, err),
+        Told::Order(choice) => {
+            let order = Order { choice };
+            account_command(alloc, trace, file, shared_words, &order, out, err)
+        }
+        Told::Story => account_command(alloc, trace, file, shared_words, &Story, out, err),
+        Told::Stats => account_command(alloc, trace, file, shared_words, &Stats, out, err),
     }
 }
 

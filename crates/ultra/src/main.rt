@@ -5,16 +5,18 @@ ghost use Rattle.std.specs.Prelude.{◌≡◌, false};
 ghost use Rattle.run_commands.specs.Commands.{IsWorking};
 
 mod door;
-mod telling;
+mod files;
+mod refusal;
 mod traces;
 
 use crate::door::Door;
-use crate::telling::{Telling, tell_steps};
+use crate::files::{open, open_beside, trace_to, writer_to};
+use crate::refusal::{Refusal, refuse};
 use crate::traces::TraceFiles;
 use asm_command::asm_command;
 use check_command::check_command;
 use clap::Error;
-use command_io::{CreateAt, Fault, OnFirstWrite, REFUSED, tell};
+use command_io::{Fault, REFUSED, tell};
 use debug_command::debug_command;
 use dis_command::dis_command;
 use explain_command::{all_topics, explain_command};
@@ -22,22 +24,23 @@ use explore_command::{Search, SearchProgress, Unwatched, explore_command};
 use flat_machine::Config;
 use hunt_command::{Hunt as Hunted, hunt_command};
 use link::{LinkWrite, Meter};
+use order_command::Order;
 use order_lines::Choice;
+use picture_command::Picture;
 use processor_threads::Open;
-use run_commands::run_command;
-use settings::{
-    Asm, Check, Dis, Explore, Hunt, Run, Session, Settings, Sizes, Words, settings, status_of,
-};
+use run_commands::{Account, Report, account_command, run_command};
+use settings::{Explore, Hunt, Replay, Run, Session, Settings, Sizes, settings, status_of};
+use stats_command::Stats;
 use std::alloc::{AllocError, Global};
 use std::io::{self, ErrorKind, IsTerminal, Read, Write};
 use std::net::Net;
-use std::os::unix::fs::MetadataExt;
 use std::process::ExitCode;
 use std::rt::{Env, Files};
 use std::sync::Wait;
 use std::thread::Threads;
 use std::time::Clock;
 use std::{env, fs};
+use story_command::Story;
 use threaded_run::{Progress, threaded_run_command};
 use words_command::words_command;
 
@@ -84,8 +87,11 @@ fn carry_out_words<
         return tell(Fault::Memory, err);
     };
     match settings(rt.alloc(), words.as_slice()) {
-        Ok(settings) => obey(rt, &settings, terminal, out, err),
-        Err(error) => refuse(&error, out, err),
+        Ok(settings) => match obey(rt, &settings, terminal, out, err) {
+            Ok(status) => status,
+            Err(refusal) => refusal.tell(err),
+        },
+        Err(error) => refuse_words(&error, out, err),
     }
 }
 
@@ -94,99 +100,67 @@ fn obey<
     R: Files + Net + Threads + Wait + Clock + Eprint + Sync + AllocGlobal,
     W: LinkWrite,
     E: Write,
->(rt: &R, settings: &Settings<'_>, terminal: bool, out: &mut W, err: &mut E) -> u8
+>(rt: &R, settings: &Settings<'_>, terminal: bool, out: &mut W, err: &mut E) -> Result<u8, Refusal>
     requires works { W.has_failed out.old ≡ false }
 {
+    let alloc = rt.alloc();
     match settings {
-        Settings::Words(words) => words_file(rt, words, out, err),
-        Settings::Check(check) => check_file(rt, check, out, err),
-        Settings::Asm(asm) => assemble_file(rt, asm, err),
-        Settings::Dis(dis) => dis_file(rt, dis, out, err),
+        Settings::Words(words) => {
+            let file = open(rt, words.file)?;
+            Ok(words_command(alloc, file, out, err))
+        }
+        Settings::Check(check) => {
+            let file = open(rt, check.file)?;
+            Ok(check_command(alloc, file, out, err))
+        }
+        Settings::Asm(asm) => {
+            let file = open_beside(rt, asm.file, Some(asm.out))?;
+            Ok(asm_command(alloc, file, &mut writer_to(rt, asm.out), err))
+        }
+        Settings::Dis(dis) => {
+            let file = open(rt, dis.file)?;
+            Ok(dis_command(alloc, file, dis.words, out, err))
+        }
         Settings::Run(run) => run_file(rt, run, terminal, out, err),
         Settings::Hunt(hunt) => hunt_file(rt, hunt, out, err),
         Settings::Explore(explore) => explore_file(rt, explore, terminal, out, err),
-        Settings::Replay(replay) => tell_steps(rt, replay, Telling::Report, out, err),
+        Settings::Replay(replay) => tell_steps(rt, replay, &Report, out, err),
         Settings::Order(order) => {
             let choice = Choice {
                 processor: order.processor,
                 word: order.word,
             };
-            tell_steps(rt, &order.replay, Telling::Order(choice), out, err)
+            tell_steps(rt, &order.replay, &Order { choice }, out, err)
         }
-        Settings::Story(replay) => tell_steps(rt, replay, Telling::Story, out, err),
-        Settings::Stats(replay) => tell_steps(rt, replay, Telling::Counts, out, err),
+        Settings::Story(replay) => tell_steps(rt, replay, &Story, out, err),
+        Settings::Stats(replay) => tell_steps(rt, replay, &Stats, out, err),
         Settings::Picture(asked) => {
-            tell_steps(rt, &asked.replay, Telling::Picture(asked.step), out, err)
+            let picture = Picture { step: asked.step };
+            tell_steps(rt, &asked.replay, &picture, out, err)
         }
         Settings::Debug(session) => debug_file(rt, session, out, err),
-        Settings::Explain(explain) => explain_command(
-            rt.alloc(),
-            &all_topics(),
-            explain.code,
-            out,
-            err,
-        ),
+        Settings::Explain(explain) => {
+            let topics = all_topics();
+            Ok(explain_command(alloc, &topics, explain.code, out, err))
+        }
     }
 }
 
-/// Does what `words FILE` asks for.
-fn words_file<R: Files + AllocGlobal, W: LinkWrite, E: Write>(
+/// Opens a trace, and then the image of its run, and tells of its steps. That the image cannot be opened is told by the command, behind
+/// what is wrong with the trace.
+fn tell_steps<A: Account, R: Files + AllocGlobal, W: LinkWrite, E: Write>(
     rt: &R,
-    words: &Words<'_>,
+    replay: &Replay<'_>,
+    account: &A,
     out: &mut W,
     err: &mut E,
-) -> u8
+) -> Result<u8, Refusal>
     requires works { W.has_failed out.old ≡ false }
 {
-    match fs::open(rt, words.file) {
-        Ok(file) => words_command(rt.alloc(), file, out, err),
-        Err(_) => tell(Fault::Link, err),
-    }
-}
-
-/// Does what `check FILE` asks for.
-fn check_file<R: Files + AllocGlobal, W: LinkWrite, E: Write>(
-    rt: &R,
-    check: &Check<'_>,
-    out: &mut W,
-    err: &mut E,
-) -> u8
-    requires works { W.has_failed out.old ≡ false }
-{
-    match fs::open(rt, check.file) {
-        Ok(file) => check_command(rt.alloc(), file, out, err),
-        Err(_) => tell(Fault::Link, err),
-    }
-}
-
-/// Does what `dis FILE` asks for.
-fn dis_file<R: Files + AllocGlobal, W: LinkWrite, E: Write>(
-    rt: &R,
-    dis: &Dis<'_>,
-    out: &mut W,
-    err: &mut E,
-) -> u8
-    requires works { W.has_failed out.old ≡ false }
-{
-    match fs::open(rt, dis.file) {
-        Ok(file) => dis_command(rt.alloc(), file, dis.words, out, err),
-        Err(_) => tell(Fault::Link, err),
-    }
-}
-
-/// Does what `asm FILE OUT` asks for. OUT is opened by the first write to it.
-fn assemble_file<R: Files + AllocGlobal, E: Write>(rt: &R, asm: &Asm<'_>, err: &mut E) -> u8 {
-    if are_one_file(rt, asm.file, asm.out) {
-        return refuse_out(err);
-    }
-    let Ok(file) = fs::open(rt, asm.file) else {
-        return tell(Fault::Link, err);
-    };
-    let mut out = Meter::new(OnFirstWrite::new(CreateAt {
-        files: rt,
-        path: asm.out,
-    }));
-    asm_command(rt.alloc(), file, &mut out, err)
+    let trace = open(rt, replay.trace)?;
+    let file = fs::open(rt, replay.file);
+    let words = replay.words;
+    Ok(account_command(rt.alloc(), trace, file, words, account, out, err))
 }
 
 /// Does what `run FILE` asks for. OUT is opened by the first write to it.
@@ -194,26 +168,12 @@ fn run_file<
     R: Files + Threads + Wait + Clock + Eprint + Sync + AllocGlobal,
     W: LinkWrite,
     E: Write,
->(rt: &R, run: &Run<'_>, terminal: bool, out: &mut W, err: &mut E) -> u8
+>(rt: &R, run: &Run<'_>, terminal: bool, out: &mut W, err: &mut E) -> Result<u8, Refusal>
     requires works { W.has_failed out.old ≡ false }
 {
-    if run.trace.is_some_and(|out| are_one_file(rt, run.file, out)) {
-        return refuse_out(err);
-    }
-    let Ok(file) = fs::open(rt, run.file) else {
-        return tell(Fault::Link, err);
-    };
-    match run.trace {
-        Some(path) => {
-            let writer = OnFirstWrite::new(CreateAt { files: rt, path });
-            let mut trace = Some(Meter::new(writer));
-            run_image(rt, file, run, terminal, &mut trace, out, err)
-        }
-        None => {
-            let mut trace: Option<Meter<Vec<u8>>> = None;
-            run_image(rt, file, run, terminal, &mut trace, out, err)
-        }
-    }
+    let file = open_beside(rt, run.file, run.trace)?;
+    let mut trace = trace_to(rt, run.trace);
+    Ok(run_image(rt, file, run, terminal, &mut trace, out, err))
 }
 
 /// Runs an image: on threads, or by the sweep. How far the threads are is told on a terminal.
@@ -269,32 +229,15 @@ fn explore_file<R: Files + Clock + Eprint + AllocGlobal, W: LinkWrite, E: Write>
     terminal: bool,
     out: &mut W,
     err: &mut E,
-) -> u8
+) -> Result<u8, Refusal>
     requires works { W.has_failed out.old ≡ false }
 {
     if explore.witness.is_some() != explore.trace.is_some() {
-        return refuse_half(err);
+        return Err(Refusal::Half);
     }
-    if explore
-        .trace
-        .is_some_and(|out| are_one_file(rt, explore.file, out))
-    {
-        return refuse_out(err);
-    }
-    let Ok(file) = fs::open(rt, explore.file) else {
-        return tell(Fault::Link, err);
-    };
-    match explore.trace {
-        Some(path) => {
-            let writer = OnFirstWrite::new(CreateAt { files: rt, path });
-            let mut trace = Some(Meter::new(writer));
-            explore_image(rt, file, explore, terminal, &mut trace, out, err)
-        }
-        None => {
-            let mut trace: Option<Meter<Vec<u8>>> = None;
-            explore_image(rt, file, explore, terminal, &mut trace, out, err)
-        }
-    }
+    let file = open_beside(rt, explore.file, explore.trace)?;
+    let mut trace = trace_to(rt, explore.trace);
+    Ok(explore_image(rt, file, explore, terminal, &mut trace, out, err))
 }
 
 /// Explores an image. How far the search is is told on a terminal.
@@ -336,35 +279,27 @@ fn hunt_file<R: Files + AllocGlobal, W: LinkWrite, E: Write>(
     hunt: &Hunt<'_>,
     out: &mut W,
     err: &mut E,
-) -> u8
+) -> Result<u8, Refusal>
     requires works { W.has_failed out.old ≡ false }
 {
-    let Ok(file) = fs::open(rt, hunt.file) else {
-        return tell(Fault::Link, err);
-    };
+    let file = open(rt, hunt.file)?;
+    let config = config_of(&hunt.sizes);
     let runs = Hunted {
         budget: hunt.budget,
         runs: hunt.runs,
         start: hunt.start,
     };
+    let alloc = rt.alloc();
     let mut traces = match hunt.trace {
         Some(prefix) => Some(TraceFiles {
-            alloc: rt.alloc(),
+            alloc,
             files: rt,
             image: hunt.file,
             prefix,
         }),
         None => None,
     };
-    hunt_command(
-        rt.alloc(),
-        file,
-        config_of(&hunt.sizes),
-        runs,
-        &mut traces,
-        out,
-        err,
-    )
+    Ok(hunt_command(alloc, file, config, runs, &mut traces, out, err))
 }
 
 /// Does what `debug FILE` asks for.
@@ -373,37 +308,16 @@ fn debug_file<R: Files + Net + Wait + AllocGlobal, W: Write, E: Write>(
     session: &Session<'_>,
     out: &mut W,
     err: &mut E,
-) -> u8 {
-    let Ok(file) = fs::open(rt, session.file) else {
-        return tell(Fault::Link, err);
-    };
+) -> Result<u8, Refusal> {
+    let file = open(rt, session.file)?;
     let config = config_of(&session.sizes);
     let mut door = Door {
         net: rt,
         port: session.port,
         out,
     };
-    debug_command(rt, rt.alloc(), file, config, session.budget, &mut door, err)
-}
-
-/// Whether two paths name one regular file, so that a write to one would lose what is read at the other.
-fn are_one_file<R: Files>(files: &R, one: &str, other: &str) -> bool {
-    let (Ok(one), Ok(other)) = (fs::metadata(files, one), fs::metadata(files, other)) else {
-        return false;
-    };
-    one.is_file() && one.dev() == other.dev() && one.ino() == other.ino()
-}
-
-/// Tells that OUT is the file that is to be read. Neither is opened.
-fn refuse_out<E: Write>(err: &mut E) -> u8 {
-    let _ = writeln!(err, "error: OUT is the same file as FILE");
-    REFUSED
-}
-
-/// Tells that a witness is asked for, and not where its trace goes, or the other way round.
-fn refuse_half<E: Write>(err: &mut E) -> u8 {
-    let _ = writeln!(err, "error: --witness and --trace go together");
-    REFUSED
+    let budget = session.budget;
+    Ok(debug_command(rt, rt.alloc(), file, config, budget, &mut door, err))
 }
 
 /// The arguments as texts.
@@ -420,13 +334,12 @@ fn refuse_arguments<E: Write>(kind: ErrorKind, err: &mut E) -> u8 {
     if kind == ErrorKind::OutOfMemory {
         return tell(Fault::Memory, err);
     }
-    let _ = writeln!(err, "error: an argument is not UTF-8");
-    REFUSED
+    refuse("an argument is not UTF-8", err)
 }
 
 /// Tells why the command line is refused, in the words of the command line's parser. Help that was
 /// asked for goes to standard output.
-fn refuse<W: Write, E: Write>(error: &Error, out: &mut W, err: &mut E) -> u8 {
+fn refuse_words<W: Write, E: Write>(error: &Error, out: &mut W, err: &mut E) -> u8 {
     let status = status_of(error);
     if status != REFUSED {
         return tell(Fault::Memory, err);

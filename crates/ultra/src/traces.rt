@@ -2,7 +2,7 @@
 
 ghost use Rattle.std.specs.Prelude.{◌≡◌, ⊤, false, IfOk};
 
-use crate::are_one_file;
+use crate::files::are_one_file;
 use command_io::{OnFirstWrite, Open};
 use hunt_command::Traces;
 use link::Meter;

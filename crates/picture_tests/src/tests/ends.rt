@@ -2,13 +2,17 @@
 
 use super::run;
 use link::Meter;
-use picture_command::picture_command;
+use picture_command::Picture;
+use run_commands::account_command;
 use std::alloc::Global;
 use std::io::{self, ErrorKind};
 use std::process::Abort;
 use std::test::Fail;
 use test_devices::{Deaf, EBREAK, Sink, Source, assert_same, trace_of};
 use test_machines::image_of;
+
+/// The picture behind all steps.
+const WHOLE: Picture = Picture { step: None };
 
 /// A turn of processor 0.
 static TURN: [u8; 12] = [1, 0, 0, 0, 0, 0, 0, 0, 0, 0, 0, 0];
@@ -82,7 +86,7 @@ fn picture_that_cannot_be_printed(rt: HostRuntime) -> Result<(), Fail> {
         let mut out = Meter::new(Sink::new(Vec::new(alloc), fails_at));
         let mut err = Vec::new(alloc);
         let file = Ok(EBREAK.as_slice());
-        let status = picture_command(alloc, trace, file, 1, None, &mut out, &mut err);
+        let status = account_command(alloc, trace, file, 1, &WHOLE, &mut out, &mut err);
         assert_same!(rt; Some(out.device.bytes.as_slice()), whole.out.get(..fails_at.saturating_sub(1)));
         assert_same!(rt; err.as_slice(), b"ultra: link\n".as_slice());
         assert_same!(rt; status, 3);
@@ -98,13 +102,13 @@ fn files_that_cannot_be_read(rt: HostRuntime) -> Result<(), Fail> {
     let mut out = Meter::new(Vec::new(alloc));
     let trace = Source::new(turn.as_slice(), 5);
     let file = Ok(EBREAK.as_slice());
-    let status = picture_command(alloc, trace, file, 1, None, &mut out, &mut Deaf);
+    let status = account_command(alloc, trace, file, 1, &WHOLE, &mut out, &mut Deaf);
     assert_same!(rt; out.device.len(), 0);
     assert_same!(rt; status, 3);
     let mut out = Meter::new(Vec::new(alloc));
     let mut err = Vec::new(alloc);
     let file = Ok(Source::new(&EBREAK, 5));
-    let status = picture_command(alloc, turn.as_slice(), file, 1, None, &mut out, &mut err);
+    let status = account_command(alloc, turn.as_slice(), file, 1, &WHOLE, &mut out, &mut err);
     assert_same!(rt; err.as_slice(), b"ultra: I9\n".as_slice());
     assert_same!(rt; out.device.len(), 0);
     assert_same!(rt; status, 3);
@@ -119,7 +123,7 @@ fn is_short_of_memory(rt: HostRuntime) -> Result<(), Fail> {
     let mut out = Meter::new(Sink::new(Vec::with_capacity(alloc, 4096)?, 0));
     let mut err = Vec::with_capacity(alloc, 64)?;
     let file = Ok(EBREAK.as_slice());
-    match picture_command(alloc, turn.as_slice(), file, 1, None, &mut out, &mut err) {
+    match account_command(alloc, turn.as_slice(), file, 1, &WHOLE, &mut out, &mut err) {
         1 => assert!(rt; out.device.bytes.ends_with(b"</svg>\n")),
         status => {
             assert_same!(rt; status, 4);

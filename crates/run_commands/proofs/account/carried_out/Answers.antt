@@ -1,41 +1,30 @@
-use Rattle.std.proofs.Common.{subst, inr, rules}
-use Rattle.std.specs.Prelude.{string_bytes}
-use Rattle.std.specs.Io.KnownBytes.{Appends}
-use Rattle.std.proofs.lemmas.Result.{err_from_is_err_and}
-use Rattle.link.specs.Transfer.{AppendsPart}
+use Rattle.std.proofs.Common.{sym, subst}
+use Rattle.std.proofs.lemmas.Result.{IfOk-weaker, IfErr-weaker}
+use Rattle.elf_image.specs.Files.{IsImageOf}
+use Rattle.run_commands.specs.Commands.{known_of}
+use Rattle.run_commands.proofs.Accounts.{account_printed, no_account}
 use Rattle.run_commands.proofs.account.carried_out.Goals as goal
 
 pub returns-clause-printed : goal.returns-clause-printed
 returns-clause-printed g c =
-    record {
-      text = string_bytes c.in_ok-text.text;
-      meant = record {
-        steps = c.in_ok-trace.trace;
-        read = c.in_ok-trace.ensures.trace;
-        image = c.in_ok-image.image;
-        meant = search rules;
-        told = search rules;
-      };
-      printed = subst (λ bytes. Appends (g.W.Write.contents c.args.out.now) (g.W.Write.contents c.print.new.out) bytes) c.as_str.ensures.value
-          c.in_ok-print.ensures.printed;
-    }
+    let known = known_of {R = g.row.R.Denot} g.R.Read.remaining c.args.file in
+    let size = c.config-config.result in
+    let image = c.in_ok-image.image in
+    let meant = subst (λ f. IsImageOf size.shared_words (known_of {R = g.row.R.Denot} g.R.Read.remaining f) image) (sym c.in-Ok.is)
+    c.in_ok-image.ensures.image in
+    IfOk-weaker c.print_account.result _ _
+    (account_printed (g.A.Account.tells c.args.account.now) c.args.shared_words (g.T.Read.remaining c.args.trace) known c.in_ok-trace.trace
+    c.in_ok-trace.ensures.trace size c.config-config.ensures image meant c.steps.result.now c.steps.ensures (g.W.Write.contents c.args.out.now)
+    (g.W.Write.contents c.print_account.new.out)) c.print_account.ensures.printed
 
-pub returns-in_err-print-clause-told : goal.returns-in_err-print-clause-told
-returns-in_err-print-clause-told g c =
-    let p = err_from_is_err_and c.from_residual-in_err-print.result c.from_residual-in_err-print.ensures.1 in
-    let f = c.in_err-print.ensures.begun in
-    rw (p.1, p.2, f.0)
-    (inr (record {
-      text = string_bytes c.in_ok-text.text;
-      meant = (
-        c.in_ok-text.status,
-        record {
-          steps = c.in_ok-trace.trace;
-          read = c.in_ok-trace.ensures.trace;
-          image = c.in_ok-image.image;
-          meant = search rules;
-          told = search rules;
-        },
-      );
-      part = subst (λ bytes. AppendsPart (g.W.Write.contents c.args.out.now) (g.W.Write.contents c.print.new.out) bytes) c.as_str.ensures.value f.1;
-    }))
+pub returns-clause-told : goal.returns-clause-told
+returns-clause-told g c =
+    let known = known_of {R = g.row.R.Denot} g.R.Read.remaining c.args.file in
+    let size = c.config-config.result in
+    let image = c.in_ok-image.image in
+    let meant = subst (λ f. IsImageOf size.shared_words (known_of {R = g.row.R.Denot} g.R.Read.remaining f) image) (sym c.in-Ok.is)
+    c.in_ok-image.ensures.image in
+    IfErr-weaker c.print_account.result _ _
+    (no_account (g.A.Account.tells c.args.account.now) c.args.shared_words (g.T.Read.remaining c.args.trace) known c.in_ok-trace.trace
+    c.in_ok-trace.ensures.trace size c.config-config.ensures image meant c.steps.result.now c.steps.ensures (g.W.Write.contents c.args.out.now)
+    (g.W.Write.contents c.print_account.new.out)) c.print_account.ensures.told

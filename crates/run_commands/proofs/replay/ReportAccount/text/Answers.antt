@@ -27,6 +27,6 @@ returns-clause-told c =
     record {
       before = before;
       stands = record { opening = opening; opens = opens; replay = taken.replay };
-      report = report_is_of c.args.config c.args.image steps opening new c.drained.new.tally opens all c.in_ok-drained.ensures.idle serialized
+      report = report_is_of c.args.config c.args.image.now steps opening new c.drained.new.tally opens all c.in_ok-drained.ensures.idle serialized
           (string_bytes c.in_ok-text.text) c.exit_status.result c.in_ok-text.ensures c.exit_status.ensures;
     }

@@ -2,10 +2,10 @@ use Rattle.std.proofs.Common.{List, ◌∙◌, ap, subst}
 use Rattle.steps.specs.declared.step.Step.{Step}
 use Rattle.machine_runs.specs.Runs.{IsRun}
 use Rattle.picture_command.specs.Pictures.{first_of}
-use Rattle.picture_command.proofs.command.drawn.Goals as goal
+use Rattle.picture_command.proofs.command.PictureAccount.text.Goals as goal
 
-pub returns-clause-behind : goal.returns-clause-behind
-returns-clause-behind c =
+pub returns-clause-told : goal.returns-clause-told
+returns-clause-told c =
     let opening = c.in_ok-machine.machine in
     record {
       all = c.in_ok-all.all.items;
@@ -14,6 +14,6 @@ returns-clause-behind c =
       opens = c.in_ok-machine.ensures.opening;
       machine = c.picture_text.new.machine;
       run = subst (λ (steps : List Step). IsRun opening steps c.picture_text.new.machine)
-          (c.first.ensures ∙ ap (first_of c.args.step) c.as_slice.ensures.value) c.in_ok-text.ensures.run;
+          (c.first.ensures ∙ ap (first_of c.args.self.now.step) c.as_slice.ensures.value) c.in_ok-text.ensures.run;
       exit = c.exit_status.ensures;
     }

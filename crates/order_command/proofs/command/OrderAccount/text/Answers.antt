@@ -4,10 +4,10 @@ use Rattle.flat_machine.specs.declared.poke.Entry.{Entry}
 use Rattle.steps.specs.declared.step.Step.{Step}
 use Rattle.machine_runs.specs.Machines.{MachineLists}
 use Rattle.machine_runs.specs.Runs.{IsOpening, passed}
-use Rattle.order_command.proofs.command.ordered.Goals as goal
+use Rattle.order_command.proofs.command.OrderAccount.text.Goals as goal
 
-pub returns-clause-lines : goal.returns-clause-lines
-returns-clause-lines c =
+pub returns-clause-told : goal.returns-clause-told
+returns-clause-told c =
     let order = subst (λ (entries : List Entry). (opening : MachineLists) → IsOpening c.args.config c.args.image.now opening →
     entries ≡ (passed opening c.in_ok-all.all.items).order) (sym c.as_slice-2.ensures.value)
     (subst (λ (all : List Step). (opening : MachineLists) → IsOpening c.args.config c.args.image.now opening →

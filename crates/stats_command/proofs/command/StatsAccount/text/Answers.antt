@@ -13,11 +13,11 @@ use Rattle.run_counts.specs.Lines.{lines_of}
 use Rattle.run_counts.specs.Rounds.{rounds_of}
 use Rattle.step_answers.specs.Answers.{answers_of}
 use Rattle.stats_command.specs.Longest.{AreLongest}
-use Rattle.stats_command.proofs.command.stats.Goals as goal
+use Rattle.stats_command.proofs.command.StatsAccount.text.Goals as goal
 
-pub returns-clause-lines : goal.returns-clause-lines
+pub returns-clause-told : goal.returns-clause-told
 unfolding machine_of_parts
-returns-clause-lines c =
+returns-clause-told c =
     let opening = c.in_ok-machine.machine in
     let opens = c.in_ok-machine.ensures.opening in
     let new = c.counted.new.machine in

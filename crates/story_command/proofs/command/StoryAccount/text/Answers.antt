@@ -4,10 +4,10 @@ use Rattle.steps.specs.declared.step.Step.{Step}
 use Rattle.machine_runs.specs.Runs.{IsRun}
 use Rattle.step_answers.specs.Answers.{answers_of}
 use Rattle.story_lines.specs.Lines.{story_of}
-use Rattle.story_command.proofs.command.told.Goals as goal
+use Rattle.story_command.proofs.command.StoryAccount.text.Goals as goal
 
-pub returns-clause-lines : goal.returns-clause-lines
-returns-clause-lines c =
+pub returns-clause-told : goal.returns-clause-told
+returns-clause-told c =
     let opening = c.in_ok-machine.machine in
     record {
       all = c.in_ok-all.all.items;
