@@ -1,7 +1,6 @@
 //! Runs, and what they come to.
 
 ghost use Rattle.std.specs.Prelude.{◌≡◌, ◌≤◌, ℕ, IfErr, IfOk, string_bytes};
-ghost use Rattle.machine_runs.specs.Runs.{IsOpening};
 ghost use Rattle.machine_sweep.specs.Sweeps.{most_of};
 ghost use Rattle.run_commands.specs.Causes.{IsFaultOfSize};
 ghost use Rattle.hunt_command.specs.Hunts.{AreFound, IsLogOf, IsResultOf, IsSomeLog, greater};
@@ -12,20 +11,10 @@ use command_io::Fault;
 use elf_image::Image;
 use flat_machine::Config;
 use machine_log::{Logged, log_is_kept};
-use machine_runs::Machine;
 use machine_sweep::SweepEnd;
 use random_runs::random_run;
-use run_commands::{exit_status, machine_of, retaken};
+use run_commands::{exit_status, opened, retaken};
 use std::alloc::Global;
-
-/// A machine of this size that opens on a copy of the image.
-fn opened(alloc: Global, image: &Image, config: Config) -> Result<Machine, Fault>
-    requires words { image.now.shared_words ≡ config.shared_words }
-    ensures opening { IfOk result (IsOpening config image.now) }
-    ensures refused { IfErr result (IsFaultOfSize config) }
-{
-    machine_of(alloc, image.copy(alloc)?, config)
-}
 
 /// The log of the run of a number, on a machine of this size that opens on a copy of the image, and where the run ended.
 ///
