@@ -1,6 +1,7 @@
 pub mod Tallying
 pub mod TakenAgain
 pub mod Logging
+pub mod LogReports
 pub mod FlatReports
 pub mod OneReport
 pub mod Accounts

@@ -1,4 +1,4 @@
--- What the log of a run tells of its machine's size and image.
+-- What the log of a run tells.
 use Rattle.std.proofs.Common.{◌≡◌, ◌≤◌, ℕ, List, length, Option, ◌∙◌, ap, refl, sym, subst, arith}
 use Rattle.flat_machine.specs.declared.config.Config.{Config}
 use Rattle.flat_machine.specs.Limits.{IsWithinLimits}
@@ -19,20 +19,6 @@ use Rattle.run_commands.specs.Faults.{fault_of_retaking}
 use Rattle.run_commands.specs.Retaking.{IsNotRetaken}
 use Rattle.machine_sweep.specs.Sweeps.{IsSwept, most_of, opened}
 use Rattle.machine_sweep.specs.declared.sweeping.SweepEnd.{SweepEnd}
-
-module _ (c : Config) (budget : ℕ) (known : Option (List ℕ)) (end : SweepEnd) (log : Log) (is : IsRunOf c budget known end log) where
-  pub log_config : log.machine.config ≡ c
-  log_config = is.run.replay.run.config ∙ is.run.opens.config
-
-  pub log_image : log.machine.image ≡ is.image
-  log_image = is.run.replay.run.image ∙ is.run.opens.image_is
-
-  pub log_words : log.machine.image.shared_words ≡ log.machine.config.shared_words
-  log_words = ap (λ (i : ImageContents). i.shared_words) log_image ∙ is.meant.words ∙ sym (ap (λ (d : Config). d.shared_words) log_config)
-
-  -- the opening, by what the machine after the steps tells
-  pub log_opens : IsOpening log.machine.config log.machine.image log.opening
-  log_opens = subst (λ (x : Config × ImageContents). IsOpening x.0 x.1 log.opening) (λ i. (sym log_config i, sym log_image i)) is.run.opens
 
 -- the steps of a log do not stall on another machine that opens on the image
 pub not_stalled : (log : Log) (c : Config) (image : ImageContents) (steps : List Step) (second new : MachineLists) →
@@ -73,9 +59,8 @@ module _ (c : Config) (budget : ℕ) (known : Option (List ℕ)) (image : ImageC
   config_is : log.machine.config ≡ c
   config_is = kept.replay.run.config ∙ ap (λ (n : MachineLists). n.config) opening_is ∙ opens.config
 
-  pub run_of : IsRunOf c budget known end log
+  pub run_of : IsRunOf c budget known end image log
   run_of = record {
-    image = image;
     meant = meant;
     run = record {
       opens = subst (IsOpening c image) (sym opening_is) opens;

@@ -9,7 +9,7 @@ use Rattle.machine_sweep.specs.Sweeps.{IsWholeRun, most_of}
 use Rattle.machine_sweep.specs.declared.sweeping.SweepEnd.{SweepEnd}
 use Rattle.machine_sweep.specs.declared.sweeping.SweepEnd.TheVariants.{Over}
 use Rattle.elf_image.specs.Files.{IsImageOf}
-use Rattle.run_commands.specs.Commands.{IsReportOf, IsReportedRun}
+use Rattle.run_commands.specs.Commands.{IsFinishedRun, IsReportOf, IsReportedRun}
 use Rattle.run_commands.proofs.OneReport.{one_status, one_text}
 
 abbrev OneLayout : Type 0
@@ -28,18 +28,18 @@ one_image one_layout shared_words file one other a b =
     (λ i. record { layout = layout i; shared_words = words i })
 
 module _ (one_layout : OneLayout) (one_log : OneLog) (c : Config) (budget : ℕ) (file : List ℕ) (steps others : List Step) (text other : List ℕ)
-    (status another : ℕ)
-    (a : IsReportedRun c budget (Some file) steps text status) (b : IsReportedRun c budget (Some file) others other another) where
+    (status another : ℕ) (a : IsReportedRun (IsFinishedRun c budget (Some file)) c steps text status)
+    (b : IsReportedRun (IsFinishedRun c budget (Some file)) c others other another) where
   abbrev image : ImageContents
-  image = a.ran.over.image
+  image = a.image
 
-  image_is : b.ran.over.image ≡ image
-  image_is = one_image one_layout c.shared_words file image b.ran.over.image a.ran.over.meant b.ran.over.meant
+  image_is : b.image ≡ image
+  image_is = one_image one_layout c.shared_words file image b.image a.run.over.meant b.run.over.meant
 
   steps_are : steps ≡ others
   steps_are =
       sym a.entered
-      ∙ one_log c image (most_of budget) Over Over a.log b.log a.ran.over.run (subst (λ i. IsWholeRun c i (most_of budget) Over b.log) image_is b.ran.over.run)
+      ∙ one_log c image (most_of budget) Over Over a.log b.log a.run.over.run (subst (λ i. IsWholeRun c i (most_of budget) Over b.log) image_is b.run.over.run)
       ∙ b.entered
 
   report_is : IsReportOf c image steps other another

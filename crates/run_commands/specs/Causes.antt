@@ -17,7 +17,8 @@ use Rattle.machine_sweep.specs.declared.sweeping.SweepEnd.TheVariants.{Budget}
 use Rattle.command_io.specs.declared.fault.Fault.{Fault}
 use Rattle.command_io.specs.declared.fault.Fault.TheVariants as fault
 use Rattle.command_io.specs.Printing.{IsPartPrinted}
-use Rattle.run_commands.specs.Commands.{IsTraceOf, IsPartSaved, IsFinishedRun, IsRunOf, IsDrainedReport, IsSomeAccount, IsSomeRunReport, Telling}
+use Rattle.run_commands.specs.Commands.{IsTraceOf, IsPartSaved, IsRunOf, IsDrainedReport, IsSomeAccount, IsSomeLogReport, IsSomeRunReport}
+use Rattle.run_commands.specs.Commands.{Running, Telling}
 
 -- ---- the files
 
@@ -28,10 +29,11 @@ IsTraceRefusal known e = (rest : Option (List ℕ)) × IsRefused known rest e
 
 -- ---- a run
 
--- The run is there, which has ended, and a part of its trace is written, and not all of it.
-pub record IsPartSavedRun {T : Type 0} (contents : T → Option (List ℕ)) (c : Config) (budget : ℕ) (known : Option (List ℕ)) (old new : Option T) : Type 0 where
+-- The run is there, and a part of its trace is written, and not all of it.
+pub record IsPartSavedRun {T : Type 0} (contents : T → Option (List ℕ)) (is_run : Running) (c : Config) (old new : Option T) : Type 0 where
+  pub image : ImageContents
   pub log : Log
-  pub ran : IsFinishedRun c budget known log
+  pub run : is_run image log
   pub part : IsPartSaved contents old new (trace_bytes (trace_of c log.steps))
 
 -- Why a run is not there: the image is refused; the machine's size is out of its limits; the budget is used up, a processor runs,
@@ -39,17 +41,26 @@ pub record IsPartSavedRun {T : Type 0} (contents : T → Option (List ℕ)) (c :
 abbrev pub IsNotRun : (c : Config) → (budget : ℕ) → (known : Option (List ℕ)) → Fault → Type 0
 IsNotRun c budget known (fault.Image e) = IsImageRefusal c.shared_words known e
 IsNotRun c budget known fault.Size = ((image : ImageContents) × IsImageOf c.shared_words known image) × (IsWithinLimits c → ⊥)
-IsNotRun c budget known fault.Budget = (log : Log) × IsRunOf c budget known Budget log
+IsNotRun c budget known fault.Budget = (image : ImageContents) × (log : Log) × IsRunOf c budget known Budget image log
 IsNotRun c budget known fault.Memory = Unit {0}
 IsNotRun c budget known other = ⊥
 
--- Why a run is not reported: its trace cannot be written, or, once that is, its report; else the run is not there, and no byte
--- of a trace is written.
-abbrev pub IsNoRun : {T : Type 0} → (contents : T → Option (List ℕ)) → (c : Config) → (budget : ℕ) → (known : Option (List ℕ)) → (old new : Option T) →
+-- Why a run is not reported: its trace cannot be written, or, once that is, its report; else the run is not there, or there is no memory
+-- for its report, and no byte of a trace is written.
+abbrev pub IsNoRun : {T : Type 0} → (contents : T → Option (List ℕ)) → Running → (is_not_run : Fault → Type 0) → (c : Config) → (old new : Option T) →
     (out out' : Option (List ℕ)) → Fault → Type 0
-IsNoRun contents c budget known old new out out' (fault.Trace e) = (e ≡ of_trace.Link) × IsPartSavedRun contents c budget known old new
-IsNoRun contents c budget known old new out out' fault.Link = IsPartPrinted (IsSomeRunReport contents c budget known old new) out out'
-IsNoRun contents c budget known old new out out' other = IsNotRun c budget known other × (new ≡ old)
+IsNoRun contents is_run is_not_run c old new out out' (fault.Trace e) = (e ≡ of_trace.Link) × IsPartSavedRun contents is_run c old new
+IsNoRun contents is_run is_not_run c old new out out' fault.Link = IsPartPrinted (IsSomeRunReport contents is_run c old new) out out'
+IsNoRun contents is_run is_not_run c old new out out' other = is_not_run other × (new ≡ old)
+
+-- Why a log is not reported: its trace cannot be written, or, once that is, its report; else there is no memory for it, and no byte of a
+-- trace is written.
+abbrev pub IsNoLogReport : {T : Type 0} → (contents : T → Option (List ℕ)) → Log → (old new : Option T) → (out out' : Option (List ℕ)) → Fault → Type 0
+IsNoLogReport contents log old new out out' (fault.Trace e) =
+    (e ≡ of_trace.Link) × IsPartSaved contents old new (trace_bytes (trace_of log.machine.config log.steps))
+IsNoLogReport contents log old new out out' fault.Link = IsPartPrinted (IsSomeLogReport contents log old new) out out'
+IsNoLogReport contents log old new out out' fault.Memory = new ≡ old
+IsNoLogReport contents log old new out out' other = ⊥
 
 -- ---- a replay
 

@@ -99,38 +99,59 @@ IsPartSaved contents (Some old) (Some new) bytes = AppendsPart (contents old) (c
 IsPartSaved contents (Some old) None bytes = ⊥
 IsPartSaved contents None new bytes = ⊥
 
+-- What is known of a run: of the image that it ran, and of its log.
+abbrev pub Running : Type 1
+Running = ImageContents → Log → Type 0
+
 -- The log of a run of the image that a file means: it has followed the sweep from the machine's opening on, for as many steps as
 -- the budget has at most, and was drained.
-pub record IsRunOf (c : Config) (budget : ℕ) (known : Option (List ℕ)) (end : SweepEnd) (log : Log) : Type 0 where
-  pub image : ImageContents
+pub record IsRunOf (c : Config) (budget : ℕ) (known : Option (List ℕ)) (end : SweepEnd) (image : ImageContents) (log : Log) : Type 0 where
   pub meant : IsImageOf c.shared_words known image
   pub run : IsWholeRun c image (most_of budget) end log
 
 -- the log of a run that was over, with a trace that has a spelling
-pub record IsFinishedRun (c : Config) (budget : ℕ) (known : Option (List ℕ)) (log : Log) : Type 0 where
-  pub over : IsRunOf c budget known Over log
+pub record IsFinishedRun (c : Config) (budget : ℕ) (known : Option (List ℕ)) (image : ImageContents) (log : Log) : Type 0 where
+  pub over : IsRunOf c budget known Over image log
   pub trace : IsTrace (trace_of c log.steps)
 
--- the log of such a run, of whatever file and budget
-abbrev pub IsSomeFinishedRun : Config → Log → Type 0
-IsSomeFinishedRun c log = (budget : ℕ) × (known : Option (List ℕ)) × IsFinishedRun c budget known log
+-- the log of such a run, of whatever image
+abbrev pub IsSomeFinishedRun : (c : Config) → (budget : ℕ) → (known : Option (List ℕ)) → Log → Type 0
+IsSomeFinishedRun c budget known log = (image : ImageContents) × IsFinishedRun c budget known image log
 
--- A run of the image that a file means enters these steps; this is its report, and this its exit status.
-pub record IsReportedRun (c : Config) (budget : ℕ) (known : Option (List ℕ)) (steps : List Step) (text : List ℕ) (status : ℕ) : Type 0 where
+-- A run of which this is known enters these steps; this is its report, and this its exit status.
+pub record IsReportedRun (is_run : Running) (c : Config) (steps : List Step) (text : List ℕ) (status : ℕ) : Type 0 where
+  pub image : ImageContents
   pub log : Log
-  pub ran : IsFinishedRun c budget known log
+  pub run : is_run image log
   pub entered : log.steps ≡ steps
-  pub report : IsReportOf c ran.over.image steps text status
+  pub report : IsReportOf c image steps text status
 
--- This is the report of a run of the image that a file means, and this its exit status; the trace of the run is written, where one
--- is asked for.
+-- This is the report of such a run, and this its exit status; the trace of the run is written, where one is asked for.
 pub record IsRunReport {T : Type 0} (contents : T →
-    Option (List ℕ)) (c : Config) (budget : ℕ) (known : Option (List ℕ)) (trace trace' : Option T) (status : ℕ) (text : List ℕ) : Type 0 where
+    Option (List ℕ)) (is_run : Running) (c : Config) (trace trace' : Option T) (status : ℕ) (text : List ℕ) : Type 0 where
   pub steps : List Step
-  pub run : IsReportedRun c budget known steps text status
+  pub run : IsReportedRun is_run c steps text status
   pub saved : IsSaved contents trace trace' (trace_bytes (trace_of c steps))
 
 -- the report of a run, with whatever exit status
-abbrev pub IsSomeRunReport : {T : Type 0} → (contents : T → Option (List ℕ)) → (c : Config) → (budget : ℕ) → (known : Option (List ℕ)) →
-    (trace trace' : Option T) → (text : List ℕ) → Type 0
-IsSomeRunReport contents c budget known trace trace' text = (status : ℕ) × IsRunReport contents c budget known trace trace' status text
+abbrev pub IsSomeRunReport : {T : Type 0} → (contents : T → Option (List ℕ)) → Running → (c : Config) → (trace trace' : Option T) → (text : List ℕ) → Type 0
+IsSomeRunReport contents is_run c trace trace' text = (status : ℕ) × IsRunReport contents is_run c trace trace' status text
+
+-- ---- a log
+
+-- A log has a report and a trace: its machine opened on its image, no reference is open, and its steps have a spelling.
+pub record CanBeReported (log : Log) : Type 0 where
+  pub opens : IsOpening log.machine.config log.machine.image log.opening
+  pub words : log.machine.image.shared_words ≡ log.machine.config.shared_words
+  pub idle : IsIdle log.machine
+  pub trace : IsTrace (trace_of log.machine.config log.steps)
+
+-- This is the report of the log, and this its exit status; its trace is written, where one is asked for.
+pub record IsLogReport {T : Type 0} (contents : T →
+    Option (List ℕ)) (log : Log) (trace trace' : Option T) (status : ℕ) (text : List ℕ) : Type 0 where
+  pub report : IsReportOf log.machine.config log.machine.image log.steps text status
+  pub saved : IsSaved contents trace trace' (trace_bytes (trace_of log.machine.config log.steps))
+
+-- the report of the log, with whatever exit status
+abbrev pub IsSomeLogReport : {T : Type 0} → (contents : T → Option (List ℕ)) → Log → (trace trace' : Option T) → (text : List ℕ) → Type 0
+IsSomeLogReport contents log trace trace' text = (status : ℕ) × IsLogReport contents log trace trace' status text

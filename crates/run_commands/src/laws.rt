@@ -4,7 +4,7 @@ ghost use Rattle.std.specs.Prelude.{◌≡◌, ℕ, List, Some};
 ghost use Rattle.flat_machine.specs.declared.config.Config.{Config};
 ghost use Rattle.elf_image.specs.Images.{ImageContents};
 ghost use Rattle.steps.specs.declared.step.Step.{Step};
-ghost use Rattle.run_commands.specs.Commands.{IsReportOf, IsReportedRun};
+ghost use Rattle.run_commands.specs.Commands.{IsFinishedRun, IsReportOf, IsReportedRun};
 
 use image_laws::input_means_one_layout;
 use machine_sweep::runs_have_one_log;
@@ -20,7 +20,7 @@ pub fn steps_have_one_report()
 /// the bytes of the image's file: the same run comes out each time.
 pub fn runs_have_one_report()
     ensures { (c : Config) (budget : ℕ) (file : List ℕ) (steps others : List Step) (text other : List ℕ) (status another : ℕ) →
-        IsReportedRun c budget (Some file) steps text status → IsReportedRun c budget (Some file) others other another →
+        IsReportedRun (IsFinishedRun c budget (Some file)) c steps text status → IsReportedRun (IsFinishedRun c budget (Some file)) c others other another →
         (steps ≡ others) × (text ≡ other) × (status ≡ another) }
 {
     input_means_one_layout();

@@ -7,14 +7,13 @@ ghost use Rattle.command_io.specs.Printing.{IsPrinted, IsTold};
 
 use crate::account::{Account, account_command};
 use crate::input::opened;
-use crate::reporting::report;
-use crate::states::exit_status;
+use crate::reporting::report_with_status;
 use crate::taking::{drained, retaken};
 use command_io::Fault;
 use elf_image::Image;
 use flat_machine::Config;
 use link::LinkWrite;
-use machine_runs::{machine_is_sound, runs_are_serialized};
+use machine_runs::machine_is_sound;
 use std::alloc::Global;
 use std::io;
 use std::io::{Read, Write};
@@ -66,8 +65,6 @@ impl Account for Report {
         machine_is_sound(&machine);
         let mut tally = retaken(alloc, &mut machine, steps)?;
         drained(&mut machine, &mut tally)?;
-        runs_are_serialized();
-        let text = report(alloc, &machine, &tally, None)?;
-        Ok((text, exit_status(&machine)))
+        Ok(report_with_status(alloc, &machine, &tally, None)?)
     }
 }

@@ -1,22 +1,55 @@
 //! The report of a machine: a line for each processor, and a line for each shared word that is not zero.
 
-ghost use Rattle.std.specs.Prelude.{◌≡◌, ◌<◌, ◌^◌, ◌++◌, IfOk, IfSome, OnOk, Some, length, map, slice_get, slice_index_or, string_bytes};
+ghost use Rattle.std.specs.Prelude.{◌≡◌, ◌<◌, ◌≤◌, ◌^◌, ◌++◌, IfOk, IfSome, List, OnOk, Some, length, map, slice_get, slice_index_or, string_bytes};
+ghost use Rattle.flat_machine.specs.declared.config.Config.{Config};
+ghost use Rattle.elf_image.specs.Images.{ImageContents};
+ghost use Rattle.steps.specs.declared.step.Step.{Step};
 ghost use Rattle.run_report.specs.Lines.{processor_line};
 ghost use Rattle.run_report.specs.Tallies.{nothing_shown};
-ghost use Rattle.machine_runs.specs.Machines.{AreHome};
+ghost use Rattle.machine_runs.specs.Machines.{AreHome, IsIdle, IsMachine, MachineLists};
+ghost use Rattle.machine_runs.specs.Runs.{IsOpening};
 ghost use Rattle.machine_sweep.specs.Standing.{processor_of};
+ghost use Rattle.run_commands.specs.Commands.{IsReportOf};
 ghost use Rattle.run_commands.specs.Reports.{AreHeard, processor_lines, report_of, shared_lines};
+ghost use Rattle.run_commands.specs.Retaking.{IsRetaken};
 
-use machine_runs::Machine;
+use crate::states::exit_status;
+use machine_runs::{Machine, machine_is_sound, runs_are_serialized};
 use run_report::{Shown, Tally, push_processor, push_shared_word};
 use std::alloc::{AllocError, Global};
+
+/// The report of a machine that has taken steps, in which its processors have shown this, and its exit status. The bytes of their consoles
+/// may come from who has heard them.
+///
+/// # Errors
+///
+/// [`AllocError`] where there is no memory for it.
+pub(crate) fn report_with_status(
+    alloc: Global,
+    machine: &Machine,
+    tally: &Tally,
+    consoles: Option<&[Vec<u8>]>,
+) -> Result<(String, u8), AllocError>
+    requires home { AreHome machine.now }
+    requires all { length tally.now.shown ≡ 2 ^ machine.now.config.k }
+    requires heard { IfSome consoles (λ cs. AreHeard tally.now.shown cs.now) }
+    ensures report { IfOk result (λ done. (c : Config) (image : ImageContents) (steps : List Step) (opening : MachineLists)
+        → IsOpening c image opening → IsMachine opening → IsRetaken opening steps machine.now tally.now → IsIdle machine.now
+        → IsReportOf c image steps (string_bytes done.0) done.1) }
+    ensures low { IfOk result (λ done. done.1 ≤ 1) }
+{
+    machine_is_sound(machine);
+    runs_are_serialized();
+    let text = report(alloc, machine, tally, consoles)?;
+    Ok((text, exit_status(machine)))
+}
 
 /// The report of a machine whose processors have shown this, and none of whose cores is away. The bytes of their consoles may come from who has heard them.
 ///
 /// # Errors
 ///
 /// [`AllocError`] where there is no memory for it.
-pub fn report(
+fn report(
     alloc: Global,
     machine: &Machine,
     tally: &Tally,

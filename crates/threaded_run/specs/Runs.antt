@@ -35,17 +35,20 @@ pub record HasEnded (opening : MachineLists) (log : Log) (consoles : List (List 
   pub heard : AreConsoles log.opening log.steps consoles
 
 -- So has a run of the image that a file means, on the machine of this size that opens on it, with a trace that has a spelling.
-pub record IsThreaded (c : Config) (known : Option (List ℕ)) (log : Log) (consoles : List (List ℕ)) : Type 0 where
-  pub image : ImageContents
+pub record IsThreaded (c : Config) (known : Option (List ℕ)) (image : ImageContents) (log : Log) (consoles : List (List ℕ)) : Type 0 where
   pub meant : IsImageOf c.shared_words known image
   pub opening : MachineLists
   pub opens : IsOpening c image opening
   pub ended : HasEnded opening log consoles
   pub trace : IsTrace (trace_of c log.steps)
 
--- so has a run of some image
-abbrev pub IsSomeThreaded : (c : Config) → (log : Log) → (consoles : List (List ℕ)) → Type 0
-IsSomeThreaded c log consoles = (known : Option (List ℕ)) × IsThreaded c known log consoles
+-- so has a run of whatever image
+abbrev pub IsSomeThreaded : (c : Config) → (known : Option (List ℕ)) → Log → (consoles : List (List ℕ)) → Type 0
+IsSomeThreaded c known log consoles = (image : ImageContents) × IsThreaded c known image log consoles
+
+-- the log of such a run, whatever was sent to the consoles
+abbrev pub IsThreadedLog : (c : Config) → (known : Option (List ℕ)) → ImageContents → Log → Type 0
+IsThreadedLog c known image log = (consoles : List (List ℕ)) × IsThreaded c known image log consoles
 
 -- A machine of this size opens on the image that a file means.
 pub record HasBegun (c : Config) (known : Option (List ℕ)) : Type 0 where

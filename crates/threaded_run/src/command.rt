@@ -1,18 +1,17 @@
 //! The command.
 
-ghost use Rattle.std.specs.Prelude.{◌≡◌, ◌≤◌, ◌↔◌, ℕ, List, Option, true, false, IfOk, IfErr, IsErrOf, OnErr, map};
-ghost use Rattle.processor_threads.specs.Consoles.{bytes_of};
-ghost use Rattle.run_commands.specs.Commands.{IsWorking};
+ghost use Rattle.std.specs.Prelude.{◌≡◌, ◌≤◌, ◌↔◌, true, false, IfOk, IfErr, IsErrOf, OnErr};
+ghost use Rattle.run_commands.specs.Causes.{IsNoRun};
+ghost use Rattle.run_commands.specs.Commands.{IsRunReport, IsWorking};
 ghost use Rattle.command_io.specs.Printing.{IsPrinted, IsTold};
-ghost use Rattle.threaded_run.specs.Commands.{IsNoThreadedRun, IsThreadedReport};
-ghost use Rattle.threaded_run.specs.Runs.{IsSomeThreaded, IsThreaded};
+ghost use Rattle.threaded_run.specs.Runs.{IsNotThreaded, IsThreadedLog};
 
-use crate::run::{Finished, ran};
-use command_io::{Fault, print, tell};
+use crate::run::ran;
+use command_io::{Fault, tell};
 use flat_machine::Config;
 use link::LinkWrite;
 use processor_threads::Gate;
-use run_commands::{reported, save};
+use run_commands::print_run;
 use std::alloc::Global;
 use std::io::{Read, Write};
 use std::sync::Wait;
@@ -51,10 +50,11 @@ pub fn threaded_run_command<
 ) -> u8
     requires works { IsWorking T.has_failed trace.old }
     requires prints { W.has_failed out.old ≡ false }
-    ensures reported { result ≤ 1 → IsPrinted (IsThreadedReport T.contents config (F.remaining file) trace.old trace.new result) (W.contents out.old)
-        (W.contents out.new) }
+    ensures reported { result ≤ 1 → IsPrinted (IsRunReport T.contents (IsThreadedLog config (F.remaining file)) config trace.old trace.new result)
+        (W.contents out.old) (W.contents out.new) }
     ensures told { 2 ≤ result → IsTold W.has_failed Fault.Link ⊥
-        (IsNoThreadedRun T.contents config (F.remaining file) trace.old trace.new (W.contents out.old) (W.contents out.new)) out.old out.new result }
+        (IsNoRun T.contents (IsThreadedLog config (F.remaining file)) (IsNotThreaded config (F.remaining file)) config trace.old trace.new
+        (W.contents out.old) (W.contents out.new)) out.old out.new result }
     ensures failed { W.has_failed out.new ≡ true → result ≡ 3 }
 {
     match carried_out(rt, alloc, file, config, start, gate, budget, trace, out) {
@@ -84,38 +84,16 @@ fn carried_out<
     requires works { IsWorking T.has_failed trace.old }
     requires prints { W.has_failed out.old ≡ false }
     ensures failed { IsErrOf result Fault.Link ↔ (W.has_failed out.new ≡ true) }
-    ensures reported { IfOk result (λ status. IsPrinted (IsThreadedReport T.contents config (F.remaining file) trace.old trace.new status)
+    ensures reported { IfOk result (λ status. IsPrinted
+        (IsRunReport T.contents (IsThreadedLog config (F.remaining file)) config trace.old trace.new status)
         (W.contents out.old) (W.contents out.new)) }
     ensures low { IfOk result (λ status. status ≤ 1) }
-    ensures told { IfErr result (IsNoThreadedRun T.contents config (F.remaining file) trace.old trace.new (W.contents out.old) (W.contents out.new)) }
+    ensures told { IfErr result
+        (IsNoRun T.contents (IsThreadedLog config (F.remaining file)) (IsNotThreaded config (F.remaining file)) config trace.old trace.new
+        (W.contents out.old) (W.contents out.new)) }
     ensures silent { OnErr result (W.has_failed out.new ≡ false → out.new ≡ out.old) }
 {
     let finished = ran(rt, alloc, file, config, start, gate, budget)?;
-    print_run(alloc, &finished, config, trace, out)
-}
-
-/// Writes the trace of a run, where one is asked for, and prints its report.
-// A function of its own, so that none has many values to drop at each of its ends.
-fn print_run<T: LinkWrite, W: LinkWrite>(
-    alloc: Global,
-    finished: &Finished,
-    config: Config,
-    trace: &mut Option<T>,
-    out: &mut W,
-) -> Result<u8, Fault>
-    requires works { IsWorking T.has_failed trace.old }
-    requires prints { W.has_failed out.old ≡ false }
-    requires ran { IsSomeThreaded config finished.now.log (map bytes_of finished.now.consoles.items) }
-    ensures failed { IsErrOf result Fault.Link ↔ (W.has_failed out.new ≡ true) }
-    ensures reported { IfOk result (λ status. (known : Option (List ℕ)) → IsThreaded config known finished.now.log (map bytes_of finished.now.consoles.items)
-        → IsPrinted (IsThreadedReport T.contents config known trace.old trace.new status) (W.contents out.old) (W.contents out.new)) }
-    ensures low { IfOk result (λ status. status ≤ 1) }
-    ensures told { IfErr result (λ fault. (known : Option (List ℕ)) → IsThreaded config known finished.now.log (map bytes_of finished.now.consoles.items)
-        → IsNoThreadedRun T.contents config known trace.old trace.new (W.contents out.old) (W.contents out.new) fault) }
-    ensures silent { OnErr result (W.has_failed out.new ≡ false → out.new ≡ out.old) }
-{
-    let (text, status) = reported(alloc, &finished.log, Some(finished.consoles.as_slice()))?;
-    save(trace, &config, finished.log.steps())?;
-    print(out, text.as_str())?;
-    Ok(status)
+    let consoles = finished.consoles.as_slice();
+    print_run(alloc, &finished.log, Some(consoles), trace, out)
 }

@@ -3,7 +3,7 @@
 ghost use Rattle.std.specs.Prelude.{◌≡◌, ◌^◌, [], IfErr, IfOk, map, vec_len};
 ghost use Rattle.processor_threads.specs.Consoles.{bytes_of};
 ghost use Rattle.threaded_run.specs.Faults.{IsOfRun, fault_of};
-ghost use Rattle.threaded_run.specs.Runs.{HasEnded, IsNotThreaded, IsThreaded};
+ghost use Rattle.threaded_run.specs.Runs.{HasEnded, IsNotThreaded, IsSomeThreaded};
 
 use agreed_rows::Room;
 use command_io::{Fault, image_of};
@@ -43,7 +43,7 @@ pub(crate) fn ran<F: Read + Drop, G: Gate + Sync, R: Threads + Wait + Sync>(
     gate: &G,
     budget: u32,
 ) -> Result<Finished, Fault>
-    ensures ran { IfOk result (λ f. IsThreaded config (F.remaining file) f.log (map bytes_of f.consoles.items)) }
+    ensures ran { IfOk result (λ f. IsSomeThreaded config (F.remaining file) f.log (map bytes_of f.consoles.items)) }
     ensures refused { IfErr result (IsNotThreaded config (F.remaining file)) }
 {
     let image = image_of(alloc, file, &config)?;

@@ -4,7 +4,7 @@ use Rattle.machine_runs.specs.Runs.{IsOpening}
 use Rattle.machine_log.specs.Logs.{Log}
 use Rattle.processor_threads.specs.Consoles.{bytes_of}
 use Rattle.threaded_run.specs.Faults.{IsOfRun}
-use Rattle.threaded_run.specs.Runs.{HasBegun, HasEnded, IsNotThreaded, IsThreaded}
+use Rattle.threaded_run.specs.Runs.{HasBegun, HasEnded, IsNotThreaded, IsSomeThreaded}
 use Rattle.threaded_run.proofs.Logging.{not_threaded, threaded_is}
 use Rattle.threaded_run.proofs.run.ran.Goals as goal
 
@@ -15,8 +15,8 @@ returns-clause-ran g c =
     let opening = c.new-log.result.opening in
     let opens = subst (IsOpening c.args.config image) (sym (ap (λ (l : Log). l.opening) c.new-log.ensures)) c.in_ok-machine_of.ensures.opening in
     IfOk-weaker c.threaded.result (λ f. HasEnded opening f.log (map bytes_of f.consoles.items))
-    (λ f. IsThreaded c.args.config known f.log (map bytes_of f.consoles.items))
-    (λ f ended. threaded_is c.args.config known image c.in_ok-image.ensures.image opening opens f.log (map bytes_of f.consoles.items) ended)
+    (λ f. IsSomeThreaded c.args.config known f.log (map bytes_of f.consoles.items))
+    (λ f ended. (image, threaded_is c.args.config known image c.in_ok-image.ensures.image opening opens f.log (map bytes_of f.consoles.items) ended))
     c.threaded.ensures.ended
 
 pub returns-clause-refused : goal.returns-clause-refused
