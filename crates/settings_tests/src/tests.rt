@@ -11,6 +11,7 @@ mod explore;
 mod hunt;
 mod order;
 mod picture;
+mod refused;
 mod replay;
 mod run;
 
@@ -64,20 +65,6 @@ InvalidSubcommand
 error: unrecognized subcommand 'frob'
 
 Usage: ultra <COMMAND>
-$ ultra words
-MissingRequiredArgument
-error: the following required arguments were not provided:
-  <FILE>
-
-Usage: ultra words <FILE>
-$ ultra words a.hex b.hex
-UnknownArgument
-error: unexpected argument 'b.hex' found
-
-Usage: ultra words <FILE>
-$ ultra words --fast a.hex
-UnknownArgument
-error: unexpected argument '--fast' found
 $ ultra --help
 DisplayHelp
   words    Run a program of hex words on one processor and print its registers
@@ -93,29 +80,6 @@ DisplayHelp
 Run a program of hex words on one processor and print its registers
 
 Usage: ultra words <FILE>
-$ ultra asm a.s
-MissingRequiredArgument
-error: the following required arguments were not provided:
-  <OUT>
-
-Usage: ultra asm <FILE> <OUT>
-$ ultra asm a.s a.elf b.elf
-UnknownArgument
-error: unexpected argument 'b.elf' found
-
-Usage: ultra asm <FILE> <OUT>
-$ ultra dis --words 0 a.elf
-ValueValidation
-error: invalid value '0' for '--words <NUMBER>': 0 is not in 1..=262144
-$ ultra dis a.elf --words=262145
-ValueValidation
-error: invalid value '262145' for '--words <NUMBER>': 262145 is not in 1..=262144
-$ ultra dis a.elf --words 1k
-ValueValidation
-error: invalid value '1k' for '--words <NUMBER>': invalid digit found in string
-$ ultra dis --words 1 --words 2 a.elf
-ArgumentConflict
-error: the argument '--words <NUMBER>' cannot be used multiple times
 $ ultra asm --help
 DisplayHelp
 Exit status: 0 done, 2 a fault of the text or of the command line,\
@@ -127,32 +91,25 @@ DisplayVersion
 ultra 0.1.0
 ";
 
-static CASES: [&str; 28] = [
+static CASES: [&str; 21] = [
     TAKEN,
     REFUSED,
     run::TAKEN,
     run::REFUSED,
     run::HELP,
     replay::TAKEN,
-    replay::REFUSED,
     replay::HELP,
     explain::TAKEN,
-    explain::REFUSED,
     explain::HELP,
     order::TAKEN,
-    order::REFUSED,
     order::HELP,
     debug::TAKEN,
-    debug::REFUSED,
     debug::HELP,
     explore::TAKEN,
-    explore::REFUSED,
     explore::HELP,
     hunt::TAKEN,
-    hunt::REFUSED,
     hunt::HELP,
     check::TAKEN,
-    check::REFUSED,
     check::HELP,
     picture::TAKEN,
     picture::REFUSED,
@@ -201,11 +158,32 @@ fn compare_all(rt: &(impl Abort + AllocGlobal), cases: &str) -> bool {
     is_ample
 }
 
+/// Compares the answer of a case that was made. Whether there was memory for both.
+fn compare_made(rt: &(impl Abort + AllocGlobal), case: Result<String, AllocError>) -> bool {
+    match case {
+        Ok(case) => compare(rt, case.as_str()).is_ok(),
+        Err(_) => false,
+    }
+}
+
+/// Compares the answers to words that change one thing of a run. Whether there was memory for each.
+fn compare_changed(rt: &(impl Abort + AllocGlobal)) -> bool {
+    let mut is_ample = true;
+    for (words, old, new) in &run::CHANGED {
+        let (before, behind) = run::PLAIN.split_once(*old).expect(rt, "the part");
+        let case = format!(in rt.alloc(); "ultra {words}\n{before}{new}{behind}\n");
+        is_ample &= compare_made(rt, case);
+    }
+    is_ample
+}
+
 #[test]
 fn words_have_their_answers(rt: HostRuntime) {
     for cases in &CASES {
         assert!(rt; compare_all(&rt, cases));
     }
+    assert!(rt; refused::compare_all(&rt));
+    assert!(rt; compare_changed(&rt));
 }
 
 /// Each allocation of this test is to be refused in turn. Then the answer is the same, its text too, or it is that memory
@@ -215,4 +193,6 @@ fn is_short_of_memory(rt: HostRuntime) {
     for cases in &CASES {
         compare_all(&rt, cases);
     }
+    refused::compare_all(&rt);
+    compare_changed(&rt);
 }

@@ -7,24 +7,6 @@ $ ultra check -- --a
 Check(Check { file: "--a" })
 "#;
 
-/// What is wrong in other words.
-pub const REFUSED: &str = "\
-$ ultra check
-MissingRequiredArgument
-error: the following required arguments were not provided:
-  <FILE>
-
-Usage: ultra check <FILE>
-$ ultra check a.s a.elf
-UnknownArgument
-error: unexpected argument 'a.elf' found
-
-Usage: ultra check <FILE>
-$ ultra check --words 7 a.s
-UnknownArgument
-error: unexpected argument '--words' found
-";
-
 /// Parts of the help.
 pub const HELP: &str = "\
 $ ultra check --help

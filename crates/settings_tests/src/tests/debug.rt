@@ -9,34 +9,6 @@ $ ultra debug a.elf --port=65535 --k 0 --c 16 --b 0 --r 2 --words 262144 --budge
 Debug(Session { file: "a.elf", sizes: Sizes { k: 0, c: 16, b: 0, r: 2, words: 262144 }, budget: 1, port: 65535 })
 "#;
 
-/// What is wrong in other words.
-pub const REFUSED: &str = "\
-$ ultra debug
-MissingRequiredArgument
-error: the following required arguments were not provided:
-  <FILE>
-
-Usage: ultra debug <FILE>
-$ ultra debug a.elf --port 0
-ValueValidation
-error: invalid value '0' for '--port <NUMBER>': 0 is not in 1..=65535
-$ ultra debug a.elf --port 65536
-ValueValidation
-error: invalid value '65536' for '--port <NUMBER>': 65536 is not in 1..=65535
-$ ultra debug a.elf --budget 0
-ValueValidation
-error: invalid value '0' for '--budget <NUMBER>': 0 is not in 1..=4000000
-$ ultra debug a.elf --budget 4000001
-ValueValidation
-error: invalid value '4000001' for '--budget <NUMBER>': 4000001 is not in 1..=4000000
-$ ultra debug a.elf --k 7
-ValueValidation
-error: invalid value '7' for '--k <NUMBER>': 7 is not in 0..=6
-$ ultra debug a.elf --start 1
-UnknownArgument
-error: unexpected argument '--start' found
-";
-
 /// Parts of the help.
 pub const HELP: &str = "\
 $ ultra debug --help

@@ -13,21 +13,6 @@ $ ultra explain -- --words
 Explain(Explain { code: Some("--words") })
 "#;
 
-/// What is wrong in other words.
-pub const REFUSED: &str = "\
-$ ultra explain A3 A4
-UnknownArgument
-error: unexpected argument 'A4' found
-
-Usage: ultra explain [CODE]
-$ ultra explain --all
-UnknownArgument
-error: unexpected argument '--all' found
-$ ultra explain --words 1
-UnknownArgument
-error: unexpected argument '--words' found
-";
-
 /// Parts of the help.
 pub const HELP: &str = "\
 $ ultra explain --help

@@ -15,43 +15,6 @@ $ ultra explore --trace=t a --witness=4294967295 --quiet --states 9
 Explore(Explore { file: "a", trace: Some("t"), quiet: true, sizes: Sizes { k: 2, c: 4, b: 4, r: 1, words: 1024 }, states: 9, witness: Some(4294967295) })
 "#;
 
-/// What is wrong in other words.
-pub const REFUSED: &str = "\
-$ ultra explore
-MissingRequiredArgument
-error: the following required arguments were not provided:
-  <FILE>
-
-Usage: ultra explore <FILE>
-$ ultra explore a.elf --states 0
-ValueValidation
-error: invalid value '0' for '--states <NUMBER>': 0 is not in 1..=4294967295
-$ ultra explore a.elf --states 4294967296
-ValueValidation
-error: invalid value '4294967296' for '--states <NUMBER>': 4294967296 is not in 1..=4294967295
-$ ultra explore a.elf --states 1 --states 1
-ArgumentConflict
-error: the argument '--states <NUMBER>' cannot be used multiple times
-$ ultra explore a.elf --witness 4294967296 --trace t
-ValueValidation
-error: invalid value '4294967296' for '--witness <NUMBER>': 4294967296 is not in 0..=4294967295
-$ ultra explore a.elf --witness=-1 --trace t
-ValueValidation
-error: invalid value '-1' for '--witness <NUMBER>': -1 is not in 0..=4294967295
-$ ultra explore a.elf --witness 1 --witness 2 --trace t
-ArgumentConflict
-error: the argument '--witness <NUMBER>' cannot be used multiple times
-$ ultra explore a.elf --trace
-InvalidValue
-error: a value is required for '--trace <OUT>' but none was supplied
-$ ultra explore a.elf --k 7
-ValueValidation
-error: invalid value '7' for '--k <NUMBER>': 7 is not in 0..=6
-$ ultra explore a.elf --budget 1
-UnknownArgument
-error: unexpected argument '--budget' found
-";
-
 /// Parts of the help.
 pub const HELP: &str = "\
 $ ultra explore --help

@@ -11,31 +11,6 @@ $ ultra hunt a.elf --runs=1000000 --start=4294967295 --k 1 --c 2 --b 0 --words 7
 Hunt(Hunt { file: "a.elf", trace: None, sizes: Sizes { k: 1, c: 2, b: 0, r: 1, words: 7 }, budget: 1, runs: 1000000, start: 4294967295 })
 "#;
 
-/// What is wrong in other words.
-pub const REFUSED: &str = "\
-$ ultra hunt
-MissingRequiredArgument
-error: the following required arguments were not provided:
-  <FILE>
-
-Usage: ultra hunt <FILE>
-$ ultra hunt a.elf --runs 0
-ValueValidation
-error: invalid value '0' for '--runs <NUMBER>': 0 is not in 1..=1000000
-$ ultra hunt a.elf --runs 1000001
-ValueValidation
-error: invalid value '1000001' for '--runs <NUMBER>': 1000001 is not in 1..=1000000
-$ ultra hunt a.elf --budget 4000001
-ValueValidation
-error: invalid value '4000001' for '--budget <NUMBER>': 4000001 is not in 1..=4000000
-$ ultra hunt a.elf --start=-1
-ValueValidation
-error: invalid value '-1' for '--start <NUMBER>': -1 is not in 0..=4294967295
-$ ultra hunt a.elf --sweep
-UnknownArgument
-error: unexpected argument '--sweep' found
-";
-
 /// Parts of the help.
 pub const HELP: &str = "\
 $ ultra hunt --help

@@ -11,24 +11,9 @@ Picture(Picture { replay: Replay { trace: "a.trace", file: "a.elf", words: 7 }, 
 
 /// What is wrong in other words, and parts of the help.
 pub const REFUSED: &str = "\
-$ ultra picture a.trace
-MissingRequiredArgument
-error: the following required arguments were not provided:
-  <FILE>
-
-Usage: ultra picture <TRACE> <FILE>
 $ ultra picture a.trace a.elf --step 4294967296
 ValueValidation
 error: invalid value '4294967296' for '--step <NUMBER>'\
-$ ultra picture a.trace a.elf --step last
-ValueValidation
-error: invalid value 'last' for '--step <NUMBER>': invalid digit found in string
-$ ultra picture a.trace a.elf --step
-InvalidValue
-error: a value is required for '--step <NUMBER>' but none was supplied
-$ ultra picture --step 1 a.trace --step 1 a.elf
-ArgumentConflict
-error: the argument '--step <NUMBER>' cannot be used multiple times
 $ ultra picture --help
 DisplayHelp
 Usage: ultra picture [OPTIONS] <TRACE> <FILE>
