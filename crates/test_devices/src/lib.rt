@@ -1,19 +1,26 @@
-//! Devices for tests: they take or give one byte at a call, fail at one call, or have no end or no room. Beside them an image,
-//! programs and traces.
+//! Devices for tests: they take or give one byte at a call, fail at one call, or have no end or no room. Beside them what a command
+//! comes to on such devices, what a layout places as a text, an image, programs and traces.
 #![tactic(auto)]
 
 mod assert_same;
 mod image;
+mod layout;
 mod programs;
+mod ran;
 mod sink;
 mod source;
 mod trace;
+mod words;
 
-pub use image::EBREAK;
+pub use image::{EBREAK, with_bytes};
+pub use layout::layout_text;
+pub use link::{Link, Meter};
 pub use programs::{ADD_AT_X12, HUNDRED_ADDS};
-pub use sink::{Deaf, Full, Sink};
+pub use ran::Ran;
+pub use sink::{Deaf, Full, Sink, Taken};
 pub use source::{Broken, Endless, Source};
 pub use trace::{FOUR_ADDS, ONE_TURN, trace_of};
+pub use words::{Words, asked_and_wanted, low, read_words, said};
 
 #[cfg(test)]
 mod tests;

@@ -7,6 +7,18 @@ ghost use Rattle.std.specs.Io.KnownBytes.{Keeps, WriteAppends};
 use std::io;
 use std::io::{ErrorKind, Write};
 
+/// A writer that shows what it has taken.
+pub trait Taken {
+    /// The bytes that it has taken.
+    fn taken(&self) -> &[u8];
+}
+
+impl Taken for Vec<u8> {
+    fn taken(&self) -> &[u8] {
+        self.as_slice()
+    }
+}
+
 /// Takes one byte at a call, and fails at one call.
 #[derive(Drop)]
 pub struct Sink {
@@ -57,6 +69,12 @@ impl Write for Sink {
     }
 }
 
+impl Taken for Sink {
+    fn taken(&self) -> &[u8] {
+        self.bytes.as_slice()
+    }
+}
+
 /// A device that takes no byte, and reports no error.
 #[derive(Drop)]
 pub struct Deaf;
@@ -73,6 +91,12 @@ impl Write for Deaf {
     }
 }
 
+impl Taken for Deaf {
+    fn taken(&self) -> &[u8] {
+        &[]
+    }
+}
+
 /// A device on which there is no room.
 #[derive(Drop)]
 pub struct Full;
@@ -84,5 +108,11 @@ impl Write for Full {
 
     fn flush(&mut self) -> io::Result<()> {
         Ok(())
+    }
+}
+
+impl Taken for Full {
+    fn taken(&self) -> &[u8] {
+        &[]
     }
 }
