@@ -1,8 +1,6 @@
 //! Images by hand: the 88 bytes of one instruction, with each field changed, and files of several
 //! segments.
 
-ghost use Rattle.std.specs.Prelude.{◌≡◌, ◌<◌, ◌≤◌, ◌+◌, length};
-
 mod accepting;
 mod devices;
 mod linked;
@@ -13,24 +11,15 @@ mod writing;
 use elf_image::{Bytes, Image, ImageError, Layout, read_image};
 use flat_machine::Config;
 use link::Meter;
-use std::alloc::{AllocError, Global};
-use std::test::Fail;
-use test_devices::{EBREAK, assert_same};
+use std::alloc::{AllocError, AllocGlobal, Global};
+use std::process::Abort;
+use test_devices::{EBREAK, assert_same, layout_text, with_bytes};
 
-/// A segment of a file that is made for a test: its fields, with its bytes at `p_offset`.
-#[derive(Clone, Copy)]
-struct Part {
-    p_vaddr: u32,
-    p_offset: u32,
-    p_filesz: u32,
-    p_memsz: u32,
-    p_flags: u32,
-}
+/// A segment of a file that is made for a test: its `p_vaddr`, `p_offset`, `p_filesz`, `p_memsz` and `p_flags`.
+type Part = (u32, u32, u32, u32, u32);
 
 /// The size of a machine with so many shared words.
-fn config(shared_words: u32) -> Config
-    ensures { result.shared_words ≡ shared_words }
-{
+fn config(shared_words: u32) -> Config {
     Config {
         k: 0,
         c: 2,
@@ -42,8 +31,13 @@ fn config(shared_words: u32) -> Config
 
 /// What is read of a file.
 fn read(alloc: Global, file: &[u8], shared_words: u32) -> Result<Image, ImageError> {
-    let mut reader = Meter::new(file);
-    read_image(alloc, &mut reader, &config(shared_words))
+    read_image(alloc, &mut Meter::new(file), &config(shared_words))
+}
+
+/// Compares what is told of a file.
+fn compare(rt: &(impl Abort + AllocGlobal), file: &[u8], shared_words: u32, wanted: &str) {
+    let text = told(rt.alloc(), file, shared_words).expect(rt, "memory");
+    assert_same!(rt; text.as_str(), wanted);
 }
 
 /// The error that a file gives; none where it is accepted.
@@ -51,37 +45,53 @@ fn refusal(alloc: Global, file: &[u8], shared_words: u32) -> Option<ImageError> 
     read(alloc, file, shared_words).err()
 }
 
-/// The image of EBREAK with other bytes from a place on.
-fn changed(place: usize, bytes: &[u8]) -> [u8; 88]
-    requires { place + length bytes.now ≤ 88 }
-{
-    with(EBREAK, place, bytes)
+/// What is told of a file: its refusal, or what it places.
+fn told(alloc: Global, file: &[u8], shared_words: u32) -> Result<String, AllocError> {
+    told_of(alloc, read(alloc, file, shared_words))
 }
 
-/// A file with other bytes from a place on.
-fn with(mut file: [u8; 88], place: usize, bytes: &[u8]) -> [u8; 88]
-    requires { place + length bytes.now ≤ 88 }
-{
-    file[place..place + bytes.len()].copy_from_slice(bytes);
-    file
+/// What is told of an image that is read.
+fn told_of(alloc: Global, read: Result<Image, ImageError>) -> Result<String, AllocError> {
+    match read {
+        Ok(image) => layout_text(alloc, image.layout()),
+        Err(error) => format!(in alloc; "{error}"),
+    }
+}
+
+/// A layout with these bytes.
+fn layout_of(
+    alloc: Global,
+    code: &[u8],
+    local: &[u8],
+    shared: &[u8],
+) -> Result<Layout, AllocError> {
+    let code = bytes_of(alloc, code)?;
+    let local = bytes_of(alloc, local)?;
+    let shared = bytes_of(alloc, shared)?;
+    Ok(Layout {
+        entry: 0x0001_0000,
+        code,
+        local,
+        shared,
+    })
+}
+
+fn bytes_of(alloc: Global, bytes: &[u8]) -> Result<Bytes, AllocError> {
+    Ok(Bytes::from_vec(Vec::from_slice(alloc, bytes)?))
+}
+
+/// The image of EBREAK with other bytes from a place on.
+fn changed(place: usize, bytes: &[u8]) -> [u8; 88] {
+    with_bytes(EBREAK, place, bytes)
 }
 
 /// A file with these segments, and these bytes after its headers. The entry is 0x00010000.
-fn file_of(alloc: Global, parts: &[Part], bytes: &[u8]) -> Result<Vec<u8>, AllocError>
-    requires { length parts.now < 256 }
-{
-    let mut file = Vec::from_slice(alloc, &EBREAK[..52])?;
-    file[44] = parts.len() as u8;
-    for part in parts {
+fn file_of(alloc: Global, parts: &[Part], bytes: &[u8]) -> Result<Vec<u8>, AllocError> {
+    let mut file = Vec::from_slice(alloc, &EBREAK[..44])?;
+    file.extend_from_slice(&[parts.len().min(255) as u8, 0, 0, 0, 0, 0, 0, 0])?;
+    for (p_vaddr, p_offset, p_filesz, p_memsz, p_flags) in parts {
         for field in [
-            1,
-            part.p_offset,
-            part.p_vaddr,
-            part.p_vaddr,
-            part.p_filesz,
-            part.p_memsz,
-            part.p_flags,
-            1,
+            1, *p_offset, *p_vaddr, *p_vaddr, *p_filesz, *p_memsz, *p_flags, 1,
         ] {
             file.extend_from_slice(&field.to_le_bytes())?;
         }
@@ -90,28 +100,39 @@ fn file_of(alloc: Global, parts: &[Part], bytes: &[u8]) -> Result<Vec<u8>, Alloc
     Ok(file)
 }
 
-#[test]
-fn bytes_are_added_behind_the_last(rt: HostRuntime) -> Result<(), Fail> {
-    let mut bytes = Bytes::new(rt.alloc());
-    assert!(rt; bytes.is_empty());
+/// The error that a file of these segments gives, without bytes after its headers.
+fn refusal_of(
+    alloc: Global,
+    parts: &[Part],
+    shared_words: u32,
+) -> Result<Option<ImageError>, AllocError> {
+    let file = file_of(alloc, parts, &[])?;
+    Ok(refusal(alloc, file.as_slice(), shared_words))
+}
+
+/// Bytes that are added one by one, from a slice and by their count.
+fn added(alloc: Global) -> Result<Bytes, AllocError> {
+    let mut bytes = Bytes::new(alloc);
     bytes.push(7)?;
     bytes.extend_from_slice(&[8, 9])?;
     bytes.extend_by(0, 2)?;
-    assert_same!(rt; bytes.as_slice(), [7, 8, 9, 0, 0].as_slice());
-    assert_same!(rt; bytes.len(), 5);
-    Ok(())
+    Ok(bytes)
 }
 
 #[test]
-fn a_layout_keeps_its_parts(rt: HostRuntime) -> Result<(), Fail> {
-    let layout = Layout {
-        entry: 0x0001_0000,
-        code: Bytes::from_vec(vec![in rt.alloc(); 0x73, 0, 0x10, 0]?),
-        local: Bytes::new(rt.alloc()),
-        shared: Bytes::new(rt.alloc()),
-    };
-    assert_same!(rt; layout.entry, 0x0001_0000);
-    assert_same!(rt; layout.code.as_slice(), [0x73, 0, 0x10, 0].as_slice());
-    assert_same!(rt; layout.local.len() + layout.shared.len(), 0);
-    Ok(())
+fn bytes_are_added_behind_the_last(rt: HostRuntime) {
+    assert!(rt; Bytes::new(rt.alloc()).is_empty());
+    let bytes = added(rt.alloc()).expect(&rt, "memory");
+    assert_same!(rt; (bytes.as_slice(), bytes.len()), ([7, 8, 9, 0, 0].as_slice(), 5));
+}
+
+/// What is told of a layout of one instruction.
+fn one_instruction(alloc: Global) -> Result<String, AllocError> {
+    layout_text(alloc, &layout_of(alloc, &[0x73, 0, 0x10, 0], &[], &[])?)
+}
+
+#[test]
+fn a_layout_keeps_its_parts(rt: HostRuntime) {
+    let text = one_instruction(rt.alloc()).expect(&rt, "memory");
+    assert_same!(rt; text.as_str(), "00100073");
 }

@@ -3,9 +3,10 @@
 ghost use Rattle.std.specs.Prelude.{◌≡◌, false};
 
 use link::{Failed, Link, LinkRead, LinkWrite, Meter, ReadError, fill, read_within, write_whole};
+use std::alloc::{AllocGlobal, Global};
 use std::io;
 use std::io::{ErrorKind, Read, Write};
-use std::test::Fail;
+use std::process::Abort;
 use test_devices::{Sink, Source, assert_same};
 
 /// A sink that is interrupted where it fails, or that takes no byte there and has no flush.
@@ -34,50 +35,48 @@ impl Write for Fickle {
     }
 }
 
-fn metered_sink(rt: &HostRuntime, fails_at: usize, is_quiet: bool) -> Meter<Fickle>
+fn metered_sink(alloc: Global, fails_at: usize, is_quiet: bool) -> Meter<Fickle>
     ensures { ⟦<Meter<Fickle> as Link>⟧.has_failed result ≡ false }
 {
     Meter::new(Fickle {
-        sink: Sink::new(Vec::new(rt.alloc()), fails_at),
+        sink: Sink::new(Vec::new(alloc), fails_at),
         is_quiet,
     })
 }
 
 /// The five bytes take five calls, and the sixth tells that there are no more.
 #[test]
-fn reads_to_the_end_or_fails(rt: HostRuntime) -> Result<(), Fail> {
+fn reads_to_the_end_or_fails(rt: HostRuntime) {
     for fails_at in 0..8 {
         let mut reader = Meter::new(Source::new(b"hello", fails_at));
         let read = read_within(rt.alloc(), &mut reader, 5);
-        let fails = 1 <= fails_at && fails_at <= 6;
-        assert_same!(rt; reader.failed(), fails, fails_at);
-        match read {
-            Ok(bytes) => {
-                assert!(rt; !fails, "call {fails_at}");
-                assert_same!(rt; bytes.as_slice(), b"hello".as_slice());
-            }
-            Err(error) => {
-                assert!(rt; fails, "call {fails_at}");
-                assert_same!(rt; error, ReadError::Link);
-            }
-        }
+        let found = match &read {
+            Ok(bytes) => (bytes.as_slice(), None, reader.failed()),
+            Err(error) => (&[][..], Some(*error), reader.failed()),
+        };
+        let wanted = match fails_at {
+            1..=6 => (&[][..], Some(ReadError::Link), true),
+            _ => (b"hello".as_slice(), None, false),
+        };
+        assert_same!(rt; found, wanted, fails_at);
     }
-    Ok(())
 }
 
 /// A byte past the limit is read, and no more.
 #[test]
-fn does_not_read_a_long_input_to_its_end(rt: HostRuntime) -> Result<(), Fail> {
+fn does_not_read_a_long_input_to_its_end(rt: HostRuntime) {
     let mut reader = Meter::new(Source::new(b"hello, world", 0));
     let read = read_within(rt.alloc(), &mut reader, 4);
-    assert_same!(rt; read.err(), Some(ReadError::TooLong));
-    assert!(rt; !reader.failed());
+    assert_same!(rt; (read.err(), reader.failed()), (Some(ReadError::TooLong), false));
     assert_same!(rt; reader.device.bytes, b", world".as_slice());
+}
+
+/// An input may be as long as the limit.
+#[test]
+fn reads_a_long_input(rt: HostRuntime) {
     let mut all: &[u8] = &[7; 10_000];
-    let mut reader = Meter::new(&mut all);
-    let bytes = read_within(rt.alloc(), &mut reader, 10_000);
-    assert_same!(rt; bytes.map(|b| b.len()), Ok(10_000));
-    Ok(())
+    let read = read_within(rt.alloc(), &mut Meter::new(&mut all), 10_000);
+    assert_same!(rt; read.map_or(0, |bytes| bytes.len()), 10_000);
 }
 
 /// After a failure the device is not called again.
@@ -85,13 +84,11 @@ fn does_not_read_a_long_input_to_its_end(rt: HostRuntime) -> Result<(), Fail> {
 fn a_failed_reader_has_ended(rt: HostRuntime) {
     let mut reader = Meter::new(Source::new(b"hello", 2));
     let mut buf = [0u8; 4];
-    assert_same!(rt; reader.receive(&mut buf), Ok(1));
-    assert_same!(rt; buf[0], b'h');
-    assert_same!(rt; reader.read(&mut buf).is_err(), true);
-    assert!(rt; reader.failed());
-    assert_same!(rt; reader.device.calls, 2);
-    assert!(rt; reader.read(&mut buf).is_err());
-    assert_same!(rt; reader.device.calls, 2);
+    assert_same!(rt; (reader.receive(&mut buf), buf[0]), (Ok(1), b'h'));
+    for _ in 0..2 {
+        assert!(rt; reader.read(&mut buf).is_err());
+        assert_same!(rt; (reader.failed(), reader.device.calls), (true, 2));
+    }
 }
 
 /// Four bytes of the six and then the other two, where no call fails. The first four calls are for
@@ -102,22 +99,22 @@ fn fills_buffers(rt: HostRuntime) {
         let mut reader = Meter::new(Source::new(b"hello!", fails_at));
         let mut buf = [0u8; 4];
         let filled = fill(&mut reader, &mut buf);
-        if 1 <= fails_at && fails_at <= 4 {
-            assert_same!(rt; filled, Err(Failed), fails_at);
-            assert!(rt; reader.failed());
+        let wanted = match fails_at {
+            1..=4 => (Err(Failed), true),
+            _ => (Ok(4), false),
+        };
+        assert_same!(rt; (filled, reader.failed()), wanted, fails_at);
+        if filled.is_err() {
             continue;
         }
-        assert!(rt; filled == Ok(4), "call {fails_at}");
         assert!(rt; buf == *b"hell");
         let filled = fill(&mut reader, &mut buf);
-        if 5 <= fails_at && fails_at <= 7 {
-            assert_same!(rt; filled, Err(Failed), fails_at);
-            assert!(rt; reader.failed());
-        } else {
-            assert_same!(rt; filled, Ok(2), fails_at);
-            assert!(rt; buf == *b"o!ll");
-            assert!(rt; !reader.failed());
-        }
+        let wanted = match fails_at {
+            5..=7 => (Err(Failed), true),
+            _ => (Ok(2), false),
+        };
+        assert_same!(rt; (filled, reader.failed()), wanted, fails_at);
+        assert!(rt; filled.is_err() || buf == *b"o!ll");
     }
 }
 
@@ -126,34 +123,43 @@ fn fills_buffers(rt: HostRuntime) {
 fn writes_a_beginning(rt: HostRuntime) {
     for fails_at in 0..8 {
         for is_quiet in [false, true] {
-            let mut writer = metered_sink(&rt, fails_at, is_quiet);
-            let wrote = write_whole(&mut writer, b"hello");
-            let fails = 1 <= fails_at && fails_at <= 5;
-            assert_same!(rt; wrote.is_err(), fails, fails_at);
-            assert_same!(rt; writer.failed(), fails, fails_at);
-            let count = if fails { fails_at - 1 } else { 5 };
-            assert_same!(rt; writer.device.sink.bytes.as_slice(), &b"hello"[..count]);
-            if fails {
-                assert!(rt; writer.write(b"!").is_err());
-                assert!(rt; writer.flush().is_err());
-                assert_same!(rt; writer.device.sink.bytes.len(), count);
-            }
+            compare_beginning(&rt, fails_at, is_quiet);
         }
     }
 }
 
-/// A failed flush counts, and a write of no byte does where there was one to write.
+fn compare_beginning(rt: &(impl Abort + AllocGlobal), fails_at: usize, is_quiet: bool) {
+    let mut writer = metered_sink(rt.alloc(), fails_at, is_quiet);
+    let wrote = write_whole(&mut writer, b"hello");
+    let (text, fails) = match fails_at {
+        1..=5 => (&b"hello"[..fails_at - 1], true),
+        _ => (b"hello".as_slice(), false),
+    };
+    let found = (
+        writer.device.sink.bytes.as_slice(),
+        wrote.is_err(),
+        writer.failed(),
+    );
+    assert_same!(rt; found, (text, fails, fails), fails_at);
+    if fails {
+        assert!(rt; writer.write(b"!").is_err() && writer.flush().is_err());
+        assert_same!(rt; writer.device.sink.bytes.as_slice(), text);
+    }
+}
+
+/// A write of no byte is no failure where there was none to write.
 #[test]
-fn flushes_and_empty_writes(rt: HostRuntime) {
-    let mut writer = metered_sink(&rt, 0, false);
-    assert_same!(rt; write_whole(&mut writer, b""), Ok(()));
-    assert_same!(rt; writer.device.sink.calls, 0);
+fn empty_writes(rt: HostRuntime) {
+    let mut writer = metered_sink(rt.alloc(), 0, false);
+    assert_same!(rt; (write_whole(&mut writer, b""), writer.device.sink.calls), (Ok(()), 0));
     assert!(rt; writer.write(b"").is_ok());
     assert_same!(rt; writer.send(b"ab"), Ok(1));
-    assert!(rt; writer.flush().is_ok());
-    assert!(rt; !writer.failed());
-    let mut writer = metered_sink(&rt, 0, true);
-    assert!(rt; writer.flush().is_err());
-    assert!(rt; writer.failed());
-    assert!(rt; writer.write(b"a").is_err());
+    assert!(rt; writer.flush().is_ok() && !writer.failed());
+}
+
+/// A failed flush counts.
+#[test]
+fn failed_flushes(rt: HostRuntime) {
+    let mut writer = metered_sink(rt.alloc(), 0, true);
+    assert!(rt; writer.flush().is_err() && writer.failed() && writer.write(b"a").is_err());
 }

@@ -1,19 +1,14 @@
 //! Each allocation of these tests is to be refused in turn. Then a call tells that there is no memory, which ends the test, or its answer
 //! is that of ample memory.
 
-use elf_image::{Bytes, read_image};
+use elf_image::{Bytes, Image, ImageError, read_image};
 use flat_machine::Config;
 use link::{Meter, read_within};
+use std::alloc::{AllocError, Global};
 use std::test::Fail;
 use steps::Step;
-use test_devices::{EBREAK, assert_same};
+use test_devices::{EBREAK, ONE_TURN, assert_same, layout_text};
 use trace_file::read_trace;
-
-/// The trace of one turn of the one processor, on a machine with `c` and `b` of 4.
-static ONE_TURN: [u8; 24] = [
-    0x55, 0x4C, 0x54, 0x52, 1, 0, 4, 4, 1, 0, 0, 0, // the header
-    1, 0, 0, 0, 0, 0, 0, 0, 0, 0, 0, 0, // the record
-];
 
 /// The machine for which the image is read.
 const ONE: Config = Config {
@@ -24,16 +19,39 @@ const ONE: Config = Config {
     shared_words: 1024,
 };
 
-#[test]
-fn image_is_short_of_memory(rt: HostRuntime) -> Result<(), Fail> {
-    let mut code = Bytes::new(rt.alloc());
+/// A copy of the code of EBREAK.
+fn code(alloc: Global) -> Result<Bytes, AllocError> {
+    let mut code = Bytes::new(alloc);
     code.push(0x73)?;
     code.extend_from_slice(&[0, 0x10])?;
     code.extend_by(0, 1)?;
-    let image = read_image(rt.alloc(), &mut Meter::new(EBREAK.as_slice()), &ONE)?;
-    let image = image.copy(rt.alloc())?;
-    let layout = image.layout().copy(rt.alloc())?;
-    assert_same!(rt; layout.code.as_slice(), code.copy(rt.alloc())?.as_slice());
+    code.copy(alloc)
+}
+
+#[test]
+fn code_is_short_of_memory(rt: HostRuntime) -> Result<(), Fail> {
+    let code = code(rt.alloc())?;
+    assert_same!(rt; code.as_slice(), [0x73, 0, 0x10, 0].as_slice());
+    Ok(())
+}
+
+/// A copy of the image of EBREAK.
+fn image(alloc: Global) -> Result<Image, ImageError> {
+    let image = read_image(alloc, &mut Meter::new(EBREAK.as_slice()), &ONE)?;
+    image.copy(alloc)
+}
+
+/// What is told of a copy of an image's layout.
+fn told(alloc: Global, image: &Image) -> Result<String, AllocError> {
+    let layout = image.layout().copy(alloc)?;
+    layout_text(alloc, &layout)
+}
+
+#[test]
+fn image_is_short_of_memory(rt: HostRuntime) -> Result<(), Fail> {
+    let image = image(rt.alloc())?;
+    let text = told(rt.alloc(), &image)?;
+    assert_same!(rt; text.as_str(), "00100073");
     Ok(())
 }
 

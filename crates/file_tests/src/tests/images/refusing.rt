@@ -1,9 +1,12 @@
 //! Refusals, each by its cause, and their order.
 
-use super::{Part, changed, file_of, refusal, with};
-use elf_image::ImageError;
-use std::test::Fail;
-use test_devices::{EBREAK, assert_same};
+use super::{Part, changed, file_of, refusal, refusal_of};
+use elf_image::ImageError::{
+    self, Entry, NotExecutable, OutsideInput, OutsideRegions, Overlap, TooLong, Truncated,
+    UnsupportedHeader,
+};
+use std::alloc::{AllocError, Global};
+use test_devices::{EBREAK, assert_same, with_bytes};
 
 /// Cut to under 84 bytes it has no whole program header, and to under 88 not all of its segment.
 #[test]
@@ -11,8 +14,8 @@ fn cut_short(rt: HostRuntime) {
     for length in 0..89usize {
         let expected = match length {
             88 => None,
-            84..88 => Some(ImageError::OutsideInput),
-            _ => Some(ImageError::Truncated),
+            84..88 => Some(OutsideInput),
+            _ => Some(Truncated),
         };
         let refused = refusal(rt.alloc(), &EBREAK[..length], 1024);
         assert_same!(rt; refused, expected, length);
@@ -23,220 +26,219 @@ fn cut_short(rt: HostRuntime) {
 #[test]
 fn identification(rt: HostRuntime) {
     for place in 0..7usize {
-        let file = changed(place, &[0x80]);
-        let refused = refusal(rt.alloc(), &file, 1024);
-        assert_same!(rt; refused, Some(ImageError::NotExecutable), place);
+        let refused = refusal(rt.alloc(), &changed(place, &[0x80]), 1024);
+        assert_same!(rt; refused, Some(NotExecutable), place);
     }
 }
 
-/// Each field of the ELF header, wrong by itself, at its offset.
+/// Each field of the ELF header and of the program header, wrong by itself.
 #[test]
-fn file_header_fields(rt: HostRuntime) {
-    for (place, number, expected) in [
-        (16, 1u32, ImageError::NotExecutable),
-        (16, 0x0102, ImageError::NotExecutable),
-        (18, 62, ImageError::NotExecutable),
-        (20, 0, ImageError::UnsupportedHeader),
-        (20, 0x0100_0001, ImageError::UnsupportedHeader),
-        (24, 0x0000_FFFC, ImageError::Entry),
-        (24, 0x0001_0002, ImageError::Entry),
-        (24, 0x0001_0001, ImageError::Entry),
-        (24, 0x0002_0000, ImageError::Entry),
-        (24, 0x8000_0000, ImageError::Entry),
-        (28, 57, ImageError::Truncated),
-        (28, 0xFFFF_FFFF, ImageError::Truncated),
-        (28, 0xFFFF_FFE0, ImageError::Truncated),
-        (36, 1, ImageError::UnsupportedHeader),
-        (36, 0x8000_0000, ImageError::UnsupportedHeader),
-        (40, 0x0020_0033, ImageError::UnsupportedHeader),
-        (40, 0x0020_0134, ImageError::UnsupportedHeader),
-        (42, 0x0001_0028, ImageError::UnsupportedHeader),
-        (44, 0, ImageError::UnsupportedHeader),
-        (44, 2, ImageError::Truncated),
-        (44, 16, ImageError::Truncated),
-        (44, 17, ImageError::UnsupportedHeader),
-        (44, 0x0101, ImageError::UnsupportedHeader),
-    ] {
-        assert!(rt; place <= 84);
-        let file = changed(place, &number.to_le_bytes());
-        let refused = refusal(rt.alloc(), &file, 1024);
-        assert_same!(rt; refused, Some(expected), (&number, &place));
+fn header_fields(rt: HostRuntime) {
+    for (place, number, expected) in FILE_HEADER.iter().chain(&PROGRAM_HEADER) {
+        let refused = refusal(rt.alloc(), &changed(*place, &number.to_le_bytes()), 1024);
+        assert_same!(rt; refused, Some(*expected), (number, place));
     }
 }
 
-/// Each field of the program header, wrong by itself, at its offset.
-#[test]
-fn program_header_fields(rt: HostRuntime) {
-    for (place, number, expected) in [
-        (56, 85u32, ImageError::OutsideInput),
-        (56, 0xFFFF_FFFF, ImageError::OutsideInput),
-        (56, 0xFFFF_FFFC, ImageError::OutsideInput),
-        (60, 0x0000_FFFF, ImageError::OutsideRegions),
-        (60, 0x0001_FFFD, ImageError::OutsideRegions),
-        (60, 0x0002_0000, ImageError::OutsideRegions),
-        (60, 0x0003_0000, ImageError::OutsideRegions),
-        (60, 0, ImageError::OutsideRegions),
-        (68, 5, ImageError::OutsideInput),
-        (68, 0xFFFF_FFFF, ImageError::OutsideInput),
-        (72, 3, ImageError::OutsideInput),
-        (72, 0, ImageError::OutsideInput),
-        (72, 0x0001_0001, ImageError::OutsideRegions),
-        (72, 0xFFFF_FFFF, ImageError::OutsideRegions),
-        (76, 0, ImageError::OutsideRegions),
-        (76, 1, ImageError::OutsideRegions),
-        (76, 6, ImageError::OutsideRegions),
-        (76, 7, ImageError::OutsideRegions),
-        (76, 0x0100_0005, ImageError::OutsideRegions),
-    ] {
-        assert!(rt; place <= 84);
-        let file = changed(place, &number.to_le_bytes());
-        let refused = refusal(rt.alloc(), &file, 1024);
-        assert_same!(rt; refused, Some(expected), (&number, &place));
-    }
-}
+/// Fields of the ELF header, at their offsets.
+static FILE_HEADER: [(usize, u32, ImageError); 23] = [
+    (16, 1, NotExecutable),
+    (16, 0x0102, NotExecutable),
+    (18, 62, NotExecutable),
+    (20, 0, UnsupportedHeader),
+    (20, 0x0100_0001, UnsupportedHeader),
+    (24, 0x0000_FFFC, Entry),
+    (24, 0x0001_0002, Entry),
+    (24, 0x0001_0001, Entry),
+    (24, 0x0002_0000, Entry),
+    (24, 0x8000_0000, Entry),
+    (28, 57, Truncated),
+    (28, 0xFFFF_FFFF, Truncated),
+    (28, 0xFFFF_FFE0, Truncated),
+    (36, 1, UnsupportedHeader),
+    (36, 0x8000_0000, UnsupportedHeader),
+    (40, 0x0020_0033, UnsupportedHeader),
+    (40, 0x0020_0134, UnsupportedHeader),
+    (42, 0x0001_0028, UnsupportedHeader),
+    (44, 0, UnsupportedHeader),
+    (44, 2, Truncated),
+    (44, 16, Truncated),
+    (44, 17, UnsupportedHeader),
+    (44, 0x0101, UnsupportedHeader),
+];
+
+/// Fields of the program header, at their offsets.
+static PROGRAM_HEADER: [(usize, u32, ImageError); 19] = [
+    (56, 85, OutsideInput),
+    (56, 0xFFFF_FFFF, OutsideInput),
+    (56, 0xFFFF_FFFC, OutsideInput),
+    (60, 0x0000_FFFF, OutsideRegions),
+    (60, 0x0001_FFFD, OutsideRegions),
+    (60, 0x0002_0000, OutsideRegions),
+    (60, 0x0003_0000, OutsideRegions),
+    (60, 0, OutsideRegions),
+    (68, 5, OutsideInput),
+    (68, 0xFFFF_FFFF, OutsideInput),
+    (72, 3, OutsideInput),
+    (72, 0, OutsideInput),
+    (72, 0x0001_0001, OutsideRegions),
+    (72, 0xFFFF_FFFF, OutsideRegions),
+    (76, 0, OutsideRegions),
+    (76, 1, OutsideRegions),
+    (76, 6, OutsideRegions),
+    (76, 7, OutsideRegions),
+    (76, 0x0100_0005, OutsideRegions),
+];
 
 /// Sums of two fields that would wrap at 32 bits.
 #[test]
 fn sums_do_not_wrap(rt: HostRuntime) {
-    let file = with(changed(56, &[0xFF; 4]), 68, &[0xFF; 4]);
-    let refused = refusal(rt.alloc(), &file, 1024);
-    assert_same!(rt; refused, Some(ImageError::OutsideInput));
-    let file = with(changed(60, &0xFFFF_FFFCu32.to_le_bytes()), 72, &[8]);
-    let refused = refusal(rt.alloc(), &file, 1024);
-    assert_same!(rt; refused, Some(ImageError::OutsideRegions));
+    let file = with_bytes(changed(56, &[0xFF; 4]), 68, &[0xFF; 4]);
+    assert_same!(rt; refusal(rt.alloc(), &file, 1024), Some(OutsideInput));
+    let file = with_bytes(changed(60, &0xFFFF_FFFCu32.to_le_bytes()), 72, &[8]);
+    assert_same!(rt; refusal(rt.alloc(), &file, 1024), Some(OutsideRegions));
 }
 
-/// A segment's addresses, with its flags, in memory with so many shared words.
+/// In memory with so many shared words, a segment's address, its length and its flags, and whether it is accepted.
+static REGIONS: [(u32, u32, u32, u32, bool); 20] = [
+    (1024, 0x0001_0000, 0x0001_0000, 4, true),
+    (1024, 0x0001_0000, 0x0001_0001, 4, false),
+    (1024, 0x0001_0000, 4, 1, false),
+    (1024, 0x0002_0000, 0x0001_0000, 6, true),
+    (1024, 0x0002_0000, 0x0001_0001, 6, false),
+    (1024, 0x0001_FFFF, 2, 6, false),
+    (1024, 0x0002_0000, 4, 4, false),
+    (1024, 0x0002_0000, 4, 5, false),
+    (1024, 0x0002_0000, 4, 7, false),
+    (1024, 0x0003_0000, 1, 6, false),
+    (1024, 0x7FFF_FFFF, 2, 6, false),
+    (1024, 0x8000_0000, 4096, 6, true),
+    (1024, 0x8000_0000, 4097, 6, false),
+    (1024, 0x8000_1000, 1, 6, false),
+    (1024, 0x8000_0000, 4, 5, false),
+    (1, 0x8000_0003, 1, 6, true),
+    (1, 0x8000_0004, 1, 6, false),
+    (262_144, 0x800F_FFFF, 1, 6, true),
+    (262_144, 0x800F_FFFF, 2, 6, false),
+    (262_144, 0x8010_0000, 1, 6, false),
+];
+
 #[test]
-fn regions(rt: HostRuntime) -> Result<(), Fail> {
-    for (shared_words, p_vaddr, p_memsz, p_flags, is_accepted) in [
-        (1024, 0x0001_0000, 0x0001_0000, 4, true),
-        (1024, 0x0001_0000, 0x0001_0001, 4, false),
-        (1024, 0x0001_0000, 4, 1, false),
-        (1024, 0x0002_0000, 0x0001_0000, 6, true),
-        (1024, 0x0002_0000, 0x0001_0001, 6, false),
-        (1024, 0x0001_FFFF, 2, 6, false),
-        (1024, 0x0002_0000, 4, 4, false),
-        (1024, 0x0002_0000, 4, 5, false),
-        (1024, 0x0002_0000, 4, 7, false),
-        (1024, 0x0003_0000, 1, 6, false),
-        (1024, 0x7FFF_FFFF, 2, 6, false),
-        (1024, 0x8000_0000, 4096, 6, true),
-        (1024, 0x8000_0000, 4097, 6, false),
-        (1024, 0x8000_1000, 1, 6, false),
-        (1024, 0x8000_0000, 4, 5, false),
-        (1, 0x8000_0003, 1, 6, true),
-        (1, 0x8000_0004, 1, 6, false),
-        (262_144, 0x800F_FFFF, 1, 6, true),
-        (262_144, 0x800F_FFFF, 2, 6, false),
-        (262_144, 0x8010_0000, 1, 6, false),
-    ] {
-        let part = Part {
-            p_vaddr,
-            p_offset: 84,
-            p_filesz: 0,
-            p_memsz,
-            p_flags,
-        };
-        let file = file_of(rt.alloc(), &[part], &[])?;
-        let refused = refusal(rt.alloc(), file.as_slice(), shared_words);
-        let expected = if is_accepted {
+fn regions(rt: HostRuntime) {
+    for (shared_words, p_vaddr, p_memsz, p_flags, is_accepted) in &REGIONS {
+        let part = (*p_vaddr, 84, 0, *p_memsz, *p_flags);
+        let refused = refusal_of(rt.alloc(), &[part], *shared_words);
+        let expected = if *is_accepted {
             None
         } else {
-            Some(ImageError::OutsideRegions)
+            Some(OutsideRegions)
         };
-        assert_same!(rt; refused, expected, (&p_memsz, &p_vaddr));
+        assert_same!(rt; refused, Ok(expected), (p_memsz, p_vaddr));
     }
-    Ok(())
 }
 
-/// Segments that touch are accepted, in any order, and those that share an address are not.
+/// Addresses and lengths of two segments, and whether they are accepted: those that touch are, in any order, and those that
+/// share an address are not.
+static OVERLAPS: [((u32, u32), (u32, u32), bool); 12] = [
+    ((0x0002_0000, 8), (0x0002_0008, 8), true),
+    ((0x0002_0008, 8), (0x0002_0000, 8), true),
+    ((0x0002_0000, 9), (0x0002_0008, 8), false),
+    ((0x0002_0008, 8), (0x0002_0000, 9), false),
+    ((0x0002_0000, 8), (0x0002_0000, 8), false),
+    ((0x0002_0000, 8), (0x0002_0003, 1), false),
+    ((0x0002_0003, 1), (0x0002_0000, 8), false),
+    ((0x0002_0000, 8), (0x0002_0004, 0), true),
+    ((0x0002_0004, 0), (0x0002_0000, 8), true),
+    ((0x0002_0004, 0), (0x0002_0004, 0), true),
+    ((0x8000_0000, 1), (0x8000_0000, 1), false),
+    ((0x8000_0000, 1), (0x0002_0000, 1), true),
+];
+
 #[test]
-fn overlaps(rt: HostRuntime) -> Result<(), Fail> {
-    for (first, second, is_accepted) in [
-        ((0x0002_0000, 8), (0x0002_0008, 8), true),
-        ((0x0002_0008, 8), (0x0002_0000, 8), true),
-        ((0x0002_0000, 9), (0x0002_0008, 8), false),
-        ((0x0002_0008, 8), (0x0002_0000, 9), false),
-        ((0x0002_0000, 8), (0x0002_0000, 8), false),
-        ((0x0002_0000, 8), (0x0002_0003, 1), false),
-        ((0x0002_0003, 1), (0x0002_0000, 8), false),
-        ((0x0002_0000, 8), (0x0002_0004, 0), true),
-        ((0x0002_0004, 0), (0x0002_0000, 8), true),
-        ((0x0002_0004, 0), (0x0002_0004, 0), true),
-        ((0x8000_0000, 1), (0x8000_0000, 1), false),
-        ((0x8000_0000, 1), (0x0002_0000, 1), true),
-    ] {
-        let part = |(p_vaddr, p_memsz): (u32, u32)| Part {
-            p_vaddr,
-            p_offset: 0,
-            p_filesz: 0,
-            p_memsz,
-            p_flags: 6,
-        };
-        let file = file_of(rt.alloc(), &[part(first), part(second)], &[])?;
-        let refused = refusal(rt.alloc(), file.as_slice(), 1024);
-        let expected = if is_accepted {
-            None
-        } else {
-            Some(ImageError::Overlap)
-        };
-        assert_same!(rt; refused, expected, (&first, &second));
+fn overlaps(rt: HostRuntime) {
+    for ((first, first_size), (second, second_size), is_accepted) in &OVERLAPS {
+        let parts = [
+            (*first, 0, 0, *first_size, 6),
+            (*second, 0, 0, *second_size, 6),
+        ];
+        let refused = refusal_of(rt.alloc(), &parts, 1024);
+        let expected = if *is_accepted { None } else { Some(Overlap) };
+        assert_same!(rt; refused, Ok(expected), (first, second));
     }
-    Ok(())
 }
 
-/// Of several faults the first in the order is answered.
-#[test]
-fn first_fault_first(rt: HostRuntime) -> Result<(), Fail> {
-    let good = Part {
-        p_vaddr: 0x0001_0000,
-        p_offset: 0,
-        p_filesz: 4,
-        p_memsz: 4,
-        p_flags: 5,
-    };
-    let unplaced = Part { p_vaddr: 0, ..good };
-    let unfiled = Part {
-        p_offset: 1_000_000,
-        ..good
-    };
-    let neither = Part {
-        p_vaddr: 0,
-        ..unfiled
-    };
-    for (parts, expected) in [
-        ([good, good, unplaced], ImageError::OutsideRegions),
-        ([good, unplaced, unfiled], ImageError::OutsideRegions),
-        ([good, unfiled, unplaced], ImageError::OutsideInput),
-        ([neither, good, good], ImageError::OutsideInput),
-        ([good, good, good], ImageError::Overlap),
-    ] {
-        let mut file = file_of(rt.alloc(), &parts, &[])?;
-        assert!(rt; file.len() >= 52);
-        // The entry is wrong too.
-        file[24] = 2;
-        let refused = refusal(rt.alloc(), file.as_slice(), 1024);
-        assert_same!(rt; refused, Some(expected));
-        file[20] = 2;
-        let refused = refusal(rt.alloc(), file.as_slice(), 1024);
-        assert_same!(rt; refused, Some(ImageError::UnsupportedHeader));
-        file[0] = 0;
-        let refused = refusal(rt.alloc(), file.as_slice(), 1024);
-        assert_same!(rt; refused, Some(ImageError::NotExecutable));
+const GOOD: Part = (0x0001_0000, 0, 4, 4, 5);
+
+/// At an address of no region.
+const UNPLACED: Part = (0, 0, 4, 4, 5);
+
+/// With bytes behind the file's end.
+const UNFILED: Part = (0x0001_0000, 1_000_000, 4, 4, 5);
+
+const NEITHER: Part = (0, 1_000_000, 4, 4, 5);
+
+/// Segments, and the first of their faults in the order.
+static FIRST_FAULTS: [(&[Part], ImageError); 5] = [
+    (&[GOOD, GOOD, UNPLACED], OutsideRegions),
+    (&[GOOD, UNPLACED, UNFILED], OutsideRegions),
+    (&[GOOD, UNFILED, UNPLACED], OutsideInput),
+    (&[NEITHER, GOOD, GOOD], OutsideInput),
+    (&[GOOD, GOOD, GOOD], Overlap),
+];
+
+/// The error of a file of these segments with these bytes.
+fn refusal_with(
+    alloc: Global,
+    parts: &[Part],
+    wrong: &[(usize, u8)],
+) -> Result<Option<ImageError>, AllocError> {
+    let mut file = file_of(alloc, parts, &[])?;
+    for (place, byte) in wrong {
+        if let Some(there) = file.as_mut_slice().get_mut(*place) {
+            *there = *byte;
+        }
     }
-    Ok(())
+    Ok(refusal(alloc, file.as_slice(), 1024))
+}
+
+/// The errors of a file of these segments with a wrong entry, with a wrong version too, and with a wrong first byte too.
+fn first_faults(alloc: Global, parts: &[Part]) -> Result<[Option<ImageError>; 3], AllocError> {
+    let entry = refusal_with(alloc, parts, &[(24, 2)])?;
+    let version = refusal_with(alloc, parts, &[(24, 2), (20, 2)])?;
+    let first_byte = refusal_with(alloc, parts, &[(24, 2), (20, 2), (0, 0)])?;
+    Ok([entry, version, first_byte])
+}
+
+/// Of several faults the first in the order is answered: a segment's comes before the entry's, and behind those of the header.
+#[test]
+fn first_fault_first(rt: HostRuntime) {
+    for (parts, expected) in &FIRST_FAULTS {
+        let found = first_faults(rt.alloc(), parts);
+        let wanted = [
+            Some(*expected),
+            Some(UnsupportedHeader),
+            Some(NotExecutable),
+        ];
+        assert_same!(rt; found, Ok(wanted));
+    }
+}
+
+/// A file of so many bytes that begins with the image of EBREAK.
+fn long_file(alloc: Global, length: usize) -> Result<Vec<u8>, AllocError> {
+    let mut file = Vec::from_slice(alloc, &EBREAK)?;
+    file.resize(length, 0xFF)?;
+    Ok(file)
 }
 
 /// The limit of the input's length, whatever it holds.
 #[test]
-fn too_long(rt: HostRuntime) -> Result<(), Fail> {
-    let mut file = Vec::from_slice(rt.alloc(), &EBREAK)?;
-    file.resize(1_048_576, 0xFF)?;
+fn too_long(rt: HostRuntime) {
+    let file = long_file(rt.alloc(), 1_048_576).expect(&rt, "memory");
     assert_same!(rt; refusal(rt.alloc(), file.as_slice(), 1024), None);
-    file.push(0)?;
-    assert_same!(rt; refusal(rt.alloc(), file.as_slice(), 1024), Some(ImageError::TooLong));
-    file[0] = 0;
-    assert_same!(rt; refusal(rt.alloc(), file.as_slice(), 1024), Some(ImageError::TooLong));
-    Ok(())
+    let mut file = long_file(rt.alloc(), 1_048_577).expect(&rt, "memory");
+    assert_same!(rt; refusal(rt.alloc(), file.as_slice(), 1024), Some(TooLong));
+    if let Some(first) = file.as_mut_slice().get_mut(0) {
+        *first = 0;
+    }
+    assert_same!(rt; refusal(rt.alloc(), file.as_slice(), 1024), Some(TooLong));
 }

@@ -1,29 +1,33 @@
 //! The spelling of a layout.
 
-use super::read;
-use elf_image::{Bytes, ImageError, Layout, write_image};
+ghost use Rattle.std.specs.Prelude.{◌≡◌, true};
+ghost use Rattle.elf_image.specs.Spellings.{FitsRegions};
+
+use super::{compare, layout_of};
+use elf_image::{ImageError, Layout, write_image};
 use link::Meter;
-use std::alloc::{AllocError, Global};
+use std::alloc::{AllocGlobal, Global};
 use std::process::Abort;
-use std::test::Fail;
 use test_devices::{EBREAK, assert_same};
 
-/// A layout with these bytes.
-fn layout(alloc: Global, code: &[u8], local: &[u8], shared: &[u8]) -> Result<Layout, AllocError> {
-    let bytes = |items: &[u8]| Vec::from_slice(alloc, items);
-    Ok(Layout {
-        entry: 0x0001_0000,
-        code: Bytes::from_vec(bytes(code)?),
-        local: Bytes::from_vec(bytes(local)?),
-        shared: Bytes::from_vec(bytes(shared)?),
-    })
+/// Whether a layout fits its regions.
+pub fn fits(layout: &Layout) -> bool
+    ensures { result ≡ true → FitsRegions layout.now }
+{
+    layout.code.len() <= 0x0001_0000
+        && layout.local.len() <= 0x0001_0000
+        && layout.shared.len() <= 0x0010_0000
+}
+
+/// Compares what is written of a layout.
+fn compare_file(rt: &(impl Abort + AllocGlobal), layout: &Layout, wanted: &[u8]) {
+    let file = written(rt, rt.alloc(), layout);
+    assert_same!(rt; file.as_slice(), wanted);
 }
 
 /// What is written of a layout.
 fn written(rt: &impl Abort, alloc: Global, layout: &Layout) -> Vec<u8> {
-    assert!(rt; layout.code.len() <= 0x0001_0000);
-    assert!(rt; layout.local.len() <= 0x0001_0000);
-    assert!(rt; layout.shared.len() <= 0x0010_0000);
+    assert!(rt; fits(layout));
     let mut writer = Meter::new(Vec::new(alloc));
     assert_same!(rt; write_image(&mut writer, layout), Ok(()));
     writer.device
@@ -31,70 +35,72 @@ fn written(rt: &impl Abort, alloc: Global, layout: &Layout) -> Vec<u8> {
 
 /// One instruction.
 #[test]
-fn spelling_of_one_instruction(rt: HostRuntime) -> Result<(), Fail> {
-    let layout = layout(rt.alloc(), &[0x73, 0, 0x10, 0], &[], &[])?;
-    let file = written(&rt, rt.alloc(), &layout);
-    assert_same!(rt; file.as_slice(), EBREAK.as_slice());
-    Ok(())
+fn spelling_of_one_instruction(rt: HostRuntime) {
+    let layout = layout_of(rt.alloc(), &[0x73, 0, 0x10, 0], &[], &[]).expect(&rt, "memory");
+    compare_file(&rt, &layout, &EBREAK);
 }
 
-/// What is written is read back, with each region present or not.
+/// Bytes of code, of local memory and of shared memory, each present or not, and what is told of them.
+static LAYOUTS: [(&[u8], &[u8], &[u8], &str); 5] = [
+    (&[], &[], &[], ""),
+    (&[1, 2, 3, 4], &[5], &[], "04030201 local 05"),
+    (&[1, 2, 3, 4], &[], &[6, 7], "04030201 shared 06 07"),
+    (&[], &[5, 0, 0], &[6, 7, 0], "local 05 00*2 shared 06 07 00"),
+    (
+        &[0; 5],
+        &[0; 6],
+        &[0; 7],
+        "00000000 00 local 00*6 shared 00*7",
+    ),
+];
+
+/// What is written is read back.
 #[test]
-fn read_back(rt: HostRuntime) -> Result<(), Fail> {
-    for (code, local, shared) in [
-        (&[][..], &[][..], &[][..]),
-        (&[1, 2, 3, 4], &[5], &[]),
-        (&[1, 2, 3, 4], &[], &[6, 7]),
-        (&[], &[5, 0, 0], &[6, 7, 0]),
-        (&[0; 5], &[0; 6], &[0; 7]),
-    ] {
-        let layout = layout(rt.alloc(), code, local, shared)?;
+fn read_back(rt: HostRuntime) {
+    for (code, local, shared, wanted) in &LAYOUTS {
+        let layout = layout_of(rt.alloc(), code, local, shared).expect(&rt, "memory");
         let file = written(&rt, rt.alloc(), &layout);
-        let image = read(rt.alloc(), file.as_slice(), 1024)?;
-        assert_same!(rt; image.layout().code.as_slice(), code);
-        assert_same!(rt; image.layout().local.as_slice(), local);
-        assert_same!(rt; image.layout().shared.as_slice(), shared);
+        compare(&rt, file.as_slice(), 1024, wanted);
     }
-    Ok(())
 }
 
-/// The headers of three segments, by hand: 52 and three times 32 bytes, and then their bytes.
+/// The file of three segments, by hand: 52 bytes of header, three times 32, and then their bytes.
+static THREE_SEGMENTS: [u8; 155] = [
+    0x7F, 0x45, 0x4C, 0x46, 1, 1, 1, 0, 0, 0, 0, 0, 0, 0, 0, 0, 2, 0, 0xF3, 0, 1, 0, 0, 0, 0, 0, 1,
+    0, 0x34, 0, 0, 0, 0, 0, 0, 0, 0, 0, 0, 0, 0x34, 0, 0x20, 0, 3, 0, 0, 0, 0, 0, 0, 0, // the header
+    1, 0, 0, 0, 148, 0, 0, 0, 0, 0, 1, 0, 0, 0, 1, 0, 4, 0, 0, 0, 4, 0, 0, 0, 5, 0, 0, 0, 1, 0, 0,
+    0, // code
+    1, 0, 0, 0, 152, 0, 0, 0, 0, 0, 2, 0, 0, 0, 2, 0, 1, 0, 0, 0, 1, 0, 0, 0, 6, 0, 0, 0, 1, 0, 0,
+    0, // local memory
+    1, 0, 0, 0, 153, 0, 0, 0, 0, 0, 0, 0x80, 0, 0, 0, 0x80, 2, 0, 0, 0, 2, 0, 0, 0, 6, 0, 0, 0, 1,
+    0, 0, 0, // shared memory
+    1, 2, 3, 4, 5, 6, 7,
+];
+
 #[test]
-fn spelling_of_three_segments(rt: HostRuntime) -> Result<(), Fail> {
-    let mut expected = Vec::from_slice(rt.alloc(), &EBREAK[..44])?;
-    expected.extend_from_slice(&[3, 0, 0, 0, 0, 0, 0, 0])?;
-    for fields in [
-        [1, 148, 0x0001_0000, 0x0001_0000, 4, 4, 5, 1u32],
-        [1, 152, 0x0002_0000, 0x0002_0000, 1, 1, 6, 1],
-        [1, 153, 0x8000_0000, 0x8000_0000, 2, 2, 6, 1],
-    ] {
-        for field in fields {
-            expected.extend_from_slice(&field.to_le_bytes())?;
-        }
-    }
-    expected.extend_from_slice(&[1, 2, 3, 4, 5, 6, 7])?;
-    let layout = layout(rt.alloc(), &[1, 2, 3, 4], &[5], &[6, 7])?;
-    let file = written(&rt, rt.alloc(), &layout);
-    assert_same!(rt; file.as_slice(), expected.as_slice());
-    Ok(())
+fn spelling_of_three_segments(rt: HostRuntime) {
+    let layout = layout_of(rt.alloc(), &[1, 2, 3, 4], &[5], &[6, 7]).expect(&rt, "memory");
+    compare_file(&rt, &layout, &THREE_SEGMENTS);
 }
 
-/// The text of each error.
+/// Each error, and its text.
+static ERRORS: [(ImageError, &str); 10] = [
+    (ImageError::Truncated, "I1"),
+    (ImageError::NotExecutable, "I2"),
+    (ImageError::UnsupportedHeader, "I3"),
+    (ImageError::OutsideInput, "I4"),
+    (ImageError::OutsideRegions, "I5"),
+    (ImageError::Overlap, "I6"),
+    (ImageError::Entry, "I7"),
+    (ImageError::TooLong, "I8"),
+    (ImageError::Link, "I9"),
+    (ImageError::Memory, "I10"),
+];
+
 #[test]
-fn numbers_of_errors(rt: HostRuntime) -> Result<(), Fail> {
-    for (error, text) in [
-        (ImageError::Truncated, "I1"),
-        (ImageError::NotExecutable, "I2"),
-        (ImageError::UnsupportedHeader, "I3"),
-        (ImageError::OutsideInput, "I4"),
-        (ImageError::OutsideRegions, "I5"),
-        (ImageError::Overlap, "I6"),
-        (ImageError::Entry, "I7"),
-        (ImageError::TooLong, "I8"),
-        (ImageError::Link, "I9"),
-        (ImageError::Memory, "I10"),
-    ] {
-        assert_same!(rt; format!(in rt.alloc(); "{error}")?.as_str(), text);
+fn numbers_of_errors(rt: HostRuntime) {
+    for (error, text) in &ERRORS {
+        let told = format!(in rt.alloc(); "{error}").expect(&rt, "memory");
+        assert_same!(rt; told.as_str(), *text);
     }
-    Ok(())
 }

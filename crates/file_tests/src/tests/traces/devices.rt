@@ -1,12 +1,11 @@
 //! Devices that fail at a call, or take and hand over one byte at a call.
 
-use super::{ONE_TURN, config};
+use super::config;
 use link::{Link, Meter};
 use std::io;
 use std::io::Write;
-use std::test::Fail;
 use steps::Step;
-use test_devices::{Sink, Source, assert_same};
+use test_devices::{ONE_TURN, Sink, Source, assert_same};
 use trace_file::{TraceError, is_trace, read_trace, write_trace};
 
 /// Counts its calls, and takes all that it is given.
@@ -30,58 +29,59 @@ impl Write for Counter {
 
 /// The 24 bytes take 24 calls, and one more tells that there are no more.
 #[test]
-fn each_read_fails_in_turn(rt: HostRuntime) -> Result<(), Fail> {
+fn each_read_fails_in_turn(rt: HostRuntime) {
     for fails_at in 0..28 {
         let mut reader = Meter::new(Source::new(&ONE_TURN, fails_at));
         let trace = read_trace(rt.alloc(), &mut reader);
-        let fails = 1 <= fails_at && fails_at <= 25;
-        assert_same!(rt; reader.failed(), fails, fails_at);
-        match trace {
-            Ok(trace) => {
-                assert!(rt; !fails, "call {fails_at}");
-                assert_same!(rt; trace.steps(), [Step::Turn(0)].as_slice());
-            }
-            Err(error) => {
-                assert!(rt; fails, "call {fails_at}");
-                assert_same!(rt; error, TraceError::Link);
-            }
-        }
+        let found = match &trace {
+            Ok(trace) => (trace.steps(), None, reader.failed()),
+            Err(error) => (&[][..], Some(*error), reader.failed()),
+        };
+        let wanted = match fails_at {
+            1..=25 => (&[][..], Some(TraceError::Link), true),
+            _ => (STEPS.as_slice(), None, false),
+        };
+        assert_same!(rt; found, wanted, fails_at);
     }
-    Ok(())
 }
+
+/// The steps of that trace.
+static STEPS: [Step; 1] = [Step::Turn(0)];
 
 /// A write that fails leaves the bytes before it.
 #[test]
 fn each_write_fails_in_turn(rt: HostRuntime) {
     let config = config(0);
-    let steps = [Step::Turn(0)];
-    assert!(rt; is_trace(&config, &steps));
+    assert!(rt; is_trace(&config, &STEPS));
     for fails_at in 0..28 {
         let mut writer = Meter::new(Sink::new(Vec::new(rt.alloc()), fails_at));
-        let written = write_trace(&mut writer, &config, &steps);
-        let fails = 1 <= fails_at && fails_at <= 24;
-        assert_same!(rt; writer.failed(), fails, fails_at);
-        let expected = if fails { Err(TraceError::Link) } else { Ok(()) };
-        assert_same!(rt; written, expected, fails_at);
-        let count = if fails { fails_at - 1 } else { 24 };
-        assert_same!(rt; writer.device.bytes.as_slice(), &ONE_TURN[..count]);
+        let written = write_trace(&mut writer, &config, &STEPS);
+        let found = (writer.device.bytes.as_slice(), written, writer.failed());
+        let wanted = match fails_at {
+            1..=24 => (&ONE_TURN[..fails_at - 1], Err(TraceError::Link), true),
+            _ => (ONE_TURN.as_slice(), Ok(()), false),
+        };
+        assert_same!(rt; found, wanted, fails_at);
     }
 }
 
 /// No byte past the trailing one is taken, and none behind a wrong header.
 #[test]
 fn takes_no_more_than_tells(rt: HostRuntime) {
-    let mut longer = [9; 40];
-    longer[..24].copy_from_slice(&ONE_TURN);
-    let mut rest: &[u8] = &longer;
+    let mut rest: &[u8] = &LONGER;
     let read = read_trace(rt.alloc(), &mut Meter::new(&mut rest));
-    assert_same!(rt; read.err(), Some(TraceError::Trailing));
-    assert_same!(rt; rest.len(), 15);
-    let mut rest: &[u8] = &longer[12..];
+    assert_same!(rt; (read.err(), rest.len()), (Some(TraceError::Trailing), 15));
+    let mut rest: &[u8] = &LONGER[12..];
     let read = read_trace(rt.alloc(), &mut Meter::new(&mut rest));
-    assert_same!(rt; read.err(), Some(TraceError::Header));
-    assert_same!(rt; rest.len(), 16);
+    assert_same!(rt; (read.err(), rest.len()), (Some(TraceError::Header), 16));
 }
+
+/// The trace of one turn, and sixteen bytes more.
+static LONGER: [u8; 40] = [
+    0x55, 0x4C, 0x54, 0x52, 1, 0, 4, 4, 1, 0, 0, 0, // the header
+    1, 0, 0, 0, 0, 0, 0, 0, 0, 0, 0, 0, // the record
+    9, 9, 9, 9, 9, 9, 9, 9, 9, 9, 9, 9, 9, 9, 9, 9,
+];
 
 /// The writer is called once for the header, and once for each 341 records.
 #[test]
@@ -91,7 +91,5 @@ fn calls_for_pieces(rt: HostRuntime) {
     let steps = [Step::Turn(0); 1000];
     assert!(rt; is_trace(&config, &steps));
     let written = write_trace(&mut writer, &config, &steps);
-    assert_same!(rt; written, Ok(()));
-    assert_same!(rt; writer.device.bytes, 12_012);
-    assert_same!(rt; writer.device.calls, 4);
+    assert_same!(rt; (written, writer.device.bytes, writer.device.calls), (Ok(()), 12_012, 4));
 }
