@@ -2,30 +2,24 @@
 
 use asm_command::asm_command;
 use check_command::check_command;
-use link::Meter;
-use std::alloc::Global;
-use std::fmt::Write;
-use std::io::Read;
+use std::alloc::{AllocError, Global};
+use std::fmt::Write as _;
+use std::io::{Read, Write};
 use std::test::Fail;
-use test_devices::{Deaf, Endless, HUNDRED_ADDS, Sink, Source, assert_same};
+use test_devices::{Deaf, Endless, HUNDRED_ADDS, Ran, Sink, Source, ran};
 
-/// What checking a file comes to.
-#[derive(Drop)]
-struct Ran {
-    status: u8,
-    out: Vec<u8>,
-    err: Vec<u8>,
+/// What checking a file comes to, with this device for the list.
+fn run<R: Read + Drop, W: Write + Drop>(alloc: Global, file: R, device: W) -> Ran<W> {
+    ran!(
+        device,
+        Vec::new(alloc),
+        |out, err| check_command(alloc, file, out, err)
+    )
 }
 
-fn run<R: Read + Drop>(alloc: Global, file: R) -> Ran {
-    let mut out = Meter::new(Vec::new(alloc));
-    let mut err = Vec::new(alloc);
-    let status = check_command(alloc, file, &mut out, &mut err);
-    Ran {
-        status,
-        out: out.device,
-        err,
-    }
+/// What checking a text comes to.
+fn run_text(alloc: Global, text: &[u8]) -> Ran<Vec<u8>> {
+    run(alloc, text, Vec::new(alloc))
 }
 
 /// Texts with one fault each, and the line that tells it.
@@ -218,27 +212,33 @@ static ONE_FAULT: [(&str, &str); 47] = [
 #[test]
 fn lists_one_fault(rt: HostRuntime) -> Result<(), Fail> {
     for (text, line) in &ONE_FAULT {
-        let ran = run(rt.alloc(), text.as_bytes());
         let list = format!(in rt.alloc(); "{line}\n1 fault\n")?;
-        assert_same!(rt; str::from_utf8(&ran.out)?, list.as_str());
-        assert_same!(rt; ran.status, 1, line);
-        assert_same!(rt; ran.err.len(), 0);
+        run_text(rt.alloc(), text.as_bytes()).comes_to(1, list.as_bytes(), "")?;
     }
     Ok(())
+}
+
+/// What `asm` tells of a text that has the fault of this line.
+fn told_by_asm(alloc: Global, line: &str) -> Result<String, Fail> {
+    let mut words = line.split(' ');
+    let number = words.nth(1).ok_or("a number")?;
+    let code = words.nth(2).ok_or("a code")?.trim_end_matches(':');
+    Ok(format!(in alloc; "ultra: {code} line {number}\n")?)
 }
 
 /// `asm` tells the first that it meets; `check` has its line and its code.
 #[test]
 fn has_what_assembling_tells(rt: HostRuntime) -> Result<(), Fail> {
+    let alloc = rt.alloc();
     for (text, line) in &ONE_FAULT {
-        let mut err = Vec::new(rt.alloc());
-        let mut image = Meter::new(Vec::new(rt.alloc()));
-        assert_same!(rt; asm_command(rt.alloc(), text.as_bytes(), &mut image, &mut err), 2);
-        let mut words = line.split(' ');
-        let number = words.nth(1).ok_or("a number")?;
-        let code = words.nth(2).ok_or("a code")?;
-        let told = format!(in rt.alloc(); "ultra: {} line {number}\n", code.trim_end_matches(':'))?;
-        assert_same!(rt; str::from_utf8(&err)?, told.as_str());
+        let told = told_by_asm(alloc, line)?;
+        let text = text.as_bytes();
+        ran!(
+            Vec::new(alloc),
+            Vec::new(alloc),
+            |out, err| asm_command(alloc, text, out, err)
+        )
+        .comes_to(2, b"", told.as_str())?;
     }
     Ok(())
 }
@@ -270,43 +270,45 @@ line 9 column 9: A6 ebreak: .code has room for 65536 bytes, and 65552 stand ther
 
 #[test]
 fn lists_each_line(rt: HostRuntime) -> Result<(), Fail> {
-    let ran = run(rt.alloc(), MANY.as_bytes());
-    assert_same!(rt; str::from_utf8(&ran.out)?, MANY_FAULTS);
-    assert_same!(rt; ran.status, 1);
-    Ok(())
+    run_text(rt.alloc(), MANY.as_bytes()).comes_to(1, MANY_FAULTS.as_bytes(), "")
 }
 
 /// A label that stands on three lines: both of the later ones are told the first.
-#[test]
-fn tells_the_first_line_of_a_label(rt: HostRuntime) -> Result<(), Fail> {
-    let ran = run(rt.alloc(), b"a:\na:\na:".as_slice());
-    let list = "\
+static ON_THREE_LINES: &str = "\
 line 2 column 1: A4 a: the label stands on line 1 already
 line 3 column 1: A4 a: the label stands on line 1 already
 2 faults
 ";
-    assert_same!(rt; str::from_utf8(&ran.out)?, list);
+
+#[test]
+fn tells_the_first_line_of_a_label(rt: HostRuntime) -> Result<(), Fail> {
+    run_text(rt.alloc(), b"a:\na:\na:").comes_to(1, ON_THREE_LINES.as_bytes(), "")
+}
+
+/// Texts without a fault.
+static SOUND: [&str; 4] = ["", "\n\n# nothing\n", "ebreak", HUNDRED_ADDS];
+
+#[test]
+fn lists_nothing_of_a_sound_text(rt: HostRuntime) -> Result<(), Fail> {
+    for text in &SOUND {
+        run_text(rt.alloc(), text.as_bytes()).comes_to(0, b"no faults\n", "")?;
+    }
     Ok(())
 }
 
-#[test]
-fn lists_nothing_of_a_sound_text(rt: HostRuntime) {
-    for text in ["", "\n\n# nothing\n", "ebreak", HUNDRED_ADDS] {
-        let ran = run(rt.alloc(), text.as_bytes());
-        assert_same!(rt; ran.out.as_slice(), b"no faults\n".as_slice());
-        assert_same!(rt; ran.err.len(), 0);
-        assert_same!(rt; ran.status, 0);
+/// A thousand lines that are none, between others.
+fn thousand(alloc: Global) -> Result<String, AllocError> {
+    let mut text = String::new(alloc);
+    for _ in 0..1000 {
+        text.push_str("ebreak\n frob\n")?;
     }
+    Ok(text)
 }
 
-/// A thousand lines that are none, between others, and a word of which the first 64 bytes are printed.
-#[test]
-fn lists_a_thousand(rt: HostRuntime) -> Result<(), Fail> {
-    let alloc = rt.alloc();
-    let mut text = String::new(alloc);
+/// Their list.
+fn thousand_faults(alloc: Global) -> Result<String, AllocError> {
     let mut list = String::new(alloc);
     for number in 0..1000_u16 {
-        text.push_str("ebreak\n frob\n")?;
         let line = 2 * u32::from(number) + 2;
         writeln!(
             list,
@@ -314,73 +316,65 @@ fn lists_a_thousand(rt: HostRuntime) -> Result<(), Fail> {
         )?;
     }
     list.push_str("1000 faults\n")?;
-    let ran = run(alloc, text.as_bytes());
-    assert!(rt; ran.out.as_slice() == list.as_bytes());
-
-    text.clear();
-    list.clear();
-    list.push_str("line 1 column 1: A1 ")?;
-    for at in 0..65 {
-        text.push('%')?;
-        if at < 64 {
-            list.push('%')?;
-        }
-    }
-    list.push_str("..: there is no such instruction or directive\n1 fault\n")?;
-    let ran = run(alloc, text.as_bytes());
-    assert_same!(rt; str::from_utf8(&ran.out)?, list.as_str());
-    Ok(())
+    Ok(list)
 }
 
 #[test]
-fn refuses_what_is_no_text(rt: HostRuntime) {
-    let ran = run(rt.alloc(), b"frob # \xFF\n".as_slice());
-    assert_same!(rt; ran.err.as_slice(), b"ultra: link\n".as_slice());
-    assert_same!(rt; ran.out.len(), 0);
-    assert_same!(rt; ran.status, 3);
-    let ran = run(rt.alloc(), Endless);
-    assert_same!(rt; ran.err.as_slice(), b"ultra: memory\n".as_slice());
-    assert_same!(rt; ran.out.len(), 0);
-    assert_same!(rt; ran.status, 4);
-    let ran = run(rt.alloc(), Source::new(b"frob", 3));
-    assert_same!(rt; ran.err.as_slice(), b"ultra: link\n".as_slice());
-    assert_same!(rt; ran.out.len(), 0);
-    assert_same!(rt; ran.status, 3);
+fn lists_a_thousand(rt: HostRuntime) -> Result<(), Fail> {
+    let text = thousand(rt.alloc())?;
+    let list = thousand_faults(rt.alloc())?;
+    let ran = run_text(rt.alloc(), text.as_bytes());
+    assert!(rt; ran.out.as_slice() == list.as_bytes());
+    Ok(())
+}
+
+/// A word of 65 signs, and the line that tells its first 64.
+static LONG_WORD: (&str, &str) = (
+    "%%%%%%%%%%%%%%%%%%%%%%%%%%%%%%%%%%%%%%%%%%%%%%%%%%%%%%%%%%%%%%%%%",
+    "line 1 column 1: A1 %%%%%%%%%%%%%%%%%%%%%%%%%%%%%%%%%%%%%%%%%%%%%%%%%%%%%%%%%%%%%%%%..: there is no such instruction or directive
+1 fault
+",
+);
+
+#[test]
+fn tells_the_beginning_of_a_long_word(rt: HostRuntime) -> Result<(), Fail> {
+    let (text, list) = LONG_WORD;
+    run_text(rt.alloc(), text.as_bytes()).comes_to(1, list.as_bytes(), "")
+}
+
+#[test]
+fn refuses_what_is_no_text(rt: HostRuntime) -> Result<(), Fail> {
+    let alloc = rt.alloc();
+    run_text(alloc, b"frob # \xFF\n").comes_to(3, b"", "ultra: link\n")?;
+    run(alloc, Endless, Vec::new(alloc)).comes_to(4, b"", "ultra: memory\n")?;
+    run(alloc, Source::new(b"frob", 3), Vec::new(alloc)).comes_to(3, b"", "ultra: link\n")
 }
 
 /// A writer of one byte at a call that fails at a call has the bytes of the calls before it.
 #[test]
-fn tells_that_the_list_is_not_printed(rt: HostRuntime) {
-    let alloc = rt.alloc();
+fn tells_that_the_list_is_not_printed(rt: HostRuntime) -> Result<(), Fail> {
     for fails_at in 1..11 {
-        let mut out = Meter::new(Sink::new(Vec::new(alloc), fails_at));
-        let mut err = Vec::new(alloc);
-        let status = check_command(alloc, b"ebreak".as_slice(), &mut out, &mut err);
-        assert_same!(rt; out.device.bytes.as_slice(), &b"no faults\n"[..fails_at - 1]);
-        assert_same!(rt; err.as_slice(), b"ultra: link\n".as_slice());
-        assert_same!(rt; status, 3);
+        let sink = Sink::new(Vec::new(rt.alloc()), fails_at);
+        let list = &b"no faults\n"[..fails_at - 1];
+        run(rt.alloc(), b"ebreak".as_slice(), sink).comes_to(3, list, "ultra: link\n")?;
     }
-    let mut err = Vec::new(alloc);
-    let status = check_command(alloc, b"frob".as_slice(), &mut Meter::new(Deaf), &mut err);
-    assert_same!(rt; err.as_slice(), b"ultra: link\n".as_slice());
-    assert_same!(rt; status, 3);
+    run(rt.alloc(), b"frob".as_slice(), Deaf).comes_to(3, b"", "ultra: link\n")
 }
 
 /// Each allocation of this test is to be refused in turn. Then the answer is that of ample memory, or that there is none.
 #[test]
 fn is_short_of_memory(rt: HostRuntime) -> Result<(), Fail> {
     let alloc = rt.alloc();
-    let mut out = Meter::new(Sink::new(Vec::with_capacity(alloc, 128)?, 0));
-    let mut err = Vec::with_capacity(alloc, 64)?;
+    let list = Sink::new(Vec::with_capacity(alloc, 128)?, 0);
+    let told = Vec::with_capacity(alloc, 64)?;
     let text = b"lop: jal ra, loop".as_slice();
-    match check_command(alloc, text, &mut out, &mut err) {
-        1 =>
-            assert_same!(rt; out.device.bytes.as_slice(), b"line 1 column 14: A5 loop: there is no such label; there is lop\n1 fault\n".as_slice()),
-        status => {
-            assert_same!(rt; status, 4);
-            assert_same!(rt; err.as_slice(), b"ultra: memory\n".as_slice());
-            assert_same!(rt; out.device.bytes.len(), 0);
-        }
+    let ran = ran!(list, told, |out, err| check_command(alloc, text, out, err));
+    match ran.status {
+        1 => ran.comes_to(
+            1,
+            b"line 1 column 14: A5 loop: there is no such label; there is lop\n1 fault\n",
+            "",
+        ),
+        _ => ran.comes_to(4, b"", "ultra: memory\n"),
     }
-    Ok(())
 }
