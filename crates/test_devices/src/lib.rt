@@ -1,10 +1,11 @@
 //! Devices for tests: they take or give one byte at a call, fail at one call, or have no end or no room. Beside them what a command
-//! comes to on such devices, what a layout places as a text, an image, programs and traces.
+//! comes to on such devices, what a layout places as a text, an image, programs and traces, and how tests compare and lend.
 #![tactic(auto)]
 
 mod assert_same;
 mod image;
 mod layout;
+mod lending;
 mod programs;
 mod ran;
 mod sink;
@@ -14,6 +15,7 @@ mod words;
 
 pub use image::{EBREAK, with_bytes};
 pub use layout::layout_text;
+pub use lending::{lend, prepared};
 pub use link::{Link, Meter};
 pub use programs::{ADD_AT_X12, HUNDRED_ADDS};
 pub use ran::Ran;

@@ -1,6 +1,6 @@
 //! What the devices do at their calls.
 
-use crate::{Broken, Deaf, Endless, Full, Sink, Source, assert_same};
+use crate::{Broken, Deaf, Endless, Full, Sink, Source, assert_same, lend, prepared};
 use std::fmt::Debug;
 use std::io::{Read, Write};
 use std::process::Abort;
@@ -37,4 +37,26 @@ fn takes_a_byte_at_a_call(rt: HostRuntime) {
     assert!(rt; Deaf.flush().is_ok());
     assert!(rt; Full.write(b"ab").is_err());
     assert!(rt; Full.flush().is_ok());
+}
+
+/// The body sees and changes the value, and its answer is handed on.
+#[test]
+fn lends_a_value(rt: HostRuntime) {
+    let answer = lend(1, |number| {
+        let before = *number;
+        *number = 2;
+        (before, *number)
+    });
+    assert_same!(rt; answer, (1, 2));
+}
+
+/// The value comes back as the body leaves it, or the body's error in its place.
+#[test]
+fn prepares_a_value(rt: HostRuntime) {
+    let two: Result<i32, ()> = prepared(1, |number| {
+        *number = 2;
+        Ok(())
+    });
+    assert_same!(rt; two, Ok(2));
+    assert_same!(rt; prepared(1, |_| Err("no")), Err("no"));
 }
