@@ -3,15 +3,13 @@
 use flat_machine::Poke;
 use messages::Seconds;
 use run_counts::{Counts, Held, Longest, counts_text, rounds_of};
+use std::process::Abort;
 use std::test::Fail;
 use steps::{Outcome, Step};
-use test_devices::assert_same;
+use test_devices::{assert_same, lend};
 
-/// Two requests meet at a stage, one is served for both and one for itself, and the reply for two is split.
-#[test]
-fn requests_that_meet(rt: HostRuntime) -> Result<(), Fail> {
-    let alloc = rt.alloc();
-    let mut counts = Counts::new(alloc)?;
+/// Notes eight steps: two requests meet at a stage, one is served for both and one for itself, and the reply for two is split.
+fn note_all(rt: &impl Abort, counts: &mut Counts) {
     for (step, outcome, size) in [
         (Step::Turn(0), Outcome::Issued, 0),
         (Step::Turn(1), Outcome::Issued, 0),
@@ -38,11 +36,23 @@ fn requests_that_meet(rt: HostRuntime) -> Result<(), Fail> {
         assert!(rt; counts.noted() < 8);
         counts.note(&step, &outcome, size);
     }
+}
+
+/// The most messages that stood at the stage of a network of two processors.
+fn longest() -> Longest {
     let mut longest = Longest::none();
     longest.set(Held::Requests, 0, 3);
     longest.set(Held::Records, 0, 1);
     longest.set(Held::Replies, 0, 2);
-    let text = counts_text(alloc, &counts, &longest, 7, 1)?;
+    longest
+}
+
+#[test]
+fn requests_that_meet(rt: HostRuntime) -> Result<(), Fail> {
+    let text = lend(Counts::new(rt.alloc())?, |counts| {
+        note_all(&rt, counts);
+        counts_text(rt.alloc(), counts, &longest(), 7, 1)
+    })?;
     assert_same!(rt; text.as_str(), "steps 8 turns 2 up 2 serve 2 down 2 poke 0 rounds 7
 stage 0 up 1 combined 1 down 1 split 1 requests 3 records 1 replies 2
 module 0 serves 0

@@ -6,15 +6,14 @@ mod pokes;
 mod steps_taken;
 mod whole;
 
-use flat_machine::{Config, Poke, SHARED_START, Status};
+use flat_machine::{Config, Status};
 use machine_log::{LogRefusal, Logged};
 use machine_runs::Machine;
-use std::alloc::AllocGlobal;
+use std::alloc::{AllocGlobal, Global};
 use std::process::Abort;
 use std::test::Fail;
-use steps::{Outcome, Step};
-use test_devices::assert_same;
-use test_machines::{machine_of, size};
+use steps::Outcome;
+use test_machines::{FOUR_ADDENDS, adders, size};
 
 /// A machine of one processor.
 const ONE: Config = Config {
@@ -28,54 +27,26 @@ const ONE: Config = Config {
 /// An instruction that refers to the shared word at `a2`, one that refers to none, and a stop.
 const CODE: &str = "amoadd.w a0, a1, (a2)\naddi a0, a0, 1\nebreak";
 
-/// A write of a register.
-fn register(processor: u8, register: u8, value: u32) -> Step {
-    Step::Poke(Poke::Register {
-        processor,
-        register,
-        value,
-    })
+/// A machine of four processors, which are to add 1, 2, 4 and 8 to shared word 0, which is 10.
+fn four_machine(alloc: Global) -> Result<Machine, Fail> {
+    adders(alloc, CODE, size(2), 10, &FOUR_ADDENDS)
 }
 
-/// A machine of this size with the code of these tests. Shared word 0 is 10, and each of these
-/// processors has its addend in `a1` and the word's address in `a2`.
-fn adders(
-    rt: &(impl Abort + AllocGlobal),
-    config: Config,
-    addends: &[(u8, u32)],
-) -> Result<Machine, Fail> {
-    let mut machine = machine_of(rt.alloc(), CODE, config)?;
-    let word = Poke::Shared {
-        address: SHARED_START,
-        value: 10,
-    };
-    assert_same!(rt; machine.apply(Step::Poke(word)), Outcome::Poked);
-    for &(p, addend) in addends {
-        assert_same!(rt; machine.apply(register(p, 11, addend)), Outcome::Poked);
-        assert_same!(rt; machine.apply(register(p, 12, SHARED_START)), Outcome::Poked);
-    }
-    Ok(machine)
+/// The log of a machine.
+fn log_from(rt: &(impl Abort + AllocGlobal), machine: Machine) -> Logged {
+    assert!(rt; machine.is_idle());
+    assert!(rt; machine.are_home());
+    Logged::new(rt.alloc(), machine)
 }
 
 /// The log of a machine of one processor, which is to add 5 to the word.
 fn one_add(rt: &(impl Abort + AllocGlobal)) -> Result<Logged, Fail> {
-    let machine = adders(rt, ONE, &[(0, 5)])?;
-    assert!(rt; machine.is_idle());
-    assert!(rt; machine.are_home());
-    Ok(Logged::new(rt.alloc(), machine))
+    Ok(log_from(rt, adders(rt.alloc(), CODE, ONE, 10, &[(0, 5)])?))
 }
 
-/// A machine of four processors, which are to add 1, 2, 4 and 8 to the word.
-fn four_machine(rt: &(impl Abort + AllocGlobal)) -> Result<Machine, Fail> {
-    adders(rt, size(2), &[(0, 1), (1, 2), (2, 4), (3, 8)])
-}
-
-/// The log of such a machine.
+/// The log of such a machine of four processors.
 fn four_adds(rt: &(impl Abort + AllocGlobal)) -> Result<Logged, Fail> {
-    let machine = four_machine(rt)?;
-    assert!(rt; machine.is_idle());
-    assert!(rt; machine.are_home());
-    Ok(Logged::new(rt.alloc(), machine))
+    Ok(log_from(rt, four_machine(rt.alloc())?))
 }
 
 /// What is seen of a machine of four: where each processor stands, its `a0` and what it does, word 0,
@@ -97,6 +68,14 @@ fn look_at(machine: &Machine) -> Seen {
         ],
         word: machine.word(0),
         is_idle: machine.is_idle(),
+    }
+}
+
+/// What an instruction that has retired wrote to a register.
+fn result_of(outcome: Outcome) -> Option<u32> {
+    match outcome {
+        Outcome::Retired(retired) => retired.result,
+        _ => None,
     }
 }
 

@@ -1,13 +1,12 @@
 //! Replays of small traces, by hand.
 
-use flat_machine::{Config, Poke, SHARED_START};
+use flat_machine::Config;
 use machine_runs::{Machine, run};
-use std::alloc::AllocGlobal;
-use std::process::Abort;
+use std::alloc::{AllocError, Global};
 use std::test::Fail;
-use steps::{Outcome, Step};
-use test_devices::assert_same;
-use test_machines::machine_of;
+use steps::Step;
+use test_devices::{assert_same, lend};
+use test_machines::adders;
 use trace_replay::{StalledStep, replay};
 
 /// A machine of two processors.
@@ -20,22 +19,8 @@ const TWO: Config = Config {
 };
 
 /// Two processors that are to add 1 and 2 to shared word 0.
-fn two_adds(rt: &(impl Abort + AllocGlobal)) -> Result<Machine, Fail> {
-    let mut machine = machine_of(rt.alloc(), "amoadd.w a0, a1, (a2)", TWO)?;
-    for (processor, register, value) in [
-        (0, 11, 1),
-        (0, 12, SHARED_START),
-        (1, 11, 2),
-        (1, 12, SHARED_START),
-    ] {
-        let poke = Poke::Register {
-            processor,
-            register,
-            value,
-        };
-        assert_same!(rt; machine.apply(Step::Poke(poke)), Outcome::Poked);
-    }
-    Ok(machine)
+fn two_adds(alloc: Global) -> Result<Machine, Fail> {
+    adders(alloc, "amoadd.w a0, a1, (a2)", TWO, 0, &[(0, 1), (1, 2)])
 }
 
 /// Both requests combine at the stage, and come back. The second finds what the first left.
@@ -64,14 +49,24 @@ fn look_at(machine: &Machine) -> [Option<u32>; 5] {
 /// A trace whose every step does something is taken whole.
 #[test]
 fn replays_a_trace(rt: HostRuntime) -> Result<(), Fail> {
-    let mut machine = two_adds(&rt)?;
-    assert_same!(rt; replay(&mut machine, &COMBINED), Ok(()));
-    let wanted = [0x0001_0004, 2, 0x0001_0004, 0, 3];
-    assert_same!(rt; look_at(&machine), wanted.map(Some));
-    assert!(rt; machine.is_idle());
-    assert_same!(rt; replay(&mut machine, &[]), Ok(()));
-    assert_same!(rt; look_at(&machine), wanted.map(Some));
+    lend(two_adds(rt.alloc())?, |machine| {
+        let wanted = [0x0001_0004, 2, 0x0001_0004, 0, 3];
+        assert_same!(rt; replay(machine, &COMBINED), Ok(()));
+        assert_same!(rt; look_at(machine), wanted.map(Some));
+        assert!(rt; machine.is_idle());
+        assert_same!(rt; replay(machine, &[]), Ok(()));
+        assert_same!(rt; look_at(machine), wanted.map(Some));
+    });
     Ok(())
+}
+
+/// The trace with a step before this one that names nothing of the machine.
+fn with_a_stall(alloc: Global, place: usize) -> Result<Vec<Step>, AllocError> {
+    let (before, behind) = COMBINED.split_at(place.min(COMBINED.len()));
+    let mut steps = Vec::from_slice(alloc, before)?;
+    steps.push(Step::Serve(2))?;
+    steps.extend_from_slice(behind)?;
+    Ok(steps)
 }
 
 /// Wherever a step stalls, its place is told, and the machine stands after those before it: a step that
@@ -79,16 +74,14 @@ fn replays_a_trace(rt: HostRuntime) -> Result<(), Fail> {
 #[test]
 fn stops_at_a_step_that_stalls(rt: HostRuntime) -> Result<(), Fail> {
     for place in 0..=COMBINED.len() {
-        let mut steps = Vec::from_slice(rt.alloc(), &COMBINED[..place])?;
-        steps.push(Step::Serve(2))?;
-        steps.extend_from_slice(&COMBINED[place..])?;
-        let mut machine = two_adds(&rt)?;
-        let answer = replay(&mut machine, steps.as_slice());
-        assert_same!(rt; answer, Err(StalledStep { place }));
-        let mut wanted = two_adds(&rt)?;
-        run(&mut wanted, &COMBINED[..place]);
-        assert_same!(rt; look_at(&machine), look_at(&wanted), place);
-        assert_same!(rt; machine.is_idle(), wanted.is_idle(), place);
+        let steps = with_a_stall(rt.alloc(), place)?;
+        let machines = (two_adds(rt.alloc())?, two_adds(rt.alloc())?);
+        lend((machines, steps), |((machine, wanted), steps)| {
+            assert_same!(rt; replay(machine, steps.as_slice()), Err(StalledStep { place }));
+            run(wanted, &COMBINED[..place]);
+            assert_same!(rt; look_at(machine), look_at(wanted), place);
+            assert_same!(rt; machine.is_idle(), wanted.is_idle(), place);
+        });
     }
     Ok(())
 }

@@ -1,44 +1,39 @@
 //! Runs and rounds by hand, and the sweep beside one that asks for each of its steps.
 
-ghost use Rattle.std.specs.Prelude.{◌≤◌};
-
 mod rounds;
 
 use self::rounds::round_of;
 use machine_log::{LogRefusal, Logged};
 use machine_runs::Machine;
 use machine_sweep::{Round, SweepEnd, any_is_faulted, any_runs, follow_sweep};
-use std::alloc::Global;
 use std::process::Abort;
 use std::test::Fail;
 use steps::Step;
-use test_devices::assert_same;
+use test_devices::{assert_same, lend};
 use test_machines::{log_of, machine_of, tight_size};
 
 /// Each of four processors stops by a fault in its first turn, and each such turn ends a sweep.
 #[test]
 fn ends_at_each_fault(rt: HostRuntime) -> Result<(), Fail> {
-    let mut log = log_of(rt.alloc(), "ebreak", tight_size(2))?;
-    assert_same!(rt; follow_sweep(&mut log, 0), Ok(SweepEnd::Budget));
-    assert_same!(rt; log.steps().len(), 0);
-    assert!(rt; !any_is_faulted(log.machine()));
-    for count in 1..5 {
-        assert!(rt; any_runs(log.machine()));
-        assert_same!(rt; follow_sweep(&mut log, 100), Ok(SweepEnd::Over));
-        assert_same!(rt; log.steps().len(), count);
-        assert!(rt; any_is_faulted(log.machine()));
-    }
-    assert!(rt; !any_runs(log.machine()));
-    assert_same!(rt; follow_sweep(&mut log, 0), Ok(SweepEnd::Over));
-    assert_same!(rt; log.steps().len(), 4);
-    Ok(())
+    lend(log_of(rt.alloc(), "ebreak", tight_size(2))?, |log| {
+        assert_same!(rt; follow_sweep(log, 0), Ok(SweepEnd::Budget));
+        assert_same!(rt; log.steps().len(), 0);
+        assert!(rt; !any_is_faulted(log.machine()));
+        for count in 1..5 {
+            assert!(rt; any_runs(log.machine()));
+            assert_same!(rt; follow_sweep(log, 100), Ok(SweepEnd::Over));
+            assert_same!(rt; log.steps().len(), count);
+            assert!(rt; any_is_faulted(log.machine()));
+        }
+        assert!(rt; !any_runs(log.machine()));
+        assert_same!(rt; follow_sweep(log, 0), Ok(SweepEnd::Over));
+        assert_same!(rt; log.steps().len(), 4);
+        Ok(())
+    })
 }
 
-/// Processor 1 stops by a fault in the round in which processor 0 issues its reference, which a drain then
-/// brings to its end: the request up and into module 0, the service, the reply down, and the turn.
-#[test]
-fn drains_behind_a_fault(rt: HostRuntime) -> Result<(), Fail> {
-    let text = "
+/// Of two processors that take turns, processor 0 refers to a shared word in its fifth, and the other stops by EBREAK.
+const FAULTS: &str = "
  addi x17, x0, 2
  ecall
  bne x10, x0, odd
@@ -48,47 +43,65 @@ fn drains_behind_a_fault(rt: HostRuntime) -> Result<(), Fail> {
 odd: addi x7, x0, 1
  ebreak
 ";
-    let mut log = log_of(rt.alloc(), text, tight_size(1))?;
-    assert_same!(rt; follow_sweep(&mut log, 100), Ok(SweepEnd::Over));
-    let turns = [0, 1, 0, 1, 0, 1, 0, 1, 0, 1];
-    let drain = [
-        Step::Up { stage: 0, wire: 0 },
-        Step::Serve(0),
-        Step::Down { stage: 0, wire: 0 },
-        Step::Turn(0),
-    ];
-    assert!(rt; log.steps().len() == turns.len() + drain.len());
-    for (step, processor) in log.steps().iter().zip(turns) {
-        assert_same!(rt; *step, Step::Turn(processor));
-    }
-    assert_same!(rt; &log.steps()[turns.len()..], drain.as_slice());
-    assert!(rt; log.machine().is_idle());
-    Ok(())
+
+/// Ten turns, and the steps of a drain.
+static DRAINED: [Step; 14] = [
+    Step::Turn(0),
+    Step::Turn(1),
+    Step::Turn(0),
+    Step::Turn(1),
+    Step::Turn(0),
+    Step::Turn(1),
+    Step::Turn(0),
+    Step::Turn(1),
+    Step::Turn(0),
+    Step::Turn(1),
+    Step::Up { stage: 0, wire: 0 },
+    Step::Serve(0),
+    Step::Down { stage: 0, wire: 0 },
+    Step::Turn(0),
+];
+
+/// Processor 1 stops by a fault in the round in which processor 0 issues its reference, which a drain then
+/// brings to its end: the request up and into module 0, the service, the reply down, and the turn.
+#[test]
+fn drains_behind_a_fault(rt: HostRuntime) -> Result<(), Fail> {
+    lend(log_of(rt.alloc(), FAULTS, tight_size(1))?, |log| {
+        assert_same!(rt; follow_sweep(log, 100), Ok(SweepEnd::Over));
+        assert_same!(rt; log.steps(), DRAINED.as_slice());
+        assert!(rt; log.machine().is_idle());
+        Ok(())
+    })
 }
+
+/// A load of shared word 0 by each processor, in its second turn, and a halt.
+const LOADS: &str = "lui x5, 0x80000\nlw x6, 0(x5)\necall";
 
 /// A reference that is open when the budget is used up is brought to its end too.
 #[test]
 fn drains_behind_the_budget(rt: HostRuntime) -> Result<(), Fail> {
-    let text = "lui x5, 0x80000\nlw x6, 0(x5)\necall";
-    let mut log = log_of(rt.alloc(), text, tight_size(0))?;
-    assert_same!(rt; follow_sweep(&mut log, 2), Ok(SweepEnd::Budget));
-    assert_same!(rt; log.steps(), [Step::Turn(0), Step::Turn(0), Step::Serve(0), Step::Turn(0)].as_slice());
-    assert_same!(rt; follow_sweep(&mut log, 1), Ok(SweepEnd::Over));
-    assert_same!(rt; log.steps().len(), 5);
-    Ok(())
+    lend(log_of(rt.alloc(), LOADS, tight_size(0))?, |log| {
+        assert_same!(rt; follow_sweep(log, 2), Ok(SweepEnd::Budget));
+        let taken = [Step::Turn(0), Step::Turn(0), Step::Serve(0), Step::Turn(0)];
+        assert_same!(rt; log.steps(), taken.as_slice());
+        assert_same!(rt; follow_sweep(log, 1), Ok(SweepEnd::Over));
+        assert_same!(rt; log.steps().len(), 5);
+        Ok(())
+    })
 }
 
 /// Room is asked for the steps of the sweep and of its drain, before the first of them is taken.
 #[test]
 fn asks_for_room_first(rt: HostRuntime) -> Result<(), Fail> {
-    let mut log = log_of(rt.alloc(), "jal x0, 0", tight_size(0))?;
-    assert_same!(rt; follow_sweep(&mut log, 200_000), Ok(SweepEnd::Budget));
-    // With 200,000 steps there is room for 3,994,304 more: those of a sweep, and two for its drain.
-    assert_same!(rt; follow_sweep(&mut log, 3_994_303), Err(LogRefusal::Full));
-    assert_same!(rt; log.steps().len(), 200_000);
-    assert_same!(rt; follow_sweep(&mut log, 3), Ok(SweepEnd::Budget));
-    assert_same!(rt; log.steps().len(), 200_003);
-    Ok(())
+    lend(log_of(rt.alloc(), "jal x0, 0", tight_size(0))?, |log| {
+        assert_same!(rt; follow_sweep(log, 200_000), Ok(SweepEnd::Budget));
+        // With 200,000 steps there is room for 3,994,304 more: those of a sweep, and two for its drain.
+        assert_same!(rt; follow_sweep(log, 3_994_303), Err(LogRefusal::Full));
+        assert_same!(rt; log.steps().len(), 200_000);
+        assert_same!(rt; follow_sweep(log, 3), Ok(SweepEnd::Budget));
+        assert_same!(rt; log.steps().len(), 200_003);
+        Ok(())
+    })
 }
 
 /// Takes a round, whose steps are these.
@@ -101,31 +114,33 @@ fn takes(rt: &impl Abort, machine: &mut Machine, steps: &[Step]) {
     assert_same!(rt; round.next(machine), None);
 }
 
+/// A round in which two processors refer to one word.
+static ROUND: [Step; 6] = [
+    Step::Turn(0),
+    Step::Turn(1),
+    Step::Up { stage: 0, wire: 0 },
+    Step::Up { stage: 0, wire: 1 },
+    Step::Serve(0),
+    Step::Down { stage: 0, wire: 0 },
+];
+
 /// Both of two processors load word 0 in their second turn. The second request combines with the first at
 /// the one stage, the module serves them, and the reply is split: all in the round in which they are sent,
 /// since each row finds what the row before has left.
 #[test]
 fn rounds_of_two_processors(rt: HostRuntime) -> Result<(), Fail> {
-    let text = "lui x5, 0x80000\nlw x6, 0(x5)\necall";
-    let mut machine = machine_of(rt.alloc(), text, tight_size(1))?;
-    let turns = [Step::Turn(0), Step::Turn(1)];
-    takes(&rt, &mut machine, &turns);
-    let all = [
-        Step::Turn(0),
-        Step::Turn(1),
-        Step::Up { stage: 0, wire: 0 },
-        Step::Up { stage: 0, wire: 1 },
-        Step::Serve(0),
-        Step::Down { stage: 0, wire: 0 },
-    ];
-    takes(&rt, &mut machine, &all);
-    assert!(rt; !machine.is_idle());
-    // Both retire, and halt.
-    takes(&rt, &mut machine, &turns);
-    assert!(rt; machine.is_idle());
-    takes(&rt, &mut machine, &turns);
-    assert!(rt; !any_runs(&machine));
-    Ok(())
+    lend(machine_of(rt.alloc(), LOADS, tight_size(1))?, |machine| {
+        let turns = &ROUND[..2];
+        takes(&rt, machine, turns);
+        takes(&rt, machine, &ROUND);
+        assert!(rt; !machine.is_idle());
+        // Both retire, and halt.
+        takes(&rt, machine, turns);
+        assert!(rt; machine.is_idle());
+        takes(&rt, machine, turns);
+        assert!(rt; !any_runs(machine));
+        Ok(())
+    })
 }
 
 /// Each processor adds 1 to one word ten times, and then to a word of its own, so that requests combine, find
@@ -151,32 +166,33 @@ fn is_answered(log: &mut Logged, step: Step) -> bool {
     log.step(step).is_ok()
 }
 
-/// Asks for each step of the sweep, until no processor runs.
-fn ask_for_all(rt: &impl Abort, alloc: Global, log: &mut Logged, k: u8) -> Result<(), Fail>
-    requires { k ≤ 6 }
-{
-    let round = round_of(alloc, k)?;
+/// Asks for each step of a round, again and again, until no processor runs.
+fn ask_for_all(rt: &impl Abort, log: &mut Logged, round: &[Step]) {
     for _ in 0..100_000 {
-        for step in &round {
+        for step in round {
             if !any_runs(log.machine()) {
-                return Ok(());
+                return;
             }
             assert!(rt; is_answered(log, *step));
         }
     }
-    Ok(())
 }
 
 /// The log has the steps that it has where each step of the sweep is asked for.
 #[test]
 fn leaves_out_only_what_stalls(rt: HostRuntime) -> Result<(), Fail> {
     for k in 0..7 {
-        let mut log = log_of(rt.alloc(), ADDS, tight_size(k))?;
-        assert_same!(rt; follow_sweep(&mut log, 100_000), Ok(SweepEnd::Over));
-        let mut plain = log_of(rt.alloc(), ADDS, tight_size(k))?;
-        ask_for_all(&rt, rt.alloc(), &mut plain, k)?;
-        assert!(rt; !log.steps().is_empty());
-        assert_same!(rt; log.steps(), plain.steps(), k);
+        let round = round_of(rt.alloc(), k)?;
+        let plain = log_of(rt.alloc(), ADDS, tight_size(k))?;
+        lend(
+            (log_of(rt.alloc(), ADDS, tight_size(k))?, plain, round),
+            |(log, plain, round)| {
+                assert_same!(rt; follow_sweep(log, 100_000), Ok(SweepEnd::Over));
+                ask_for_all(&rt, plain, round.as_slice());
+                assert!(rt; !log.steps().is_empty());
+                assert_same!(rt; log.steps(), plain.steps(), k);
+            },
+        );
     }
     Ok(())
 }

@@ -2,9 +2,8 @@
 //! its answer is that of ample memory.
 
 use super::pokes::write;
-use super::room_for;
-use assembler::assemble;
-use elf_image::read_image;
+use super::{log_from, room_for};
+use elf_image::{Image, read_image};
 use flat_machine::{Cause, Config, Poke, SHARED_START};
 use link::Meter;
 use machine_log::{LogRefusal, Logged};
@@ -14,7 +13,8 @@ use serial_order::order;
 use std::alloc::Global;
 use std::test::Fail;
 use steps::{Outcome, Step};
-use test_devices::assert_same;
+use test_devices::{assert_same, lend};
+use test_machines::image_of;
 
 /// A machine of two processors.
 const TWO: Config = Config {
@@ -25,12 +25,16 @@ const TWO: Config = Config {
     shared_words: 4,
 };
 
-/// A machine of which each processor is to add to shared word 0, and to halt.
+/// The image of a program by which each processor adds to shared word 0, and halts.
+fn image(alloc: Global) -> Result<Image, Fail> {
+    let file = image_of(alloc, "amoadd.w a0, a1, (a2)\necall")?;
+    Ok(read_image(alloc, &mut Meter::new(file.as_slice()), &TWO)?)
+}
+
+/// The machine of a copy of it.
 fn machine(alloc: Global) -> Result<Machine, Fail> {
-    let program = assemble(alloc, "amoadd.w a0, a1, (a2)\necall")?;
-    let file = program.to_elf(alloc)?;
-    let image = read_image(alloc, &mut Meter::new(file.as_slice()), &TWO)?;
-    Ok(Machine::new(alloc, image.copy(alloc)?, TWO)?)
+    let copy = lend(image(alloc)?, |image| image.copy(alloc))?;
+    Ok(Machine::new(alloc, copy, TWO)?)
 }
 
 /// The writes by which processor 0 adds 5.
@@ -67,28 +71,26 @@ fn halts(log: &mut Logged, processor: u8) -> Result<bool, LogRefusal> {
 /// halts, and processor 1 stops by a fault, since its address is 0.
 #[test]
 fn log_is_short_of_memory(rt: HostRuntime) -> Result<(), Fail> {
-    let machine = machine(rt.alloc())?;
-    assert!(rt; machine.is_idle());
-    assert!(rt; machine.are_home());
-    let mut log = Logged::new(rt.alloc(), machine);
-    write(&rt, &mut log, &POKES)?;
-    assert!(rt; does(&mut log, Step::Turn(0), Outcome::Issued)?);
-    assert_same!(rt; log.drain()?, 4);
-    assert_same!(rt; log.machine().word(0), Some(5));
-    room_for(&mut log, 100)?;
-    assert!(rt; halts(&mut log, 0)?);
-    assert_same!(rt; follow_sweep(&mut log, 100)?, SweepEnd::Over);
-    assert_same!(rt; log.steps().len(), 9);
-    Ok(())
+    lend(log_from(&rt, machine(rt.alloc())?), |log| {
+        write(&rt, log, &POKES)?;
+        assert!(rt; does(log, Step::Turn(0), Outcome::Issued)?);
+        assert_same!(rt; log.drain()?, 4);
+        assert_same!(rt; log.machine().word(0), Some(5));
+        room_for(log, 100)?;
+        assert!(rt; halts(log, 0)?);
+        assert_same!(rt; follow_sweep(log, 100)?, SweepEnd::Over);
+        assert_same!(rt; log.steps().len(), 9);
+        Ok(())
+    })
 }
 
 /// The two writes are the order: no reference is served.
 #[test]
 fn order_is_short_of_memory(rt: HostRuntime) -> Result<(), Fail> {
     let steps = [Step::Poke(POKES[0]), Step::Poke(POKES[1]), Step::Turn(0)];
-    let mut machine = machine(rt.alloc())?;
-    assert!(rt; machine.is_idle());
-    let entries = order(&mut machine, rt.alloc(), &steps)?;
-    assert_same!(rt; entries.len(), 2);
-    Ok(())
+    lend(machine(rt.alloc())?, |machine| {
+        assert!(rt; machine.is_idle());
+        assert_same!(rt; order(machine, rt.alloc(), &steps)?.len(), 2);
+        Ok(())
+    })
 }

@@ -1,13 +1,13 @@
 //! Writes from outside, and what is taken in the room that a log lends.
 
-use super::{four_adds, one_add, room_for};
+use super::{four_adds, one_add, result_of, room_for};
 use flat_machine::{PC, Poke};
 use machine_log::{LogRefusal, Logged};
 use machine_runs::{Machine, most_moves};
 use std::process::Abort;
 use std::test::Fail;
 use steps::{Outcome, Step};
-use test_devices::assert_same;
+use test_devices::{assert_same, lend};
 
 /// Writes these, which the machine has.
 pub(super) fn write(rt: &impl Abort, log: &mut Logged, pokes: &[Poke]) -> Result<(), LogRefusal> {
@@ -196,13 +196,14 @@ fn expect_lawful(rt: &impl Abort, machine: &Machine) {
 /// nothing elsewhere. What the machine has not is not lawful.
 #[test]
 fn pokes_are_seen(rt: HostRuntime) -> Result<(), Fail> {
-    let mut log = four_adds(&rt)?;
-    expect_lawful(&rt, log.machine());
-    assert_same!(rt; write(&rt, &mut log, &POKES), Ok(()));
-    expect_seen(&rt, log.machine());
-    assert_same!(rt; log.steps().len(), 5);
-    assert_same!(rt; log.steps().last(), Some(&Step::Poke(POKES[4])));
-    Ok(())
+    lend(four_adds(&rt)?, |log| {
+        expect_lawful(&rt, log.machine());
+        assert_same!(rt; write(&rt, log, &POKES), Ok(()));
+        expect_seen(&rt, log.machine());
+        assert_same!(rt; log.steps().len(), 5);
+        assert_same!(rt; log.steps().last(), Some(&Step::Poke(POKES[4])));
+        Ok(())
+    })
 }
 
 /// A reference, by a step and a drain, each in room that was made for it.
@@ -213,29 +214,27 @@ fn refer(rt: &impl Abort, log: &mut Logged) -> Result<(), LogRefusal> {
     let most = most_moves(log.machine());
     assert_same!(rt; log.room(most)?.drain(), 2);
     assert_same!(rt; log.machine().is_open(0), Some(false));
+    let wanted = [Step::Turn(0), Step::Serve(0), Step::Turn(0)];
+    assert_same!(rt; log.steps(), wanted.as_slice());
     Ok(())
 }
 
-/// One instruction, in room that was made for it.
-fn take_one(log: &mut Logged) -> Result<Outcome, LogRefusal> {
+/// What one instruction writes to a register, in room that was made for it.
+fn take_one(log: &mut Logged) -> Result<Option<u32>, LogRefusal> {
     let k = log.machine().config().k;
-    Ok(log.room(2 * u32::from(k) + 3)?.one(0))
+    Ok(result_of(log.room(2 * u32::from(k) + 3)?.one(0)))
 }
 
 /// In the room that was made a reference goes out and is drained, and a local instruction follows it. All of
 /// it is entered.
 #[test]
 fn room_is_used(rt: HostRuntime) -> Result<(), Fail> {
-    let mut log = one_add(&rt)?;
-    refer(&rt, &mut log)?;
-    let wanted = [Step::Turn(0), Step::Serve(0), Step::Turn(0)];
-    assert_same!(rt; log.steps(), wanted.as_slice());
-    match take_one(&mut log)? {
-        Outcome::Retired(retired) => assert_same!(rt; retired.result, Some(11)),
-        outcome => assert!(rt; false, "{outcome:?}"),
-    }
-    assert_same!(rt; log.steps().len(), 4);
-    assert_same!(rt; room_for(&mut log, 4_194_301), Err(LogRefusal::Full));
-    assert_same!(rt; room_for(&mut log, 4_194_300), Ok(()));
-    Ok(())
+    lend(one_add(&rt)?, |log| {
+        refer(&rt, log)?;
+        assert_same!(rt; take_one(log)?, Some(11));
+        assert_same!(rt; log.steps().len(), 4);
+        assert_same!(rt; room_for(log, 4_194_301), Err(LogRefusal::Full));
+        assert_same!(rt; room_for(log, 4_194_300), Ok(()));
+        Ok(())
+    })
 }

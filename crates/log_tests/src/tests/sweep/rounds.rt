@@ -3,10 +3,11 @@
 ghost use Rattle.std.specs.Prelude.{◌≤◌};
 
 use machine_sweep::step_at;
-use std::alloc::{AllocError, Global};
+use std::alloc::{AllocError, AllocGlobal, Global};
+use std::process::Abort;
 use std::test::Fail;
 use steps::Step;
-use test_devices::assert_same;
+use test_devices::{assert_same, lend};
 
 /// The steps of a round, one after another.
 pub(super) fn round_of(alloc: Global, k: u8) -> Result<Vec<Step>, AllocError>
@@ -21,51 +22,74 @@ pub(super) fn round_of(alloc: Global, k: u8) -> Result<Vec<Step>, AllocError>
     Ok(steps)
 }
 
+/// Two processors, whose messages pass one stage.
+static ONE_STAGE: [Step; 8] = [
+    Step::Turn(0),
+    Step::Turn(1),
+    Step::Up { stage: 0, wire: 0 },
+    Step::Up { stage: 0, wire: 1 },
+    Step::Serve(0),
+    Step::Serve(1),
+    Step::Down { stage: 0, wire: 0 },
+    Step::Down { stage: 0, wire: 1 },
+];
+
 /// One processor: a turn and a service.
 #[test]
 fn round_without_stages(rt: HostRuntime) -> Result<(), Fail> {
-    let round = round_of(rt.alloc(), 0)?;
-    assert_same!(rt; round.as_slice(), [Step::Turn(0), Step::Serve(0)].as_slice());
+    lend(round_of(rt.alloc(), 0)?, |round| {
+        assert_same!(rt; round.as_slice(), [Step::Turn(0), Step::Serve(0)].as_slice());
+    });
     Ok(())
 }
 
-/// Two processors, whose messages pass one stage.
 #[test]
 fn round_of_one_stage(rt: HostRuntime) -> Result<(), Fail> {
-    let round = round_of(rt.alloc(), 1)?;
-    let wanted = [
-        Step::Turn(0),
-        Step::Turn(1),
-        Step::Up { stage: 0, wire: 0 },
-        Step::Up { stage: 0, wire: 1 },
-        Step::Serve(0),
-        Step::Serve(1),
-        Step::Down { stage: 0, wire: 0 },
-        Step::Down { stage: 0, wire: 1 },
-    ];
-    assert_same!(rt; round.as_slice(), wanted.as_slice());
+    lend(round_of(rt.alloc(), 1)?, |round| {
+        assert_same!(rt; round.as_slice(), ONE_STAGE.as_slice());
+    });
     Ok(())
 }
 
-/// Four processors: 24 steps, the moves up from the last stage and those down from the first.
+/// A round of machines with so many stages has so many steps, and these at these places.
+fn expect_steps(
+    rt: &(impl Abort + AllocGlobal),
+    k: u8,
+    count: usize,
+    steps: &[(usize, Step)],
+) -> Result<(), Fail>
+    requires { k ≤ 6 }
+{
+    lend(round_of(rt.alloc(), k)?, |round| {
+        assert_same!(rt; round.len(), count);
+        for (place, step) in steps {
+            assert_same!(rt; round.get(*place), Some(step));
+        }
+    });
+    Ok(())
+}
+
+/// Steps of the round of four processors: the moves up from the last stage, and those down from the first.
+static TWO_STAGES: [(usize, Step); 5] = [
+    (4, Step::Up { stage: 1, wire: 0 }),
+    (11, Step::Up { stage: 0, wire: 3 }),
+    (12, Step::Serve(0)),
+    (16, Step::Down { stage: 0, wire: 0 }),
+    (23, Step::Down { stage: 1, wire: 3 }),
+];
+
 #[test]
 fn round_of_two_stages(rt: HostRuntime) -> Result<(), Fail> {
-    let round = round_of(rt.alloc(), 2)?;
-    assert_same!(rt; round.len(), 24);
-    assert_same!(rt; round.get(4), Some(&Step::Up { stage: 1, wire: 0 }));
-    assert_same!(rt; round.get(11), Some(&Step::Up { stage: 0, wire: 3 }));
-    assert_same!(rt; round.get(12), Some(&Step::Serve(0)));
-    assert_same!(rt; round.get(16), Some(&Step::Down { stage: 0, wire: 0 }));
-    assert_same!(rt; round.get(23), Some(&Step::Down { stage: 1, wire: 3 }));
-    Ok(())
+    expect_steps(&rt, 2, 24, &TWO_STAGES)
 }
 
-/// A round of the largest machine has 896 steps.
+/// The ends of a round of the largest machine.
+static SIX_STAGES: [(usize, Step); 2] = [
+    (0, Step::Turn(0)),
+    (895, Step::Down { stage: 5, wire: 63 }),
+];
+
 #[test]
 fn round_of_six_stages(rt: HostRuntime) -> Result<(), Fail> {
-    let round = round_of(rt.alloc(), 6)?;
-    assert_same!(rt; round.len(), 896);
-    assert_same!(rt; round.get(0), Some(&Step::Turn(0)));
-    assert_same!(rt; round.get(895), Some(&Step::Down { stage: 5, wire: 63 }));
-    Ok(())
+    expect_steps(&rt, 6, 896, &SIX_STAGES)
 }
