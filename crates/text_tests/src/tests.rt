@@ -8,10 +8,18 @@ mod door;
 mod lines;
 mod printing;
 
+use assembler::{AsmError, assemble};
+use std::alloc::Global;
 use std::fmt::Debug;
 use std::process::Abort;
 
 /// Ends the test where the two differ, and tells them and the case that they are of ([`assert_same!`]).
 fn same<T: PartialEq + Debug, A: Debug>(rt: &impl Abort, found: &T, wanted: &T, at: &A) {
     assert_eq!(rt; found, wanted, "{at:?}");
+}
+
+/// The image of a text.
+fn image_of(alloc: Global, text: &str) -> Result<Vec<u8>, AsmError> {
+    let program = assemble(alloc, text)?;
+    program.to_elf(alloc)
 }

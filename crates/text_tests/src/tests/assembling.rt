@@ -1,4 +1,6 @@
 //! Texts with the words, bytes and faults that they must have.
+//!
+//! What a text assembles to is told as a text: its refusal, or what its sections have (`layout_text`).
 
 mod faults;
 mod images;
@@ -6,17 +8,34 @@ mod values;
 mod words;
 
 use assembler::assemble;
-use std::test::Fail;
+use std::alloc::{AllocError, AllocGlobal, Global};
+use std::process::Abort;
+use test_devices::{assert_same, layout_text};
 
-/// The code of a text that places nothing else, as words.
-fn code_of(rt: &HostRuntime, text: &str) -> Result<Vec<u32>, Fail> {
-    let program = assemble(rt.alloc(), text)?;
-    let layout = program.layout();
-    let mut words = Vec::new(rt.alloc());
-    for bytes in layout.code.as_slice().chunks_exact(4) {
-        if let [a, b, c, d] = bytes {
-            words.push(u32::from_le_bytes([*a, *b, *c, *d]))?;
-        }
+/// Compares what a text assembles to with what it must.
+fn compare(rt: &(impl Abort + AllocGlobal), text: &str, wanted: &str) {
+    let found = assembled(rt.alloc(), text).expect(rt, "memory");
+    assert_same!(rt; found.as_str(), wanted, text);
+}
+
+/// Compares texts, each with what stands beside it.
+fn compare_each(rt: &(impl Abort + AllocGlobal), cases: &[(&str, &str)]) {
+    for (text, wanted) in cases {
+        compare(rt, text, wanted);
     }
-    Ok(words)
+}
+
+/// Compares texts that all assemble to the same.
+fn compare_all(rt: &(impl Abort + AllocGlobal), texts: &[&str], wanted: &str) {
+    for text in texts {
+        compare(rt, text, wanted);
+    }
+}
+
+/// What a text assembles to.
+fn assembled(alloc: Global, text: &str) -> Result<String, AllocError> {
+    match assemble(alloc, text) {
+        Ok(program) => layout_text(alloc, program.layout()),
+        Err(error) => format!(in alloc; "{error}"),
+    }
 }

@@ -1,36 +1,53 @@
 //! The command, from the bytes of an image to the lines of its code: what no clause says of it.
 
-use assembler::assemble;
+use super::image_of;
+use assembler::AsmError;
 use dis_command::dis_command;
-use link::{Link, Meter};
 use std::alloc::Global;
-use std::io::Read;
+use std::io::{Read, Write};
 use std::test::Fail;
-use test_devices::{Deaf, EBREAK, Endless, HUNDRED_ADDS, Source, assert_same};
+use test_devices::{
+    Deaf, EBREAK, Endless, HUNDRED_ADDS, Ran, Source, assert_same, ran, with_bytes,
+};
 
-/// What disassembling a file comes to.
-#[derive(Drop)]
-struct Ran {
-    status: u8,
-    out: Vec<u8>,
-    err: Vec<u8>,
+/// What disassembling a file comes to on two devices.
+fn run_on<R: Read + Drop, W: Write + Drop, E: Write + Drop>(
+    alloc: Global,
+    file: R,
+    shared_words: u32,
+    lines: W,
+    told: E,
+) -> Ran<W, E> {
+    ran!(
+        lines,
+        told,
+        |out, err| dis_command(alloc, file, shared_words, out, err)
+    )
 }
 
-fn run<R: Read + Drop>(alloc: Global, file: R, shared_words: u32) -> Ran {
-    let mut out = Meter::new(Vec::new(alloc));
-    let mut err = Vec::new(alloc);
-    let status = dis_command(alloc, file, shared_words, &mut out, &mut err);
-    Ran {
-        status,
-        out: out.device,
-        err,
-    }
+/// What disassembling a file comes to, with this device for the lines.
+fn run<R: Read + Drop, W: Write + Drop>(
+    alloc: Global,
+    file: R,
+    shared_words: u32,
+    lines: W,
+) -> Ran<W> {
+    run_on(alloc, file, shared_words, lines, Vec::new(alloc))
 }
 
-/// The image of a text.
-fn image_of(alloc: Global, text: &str) -> Result<Vec<u8>, Fail> {
-    Ok(assemble(alloc, text)?.to_elf(alloc)?)
+/// What disassembling an image comes to.
+fn run_image(alloc: Global, image: &[u8], shared_words: u32) -> Ran<Vec<u8>> {
+    run(alloc, image, shared_words, Vec::new(alloc))
 }
+
+/// What disassembling the image of a text comes to.
+fn run_text(alloc: Global, text: &str, shared_words: u32) -> Result<Ran<Vec<u8>>, AsmError> {
+    let image = image_of(alloc, text)?;
+    Ok(run_image(alloc, image.as_slice(), shared_words))
+}
+
+/// The lines of the code of `ebreak`.
+static LINES: &str = "00010000 00100073 ebreak\n";
 
 /// Texts, and the lines of their code. The words are by hand from the tables of the RISC-V manual.
 static LISTED: [(&str, &str); 6] = [
@@ -87,18 +104,14 @@ static REFUSED: [(usize, &[u8], &str); 7] = [
     (24, &[2], "ultra: I7\n"),
 ];
 
+/// The image of two segments, of which the second is moved to the first one's address.
+static MOVED: [(usize, u8); 5] = [(92, 0x00), (93, 0x00), (94, 0x01), (95, 0x00), (108, 5)];
+
 #[test]
 fn lists_the_code(rt: HostRuntime) -> Result<(), Fail> {
-    let ran = run(rt.alloc(), EBREAK.as_slice(), 1024);
-    assert_same!(rt; ran.out.as_slice(), b"00010000 00100073 ebreak\n".as_slice());
-    assert_same!(rt; ran.err.len(), 0);
-    assert_same!(rt; ran.status, 0);
+    run_image(rt.alloc(), &EBREAK, 1024).comes_to(0, LINES.as_bytes(), "")?;
     for (text, lines) in &LISTED {
-        let image = image_of(rt.alloc(), text)?;
-        let ran = run(rt.alloc(), image.as_slice(), 1024);
-        assert_same!(rt; ran.out.as_slice(), lines.as_bytes(), text);
-        assert_same!(rt; ran.err.len(), 0, text);
-        assert_same!(rt; ran.status, 0, text);
+        run_text(rt.alloc(), text, 1024)?.comes_to(0, lines.as_bytes(), "")?;
     }
     Ok(())
 }
@@ -106,8 +119,7 @@ fn lists_the_code(rt: HostRuntime) -> Result<(), Fail> {
 /// Code that fills its region: 16,383 words in no row, and the last.
 #[test]
 fn lists_as_many_words_as_code_has(rt: HostRuntime) -> Result<(), Fail> {
-    let image = image_of(rt.alloc(), ".zero 65532\nebreak\n")?;
-    let ran = run(rt.alloc(), image.as_slice(), 1024);
+    let ran = run_text(rt.alloc(), ".zero 65532\nebreak\n", 1024)?;
     let out = ran.out.as_slice();
     assert_same!(rt; out.len(), 16_383 * 20 + 25);
     assert!(rt; out.starts_with(b"00010000 00000000 -\n00010004 00000000 -\n"));
@@ -118,109 +130,95 @@ fn lists_as_many_words_as_code_has(rt: HostRuntime) -> Result<(), Fail> {
 
 #[test]
 fn refuses_an_image(rt: HostRuntime) -> Result<(), Fail> {
-    let alloc = rt.alloc();
     for (place, bytes, told) in &REFUSED {
-        let mut image = EBREAK;
-        for (byte, new) in image.iter_mut().skip(*place).zip(*bytes) {
-            *byte = *new;
-        }
-        let ran = run(alloc, image.as_slice(), 1024);
-        assert_same!(rt; ran.err.as_slice(), told.as_bytes());
-        assert_same!(rt; ran.out.len(), 0, told);
-        assert_same!(rt; ran.status, 2, told);
+        let image = with_bytes(EBREAK, *place, bytes);
+        run_image(rt.alloc(), &image, 1024).comes_to(2, b"", told)?;
     }
-    for cut in 0..88 {
-        let ran = run(alloc, &EBREAK[..cut], 1024);
-        let told = if cut < 84 {
-            "ultra: I1\n"
-        } else {
-            "ultra: I4\n"
-        };
-        assert_same!(rt; ran.err.as_slice(), told.as_bytes(), cut);
-        assert_same!(rt; ran.status, 2, cut);
-    }
-    // The second segment is moved to the first one's address.
-    let mut image = image_of(rt.alloc(), "ebreak\n.local\n.byte 1")?;
-    for (place, byte) in [(92, 0x00), (93, 0x00), (94, 0x01), (95, 0x00), (108, 5)] {
-        if let Some(there) = image.as_mut_slice().get_mut(place) {
-            *there = byte;
-        }
-    }
-    let ran = run(alloc, image.as_slice(), 1024);
-    assert_same!(rt; ran.err.as_slice(), b"ultra: I6\n".as_slice());
-    let ran = run(alloc, Endless, 1024);
-    assert_same!(rt; ran.err.as_slice(), b"ultra: I8\n".as_slice());
-    assert_same!(rt; ran.status, 2);
     Ok(())
+}
+
+#[test]
+fn refuses_an_image_that_is_cut_short(rt: HostRuntime) -> Result<(), Fail> {
+    for cut in 0..88 {
+        let told = match cut {
+            0..84 => "ultra: I1\n",
+            _ => "ultra: I4\n",
+        };
+        run_image(rt.alloc(), &EBREAK[..cut], 1024).comes_to(2, b"", told)?;
+    }
+    Ok(())
+}
+
+#[test]
+fn refuses_an_image_of_segments_that_overlap(rt: HostRuntime) -> Result<(), Fail> {
+    let mut image = image_of(rt.alloc(), "ebreak\n.local\n.byte 1")?;
+    for (place, byte) in &MOVED {
+        if let Some(there) = image.as_mut_slice().get_mut(*place) {
+            *there = *byte;
+        }
+    }
+    run_image(rt.alloc(), image.as_slice(), 1024).comes_to(2, b"", "ultra: I6\n")
+}
+
+#[test]
+fn refuses_an_image_without_end(rt: HostRuntime) -> Result<(), Fail> {
+    run(rt.alloc(), Endless, 1024, Vec::new(rt.alloc())).comes_to(2, b"", "ultra: I8\n")
 }
 
 /// Eight shared bytes need two words.
 #[test]
 fn reads_for_so_many_words(rt: HostRuntime) -> Result<(), Fail> {
-    let image = image_of(rt.alloc(), "ebreak\n.shared\n.word 1, 2")?;
-    let ran = run(rt.alloc(), image.as_slice(), 2);
-    assert_same!(rt; ran.out.as_slice(), b"00010000 00100073 ebreak\n".as_slice());
-    assert_same!(rt; ran.status, 0);
-    let ran = run(rt.alloc(), image.as_slice(), 1);
-    assert_same!(rt; ran.err.as_slice(), b"ultra: I5\n".as_slice());
-    assert_same!(rt; ran.status, 2);
-    Ok(())
+    let text = "ebreak\n.shared\n.word 1, 2";
+    run_text(rt.alloc(), text, 2)?.comes_to(0, LINES.as_bytes(), "")?;
+    run_text(rt.alloc(), text, 1)?.comes_to(2, b"", "ultra: I5\n")
 }
 
 /// The 88 bytes take 88 calls, and the next tells that there are no more.
 #[test]
-fn reads_the_file_or_tells_it(rt: HostRuntime) {
+fn reads_the_file_or_tells_it(rt: HostRuntime) -> Result<(), Fail> {
     for fails_at in 0..91 {
-        let ran = run(rt.alloc(), Source::new(&EBREAK, fails_at), 1024);
-        if 1 <= fails_at && fails_at <= 89 {
-            assert_same!(rt; ran.err.as_slice(), b"ultra: I9\n".as_slice());
-            assert_same!(rt; ran.out.len(), 0, fails_at);
-            assert_same!(rt; ran.status, 3, fails_at);
-        } else {
-            assert_same!(rt; ran.out.as_slice(), b"00010000 00100073 ebreak\n".as_slice());
-            assert_same!(rt; ran.status, 0, fails_at);
-        }
+        let file = Source::new(&EBREAK, fails_at);
+        let (status, lines, told) = match fails_at {
+            1..90 => (3, "", "ultra: I9\n"),
+            _ => (0, LINES, ""),
+        };
+        run(rt.alloc(), file, 1024, Vec::new(rt.alloc())).comes_to(status, lines.as_bytes(), told)?;
     }
+    Ok(())
 }
 
 #[test]
-fn tells_that_nothing_can_be_printed(rt: HostRuntime) {
-    let alloc = rt.alloc();
-    let mut err = Vec::new(alloc);
-    let mut deaf = Meter::new(Deaf);
-    let status = dis_command(alloc, EBREAK.as_slice(), 1024, &mut deaf, &mut err);
-    assert!(rt; deaf.failed());
-    assert_same!(rt; err.as_slice(), b"ultra: link\n".as_slice());
-    assert_same!(rt; status, 3);
+fn tells_that_nothing_can_be_printed(rt: HostRuntime) -> Result<(), Fail> {
+    let ran = run(rt.alloc(), EBREAK.as_slice(), 1024, Deaf);
+    assert_same!(rt; ran.has_failed, true);
+    ran.comes_to(3, b"", "ultra: link\n")
+}
 
-    // Where standard error fails too, the exit status alone tells the fault.
-    let mut out = Meter::new(Vec::new(alloc));
-    let status = dis_command(alloc, &EBREAK[..51], 1024, &mut out, &mut Deaf);
-    assert_same!(rt; status, 2);
+/// Where standard error fails too, the exit status alone tells the fault.
+#[test]
+fn tells_by_its_status(rt: HostRuntime) -> Result<(), Fail> {
+    run_on(rt.alloc(), &EBREAK[..51], 1024, Vec::new(rt.alloc()), Deaf).comes_to(2, b"", "")
 }
 
 /// Each allocation of this test is to be refused in turn. Then the answer is that of ample memory, or that there is none.
 #[test]
 fn is_short_of_memory(rt: HostRuntime) -> Result<(), Fail> {
-    let alloc = rt.alloc();
-    let mut out = Meter::new(Vec::with_capacity(alloc, 64)?);
-    let mut err = Vec::with_capacity(alloc, 64)?;
-    match dis_command(alloc, EBREAK.as_slice(), 1024, &mut out, &mut err) {
-        0 => assert_same!(rt; out.device.as_slice(), b"00010000 00100073 ebreak\n".as_slice()),
-        status => {
-            assert_same!(rt; status, 4);
-            assert_same!(rt; err.as_slice(), b"ultra: memory\n".as_slice());
-            assert_same!(rt; out.device.len(), 0);
-        }
-    }
-    err.clear();
-    let mut out = Meter::new(Deaf);
-    match dis_command(alloc, &EBREAK[..87], 1024, &mut out, &mut err) {
-        2 => assert_same!(rt; err.as_slice(), b"ultra: I4\n".as_slice()),
-        status => {
-            assert_same!(rt; status, 4);
-            assert_same!(rt; err.as_slice(), b"ultra: memory\n".as_slice());
-        }
-    }
-    Ok(())
+    let lines = Vec::with_capacity(rt.alloc(), 64)?;
+    let told = Vec::with_capacity(rt.alloc(), 64)?;
+    run_on(rt.alloc(), EBREAK.as_slice(), 1024, lines, told).comes_to_or_lacks_memory(
+        0,
+        LINES.as_bytes(),
+        "",
+    )
+}
+
+/// Likewise, of an image that is refused.
+#[test]
+fn refusal_is_short_of_memory(rt: HostRuntime) -> Result<(), Fail> {
+    let told = Vec::with_capacity(rt.alloc(), 64)?;
+    run_on(rt.alloc(), &EBREAK[..87], 1024, Deaf, told).comes_to_or_lacks_memory(
+        2,
+        b"",
+        "ultra: I4\n",
+    )
 }

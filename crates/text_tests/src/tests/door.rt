@@ -14,6 +14,17 @@ pub struct Door {
     pub openings: usize,
 }
 
+impl Door {
+    /// A buffer that is not opened yet, or cannot be.
+    pub fn new(alloc: Global, is_shut: bool) -> Self {
+        Door {
+            alloc,
+            is_shut,
+            openings: 0,
+        }
+    }
+}
+
 impl Open for Door {
     type Device = Vec<u8>;
 

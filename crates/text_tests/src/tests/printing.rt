@@ -39,33 +39,20 @@ fn statuses(rt: HostRuntime) -> Result<(), Fail> {
 
 #[test]
 fn opens_at_the_first_write(rt: HostRuntime) {
-    let alloc = rt.alloc();
-    let mut writer = OnFirstWrite::new(Door {
-        alloc,
-        is_shut: false,
-        openings: 0,
-    });
-    assert!(rt; writer.flush().is_ok());
-    assert_same!(rt; writer.opener.openings, 0);
-    assert!(rt; writer.device.is_none());
-    assert!(rt; writer.write_all(b"a").is_ok());
-    assert!(rt; writer.write_all(b"b").is_ok());
-    assert!(rt; writer.flush().is_ok());
-    assert_same!(rt; writer.opener.openings, 1);
+    let mut writer = OnFirstWrite::new(Door::new(rt.alloc(), false));
+    let is_flushed = writer.flush().is_ok();
+    assert_same!(rt; (is_flushed, writer.opener.openings, writer.device.is_none()), (true, 0, true));
+    let is_written = writer.write_all(b"a").is_ok() && writer.write_all(b"b").is_ok();
+    let is_flushed = writer.flush().is_ok();
+    assert_same!(rt; (is_written, is_flushed, writer.opener.openings), (true, true, 1));
     assert_same!(rt; writer.device.as_ref().map(|bytes| bytes.as_slice()), Some(b"ab".as_slice()));
 }
 
 #[test]
 fn failed_opening_is_a_failed_write(rt: HostRuntime) {
-    let mut writer = OnFirstWrite::new(Door {
-        alloc: rt.alloc(),
-        is_shut: true,
-        openings: 0,
-    });
-    assert!(rt; writer.write(b"a").is_err());
-    assert!(rt; writer.write(b"a").is_err());
-    assert_same!(rt; writer.opener.openings, 2);
-    assert!(rt; writer.device.is_none());
+    let mut writer = OnFirstWrite::new(Door::new(rt.alloc(), true));
+    let fails = writer.write(b"a").is_err() && writer.write(b"a").is_err();
+    assert_same!(rt; (fails, writer.opener.openings, writer.device.is_none()), (true, 2, true));
 }
 
 /// Opens a device that takes all bytes, and whose flush fails.
@@ -103,23 +90,31 @@ fn flushes_the_open_device(rt: HostRuntime) {
     assert!(rt; writer.flush().is_err());
 }
 
+/// How many bytes a device has room for, and what goes out of a text of five.
+static BEGINNINGS: [(usize, &str); 4] = [(8, "hello"), (5, "hello"), (4, "hell"), (0, "")];
+
 /// A text goes out in as many writes as it takes, or a beginning of it does.
 #[test]
 fn prints_the_text_or_a_beginning(rt: HostRuntime) {
-    for (room, text) in [(8, "hello"), (5, "hello"), (4, "hell"), (0, "")] {
-        let mut out = Meter::new(Sink::new(Vec::new(rt.alloc()), room + 1));
+    for (room, text) in &BEGINNINGS {
+        let mut out = Meter::new(Sink::new(Vec::new(rt.alloc()), *room + 1));
         let printed = print(&mut out, "hello");
-        let fails = room < 5;
-        assert_same!(rt; printed, if fails { Err(Fault::Link) } else { Ok(()) }, room);
-        assert_same!(rt; out.failed(), fails, room);
-        assert_same!(rt; out.device.bytes.as_slice(), text.as_bytes(), room);
+        let found = (out.device.bytes.as_slice(), printed.is_err(), out.failed());
+        let fails = *room < 5;
+        assert_same!(rt; found, (text.as_bytes(), fails, fails), room);
+        assert!(rt; printed.is_ok() || printed == Err(Fault::Link));
     }
+}
+
+#[test]
+fn prints_without_a_flush(rt: HostRuntime) {
     assert!(rt; print(&mut Meter::new(Stuck), "hello").is_ok());
-    let mut shut = Meter::new(OnFirstWrite::new(Door {
-        alloc: rt.alloc(),
-        is_shut: true,
-        openings: 0,
-    }));
+}
+
+/// No byte opens no device.
+#[test]
+fn prints_on_what_cannot_be_opened(rt: HostRuntime) {
+    let mut shut = Meter::new(OnFirstWrite::new(Door::new(rt.alloc(), true)));
     assert!(rt; print(&mut shut, "").is_ok());
     assert!(rt; print(&mut shut, "hello").is_err());
     assert_same!(rt; shut.device.opener.openings, 1);
