@@ -6,6 +6,7 @@ mod draining;
 mod limits;
 mod opening;
 mod ordering;
+mod pieces;
 mod stalling;
 mod whole;
 

@@ -2,9 +2,7 @@
 
 use crate::programs::{Program, machine_of};
 use crate::watched::Watched;
-use crate::words::{
-    Words, low, next_words, number_words, read_words, said, status_words, step_of, truth_words,
-};
+use crate::words::{next_words, number_words, status_words, step_of, truth_words};
 use flat_machine::{Config, Entry, Poke, SHARED_START};
 use machine_runs::{Machine, drain, drain_step};
 use serial_order::order;
@@ -12,6 +10,7 @@ use std::alloc::{AllocError, Global};
 use std::fmt::Debug;
 use std::test::Fail;
 use steps::{Outcome, Step};
+use test_devices::{Words, asked_and_wanted, low, read_words, said};
 
 /// The registers `a0` and `a1`.
 const A0: u8 = 10;
@@ -169,15 +168,10 @@ fn poke_word(machine: &mut Machine, number: u32, word: u32) -> Result<(), Fail> 
 /// Asks what these lines ask.
 fn run_lines(alloc: Global, watched: &mut Watched, name: &str, lines: &str) -> Result<(), Fail> {
     for line in lines.lines() {
-        let (asked, wanted) = parts_of(line);
+        let (asked, wanted) = asked_and_wanted(line);
         run_calls(alloc, watched, name, asked, read_words(wanted)?)?;
     }
     Ok(())
-}
-
-/// What a line asks, and what each answer has to be.
-fn parts_of(line: &str) -> (&str, &str) {
-    line.split_once(':').unwrap_or((line, ""))
 }
 
 fn run_calls(
@@ -295,7 +289,7 @@ fn steps_of(alloc: Global, calls: &[&str]) -> Result<Vec<Step>, Fail> {
 /// Enters the steps of these lines into a list.
 fn enter_lines(lines: &str, steps: &mut Vec<Step>) -> Result<(), Fail> {
     for line in lines.lines() {
-        let (asked, _) = parts_of(line);
+        let (asked, _) = asked_and_wanted(line);
         enter_calls(asked, steps)?;
     }
     Ok(())

@@ -11,4 +11,3 @@ mod words;
 pub use cases::{Case, check, check_orders};
 pub use programs::{Program, image_of, machine_of};
 pub use watched::{Shown, Watched};
-pub use words::Words;

@@ -2,11 +2,12 @@
 
 ghost use Rattle.std.specs.Prelude.{◌<◌};
 
-use crate::words::{Words, outcome_words};
+use crate::words::outcome_words;
 use flat_machine::Entry;
 use machine_runs::{Machine, drain_step, one};
 use std::alloc::{AllocError, Global};
 use steps::{Outcome, Step};
+use test_devices::Words;
 
 /// An instruction that retired: on which processor, where it stands, and what it wrote to a register.
 #[derive(Clone, Copy, Debug, PartialEq, Eq, Drop)]

@@ -1,4 +1,4 @@
-//! Words of cases: a verb and numbers, decimal ones, or hex digits behind `0x`.
+//! What the words of a case mean for a machine.
 //!
 //! - Steps: `turn P`, `up S W`, `serve M`, `down S W`, `poke P R V` of register R, or of `pc` as 32, `poke_local P A V`,
 //!   `poke_shared A V`.
@@ -14,49 +14,8 @@
 use decode::encode;
 use flat_machine::{Cause, Poke, Retired, Status};
 use messages::Seconds;
-use std::num::ParseIntError;
-use std::test::Fail;
 use steps::{Outcome, Step};
-
-/// A verb and its numbers, with zeros behind them.
-#[derive(Clone, Copy, Debug, PartialEq, Eq, Drop)]
-pub struct Words<'a> {
-    /// What is asked or told.
-    pub verb: &'a str,
-    /// The numbers behind it.
-    pub numbers: [u32; 4],
-}
-
-/// A verb and numbers.
-pub(crate) fn said(verb: &str, numbers: [u32; 4]) -> Words<'_> {
-    Words { verb, numbers }
-}
-
-/// Reads a verb and up to four numbers.
-pub(crate) fn read_words(text: &str) -> Result<Words<'_>, Fail> {
-    let mut pieces = text.split_whitespace();
-    let verb = pieces.next().unwrap_or("");
-    let a = number_of(pieces.next())?;
-    let b = number_of(pieces.next())?;
-    let c = number_of(pieces.next())?;
-    let d = number_of(pieces.next())?;
-    Ok(said(verb, [a, b, c, d]))
-}
-
-/// The number that is written there. None stands for 0.
-fn number_of(piece: Option<&str>) -> Result<u32, ParseIntError> {
-    let piece = piece.unwrap_or("0");
-    match piece.strip_prefix("0x") {
-        Some(digits) => u32::from_str_radix(digits, 16),
-        None => piece.parse::<u32>(),
-    }
-}
-
-/// The lowest byte of a number.
-pub(crate) fn low(number: u32) -> u8 {
-    let [byte, _, _, _] = number.to_le_bytes();
-    byte
-}
+use test_devices::{Words, low, said};
 
 /// The step that is asked for.
 pub(crate) fn step_of(asked: Words) -> Option<Step> {

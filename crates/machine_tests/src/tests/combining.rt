@@ -1,6 +1,9 @@
 //! References that meet in switches, or would.
 
-use super::REFERENCES;
+use super::pieces::{
+    ADD_AND_SWAP, ADDS, FOUND_0_2_1_3, FOUR_ADDS, FOUR_TURNS, PAIRS_MEET, SUMS_OF_PAIRS,
+    TWO_COMES_FIRST, TWO_MEET, ZERO_COMES_FIRST,
+};
 use std::test::Fail;
 use test_cases::{Case, check_orders};
 
@@ -9,32 +12,13 @@ fn requests_meet(rt: HostRuntime) -> Result<(), Fail> {
     check_orders(rt.alloc(), &CASES)
 }
 
-/// Four processors are to add 1, 2, 4 and 8 to word 0.
-pub const FOUR_ADDS: &str = "
-    poke 0 11 1, poke 0 12 0x80000000,
-    poke 1 11 2, poke 1 12 0x80000000,
-    poke 2 11 4, poke 2 12 0x80000000,
-    poke 3 11 8, poke 3 12 0x80000000";
-
-/// Processor 0 is to add 5 to word 0, and processor 2 to swap in 100.
-pub const ADD_AND_SWAP: &str = "
-    poke 0 11 5, poke 0 12 0x80000000,
-    poke 2 11 100, poke 2 12 0x80000000, poke 2 32 0x10004";
-
 static CASES: [Case; 13] = [
     // Two adds combine at each stage, so that one request at the module serves all four.
     Case {
         name: "two adds combine",
-        machine: "machine 2 4 4 1024",
-        program: &REFERENCES,
-        pokes: &["word 0 10", FOUR_ADDS],
         calls: &[
+            PAIRS_MEET,
             "
-            turn 0, turn 1, turn 2, turn 3: issued
-            up 0 0: moved
-            up 0 2: combined 0 2
-            up 0 1: moved
-            up 0 3: combined 1 3
             up 1 0: moved
             up 1 2: combined 0 1
             serve 0: served 0
@@ -45,29 +29,19 @@ static CASES: [Case; 13] = [
             turn 0: wrote 0x10000 0x00B6252F 10
             turn 1: wrote 0x10000 0x00B6252F 15
             turn 2: wrote 0x10000 0x00B6252F 11
-            turn 3: wrote 0x10000 0x00B6252F 17
-            idle: yes
-            register 0 10: is 10
-            register 1 10: is 15
-            register 2 10: is 11
-            register 3 10: is 17
-            word 0: is 25",
+            turn 3: wrote 0x10000 0x00B6252F 17",
+            SUMS_OF_PAIRS,
         ],
         order: "turn 0, turn 2, turn 1, turn 3",
+        ..ADDS
     },
     // What is combined first comes first.
     Case {
         name: "the add comes before the swap",
-        machine: "machine 2 4 4 1024",
-        program: &REFERENCES,
         pokes: &["word 0 7", ADD_AND_SWAP],
         calls: &[
+            ZERO_COMES_FIRST,
             "
-            turn 0, turn 2: issued
-            up 0 0: moved
-            up 0 2: combined 0 2
-            up 1 0: moved
-            serve 0: served 0
             down 1 0: moved
             down 0 0: answered 2
             turn 0: wrote 0x10000 0x00B6252F 7
@@ -75,19 +49,14 @@ static CASES: [Case; 13] = [
             word 0: is 100",
         ],
         order: "turn 0, turn 2",
+        ..ADDS
     },
     Case {
         name: "the swap comes before the add",
-        machine: "machine 2 4 4 1024",
-        program: &REFERENCES,
         pokes: &["word 0 7", ADD_AND_SWAP],
         calls: &[
+            TWO_COMES_FIRST,
             "
-            turn 0, turn 2: issued
-            up 0 2: moved
-            up 0 0: combined 2 0
-            up 1 0: moved
-            serve 0: served 2
             down 1 0: moved
             down 0 0: answered 0
             turn 0: wrote 0x10000 0x00B6252F 100
@@ -95,13 +64,12 @@ static CASES: [Case; 13] = [
             word 0: is 105",
         ],
         order: "turn 2, turn 0",
+        ..ADDS
     },
     // A minimum and an add do not compose: each goes by itself, and the module takes the second when the reply of the
     // first has gone.
     Case {
         name: "a minimum and an add go apart",
-        machine: "machine 2 4 4 1024",
-        program: &REFERENCES,
         pokes: &[
             "word 0 5",
             "poke 0 11 3, poke 0 12 0x80000000, poke 0 32 0x10008, poke 2 11 1, poke 2 12 0x80000000",
@@ -120,71 +88,57 @@ static CASES: [Case; 13] = [
             word 0: is 4",
         ],
         order: "turn 0, turn 2",
+        ..ADDS
     },
     // Three requests combine with the first, and its reply is split in four, in the order of the combinations. Each second gets what
     // the functions before it make of the word.
     Case {
         name: "an entry is combined three times",
         machine: "machine_3 2 4 4 1024",
-        program: &REFERENCES,
         pokes: &[FOUR_ADDS],
         calls: &[
+            TWO_MEET,
             "
-            turn 0, turn 1, turn 2, turn 3: issued
-            up 0 0, up 1 0, up 0 2: moved
-            up 1 0: combined 0 2
             up 0 1: moved
             up 1 2: combined 0 1
             up 0 3: moved
             up 1 2: combined 0 3
             serve 0: served 0
             down 1 0: answered_three 2 1 3
-            down 0 0, down 0 0, down 0 2, down 0 2: moved
-            turn 0: wrote 0x10000 0x00B6252F 0
-            turn 1: wrote 0x10000 0x00B6252F 5
-            turn 2: wrote 0x10000 0x00B6252F 1
-            turn 3: wrote 0x10000 0x00B6252F 7
-            word 0: is 15",
+            down 0 0, down 0 0, down 0 2, down 0 2: moved",
+            FOUND_0_2_1_3,
         ],
         order: "turn 0, turn 2, turn 1, turn 3",
+        ..ADDS
     },
     // Where two combinations are the most, the third request goes by itself.
     Case {
         name: "an entry is combined twice at most",
         machine: "machine_2 2 4 4 1024",
-        program: &REFERENCES,
         pokes: &[FOUR_ADDS],
         calls: &[
+            TWO_MEET,
             "
-            turn 0, turn 1, turn 2, turn 3: issued
-            up 0 0, up 1 0, up 0 2: moved
-            up 1 0: combined 0 2
             up 0 1: moved
             up 1 2: combined 0 1
             up 0 3, up 1 2: moved
             serve 0: served 0
             down 1 0: answered_two 2 1
             serve 0: served 3
-            down 1 0, down 0 0, down 0 0, down 0 2, down 0 2: moved
-            turn 0: wrote 0x10000 0x00B6252F 0
-            turn 1: wrote 0x10000 0x00B6252F 5
-            turn 2: wrote 0x10000 0x00B6252F 1
-            turn 3: wrote 0x10000 0x00B6252F 7
-            word 0: is 15",
+            down 1 0, down 0 0, down 0 0, down 0 2, down 0 2: moved",
+            FOUND_0_2_1_3,
         ],
         order: "turn 0, turn 2, turn 1, turn 3",
+        ..ADDS
     },
     // Where no record is free, a request goes by itself that a record more would have combined.
     Case {
         name: "no record is free",
         machine: "machine 2 4 1 1024",
-        program: &REFERENCES,
         pokes: &[FOUR_ADDS],
         calls: &[
+            TWO_MEET,
             "
-            turn 0, turn 1, turn 2, turn 3: issued
-            up 0 0, up 1 0, up 0 2: moved
-            up 1 0: combined 0 2
             up 0 1, up 1 2, up 0 3, up 1 2: moved
             word 0: is 0
             serve 0: served 0
@@ -192,25 +146,19 @@ static CASES: [Case; 13] = [
             serve 0: served 1
             down 1 0: moved
             serve 0: served 3
-            down 1 0, down 0 0, down 0 0, down 0 2, down 0 2: moved
-            turn 0: wrote 0x10000 0x00B6252F 0
-            turn 1: wrote 0x10000 0x00B6252F 5
-            turn 2: wrote 0x10000 0x00B6252F 1
-            turn 3: wrote 0x10000 0x00B6252F 7
-            word 0: is 15",
+            down 1 0, down 0 0, down 0 0, down 0 2, down 0 2: moved",
+            FOUND_0_2_1_3,
         ],
         order: "turn 0, turn 2, turn 1, turn 3",
+        ..ADDS
     },
     Case {
         name: "a record more is free",
         machine: "machine 2 4 2 1024",
-        program: &REFERENCES,
         pokes: &[FOUR_ADDS],
         calls: &[
+            TWO_MEET,
             "
-            turn 0, turn 1, turn 2, turn 3: issued
-            up 0 0, up 1 0, up 0 2: moved
-            up 1 0: combined 0 2
             up 0 1, up 1 2, up 0 3: moved
             up 1 2: combined 1 3
             word 0: is 0
@@ -218,20 +166,16 @@ static CASES: [Case; 13] = [
             down 1 0: answered 2
             serve 0: served 1
             down 1 0: answered 3
-            down 0 0, down 0 0, down 0 2, down 0 2: moved
-            turn 0: wrote 0x10000 0x00B6252F 0
-            turn 1: wrote 0x10000 0x00B6252F 5
-            turn 2: wrote 0x10000 0x00B6252F 1
-            turn 3: wrote 0x10000 0x00B6252F 7
-            word 0: is 15",
+            down 0 0, down 0 0, down 0 2, down 0 2: moved",
+            FOUND_0_2_1_3,
         ],
         order: "turn 0, turn 2, turn 1, turn 3",
+        ..ADDS
     },
     // A reply that splits needs two places: where one is free it stays.
     Case {
         name: "two places are needed",
         machine: "machine 3 2 1 1024",
-        program: &REFERENCES,
         pokes: &[
             "
                 poke 0 11 1, poke 0 12 0x80000000, poke 2 11 2, poke 2 12 0x80000000, poke 4 11 4,
@@ -252,12 +196,11 @@ static CASES: [Case; 13] = [
             word 1: is 4",
         ],
         order: "turn 4, turn 0, turn 2",
+        ..ADDS
     },
     // Neither store undoes the other.
     Case {
         name: "two stores of bytes to one word",
-        machine: "machine 2 4 4 1024",
-        program: &REFERENCES,
         pokes: &[
             "word 0 0x11223344",
             "
@@ -265,12 +208,8 @@ static CASES: [Case; 13] = [
                 poke 2 12 0x80000000, poke 2 32 0x10010",
         ],
         calls: &[
+            ZERO_COMES_FIRST,
             "
-            turn 0, turn 2: issued
-            up 0 0: moved
-            up 0 2: combined 0 2
-            up 1 0: moved
-            serve 0: served 0
             down 1 0: moved
             down 0 0: answered 2
             turn 0: retired 0x1000C 0x00B60023
@@ -278,16 +217,15 @@ static CASES: [Case; 13] = [
             word 0: is 0xBB2233AA",
         ],
         order: "turn 0, turn 2",
+        ..ADDS
     },
     // Without records each request is served by itself.
     Case {
         name: "no combining",
         machine: "machine 2 4 0 1024",
-        program: &REFERENCES,
-        pokes: &["word 0 10", FOUR_ADDS],
         calls: &[
+            FOUR_TURNS,
             "
-            turn 0, turn 1, turn 2, turn 3: issued
             up 0 0, up 0 2, up 0 1, up 0 3, up 1 0, up 1 2, up 1 0, up 1 2: moved
             serve 0: served 0
             down 1 0: moved
@@ -304,28 +242,27 @@ static CASES: [Case; 13] = [
             word 0: is 25",
         ],
         order: "turn 0, turn 1, turn 2, turn 3",
+        ..ADDS
     },
     // A queue of two places takes no third request.
     Case {
         name: "the queue is full",
         machine: "machine 2 2 0 1024",
-        program: &REFERENCES,
-        pokes: &["word 0 10", FOUR_ADDS],
         calls: &[
+            FOUR_TURNS,
             "
-            turn 0, turn 1, turn 2, turn 3: issued
             up 0 0, up 0 2, up 0 1, up 0 3, up 1 0, up 1 2: moved
             up 1 0: stalled
             serve 0: served 0
             up 1 0: moved",
         ],
         order: "turn 0",
+        ..ADDS
     },
     // Both processors of a machine of one stage combine at its one switch.
     Case {
         name: "one stage",
         machine: "machine 1 4 4 1024",
-        program: &REFERENCES,
         pokes: &[
             "word 0 1",
             "poke 0 11 2, poke 0 12 0x80000000, poke 1 11 3, poke 1 12 0x80000000",
@@ -342,5 +279,6 @@ static CASES: [Case; 13] = [
             word 0: is 6",
         ],
         order: "turn 1, turn 0",
+        ..ADDS
     },
 ];

@@ -1,7 +1,6 @@
 //! Drains: how many steps they take, and which step is next.
 
-use super::REFERENCES;
-use super::combining::FOUR_ADDS;
+use super::pieces::{ADDS, FOUR_TURNS, PAIRS_MEET, SUMS_IN_ORDER, SUMS_OF_PAIRS};
 use std::test::Fail;
 use test_cases::{Case, check};
 
@@ -14,94 +13,53 @@ static CASES: [Case; 7] = [
     // Where no request has moved, each goes to the module and back by itself, which is the most that a drain of four takes.
     Case {
         name: "all that is open drains by steps",
-        machine: "machine 2 4 4 1024",
-        program: &REFERENCES,
-        pokes: &["word 0 10", FOUR_ADDS],
         calls: &[
+            FOUR_TURNS,
             "
-            turn 0, turn 1, turn 2, turn 3: issued
-            drain_by_steps: is 24
-            idle: yes
-            register 0 10: is 10
-            register 1 10: is 11
-            register 2 10: is 13
-            register 3 10: is 17
-            word 0: is 25",
+            drain_by_steps: is 24",
+            SUMS_IN_ORDER,
         ],
         order: "turn 0, turn 1, turn 2, turn 3",
+        ..ADDS
     },
     Case {
         name: "all that is open drains at once",
-        machine: "machine 2 4 4 1024",
-        program: &REFERENCES,
-        pokes: &["word 0 10", FOUR_ADDS],
         calls: &[
+            FOUR_TURNS,
             "
-            turn 0, turn 1, turn 2, turn 3: issued
             idle: no
-            drain: is 24
-            idle: yes
-            register 0 10: is 10
-            register 1 10: is 11
-            register 2 10: is 13
-            register 3 10: is 17
-            word 0: is 25",
+            drain: is 24",
+            SUMS_IN_ORDER,
         ],
-        order: "",
+        ..ADDS
     },
     // Where two pairs have combined at the first stage, half as many steps do.
     Case {
         name: "pairs drain by steps",
-        machine: "machine 2 4 4 1024",
-        program: &REFERENCES,
-        pokes: &["word 0 10", FOUR_ADDS],
         calls: &[
+            PAIRS_MEET,
             "
-            turn 0, turn 1, turn 2, turn 3: issued
-            up 0 0: moved
-            up 0 2: combined 0 2
-            up 0 1: moved
-            up 0 3: combined 1 3
-            drain_by_steps: is 12
-            idle: yes
-            register 0 10: is 10
-            register 1 10: is 15
-            register 2 10: is 11
-            register 3 10: is 17
-            word 0: is 25",
+            drain_by_steps: is 12",
+            SUMS_OF_PAIRS,
         ],
         order: "turn 0, turn 2, turn 1, turn 3",
+        ..ADDS
     },
     Case {
         name: "pairs drain at once",
-        machine: "machine 2 4 4 1024",
-        program: &REFERENCES,
-        pokes: &["word 0 10", FOUR_ADDS],
         calls: &[
+            PAIRS_MEET,
             "
-            turn 0, turn 1, turn 2, turn 3: issued
-            up 0 0: moved
-            up 0 2: combined 0 2
-            up 0 1: moved
-            up 0 3: combined 1 3
             idle: no
-            drain: is 12
-            idle: yes
-            register 0 10: is 10
-            register 1 10: is 15
-            register 2 10: is 11
-            register 3 10: is 17
-            word 0: is 25",
+            drain: is 12",
+            SUMS_OF_PAIRS,
         ],
-        order: "",
+        ..ADDS
     },
     // An idle machine drains in no step. One reference goes through two stages and back: six steps, the last of them its
     // turn.
     Case {
         name: "an idle machine, and one reference",
-        machine: "machine 2 4 4 1024",
-        program: &REFERENCES,
-        pokes: &["word 0 10", FOUR_ADDS],
         calls: &[
             "
             next: none
@@ -118,14 +76,12 @@ static CASES: [Case; 7] = [
             pc 2: is 0x10004
             pc 0: is 0x10000",
         ],
-        order: "",
+        ..ADDS
     },
     // A reply goes before a request, and of two the one that is nearer to its end.
     Case {
         name: "nearest first",
         machine: "machine 2 4 0 1024",
-        program: &REFERENCES,
-        pokes: &["word 0 10", FOUR_ADDS],
         calls: &[
             "
             turn 0: issued
@@ -164,12 +120,11 @@ static CASES: [Case; 7] = [
             word 0: is 17",
         ],
         order: "turn 0, turn 1, turn 2",
+        ..ADDS
     },
     // A processor that has stopped is left alone, as are those that run and are not open.
     Case {
         name: "stopped processors stay stopped",
-        machine: "machine 2 4 4 1024",
-        program: &REFERENCES,
         pokes: &["word 0 1", "poke 3 11 1, poke 3 12 0x80000000"],
         calls: &[
             "
@@ -182,5 +137,6 @@ static CASES: [Case; 7] = [
             word 0: is 2",
         ],
         order: "poke 0 32 0x20000, turn 0",
+        ..ADDS
     },
 ];

@@ -1,6 +1,7 @@
 //! Which machines there are, and what their readers answer at the ends of what they number.
 
 use super::REFERENCES;
+use super::pieces::ADDS;
 use elf_image::Image;
 use flat_machine::Config;
 use machine_runs::{Machine, NewError};
@@ -107,8 +108,6 @@ static CASES: [Case; 3] = [
     // region.
     Case {
         name: "processors and registers",
-        machine: "machine 2 4 4 1024",
-        program: &REFERENCES,
         pokes: &["poke 0 11 5, poke 1 11 6, poke 2 11 7, poke 3 11 8, poke 2 32 0x10004"],
         calls: &[
             "
@@ -135,12 +134,11 @@ static CASES: [Case; 3] = [
             register 64 255, register 255 255: none",
         ],
         order: "turn 2",
+        ..ADDS
     },
     // Local bytes are each processor's own, from 0x00020000 to 0x0002FFFF.
     Case {
         name: "local bytes",
-        machine: "machine 2 4 4 1024",
-        program: &REFERENCES,
         pokes: &[],
         calls: &[
             "
@@ -154,13 +152,13 @@ static CASES: [Case; 3] = [
             byte 0 0xFFFFFFFF: none",
         ],
         order: "poke_local 0 0x20000 1, poke_local 1 0x20000 2, poke_local 3 0x2FFFF 3",
+        ..ADDS
     },
     // Shared words go round the modules, and there are as many as the configuration says. There is room for two more in the
     // modules.
     Case {
         name: "shared words",
         machine: "machine 2 4 4 6",
-        program: &REFERENCES,
         pokes: &[
             "word 0 0x11223300, word 1 0x11223301, word 2 0x11223302, word 3 0x11223303, word 4 0x11223304, word 5 0x11223305",
         ],
@@ -173,6 +171,6 @@ static CASES: [Case; 3] = [
             word 5: is 0x11223305
             word 6, word 7, word 8, word 0xFFFFFFFF: none",
         ],
-        order: "",
+        ..ADDS
     },
 ];

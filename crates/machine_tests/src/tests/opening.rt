@@ -38,9 +38,13 @@ const STORE_AND_LOAD: Program<'static> = Program {
     shared: &[],
 };
 
-const MOVES_AT_0: &str = "
-    up 0 0, down 0 0: stalled
-";
+/// A reference of the one processor. There is no network that its messages could move in.
+const THERE_AND_BACK: &str = "
+    serve 0: stalled
+    turn 0: issued
+    turn 0, up 0 0, down 0 0: stalled
+    serve 0: served 0
+    idle: no";
 
 static CASES: [Case; 3] = [
     // Each processor stands at the entry and runs, with registers of zero and the local bytes of the image in a memory of
@@ -112,23 +116,13 @@ static CASES: [Case; 3] = [
             "
             pc 1, word 2: none
             turn 0: wrote 0x10000 0x800000B7 0x80000000
-            turn 0: wrote 0x10004 0x00500113 5
-            serve 0: stalled
-            turn 0: issued
-            turn 0: stalled",
-            MOVES_AT_0,
+            turn 0: wrote 0x10004 0x00500113 5",
+            THERE_AND_BACK,
             "
-            serve 0: served 0
-            idle: no
             turn 0: retired 0x10008 0x0020A223
-            idle: yes
-            serve 0: stalled
-            turn 0: issued
-            turn 0: stalled",
-            MOVES_AT_0,
+            idle: yes",
+            THERE_AND_BACK,
             "
-            serve 0: served 0
-            idle: no
             turn 0: wrote 0x1000C 0x0040A183 5
             idle: yes
             word 1: is 5

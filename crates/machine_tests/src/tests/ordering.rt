@@ -1,7 +1,6 @@
 //! The serial order of a list of steps.
 
-use super::REFERENCES;
-use super::combining::{ADD_AND_SWAP, FOUR_ADDS};
+use super::pieces::{ADD_AND_SWAP, ADDS, FOUR_ADDS, TWO_COMES_FIRST, ZERO_COMES_FIRST};
 use flat_machine::CODE_START;
 use std::test::Fail;
 use test_cases::{Case, Program, check_orders};
@@ -23,42 +22,30 @@ static CASES: [Case; 4] = [
     // A group is entered when it is served, in the order in which its requests came to their switch.
     Case {
         name: "first at the switch goes first",
-        machine: "machine 2 4 4 1024",
-        program: &REFERENCES,
         pokes: &["word 0 7", ADD_AND_SWAP],
         calls: &[
+            ZERO_COMES_FIRST,
             "
-            turn 0, turn 2: issued
-            up 0 0: moved
-            up 0 2: combined 0 2
-            up 1 0: moved
-            serve 0: served 0
             word 0: is 100",
         ],
         order: "turn 0, turn 2",
+        ..ADDS
     },
     Case {
         name: "second at the switch goes second",
-        machine: "machine 2 4 4 1024",
-        program: &REFERENCES,
         pokes: &["word 0 7", ADD_AND_SWAP],
         calls: &[
+            TWO_COMES_FIRST,
             "
-            turn 0, turn 2: issued
-            up 0 2: moved
-            up 0 0: combined 2 0
-            up 1 0: moved
-            serve 0: served 2
             word 0: is 105",
         ],
         order: "turn 2, turn 0",
+        ..ADDS
     },
     // References that are not combined go as they are served. One that is not served is not in the order, and the
     // retirement of one that was adds nothing.
     Case {
         name: "the order is of the services",
-        machine: "machine 2 4 4 1024",
-        program: &REFERENCES,
         pokes: &[FOUR_ADDS],
         calls: &[
             "
@@ -73,6 +60,7 @@ static CASES: [Case; 4] = [
             idle: no",
         ],
         order: "turn 1, turn 0",
+        ..ADDS
     },
     // A local instruction, a stop and a poke are entered at their step; what stalls is not.
     Case {

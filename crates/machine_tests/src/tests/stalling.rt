@@ -1,7 +1,6 @@
 //! Steps that do nothing: what they meet, and that nothing changes.
 
-use super::REFERENCES;
-use super::combining::FOUR_ADDS;
+use super::pieces::{ADDS, FOUR_TURNS};
 use flat_machine::CODE_START;
 use std::test::Fail;
 use test_cases::{Case, Program, check};
@@ -47,35 +46,28 @@ const TURN_OF_1: &str = "
     turn 1: stalled
 ";
 
+/// It is poked.
+const POKED: &str = "
+    poke 1 11 5, poke 1 32 0x10004, poke_local 1 0x20000 0xA5: poked
+    register 1 11: is 5
+    pc 1: is 0x10004
+    byte 1 0x20000: is 0xA5";
+
 static CASES: [Case; 7] = [
     Case {
         name: "there are no such places",
-        machine: "machine 2 4 4 1024",
-        program: &REFERENCES,
-        pokes: &["word 0 10", FOUR_ADDS],
-        calls: &[
-            NO_PLACES,
-            "
-            turn 0, turn 1, turn 2, turn 3: issued",
-            NO_PLACES,
-        ],
-        order: "",
+        calls: &[NO_PLACES, FOUR_TURNS, NO_PLACES],
+        ..ADDS
     },
     Case {
         name: "an idle machine has nothing to move",
-        machine: "machine 2 4 4 1024",
-        program: &REFERENCES,
-        pokes: &["word 0 10", FOUR_ADDS],
         calls: &[ALL_MOVES],
-        order: "",
+        ..ADDS
     },
     // One request goes to the module and back. Before each of its moves all others stall, and pokes stall as long as its
     // reference is open.
     Case {
         name: "one message moves",
-        machine: "machine 2 4 4 1024",
-        program: &REFERENCES,
-        pokes: &["word 0 10", FOUR_ADDS],
         calls: &[
             "
             turn 3: issued",
@@ -109,6 +101,7 @@ static CASES: [Case; 7] = [
             pc 3: is 0x10004",
         ],
         order: "turn 3",
+        ..ADDS
     },
     // A processor that has stopped takes no turn; it can be poked, and stays stopped.
     Case {
@@ -127,11 +120,8 @@ static CASES: [Case; 7] = [
             idle: yes
             status 1: halted 0",
             TURN_OF_1,
+            POKED,
             "
-            poke 1 11 5, poke 1 32 0x10004, poke_local 1 0x20000 0xA5: poked
-            register 1 11: is 5
-            pc 1: is 0x10004
-            byte 1 0x20000: is 0xA5
             status 1: halted 0",
             TURN_OF_1,
         ],
@@ -153,11 +143,8 @@ static CASES: [Case; 7] = [
             idle: yes
             status 1: faulted 8",
             TURN_OF_1,
+            POKED,
             "
-            poke 1 11 5, poke 1 32 0x10004, poke_local 1 0x20000 0xA5: poked
-            register 1 11: is 5
-            pc 1: is 0x10004
-            byte 1 0x20000: is 0xA5
             status 1: faulted 8",
             TURN_OF_1,
         ],
@@ -166,15 +153,13 @@ static CASES: [Case; 7] = [
     Case {
         name: "pokes of what is no target",
         machine: "machine 2 4 4 6",
-        program: &REFERENCES,
         pokes: &["word 0 10"],
         calls: &[NO_TARGETS],
-        order: "",
+        ..ADDS
     },
     Case {
         name: "pokes at the ends of what can be written",
         machine: "machine 2 4 4 6",
-        program: &REFERENCES,
         pokes: &["word 0 0x11223344"],
         calls: &[
             "
@@ -195,5 +180,6 @@ static CASES: [Case; 7] = [
             poke 3 1 0xFFFFFFFF, poke 3 31 6, poke 3 32 0xFFFFFFFC, poke 0 12 7,
             poke_local 3 0x20000 0xA5, poke_local 3 0x2FFFF 0xA5, poke_shared 0x80000002 0xA5,
             poke_shared 0x80000017 0xA5",
+        ..ADDS
     },
 ];
