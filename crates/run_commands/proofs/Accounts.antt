@@ -7,9 +7,9 @@ use Rattle.steps.specs.declared.step.Step.{Step}
 use Rattle.trace_file.specs.Traces.{TraceContents, config_of}
 use Rattle.command_io.specs.declared.fault.Fault.{Fault}
 use Rattle.command_io.specs.declared.fault.Fault.TheVariants as fault
-use Rattle.command_io.specs.Printing.{IsPartPrinted, IsPrinted}
+use Rattle.command_io.specs.Printing.{IsPrinted}
 use Rattle.run_commands.specs.Causes.{IsNoAccount, IsNotTold}
-use Rattle.run_commands.specs.Commands.{IsAccount, IsSomeAccount, IsTraceOf, Telling}
+use Rattle.run_commands.specs.Commands.{IsAccount, IsTraceOf, Telling}
 
 module _ (tells : Telling) (shared_words : ℕ) (trace known : Option (List ℕ)) (t : TraceContents) (read : IsTraceOf trace t) (c : Config)
     (size : c ≡ config_of t shared_words) (image : ImageContents) (meant : IsImageOf c.shared_words known image) (steps : List Step)

@@ -1,6 +1,6 @@
 //! What commands tell of a trace: from the bytes of a trace and of an image to a text.
 
-ghost use Rattle.std.specs.Prelude.{◌≡◌, ◌≤◌, ◌⊎◌, ◌↔◌, true, false, ℕ, List, IfOk, IfErr, IsErr, IsErrOf, OnErr, length, string_bytes};
+ghost use Rattle.std.specs.Prelude.{◌≡◌, ◌≤◌, ◌⊎◌, ◌↔◌, true, false, IfOk, IfErr, IsErr, IsErrOf, OnErr, length, string_bytes};
 ghost use Rattle.command_io.specs.Printing.{IsPrinted, IsTold};
 ghost use Rattle.run_commands.specs.Causes.{IsNoAccount, IsNotTaken, IsNotTold};
 ghost use Rattle.run_commands.specs.Commands.{IsAccount, known_of};
