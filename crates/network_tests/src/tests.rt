@@ -14,60 +14,57 @@ use messages::{DownMove, Request, Seconds, UpMove};
 use phi_algebra::{Phi, SignedRange};
 use std::fmt::Debug;
 use std::process::Abort;
+use test_devices::{Words, low};
 
 /// Ends the test where the two differ, and tells them and the case that they are of ([`assert_same!`]).
 fn same<T: PartialEq + Debug, A: Debug>(rt: &impl Abort, found: &T, wanted: &T, at: &A) {
     assert_eq!(rt; found, wanted, "{at:?}");
 }
 
-/// What an AMO makes of a word, as the tables name it.
-#[derive(Clone, Copy, Debug, Drop)]
-enum Function {
-    Add(u32),
-    Swap(u32),
-    Minimum(u32),
-}
-
-impl Function {
-    fn phi(self) -> Phi {
-        match self {
-            Function::Add(amount) => Phi::Add(amount),
-            Function::Swap(word) => Phi::constant(word),
-            Function::Minimum(with) => Phi::Clamp(SignedRange::new(i32::MIN, with.cast_signed())),
+/// What an AMO of this name makes of a word.
+fn phi_of(function: &str, operand: u32) -> Option<Phi> {
+    match function {
+        "add" => Some(Phi::Add(operand)),
+        "swap" => Some(Phi::constant(operand)),
+        "minimum" => {
+            let range = SignedRange::new(i32::MIN, operand.cast_signed());
+            Some(Phi::Clamp(range))
         }
+        _ => None,
     }
 }
 
-/// What a move answers, as the tables name it.
-#[derive(Clone, Copy, Debug, Drop)]
-enum Answer {
-    Moved,
-    /// The first leader, and the second.
-    Combined(u8, u8),
-    /// Those who get replies beside the leader.
-    Answered(Seconds),
-    Stalled,
+/// The answer of a request's move.
+fn up_of(words: Words) -> Option<UpMove> {
+    let [first, second, _, _] = words.numbers;
+    match words.verb {
+        "moved" => Some(UpMove::Moved),
+        "combined" => Some(UpMove::Combined {
+            first: low(first),
+            second: low(second),
+        }),
+        "stalled" => Some(UpMove::Stalled),
+        _ => None,
+    }
 }
 
-impl Answer {
-    /// The answer of a request's move.
-    fn up(self) -> Option<UpMove> {
-        match self {
-            Answer::Moved => Some(UpMove::Moved),
-            Answer::Combined(first, second) => Some(UpMove::Combined { first, second }),
-            Answer::Answered(_) => None,
-            Answer::Stalled => Some(UpMove::Stalled),
-        }
+/// The answer of a reply's move.
+fn down_of(words: Words) -> Option<DownMove> {
+    match words.verb {
+        "moved" => Some(DownMove::Moved),
+        "stalled" => Some(DownMove::Stalled),
+        _ => seconds_of(words).map(|to| DownMove::Answered { to }),
     }
+}
 
-    /// The answer of a reply's move.
-    fn down(self) -> Option<DownMove> {
-        match self {
-            Answer::Moved => Some(DownMove::Moved),
-            Answer::Combined(_, _) => None,
-            Answer::Answered(to) => Some(DownMove::Answered { to }),
-            Answer::Stalled => Some(DownMove::Stalled),
-        }
+/// Who gets replies beside the leader.
+fn seconds_of(words: Words) -> Option<Seconds> {
+    let [a, b, c, _] = words.numbers;
+    match words.verb {
+        "answered" => Some(Seconds::One(low(a))),
+        "answered_two" => Some(Seconds::Two(low(a), low(b))),
+        "answered_three" => Some(Seconds::Three(low(a), low(b), low(c))),
+        _ => None,
     }
 }
 

@@ -2,29 +2,12 @@
 
 ghost use Rattle.std.specs.Prelude.{◌<◌, ◌^◌};
 
-use super::{Answer, Function, request};
-use messages::{Reply, Seconds};
+use super::{down_of, phi_of, request, up_of};
+use messages::Reply;
 use omega_network::Network;
+use std::process::Abort;
 use std::test::Fail;
-
-/// What a run does, and what it is to answer.
-#[derive(Clone, Copy, Debug, Drop)]
-enum Step {
-    /// A processor puts a request for this word into its slot.
-    Inject(u8, u32, Function),
-    Up(u8, u8, Answer),
-    Down(u8, u8, Answer),
-    /// The module serves this leader, whose function it applies.
-    Serve(u8, u8, Function),
-    /// The processor takes this value.
-    Take(u8, u32),
-}
-
-use Answer::{Answered, Combined, Moved, Stalled};
-use Function::{Add, Minimum, Swap};
-use Seconds::{One, Three, Two};
-use Step::{Down, Inject, Serve, Take, Up};
-use test_devices::assert_same;
+use test_devices::{Words, asked_and_wanted, assert_same, low, read_words};
 
 /// A run of a network of so many stages, with queues of so many places, so many records and so many combinations for an entry.
 struct Run {
@@ -32,10 +15,42 @@ struct Run {
     sizes: (u8, u8, u8, u8),
     /// The word of each module before. All requests at a module do as if they were for it.
     before: u32,
-    steps: &'static [Step],
+    /// Calls, with the answer that each of a line has to have behind a colon.
+    ///
+    /// - `add P W A`, `swap P W A` and `minimum P W A`: processor P puts a request for word W into its slot, which is `put`.
+    /// - `up S W` and `down S W` are `moved`, `combined FIRST SECOND`, `answered P`, `answered_two P P`, `answered_three P P P` or
+    ///   `stalled`.
+    /// - `serve M`: the request that module M serves, as `add LEADER A`.
+    /// - `take P`: `is` the value that the processor takes.
+    steps: &'static [&'static str],
     /// The word of module 0 after them.
     after: u32,
 }
+
+/// Four processors add to one word.
+const FOUR_ADDS: &str = "
+    add 0 0 1, add 1 0 2, add 2 0 4, add 3 0 8: put";
+
+/// The requests of 0 and 2 meet at the second stage.
+const TWO_MEET: &str = "
+    add 0 0 1, add 1 0 2, add 2 0 4, add 3 0 8: put
+    up 0 0, up 1 0, up 0 2: moved
+    up 1 0: combined 0 2";
+
+/// That of 1 meets them there.
+const THREE_MEET: &str = "
+    add 0 0 1, add 1 0 2, add 2 0 4, add 3 0 8: put
+    up 0 0, up 1 0, up 0 2: moved
+    up 1 0: combined 0 2
+    up 0 1: moved
+    up 1 2: combined 0 1";
+
+/// What each finds where the order is 0, 2, 1, 3.
+const SUMS: &str = "
+    take 0: is 0
+    take 1: is 5
+    take 2: is 1
+    take 3: is 7";
 
 static RUNS: [Run; 14] = [
     Run {
@@ -43,24 +58,22 @@ static RUNS: [Run; 14] = [
         sizes: (2, 4, 4, 1),
         before: 10,
         steps: &[
-            Inject(0, 0, Add(1)),
-            Inject(1, 0, Add(2)),
-            Inject(2, 0, Add(4)),
-            Inject(3, 0, Add(8)),
-            Up(0, 0, Moved),
-            Up(0, 2, Combined(0, 2)),
-            Up(0, 1, Moved),
-            Up(0, 3, Combined(1, 3)),
-            Up(1, 0, Moved),
-            Up(1, 2, Combined(0, 1)),
-            Serve(0, 0, Add(15)),
-            Down(1, 0, Answered(One(1))),
-            Down(0, 0, Answered(One(2))),
-            Down(0, 2, Answered(One(3))),
-            Take(0, 10),
-            Take(1, 15),
-            Take(2, 11),
-            Take(3, 17),
+            FOUR_ADDS,
+            "
+            up 0 0: moved
+            up 0 2: combined 0 2
+            up 0 1: moved
+            up 0 3: combined 1 3
+            up 1 0: moved
+            up 1 2: combined 0 1
+            serve 0: add 0 15
+            down 1 0: answered 1
+            down 0 0: answered 2
+            down 0 2: answered 3
+            take 0: is 10
+            take 1: is 15
+            take 2: is 11
+            take 3: is 17",
         ],
         after: 25,
     },
@@ -69,16 +82,16 @@ static RUNS: [Run; 14] = [
         sizes: (2, 4, 4, 1),
         before: 7,
         steps: &[
-            Inject(0, 0, Add(5)),
-            Inject(2, 0, Swap(100)),
-            Up(0, 0, Moved),
-            Up(0, 2, Combined(0, 2)),
-            Up(1, 0, Moved),
-            Serve(0, 0, Swap(100)),
-            Down(1, 0, Moved),
-            Down(0, 0, Answered(One(2))),
-            Take(0, 7),
-            Take(2, 12),
+            "
+            add 0 0 5, swap 2 0 100: put
+            up 0 0: moved
+            up 0 2: combined 0 2
+            up 1 0: moved
+            serve 0: swap 0 100
+            down 1 0: moved
+            down 0 0: answered 2
+            take 0: is 7
+            take 2: is 12",
         ],
         after: 100,
     },
@@ -87,16 +100,16 @@ static RUNS: [Run; 14] = [
         sizes: (2, 4, 4, 1),
         before: 7,
         steps: &[
-            Inject(0, 0, Add(5)),
-            Inject(2, 0, Swap(100)),
-            Up(0, 2, Moved),
-            Up(0, 0, Combined(2, 0)),
-            Up(1, 0, Moved),
-            Serve(0, 2, Swap(105)),
-            Down(1, 0, Moved),
-            Down(0, 0, Answered(One(0))),
-            Take(2, 7),
-            Take(0, 100),
+            "
+            add 0 0 5, swap 2 0 100: put
+            up 0 2: moved
+            up 0 0: combined 2 0
+            up 1 0: moved
+            serve 0: swap 2 105
+            down 1 0: moved
+            down 0 0: answered 0
+            take 2: is 7
+            take 0: is 100",
         ],
         after: 105,
     },
@@ -105,20 +118,15 @@ static RUNS: [Run; 14] = [
         sizes: (2, 4, 4, 1),
         before: 5,
         steps: &[
-            Inject(0, 0, Minimum(3)),
-            Inject(2, 0, Add(1)),
-            Up(0, 0, Moved),
-            Up(0, 2, Moved),
-            Up(1, 0, Moved),
-            Up(1, 0, Moved),
-            Serve(0, 0, Minimum(3)),
-            Down(1, 0, Moved),
-            Serve(0, 2, Add(1)),
-            Down(1, 0, Moved),
-            Down(0, 0, Moved),
-            Down(0, 0, Moved),
-            Take(0, 5),
-            Take(2, 3),
+            "
+            minimum 0 0 3, add 2 0 1: put
+            up 0 0, up 0 2, up 1 0, up 1 0: moved
+            serve 0: minimum 0 3
+            down 1 0: moved
+            serve 0: add 2 1
+            down 1 0, down 0 0, down 0 0: moved
+            take 0: is 5
+            take 2: is 3",
         ],
         after: 4,
     },
@@ -127,18 +135,9 @@ static RUNS: [Run; 14] = [
         sizes: (2, 4, 1, 1),
         before: 0,
         steps: &[
-            Inject(0, 0, Add(1)),
-            Inject(1, 0, Add(2)),
-            Inject(2, 0, Add(4)),
-            Inject(3, 0, Add(8)),
-            Up(0, 0, Moved),
-            Up(1, 0, Moved),
-            Up(0, 2, Moved),
-            Up(1, 0, Combined(0, 2)),
-            Up(0, 1, Moved),
-            Up(1, 2, Moved),
-            Up(0, 3, Moved),
-            Up(1, 2, Moved),
+            TWO_MEET,
+            "
+            up 0 1, up 1 2, up 0 3, up 1 2: moved",
         ],
         after: 0,
     },
@@ -147,18 +146,10 @@ static RUNS: [Run; 14] = [
         sizes: (2, 4, 2, 1),
         before: 0,
         steps: &[
-            Inject(0, 0, Add(1)),
-            Inject(1, 0, Add(2)),
-            Inject(2, 0, Add(4)),
-            Inject(3, 0, Add(8)),
-            Up(0, 0, Moved),
-            Up(1, 0, Moved),
-            Up(0, 2, Moved),
-            Up(1, 0, Combined(0, 2)),
-            Up(0, 1, Moved),
-            Up(1, 2, Moved),
-            Up(0, 3, Moved),
-            Up(1, 2, Combined(1, 3)),
+            TWO_MEET,
+            "
+            up 0 1, up 1 2, up 0 3: moved
+            up 1 2: combined 1 3",
         ],
         after: 0,
     },
@@ -167,33 +158,19 @@ static RUNS: [Run; 14] = [
         sizes: (3, 2, 1, 1),
         before: 0,
         steps: &[
-            Inject(0, 0, Add(1)),
-            Inject(2, 0, Add(2)),
-            Inject(4, 1, Add(4)),
-            Up(0, 4, Moved),
-            Up(1, 0, Moved),
-            Up(2, 0, Moved),
-            Serve(1, 4, Add(4)),
-            Down(2, 1, Moved),
-            Up(0, 0, Moved),
-            Up(1, 0, Moved),
-            Up(2, 0, Moved),
-            Up(0, 2, Moved),
-            Up(1, 4, Moved),
-            Up(2, 0, Combined(0, 2)),
-            Serve(0, 0, Add(3)),
-            Down(2, 0, Stalled),
-            Down(2, 0, Stalled),
-            Down(1, 0, Moved),
-            Down(2, 0, Answered(One(2))),
-            Down(1, 0, Moved),
-            Down(1, 0, Moved),
-            Down(0, 0, Moved),
-            Down(0, 0, Moved),
-            Down(0, 4, Moved),
-            Take(4, 0),
-            Take(0, 0),
-            Take(2, 1),
+            "
+            add 0 0 1, add 2 0 2, add 4 1 4: put
+            up 0 4, up 1 0, up 2 0: moved
+            serve 1: add 4 4
+            down 2 1, up 0 0, up 1 0, up 2 0, up 0 2, up 1 4: moved
+            up 2 0: combined 0 2
+            serve 0: add 0 3
+            down 2 0, down 2 0: stalled
+            down 1 0: moved
+            down 2 0: answered 2
+            down 1 0, down 1 0, down 0 0, down 0 0, down 0 4: moved
+            take 4, take 0: is 0
+            take 2: is 1",
         ],
         after: 3,
     },
@@ -202,20 +179,12 @@ static RUNS: [Run; 14] = [
         sizes: (2, 2, 0, 1),
         before: 0,
         steps: &[
-            Inject(0, 0, Add(1)),
-            Inject(1, 0, Add(2)),
-            Inject(2, 0, Add(4)),
-            Inject(3, 0, Add(8)),
-            Up(0, 0, Moved),
-            Up(0, 1, Moved),
-            Up(0, 2, Moved),
-            Up(0, 3, Moved),
-            Up(1, 0, Moved),
-            Up(1, 2, Moved),
-            Up(1, 0, Stalled),
-            Up(1, 0, Stalled),
-            Serve(0, 0, Add(1)),
-            Up(1, 0, Moved),
+            FOUR_ADDS,
+            "
+            up 0 0, up 0 1, up 0 2, up 0 3, up 1 0, up 1 2: moved
+            up 1 0, up 1 0: stalled
+            serve 0: add 0 1
+            up 1 0: moved",
         ],
         after: 1,
     },
@@ -224,45 +193,34 @@ static RUNS: [Run; 14] = [
         sizes: (3, 4, 4, 1),
         before: 100,
         steps: &[
-            Inject(0, 0, Minimum(3)),
-            Up(0, 0, Moved),
-            Up(1, 0, Moved),
-            Up(2, 0, Moved),
-            Inject(1, 0, Add(1)),
-            Up(0, 1, Moved),
-            Up(1, 2, Moved),
-            Up(2, 4, Moved),
-            Inject(2, 8, Add(1)),
-            Up(0, 2, Moved),
-            Up(1, 4, Moved),
-            Up(2, 0, Moved),
-            Inject(3, 0, Add(2)),
-            Up(0, 3, Moved),
-            Up(1, 6, Moved),
-            Up(2, 4, Combined(1, 3)),
-            Inject(4, 0, Add(4)),
-            Up(0, 4, Moved),
-            Up(1, 0, Moved),
-            Up(2, 0, Moved),
-            Inject(5, 0, Add(8)),
-            Up(0, 5, Moved),
-            Up(1, 2, Moved),
-            Up(2, 4, Combined(4, 5)),
-            Inject(6, 0, Minimum(1)),
-            Up(0, 6, Moved),
-            Up(1, 4, Moved),
-            Up(2, 0, Combined(0, 6)),
-            Inject(7, 0, Add(16)),
-            Up(0, 7, Moved),
-            Up(1, 6, Moved),
-            Up(2, 4, Stalled),
-            Serve(0, 0, Minimum(1)),
-            Down(2, 0, Answered(One(6))),
-            Serve(0, 1, Add(3)),
-            Down(2, 0, Answered(One(3))),
-            Serve(0, 2, Add(1)),
-            Down(2, 0, Moved),
-            Serve(0, 4, Add(12)),
+            "
+            minimum 0 0 3: put
+            up 0 0, up 1 0, up 2 0: moved
+            add 1 0 1: put
+            up 0 1, up 1 2, up 2 4: moved
+            add 2 8 1: put
+            up 0 2, up 1 4, up 2 0: moved
+            add 3 0 2: put
+            up 0 3, up 1 6: moved
+            up 2 4: combined 1 3
+            add 4 0 4: put
+            up 0 4, up 1 0, up 2 0: moved
+            add 5 0 8: put
+            up 0 5, up 1 2: moved
+            up 2 4: combined 4 5
+            minimum 6 0 1: put
+            up 0 6, up 1 4: moved
+            up 2 0: combined 0 6
+            add 7 0 16: put
+            up 0 7, up 1 6: moved
+            up 2 4: stalled
+            serve 0: minimum 0 1
+            down 2 0: answered 6
+            serve 0: add 1 3
+            down 2 0: answered 3
+            serve 0: add 2 1
+            down 2 0: moved
+            serve 0: add 4 12",
         ],
         after: 17,
     },
@@ -271,27 +229,21 @@ static RUNS: [Run; 14] = [
         sizes: (3, 2, 1, 1),
         before: 0,
         steps: &[
-            Inject(0, 0, Add(1)),
-            Inject(2, 0, Add(4)),
-            Up(0, 0, Moved),
-            Up(0, 2, Moved),
-            Up(1, 0, Moved),
-            Up(1, 4, Combined(0, 2)),
-            Up(2, 0, Moved),
-            Inject(4, 0, Add(2)),
-            Inject(6, 0, Add(8)),
-            Up(0, 4, Moved),
-            Up(1, 0, Moved),
-            Up(0, 6, Moved),
-            Up(1, 4, Moved),
-            Serve(0, 0, Add(5)),
-            Down(2, 0, Moved),
-            Down(1, 0, Answered(One(2))),
-            Down(0, 0, Moved),
-            Take(0, 0),
-            Inject(0, 0, Add(16)),
-            Up(0, 0, Moved),
-            Up(1, 0, Combined(4, 0)),
+            "
+            add 0 0 1, add 2 0 4: put
+            up 0 0, up 0 2, up 1 0: moved
+            up 1 4: combined 0 2
+            up 2 0: moved
+            add 4 0 2, add 6 0 8: put
+            up 0 4, up 1 0, up 0 6, up 1 4: moved
+            serve 0: add 0 5
+            down 2 0: moved
+            down 1 0: answered 2
+            down 0 0: moved
+            take 0: is 0
+            add 0 0 16: put
+            up 0 0: moved
+            up 1 0: combined 4 0",
         ],
         after: 5,
     },
@@ -300,28 +252,14 @@ static RUNS: [Run; 14] = [
         sizes: (2, 4, 4, 3),
         before: 0,
         steps: &[
-            Inject(0, 0, Add(1)),
-            Inject(1, 0, Add(2)),
-            Inject(2, 0, Add(4)),
-            Inject(3, 0, Add(8)),
-            Up(0, 0, Moved),
-            Up(1, 0, Moved),
-            Up(0, 2, Moved),
-            Up(1, 0, Combined(0, 2)),
-            Up(0, 1, Moved),
-            Up(1, 2, Combined(0, 1)),
-            Up(0, 3, Moved),
-            Up(1, 2, Combined(0, 3)),
-            Serve(0, 0, Add(15)),
-            Down(1, 0, Answered(Three(2, 1, 3))),
-            Down(0, 0, Moved),
-            Down(0, 0, Moved),
-            Down(0, 2, Moved),
-            Down(0, 2, Moved),
-            Take(0, 0),
-            Take(1, 5),
-            Take(2, 1),
-            Take(3, 7),
+            THREE_MEET,
+            "
+            up 0 3: moved
+            up 1 2: combined 0 3
+            serve 0: add 0 15
+            down 1 0: answered_three 2 1 3
+            down 0 0, down 0 0, down 0 2, down 0 2: moved",
+            SUMS,
         ],
         after: 15,
     },
@@ -330,30 +268,14 @@ static RUNS: [Run; 14] = [
         sizes: (2, 4, 4, 2),
         before: 0,
         steps: &[
-            Inject(0, 0, Add(1)),
-            Inject(1, 0, Add(2)),
-            Inject(2, 0, Add(4)),
-            Inject(3, 0, Add(8)),
-            Up(0, 0, Moved),
-            Up(1, 0, Moved),
-            Up(0, 2, Moved),
-            Up(1, 0, Combined(0, 2)),
-            Up(0, 1, Moved),
-            Up(1, 2, Combined(0, 1)),
-            Up(0, 3, Moved),
-            Up(1, 2, Moved),
-            Serve(0, 0, Add(7)),
-            Down(1, 0, Answered(Two(2, 1))),
-            Serve(0, 3, Add(8)),
-            Down(1, 0, Moved),
-            Down(0, 0, Moved),
-            Down(0, 0, Moved),
-            Down(0, 2, Moved),
-            Down(0, 2, Moved),
-            Take(0, 0),
-            Take(1, 5),
-            Take(2, 1),
-            Take(3, 7),
+            THREE_MEET,
+            "
+            up 0 3, up 1 2: moved
+            serve 0: add 0 7
+            down 1 0: answered_two 2 1
+            serve 0: add 3 8
+            down 1 0, down 0 0, down 0 0, down 0 2, down 0 2: moved",
+            SUMS,
         ],
         after: 15,
     },
@@ -362,32 +284,22 @@ static RUNS: [Run; 14] = [
         sizes: (3, 3, 4, 3),
         before: 0,
         steps: &[
-            Inject(4, 1, Add(1)),
-            Up(0, 4, Moved),
-            Up(1, 0, Moved),
-            Up(2, 0, Moved),
-            Serve(1, 4, Add(1)),
-            Down(2, 1, Moved),
-            Inject(0, 0, Add(1)),
-            Inject(2, 0, Add(2)),
-            Inject(6, 0, Add(4)),
-            Inject(1, 0, Add(8)),
-            Up(0, 0, Moved),
-            Up(1, 0, Moved),
-            Up(2, 0, Moved),
-            Up(0, 2, Moved),
-            Up(1, 4, Moved),
-            Up(2, 0, Combined(0, 2)),
-            Up(0, 6, Moved),
-            Up(1, 4, Moved),
-            Up(2, 0, Combined(0, 6)),
-            Up(0, 1, Moved),
-            Up(1, 2, Moved),
-            Up(2, 4, Combined(0, 1)),
-            Serve(0, 0, Add(15)),
-            Down(2, 0, Stalled),
-            Down(1, 0, Moved),
-            Down(2, 0, Answered(Three(2, 6, 1))),
+            "
+            add 4 1 1: put
+            up 0 4, up 1 0, up 2 0: moved
+            serve 1: add 4 1
+            down 2 1: moved
+            add 0 0 1, add 2 0 2, add 6 0 4, add 1 0 8: put
+            up 0 0, up 1 0, up 2 0, up 0 2, up 1 4: moved
+            up 2 0: combined 0 2
+            up 0 6, up 1 4: moved
+            up 2 0: combined 0 6
+            up 0 1, up 1 2: moved
+            up 2 4: combined 0 1
+            serve 0: add 0 15
+            down 2 0: stalled
+            down 1 0: moved
+            down 2 0: answered_three 2 6 1",
         ],
         after: 15,
     },
@@ -395,38 +307,58 @@ static RUNS: [Run; 14] = [
         name: "with no stage the processor's slot is the module's",
         sizes: (0, 2, 0, 1),
         before: 5,
-        steps: &[Inject(0, 7, Add(1)), Serve(0, 0, Add(1)), Take(0, 5)],
+        steps: &[
+            "
+            add 0 7 1: put
+            serve 0: add 0 1
+            take 0: is 5",
+        ],
         after: 6,
     },
 ];
 
 /// Whether the network answers as it is to.
-fn answers(network: &mut Network, words: &mut [u32; 8], step: Step) -> bool {
+fn answers(network: &mut Network, words: &mut [u32; 8], asked: Words, wanted: Words) -> bool {
+    let [a, b, c, _] = asked.numbers;
+    let (place, wire) = (low(a), low(b));
     let wires = network.wires();
     let stages = network.stages();
-    match step {
-        Inject(p, word, function) => {
-            let fits = p < wires && network.slot_is_free(p) && !network.names(p);
-            if fits {
-                network.inject(p, request(p, word, function.phi()));
-            }
-            fits
+    match asked.verb {
+        "" => true,
+        "up" => { place < stages && wire < wires && Some(network.up(place, wire)) == up_of(wanted) }
+        "down" => {
+            place < stages && wire < wires && Some(network.down(place, wire)) == down_of(wanted)
         }
-        Up(stage, wire, answer) => {
-            stage < stages && wire < wires && Some(network.up(stage, wire)) == answer.up()
+        "serve" => {
+            place < wires
+                && place < 8
+                && serves(network, &mut words[usize::from(place)], place, wanted)
         }
-        Down(stage, wire, answer) => {
-            stage < stages && wire < wires && Some(network.down(stage, wire)) == answer.down()
+        "take" => {
+            let reply = Reply {
+                leader: place,
+                value: wanted.numbers[0],
+            };
+            place < wires && network.port_take(place) == Some(reply)
         }
-        Serve(m, leader, function) => {
-            m < wires && m < 8 && serves(network, &mut words[usize::from(m)], m, leader, function)
-        }
-        Take(p, value) => p < wires && network.port_take(p) == Some(Reply { leader: p, value }),
+        function => puts(network, place, b, function, c),
     }
 }
 
-/// Whether a module finds the request of this leader, with this function, and serves it.
-fn serves(network: &mut Network, word: &mut u32, m: u8, leader: u8, function: Function) -> bool
+/// Whether a processor can put a request into its slot.
+fn puts(network: &mut Network, p: u8, word: u32, function: &str, operand: u32) -> bool {
+    let Some(phi) = phi_of(function, operand) else {
+        return false;
+    };
+    let fits = p < network.wires() && network.slot_is_free(p) && !network.names(p);
+    if fits {
+        network.inject(p, request(p, word, phi));
+    }
+    fits
+}
+
+/// Whether a module finds the request that it is to serve, and serves it.
+fn serves(network: &mut Network, word: &mut u32, m: u8, wanted: Words) -> bool
     requires { m < 2 ^ network.old.k }
 {
     let Some(request) = network.module_front(m) else {
@@ -448,7 +380,38 @@ fn serves(network: &mut Network, word: &mut u32, m: u8, leader: u8, function: Fu
     }
     network.module_reply(m, reply);
     *word = request.phi.apply(*word);
-    request.leader == leader && request.phi == function.phi()
+    let [leader, operand, _, _] = wanted.numbers;
+    request.leader == low(leader) && Some(request.phi) == phi_of(wanted.verb, operand)
+}
+
+fn take_lines(
+    rt: &impl Abort,
+    network: &mut Network,
+    words: &mut [u32; 8],
+    lines: &str,
+) -> Result<(), Fail> {
+    for line in lines.lines() {
+        take_line(rt, network, words, line)?;
+    }
+    Ok(())
+}
+
+/// Takes the calls of a line.
+fn take_line(
+    rt: &impl Abort,
+    network: &mut Network,
+    words: &mut [u32; 8],
+    line: &str,
+) -> Result<(), Fail> {
+    let (asked, wanted) = asked_and_wanted(line);
+    let wanted = read_words(wanted)?;
+    for call in asked.split(',') {
+        assert!(rt;
+            answers(network, words, read_words(call)?, wanted),
+            "{call}: {wanted:?}"
+        );
+    }
+    Ok(())
 }
 
 #[test]
@@ -458,12 +421,8 @@ fn runs(rt: HostRuntime) -> Result<(), Fail> {
         assert!(rt; k <= 3 && 2 <= c && c <= 16 && b <= 16 && 1 <= r && r <= 3);
         let mut network = Network::new(rt.alloc(), k, c, b, r)?;
         let mut words = [run.before; 8];
-        for step in run.steps.iter() {
-            assert!(rt;
-                answers(&mut network, &mut words, *step),
-                "{}: {step:?}",
-                run.name
-            );
+        for lines in run.steps.iter() {
+            take_lines(&rt, &mut network, &mut words, lines)?;
         }
         assert_same!(rt; words[0], run.after, run.name);
     }
