@@ -1,31 +1,25 @@
 //! The command, from the bytes of a file to the bytes of a report: what no clause says of it.
 
 use command_io::{Fault, tell};
-use link::{Link, Meter};
 use std::alloc::{AllocError, Global};
 use std::fmt::Write as _;
-use std::io::Read;
+use std::io::{Read, Write};
 use std::test::Fail;
-use test_devices::{Broken, Endless, Full, assert_same};
+use test_devices::{Broken, Endless, Full, Ran, assert_same, ran};
 use words_command::words_command;
 
-/// What a run of a file comes to.
-#[derive(Drop)]
-struct Ran {
-    status: u8,
-    out: Vec<u8>,
-    err: Vec<u8>,
+/// What a run of a file comes to, with this device for the report.
+fn run<R: Read + Drop, W: Write + Drop>(alloc: Global, file: R, device: W) -> Ran<W> {
+    ran!(
+        device,
+        Vec::new(alloc),
+        |out, err| words_command(alloc, file, out, err)
+    )
 }
 
-fn run<R: Read + Drop>(alloc: Global, file: R) -> Ran {
-    let mut out = Meter::new(Vec::new(alloc));
-    let mut err = Vec::new(alloc);
-    let status = words_command(alloc, file, &mut out, &mut err);
-    Ran {
-        status,
-        out: out.device,
-        err,
-    }
+/// What a run of these lines comes to.
+fn run_text(alloc: Global, text: &[u8]) -> Ran<Vec<u8>> {
+    run(alloc, text, Vec::new(alloc))
 }
 
 /// A report in which these registers are not 0.
@@ -109,23 +103,18 @@ static REFUSED: [(&str, &str); 9] = [
 #[test]
 fn reports_the_processor(rt: HostRuntime) -> Result<(), Fail> {
     for (text, registers, end, status) in &REPORTED {
-        let ran = run(rt.alloc(), text.as_bytes());
         let report = report_with(rt.alloc(), registers, end)?;
-        assert_same!(rt; ran.out.as_slice(), report.as_bytes(), text);
-        assert_same!(rt; ran.err.len(), 0, text);
-        assert_same!(rt; ran.status, *status, text);
+        run_text(rt.alloc(), text.as_bytes()).comes_to(*status, report.as_bytes(), "")?;
     }
     Ok(())
 }
 
 #[test]
-fn refuses_what_is_no_program(rt: HostRuntime) {
+fn refuses_what_is_no_program(rt: HostRuntime) -> Result<(), Fail> {
     for (text, told) in &REFUSED {
-        let ran = run(rt.alloc(), text.as_bytes());
-        assert_same!(rt; ran.err.as_slice(), told.as_bytes(), text);
-        assert_same!(rt; ran.out.len(), 0, text);
-        assert_same!(rt; ran.status, 2, text);
+        run_text(rt.alloc(), text.as_bytes()).comes_to(2, b"", told)?;
     }
+    Ok(())
 }
 
 /// So many lines of `addi x0, x0, 0`.
@@ -140,43 +129,32 @@ fn idle_lines(alloc: Global, count: usize) -> Result<Vec<u8>, AllocError> {
 #[test]
 fn takes_as_many_lines_as_code_has_words(rt: HostRuntime) -> Result<(), Fail> {
     let whole = idle_lines(rt.alloc(), 16_384)?;
-    let ran = run(rt.alloc(), whole.as_slice());
     let report = report_with(rt.alloc(), &[], "pc 00020000\nfault 2\n")?;
-    assert_same!(rt; ran.out.as_slice(), report.as_bytes());
-    assert_same!(rt; ran.status, 1);
+    run_text(rt.alloc(), whole.as_slice()).comes_to(1, report.as_bytes(), "")
+}
 
+#[test]
+fn takes_no_line_more(rt: HostRuntime) -> Result<(), Fail> {
     let over = idle_lines(rt.alloc(), 16_385)?;
-    let ran = run(rt.alloc(), over.as_slice());
-    assert_same!(rt; ran.err.as_slice(), b"ultra: V1 line 16385\n".as_slice());
-    assert_same!(rt; ran.status, 2);
-    Ok(())
+    run_text(rt.alloc(), over.as_slice()).comes_to(2, b"", "ultra: V1 line 16385\n")
 }
 
 #[test]
-fn ends_a_program_that_goes_on(rt: HostRuntime) {
-    let ran = run(rt.alloc(), b"00000063\n".as_slice());
-    assert_same!(rt; ran.err.as_slice(), b"ultra: budget\n".as_slice());
-    assert_same!(rt; ran.out.len(), 0);
-    assert_same!(rt; ran.status, 4);
+fn ends_a_program_that_goes_on(rt: HostRuntime) -> Result<(), Fail> {
+    run_text(rt.alloc(), b"00000063\n").comes_to(4, b"", "ultra: budget\n")
 }
 
 #[test]
-fn tells_what_the_outside_refuses(rt: HostRuntime) {
-    let ran = run(rt.alloc(), Broken);
-    assert_same!(rt; ran.err.as_slice(), b"ultra: link\n".as_slice());
-    assert_same!(rt; ran.status, 3);
-
-    let ran = run(rt.alloc(), Endless);
-    assert_same!(rt; ran.err.as_slice(), b"ultra: V1 line 1\n".as_slice());
-    assert_same!(rt; ran.status, 2);
+fn tells_what_the_outside_refuses(rt: HostRuntime) -> Result<(), Fail> {
+    let alloc = rt.alloc();
+    run(alloc, Broken, Vec::new(alloc)).comes_to(3, b"", "ultra: link\n")?;
+    run(alloc, Endless, Vec::new(alloc)).comes_to(2, b"", "ultra: V1 line 1\n")?;
 
     // Standard output comes before the processor's fault, and the exit status is told without
     // standard error too.
-    let mut err = Vec::new(rt.alloc());
-    let mut full = Meter::new(Full);
-    let status = words_command(rt.alloc(), b"00100093".as_slice(), &mut full, &mut err);
-    assert!(rt; full.failed());
-    assert_same!(rt; err.as_slice(), b"ultra: link\n".as_slice());
-    assert_same!(rt; status, 3);
+    let ran = run(alloc, b"00100093".as_slice(), Full);
+    assert!(rt; ran.has_failed);
+    ran.comes_to(3, b"", "ultra: link\n")?;
     assert_same!(rt; tell(Fault::Memory, &mut Full), 4);
+    Ok(())
 }
