@@ -1,6 +1,7 @@
 //! One thread with the passes of four processors: what each call answers, and what the passes and the log have at the end. The program
 //! and its steps are those by which four adds combine, worked out by hand.
 
+ghost use Rattle.std.specs.Prelude.{◌≡◌};
 ghost use Rattle.machine_passes.specs.Passes.{IsWhole};
 
 use super::trials::{Trial, attempt};
