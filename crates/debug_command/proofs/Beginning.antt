@@ -9,7 +9,7 @@ use Rattle.machine_log.specs.Logs.{Log}
 use Rattle.command_io.specs.declared.fault.Fault.{Fault}
 use Rattle.command_io.specs.declared.fault.Fault.TheVariants as fault
 use Rattle.command_io.specs.Files.{IsFaultOfImage}
-use Rattle.run_commands.specs.Causes.{IsFaultOfSize}
+use Rattle.accounts.specs.Causes.{IsFaultOfSize}
 use Rattle.debug_session.specs.Conversations.{HasServed, IsServed}
 use Rattle.debug_session.specs.declared.session_end.SessionEnd.{SessionEnd}
 use Rattle.debug_session.specs.declared.session_end.SessionEnd.TheVariants.{Quit, EndOfInput, ReadFailed, WriteFailed, Memory, TraceFull}

@@ -11,7 +11,7 @@ pub use Rattle.machine_log.specs.Logs.{opened}
 use Rattle.command_io.specs.declared.fault.Fault.{Fault}
 use Rattle.command_io.specs.declared.fault.Fault.TheVariants as fault
 use Rattle.command_io.specs.Faults.{status_of_fault}
-use Rattle.run_commands.specs.Reports.{IsExitOf}
+use Rattle.accounts.specs.Reports.{IsExitOf}
 use Rattle.debug_session.specs.Conversations.{HasServed, IsServed}
 use Rattle.debug_session.specs.declared.session_end.SessionEnd.{SessionEnd}
 use Rattle.debug_session.specs.declared.session_end.SessionEnd.TheVariants.{Quit, EndOfInput, ReadFailed, WriteFailed, Memory, TraceFull}

@@ -5,13 +5,13 @@ ghost use Rattle.debug_command.specs.Sessions.{HasEnded, HasNotBegun, IsNoSessio
 
 use crate::connect::Connect;
 use crate::end::debug_end;
+use accounts::machine_of;
 use command_io::{Fault, image_of, tell};
 use debug_session::{SessionEnd, serve};
 use debug_sweep::Sweep;
 use flat_machine::Config;
 use link::Failed;
 use machine_log::Logged;
-use run_commands::machine_of;
 use std::alloc::Global;
 use std::io::{Read, Write};
 use std::sync::Wait;

@@ -2,10 +2,10 @@
 
 ghost use Rattle.debug_command.specs.Sessions.{IsStatusOf};
 
+use accounts::exit_status;
 use command_io::{Fault, tell};
 use debug_session::SessionEnd;
 use machine_runs::Machine;
-use run_commands::exit_status;
 use std::io::Write;
 
 /// Tells on standard error why a session ended, where it did by a fault, and answers the exit status of `debug`: behind `quit` and

@@ -2,5 +2,4 @@ pub mod Flags
 pub mod Ranges
 pub mod Halts
 pub mod Smallest
-pub mod Many
 pub mod Faulted

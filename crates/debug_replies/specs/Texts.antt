@@ -5,7 +5,7 @@ use Rattle.debug_lines.specs.declared.command.Command.{Command}
 use Rattle.debug_lines.specs.declared.command.Command.TheVariants.{State, Registers, Register, Set, Memory, Write, Break, Clear, Step, Continue, Quit}
 use Rattle.debug_lines.specs.declared.command.Command.TheVariants.{Malformed}
 use Rattle.flat_machine.specs.State.{Processor, FlatState}
-use Rattle.machine.specs.Seeing.{byte_seen}
+use Rattle.machine_runs.specs.machine.Seeing.{byte_seen}
 
 -- ---- one processor. Of one that is not there nothing is shown.
 

@@ -2,13 +2,12 @@
 
 ghost use Rattle.std.specs.Prelude.{◌≡◌, ◌≤◌, ◌<◌, ◌+◌, ◌^◌, length};
 ghost use Rattle.debug_replies.specs.Errors.{error_of, error_text, has_addresses, is_malformed, is_range, is_reached, processor_of, register_of};
-ghost use Rattle.machine.specs.Openings.{flat_state};
+ghost use Rattle.machine_runs.specs.Runs.{flat_state};
 
 use crate::breaks::is_code_word;
-use crate::reading::{processors, shared_words};
 use debug_lines::Command;
 use flat_machine::{CODE_START, LOCAL_START, PC, REGION_BYTES, SHARED_START};
-use machine::Machine;
+use machine_runs::{Machine, flat_processors, flat_shared_words};
 
 /// The most bytes that one reply shows.
 pub(crate) const MAX_SHOWN: u32 = 512;
@@ -60,7 +59,7 @@ pub fn error_of(machine: &Machine, command: &Command) -> Option<Error>
         return Some(Error::Address);
     }
     if let Some(processor) = processor_of(command)
-        && processor >= processors(machine)
+        && processor >= flat_processors(machine)
     {
         return Some(Error::Processor);
     }
@@ -129,7 +128,7 @@ fn is_reached(machine: &Machine, address: u32, writes: bool) -> bool
     ensures { result ≡ is_reached (flat_state machine.now) writes address }
 {
     if address >= SHARED_START {
-        return (address - SHARED_START) / 4 < shared_words(machine);
+        return (address - SHARED_START) / 4 < flat_shared_words(machine);
     }
     let region = address / REGION_BYTES;
     region == LOCAL_START / REGION_BYTES || region == CODE_START / REGION_BYTES && !writes

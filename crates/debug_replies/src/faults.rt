@@ -1,13 +1,12 @@
 //! Which processors faults have stopped.
 
 ghost use Rattle.std.specs.Prelude.{◌≡◌, ◌<◌, ℕ};
-ghost use Rattle.machine.specs.Machines.{AreHome};
-ghost use Rattle.machine.specs.Openings.{flat_state};
+ghost use Rattle.machine_runs.specs.Machines.{AreHome};
+ghost use Rattle.machine_runs.specs.Runs.{flat_state};
 ghost use Rattle.debug_replies.specs.Stops.{is_faulted, is_faulted_at, is_flagged};
 
-use crate::reading::{processors, status};
 use flat_machine::Status;
-use machine::Machine;
+use machine_runs::{Machine, flat_processors, flat_status};
 use std::marker::Model;
 
 /// The most processors that a machine has.
@@ -36,7 +35,7 @@ impl Faults {
         ensures { (p : ℕ) → is_flagged result p ≡ is_faulted_at (flat_state machine.now) p }
     {
         let mut flags = [false; MOST_PROCESSORS];
-        for processor in 0..processors(machine) {
+        for processor in 0..flat_processors(machine) {
             flags[processor as usize] = is_faulted(machine, processor);
         }
         Faults { flags }
@@ -56,7 +55,7 @@ pub(crate) fn is_faulted(machine: &Machine, processor: u32) -> bool
     requires home { AreHome machine.now }
     ensures { result ≡ is_faulted_at (flat_state machine.now) processor }
 {
-    match status(machine, processor) {
+    match flat_status(machine, processor) {
         Some(status) => has_faulted(status),
         None => false,
     }

@@ -5,7 +5,6 @@ mod breaks;
 mod digits;
 mod error;
 mod faults;
-mod reading;
 mod showing;
 mod stopping;
 

@@ -2,17 +2,16 @@
 
 ghost use Rattle.std.specs.Prelude.{◌≡◌, ◌≤◌, ◌+◌, ◌++◌, length, slice_get};
 ghost use Rattle.arrayvec.specs.ArrayVec.{array_vec_len};
-ghost use Rattle.machine.specs.Machines.{AreHome};
-ghost use Rattle.machine.specs.Openings.{flat_state};
+ghost use Rattle.machine_runs.specs.Machines.{AreHome};
+ghost use Rattle.machine_runs.specs.Runs.{flat_state};
 ghost use Rattle.debug_replies.specs.Texts.{memory_text, register_at, register_text, registers_text, shown_text, state_text};
 
 use crate::digits::{push, push_byte, push_status, push_word, push_words};
 use crate::error::MAX_SHOWN;
-use crate::reading::{pc, registers, seen, status};
 use arrayvec::ArrayVec;
 use debug_lines::Command;
 use flat_machine::PC;
-use machine::Machine;
+use machine_runs::{Machine, flat_byte, flat_pc, flat_registers, flat_status};
 
 /// Puts the reply to a command that has no error into the text, in place of what it had, where it does not depend on
 /// what the command does: what is shown, or `ok`. For `step` and `cont`, and for what is not there, the text is left
@@ -47,7 +46,7 @@ fn show_state(machine: &Machine, processor: u32, text: &mut ArrayVec<u8, 1024>)
     requires empty { array_vec_len text.old ≡ 0 }
     ensures { text.new.items ≡ state_text (slice_get (flat_state machine.now).processors processor) }
 {
-    if let Some(status) = status(machine, processor) {
+    if let Some(status) = flat_status(machine, processor) {
         push_status(text, status);
     }
 }
@@ -59,7 +58,10 @@ fn show_registers(machine: &Machine, processor: u32, text: &mut ArrayVec<u8, 102
     requires empty { array_vec_len text.old ≡ 0 }
     ensures { text.new.items ≡ registers_text (slice_get (flat_state machine.now).processors processor) }
 {
-    if let (Some(registers), Some(pc)) = (registers(machine, processor), pc(machine, processor)) {
+    if let (Some(registers), Some(pc)) = (
+        flat_registers(machine, processor),
+        flat_pc(machine, processor),
+    ) {
         push_words(text, registers);
         push_word(text, pc);
     }
@@ -94,7 +96,7 @@ fn show_memory(
         return;
     }
     for i in 0..length {
-        if let Some(byte) = seen(machine, processor, address + i) {
+        if let Some(byte) = flat_byte(machine, processor, address + i) {
             push_byte(text, byte);
         }
     }
@@ -107,8 +109,8 @@ fn register_value(machine: &Machine, processor: u32, register: u32) -> Option<u3
     ensures { result ≡ register_at (slice_get (flat_state machine.now).processors processor) register }
 {
     if register == u32::from(PC) {
-        return pc(machine, processor);
+        return flat_pc(machine, processor);
     }
-    let registers = registers(machine, processor)?;
+    let registers = flat_registers(machine, processor)?;
     registers.get(register as usize).copied()
 }

@@ -3,8 +3,8 @@
 ghost use Rattle.std.specs.Prelude.{◌≡◌, ◌≤◌, ◌<◌, ◌++◌, ◌&&◌, not, false, length};
 ghost use Rattle.std.specs.Fmt.{digit_glyph, digits};
 ghost use Rattle.arrayvec.specs.ArrayVec.{array_vec_len};
-ghost use Rattle.machine.specs.Machines.{AreHome};
-ghost use Rattle.machine.specs.Openings.{flat_state};
+ghost use Rattle.machine_runs.specs.Machines.{AreHome};
+ghost use Rattle.machine_runs.specs.Runs.{flat_state};
 ghost use Rattle.flat_machine.specs.State.{is_running};
 ghost use Rattle.debug_replies.specs.Stops.{are_halted, has_break_at, is_at_break, is_flagged, is_halted, is_halted_at, is_newly_faulted, is_running_at};
 ghost use Rattle.debug_replies.specs.Stops.{name_text, named_stop, smallest, stop_text};
@@ -12,10 +12,9 @@ ghost use Rattle.debug_replies.specs.Stops.{name_text, named_stop, smallest, sto
 use crate::breaks::Breaks;
 use crate::digits::push;
 use crate::faults::{Faults, is_faulted};
-use crate::reading::{pc, processors, status};
 use arrayvec::ArrayVec;
 use flat_machine::Status;
-use machine::Machine;
+use machine_runs::{Machine, flat_pc, flat_processors, flat_status};
 
 /// Puts a stop reply into the text, in place of what it had: `halted` where all processors are halted, else `at` with
 /// the processor that is named, in hex without leading zeros, or with `-`.
@@ -75,7 +74,7 @@ fn are_all_halted(machine: &Machine) -> bool
     requires home { AreHome machine.now }
     ensures { result ≡ are_halted (flat_state machine.now) (length (flat_state machine.now).processors) }
 {
-    for processor in 0..processors(machine) {
+    for processor in 0..flat_processors(machine) {
         if !is_halted(machine, processor) {
             return false;
         }
@@ -88,7 +87,7 @@ fn is_halted(machine: &Machine, processor: u32) -> bool
     requires home { AreHome machine.now }
     ensures { result ≡ is_halted_at (flat_state machine.now) processor }
 {
-    match status(machine, processor) {
+    match flat_status(machine, processor) {
         Some(status) => has_halted(status),
         None => false,
     }
@@ -119,7 +118,7 @@ fn first_at_break(machine: &Machine, breaks: &Breaks) -> Option<u8>
     requires home { AreHome machine.now }
     ensures { result ≡ smallest (is_at_break breaks.now (flat_state machine.now)) (length (flat_state machine.now).processors) }
 {
-    for processor in 0..processors(machine) {
+    for processor in 0..flat_processors(machine) {
         if is_at_break(machine, breaks, processor) {
             return Some(processor as u8);
         }
@@ -132,7 +131,7 @@ fn first_faulted(machine: &Machine, before: &Faults) -> Option<u8>
     requires home { AreHome machine.now }
     ensures { result ≡ smallest (is_newly_faulted (is_flagged before.now) (flat_state machine.now)) (length (flat_state machine.now).processors) }
 {
-    for processor in 0..processors(machine) {
+    for processor in 0..flat_processors(machine) {
         if is_faulted(machine, processor) && !before.contains(processor) {
             return Some(processor as u8);
         }
@@ -153,7 +152,7 @@ fn has_break(machine: &Machine, breaks: &Breaks, processor: u32) -> bool
     requires home { AreHome machine.now }
     ensures { result ≡ has_break_at breaks.now (flat_state machine.now) processor }
 {
-    match pc(machine, processor) {
+    match flat_pc(machine, processor) {
         Some(pc) => breaks.contains(pc),
         None => false,
     }
@@ -164,7 +163,7 @@ pub fn is_running(machine: &Machine, processor: u32) -> bool
     requires home { AreHome machine.now }
     ensures { result ≡ is_running_at (flat_state machine.now) processor }
 {
-    match status(machine, processor) {
+    match flat_status(machine, processor) {
         Some(status) => runs(status),
         None => false,
     }

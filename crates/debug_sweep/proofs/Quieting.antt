@@ -14,7 +14,7 @@ use Rattle.machine_runs.specs.Machines.{IsMachine, MachineLists, machine_of}
 use Rattle.machine_log.specs.Logs.{HasTaken, Log, entered}
 use Rattle.machine_sweep.specs.Rounds.{round}
 use Rattle.machine_sweep.specs.Skips.{AreQuiet, IsNext, IsQuiet}
-use Rattle.machine_sweep.specs.Standing.{HasRunning}
+use Rattle.machine_runs.specs.Standing.{HasRunning}
 use Rattle.debug_sweep.proofs.Stepping.{entered_either}
 
 -- The round has entered a step, or what it has asked for so far stalls, and a processor runs.

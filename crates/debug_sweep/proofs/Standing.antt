@@ -8,7 +8,7 @@ use Rattle.machine_runs.specs.machine_program.Processors.{Told, open_at}
 use Rattle.machine_runs.specs.machine_program.Steps.{machine_of_parts}
 use Rattle.machine_runs.specs.Machines.{MachineLists}
 use Rattle.machine_runs.specs.Runs.{IsReplay}
-use Rattle.machine_sweep.specs.Standing.{HasRunning, processor_of}
+use Rattle.machine_runs.specs.Standing.{HasRunning, processor_of}
 use Rattle.machine_sweep.specs.Sweeps.{RunsAfter}
 use Rattle.debug_replies.specs.Breaking.{is_break}
 use Rattle.debug_sweep.specs.Breaks.{AreFlagged, IsAtBreak, StandsAtBreak, machine_after, processor_after}

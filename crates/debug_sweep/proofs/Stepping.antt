@@ -11,7 +11,7 @@ use Rattle.machine_runs.specs.Machines.{MachineLists}
 use Rattle.machine_runs.specs.Runs.{IsReplay, answer_after}
 use Rattle.machine_log.specs.Logs.{HasTaken, Log, entered}
 use Rattle.machine_sweep.specs.Own.{AreOwn, IsOwn}
-use Rattle.machine_sweep.specs.Standing.{HasRunning}
+use Rattle.machine_runs.specs.Standing.{HasRunning}
 use Rattle.machine_sweep.specs.Sweeps.{EndsInFault, IsFault}
 use Rattle.machine_sweep.proofs.Lemmas.{at_most_one, own_both}
 use Rattle.debug_sweep.specs.Breaks.{AreFlagged, HasRetired, IsRetirement, MeetsBreak, Retires, StandsAtBreak, is_noted}

@@ -10,7 +10,7 @@ use Rattle.machine_runs.specs.machine_program.Processors.{open_at}
 use Rattle.machine_runs.specs.Machines.{MachineLists}
 use Rattle.machine_runs.specs.Runs.{answer_after}
 pub use Rattle.machine_runs.specs.Runs.{machine_after}
-use Rattle.machine_sweep.specs.Standing.{processor_of}
+use Rattle.machine_runs.specs.Standing.{processor_of}
 use Rattle.debug_replies.specs.Breaking.{is_break}
 
 abbrev pub processor_after : (opening : MachineLists) → (done : List Step) → (p : ℕ) → Processor

@@ -3,8 +3,8 @@
 ghost use Rattle.std.specs.Prelude.{◌≡◌, ◌≤◌, ◌<◌, ◌+◌, ◌↔◌, ◌⊎◌, ℕ, Err, OnErr, OnOk, IsTrue, length, true, false};
 ghost use Rattle.machine_runs.specs.Draining.{drain_bound};
 ghost use Rattle.machine_runs.specs.Machines.{IsIdle};
+ghost use Rattle.machine_runs.specs.Standing.{HasRunning};
 ghost use Rattle.machine_log.specs.Logs.{KeepsPlaces, Log};
-ghost use Rattle.machine_sweep.specs.Standing.{HasRunning};
 ghost use Rattle.machine_sweep.specs.Sweeps.{IsFault};
 ghost use Rattle.debug_sweep.specs.Breaks.{IsAtBreak, MeetsBreak, Retires, is_noted};
 ghost use Rattle.debug_sweep.specs.Runs.{HasDriven};
@@ -14,8 +14,8 @@ use crate::runner::Runner;
 use debug_replies::Breaks;
 use flat_machine::{Cause, Status};
 use machine_log::{LogRefusal, Logged, Roomy, roomy_is_kept};
-use machine_runs::{Machine, machine_is_sound, most_moves, replays_are_cut};
-use machine_sweep::{Round, any_runs, rounds_go_on, sweeps_write_nothing};
+use machine_runs::{Machine, any_runs, drain_bound, machine_is_sound, replays_are_cut};
+use machine_sweep::{Round, rounds_go_on, sweeps_write_nothing};
 use steps::{Outcome, Step};
 
 /// The most processors that a machine has.
@@ -44,7 +44,7 @@ impl Runner for Sweep {
         ensures named { result ≡ Err LogRefusal.Unnamed → ⊥ }
         ensures refused { OnErr result (log.new ≡ log.old) }
     {
-        let room = budget.saturating_add(most_moves(log.machine()));
+        let room = budget.saturating_add(drain_bound(log.machine()));
         sweep_and_drain(log.room(room)?, breaks, budget);
         Ok(())
     }

@@ -14,7 +14,7 @@ use Rattle.command_io.specs.declared.fault.Fault.{Fault}
 use Rattle.command_io.specs.declared.fault.Fault.TheVariants as fault
 use Rattle.command_io.specs.Faults.{status_of_fault}
 use Rattle.command_io.specs.Printing.{IsPartPrinted}
-use Rattle.run_commands.specs.Commands.{IsPartSaved}
+use Rattle.accounts.specs.Accounts.{IsPartSaved}
 use Rattle.exploration.specs.results.Results.{FinalResult}
 use Rattle.exploration.specs.move_ranks.declared.schedules.Schedules.{Schedules}
 use Rattle.exploration.specs.station_search.Scheduled.{AreSchedulesOf}

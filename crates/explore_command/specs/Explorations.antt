@@ -8,8 +8,8 @@ use Rattle.result_witness.specs.trace_file.Traces.{trace_bytes, trace_of}
 use Rattle.machine_runs.specs.Machines.{MachineLists}
 use Rattle.machine_runs.specs.Runs.{IsOpening}
 use Rattle.machine_runs.specs.machine.Openings.{flat_state}
-use Rattle.run_commands.specs.machine_sweep.Standing.{IsFaulted}
-use Rattle.run_commands.specs.Commands.{IsSaved}
+use Rattle.machine_runs.specs.Standing.{IsFaulted}
+use Rattle.accounts.specs.Accounts.{IsSaved}
 use Rattle.exploration.specs.results.Results.{ProcessorResult, FinalResult, IsMachineResult}
 use Rattle.exploration.specs.Endings.{IsOnce}
 use Rattle.exploration.specs.move_ranks.declared.schedules.Schedules.{Schedules}

@@ -2,7 +2,7 @@
 
 ghost use Rattle.std.specs.Prelude.{◌≡◌, ◌≤◌, ◌↔◌, true, false, IfOk, IfErr, IsErrOf, OnErr};
 ghost use Rattle.command_io.specs.Printing.{IsPrinted};
-ghost use Rattle.run_commands.specs.Commands.{IsWorking};
+ghost use Rattle.accounts.specs.Accounts.{IsWorking};
 ghost use Rattle.explore_command.specs.Causes.{IsRefused, IsToldAs, status_of};
 ghost use Rattle.explore_command.specs.Explorations.{PrintsResults};
 

@@ -15,5 +15,4 @@ pub use command::{Search, explore_command};
 pub use exploration::{Unwatched, Watch};
 pub use lines::results_text;
 pub use progress::SearchProgress;
-pub use searching::MAX_STAGES;
 pub use status::exit_status;

@@ -5,13 +5,14 @@ ghost use Rattle.machine_runs.specs.machine.Openings.{flat_state};
 ghost use Rattle.machine_runs.specs.Machines.{AreHome, IsIdle};
 ghost use Rattle.machine_runs.specs.Runs.{IsOpening};
 ghost use Rattle.exploration.specs.station_search.Scheduled.{AreSchedulesOf};
-ghost use Rattle.run_commands.specs.Commands.{IsWorking};
+ghost use Rattle.accounts.specs.Accounts.{IsWorking};
 ghost use Rattle.explore_command.specs.Causes.{IsNotFound, IsNotSaved, IsNotSearched};
 ghost use Rattle.explore_command.specs.Explorations.{AreExplored, AreResultsOf, IsWitnessed};
 
 use crate::command::Search;
 use crate::lines::results_text;
 use crate::status::exit_status;
+use accounts::{machine_of, save};
 use command_io::Fault;
 use elf_image::Image;
 use exploration::{Explored, Refusal, Watch, explore};
@@ -19,11 +20,10 @@ use flat_machine::Config;
 use link::LinkWrite;
 use machine_runs::Machine;
 use result_witness::{Refused, witness_of};
-use run_commands::{machine_of, save};
 use std::alloc::Global;
 
 /// The most stages of switches of a machine that is explored: it has 8 processors then.
-pub const MAX_STAGES: u8 = 3;
+const MAX_EXPLORED_STAGES: u8 = 3;
 
 /// The lines of the results, and the exit status. Where a trace is asked for, that of a witness is written.
 pub(crate) fn explored<T: LinkWrite, G: Watch>(
@@ -40,7 +40,7 @@ pub(crate) fn explored<T: LinkWrite, G: Watch>(
     ensures low { IfOk result (λ done. done.1 ≤ 1) }
     ensures refused { IfErr result (IsNotFound T.contents config image search.witness trace.old trace.new) }
 {
-    if config.k > MAX_STAGES {
+    if config.k > MAX_EXPLORED_STAGES {
         return Err(Refused::Fault(Fault::Size));
     }
     let machine = machine_of(alloc, image, config)?;

@@ -1,22 +1,20 @@
 -- The log of a run, from its machine's opening on, and its steps on another machine.
-use Rattle.std.proofs.Common.{◌≡◌, ℕ, List, ◌∙◌, ap, refl, sym, subst, arith}
+use Rattle.std.proofs.Common.{◌≡◌, ℕ, List, ◌∙◌, ap, sym, subst, arith}
 use Rattle.flat_machine.specs.declared.config.Config.{Config}
 use Rattle.flat_machine.specs.Limits.{IsWithinLimits}
 use Rattle.elf_image.specs.Images.{ImageContents}
 use Rattle.machine_runs.specs.steps.declared.step.Step.{Step}
 use Rattle.trace_file.specs.Traces.{HaveRecords}
-use Rattle.run_commands.proofs.Lemmas.{is_spelled, none_stalls}
-use Rattle.run_commands.specs.trace_replay.Replays.{StallsAt}
+use Rattle.accounts.proofs.Lemmas.{is_spelled, none_stalls, only_memory}
+use Rattle.accounts.specs.trace_replay.Replays.{StallsAt}
 use Rattle.machine_runs.specs.Machines.{MachineLists}
 use Rattle.machine_runs.specs.Runs.{IsOpening, IsReplay}
 use Rattle.machine_log.specs.Logs.{IsKept, Log}
 use Rattle.machine_sweep.specs.Sweeps.{opened}
 use Rattle.machine_sweep.specs.declared.sweeping.SweepEnd.{SweepEnd}
+use Rattle.command_io.specs.declared.fault.Fault.{Fault}
 use Rattle.command_io.specs.declared.fault.Fault.TheVariants as fault
-use Rattle.run_commands.specs.Faults.{fault_of_retaking}
-use Rattle.run_commands.specs.Retaking.{IsNotRetaken}
-use Rattle.run_commands.specs.declared.taking.RetakeError.{RetakeError}
-use Rattle.run_commands.specs.declared.taking.RetakeError.TheVariants as retake
+use Rattle.accounts.specs.Retaking.{IsNotRetaken}
 use Rattle.random_runs.specs.Runs.{HasRunAtRandom, IsRandomRun}
 use Rattle.hunt_command.specs.Hunts.{IsLogOf}
 
@@ -44,9 +42,9 @@ module _ (c : Config) (most number : ℕ) (image : ImageContents) (m : MachineLi
 
 -- the steps of a run do not stall on another machine that opens on the image
 pub not_stalled : (c : Config) (image : ImageContents) (most number : ℕ) (end : SweepEnd) (log : Log) (steps : List Step) (second new : MachineLists) →
-    IsRandomRun c image number most end log → steps ≡ log.steps → IsOpening c image second → (e : RetakeError) → IsNotRetaken second steps new e →
-    fault_of_retaking e ≡ fault.Memory
-not_stalled c image most number end log steps second new ran all two (retake.Stalled place) h =
-    absurd (none_stalls c image log.opening second ran.opens two log.steps log.machine ran.replay place new
+    IsRandomRun c image number most end log → steps ≡ log.steps → IsOpening c image second → (f : Fault) → IsNotRetaken second steps new f →
+    f ≡ fault.Memory
+not_stalled c image most number end log steps second new ran all two =
+    only_memory second new steps
+    (λ place h. none_stalls c image log.opening second ran.opens two log.steps log.machine ran.replay place new
     (subst (λ (xs : List Step). StallsAt second xs place new) all h))
-not_stalled c image most number end log steps second new ran all two retake.Memory h = refl

@@ -17,8 +17,8 @@ use Rattle.command_io.specs.declared.fault.Fault.{Fault}
 use Rattle.command_io.specs.declared.fault.Fault.TheVariants as fault
 use Rattle.command_io.specs.Printing.{IsPartPrinted}
 use Rattle.run_report.specs.Tallies.{TallyState}
-use Rattle.run_commands.specs.Reports.{IsExitOf}
-use Rattle.run_commands.specs.Retaking.{IsRetaken}
+use Rattle.accounts.specs.Reports.{IsExitOf}
+use Rattle.accounts.specs.Retaking.{IsRetaken}
 use Rattle.hunt_command.specs.declared.command.Hunt.{Hunt}
 use Rattle.hunt_command.specs.Findings.{FindingState, findings_lines, noted}
 use Rattle.hunt_command.specs.Lines.{result_of}

@@ -3,13 +3,13 @@ use Rattle.std.specs.Prelude.{ℕ, zero, suc, ◌^◌, List, [], ◌++◌, codes
 use Rattle.std.specs.Fmt.{decimal}
 use Rattle.flat_machine.specs.declared.event.Status.{Status}
 use Rattle.machine_runs.specs.Machines.{MachineLists}
-use Rattle.machine_sweep.specs.Standing.{processor_of}
+use Rattle.machine_runs.specs.Standing.{processor_of}
 use Rattle.machine_sweep.specs.declared.sweeping.SweepEnd.{SweepEnd}
 use Rattle.machine_sweep.specs.declared.sweeping.SweepEnd.TheVariants.{Over, Budget}
 use Rattle.command_io.specs.Digits.{line_feed, status_text}
 use Rattle.run_report.specs.Lines.{console_text}
 use Rattle.run_report.specs.Tallies.{ShownBy, nothing_shown}
-use Rattle.run_commands.specs.Reports.{shared_lines}
+use Rattle.accounts.specs.Reports.{shared_lines}
 
 -- how a run ended
 abbrev pub end_line : SweepEnd → List ℕ

@@ -4,14 +4,14 @@ ghost use Rattle.std.specs.Prelude.{◌≡◌, ◌<◌, ◌++◌, ◌^◌, codes
 ghost use Rattle.std.specs.Fmt.{decimal};
 ghost use Rattle.run_report.specs.Tallies.{nothing_shown};
 ghost use Rattle.machine_runs.specs.Machines.{AreHome};
-ghost use Rattle.machine_sweep.specs.Standing.{processor_of};
+ghost use Rattle.machine_runs.specs.Standing.{processor_of};
 ghost use Rattle.hunt_command.specs.Lines.{end_line, outcome_line, outcome_lines, result_of};
 
+use accounts::push_words;
 use command_io::push_status;
 use flat_machine::Status;
 use machine_runs::Machine;
 use machine_sweep::SweepEnd;
-use run_commands::push_words;
 use run_report::{Shown, Tally, push_console};
 use std::alloc::{AllocError, Global};
 use std::fmt::Write;

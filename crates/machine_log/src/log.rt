@@ -12,7 +12,7 @@ ghost use Rattle.machine_log.specs.Lending.{LendsRoom};
 
 use crate::roomy::{Roomy, roomy_is_kept};
 use flat_machine::{Config, Poke};
-use machine_runs::{Machine, most_moves};
+use machine_runs::{Machine, drain_bound};
 use std::alloc::Global;
 use std::marker::Model;
 use std::snapshot::Snapshot;
@@ -161,7 +161,7 @@ impl Logged {
         ensures named { result ≡ Err LogRefusal.Unnamed → ⊥ }
         ensures refused { OnErr result (self.new ≡ self.old) }
     {
-        let most = most_moves(self.machine());
+        let most = drain_bound(self.machine());
         self.log.make_room(most)?;
         Ok(self.log.drain())
     }

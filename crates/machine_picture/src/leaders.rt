@@ -3,14 +3,12 @@
 ghost use Rattle.std.specs.Prelude.{◌<◌};
 
 use crate::layout::wires_of;
+use flat_machine::MAX_STAGES;
 use indexed_network::IndexedNetwork;
 use messages::Record;
 
 /// How many processors a machine has at most.
 const PROCESSORS: usize = 64;
-
-/// How many stages there are at most. A reference is combined once in each at most.
-const MAX_STAGES: u8 = 6;
 
 /// Into whose request the requests of processors were combined, by the wait records of a network.
 #[derive(Debug, Drop)]
@@ -52,6 +50,7 @@ impl Leaders {
     /// Who leads the message in which the reference of a processor is: its request was combined into another's, and so on.
     pub fn of_processor(&self, processor: u8) -> u8 {
         let mut leader = processor;
+        // A reference is combined once in each stage at most.
         for _ in 0..MAX_STAGES {
             leader = self.next(leader);
         }

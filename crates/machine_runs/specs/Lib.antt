@@ -1,4 +1,5 @@
 pub mod Machines
+pub mod Standing
 pub mod Runs
 pub mod Draining
 pub mod Whole

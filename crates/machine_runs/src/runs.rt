@@ -54,12 +54,12 @@ pub fn drain_noted<N: Notes>(machine: &mut Machine, notes: &mut N) -> Result<u32
     ensures replay { OnOk result (IsReplay machine.old (drain_steps machine.old) machine.new) }
     ensures noted { OnOk result (AreNoted N.noted machine.old (drain_steps machine.old) notes.old notes.new) }
 {
-    let bound = most_moves(machine);
+    let bound = drain_bound(machine);
     Ok(bring_home(machine, bound, notes)?.0)
 }
 
 /// How many steps a drain takes at most: `2^k * (2k + 2)`.
-pub fn most_moves(machine: &Machine) -> u32
+pub fn drain_bound(machine: &Machine) -> u32
     ensures { result ≡ drain_bound machine.now.config }
 {
     let config = machine.config();

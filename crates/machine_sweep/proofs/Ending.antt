@@ -17,7 +17,7 @@ use Rattle.machine_runs.specs.Runs.{IsReplay, all_after, answer_after}
 use Rattle.machine_runs.proofs.Lemmas.{all_after_more}
 use Rattle.machine_log.specs.Logs.{entered}
 use Rattle.machine_log.proofs.Lemmas.{entered_moving}
-use Rattle.machine_sweep.specs.Standing.{HasRunning, processor_of}
+use Rattle.machine_runs.specs.Standing.{HasRunning, processor_of}
 use Rattle.machine_sweep.specs.Sweeps.{EndsInFault, IsFault, IsOver, IsStop, RunsAfter, status_after}
 use Rattle.machine_sweep.proofs.Own.{IsOwn}
 use Rattle.machine_sweep.proofs.Statuses.{statuses_kept}

@@ -5,7 +5,7 @@ use Rattle.steps.specs.declared.step.Step.{Step}
 use Rattle.machine_runs.specs.Runs.{IsReplay, answer_after}
 use Rattle.machine_log.specs.Logs.{Log}
 use Rattle.machine_sweep.specs.Rounds.{round}
-use Rattle.machine_sweep.specs.Standing.{HasRunning}
+use Rattle.machine_runs.specs.Standing.{HasRunning}
 use Rattle.machine_sweep.specs.Sweeps.{EndsInFault, IsUnderWay, HasFollowed, IsFault, IsOver, RunsAfter, WasAskedRound, entered_of, rounds}
 use Rattle.machine_sweep.specs.declared.sweeping.SweepEnd.TheVariants.{Over, Budget}
 use Rattle.machine_sweep.proofs.Asking.{none_asked, round_more, rounds_more}

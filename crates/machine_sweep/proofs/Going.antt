@@ -9,7 +9,7 @@ use Rattle.machine_runs.specs.Runs.{IsReplay}
 use Rattle.machine_log.specs.Logs.{Log, HasTaken}
 use Rattle.machine_sweep.specs.Rounds.{round}
 use Rattle.machine_sweep.specs.Skips.{AreQuiet, IsNext}
-use Rattle.machine_sweep.specs.Standing.{HasRunning}
+use Rattle.machine_runs.specs.Standing.{HasRunning}
 use Rattle.machine_sweep.specs.Sweeps.{HasGone, IsFault, IsInRound, IsStop, WasAskedRound, entered_of}
 use Rattle.machine_sweep.proofs.Asking.{at_most_one, longer, none_asked, one_asked}
 use Rattle.machine_sweep.proofs.Ending.{IsUnder, first_begins, none_faulted, runs_after}

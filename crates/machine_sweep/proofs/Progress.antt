@@ -24,7 +24,7 @@ use Rattle.machine_runs.specs.Machines.{MachineLists, machine_of, IsMachine, IsI
 use Rattle.machine_runs.specs.Draining.{drain_step}
 use Rattle.machine_runs.proofs.Lemmas.{goes_on, none_idle}
 use Rattle.machine_sweep.specs.Rounds.{on_each_wire, ups, downs, round}
-use Rattle.machine_sweep.specs.Standing.{HasRunning}
+use Rattle.machine_runs.specs.Standing.{HasRunning}
 use Rattle.machine_sweep.proofs.Own.{IsOwn, drain_is_own}
 
 -- ---- the steps of a round

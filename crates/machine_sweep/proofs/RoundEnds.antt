@@ -10,7 +10,7 @@ use Rattle.machine_runs.specs.Runs.{IsReplay, answer_after}
 use Rattle.machine_runs.proofs.Lemmas.{outcome_there}
 use Rattle.machine_log.specs.Logs.{Log, HasTaken, entered}
 use Rattle.machine_sweep.specs.Rounds.{round}
-use Rattle.machine_sweep.specs.Standing.{HasRunning}
+use Rattle.machine_runs.specs.Standing.{HasRunning}
 use Rattle.machine_sweep.specs.Sweeps.{EndsInFault, IsFault, IsOver, IsStop, RunsAfter, WasAskedRound, entered_of}
 use Rattle.machine_sweep.proofs.Asking.{each_stalls}
 use Rattle.machine_sweep.proofs.Ending.{IsFirst, IsUnder, ends_in, first_on, has_running, runs_after, runs_on, sound_on}

@@ -10,7 +10,7 @@ ghost use Rattle.machine_log.specs.Logs.{Log};
 ghost use Rattle.machine_sweep.specs.Own.{AreOwn, IsOwn};
 ghost use Rattle.machine_sweep.specs.Rounds.{round};
 ghost use Rattle.machine_sweep.specs.Skips.{AreQuiet};
-ghost use Rattle.machine_sweep.specs.Standing.{HasRunning};
+ghost use Rattle.machine_runs.specs.Standing.{HasRunning};
 ghost use Rattle.machine_sweep.specs.Sweeps.{IsWholeRun};
 ghost use Rattle.machine_sweep.specs.declared.sweeping.SweepEnd.{SweepEnd};
 

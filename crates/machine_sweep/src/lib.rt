@@ -4,19 +4,16 @@
 //! stops a processor, none runs, or the budget is used up; then it drains the machine. It does not ask for
 //! steps that find no message, since they would stall: it goes through the rows of a round by the kind of
 //! their steps ([`Row`]). Who may stand anywhere in a round is told its steps one at a time ([`Round`]).
-//! [`any_runs`] and [`any_is_faulted`] say what the processors do.
 #![tactic(auto)]
 
 mod laws;
 mod round;
 mod row;
 mod schedule;
-mod states;
 mod sweeping;
 
 pub use laws::{rounds_go_on, runs_have_one_log, sweeps_write_nothing};
 pub use round::Round;
 pub use row::{Downs, Row, Services, Turns, Ups};
 pub use schedule::step_at;
-pub use states::{any_is_faulted, any_runs};
 pub use sweeping::{MAX_BUDGET, SweepEnd, follow_sweep, is_over, most_steps};

@@ -3,15 +3,14 @@
 ghost use Rattle.std.specs.Prelude.{◌≡◌, ◌≤◌, ◌<◌, ◌+◌, ◌*◌, ◌^◌, ◌↔◌, ◌⊎◌, Err, IfOk, OnErr, OnOk, length, true, false};
 ghost use Rattle.trace_file.specs.Traces.{HaveRecords};
 ghost use Rattle.machine_runs.specs.Draining.{drain_bound};
+ghost use Rattle.machine_runs.specs.Standing.{HasRunning};
 ghost use Rattle.machine_sweep.specs.Rounds.{round};
-ghost use Rattle.machine_sweep.specs.Standing.{HasRunning};
 ghost use Rattle.machine_sweep.specs.Sweeps.{HasFollowed, HasGone, IsFault, IsStop, IsSwept, WasAskedRound, most_of};
 
 use crate::row::{Downs, Row, Services, Turns, Ups};
-use crate::states::any_runs;
 use flat_machine::Cause;
 use machine_log::{LogRefusal, Logged, Roomy, roomy_is_kept};
-use machine_runs::{Machine, machine_is_sound, most_moves};
+use machine_runs::{Machine, any_runs, drain_bound, machine_is_sound};
 use steps::Outcome;
 
 /// The largest budget: a sweep enters so many steps at most. The log of a new machine has room for them, and
@@ -53,7 +52,7 @@ pub fn most_steps(machine: &Machine, most: u32) -> u32
     ensures { result ≡ most + drain_bound machine.now.config }
 {
     machine_is_sound(machine);
-    most + most_moves(machine)
+    most + drain_bound(machine)
 }
 
 /// Follows the sweep for so many steps at most, and then drains the machine. There is room for the steps.

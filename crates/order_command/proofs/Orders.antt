@@ -16,11 +16,12 @@ use Rattle.machine_runs.specs.machine_program.Steps.{named}
 use Rattle.machine_runs.specs.machine_program.Theory as theory
 use Rattle.machine_runs.specs.Machines.{MachineLists, machine_of}
 use Rattle.machine_runs.specs.Runs.{IsOpening, flat_state, passed}
-use Rattle.run_commands.specs.machine_sweep.Standing.{HasFaulted, IsFaulted, processor_of}
+use Rattle.machine_runs.specs.Standing.{HasFaulted, IsFaulted, processor_of}
 use Rattle.order_lines.specs.declared.choice.Choice.{Choice}
 use Rattle.order_lines.specs.Lines.{lines_of}
-use Rattle.run_commands.specs.Reports.{HasFlatFaulted, IsExitOf, flat_processor}
-use Rattle.order_command.specs.Orders.{AreFlatLines, AreOrderLines, IsBroughtHome, order_of}
+use Rattle.accounts.specs.Reports.{HasFlatFaulted, IsExitOf, flat_processor}
+use Rattle.accounts.specs.Explained.{IsBroughtHome}
+use Rattle.order_command.specs.Orders.{AreFlatLines, AreOrderLines, order_of}
 
 -- ---- faults
 

@@ -1,5 +1,5 @@
 -- What the command prints: from the bytes of files to the lines of a serial order.
-use Rattle.std.specs.Prelude.{◌≡◌, ℕ, List, ◌++◌}
+use Rattle.std.specs.Prelude.{◌≡◌, ℕ, List}
 use Rattle.flat_machine.specs.declared.config.Config.{Config}
 use Rattle.flat_machine.specs.declared.poke.Entry.{Entry}
 use Rattle.flat_machine.specs.Flat.{flat_run}
@@ -7,34 +7,15 @@ use Rattle.flat_machine.specs.State.{FlatState}
 use Rattle.elf_image.specs.Images.{ImageContents}
 use Rattle.elf_image.specs.Openings.{opening as flat_opening}
 use Rattle.steps.specs.declared.step.Step.{Step}
-use Rattle.machine_runs.specs.Machines.{MachineLists, IsIdle}
-use Rattle.machine_runs.specs.Runs.{IsOpening, IsReplay, IsSerialized, passed}
-use Rattle.machine_runs.specs.Draining.{drain_steps}
+use Rattle.machine_runs.specs.Runs.{passed}
 use Rattle.order_lines.specs.declared.choice.Choice.{Choice}
 use Rattle.order_lines.specs.Lines.{lines_of}
-use Rattle.run_commands.specs.Commands.{StandsAfter}
-use Rattle.run_commands.specs.Reports.{HasFlatFaulted}
+use Rattle.accounts.specs.Explained.{IsBroughtHome, IsExplainedRun}
+use Rattle.accounts.specs.Reports.{HasFlatFaulted}
 
--- A run of the machine of this size that opens on the image: it has taken these steps, each of which did something, no reference
--- is open behind them, and one serial order of whole instructions explains them.
-pub record IsExplainedRun (c : Config) (image : ImageContents) (steps : List Step) : Type 0 where
-  pub opening : MachineLists
-  pub opens : IsOpening c image opening
-  pub machine : MachineLists
-  pub replay : IsReplay opening steps machine
-  pub idle : IsIdle machine
-  pub serialized : IsSerialized opening steps machine
-
--- the serial order of such a run
+-- the serial order of a run that one explains
 abbrev pub order_of : {c : Config} {image : ImageContents} {steps : List Step} → IsExplainedRun c image steps → List Entry
 order_of {steps = steps} run = (passed run.opening steps).order
-
--- Behind the steps stand those of a drain.
-pub record IsBroughtHome (c : Config) (image : ImageContents) (steps all : List Step) : Type 0 where
-  pub before : MachineLists
-  pub stands : StandsAfter c image steps before
-  pub is : all ≡ steps ++ drain_steps before
-  pub run : IsExplainedRun c image all
 
 -- These are the chosen lines of the flat machine of this size that takes the entries, one after another, and the exit status
 -- tells whether a fault has stopped a processor of it.

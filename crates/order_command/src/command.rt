@@ -4,20 +4,21 @@ ghost use Rattle.std.specs.Prelude.{◌≡◌, ◌≤◌, List, IfOk, IfErr, str
 ghost use Rattle.steps.specs.declared.step.Step.{Step};
 ghost use Rattle.machine_runs.specs.Machines.{MachineLists};
 ghost use Rattle.machine_runs.specs.Runs.{IsOpening, passed};
-ghost use Rattle.run_commands.specs.Causes.{IsFaultOfSize};
-ghost use Rattle.order_command.specs.Orders.{AreOrderLines, IsBroughtHome};
+ghost use Rattle.accounts.specs.Causes.{IsFaultOfSize};
+ghost use Rattle.accounts.specs.Explained.{IsBroughtHome};
+ghost use Rattle.order_command.specs.Orders.{AreOrderLines};
 
 use crate::lines::order_text;
-use crate::machines::{brought_home, entries_of};
+use accounts::{Account, brought_home, exit_status, opened};
 use command_io::Fault;
 use elf_image::Image;
 use flat_machine::{Config, Entry};
 use order_lines::Choice;
-use run_commands::{Account, exit_status, opened};
+use serial_order::order;
 use std::alloc::Global;
 use steps::Step;
 
-/// What `ultra order` tells of a trace ([`run_commands::account_command`]): takes its steps, and then steps until no reference is open.
+/// What `ultra order` tells of a trace ([`accounts::account_command`]): takes its steps, and then steps until no reference is open.
 /// There are lines of the serial order of whole instructions that explains all of these steps: of each entry that is chosen the line of
 /// what it does in the flat machine that has taken those before it. The exit status is 1 where a processor is faulted.
 #[derive(Clone, Copy, Debug, Drop)]
@@ -42,6 +43,26 @@ impl Account for Order {
         let entries = entries_of(alloc, image, config, all.as_slice())?;
         lines_of_entries(alloc, image, config, entries.as_slice(), self.choice)
     }
+}
+
+/// The serial order that these steps give, on a machine of this size that opens on the image. The image was read for as
+/// many shared words.
+///
+/// # Errors
+///
+/// [`Fault::Size`] where the size is out of its limits, and [`Fault::Memory`].
+pub fn entries_of(
+    alloc: Global,
+    image: &Image,
+    config: Config,
+    steps: &[Step],
+) -> Result<Vec<Entry>, Fault>
+    requires words { image.now.shared_words ≡ config.shared_words }
+    ensures order { IfOk result (λ entries. (opening : MachineLists) → IsOpening config image.now opening → entries.items ≡ (passed opening steps.now).order) }
+    ensures refused { IfErr result (IsFaultOfSize config) }
+{
+    let mut machine = opened(alloc, image, config)?;
+    Ok(order(&mut machine, alloc, steps)?)
 }
 
 /// The chosen lines of these entries, one behind the other, on a machine of this size that opens on the image, and the exit status.

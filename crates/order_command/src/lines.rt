@@ -13,10 +13,9 @@ ghost use Rattle.order_lines.specs.Lines.{chosen_line, line_of, line_of_turn, li
 ghost use Rattle.order_lines.specs.References.{processor_of, reference_of, referred, word_of};
 ghost use Rattle.order_command.specs.Taking.{AreBoth, answer_of, answer_to};
 
-use crate::reading::{pc, registers, shared_words, value};
 use crate::taking::carried_out;
 use flat_machine::{Entry, Event};
-use machine_runs::Machine;
+use machine_runs::{Machine, flat_pc, flat_registers, flat_shared_words, flat_word};
 use order_lines::{
     Choice, Reference, lines_go_on, processor_of_poke, push_poke, push_turn, turns_have_lines,
     word_of_instruction, word_of_poke,
@@ -95,7 +94,7 @@ fn push_line(
 {
     match entry {
         Entry::Processor(p) => {
-            let shown = (pc(before, p), event_of(outcome));
+            let shown = (flat_pc(before, u32::from(p)), event_of(outcome));
             push_shown(alloc, text, number, p, shown, reference)
         }
         Entry::Poke(poke) => push_poke(alloc, text, number, &poke, reference),
@@ -167,8 +166,8 @@ fn word_of_turn(before: &Machine, p: u8, outcome: Outcome) -> Option<u32>
     let Outcome::Retired(retired) = outcome else {
         return None;
     };
-    match registers(before, p) {
-        Some(registers) => word_of_instruction(&retired.insn, registers, shared_words(before)),
+    match flat_registers(before, u32::from(p)) {
+        Some(registers) => word_of_instruction(&retired.insn, registers, flat_shared_words(before)),
         None => None,
     }
 }
@@ -180,8 +179,8 @@ fn reference_of(before: &Machine, after: &Machine, word: Option<u32>) -> Option<
     match word {
         Some(word) => Some(Reference {
             word,
-            before: value(before, word),
-            after: value(after, word),
+            before: flat_word(before, word),
+            after: flat_word(after, word),
         }),
         None => None,
     }

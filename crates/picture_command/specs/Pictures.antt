@@ -5,9 +5,9 @@ use Rattle.elf_image.specs.Images.{ImageContents}
 use Rattle.steps.specs.declared.step.Step.{Step}
 use Rattle.machine_runs.specs.Machines.{MachineLists}
 use Rattle.machine_runs.specs.Runs.{IsOpening, IsRun}
-use Rattle.run_commands.specs.Commands.{Telling}
-use Rattle.run_commands.specs.Reports.{IsExitOf}
-use Rattle.order_command.specs.Orders.{IsBroughtHome}
+use Rattle.accounts.specs.Accounts.{Telling}
+use Rattle.accounts.specs.Reports.{IsExitOf}
+use Rattle.accounts.specs.Explained.{IsBroughtHome}
 
 -- so many of the steps, or all
 abbrev pub first_of : Option ℕ → List Step → List Step

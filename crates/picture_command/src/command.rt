@@ -4,15 +4,14 @@ ghost use Rattle.std.specs.Prelude.{◌≡◌};
 ghost use Rattle.picture_command.specs.Pictures.{first_of};
 
 use crate::drawing::picture_text;
+use accounts::{Account, brought_home, exit_status, opened};
 use command_io::Fault;
 use elf_image::Image;
 use flat_machine::Config;
-use order_command::brought_home;
-use run_commands::{Account, exit_status, opened};
 use std::alloc::Global;
 use steps::Step;
 
-/// What `ultra picture` tells of a trace ([`run_commands::account_command`]): takes its steps, and then steps until no reference is
+/// What `ultra picture` tells of a trace ([`accounts::account_command`]): takes its steps, and then steps until no reference is
 /// open. There is a picture of the machine behind the first so many of all these steps, or behind all of them, where there are no
 /// more or no number is given. The exit status is 1 where a processor of the machine drawn is faulted.
 #[derive(Clone, Copy, Debug, Drop)]

@@ -4,9 +4,9 @@
 mod ends;
 mod travelling;
 
+use accounts::account_command;
 use link::Meter;
 use picture_command::Picture;
-use run_commands::account_command;
 use std::alloc::Global;
 use std::fmt::Debug;
 use std::io;

@@ -2,10 +2,10 @@
 use Rattle.std.proofs.Common.{◌≡◌, ℕ, ◌<◌, ◌≤◌, ◌⊎◌, inl, inr, List, [], ◌∷◌, ◌++◌, length, refl, sym, ap, ◌∙◌, subst, arith, append_assoc}
 use Rattle.steps.specs.declared.step.Outcome.{Outcome}
 use Rattle.steps.specs.declared.step.Step.{Step}
-use Rattle.machine_log.specs.machine_runs.Runs.{IsReplay}
+use Rattle.machine_runs.specs.Runs.{IsReplay}
 use Rattle.machine_log.specs.Logs.{HasTaken, Log}
 use Rattle.machine_sweep.specs.Own.{AreOwn}
-use Rattle.machine_sweep.specs.Standing.{HasRunning}
+use Rattle.machine_runs.specs.Standing.{HasRunning}
 use Rattle.machine_sweep.specs.Sweeps.{IsFault, IsStop, RunsAfter, entered_of}
 use Rattle.machine_sweep.specs.declared.sweeping.SweepEnd.TheVariants.{Over, Budget}
 use Rattle.machine_sweep.proofs.Lemmas.{IsFirst, IsUnder, asked_append, at_most_one, first_begins, longer, none_asked, none_faulted, not_over, one_asked}

@@ -7,9 +7,9 @@ use Rattle.machine_log.specs.flat_machine.State.{FlatState}
 use Rattle.machine_sweep.specs.elf_image.Images.{ImageContents}
 use Rattle.machine_sweep.specs.elf_image.Openings.{opening as flat_opening}
 use Rattle.steps.specs.declared.step.Step.{Step}
-use Rattle.machine_log.specs.machine_runs.Draining.{drain_steps}
-use Rattle.machine_log.specs.machine_runs.Machines.{MachineLists}
-use Rattle.machine_log.specs.machine_runs.Runs.{IsReplay, all_after, events_of}
+use Rattle.machine_runs.specs.Draining.{drain_steps}
+use Rattle.machine_runs.specs.Machines.{MachineLists}
+use Rattle.machine_runs.specs.Runs.{IsReplay, all_after, events_of}
 use Rattle.machine_log.specs.Logs.{Log}
 use Rattle.machine_sweep.specs.Own.{AreOwn}
 use Rattle.machine_sweep.specs.Sweeps.{IsOver, entered_of}

@@ -2,7 +2,7 @@
 use Rattle.std.proofs.Common.{◌≡◌, List, [], ◌∷◌, ◌++◌, subst, ℕ}
 use Rattle.steps.specs.declared.step.Step.{Step}
 use Rattle.machine_sweep.specs.trace_file.Traces.{HaveRecords}
-use Rattle.machine_log.specs.machine_runs.Runs.{IsReplay}
+use Rattle.machine_runs.specs.Runs.{IsReplay}
 use Rattle.machine_log.specs.Logs.{Log}
 use Rattle.machine_sweep.specs.Own.{AreOwn}
 use Rattle.machine_sweep.specs.declared.sweeping.SweepEnd.{SweepEnd}

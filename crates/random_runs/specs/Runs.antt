@@ -3,9 +3,9 @@ use Rattle.std.specs.Prelude.{◌≡◌, ◌⊎◌, ℕ, ◌+◌, ◌≤◌, ◌
 use Rattle.machine_log.specs.flat_machine.declared.config.Config.{Config}
 use Rattle.machine_sweep.specs.elf_image.Images.{ImageContents}
 use Rattle.steps.specs.declared.step.Step.{Step}
-use Rattle.machine_log.specs.machine_runs.Draining.{drain_steps}
-use Rattle.machine_log.specs.machine_runs.Machines.{MachineLists, IsIdle}
-use Rattle.machine_log.specs.machine_runs.Runs.{IsOpening, IsReplay}
+use Rattle.machine_runs.specs.Draining.{drain_steps}
+use Rattle.machine_runs.specs.Machines.{MachineLists, IsIdle}
+use Rattle.machine_runs.specs.Runs.{IsOpening, IsReplay}
 use Rattle.machine_log.specs.Logs.{Log}
 use Rattle.machine_sweep.specs.Sweeps.{IsOver, entered_of, opened}
 use Rattle.machine_sweep.specs.declared.sweeping.SweepEnd.{SweepEnd}

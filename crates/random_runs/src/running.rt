@@ -1,7 +1,7 @@
 //! Running a machine by a random schedule.
 
 ghost use Rattle.std.specs.Prelude.{◌≡◌, ◌≤◌, ◌<◌, ◌+◌, ◌↔◌, Err, IfOk, OnErr, OnOk, length};
-ghost use Rattle.machine_log.specs.machine_runs.Draining.{drain_bound};
+ghost use Rattle.machine_runs.specs.Draining.{drain_bound};
 ghost use Rattle.machine_sweep.specs.Own.{AreOwn};
 ghost use Rattle.machine_sweep.specs.Sweeps.{most_of};
 ghost use Rattle.random_runs.specs.Runs.{HasRunAtRandom, WasAsked};
@@ -9,7 +9,8 @@ ghost use Rattle.machine_sweep.specs.trace_file.Traces.{HaveRecords};
 
 use crate::schedule::Schedule;
 use machine_log::{LogRefusal, Logged, Roomy, roomy_is_kept};
-use machine_sweep::{MAX_BUDGET, SweepEnd, any_runs, is_over, most_steps};
+use machine_runs::any_runs;
+use machine_sweep::{MAX_BUDGET, SweepEnd, is_over, most_steps};
 
 /// Asks for the steps of the schedule of a number, until a fault stops a processor, no processor runs, or as many steps are
 /// entered, or as many turns asked for, as the budget has, [`MAX_BUDGET`] at most. Then takes steps until no reference is open, as

@@ -1,5 +1,6 @@
 -- What steps lead to is what is left of a machine that has taken them once more.
-use Rattle.std.proofs.Common.{◌≡◌, ℕ, zero, suc, ◌^◌, ◌<◌, ◌==◌, true, List, [], ◌∷◌, Option, Some, None, map, length, refl, sym, ap, ap₂, ◌∙◌, subst, arith}
+use Rattle.std.proofs.Common.{◌≡◌, ℕ, zero, suc, ◌^◌, ◌<◌, ◌==◌, true, false, List, [], ◌∷◌, Option, Some, None, map, length, refl, sym, ap, ap₂}
+use Rattle.std.proofs.Common.{◌∙◌, subst, arith}
 use Rattle.std.specs.Prelude.{All, Contains, slice_get, slice_index, slice_index_or, IsSomeAnd}
 use Rattle.std.specs.List.{range_with_len}
 use Rattle.std.proofs.lemmas.Bool.{ne_eqb}
@@ -9,6 +10,8 @@ use Rattle.std.proofs.lemmas.List.FromFn.{fill_by_all, get_or-map-range_with_len
 use Rattle.flat_machine.specs.declared.config.Config.{Config}
 use Rattle.flat_machine.specs.declared.event.Event.{Event}
 use Rattle.flat_machine.specs.declared.event.Event.TheVariants as event
+use Rattle.flat_machine.specs.declared.event.Status.{Status}
+use Rattle.flat_machine.specs.declared.event.Status.TheVariants.{Running, Halted, Faulted}
 use Rattle.flat_machine.specs.State.{Processor, is_running}
 use Rattle.elf_image.specs.Images.{ImageContents}
 use Rattle.steps.specs.declared.step.Step.{Step}
@@ -21,12 +24,12 @@ use Rattle.machine_runs.proofs.Lemmas.{run_home}
 use Rattle.machine_runs.specs.Runs.{events_of}
 use Rattle.run_report.specs.Events.{shown_from, with_event}
 use Rattle.run_report.specs.Tallies.{ShownBy, TallyState, nothing_shown, with_byte}
-use Rattle.run_commands.specs.machine_sweep.Standing.{processor_of}
-use Rattle.run_commands.specs.Retaking.{IsRetaken}
+use Rattle.machine_runs.specs.Standing.{HasRunning, processor_of}
+use Rattle.accounts.specs.Retaking.{IsRetaken}
 use Rattle.exploration.specs.results.alone.Stations.{printed_after}
 use Rattle.exploration.specs.results.Results.{AreOfTheMachine, FinalResult, IsOfTheMachine, NoneRuns, ProcessorResult, machine_result, printed_by}
 use Rattle.exploration.specs.results.Results.{result_with, stands_after}
-use Rattle.result_witness.specs.Witnesses.{AreTaken, IsEnd, IsStuck, IsWitness, LeadTo, LeadToResult, NoneRunsIn, left_by, processor_left}
+use Rattle.result_witness.specs.Witnesses.{AreTaken, IsEnd, IsStuck, IsWitness, LeadTo, LeadToResult, left_by, processor_left}
 
 -- ---- what is counted of a processor is what it has printed
 
@@ -94,9 +97,13 @@ module _ (opening m : MachineLists) (steps : List Step) (tally : TallyState) (ta
       let words = all_words_are in
       λ i. record { processors = processors i; words = words i }
 
-  none_runs : NoneRunsIn m → NoneRuns opening.config M
-  none_runs none p within =
-      ap (λ (q : Processor). is_running q.status) (sym (state_is p)) ∙ none p (subst (λ (c : Config). p < 2 ^ c.k) (sym config_is) within)
+  none_runs : (HasRunning m → ⊥) → NoneRuns opening.config M
+  none_runs none p within = ap (λ (q : Processor). is_running q.status) (sym (state_is p)) ∙ by (processor_of m p).status refl
+    where
+      by : (s : Status) → (processor_of m p).status ≡ s → is_running (processor_of m p).status ≡ false
+      by Running e = absurd (none (p, subst (λ (c : Config). p < 2 ^ c.k) (sym config_is) within, e))
+      by (Halted byte) e = ap is_running e
+      by (Faulted fault) e = ap is_running e
 
   pub to_result : AreOfTheMachine steps → (r : FinalResult) → IsEnd m tally.shown r → LeadToResult opening steps r
   to_result own r end = record { machine = m; replay = taken.replay; own = own; stopped = none_runs end.stopped; left = end.left ∙ left_is }

@@ -1,8 +1,7 @@
 -- What steps lead to: a final result, or a machine from which none can be reached.
-use Rattle.std.specs.Prelude.{◌≡◌, ℕ, zero, suc, ◌^◌, ◌<◌, false, List, IsSomeAnd, map, slice_get, slice_index_or}
+use Rattle.std.specs.Prelude.{◌≡◌, ℕ, zero, suc, ◌^◌, ◌<◌, List, IsSomeAnd, map, slice_get, slice_index_or}
 use Rattle.std.specs.List.{range_with_len}
 use Rattle.flat_machine.specs.declared.config.Config.{Config}
-use Rattle.flat_machine.specs.State.{is_running}
 use Rattle.elf_image.specs.Images.{ImageContents}
 use Rattle.steps.specs.declared.step.Step.{Step}
 use Rattle.trace_file.specs.Traces.{IsTrace, trace_of}
@@ -10,8 +9,8 @@ use Rattle.machine_runs.specs.Machines.{MachineLists, IsIdle}
 use Rattle.machine_runs.specs.Runs.{IsOpening, IsReplay}
 use Rattle.machine_runs.specs.machine_program.Processors.{word_at}
 use Rattle.run_report.specs.Tallies.{ShownBy, TallyState, nothing_shown}
-use Rattle.run_commands.specs.machine_sweep.Standing.{processor_of}
-use Rattle.run_commands.specs.Retaking.{IsRetaken}
+use Rattle.machine_runs.specs.Standing.{HasRunning, processor_of}
+use Rattle.accounts.specs.Retaking.{IsRetaken}
 use Rattle.exploration.specs.results.Results.{AreOfTheMachine, FinalResult, IsMachineResult, NoneRuns, ProcessorResult, machine_result, stands_after}
 
 -- ---- what steps lead to
@@ -65,12 +64,9 @@ left_by m shown = record {
   words = map (word_at m.config.k m.modules) (range_with_len 0 m.config.shared_words);
 }
 
-abbrev pub NoneRunsIn : MachineLists → Type 0
-NoneRunsIn m = (p : ℕ) → p < 2 ^ m.config.k → is_running (processor_of m p).status ≡ false
-
 -- No processor runs of a machine whose processors have shown this, and it leaves the result.
 pub record IsEnd (m : MachineLists) (shown : List ShownBy) (r : FinalResult) : Type 0 where
-  pub stopped : NoneRunsIn m
+  pub stopped : HasRunning m → ⊥
   pub left : r ≡ left_by m shown
 
 -- A machine of this size that opened on the image has taken the steps, and its processors have shown this in them.

@@ -1,12 +1,11 @@
 //! What a machine leaves in which no processor runs.
 
-ghost use Rattle.std.specs.Prelude.{◌≡◌, ◌<◌, ◌^◌, IfOk, IsTrue, length, map};
+ghost use Rattle.std.specs.Prelude.{◌≡◌, ◌<◌, ◌^◌, IfOk, length, map};
 ghost use Rattle.std.specs.List.{range_with_len};
 ghost use Rattle.machine_runs.specs.Machines.{AreHome};
-ghost use Rattle.result_witness.specs.Witnesses.{NoneRunsIn, left_by, processor_left};
+ghost use Rattle.result_witness.specs.Witnesses.{left_by, processor_left};
 
 use exploration::{FinalResult, ProcessorResult, words_of};
-use flat_machine::Status;
 use machine_runs::Machine;
 use run_report::Tally;
 use std::alloc::{AllocError, Global};
@@ -76,16 +75,4 @@ fn processor_left(
         status,
         console,
     })
-}
-
-/// Whether no processor of a machine runs.
-pub(crate) fn none_runs(machine: &Machine) -> bool
-    ensures { IsTrue result → NoneRunsIn machine.now }
-{
-    for p in 0..machine.config().processors() {
-        if let Some(Status::Running) = machine.status(p) {
-            return false;
-        }
-    }
-    true
 }

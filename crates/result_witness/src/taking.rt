@@ -5,11 +5,11 @@ ghost use Rattle.result_witness.specs.Refusals.{IsNotTaken};
 ghost use Rattle.result_witness.specs.Witnesses.{AreTaken};
 
 use crate::refused::Refused;
+use accounts::{opened, retaken};
 use command_io::Fault;
 use elf_image::Image;
 use flat_machine::Config;
 use machine_runs::Machine;
-use run_commands::{RetakeError, opened, retaken};
 use run_report::Tally;
 use std::alloc::Global;
 use steps::Step;
@@ -30,7 +30,7 @@ pub(crate) fn taken(
     let mut machine = opened(alloc, image, config)?;
     match retaken(alloc, &mut machine, steps) {
         Ok(tally) => Ok((machine, tally)),
-        Err(RetakeError::Stalled(_)) => Err(Refused::Missed),
-        Err(RetakeError::Memory) => Err(Refused::Fault(Fault::Memory)),
+        Err(Fault::Memory) => Err(Refused::Fault(Fault::Memory)),
+        Err(_) => Err(Refused::Missed),
     }
 }

@@ -4,10 +4,10 @@ ghost use Rattle.std.specs.Prelude.{◌≡◌, IfErr};
 ghost use Rattle.result_witness.specs.Refusals.{IsNotTaken, IsOfSteps};
 
 use crate::refused::Refused;
+use accounts::opened;
 use elf_image::Image;
 use flat_machine::Config;
 use machine_log::Logged;
-use run_commands::opened;
 use std::alloc::Global;
 use steps::{Outcome, Step};
 

@@ -6,7 +6,7 @@ ghost use Rattle.machine_runs.specs.Machines.{AreHome};
 ghost use Rattle.result_witness.specs.Refusals.{HasWitness, IsNoWitness, IsNotTaken, IsOfSteps};
 ghost use Rattle.result_witness.specs.Witnesses.{IsEnd, IsStuck, IsWitness};
 
-use crate::left::{left_by, none_runs};
+use crate::left::left_by;
 use crate::refused::Refused;
 use crate::taking::taken;
 use crate::way::log_of;
@@ -15,7 +15,7 @@ use elf_image::Image;
 use exploration::{Explored, FinalResult, Refusal, Schedules, Unwatched, explore, way_to};
 use flat_machine::Config;
 use machine_log::Logged;
-use machine_runs::Machine;
+use machine_runs::{Machine, any_runs};
 use run_report::Tally;
 use std::alloc::Global;
 use steps::Step;
@@ -129,7 +129,7 @@ fn compare(
     ensures refused { IfErr result IsOfSteps }
 {
     let left = left_by(alloc, machine, tally)?;
-    if none_runs(machine) && left.is_same(last) {
+    if !any_runs(machine) && left.is_same(last) {
         Ok(())
     } else {
         Err(Refused::Missed)

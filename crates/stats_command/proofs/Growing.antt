@@ -21,10 +21,10 @@ use Rattle.machine_runs.proofs.Lemmas.messages.{at_put2, put2_other}
 use Rattle.indexed_network.proofs.Lemmas.{down_requests, up_replies}
 use Rattle.machine_runs.specs.abstract_machine.Program.{Kind, Rests, Alone, Refers}
 use Rattle.machine_runs.specs.abstract_machine.Machine.{begin, request_of, retire_from, turned}
-use Rattle.machine.specs.machine_program.Theory as theory
-use Rattle.machine.specs.machine_program.Theory.{serve_from, stalled, went_down, went_up}
-use Rattle.machine.specs.machine_program.Processors.{Told, program, sizes_of}
-use Rattle.machine.specs.machine_program.Steps.{after}
+use Rattle.machine_runs.specs.machine_program.Theory as theory
+use Rattle.machine_runs.specs.machine_program.Theory.{serve_from, stalled, went_down, went_up}
+use Rattle.machine_runs.specs.machine_program.Processors.{Told, program, sizes_of}
+use Rattle.machine_runs.specs.machine_program.Steps.{after}
 use Rattle.steps.specs.declared.step.Step.{Step}
 use Rattle.steps.specs.declared.step.Step.TheVariants as step
 use Rattle.run_counts.specs.declared.longest.Held.{Held}

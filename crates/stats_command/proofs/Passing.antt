@@ -12,9 +12,9 @@ use Rattle.indexed_network.specs.omega_network.Networks.{net_of}
 use Rattle.steps.specs.declared.step.Step.{Step}
 use Rattle.steps.specs.declared.step.Step.TheVariants as step
 use Rattle.steps.specs.declared.step.Outcome.{Outcome}
-use Rattle.machine.specs.machine_program.Theory as theory
-use Rattle.machine.specs.machine_program.Processors.{Told}
-use Rattle.machine.specs.machine_program.Steps.{after, machine_of_parts}
+use Rattle.machine_runs.specs.machine_program.Theory as theory
+use Rattle.machine_runs.specs.machine_program.Processors.{Told}
+use Rattle.machine_runs.specs.machine_program.Steps.{after, machine_of_parts}
 use Rattle.machine_runs.specs.Machines.{MachineLists, IsStep, machine_of}
 use Rattle.machine_runs.specs.Runs.{IsRun, all_after}
 use Rattle.run_counts.specs.Longest.{at_stage, no_longest, of_held, with_longest}

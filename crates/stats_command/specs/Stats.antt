@@ -12,8 +12,8 @@ use Rattle.run_counts.specs.Lines.{lines_of}
 use Rattle.run_counts.specs.Rounds.{rounds_of}
 use Rattle.run_counts.specs.declared.longest.Longest.{Longest}
 use Rattle.stats_command.specs.Longest.{AreLongest}
-use Rattle.run_commands.specs.Reports.{IsExitOf}
-use Rattle.order_command.specs.Orders.{IsBroughtHome}
+use Rattle.accounts.specs.Reports.{IsExitOf}
+use Rattle.accounts.specs.Explained.{IsBroughtHome}
 
 -- These are the lines of the counts of what the machine of this size answers to the steps that opens on the image, and of its longest
 -- queues. The exit status is that of the machine behind the steps.

@@ -1,16 +1,15 @@
 //! What `ultra stats` tells: how often the steps of a trace did what.
 
 use crate::counting::counted;
+use accounts::{Account, brought_home, exit_status, opened};
 use command_io::Fault;
 use elf_image::Image;
 use flat_machine::Config;
-use order_command::brought_home;
-use run_commands::{Account, exit_status, opened};
 use run_counts::{counts_text, rounds_of};
 use std::alloc::Global;
 use steps::Step;
 
-/// What `ultra stats` tells of a trace ([`run_commands::account_command`]): takes its steps, and then steps until no reference is open.
+/// What `ultra stats` tells of a trace ([`accounts::account_command`]): takes its steps, and then steps until no reference is open.
 /// There are lines of how often all these steps did what. The exit status is 1 where a processor is faulted.
 #[derive(Clone, Copy, Debug, Drop)]
 pub struct Stats;

@@ -10,8 +10,7 @@ ghost use Rattle.step_answers.specs.Answers.{answers_of};
 ghost use Rattle.stats_command.specs.Longest.{AreLongest};
 
 use crate::longest::look;
-use machine::machine_is_sound;
-use machine_runs::Machine;
+use machine_runs::{Machine, machine_is_sound};
 use run_counts::{Counts, Longest, counts_go_on};
 use std::alloc::{AllocError, Global};
 use step_answers::answers_go_on;

@@ -6,8 +6,7 @@ ghost use Rattle.indexed_network.specs.omega_network.Networks.{net_of};
 ghost use Rattle.stats_command.specs.Longest.{count_of, longest_after, most_of, raised};
 
 use indexed_network::IndexedNetwork;
-use machine::machine_is_sound;
-use machine_runs::Machine;
+use machine_runs::{Machine, machine_is_sound};
 use run_counts::{Held, Longest};
 use steps::Step;
 

@@ -7,8 +7,8 @@ use Rattle.machine_runs.specs.Machines.{MachineLists}
 use Rattle.machine_runs.specs.Runs.{IsOpening, IsRun}
 use Rattle.step_answers.specs.Answers.{answers_of}
 use Rattle.story_lines.specs.Lines.{story_of}
-use Rattle.run_commands.specs.Reports.{IsExitOf}
-use Rattle.order_command.specs.Orders.{IsBroughtHome}
+use Rattle.accounts.specs.Reports.{IsExitOf}
+use Rattle.accounts.specs.Explained.{IsBroughtHome}
 
 -- These are the lines of the steps: of each what the machine of this size answers to it that opens on the image and has taken those
 -- before it. The exit status is that of the machine behind the steps.

@@ -1,15 +1,14 @@
 //! What `ultra story` tells: the lines of the steps of a trace.
 
 use crate::telling::story_text;
+use accounts::{Account, brought_home, exit_status, opened};
 use command_io::Fault;
 use elf_image::Image;
 use flat_machine::Config;
-use order_command::brought_home;
-use run_commands::{Account, exit_status, opened};
 use std::alloc::Global;
 use steps::Step;
 
-/// What `ultra story` tells of a trace ([`run_commands::account_command`]): takes its steps, and then steps until no reference is open.
+/// What `ultra story` tells of a trace ([`accounts::account_command`]): takes its steps, and then steps until no reference is open.
 /// There is a line for each of all these steps, of what the machine did by it. The exit status is 1 where a processor is faulted.
 #[derive(Clone, Copy, Debug, Drop)]
 pub struct Story;

@@ -28,9 +28,9 @@ use Rattle.processor_threads.specs.Consoles.{console_bytes, console_of}
 use Rattle.processor_threads.specs.Endings.{EndsWithStop, IsOfMemory, WereMade}
 use Rattle.processor_threads.specs.declared.fault.RunFault.{RunFault}
 use Rattle.processor_threads.specs.declared.fault.RunFault.TheVariants as run
-use Rattle.run_commands.specs.run_report.Events.{shown_by, shown_from, with_event}
-use Rattle.run_commands.specs.run_report.Tallies.{ShownBy, nothing_shown, with_byte}
-use Rattle.run_commands.specs.Retaking.{AreConsoles, events_in}
+use Rattle.accounts.specs.run_report.Events.{shown_by, shown_from, with_event}
+use Rattle.accounts.specs.run_report.Tallies.{ShownBy, nothing_shown, with_byte}
+use Rattle.accounts.specs.Retaking.{AreConsoles, events_in}
 use Rattle.threaded_run.specs.Runs.{EndInStop, HasEnded}
 
 -- ---- what events give the console

@@ -10,7 +10,7 @@ use Rattle.machine_runs.specs.Runs.{IsOpening}
 use Rattle.machine_log.specs.Logs.{Log}
 use Rattle.command_io.specs.declared.fault.Fault.{Fault}
 use Rattle.command_io.specs.declared.fault.Fault.TheVariants as fault
-use Rattle.run_commands.proofs.Lemmas.{is_spelled}
+use Rattle.accounts.proofs.Lemmas.{is_spelled}
 use Rattle.threaded_run.specs.Faults.{IsOfRun}
 use Rattle.threaded_run.specs.Runs.{HasBegun, HasEnded, IsNotThreaded, IsThreaded}
 use Rattle.threaded_run.proofs.Records.{have_records}

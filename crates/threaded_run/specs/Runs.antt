@@ -14,7 +14,7 @@ use Rattle.machine_log.specs.Logs.{Log, IsKept}
 use Rattle.machine_passes.specs.Lists.{all_named, no_poke}
 use Rattle.command_io.specs.declared.fault.Fault.{Fault}
 use Rattle.command_io.specs.declared.fault.Fault.TheVariants as fault
-use Rattle.run_commands.specs.Retaking.{AreConsoles, events_in}
+use Rattle.accounts.specs.Retaking.{AreConsoles, events_in}
 
 -- The last event is a stop.
 pub record EndInStop (events : List Event) : Type 0 where

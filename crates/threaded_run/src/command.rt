@@ -1,17 +1,17 @@
 //! The command.
 
 ghost use Rattle.std.specs.Prelude.{◌≡◌, ◌≤◌, ◌↔◌, true, false, IfOk, IfErr, IsErrOf, OnErr};
-ghost use Rattle.run_commands.specs.Causes.{IsNoRun};
-ghost use Rattle.run_commands.specs.Commands.{IsRunReport, IsWorking};
+ghost use Rattle.accounts.specs.Causes.{IsNoRun};
+ghost use Rattle.accounts.specs.Accounts.{IsRunReport, IsWorking};
 ghost use Rattle.command_io.specs.Printing.{IsPrinted, IsTold};
 ghost use Rattle.threaded_run.specs.Runs.{IsNotThreaded, IsThreadedLog};
 
 use crate::run::ran;
+use accounts::print_run;
 use command_io::{Fault, tell};
 use flat_machine::Config;
 use link::LinkWrite;
 use processor_threads::Gate;
-use run_commands::print_run;
 use std::alloc::Global;
 use std::io::{Read, Write};
 use std::sync::Wait;

@@ -2,7 +2,7 @@
 //!
 //! [`threaded_run_command`] runs the processors of a machine on threads of their own (`processor_threads`), until each of them has
 //! stopped. The steps stand in a log in the order in which the threads came to take them, and the report is made of it as that of any
-//! other run is (`run_commands`), but for the bytes of the consoles, which are those that the threads have sent.
+//! other run is (`accounts`), but for the bytes of the consoles, which are those that the threads have sent.
 #![tactic(auto)]
 
 mod command;

@@ -5,6 +5,7 @@ ghost use Rattle.processor_threads.specs.Consoles.{bytes_of};
 ghost use Rattle.threaded_run.specs.Faults.{IsOfRun, fault_of};
 ghost use Rattle.threaded_run.specs.Runs.{HasEnded, IsNotThreaded, IsSomeThreaded};
 
+use accounts::machine_of;
 use agreed_rows::Room;
 use command_io::{Fault, image_of};
 use flat_machine::Config;
@@ -12,7 +13,6 @@ use machine_log::{Logged, log_is_kept};
 use machine_passes::{Row, Run, events_are_listed, stopped_are_shut};
 use machine_runs::runs_are_serialized;
 use processor_threads::{Gate, RunFault, run_threads};
-use run_commands::machine_of;
 use shuffled::Shuffled;
 use std::alloc::{AllocError, Global};
 use std::io::Read;

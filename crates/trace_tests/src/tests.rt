@@ -8,10 +8,10 @@ mod ends;
 mod orders;
 mod stories;
 
+use accounts::account_command;
 use link::{LinkWrite, Meter};
 use order_command::Order;
 use order_lines::Choice;
-use run_commands::account_command;
 use stats_command::Stats;
 use std::alloc::Global;
 use std::fmt::Debug;

@@ -2,7 +2,7 @@
 #![tactic(auto)]
 
 ghost use Rattle.std.specs.Prelude.{◌≡◌, false};
-ghost use Rattle.run_commands.specs.Commands.{IsWorking};
+ghost use Rattle.accounts.specs.Accounts.{IsWorking};
 
 mod door;
 mod files;
@@ -13,6 +13,7 @@ use crate::door::Door;
 use crate::files::{open, open_beside, trace_to, writer_to};
 use crate::refusal::{Refusal, refuse};
 use crate::traces::TraceFiles;
+use accounts::{Account, Report, account_command};
 use asm_command::asm_command;
 use check_command::check_command;
 use clap::Error;
@@ -28,7 +29,7 @@ use order_command::Order;
 use order_lines::Choice;
 use picture_command::Picture;
 use processor_threads::Open;
-use run_commands::{Account, Report, account_command, run_command};
+use run_command::run_command;
 use settings::{Explore, Hunt, Replay, Run, Session, Settings, Sizes, settings, status_of};
 use stats_command::Stats;
 use std::alloc::{AllocError, Global};

@@ -7,9 +7,10 @@ mod memory;
 mod replays;
 mod reports;
 
+use accounts::replay_command;
 use flat_machine::Config;
 use link::Meter;
-use run_commands::{replay_command, run_command};
+use run_command::run_command;
 use std::alloc::Global;
 use std::io;
 use std::test::Fail;

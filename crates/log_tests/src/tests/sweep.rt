@@ -4,8 +4,8 @@ mod rounds;
 
 use self::rounds::round_of;
 use machine_log::{LogRefusal, Logged};
-use machine_runs::Machine;
-use machine_sweep::{Round, SweepEnd, any_is_faulted, any_runs, follow_sweep};
+use machine_runs::{Machine, any_is_faulted, any_runs};
+use machine_sweep::{Round, SweepEnd, follow_sweep};
 use std::process::Abort;
 use std::test::Fail;
 use steps::Step;

@@ -1,9 +1,9 @@
 //! What is told where there is no picture, and the exit statuses.
 
 use super::run;
+use accounts::account_command;
 use link::Meter;
 use picture_command::Picture;
-use run_commands::account_command;
 use std::alloc::Global;
 use std::io::{self, ErrorKind};
 use std::process::Abort;

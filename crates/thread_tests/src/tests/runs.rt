@@ -4,10 +4,10 @@
 mod ends;
 mod reports;
 
+use accounts::replay_command;
 use flat_machine::Config;
 use link::Meter;
 use processor_threads::Open;
-use run_commands::replay_command;
 use std::alloc::Global;
 use std::sync::Wait;
 use std::thread::Threads;

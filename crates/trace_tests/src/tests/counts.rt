@@ -3,7 +3,7 @@
 use super::{Told, run};
 use flat_machine::Config;
 use link::Meter;
-use run_commands::run_command;
+use run_command::run_command;
 use std::alloc::Global;
 use std::test::Fail;
 use test_devices::{ADD_AT_X12, FOUR_ADDS, assert_same, trace_of};

@@ -4,7 +4,7 @@ use super::{ALL, Told, run};
 use flat_machine::Config;
 use link::Meter;
 use order_lines::Choice;
-use run_commands::run_command;
+use run_command::run_command;
 use std::fmt::Write;
 use std::test::Fail;
 use test_devices::{HUNDRED_ADDS, ONE_TURN, assert_same, trace_of};

@@ -1,9 +1,9 @@
 //! Witnesses: the trace of each result replays to it, and none is written where there is none.
 
 use super::config_of;
+use accounts::replay_command;
 use explore_command::{Search, Unwatched, explore_command};
 use link::Meter;
-use run_commands::replay_command;
 use std::alloc::Global;
 use std::test::Fail;
 use test_devices::assert_same;

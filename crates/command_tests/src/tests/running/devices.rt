@@ -1,11 +1,12 @@
 //! A read or a write that fails, at each call.
 
 ghost use Rattle.std.specs.Prelude.{◌≡◌, false};
-ghost use Rattle.run_commands.specs.Commands.{IsWorking};
+ghost use Rattle.accounts.specs.Accounts.{IsWorking};
 
 use super::{AMPLE, Ran};
+use accounts::replay_command;
 use link::{Link, LinkWrite, Meter};
-use run_commands::{replay_command, run_command};
+use run_command::run_command;
 use std::alloc::{AllocGlobal, Global};
 use std::io::Read;
 use std::process::Abort;

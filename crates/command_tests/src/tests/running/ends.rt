@@ -212,7 +212,7 @@ fn statuses_of_faults(rt: HostRuntime) {
     let mut out = Meter::new(Vec::new(rt.alloc()));
     let mut err = Vec::new(rt.alloc());
     let mut trace = Some(Meter::new(Vec::new(rt.alloc())));
-    let status = run_commands::run_command(
+    let status = run_command::run_command(
         rt.alloc(),
         Endless,
         size(0),

@@ -2,8 +2,9 @@
 //! that there is none.
 
 use super::AMPLE;
+use accounts::replay_command;
 use link::Meter;
-use run_commands::{replay_command, run_command};
+use run_command::run_command;
 use std::test::Fail;
 use test_devices::{EBREAK, ONE_TURN, Sink, assert_same};
 use test_machines::size;

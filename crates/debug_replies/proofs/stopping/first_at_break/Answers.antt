@@ -1,5 +1,5 @@
 use Rattle.std.proofs.Common.{◌≡◌, ◌∙◌, arith, length, subst, sym, true, None}
-use Rattle.machine.specs.Openings.{flat_state}
+use Rattle.machine_runs.specs.Runs.{flat_state}
 use Rattle.debug_replies.proofs.Smallest.{smallest_is, none_more}
 use Rattle.debug_replies.specs.Stops.{is_at_break, smallest}
 use Rattle.debug_replies.proofs.stopping.first_at_break.Goals as goal
@@ -8,12 +8,12 @@ pub returns-then-is_at_break : goal.returns-then-is_at_break
 returns-then-is_at_break c =
     let m = flat_state c.args.machine.now in
     sym (smallest_is (is_at_break c.args.breaks.now m) c.loop-processor.processor (length m.processors)
-    (omega (arith, c.loop-processor-test.true, c.processors-processor-end.ensures.count))
+    (omega (arith, c.loop-processor-test.true, c.flat_processors-processor-end.ensures.count))
     c.loop-processor.invariant (sym c.is_at_break.ensures ∙ c.if-is_at_break.true))
 
 pub returns : goal.returns
 returns c =
     let m = flat_state c.args.machine.now in
     let all : c.loop-processor.processor ≡ length m.processors =
-    omega (arith, c.loop-processor-test.false, c.loop-processor.auto.processor-end, c.processors-processor-end.ensures.count) in
+    omega (arith, c.loop-processor-test.false, c.loop-processor.auto.processor-end, c.flat_processors-processor-end.ensures.count) in
     subst (λ n. None ≡ smallest (is_at_break c.args.breaks.now m) n) all (sym c.loop-processor.invariant)

@@ -1,5 +1,5 @@
 use Rattle.std.proofs.Common.{refl, sym, subst}
-use Rattle.machine_sweep.specs.Standing.{HasRunning}
+use Rattle.machine_runs.specs.Standing.{HasRunning}
 use Rattle.debug_sweep.proofs.Stepping.{begins, ends_where_none_runs}
 use Rattle.debug_sweep.proofs.sweep.follow.Goals as goal
 

@@ -2,8 +2,8 @@ use Rattle.std.proofs.Common.{List, sym, subst}
 use Rattle.std.proofs.lemmas.Result.{err_from_is_err_and}
 use Rattle.machine_runs.specs.steps.declared.step.Step.{Step}
 use Rattle.machine_runs.proofs.Lemmas.{run_home}
-use Rattle.run_commands.specs.Causes.{IsFaultOfSize}
-use Rattle.run_commands.specs.Retaking.{IsRetaken}
+use Rattle.accounts.specs.Causes.{IsFaultOfSize}
+use Rattle.accounts.specs.Retaking.{IsRetaken}
 use Rattle.hunt_command.proofs.Running.{not_stalled}
 use Rattle.hunt_command.proofs.runs.result_of_log.Goals as goal
 

@@ -3,7 +3,7 @@
 use super::{four_adds, one_add, result_of, room_for};
 use flat_machine::{PC, Poke};
 use machine_log::{LogRefusal, Logged};
-use machine_runs::{Machine, most_moves};
+use machine_runs::{Machine, drain_bound};
 use std::process::Abort;
 use std::test::Fail;
 use steps::{Outcome, Step};
@@ -211,7 +211,7 @@ fn refer(rt: &impl Abort, log: &mut Logged) -> Result<(), LogRefusal> {
     assert_same!(rt; log.room(1)?.step(Step::Turn(0)), Outcome::Issued);
     assert_same!(rt; log.machine().is_open(0), Some(true));
     assert_same!(rt; log.machine().is_open(1), None);
-    let most = most_moves(log.machine());
+    let most = drain_bound(log.machine());
     assert_same!(rt; log.room(most)?.drain(), 2);
     assert_same!(rt; log.machine().is_open(0), Some(false));
     let wanted = [Step::Turn(0), Step::Serve(0), Step::Turn(0)];

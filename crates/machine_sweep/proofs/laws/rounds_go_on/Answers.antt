@@ -3,7 +3,7 @@ use Rattle.std.proofs.lemmas.Option.{slice_get_within}
 use Rattle.machine_runs.specs.Machines.{IsMachine, MachineLists}
 use Rattle.machine_sweep.specs.Rounds.{round}
 use Rattle.machine_sweep.specs.Skips.{AreQuiet}
-use Rattle.machine_sweep.specs.Standing.{HasRunning}
+use Rattle.machine_runs.specs.Standing.{HasRunning}
 use Rattle.machine_sweep.proofs.Progress.{in_round, some_step_moves}
 use Rattle.machine_sweep.proofs.laws.rounds_go_on.Goals as goal
 

@@ -1,6 +1,6 @@
 use Rattle.std.proofs.Common.{◌<◌, ◌∙◌, true, false, length, refl, sym, ap, subst, arith}
 use Rattle.flat_machine.specs.declared.config.Config.{Config}
-use Rattle.machine_sweep.specs.Standing.{HasRunning}
+use Rattle.machine_runs.specs.Standing.{HasRunning}
 use Rattle.machine_sweep.proofs.Ending.{has_running}
 use Rattle.machine_sweep.proofs.Following.{budget_used, following_begins, following_more, following_over, over_at_once, runs_there}
 use Rattle.machine_sweep.proofs.sweeping.follow.Goals as goal

@@ -1,6 +1,6 @@
 use Rattle.std.proofs.Common.{◌≡◌, ◌+◌, ◌*◌, ◌^◌, ◌<◌, ◌≤◌, ◌⊎◌, true, length, refl, sym, ap, ◌∙◌, subst, arith}
 use Rattle.flat_machine.specs.declared.config.Config.{Config}
-use Rattle.machine_sweep.specs.Standing.{HasRunning}
+use Rattle.machine_runs.specs.Standing.{HasRunning}
 use Rattle.machine_sweep.specs.Sweeps.{IsFault, IsInRound, IsStop, WasAskedRound}
 use Rattle.machine_sweep.proofs.Going.{quiet_here, row_goes_on, row_step, step_ends, step_goes_on}
 use Rattle.machine_sweep.proofs.sweeping.take_row.Goals as goal

@@ -1,5 +1,5 @@
 use Rattle.std.proofs.Common.{◌<◌, ◌⊎◌, inl, inr, ◌∙◌, length, refl, sym, ap, subst, arith}
-use Rattle.machine_sweep.specs.Standing.{HasRunning}
+use Rattle.machine_runs.specs.Standing.{HasRunning}
 use Rattle.machine_sweep.specs.Sweeps.{IsFault, IsStop}
 use Rattle.machine_sweep.proofs.Lemmas.{has_running}
 use Rattle.random_runs.proofs.Asking.{IsAsking, asking_begins, asks_on, budget_used, over_at_once, run_over}

@@ -1,7 +1,7 @@
 use Rattle.std.proofs.Common.{◌≡◌, ◌+◌, ◌∙◌, List, length, sym, ap, subst}
 use Rattle.machine_log.specs.flat_machine.declared.config.Config.{Config}
 use Rattle.steps.specs.declared.step.Step.{Step}
-use Rattle.machine_log.specs.machine_runs.Machines.{MachineLists}
+use Rattle.machine_runs.specs.Machines.{MachineLists}
 use Rattle.machine_sweep.specs.Own.{AreOwn}
 use Rattle.random_runs.specs.Runs.{HasRunAtRandom, WasAsked}
 use Rattle.random_runs.specs.Schedules.{schedule}

@@ -1,8 +1,8 @@
 use Rattle.std.proofs.Common.{ℕ, List, Vec, Global, map, sym, subst}
 use Rattle.std.proofs.lemmas.Result.{IfOk-weaker, IfErr-weaker}
 use Rattle.processor_threads.specs.Consoles.{bytes_of}
-use Rattle.run_commands.specs.Retaking.{AreConsoles}
-use Rattle.run_commands.proofs.Lemmas.{can_be_reported, no_run, run_printed}
+use Rattle.accounts.specs.Retaking.{AreConsoles}
+use Rattle.accounts.proofs.Lemmas.{can_be_reported, no_run, run_printed}
 use Rattle.threaded_run.specs.Runs.{IsNotThreaded, IsThreadedLog}
 use Rattle.threaded_run.proofs.Logging.{log_opens}
 use Rattle.threaded_run.proofs.command.carried_out.Goals as goal

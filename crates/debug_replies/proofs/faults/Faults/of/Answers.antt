@@ -1,6 +1,6 @@
 use Rattle.std.proofs.Common.{◌≡◌, ◌<◌, ◌≤◌, ◌+◌, ◌∙◌, length, arith, sym, rules, ℕ, false}
 use Rattle.std.proofs.lemmas.List.{length-set}
-use Rattle.machine.specs.Openings.{flat_state}
+use Rattle.machine_runs.specs.Runs.{flat_state}
 use Rattle.debug_replies.proofs.Faulted.{all_told, none_flagged, rest_more, told_more}
 use Rattle.debug_replies.specs.Stops.{is_faulted_at}
 use Rattle.debug_replies.proofs.faults.Faults.of.Goals as goal
@@ -13,7 +13,7 @@ loop-processor-preserved c =
     let i = c.loop-processor.invariant in
     let flags = c.loop-processor.flags in
     let processor = c.loop-processor.processor in
-    let within : processor < length flags = omega (arith, i.size, c.loop-processor-test.true, c.processors-processor-end.ensures.few) in
+    let within : processor < length flags = omega (arith, i.size, c.loop-processor-test.true, c.flat_processors-processor-end.ensures.few) in
     record {
       size = length-set flags processor c.is_faulted.result ∙ i.size;
       told = λ p below. told_more flags processor c.is_faulted.result (is_faulted_at (flat_state c.args.machine.now)) within c.is_faulted.ensures i.told p
@@ -26,5 +26,5 @@ returns c =
     let m = flat_state c.args.machine.now in
     let i = c.loop-processor.invariant in
     let all : c.loop-processor.processor ≡ length m.processors =
-    omega (arith, c.loop-processor-test.false, c.loop-processor.auto.processor-end, c.processors-processor-end.ensures.count) in
+    omega (arith, c.loop-processor-test.false, c.loop-processor.auto.processor-end, c.flat_processors-processor-end.ensures.count) in
     all_told c.loop-processor.flags m (λ p there. i.told p (omega (arith, there, all))) (λ p past. i.rest p (omega (arith, past, all)))

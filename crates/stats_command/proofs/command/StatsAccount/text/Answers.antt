@@ -3,9 +3,9 @@ use Rattle.flat_machine.specs.declared.config.Config.{Config}
 use Rattle.machine_runs.specs.messages.Network.{IsEmptyNet, Net, empty_net}
 use Rattle.indexed_network.specs.omega_network.Networks.{net_of}
 use Rattle.steps.specs.declared.step.Step.{Step}
-use Rattle.machine.specs.machine_program.Theory as theory
-use Rattle.machine.specs.machine_program.Processors.{Told}
-use Rattle.machine.specs.machine_program.Steps.{machine_of_parts}
+use Rattle.machine_runs.specs.machine_program.Theory as theory
+use Rattle.machine_runs.specs.machine_program.Processors.{Told}
+use Rattle.machine_runs.specs.machine_program.Steps.{machine_of_parts}
 use Rattle.machine_runs.specs.Runs.{IsRun}
 use Rattle.run_counts.specs.Counting.{noted_of}
 use Rattle.run_counts.specs.Counts.{AreCounts}

@@ -1,0 +1,39 @@
+-- The log that has followed the sweep from a machine's opening on is that of a run, and has a spelling.
+use Rattle.std.proofs.Common.{◌≡◌, ℕ, List, Option, ◌∙◌, ap, sym, subst, arith}
+use Rattle.flat_machine.specs.declared.config.Config.{Config}
+use Rattle.flat_machine.specs.Limits.{IsWithinLimits}
+use Rattle.machine_sweep.specs.elf_image.Files.{IsImageOf}
+use Rattle.machine_sweep.specs.elf_image.Images.{ImageContents}
+use Rattle.machine_sweep.specs.trace_file.Traces.{HaveRecords, IsTrace, trace_of}
+use Rattle.machine_log.specs.machine_runs.Machines.{MachineLists}
+use Rattle.machine_log.specs.machine_runs.Runs.{IsOpening}
+use Rattle.machine_log.specs.Logs.{Log, IsKept}
+use Rattle.machine_sweep.specs.Sweeps.{IsSwept, most_of, opened}
+use Rattle.machine_sweep.specs.declared.sweeping.SweepEnd.{SweepEnd}
+use Rattle.accounts.proofs.Lemmas.{is_spelled}
+use Rattle.run_command.specs.Runs.{IsRunOf}
+
+module _ (c : Config) (budget : ℕ) (known : Option (List ℕ)) (image : ImageContents) (meant : IsImageOf c.shared_words known image) (m : MachineLists)
+    (opens : IsOpening c image m) (old log : Log) (starts : old ≡ opened m) (kept : IsKept log) (end : SweepEnd)
+    (swept : IsSwept (most_of budget) old end log) where
+  opening_is : log.opening ≡ m
+  opening_is = swept.opening ∙ ap (λ (l : Log). l.opening) starts
+
+  config_is : log.machine.config ≡ c
+  config_is = kept.replay.run.config ∙ ap (λ (n : MachineLists). n.config) opening_is ∙ opens.config
+
+  pub run_of : IsRunOf c budget known end image log
+  run_of = record {
+    meant = meant;
+    run = record {
+      opens = subst (IsOpening c image) (sym opening_is) opens;
+      replay = kept.replay;
+      swept = subst (λ (l : Log). IsSwept (most_of budget) l end log) (starts ∙ ap opened (sym opening_is)) swept;
+    };
+  }
+
+  pub trace_is : (HaveRecords old.machine.config.k old.steps → HaveRecords log.machine.config.k log.steps) → IsTrace (trace_of c log.steps)
+  trace_is records =
+      is_spelled c log.steps (subst IsWithinLimits config_is kept.sound.limits) kept.room
+      (subst (λ (d : Config). HaveRecords d.k log.steps) config_is
+      (records (subst (λ (l : Log). HaveRecords l.machine.config.k l.steps) (sym starts) (λ p d inside. absurd (omega (arith, inside))))))

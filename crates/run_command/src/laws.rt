@@ -1,0 +1,23 @@
+//! What a run is a function of: the contract of a function that does nothing.
+
+ghost use Rattle.std.specs.Prelude.{◌≡◌, ℕ, List, Some};
+ghost use Rattle.flat_machine.specs.declared.config.Config.{Config};
+ghost use Rattle.machine_log.specs.machine_runs.steps.declared.step.Step.{Step};
+ghost use Rattle.accounts.specs.Accounts.{IsReportedRun};
+ghost use Rattle.run_command.specs.Runs.{IsFinishedRun};
+
+use accounts::steps_have_one_report;
+use image_laws::input_means_one_layout;
+use machine_sweep::runs_have_one_log;
+
+/// The steps of a run, its report and its exit status are a function of the machine's size, the budget and
+/// the bytes of the image's file: the same run comes out each time.
+pub fn runs_have_one_report()
+    ensures { (c : Config) (budget : ℕ) (file : List ℕ) (steps others : List Step) (text other : List ℕ) (status another : ℕ) →
+        IsReportedRun (IsFinishedRun c budget (Some file)) c steps text status → IsReportedRun (IsFinishedRun c budget (Some file)) c others other another →
+        (steps ≡ others) × (text ≡ other) × (status ≡ another) }
+{
+    input_means_one_layout();
+    runs_have_one_log();
+    steps_have_one_report();
+}
