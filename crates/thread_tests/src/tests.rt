@@ -8,6 +8,7 @@ mod rounds;
 mod runs;
 mod stray;
 mod together;
+mod trials;
 
 use std::fmt::Debug;
 use std::process::Abort;

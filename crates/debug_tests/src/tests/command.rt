@@ -7,9 +7,11 @@ use debug_session::SessionEnd;
 use flat_machine::Config;
 use link::{Failed, Meter};
 use std::alloc::{AllocGlobal, Global};
+use std::io::Read;
+use std::process::Abort;
 use std::sync::Wait;
 use std::test::Fail;
-use test_devices::{Broken, EBREAK, Sink, Source, assert_same};
+use test_devices::{Broken, EBREAK, Sink, Source, assert_same, lend};
 use test_machines::{machine_of, size};
 
 /// A link over memory, of which a read or a write fails, or none.
@@ -53,22 +55,24 @@ fn open_door(alloc: Global, input: &'static [u8]) -> Door {
     }
 }
 
-/// The exit status of a command on the image of `ebreak`, and what standard error is told.
-fn told(
-    rt: &(impl Wait + AllocGlobal),
-    file: &'static [u8],
-    config: Config,
+/// A command on this file has this exit status, and standard error is told this.
+fn ends<F: Read + Drop>(
+    rt: &(impl Wait + Abort + AllocGlobal),
+    (file, config): (F, Config),
     door: &mut Door,
-) -> (u8, Vec<u8>) {
+    status: u8,
+    told: &str,
+) {
     let mut err = Vec::new(rt.alloc());
-    let status = debug_command(rt, rt.alloc(), file, config, 1000, door, &mut err);
-    (status, err)
+    let ended = debug_command(rt, rt.alloc(), file, config, 1000, door, &mut err);
+    assert_same!(rt; ended, status);
+    assert_same!(rt; err.as_slice(), told.as_bytes());
 }
 
 /// A session that ends well has status 0, or 1 where a processor is faulted.
 #[test]
 fn sessions_end(rt: HostRuntime) {
-    for (input, expected) in [
+    for (input, status) in [
         (b"state 0\n".as_slice(), 0),
         (b"quit\n", 0),
         (b"step 3\nquit\nset 0 1 1\n", 1),
@@ -76,9 +80,7 @@ fn sessions_end(rt: HostRuntime) {
         (b"cont", 0),
     ] {
         let mut door = open_door(rt.alloc(), input);
-        let (status, err) = told(&rt, &EBREAK, size(2), &mut door);
-        assert_same!(rt; status, expected);
-        assert!(rt; err.is_empty());
+        ends(&rt, (EBREAK.as_slice(), size(2)), &mut door, status, "");
         assert_same!(rt; door.knocks, 1);
     }
 }
@@ -86,7 +88,6 @@ fn sessions_end(rt: HostRuntime) {
 /// A fault of the link is told, whatever the processors did.
 #[test]
 fn links_fail(rt: HostRuntime) {
-    let link = b"ultra: link\n".as_slice();
     for (read_fails_at, write_fails_at, is_shut) in [
         (1, 0, false),
         (6, 0, false),
@@ -99,47 +100,49 @@ fn links_fail(rt: HostRuntime) {
             is_shut,
             ..open_door(rt.alloc(), b"cont\n")
         };
-        let (status, err) = told(&rt, &EBREAK, size(2), &mut door);
-        assert_same!(rt; status, 3);
-        assert_same!(rt; err.as_slice(), link);
+        ends(
+            &rt,
+            (EBREAK.as_slice(), size(2)),
+            &mut door,
+            3,
+            "ultra: link\n",
+        );
     }
 }
 
 /// What is refused before has its own fault, and no link is asked for.
 #[test]
 fn images_are_refused(rt: HostRuntime) {
-    for (file, config, text) in [
-        (&EBREAK[..51], size(2), b"ultra: I1\n".as_slice()),
-        (&EBREAK[..], size(7), b"ultra: K1\n"),
-    ] {
-        let mut door = open_door(rt.alloc(), b"quit\n");
-        let (status, err) = told(&rt, file, config, &mut door);
-        assert_same!(rt; status, 2);
-        assert_same!(rt; err.as_slice(), text);
-        assert_same!(rt; door.knocks, 0);
-    }
     let mut door = open_door(rt.alloc(), b"quit\n");
-    let mut err = Vec::new(rt.alloc());
-    let status = debug_command(&rt, rt.alloc(), Broken, size(2), 1000, &mut door, &mut err);
-    assert_same!(rt; status, 3);
-    assert_same!(rt; err.as_slice(), b"ultra: I9\n".as_slice());
+    ends(&rt, (&EBREAK[..51], size(2)), &mut door, 2, "ultra: I1\n");
+    ends(
+        &rt,
+        (EBREAK.as_slice(), size(7)),
+        &mut door,
+        2,
+        "ultra: K1\n",
+    );
+    ends(&rt, (Broken, size(2)), &mut door, 3, "ultra: I9\n");
     assert_same!(rt; door.knocks, 0);
 }
+
+/// How a session ends, the exit status then, and what is told.
+static ENDS: [(SessionEnd, u8, &str); 4] = [
+    (SessionEnd::Quit, 0, ""),
+    (SessionEnd::ReadFailed, 3, "ultra: link\n"),
+    (SessionEnd::Memory, 4, "ultra: memory\n"),
+    (SessionEnd::TraceFull, 4, "ultra: L2\n"),
+];
 
 /// Want of memory and of room.
 #[test]
 fn ends_are_told(rt: HostRuntime) -> Result<(), Fail> {
-    let alloc = rt.alloc();
-    let machine = machine_of(alloc, "ebreak", size(2))?;
-    for (end, status, text) in [
-        (SessionEnd::Quit, 0, b"".as_slice()),
-        (SessionEnd::ReadFailed, 3, b"ultra: link\n"),
-        (SessionEnd::Memory, 4, b"ultra: memory\n"),
-        (SessionEnd::TraceFull, 4, b"ultra: L2\n"),
-    ] {
-        let mut err = Vec::new(alloc);
-        assert_same!(rt; debug_end(end, &machine, &mut err), status);
-        assert_same!(rt; err.as_slice(), text);
-    }
+    lend(machine_of(rt.alloc(), "ebreak", size(2))?, |machine| {
+        for (end, status, told) in &ENDS {
+            let mut err = Vec::new(rt.alloc());
+            assert_same!(rt; debug_end(*end, machine, &mut err), *status);
+            assert_same!(rt; err.as_slice(), told.as_bytes());
+        }
+    });
     Ok(())
 }

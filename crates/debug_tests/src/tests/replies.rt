@@ -39,3 +39,9 @@ fn two(alloc: Global) -> Result<Machine, Fail> {
 fn poke(rt: &impl Abort, machine: &mut Machine, poke: Poke) {
     assert_same!(rt; machine.apply(Step::Poke(poke)), Outcome::Poked);
 }
+
+/// Takes a turn, by which the processor stops.
+fn stop(rt: &impl Abort, machine: &mut Machine, processor: u8) {
+    let outcome = machine.apply(Step::Turn(processor));
+    assert!(rt; matches!(outcome, Outcome::Stopped { .. }), "{outcome:?}");
+}

@@ -9,16 +9,14 @@ mod replies;
 
 use debug_session::{SessionEnd, serve};
 use debug_sweep::Sweep;
-use flat_machine::{Poke, SHARED_START};
 use link::{LinkRead, Meter};
 use machine_log::Logged;
-use std::alloc::AllocGlobal;
+use std::alloc::{AllocGlobal, Global};
 use std::process::Abort;
 use std::sync::Wait;
 use std::test::Fail;
-use steps::{Outcome, Step};
 use test_devices::{Sink, assert_same};
-use test_machines::{log_of, size};
+use test_machines::{FOUR_ADDENDS, adders_log, size};
 
 /// Instructions that refer to the shared word at `a2`, at 0x10000 to 0x10010.
 const ROW: &str = "
@@ -35,41 +33,9 @@ const THREE: &str = "addi x1, x0, 1\naddi x2, x0, 2\necall";
 /// Steps that a `cont` enters at most.
 const BUDGET: u32 = 1000;
 
-/// Takes a step, which is told so.
-fn take(rt: &impl Abort, log: &mut Logged, step: Step, told: Outcome) -> Result<(), Fail> {
-    assert_same!(rt; log.step(step)?, told, step);
-    Ok(())
-}
-
-/// Writes a register of a processor.
-fn put(
-    rt: &impl Abort,
-    log: &mut Logged,
-    processor: u8,
-    register: u8,
-    value: u32,
-) -> Result<(), Fail> {
-    let poke = Poke::Register {
-        processor,
-        register,
-        value,
-    };
-    take(rt, log, Step::Poke(poke), Outcome::Poked)
-}
-
 /// The log of four processors that are to add 1, 2, 4 and 8 to word 0, which is 10.
-fn adders(rt: &(impl Abort + AllocGlobal)) -> Result<Logged, Fail> {
-    let mut log = log_of(rt.alloc(), ROW, size(2))?;
-    for processor in 0..4 {
-        put(rt, &mut log, processor, 11, 1 << processor)?;
-        put(rt, &mut log, processor, 12, SHARED_START)?;
-    }
-    let poke = Poke::Shared {
-        address: SHARED_START,
-        value: 10,
-    };
-    take(rt, &mut log, Step::Poke(poke), Outcome::Poked)?;
-    Ok(log)
+fn adders(alloc: Global) -> Result<Logged, Fail> {
+    adders_log(alloc, ROW, size(2), 10, &FOUR_ADDENDS)
 }
 
 /// How a session ends that reads from this link, and what it writes.

@@ -7,7 +7,7 @@ use machine_log::{LogRefusal, Logged};
 use std::process::Abort;
 use std::test::Fail;
 use steps::Step;
-use test_devices::assert_same;
+use test_devices::{assert_same, lend};
 use test_machines::{log_of, tight_size};
 
 /// The breaks at these addresses.
@@ -32,65 +32,90 @@ fn go_on(
     answer
 }
 
+/// Goes on, which nothing refuses, until the log has so many steps.
+fn goes_on(rt: &impl Abort, log: &mut Logged, breaks: &Breaks, budget: u32, steps: usize) {
+    assert_same!(rt; go_on(rt, log, breaks, budget), Ok(()));
+    assert_same!(rt; log.steps().len(), steps);
+}
+
 /// Three instructions of code, at 0x10000, 0x10004 and 0x10008.
 const THREE: &str = "addi x1, x0, 1\naddi x2, x0, 2\necall";
 
 /// The second instruction refers to shared word 0.
 const REFERS: &str = "lui x5, 0x80000\nlw x6, 0(x5)\necall";
 
+/// The steps of its run on one processor.
+static REFERRED: [Step; 5] = [
+    Step::Turn(0),
+    Step::Turn(0),
+    Step::Serve(0),
+    Step::Turn(0),
+    Step::Turn(0),
+];
+
 /// A break is met before its instruction, and a further run gets past it, to the next, and then to the end.
 #[test]
 fn goes_from_break_to_break(rt: HostRuntime) -> Result<(), Fail> {
-    let mut log = log_of(rt.alloc(), THREE, tight_size(0))?;
     let breaks = breaks_at(&rt, &[0x10004, 0x10008]);
-    assert_same!(rt; go_on(&rt, &mut log, &breaks, 100), Ok(()));
-    assert_same!(rt; log.machine().pc(0), Some(0x10004));
-    assert_same!(rt; log.steps().len(), 1);
-    assert_same!(rt; go_on(&rt, &mut log, &breaks, 100), Ok(()));
-    assert_same!(rt; log.machine().pc(0), Some(0x10008));
-    assert_same!(rt; log.steps().len(), 2);
-    assert_same!(rt; go_on(&rt, &mut log, &breaks, 100), Ok(()));
-    assert_same!(rt; log.machine().status(0), Some(Status::Halted(0)));
-    // Where none runs, nothing is done.
-    assert_same!(rt; log.steps().len(), 3);
-    assert_same!(rt; go_on(&rt, &mut log, &breaks, 100), Ok(()));
-    assert_same!(rt; log.steps().len(), 3);
+    lend(log_of(rt.alloc(), THREE, tight_size(0))?, |log| {
+        goes_on(&rt, log, &breaks, 100, 1);
+        assert_same!(rt; log.machine().pc(0), Some(0x10004));
+        goes_on(&rt, log, &breaks, 100, 2);
+        assert_same!(rt; log.machine().pc(0), Some(0x10008));
+        goes_on(&rt, log, &breaks, 100, 3);
+        assert_same!(rt; log.machine().status(0), Some(Status::Halted(0)));
+        // Where none runs, nothing is done.
+        goes_on(&rt, log, &breaks, 100, 3);
+    });
     Ok(())
 }
 
 /// The break at which a processor stands when the sweep begins does not stop it, as often as it comes there.
 #[test]
 fn gets_past_the_first_break(rt: HostRuntime) -> Result<(), Fail> {
-    let mut log = log_of(rt.alloc(), "again: jal x0, again", tight_size(0))?;
     let breaks = breaks_at(&rt, &[0x10000]);
-    for count in 1..4 {
-        assert_same!(rt; go_on(&rt, &mut log, &breaks, 100), Ok(()));
-        assert_same!(rt; log.machine().pc(0), Some(0x10000));
-        assert_same!(rt; log.steps().len(), count);
-    }
+    lend(
+        log_of(rt.alloc(), "again: jal x0, again", tight_size(0))?,
+        |log| {
+            for count in 1..4 {
+                goes_on(&rt, log, &breaks, 100, count);
+                assert_same!(rt; log.machine().pc(0), Some(0x10000));
+            }
+        },
+    );
     Ok(())
 }
 
-/// Processor 1 comes to its break in the fourth round, when processor 0 has gone on to a loop without one.
-#[test]
-fn stops_all_at_the_break_of_one(rt: HostRuntime) -> Result<(), Fail> {
-    let text = "
+/// Of two processors that take turns, processor 1 comes to 0x10010, and the other stays before it.
+const APART: &str = "
  addi x17, x0, 2
  ecall
  bne x10, x0, odd
 here: jal x0, here
 odd: addi x7, x0, 1
 ";
-    let mut log = log_of(rt.alloc(), text, tight_size(1))?;
+
+/// Three turns of each, and a fourth of processor 0.
+static TURNS: [Step; 7] = [
+    Step::Turn(0),
+    Step::Turn(1),
+    Step::Turn(0),
+    Step::Turn(1),
+    Step::Turn(0),
+    Step::Turn(1),
+    Step::Turn(0),
+];
+
+/// Processor 1 comes to its break in the fourth round, when processor 0 has gone on to a loop without one.
+#[test]
+fn stops_all_at_the_break_of_one(rt: HostRuntime) -> Result<(), Fail> {
     let breaks = breaks_at(&rt, &[0x10010]);
-    assert_same!(rt; go_on(&rt, &mut log, &breaks, 100), Ok(()));
-    assert_same!(rt; log.machine().pc(1), Some(0x10010));
-    assert_same!(rt; log.machine().pc(0), Some(0x1000C));
-    let turns = [0, 1, 0, 1, 0, 1, 0];
-    assert_same!(rt; log.steps().len(), turns.len());
-    for (step, processor) in log.steps().iter().zip(turns) {
-        assert_same!(rt; *step, Step::Turn(processor));
-    }
+    lend(log_of(rt.alloc(), APART, tight_size(1))?, |log| {
+        goes_on(&rt, log, &breaks, 100, 7);
+        assert_same!(rt; log.machine().pc(1), Some(0x10010));
+        assert_same!(rt; log.machine().pc(0), Some(0x1000C));
+        assert_same!(rt; log.steps(), TURNS.as_slice());
+    });
     Ok(())
 }
 
@@ -98,64 +123,60 @@ odd: addi x7, x0, 1
 /// 0x10004 is reached, stopped at, and then taken whole.
 #[test]
 fn finishes_an_open_reference(rt: HostRuntime) -> Result<(), Fail> {
-    let mut log = log_of(rt.alloc(), REFERS, tight_size(0))?;
     let breaks = breaks_at(&rt, &[0x10004]);
-    assert_same!(rt; go_on(&rt, &mut log, &breaks, 100), Ok(()));
-    assert_same!(rt; log.steps().len(), 1);
-    assert_same!(rt; go_on(&rt, &mut log, &breaks, 100), Ok(()));
-    let all = [
-        Step::Turn(0),
-        Step::Turn(0),
-        Step::Serve(0),
-        Step::Turn(0),
-        Step::Turn(0),
-    ];
-    assert_same!(rt; log.steps(), all.as_slice());
-    assert_same!(rt; log.machine().status(0), Some(Status::Halted(0)));
+    lend(log_of(rt.alloc(), REFERS, tight_size(0))?, |log| {
+        goes_on(&rt, log, &breaks, 100, 1);
+        goes_on(&rt, log, &breaks, 100, 5);
+        assert_same!(rt; log.steps(), REFERRED.as_slice());
+        assert_same!(rt; log.machine().status(0), Some(Status::Halted(0)));
+    });
     Ok(())
 }
 
 /// A used-up budget ends it too, and a reference that is open then is brought to its end.
 #[test]
 fn ends_with_the_budget(rt: HostRuntime) -> Result<(), Fail> {
-    let mut log = log_of(rt.alloc(), REFERS, tight_size(0))?;
     let breaks = breaks_at(&rt, &[]);
-    assert_same!(rt; go_on(&rt, &mut log, &breaks, 0), Ok(()));
-    assert_same!(rt; log.steps().len(), 0);
-    assert_same!(rt; go_on(&rt, &mut log, &breaks, 2), Ok(()));
-    let all = [Step::Turn(0), Step::Turn(0), Step::Serve(0), Step::Turn(0)];
-    assert_same!(rt; log.steps(), all.as_slice());
+    lend(log_of(rt.alloc(), REFERS, tight_size(0))?, |log| {
+        goes_on(&rt, log, &breaks, 0, 0);
+        goes_on(&rt, log, &breaks, 2, 4);
+        assert_same!(rt; log.steps(), &REFERRED[..4]);
+    });
     Ok(())
 }
 
 /// Each of four processors stops by a fault in its first turn, and each such turn ends a sweep.
 #[test]
 fn ends_at_each_fault(rt: HostRuntime) -> Result<(), Fail> {
-    let mut log = log_of(rt.alloc(), "ebreak", tight_size(2))?;
     let breaks = breaks_at(&rt, &[0x10000]);
-    for count in 1..5 {
-        assert_same!(rt; go_on(&rt, &mut log, &breaks, 100), Ok(()));
-        assert_same!(rt; log.steps().len(), count);
-    }
-    assert_same!(rt; go_on(&rt, &mut log, &breaks, 100), Ok(()));
-    assert_same!(rt; log.steps().len(), 4);
+    lend(log_of(rt.alloc(), "ebreak", tight_size(2))?, |log| {
+        for count in 1..5 {
+            goes_on(&rt, log, &breaks, 100, count);
+        }
+        goes_on(&rt, log, &breaks, 100, 4);
+    });
     Ok(())
+}
+
+/// There is no room for a sweep with this budget, and nothing is done.
+fn is_refused(rt: &impl Abort, log: &mut Logged, breaks: &Breaks, budget: u32) {
+    let before = log.steps().len();
+    assert_same!(rt; go_on(rt, log, breaks, budget), Err(LogRefusal::Full));
+    assert_same!(rt; log.steps().len(), before);
 }
 
 /// Room is asked for the steps of the sweep and of its drain, before the first of them is taken.
 #[test]
 fn asks_for_room_first(rt: HostRuntime) -> Result<(), Fail> {
-    let mut log = log_of(rt.alloc(), THREE, tight_size(0))?;
     let breaks = breaks_at(&rt, &[0x10004]);
-    assert_same!(rt; go_on(&rt, &mut log, &breaks, 4_294_967_295), Err(LogRefusal::Full));
-    assert_same!(rt; go_on(&rt, &mut log, &breaks, 4_194_303), Err(LogRefusal::Full));
-    assert_same!(rt; log.steps().len(), 0);
-    assert_same!(rt; go_on(&rt, &mut log, &breaks, 4_194_302), Ok(()));
-    assert_same!(rt; log.machine().pc(0), Some(0x10004));
-    // With one step there is room for 4,194,303 more, two of them for the drain.
-    assert_same!(rt; go_on(&rt, &mut log, &breaks, 4_194_302), Err(LogRefusal::Full));
-    assert_same!(rt; log.steps().len(), 1);
-    assert_same!(rt; go_on(&rt, &mut log, &breaks, 4_194_301), Ok(()));
-    assert_same!(rt; log.steps().len(), 3);
+    lend(log_of(rt.alloc(), THREE, tight_size(0))?, |log| {
+        is_refused(&rt, log, &breaks, 4_294_967_295);
+        is_refused(&rt, log, &breaks, 4_194_303);
+        goes_on(&rt, log, &breaks, 4_194_302, 1);
+        assert_same!(rt; log.machine().pc(0), Some(0x10004));
+        // With one step there is room for 4,194,303 more, two of them for the drain.
+        is_refused(&rt, log, &breaks, 4_194_302);
+        goes_on(&rt, log, &breaks, 4_194_301, 3);
+    });
     Ok(())
 }

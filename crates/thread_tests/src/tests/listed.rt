@@ -1,22 +1,19 @@
 //! Arbiters that name steps by a list: each is asked for once, in that order, whether a thread has its arbiter name one at a time or many
 //! ahead. So it is known how many rounds a run has.
 
-ghost use Rattle.std.specs.Prelude.{◌≡◌, ◌≤◌, ◌^◌, IfOk, vec_len};
+ghost use Rattle.std.specs.Prelude.{◌≤◌};
 
-use super::rounds::{Seen, run};
-use agreed_rows::Room;
-use machine_log::Logged;
+use super::rounds::{Seen, run_text};
 use processor_threads::{Gate, Open, RunFault};
 use shuffled::Arbiter;
-use std::alloc::Global;
-use std::marker::Brand;
+use std::alloc::{AllocGlobal, Global};
+use std::process::Abort;
 use std::sync::Wait;
 use std::sync::atomic::{AtomicU64, Ordering};
 use std::test::Fail;
 use std::thread::Threads;
 use steps::Step;
-use test_devices::assert_same;
-use test_machines::{log_of, size};
+use test_devices::{assert_same, lend};
 
 /// Processor 0 adds 2 to word 0, and both halt.
 const ADDS: &str = "
@@ -63,30 +60,17 @@ impl Arbiter for ByList {
     }
 }
 
-/// One for each processor of a log. That of processor 0 begins at the beginning, and the others behind the end.
-fn listed(alloc: Global, logged: &Logged) -> Result<Vec<ByList>, Fail>
-    ensures { IfOk result (λ arbiters. vec_len arbiters ≡ 2 ^ logged.now.opening.config.k) }
-{
-    let mut arbiters = Vec::new(alloc);
-    for p in 0..logged.machine().config().processors() {
-        arbiters.push(ByList {
-            place: usize::from(p) * WAY.len(),
-        })?;
-    }
-    Ok(arbiters)
-}
-
-/// Runs the program with such arbiters.
+/// Runs the program with such arbiters. That of processor 0 begins at the beginning, and that of the other behind the end.
 fn run_listed<G: Gate + Sync, R: Threads + Wait + Sync>(
     rt: &R,
     alloc: Global,
     gate: &G,
     budget: u32,
 ) -> Result<Seen, Fail> {
-    let logged = log_of(alloc, ADDS, size(1))?;
-    let room = Room::new(alloc)?;
-    let arbiters = listed(alloc, &logged)?;
-    run::<Brand, ByList, G, R>(rt, alloc, room, logged, arbiters, gate, budget)
+    let arbiter = |p: u8| ByList {
+        place: usize::from(p) * WAY.len(),
+    };
+    run_text(rt, alloc, ADDS, 1, arbiter, gate, budget)
 }
 
 /// A gate that counts who passes it, and so lets one pass at a time.
@@ -101,6 +85,21 @@ impl Gate for Counting {
     }
 }
 
+/// A run with this budget has this fault, and the processors have retired so many.
+fn ends<G: Gate + Sync>(
+    rt: &(impl Threads + Wait + Abort + Sync + AllocGlobal),
+    gate: &G,
+    budget: u32,
+    fault: Option<RunFault>,
+    retired: [usize; 2],
+) -> Result<(), Fail> {
+    lend(run_listed(rt, rt.alloc(), gate, budget)?, |seen| {
+        assert_same!(rt; seen.fault, fault);
+        assert_same!(rt; seen.retired.as_slice(), retired.as_slice());
+    });
+    Ok(())
+}
+
 /// Processor 0 sends its request in its first round, behind what it does alone. The fourth moves it, the sixth serves it, the seventh moves
 /// the reply, the eighth takes it, and in the ninth it halts. The other halts in its first.
 #[test]
@@ -108,14 +107,13 @@ fn each_step_once(rt: HostRuntime) -> Result<(), Fail> {
     let gate = Counting {
         passed: AtomicU64::new(0),
     };
-    let seen = run_listed(&rt, rt.alloc(), &gate, 9)?;
-    assert_same!(rt; seen.fault, None);
+    ends(&rt, &gate, 9, None, [7, 5])?;
     assert_same!(rt; gate.passed.load(Ordering::SeqCst), 10);
-    assert_same!(rt; seen.retired.as_slice(), [7, 5].as_slice());
-    let seen = run_listed(&rt, rt.alloc(), &Open, 9)?;
-    assert_same!(rt; seen.fault, None);
-    assert_same!(rt; seen.retired.as_slice(), [7, 5].as_slice());
-    assert_same!(rt; seen.logged.machine().word(0), Some(2));
+    lend(run_listed(&rt, rt.alloc(), &Open, 9)?, |seen| {
+        assert_same!(rt; seen.fault, None);
+        assert_same!(rt; seen.retired.as_slice(), [7, 5].as_slice());
+        assert_same!(rt; seen.logged.machine().word(0), Some(2));
+    });
     Ok(())
 }
 
@@ -125,10 +123,6 @@ fn one_round_less(rt: HostRuntime) -> Result<(), Fail> {
     let gate = Counting {
         passed: AtomicU64::new(0),
     };
-    let seen = run_listed(&rt, rt.alloc(), &gate, 8)?;
-    assert_same!(rt; seen.fault, Some(RunFault::Budget));
-    let seen = run_listed(&rt, rt.alloc(), &Open, 8)?;
-    assert_same!(rt; seen.fault, Some(RunFault::Budget));
-    assert_same!(rt; seen.retired.as_slice(), [5, 5].as_slice());
-    Ok(())
+    ends(&rt, &gate, 8, Some(RunFault::Budget), [5, 5])?;
+    ends(&rt, &Open, 8, Some(RunFault::Budget), [5, 5])
 }

@@ -1,20 +1,18 @@
 //! Cores on loan: two at once on one thread, one that is lent twice, and one that is lost.
 
-ghost use Rattle.std.specs.Prelude.{◌≡◌, ◌≤◌, ◌^◌, ℕ, Some};
+ghost use Rattle.std.specs.Prelude.{◌≡◌, ◌≤◌, ℕ, Some};
 ghost use Rattle.machine_passes.specs.Passes.{IsWhole};
 
-use agreed_rows::Room;
+use super::trials::{Trial, attempt};
 use flat_machine::{CODE_START, Status};
 use local_runs::LocalEnd;
-use machine_log::Logged;
-use machine_passes::{Pass, Row, Run, Shared};
+use machine_passes::{Pass, Run, Shared};
 use std::alloc::Global;
-use std::marker::Brand;
 use std::process::Abort;
 use std::sync::Wait;
 use std::test::Fail;
 use steps::Outcome;
-use test_devices::{HUNDRED_ADDS, assert_same};
+use test_devices::{HUNDRED_ADDS, assert_same, lend};
 use test_machines::{log_of, size};
 
 /// A processor that writes the byte 65 to the console by its fourth instruction.
@@ -82,77 +80,61 @@ fn run_both<N: Run, R: Wait + Abort>(
     Ok([(end, retired), second?])
 }
 
-/// Lends both cores, and runs each once.
-fn lend_both<N: Run, R: Wait + Abort>(
+/// Lends both cores of two processors, and runs each once.
+pub(super) fn both_away<N: Run, R: Wait + Abort>(
     rt: &R,
     alloc: Global,
-    room: Room<Row>,
-    logged: Logged,
-) -> Result<(), Fail>
-    requires room { room ≡ N.table }
-    requires opening { logged.opening ≡ N.opening }
-    requires first { logged.steps ≡ N.first }
-    requires count { N.count ≡ 2 ^ N.opening.config.k }
-{
-    let (shared, mut passes) = match Shared::<N>::new(alloc, room, logged) {
-        Ok(made) => made,
-        Err((_, refusal)) => return Err(Fail::from(refusal)),
-    };
-    let mut other = passes.pop().expect(rt, "a pass");
-    let mut one = passes.pop().expect(rt, "a pass");
-    let ran = run_both(rt, alloc, &shared, &mut one, &mut other)?;
-    assert_same!(rt; ran, [(LocalEnd::Other, 3), (LocalEnd::Other, 3)]);
-    assert!(rt; !one.is_lent());
-    assert_same!(rt; (one.steps(), other.steps()), (3, 3));
-    assert!(rt; turn_is(rt, &shared, &mut one, Outcome::Issued));
-    assert_same!(rt; last_place(&one), Some(6));
-    assert!(rt; turn_is(rt, &shared, &mut other, Outcome::Issued));
-    Ok(())
+    shared: Shared<N>,
+    mut passes: Vec<Pass<N>>,
+) -> Result<(), Fail> {
+    let other = passes.pop().expect(rt, "a pass");
+    let one = passes.pop().expect(rt, "a pass");
+    lend((shared, one, other), |(shared, one, other)| {
+        let ran = run_both(rt, alloc, shared, one, other)?;
+        assert_same!(rt; ran, [(LocalEnd::Other, 3), (LocalEnd::Other, 3)]);
+        assert!(rt; !one.is_lent());
+        assert_same!(rt; (one.steps(), other.steps()), (3, 3));
+        assert!(rt; turn_is(rt, shared, one, Outcome::Issued));
+        assert_same!(rt; last_place(one), Some(6));
+        assert!(rt; turn_is(rt, shared, other, Outcome::Issued));
+        Ok(())
+    })
 }
 
 /// Both cores are away at once, on one thread, so no loan keeps the lock. Each takes the three instructions before its first add,
 /// and the log has six steps then.
 #[test]
 fn both_cores_away(rt: HostRuntime) -> Result<(), Fail> {
-    let alloc = rt.alloc();
-    let logged = log_of(alloc, HUNDRED_ADDS, size(1))?;
-    lend_both::<Brand, _>(&rt, alloc, Room::new(alloc)?, logged)
+    let logged = log_of(rt.alloc(), HUNDRED_ADDS, size(1))?;
+    attempt(&rt, rt.alloc(), logged, Trial::BothAway)
 }
 
 /// Lends the core of the last pass twice.
-fn lend_twice<N: Run, R: Wait + Abort>(
+pub(super) fn lend_twice<N: Run, R: Wait + Abort>(
     rt: &R,
     alloc: Global,
-    room: Room<Row>,
-    logged: Logged,
-) -> Result<(), Fail>
-    requires room { room ≡ N.table }
-    requires opening { logged.opening ≡ N.opening }
-    requires first { logged.steps ≡ N.first }
-    requires count { N.count ≡ 2 ^ N.opening.config.k }
-{
-    let (shared, mut passes) = match Shared::<N>::new(alloc, room, logged) {
-        Ok(made) => made,
-        Err((_, refusal)) => return Err(Fail::from(refusal)),
-    };
-    let mut pass = passes.pop().expect(rt, "a pass");
-    assert_same!(rt; run_once(rt, alloc, &shared, &mut pass, 3)?, (LocalEnd::Most, 3));
-    assert_same!(rt; run_once(rt, alloc, &shared, &mut pass, 3)?, (LocalEnd::Out(65), 1));
-    assert_same!(rt; pass.steps(), 4);
-    Ok(())
+    shared: Shared<N>,
+    mut passes: Vec<Pass<N>>,
+) -> Result<(), Fail> {
+    let pass = passes.pop().expect(rt, "a pass");
+    lend((shared, pass), |(shared, pass)| {
+        assert_same!(rt; run_once(rt, alloc, shared, pass, 3)?, (LocalEnd::Most, 3));
+        assert_same!(rt; run_once(rt, alloc, shared, pass, 3)?, (LocalEnd::Out(65), 1));
+        assert_same!(rt; pass.steps(), 4);
+        Ok(())
+    })
 }
 
 /// The first loan ends where it has taken all that it may, and the second with the byte that its first instruction gives. Where a
 /// request for memory is refused (`.ci/checks`), a call tells it.
 #[test]
 fn one_core_twice_or_short_of_memory(rt: HostRuntime) -> Result<(), Fail> {
-    let alloc = rt.alloc();
-    let logged = log_of(alloc, WRITES, size(0))?;
-    lend_twice::<Brand, _>(&rt, alloc, Room::new(alloc)?, logged)
+    let logged = log_of(rt.alloc(), WRITES, size(0))?;
+    attempt(&rt, rt.alloc(), logged, Trial::LentTwice)
 }
 
 /// Lends the core of the first pass, lets it run, and loses it.
-fn lose<N: Run, R: Wait + Abort>(
+fn lose_one<N: Run, R: Wait + Abort>(
     rt: &R,
     alloc: Global,
     shared: &Shared<N>,
@@ -170,38 +152,31 @@ fn lose<N: Run, R: Wait + Abort>(
     }
 }
 
-/// The log once all passes are back, and the loan of a core is not.
-fn gather_without<N: Run, R: Wait + Abort>(
+/// All passes are back, and the loan of a core is not.
+pub(super) fn lose<N: Run, R: Wait + Abort>(
     rt: &R,
     alloc: Global,
-    room: Room<Row>,
-    logged: Logged,
-) -> Result<Logged, Fail>
-    requires room { room ≡ N.table }
-    requires opening { logged.opening ≡ N.opening }
-    requires first { logged.steps ≡ N.first }
-    requires count { N.count ≡ 2 ^ N.opening.config.k }
+    shared: Shared<N>,
+    mut passes: Vec<Pass<N>>,
+) -> Result<(), Fail>
+    requires { IsWhole N.count passes.items }
 {
-    let (shared, mut passes) = match Shared::<N>::new(alloc, room, logged) {
-        Ok(made) => made,
-        Err((_, refusal)) => return Err(Fail::from(refusal)),
-    };
-    assert_same!(rt; lose(rt, alloc, &shared, &mut passes)?, LocalEnd::Other);
-    let (logged, passes) = shared.gather(passes);
-    assert!(rt; passes.iter().all(|pass| pass.is_lent()));
-    Ok(logged)
+    let end = lose_one(rt, alloc, &shared, &mut passes);
+    lend(shared.gather(passes), |(logged, passes)| {
+        assert!(rt; passes.iter().all(|pass| pass.is_lent()));
+        assert_same!(rt; logged.steps().len(), 0);
+        let machine = logged.machine();
+        assert!(rt; machine.are_home());
+        assert_same!(rt; machine.pc(0), Some(CODE_START));
+        assert_same!(rt; machine.status(0), Some(Status::Running));
+    });
+    assert_same!(rt; end?, LocalEnd::Other);
+    Ok(())
 }
 
 /// A core that was lent and does not come back stands in the machine as it was lent: what it did alone has not happened.
 #[test]
 fn core_that_is_lost(rt: HostRuntime) -> Result<(), Fail> {
-    let alloc = rt.alloc();
-    let logged = log_of(alloc, HUNDRED_ADDS, size(0))?;
-    let logged = gather_without::<Brand, _>(&rt, alloc, Room::new(alloc)?, logged)?;
-    assert_same!(rt; logged.steps().len(), 0);
-    let machine = logged.machine();
-    assert!(rt; machine.are_home());
-    assert_same!(rt; machine.pc(0), Some(CODE_START));
-    assert_same!(rt; machine.status(0), Some(Status::Running));
-    Ok(())
+    let logged = log_of(rt.alloc(), HUNDRED_ADDS, size(0))?;
+    attempt(&rt, rt.alloc(), logged, Trial::Lost)
 }

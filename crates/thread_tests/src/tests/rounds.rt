@@ -10,22 +10,28 @@ use processor_threads::{Gate, Open, RunFault, run_threads};
 use shuffled::{Arbiter, Shuffled};
 use std::alloc::Global;
 use std::marker::Brand;
+use std::process::Abort;
 use std::sync::Wait;
 use std::sync::atomic::{AtomicU64, Ordering};
 use std::test::Fail;
 use std::thread;
 use std::thread::Threads;
 use std::time::{Clock, Duration};
-use test_devices::{HUNDRED_ADDS, assert_same};
+use test_devices::{HUNDRED_ADDS, assert_same, lend};
 use test_machines::{log_of, size};
 
-/// The arbiters of a log's processors, in a run that begins with 1.
-fn arbiters(alloc: Global, logged: &Logged) -> Result<Vec<Shuffled>, Fail>
+/// An arbiter for each processor of a log.
+fn arbiters<A: Drop, F: Fn(u8) -> A>(
+    alloc: Global,
+    logged: &Logged,
+    arbiter: F,
+) -> Result<Vec<A>, Fail>
+    requires { F.IsAlwaysCallable arbiter }
     ensures { IfOk result (λ arbiters. vec_len arbiters ≡ 2 ^ logged.now.opening.config.k) }
 {
     let mut arbiters = Vec::new(alloc);
     for p in 0..logged.machine().config().processors() {
-        arbiters.push(Shuffled::new(1, p))?;
+        arbiters.push(arbiter(p))?;
     }
     Ok(arbiters)
 }
@@ -41,19 +47,12 @@ pub(super) struct Seen {
 }
 
 /// Runs a log on threads.
-pub(super) fn run<
-    N: Run + Send + Sync,
-    A: Arbiter + Send + Drop,
-    G: Gate + Sync,
-    R: Threads + Wait + Sync,
->(
+fn run<N: Run + Send + Sync, A: Arbiter + Send + Drop, G: Gate + Sync, R: Threads + Wait + Sync>(
     rt: &R,
-    alloc: Global,
+    limits: (Global, &G, u32),
     room: Room<Row>,
     logged: Logged,
     arbiters: Vec<A>,
-    gate: &G,
-    budget: u32,
 ) -> Result<Seen, Fail>
     requires room { room ≡ N.table }
     requires opening { logged.opening ≡ N.opening }
@@ -61,6 +60,7 @@ pub(super) fn run<
     requires count { N.count ≡ 2 ^ N.opening.config.k }
     requires arbiters { vec_len arbiters ≡ N.count }
 {
+    let (alloc, gate, budget) = limits;
     let ended = run_threads::<N, A, G, R>(rt, alloc, room, logged, arbiters, gate, budget);
     let mut retired = Vec::new(alloc);
     for pass in &ended.passes {
@@ -83,47 +83,57 @@ fn retired_by<N: Run>(pass: &Pass<N>) -> usize {
         .count()
 }
 
-/// Runs the image of a text.
-fn run_text<G: Gate + Sync, R: Threads + Wait + Sync>(
-    rt: &R,
-    alloc: Global,
-    text: &str,
-    k: u8,
-    gate: &G,
-    budget: u32,
-) -> Result<Seen, Fail> {
+/// Runs the image of a text on `2^k` processors, each of which has an arbiter.
+pub(super) fn run_text<
+    A: Arbiter + Send + Drop,
+    F: Fn(u8) -> A,
+    G: Gate + Sync,
+    R: Threads + Wait + Sync,
+>(rt: &R, alloc: Global, text: &str, k: u8, arbiter: F, gate: &G, budget: u32) -> Result<Seen, Fail>
+    requires { F.IsAlwaysCallable arbiter }
+{
     let logged = log_of(alloc, text, size(k))?;
     let room = Room::new(alloc)?;
-    let arbiters = arbiters(alloc, &logged)?;
-    run::<Brand, Shuffled, G, R>(rt, alloc, room, logged, arbiters, gate, budget)
+    let arbiters = arbiters(alloc, &logged, arbiter)?;
+    run::<Brand, A, G, R>(rt, (alloc, gate, budget), room, logged, arbiters)
+}
+
+/// The arbiter of a processor, in a run that begins with 1.
+fn shuffled(p: u8) -> Shuffled {
+    Shuffled::new(1, p)
 }
 
 /// A budget that no program here uses up, unless a thread cannot go on.
 const AMPLE: u32 = 10_000_000;
 
-/// Each of two processors retires its 311 instructions, reads at least its own sum and prints its `A`; the word has all adds.
-#[test]
-fn a_hundred_adds_each(rt: HostRuntime) -> Result<(), Fail> {
-    let seen = run_text(&rt, rt.alloc(), HUNDRED_ADDS, 1, &Open, AMPLE)?;
+/// Each of two processors has retired its 311 instructions, and the word has all adds.
+fn have_added(rt: &impl Abort, seen: &Seen) {
     assert_same!(rt; seen.fault, None);
     assert_same!(rt; seen.retired.as_slice(), [311, 311].as_slice());
-    assert_same!(rt; seen.consoles.len(), 2);
-    assert!(rt;
-        seen.consoles
-            .iter()
-            .all(|bytes| bytes.as_slice() == b"A".as_slice())
+    assert_same!(rt; seen.logged.machine().word(0), Some(200));
+}
+
+/// Each of two processors reads at least its own sum and prints its `A`.
+#[test]
+fn a_hundred_adds_each(rt: HostRuntime) -> Result<(), Fail> {
+    lend(
+        run_text(&rt, rt.alloc(), HUNDRED_ADDS, 1, shuffled, &Open, AMPLE)?,
+        |seen| {
+            have_added(&rt, seen);
+            assert_same!(rt; seen.consoles.len(), 2);
+            for bytes in &seen.consoles {
+                assert_same!(rt; bytes.as_slice(), b"A".as_slice());
+            }
+            let machine = seen.logged.machine();
+            assert_same!(rt; machine.status(0), Some(Status::Halted(0)));
+            assert_same!(rt; machine.pc(1), Some(0x0001_0038));
+        },
     );
-    let machine = seen.logged.machine();
-    assert_same!(rt; machine.status(0), Some(Status::Halted(0)));
-    assert_same!(rt; machine.pc(1), Some(0x0001_0038));
-    assert_same!(rt; machine.word(0), Some(200));
     Ok(())
 }
 
-/// A processor that sends 300 bytes, more than its queue holds: none is lost.
-#[test]
-fn more_bytes_than_a_queue_holds(rt: HostRuntime) -> Result<(), Fail> {
-    let text = "
+/// A processor that sends 300 bytes, more than its queue holds.
+pub(super) const SENDS_MANY: &str = "
  addi x17, x0, 1
  addi x10, x0, 65
  addi x6, x0, 300
@@ -134,14 +144,22 @@ loop: ecall
  addi x10, x0, 0
  ecall
 ";
-    let seen = run_text(&rt, rt.alloc(), text, 0, &Open, AMPLE)?;
-    assert_same!(rt; seen.fault, None);
-    assert_same!(rt; seen.retired.as_slice(), [905].as_slice());
-    assert_same!(rt; seen.consoles.len(), 1);
-    for bytes in &seen.consoles {
-        assert_same!(rt; bytes.as_slice(), [b'A'; 300].as_slice());
-    }
-    assert_same!(rt; seen.logged.machine().pc(0), Some(0x0001_0020));
+
+/// None of them is lost.
+#[test]
+fn more_bytes_than_a_queue_holds(rt: HostRuntime) -> Result<(), Fail> {
+    lend(
+        run_text(&rt, rt.alloc(), SENDS_MANY, 0, shuffled, &Open, AMPLE)?,
+        |seen| {
+            assert_same!(rt; seen.fault, None);
+            assert_same!(rt; seen.retired.as_slice(), [905].as_slice());
+            assert_same!(rt; seen.consoles.len(), 1);
+            for bytes in &seen.consoles {
+                assert_same!(rt; bytes.as_slice(), [b'A'; 300].as_slice());
+            }
+            assert_same!(rt; seen.logged.machine().pc(0), Some(0x0001_0020));
+        },
+    );
     Ok(())
 }
 
@@ -194,10 +212,12 @@ fn side_by_side(rt: HostRuntime) -> Result<(), Fail> {
         answered: AtomicU64::new(0),
         gave_up: AtomicU64::new(0),
     };
-    let seen = run_text(&rt, rt.alloc(), HUNDRED_ADDS, 1, &gate, AMPLE)?;
-    assert_same!(rt; gate.gave_up.load(Ordering::SeqCst), 0);
-    assert_same!(rt; seen.fault, None);
-    assert_same!(rt; seen.retired.as_slice(), [311, 311].as_slice());
-    assert_same!(rt; seen.logged.machine().word(0), Some(200));
+    lend(
+        run_text(&rt, rt.alloc(), HUNDRED_ADDS, 1, shuffled, &gate, AMPLE)?,
+        |seen| {
+            assert_same!(rt; gate.gave_up.load(Ordering::SeqCst), 0);
+            have_added(&rt, seen);
+        },
+    );
     Ok(())
 }

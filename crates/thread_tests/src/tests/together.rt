@@ -1,17 +1,14 @@
 //! Rounds of one processor with no other thread's step between them: how many there are, and what the last of them answers.
 
-ghost use Rattle.std.specs.Prelude.{◌≡◌, ◌^◌};
-
-use agreed_rows::Room;
-use machine_log::{LogRefusal, Logged};
-use machine_passes::{Pass, Round, Rounds, Row, Run, Shared};
+use super::trials::{Trial, attempt};
+use machine_log::LogRefusal;
+use machine_passes::{Pass, Round, Rounds, Run, Shared};
 use std::alloc::Global;
-use std::marker::Brand;
 use std::process::Abort;
 use std::sync::Wait;
 use std::test::Fail;
 use steps::{Outcome, Step};
-use test_devices::assert_same;
+use test_devices::{assert_same, lend};
 use test_machines::{log_of, size};
 
 /// A processor that adds to a shared word, and then halts.
@@ -50,92 +47,75 @@ fn assert_retired(rt: &impl Abort, rounds: &Rounds, gone: usize) {
     );
 }
 
-/// The pass of processor 0 of two, and what they share.
-fn opened<N: Run>(
-    alloc: Global,
-    room: Room<Row>,
-    logged: Logged,
-) -> Result<(Shared<N>, Pass<N>), Fail>
-    requires room { room ≡ N.table }
-    requires opening { logged.opening ≡ N.opening }
-    requires first { logged.steps ≡ N.first }
-    requires count { N.count ≡ 2 ^ N.opening.config.k }
-{
-    match Shared::<N>::new(alloc, room, logged) {
-        Ok((shared, mut passes)) => {
-            let _other = passes.pop();
-            match passes.pop() {
-                Some(pass) => Ok((shared, pass)),
-                None => Err(Fail::new("no pass")),
-            }
-        }
-        Err((_, refusal)) => Err(Fail::from(refusal)),
-    }
+/// The pass of processor 0 of two.
+fn first_of<N: Run>(rt: &impl Abort, mut passes: Vec<Pass<N>>) -> Pass<N> {
+    let _other = passes.pop();
+    passes.pop().expect(rt, "a pass")
 }
 
 /// Rounds by turns alone.
-fn turn_by_turn<N: Run, R: Wait + Abort>(
+pub(super) fn turn_by_turn<N: Run, R: Wait + Abort>(
     rt: &R,
-    alloc: Global,
-    room: Room<Row>,
-    logged: Logged,
-) -> Result<(), Fail>
-    requires room { room ≡ N.table }
-    requires opening { logged.opening ≡ N.opening }
-    requires first { logged.steps ≡ N.first }
-    requires count { N.count ≡ 2 ^ N.opening.config.k }
-{
-    let (shared, mut pass) = opened::<N>(alloc, room, logged)?;
-    assert_retired(rt, &shared.rounds(rt, &mut pass, &WAY), 1);
-    let unnamed = [WAY[0], Step::Serve(2), WAY[1]];
-    assert_same!(rt; shared.rounds(rt, &mut pass, &unnamed), waits(2, Err(LogRefusal::Unnamed)));
-    let served = Outcome::Served { leader: 0 };
-    assert_same!(rt; shared.rounds(rt, &mut pass, &WAY[1..2]), waits(1, Ok(served)));
-    assert_retired(rt, &shared.rounds(rt, &mut pass, &WAY[2..]), 2);
-    assert_same!(rt; pass.steps(), 6);
-    Ok(())
+    shared: Shared<N>,
+    passes: Vec<Pass<N>>,
+) -> Result<(), Fail> {
+    lend((shared, first_of(rt, passes)), |(shared, pass)| {
+        assert_retired(rt, &shared.rounds(rt, pass, &WAY), 1);
+        let unnamed = [WAY[0], Step::Serve(2), WAY[1]];
+        let refused = waits(2, Err(LogRefusal::Unnamed));
+        assert_same!(rt; shared.rounds(rt, pass, &unnamed), refused);
+        let served = waits(1, Ok(Outcome::Served { leader: 0 }));
+        assert_same!(rt; shared.rounds(rt, pass, &WAY[1..2]), served);
+        assert_retired(rt, &shared.rounds(rt, pass, &WAY[2..]), 2);
+        assert_same!(rt; pass.steps(), 6);
+        Ok(())
+    })
 }
 
 /// An instruction that retires ends them, and so does a step that the machine has not, or that no other is left. Else they go on, from the
 /// turn that begins a reference to that which takes the reply.
 #[test]
 fn until_the_reply_comes(rt: HostRuntime) -> Result<(), Fail> {
-    let alloc = rt.alloc();
-    let logged = log_of(alloc, ADDS, size(1))?;
-    turn_by_turn::<Brand, _>(&rt, alloc, Room::new(alloc)?, logged)
+    let logged = log_of(rt.alloc(), ADDS, size(1))?;
+    attempt(&rt, rt.alloc(), logged, Trial::TurnByTurn)
 }
 
 /// Rounds behind a loan.
-fn behind_a_loan<N: Run, R: Wait + Abort>(
+fn end_a_loan<N: Run, R: Wait + Abort>(
     rt: &R,
     alloc: Global,
-    room: Room<Row>,
-    logged: Logged,
-) -> Result<(), Fail>
-    requires room { room ≡ N.table }
-    requires opening { logged.opening ≡ N.opening }
-    requires first { logged.steps ≡ N.first }
-    requires count { N.count ≡ 2 ^ N.opening.config.k }
-{
-    let (shared, mut pass) = opened::<N>(alloc, room, logged)?;
-    let mut loan = match shared.lend(rt, alloc, &mut pass, 64) {
+    shared: &Shared<N>,
+    pass: &mut Pass<N>,
+) -> Result<Rounds, Fail> {
+    let mut loan = match shared.lend(rt, alloc, pass, 64) {
         Ok(loan) => loan,
         Err(refusal) => return Err(Fail::from(refusal)),
     };
     let _end = loan.run_local();
-    match shared.end_loan(rt, &mut pass, loan, &WAY) {
-        Ok(rounds) => assert_retired(rt, &rounds, 4),
+    let rounds = match shared.end_loan(rt, pass, loan, &WAY) {
+        Ok(rounds) => rounds,
         Err(_) => return Err(Fail::new("the loan was handed back")),
-    }
-    assert!(rt; !pass.is_lent());
-    assert_same!(rt; pass.steps(), 6);
-    Ok(())
+    };
+    Ok(rounds)
 }
 
 /// The core takes one instruction on loan, and then the processor adds, in four rounds: the turn that takes the reply is in the last.
+pub(super) fn behind_a_loan<N: Run, R: Wait + Abort>(
+    rt: &R,
+    alloc: Global,
+    shared: Shared<N>,
+    passes: Vec<Pass<N>>,
+) -> Result<(), Fail> {
+    lend((shared, first_of(rt, passes)), |(shared, pass)| {
+        assert_retired(rt, &end_a_loan(rt, alloc, shared, pass)?, 4);
+        assert!(rt; !pass.is_lent());
+        assert_same!(rt; pass.steps(), 6);
+        Ok(())
+    })
+}
+
 #[test]
 fn from_a_loan_to_the_reply(rt: HostRuntime) -> Result<(), Fail> {
-    let alloc = rt.alloc();
-    let logged = log_of(alloc, ADDS, size(1))?;
-    behind_a_loan::<Brand, _>(&rt, alloc, Room::new(alloc)?, logged)
+    let logged = log_of(rt.alloc(), ADDS, size(1))?;
+    attempt(&rt, rt.alloc(), logged, Trial::BehindALoan)
 }

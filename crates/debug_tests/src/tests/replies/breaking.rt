@@ -1,50 +1,55 @@
 //! Breaks at the limits of code.
 
 use debug_replies::Breaks;
-use test_devices::assert_same;
+use test_devices::{assert_same, lend};
 
-/// A code word is in code and divisible by 4. A break is set and cleared also where it is there and where it is not.
+/// Addresses, and whether each is that of a code word: in code and divisible by 4.
+static ADDRESSES: [(u32, bool); 14] = [
+    (0, false),
+    (0x0000_FFFC, false),
+    (0x0000_FFFF, false),
+    (0x0001_0000, true),
+    (0x0001_0001, false),
+    (0x0001_0002, false),
+    (0x0001_0003, false),
+    (0x0001_0004, true),
+    (0x0001_FFFC, true),
+    (0x0001_FFFF, false),
+    (0x0002_0000, false),
+    (0x8000_0000, false),
+    (0x8001_0000, false),
+    (0xFFFF_FFFC, false),
+];
+
+/// A break is set and cleared at a code word alone, also where it is there and where it is not.
 #[test]
 fn breaks_at_the_limits(rt: HostRuntime) {
-    for (address, is_code_word) in [
-        (0, false),
-        (0x0000_FFFC, false),
-        (0x0000_FFFF, false),
-        (0x0001_0000, true),
-        (0x0001_0001, false),
-        (0x0001_0002, false),
-        (0x0001_0003, false),
-        (0x0001_0004, true),
-        (0x0001_FFFC, true),
-        (0x0001_FFFF, false),
-        (0x0002_0000, false),
-        (0x8000_0000, false),
-        (0x8001_0000, false),
-        (0xFFFF_FFFC, false),
-    ] {
-        let mut breaks = Breaks::new();
-        assert!(rt; !breaks.contains(address), "{address:x}");
-        assert_same!(rt; breaks.clear(address), is_code_word, address);
-        for _ in 0..2 {
-            assert_same!(rt; breaks.set(address), is_code_word, address);
-            assert_same!(rt; breaks.contains(address), is_code_word, address);
-        }
-        assert!(rt; !breaks.contains(0x0001_0008));
-        assert_same!(rt; breaks.clear(address), is_code_word, address);
-        assert!(rt; !breaks.contains(address), "{address:x}");
+    for (address, is_code_word) in ADDRESSES.iter().copied() {
+        lend(Breaks::new(), |breaks| {
+            assert!(rt; !breaks.contains(address), "{address:x}");
+            assert_same!(rt; breaks.clear(address), is_code_word, address);
+            for _ in 0..2 {
+                assert_same!(rt; breaks.set(address), is_code_word, address);
+                assert_same!(rt; breaks.contains(address), is_code_word, address);
+            }
+            assert!(rt; !breaks.contains(0x0001_0008));
+            assert_same!(rt; breaks.clear(address), is_code_word, address);
+            assert!(rt; !breaks.contains(address), "{address:x}");
+        });
     }
 }
 
 /// Each break is one of its own.
 #[test]
 fn breaks_apart(rt: HostRuntime) {
-    let mut breaks = Breaks::new();
-    breaks.set(0x0001_0004);
-    breaks.set(0x0001_0010);
-    breaks.set(0x0001_FFFC);
-    breaks.clear(0x0001_0010);
-    for word in 0..16_384 {
-        let address = 0x0001_0000 + 4 * word;
-        assert_same!(rt; breaks.contains(address), word == 1 || word == 16_383, address);
-    }
+    lend(Breaks::new(), |breaks| {
+        breaks.set(0x0001_0004);
+        breaks.set(0x0001_0010);
+        breaks.set(0x0001_FFFC);
+        breaks.clear(0x0001_0010);
+        for word in 0..16_384 {
+            let address = 0x0001_0000 + 4 * word;
+            assert_same!(rt; breaks.contains(address), word == 1 || word == 16_383, address);
+        }
+    });
 }

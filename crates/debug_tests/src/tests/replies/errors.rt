@@ -4,7 +4,7 @@ use super::two;
 use debug_lines::Command;
 use debug_replies::{Error, error_of};
 use std::test::Fail;
-use test_devices::assert_same;
+use test_devices::{assert_same, lend};
 
 /// Each line, and the error that it has on a machine of two processors with two shared words.
 const ERRORS: &str = "\
@@ -74,13 +74,14 @@ quit: ok
 
 #[test]
 fn errors(rt: HostRuntime) -> Result<(), Fail> {
-    let machine = two(rt.alloc())?;
-    for row in ERRORS.lines() {
-        let (line, expected) = row.rsplit_once(": ").ok_or("a row")?;
-        let error = error_of(&machine, &Command::read(line.as_bytes()));
-        assert_same!(rt; error.map_or("ok", Error::text), expected, line);
-    }
-    Ok(())
+    lend(two(rt.alloc())?, |machine| {
+        for row in ERRORS.lines() {
+            let (line, expected) = row.rsplit_once(": ").ok_or("a row")?;
+            let error = error_of(machine, &Command::read(line.as_bytes()));
+            assert_same!(rt; error.map_or("ok", Error::text), expected, line);
+        }
+        Ok(())
+    })
 }
 
 /// The errors that no machine has, but its log.

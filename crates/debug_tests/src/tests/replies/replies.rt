@@ -1,15 +1,15 @@
 //! What commands show.
 
-use super::{poke, two};
+use super::{poke, stop, two};
 use arrayvec::ArrayVec;
 use debug_lines::Command;
 use debug_replies::show;
 use flat_machine::{LOCAL_START, PC, Poke, SHARED_START};
 use machine::Machine;
+use std::alloc::AllocGlobal;
 use std::process::Abort;
 use std::test::Fail;
-use steps::{Outcome, Step};
-use test_devices::assert_same;
+use test_devices::{assert_same, lend};
 
 /// Each line, and what it shows of a machine of two processors. Processor 0 has stopped at `ebreak`; processor 1 runs,
 /// and was written to.
@@ -55,64 +55,63 @@ fn shown(machine: &Machine, line: &str) -> ArrayVec<u8, 1024> {
     text
 }
 
+/// What is written to processor 1 and to shared memory.
+static WRITTEN: [Poke; 6] = [
+    Poke::Register {
+        processor: 1,
+        register: 10,
+        value: 11,
+    },
+    Poke::Register {
+        processor: 1,
+        register: 31,
+        value: 0xFEDC_BA98,
+    },
+    Poke::Register {
+        processor: 1,
+        register: PC,
+        value: 0x0001_0AC4,
+    },
+    Poke::Local {
+        processor: 1,
+        address: LOCAL_START + 2,
+        value: 0xAB,
+    },
+    Poke::Shared {
+        address: SHARED_START + 6,
+        value: 0x0C,
+    },
+    Poke::Shared {
+        address: SHARED_START + 7,
+        value: 0xD0,
+    },
+];
+
 /// A machine of which each of two processors shows something else.
-fn written(rt: &(impl Abort + std::alloc::AllocGlobal)) -> Result<Machine, Fail> {
+fn written(rt: &(impl Abort + AllocGlobal)) -> Result<Machine, Fail> {
     let mut machine = two(rt.alloc())?;
-    for (register, value) in [(10, 11), (31, 0xFEDC_BA98), (PC, 0x0001_0AC4)] {
-        poke(
-            rt,
-            &mut machine,
-            Poke::Register {
-                processor: 1,
-                register,
-                value,
-            },
-        );
+    for written in &WRITTEN {
+        poke(rt, &mut machine, *written);
     }
-    poke(
-        rt,
-        &mut machine,
-        Poke::Local {
-            processor: 1,
-            address: LOCAL_START + 2,
-            value: 0xAB,
-        },
-    );
-    poke(
-        rt,
-        &mut machine,
-        Poke::Shared {
-            address: SHARED_START + 6,
-            value: 0x0C,
-        },
-    );
-    poke(
-        rt,
-        &mut machine,
-        Poke::Shared {
-            address: SHARED_START + 7,
-            value: 0xD0,
-        },
-    );
-    assert!(rt; matches!(machine.apply(Step::Turn(0)), Outcome::Stopped { .. }));
+    stop(rt, &mut machine, 0);
     Ok(machine)
 }
 
 #[test]
 fn replies(rt: HostRuntime) -> Result<(), Fail> {
-    let machine = written(&rt)?;
-    for row in REPLIES.lines() {
-        let (line, expected) = row.split_once(": ").ok_or("a row")?;
-        assert_same!(rt; shown(&machine, line).as_slice(), expected.as_bytes(), line);
-    }
-    Ok(())
+    lend(written(&rt)?, |machine| {
+        for row in REPLIES.lines() {
+            let (line, expected) = row.split_once(": ").ok_or("a row")?;
+            assert_same!(rt; shown(machine, line).as_slice(), expected.as_bytes(), line);
+        }
+        Ok(())
+    })
 }
 
 /// All registers and then `pc`, 264 digits.
 #[test]
 fn registers_in_a_line(rt: HostRuntime) -> Result<(), Fail> {
-    let machine = written(&rt)?;
-    let text = shown(&machine, "regs 1");
+    let text = lend(written(&rt)?, |machine| shown(machine, "regs 1"));
     assert_same!(rt; text.len(), 264);
     for (place, eight) in text.as_slice().chunks(8).enumerate() {
         let expected = match place {
@@ -129,8 +128,7 @@ fn registers_in_a_line(rt: HostRuntime) -> Result<(), Fail> {
 /// The longest reply has 1,024 digits.
 #[test]
 fn longest_reply(rt: HostRuntime) -> Result<(), Fail> {
-    let machine = written(&rt)?;
-    let text = shown(&machine, "mem 1 1ffff 200");
+    let text = lend(written(&rt)?, |machine| shown(machine, "mem 1 1ffff 200"));
     assert!(rt; text.len() == 1024);
     assert_same!(rt; &text.as_slice()[..8], b"0001f0ab".as_slice());
     assert!(rt; text.as_slice()[8..].iter().all(|digit| *digit == b'0'));

@@ -1,23 +1,22 @@
 //! Stop replies.
 
-use super::{poke, two};
+use super::{poke, stop, two};
 use arrayvec::ArrayVec;
 use debug_replies::{Breaks, Faults, named_stop, show_stop};
 use flat_machine::{PC, Poke};
 use machine::Machine;
 use std::process::Abort;
 use std::test::Fail;
-use steps::{Outcome, Step};
-use test_devices::assert_same;
+use test_devices::{assert_same, lend};
 
-/// A stop reply, in place of what the text had.
-fn stop(machine: &Machine, named: Option<u8>) -> ArrayVec<u8, 1024> {
-    let mut text = ArrayVec::new();
+/// The stop reply of a machine that names this processor is this text, in place of what stood there.
+fn shows(rt: &impl Abort, machine: &Machine, named: Option<u8>, reply: &str) {
+    let mut text = ArrayVec::<u8, 1024>::new();
     let _ = text.try_extend_from_slice(b"before");
     if machine.are_home() {
         show_stop(machine, named, &mut text);
     }
-    text
+    assert_same!(rt; text.as_slice(), reply.as_bytes(), named);
 }
 
 /// Which processor is named, on a machine none of whose cores is away.
@@ -32,55 +31,55 @@ fn faults_of(rt: &impl Abort, machine: &Machine) -> Faults {
     Faults::of(machine)
 }
 
-/// Numbers are in hex without leading zeros.
+/// Processors, or none, and how they are named: in hex without leading zeros.
+static NAMES: [(Option<u8>, &str); 8] = [
+    (None, "at -"),
+    (Some(0), "at 0"),
+    (Some(9), "at 9"),
+    (Some(10), "at a"),
+    (Some(15), "at f"),
+    (Some(16), "at 10"),
+    (Some(31), "at 1f"),
+    (Some(63), "at 3f"),
+];
+
 #[test]
 fn names(rt: HostRuntime) -> Result<(), Fail> {
-    let machine = two(rt.alloc())?;
-    for (named, expected) in [
-        (None, "at -"),
-        (Some(0), "at 0"),
-        (Some(9), "at 9"),
-        (Some(10), "at a"),
-        (Some(15), "at f"),
-        (Some(16), "at 10"),
-        (Some(31), "at 1f"),
-        (Some(63), "at 3f"),
-    ] {
-        assert_same!(rt; stop(&machine, named).as_slice(), expected.as_bytes(), named);
-    }
+    lend(two(rt.alloc())?, |machine| {
+        for (named, reply) in &NAMES {
+            shows(&rt, machine, *named, reply);
+        }
+    });
     Ok(())
 }
 
-/// `halted` is told once all processors are: the word at 0x00010008 is an `ecall`, which halts where `a7` is 0. A
-/// processor that a fault has stopped is not halted.
+/// `halted` is told once all processors are: the word at 0x00010008 is an `ecall`, which halts where `a7` is 0.
 #[test]
 fn halts(rt: HostRuntime) -> Result<(), Fail> {
-    let mut machine = two(rt.alloc())?;
-    for (processor, expected) in [(1, b"at 1".as_slice()), (0, b"halted".as_slice())] {
-        let at = Poke::Register {
-            processor,
-            register: PC,
-            value: 0x0001_0008,
-        };
-        poke(&rt, &mut machine, at);
-        assert!(rt;
-            matches!(
-                machine.apply(Step::Turn(processor)),
-                Outcome::Stopped { .. }
-            )
-        );
-        assert_same!(rt; stop(&machine, Some(1)).as_slice(), expected, processor);
-    }
-    let mut machine = two(rt.alloc())?;
-    for processor in [0, 1] {
-        assert!(rt;
-            matches!(
-                machine.apply(Step::Turn(processor)),
-                Outcome::Stopped { .. }
-            )
-        );
-        assert_same!(rt; stop(&machine, None).as_slice(), b"at -".as_slice());
-    }
+    lend(two(rt.alloc())?, |machine| {
+        for (processor, reply) in [(1, "at 1"), (0, "halted")] {
+            let at = Poke::Register {
+                processor,
+                register: PC,
+                value: 0x0001_0008,
+            };
+            poke(&rt, machine, at);
+            stop(&rt, machine, processor);
+            shows(&rt, machine, Some(1), reply);
+        }
+    });
+    Ok(())
+}
+
+/// A processor that a fault has stopped is not halted.
+#[test]
+fn faulted_is_not_halted(rt: HostRuntime) -> Result<(), Fail> {
+    lend(two(rt.alloc())?, |machine| {
+        for processor in [0, 1] {
+            stop(&rt, machine, processor);
+            shows(&rt, machine, None, "at -");
+        }
+    });
     Ok(())
 }
 
@@ -88,20 +87,20 @@ fn halts(rt: HostRuntime) -> Result<(), Fail> {
 /// a fault had stopped before is not named.
 #[test]
 fn named_after_a_run(rt: HostRuntime) -> Result<(), Fail> {
-    let mut machine = two(rt.alloc())?;
-    let mut breaks = Breaks::new();
-    let none = faults_of(&rt, &machine);
-    assert_same!(rt; named(&rt, &machine, &breaks, &none), None);
-    assert!(rt; breaks.set(0x0001_0000));
-    assert_same!(rt; named(&rt, &machine, &breaks, &none), Some(0));
-    assert!(rt; matches!(machine.apply(Step::Turn(0)), Outcome::Stopped { .. }));
-    assert_same!(rt; named(&rt, &machine, &breaks, &none), Some(1));
-    assert!(rt; breaks.clear(0x0001_0000));
-    assert_same!(rt; named(&rt, &machine, &breaks, &none), Some(0));
-    let one = faults_of(&rt, &machine);
-    assert_same!(rt; named(&rt, &machine, &breaks, &one), None);
-    assert!(rt; matches!(machine.apply(Step::Turn(1)), Outcome::Stopped { .. }));
-    assert_same!(rt; named(&rt, &machine, &breaks, &one), Some(1));
-    assert_same!(rt; named(&rt, &machine, &breaks, &none), Some(0));
+    lend((two(rt.alloc())?, Breaks::new()), |(machine, breaks)| {
+        let none = faults_of(&rt, machine);
+        assert_same!(rt; named(&rt, machine, breaks, &none), None);
+        assert!(rt; breaks.set(0x0001_0000));
+        assert_same!(rt; named(&rt, machine, breaks, &none), Some(0));
+        stop(&rt, machine, 0);
+        assert_same!(rt; named(&rt, machine, breaks, &none), Some(1));
+        assert!(rt; breaks.clear(0x0001_0000));
+        assert_same!(rt; named(&rt, machine, breaks, &none), Some(0));
+        let one = faults_of(&rt, machine);
+        assert_same!(rt; named(&rt, machine, breaks, &one), None);
+        stop(&rt, machine, 1);
+        assert_same!(rt; named(&rt, machine, breaks, &one), Some(1));
+        assert_same!(rt; named(&rt, machine, breaks, &none), Some(0));
+    });
     Ok(())
 }

@@ -1,17 +1,17 @@
 //! Streams in pieces.
 
-use super::{THREE, adders, take, talk};
+use super::{THREE, adders, talk};
 use debug_session::SessionEnd;
 use link::Meter;
 use machine_log::Logged;
-use std::alloc::AllocGlobal;
+use std::alloc::{AllocGlobal, Global};
 use std::io;
 use std::io::Read;
 use std::process::Abort;
+use std::sync::Wait;
 use std::test::Fail;
-use steps::{Outcome, Step};
-use test_devices::{Source, assert_same};
-use test_machines::{log_of, size};
+use test_devices::{Source, assert_same, lend, prepared};
+use test_machines::{enter_adds, log_of, size};
 
 /// Gives a first part of its bytes, and at the next call the others.
 #[derive(Drop)]
@@ -35,42 +35,25 @@ impl<'a> Read for Parts<'a> {
 }
 
 /// The four adders, whose references are combined and all retired: word 0 is 25.
-fn added(rt: &(impl Abort + AllocGlobal)) -> Result<Logged, Fail> {
-    let mut log = adders(rt)?;
-    for processor in 0..4 {
-        take(rt, &mut log, Step::Turn(processor), Outcome::Issued)?;
-    }
-    for (step, told) in [
-        (Step::Up { stage: 0, wire: 0 }, Outcome::Moved),
-        (
-            Step::Up { stage: 0, wire: 2 },
-            Outcome::Combined {
-                first: 0,
-                second: 2,
-            },
-        ),
-        (Step::Up { stage: 0, wire: 1 }, Outcome::Moved),
-        (
-            Step::Up { stage: 0, wire: 3 },
-            Outcome::Combined {
-                first: 1,
-                second: 3,
-            },
-        ),
-        (Step::Up { stage: 1, wire: 0 }, Outcome::Moved),
-        (
-            Step::Up { stage: 1, wire: 2 },
-            Outcome::Combined {
-                first: 0,
-                second: 1,
-            },
-        ),
-        (Step::Serve(0), Outcome::Served { leader: 0 }),
-    ] {
-        take(rt, &mut log, step, told)?;
-    }
-    assert!(rt; log.drain().is_ok());
-    Ok(log)
+fn added(alloc: Global) -> Result<Logged, Fail> {
+    prepared(adders(alloc)?, |log| {
+        enter_adds(log, 11)?;
+        log.drain()?;
+        Ok(())
+    })
+}
+
+/// What a session on this log writes that reads from this device, to the end of its input.
+fn written<R: Read + Drop>(
+    rt: &(impl Wait + Abort + AllocGlobal),
+    log: Logged,
+    device: R,
+) -> Vec<u8> {
+    lend(log, |log| {
+        let (end, text) = talk(rt, log, &mut Meter::new(device));
+        assert_same!(rt; end, SessionEnd::EndOfInput);
+        text
+    })
 }
 
 /// Wherever the stream is cut, the reply is the same.
@@ -79,18 +62,11 @@ fn in_two_parts(rt: HostRuntime) -> Result<(), Fail> {
     let input = b"mem 0 80000000 4\n";
     for at in 0..input.len() {
         let (first, rest) = input.split_at(at + 1);
-        let mut reader = Meter::new(Parts { first, rest });
-        let (end, text) = talk(&rt, &mut added(&rt)?, &mut reader);
+        let text = written(&rt, added(rt.alloc())?, Parts { first, rest });
         assert_same!(rt; text.as_slice(), b"19000000\n".as_slice(), at);
-        assert_same!(rt; end, SessionEnd::EndOfInput);
     }
-    let (end, text) = talk(
-        &rt,
-        &mut added(&rt)?,
-        &mut Meter::new(b"mem 0 80000000 4".as_slice()),
-    );
+    let text = written(&rt, added(rt.alloc())?, b"mem 0 80000000 4".as_slice());
     assert!(rt; text.as_slice().is_empty());
-    assert_same!(rt; end, SessionEnd::EndOfInput);
     Ok(())
 }
 
@@ -101,12 +77,18 @@ fn stops_in_two_parts(rt: HostRuntime) -> Result<(), Fail> {
     let output = b"ok\nat 0\n00010004\nhalted\n".as_slice();
     for at in 0..input.len() {
         let (first, rest) = input.split_at(at + 1);
-        let mut reader = Meter::new(Parts { first, rest });
-        let (_, text) = talk(&rt, &mut log_of(rt.alloc(), THREE, size(0))?, &mut reader);
+        let text = written(
+            &rt,
+            log_of(rt.alloc(), THREE, size(0))?,
+            Parts { first, rest },
+        );
         assert_same!(rt; text.as_slice(), output, at);
     }
-    let mut reader = Meter::new(Source::new(input, 0));
-    let (_, text) = talk(&rt, &mut log_of(rt.alloc(), THREE, size(0))?, &mut reader);
+    let text = written(
+        &rt,
+        log_of(rt.alloc(), THREE, size(0))?,
+        Source::new(input, 0),
+    );
     assert_same!(rt; text.as_slice(), output);
     Ok(())
 }

@@ -1,11 +1,11 @@
 //! Sessions of small machines.
 
-use super::{ROW, THREE, adders, replies_are, take};
+use super::{ROW, THREE, adders, replies_are};
 use debug_session::SessionEnd;
+use std::alloc::{AllocError, Global};
 use std::test::Fail;
-use steps::{Outcome, Step};
-use test_devices::assert_same;
-use test_machines::{log_of, size};
+use test_devices::{assert_same, lend};
+use test_machines::{enter_adds, log_of, size};
 
 /// A session on a new machine of four processors, or of one, with its replies.
 static FOUR: &[(&str, &str)] = &[
@@ -56,14 +56,10 @@ static FOUR: &[(&str, &str)] = &[
 #[test]
 fn replies_of_four(rt: HostRuntime) -> Result<(), Fail> {
     for (input, output) in FOUR {
-        let mut log = log_of(rt.alloc(), ROW, size(2))?;
-        replies_are(
-            &rt,
-            &mut log,
-            input.as_bytes(),
-            output.as_bytes(),
-            SessionEnd::EndOfInput,
-        );
+        lend(log_of(rt.alloc(), ROW, size(2))?, |log| {
+            let end = SessionEnd::EndOfInput;
+            replies_are(&rt, log, input.as_bytes(), output.as_bytes(), end);
+        });
     }
     Ok(())
 }
@@ -94,13 +90,14 @@ static ONE: &[(&str, &str)] = &[
 #[test]
 fn replies_of_one(rt: HostRuntime) -> Result<(), Fail> {
     for (input, output) in ONE {
-        let mut log = log_of(rt.alloc(), THREE, size(0))?;
         let end = if input.starts_with("quit") {
             SessionEnd::Quit
         } else {
             SessionEnd::EndOfInput
         };
-        replies_are(&rt, &mut log, input.as_bytes(), output.as_bytes(), end);
+        lend(log_of(rt.alloc(), THREE, size(0))?, |log| {
+            replies_are(&rt, log, input.as_bytes(), output.as_bytes(), end);
+        });
     }
     Ok(())
 }
@@ -108,21 +105,21 @@ fn replies_of_one(rt: HostRuntime) -> Result<(), Fail> {
 /// With the budget used up no processor is named.
 #[test]
 fn used_up_budget(rt: HostRuntime) -> Result<(), Fail> {
-    let mut log = log_of(rt.alloc(), "again: jal x0, again", size(1))?;
-    replies_are(&rt, &mut log, b"cont\n", b"at -\n", SessionEnd::EndOfInput);
-    assert_same!(rt; log.steps().len(), 1000);
+    lend(
+        log_of(rt.alloc(), "again: jal x0, again", size(1))?,
+        |log| {
+            replies_are(&rt, log, b"cont\n", b"at -\n", SessionEnd::EndOfInput);
+            assert_same!(rt; log.steps().len(), 1000);
+        },
+    );
     Ok(())
 }
 
-/// A reference that is open when a session begins is brought to its end before a line is answered: six steps.
-#[test]
-fn answers_behind_the_drain(rt: HostRuntime) -> Result<(), Fail> {
-    let mut log = adders(&rt)?;
-    take(&rt, &mut log, Step::Turn(0), Outcome::Issued)?;
-    let before = log.steps().len();
-    let mut expected = Vec::new(rt.alloc());
+/// The reply to `regs 0`: the word that an add has found, its addend, the word's address, and the place behind it.
+fn registers(alloc: Global) -> Result<Vec<u8>, AllocError> {
+    let mut reply = Vec::new(alloc);
     for register in 0..33u8 {
-        expected.extend_from_slice(match register {
+        reply.extend_from_slice(match register {
             10 => b"0000000a",
             11 => b"00000001",
             12 => b"80000000",
@@ -130,16 +127,36 @@ fn answers_behind_the_drain(rt: HostRuntime) -> Result<(), Fail> {
             _ => b"00000000",
         })?;
     }
-    expected.push(b'\n')?;
-    replies_are(
-        &rt,
-        &mut log,
-        b"regs 0\n",
-        expected.as_slice(),
-        SessionEnd::EndOfInput,
-    );
-    assert_same!(rt; log.steps().len(), before + 6);
-    Ok(())
+    reply.push(b'\n')?;
+    Ok(reply)
+}
+
+/// A reference that is open when a session begins is brought to its end before a line is answered: six steps.
+#[test]
+fn answers_behind_the_drain(rt: HostRuntime) -> Result<(), Fail> {
+    lend(adders(rt.alloc())?, |log| {
+        enter_adds(log, 1)?;
+        let before = log.steps().len();
+        let reply = registers(rt.alloc())?;
+        replies_are(
+            &rt,
+            log,
+            b"regs 0\n",
+            reply.as_slice(),
+            SessionEnd::EndOfInput,
+        );
+        assert_same!(rt; log.steps().len(), before + 6);
+        Ok(())
+    })
+}
+
+/// A line: its start, and so many of a byte behind that.
+fn line(alloc: Global, start: &str, byte: u8, count: usize) -> Result<Vec<u8>, AllocError> {
+    let mut line = vec![in alloc; byte; count]?;
+    line.push(b'\n')?;
+    let mut whole = Vec::from_slice(alloc, start.as_bytes())?;
+    whole.extend_from_slice(line.as_slice())?;
+    Ok(whole)
 }
 
 /// A line of 1,025 bytes is none, whatever it says; one of 1,024 may be: 504 bytes in digits behind 16 bytes.
@@ -150,21 +167,14 @@ fn longest_lines(rt: HostRuntime) -> Result<(), Fail> {
         ("write 0 0020000 ", b'5', 1008, b"ok\n", 504),
         ("write 0 00020000 ", b'5', 1008, b"E01\n", 0),
     ] {
-        let mut log = log_of(rt.alloc(), THREE, size(0))?;
-        let mut line = Vec::new(rt.alloc());
-        line.extend_from_slice(start.as_bytes())?;
-        for _ in 0..count {
-            line.push(byte)?;
-        }
-        line.push(b'\n')?;
-        replies_are(
-            &rt,
-            &mut log,
-            line.as_slice(),
-            output,
-            SessionEnd::EndOfInput,
+        let input = line(rt.alloc(), start, byte, count)?;
+        lend(
+            (log_of(rt.alloc(), THREE, size(0))?, input),
+            |(log, input)| {
+                replies_are(&rt, log, input.as_slice(), output, SessionEnd::EndOfInput);
+                assert_same!(rt; log.steps().len(), steps);
+            },
         );
-        assert_same!(rt; log.steps().len(), steps);
     }
     Ok(())
 }

@@ -15,11 +15,17 @@ use test_machines::{image_of, size};
 use threaded_run::threaded_run_command;
 
 /// Nothing is printed and no trace is written, and this is told.
-fn assert_told(rt: &impl Abort, ran: &Ran, told: &str, status: u8) {
+fn tells(rt: &impl Abort, ran: Ran, told: &str, status: u8) {
     assert_same!(rt; ran.err.as_slice(), told.as_bytes());
     assert_same!(rt; ran.out.len(), 0, told);
     assert_same!(rt; ran.trace.len(), 0, told);
     assert_same!(rt; ran.status, status, told);
+}
+
+/// This is printed, and the processor has halted.
+fn halts(rt: &impl Abort, ran: Ran, report: &str) {
+    assert_same!(rt; ran.out.as_slice(), report.as_bytes());
+    assert_same!(rt; ran.status, 0);
 }
 
 /// So many instructions that add 1 to a register, and then a halt.
@@ -35,16 +41,20 @@ fn adds(alloc: Global, count: u32) -> Result<Vec<u8>, Fail> {
 /// A round takes 64 instructions with the core on loan, and then a turn: so 64 and the halt are one round, and 65 and the halt two.
 #[test]
 fn budget_that_is_just_enough(rt: HostRuntime) -> Result<(), Fail> {
-    let image = adds(rt.alloc(), 64)?;
-    let ran = run(&rt, rt.alloc(), image.as_slice(), size(0), 1);
-    assert_same!(rt; ran.out.as_slice(), b"processor 0 pc 00010100 halt 00 retired 64 console -\n".as_slice());
-    assert_same!(rt; ran.status, 0);
-    let image = adds(rt.alloc(), 65)?;
-    let ran = run(&rt, rt.alloc(), image.as_slice(), size(0), 1);
-    assert_told(&rt, &ran, "ultra: budget\n", 4);
-    let ran = run(&rt, rt.alloc(), image.as_slice(), size(0), 2);
-    assert_same!(rt; ran.out.as_slice(), b"processor 0 pc 00010104 halt 00 retired 65 console -\n".as_slice());
-    assert_same!(rt; ran.status, 0);
+    let just = adds(rt.alloc(), 64)?;
+    let more = adds(rt.alloc(), 65)?;
+    let ran = |image, budget| run(&rt, rt.alloc(), image, size(0), budget);
+    halts(
+        &rt,
+        ran(just.as_slice(), 1),
+        "processor 0 pc 00010100 halt 00 retired 64 console -\n",
+    );
+    tells(&rt, ran(more.as_slice(), 1), "ultra: budget\n", 4);
+    halts(
+        &rt,
+        ran(more.as_slice(), 2),
+        "processor 0 pc 00010104 halt 00 retired 65 console -\n",
+    );
     Ok(())
 }
 
@@ -53,18 +63,26 @@ fn budget_that_is_just_enough(rt: HostRuntime) -> Result<(), Fail> {
 fn run_without_end(rt: HostRuntime) -> Result<(), Fail> {
     let image = image_of(rt.alloc(), "jal x0, 0")?;
     let ran = run(&rt, rt.alloc(), image.as_slice(), size(1), 1000);
-    assert_told(&rt, &ran, "ultra: budget\n", 4);
+    tells(&rt, ran, "ultra: budget\n", 4);
     Ok(())
 }
 
 #[test]
 fn refuses_an_image_and_a_size(rt: HostRuntime) {
     let alloc = rt.alloc();
-    let ran = run(&rt, alloc, &EBREAK[..51], size(0), AMPLE);
-    assert_told(&rt, &ran, "ultra: I1\n", 2);
+    tells(
+        &rt,
+        run(&rt, alloc, &EBREAK[..51], size(0), AMPLE),
+        "ultra: I1\n",
+        2,
+    );
     let config = Config { c: 1, ..size(0) };
-    let ran = run(&rt, alloc, &EBREAK, config, AMPLE);
-    assert_told(&rt, &ran, "ultra: K1\n", 2);
+    tells(
+        &rt,
+        run(&rt, alloc, &EBREAK, config, AMPLE),
+        "ultra: K1\n",
+        2,
+    );
 }
 
 /// A link that fails at a call.

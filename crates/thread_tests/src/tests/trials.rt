@@ -1,0 +1,66 @@
+//! What is tried on one thread with the passes of a machine's processors, and with what they share.
+
+ghost use Rattle.std.specs.Prelude.{◌≡◌, ◌^◌};
+
+use super::loans::{both_away, lend_twice, lose};
+use super::passes::add_by_passes;
+use super::together::{behind_a_loan, turn_by_turn};
+use agreed_rows::Room;
+use machine_log::Logged;
+use machine_passes::{Row, Run, Shared};
+use std::alloc::Global;
+use std::marker::Brand;
+use std::process::Abort;
+use std::sync::Wait;
+use std::test::Fail;
+
+/// What is tried.
+#[derive(Clone, Copy, Drop)]
+pub(super) enum Trial {
+    FourAdds,
+    BothAway,
+    LentTwice,
+    Lost,
+    TurnByTurn,
+    BehindALoan,
+}
+
+/// Tries it with the passes of this log.
+fn go<N: Run, R: Wait + Abort>(
+    rt: &R,
+    alloc: Global,
+    room: Room<Row>,
+    logged: Logged,
+    trial: Trial,
+) -> Result<(), Fail>
+    requires room { room ≡ N.table }
+    requires opening { logged.opening ≡ N.opening }
+    requires first { logged.steps ≡ N.first }
+    requires count { N.count ≡ 2 ^ N.opening.config.k }
+{
+    let (shared, passes) = match Shared::<N>::new(alloc, room, logged) {
+        Ok(made) => made,
+        Err((_, refusal)) => return Err(Fail::from(refusal)),
+    };
+    match trial {
+        Trial::FourAdds => add_by_passes(rt, alloc, shared, passes),
+        Trial::BothAway => both_away(rt, alloc, shared, passes),
+        Trial::LentTwice => lend_twice(rt, alloc, shared, passes),
+        Trial::Lost => lose(rt, alloc, shared, passes),
+        Trial::TurnByTurn => turn_by_turn(rt, shared, passes),
+        Trial::BehindALoan => behind_a_loan(rt, alloc, shared, passes),
+    }
+}
+
+/// Tries it with the passes of a log that is just made.
+pub(super) fn attempt<R: Wait + Abort>(
+    rt: &R,
+    alloc: Global,
+    logged: Logged,
+    trial: Trial,
+) -> Result<(), Fail> {
+    match Room::new(alloc) {
+        Ok(room) => go::<Brand, R>(rt, alloc, room, logged, trial),
+        Err(error) => Err(Fail::from(error)),
+    }
+}
