@@ -17,7 +17,7 @@ pub use image::{EBREAK, with_bytes};
 pub use layout::layout_text;
 pub use lending::{lend, prepared};
 pub use link::{Link, Meter};
-pub use programs::{ADD_AT_X12, HUNDRED_ADDS};
+pub use programs::{ADD_AT_X12, HUNDRED_ADDS, report_of_hundred_adds};
 pub use ran::Ran;
 pub use sink::{Deaf, Full, Sink, Taken};
 pub use source::{Broken, Endless, Source};

@@ -1,4 +1,8 @@
-//! Programs as texts of the assembler.
+//! Programs as texts of the assembler, and the report of one.
+
+use std::alloc::Global;
+use std::fmt::Write;
+use std::test::Fail;
 
 /// Each processor adds 1 to one shared word a hundred times, writes `A` to the console and halts. It stops
 /// by EBREAK where the word has less than its own adds.
@@ -19,6 +23,24 @@ loop: amoadd.w x8, x7, (x5)
  ecall
 bad: ebreak
 ";
+
+/// The report of [`HUNDRED_ADDS`] on so many processors, which come to this sum. Three instructions at the beginning, three for
+/// each of the hundred adds, and eight behind them, of which the last halts and does not retire: 311. `ecall` stands at 0x00010038.
+///
+/// # Errors
+///
+/// That there is no memory for it.
+pub fn report_of_hundred_adds(alloc: Global, processors: u8, sum: &str) -> Result<String, Fail> {
+    let mut report = String::new(alloc);
+    for p in 0..processors {
+        write!(
+            report,
+            "processor {p} pc 00010038 halt 00 retired 311 console 41\n"
+        )?;
+    }
+    write!(report, "word 0 {sum}\n")?;
+    Ok(report)
+}
 
 /// Adds `x11` to the word at `x12`, and halts.
 pub const ADD_AT_X12: &str = "

@@ -1,13 +1,11 @@
 //! Reports of programs that end.
 
 use super::{AMPLE, replay, run_text};
-use std::fmt::Write;
 use std::test::Fail;
-use test_devices::{HUNDRED_ADDS, assert_same};
+use test_devices::{HUNDRED_ADDS, assert_same, report_of_hundred_adds};
 use test_machines::{image_of, size};
 
-/// Three instructions at the beginning, three for each of the hundred adds, and eight behind them, of
-/// which the last halts and does not retire: 311. `ecall` stands at 0x00010038.
+/// A run, and the replay of its trace.
 #[test]
 fn hundred_adds(rt: HostRuntime) -> Result<(), Fail> {
     let alloc = rt.alloc();
@@ -17,15 +15,7 @@ fn hundred_adds(rt: HostRuntime) -> Result<(), Fail> {
         (1, 2, "000000c8"),
         (6, 64, "00001900"),
     ] {
-        let mut report = String::new(alloc);
-        for p in 0..processors {
-            write!(
-                report,
-                "processor {p} pc 00010038 halt 00 retired 311 console 41\n"
-            )?;
-        }
-        write!(report, "word 0 {sum}\n")?;
-
+        let report = report_of_hundred_adds(alloc, processors, sum)?;
         let ran = run_text(alloc, HUNDRED_ADDS, size(k), AMPLE)?;
         assert_same!(rt; ran.out.as_slice(), report.as_bytes(), k);
         assert_same!(rt; ran.err.len(), 0, k);
