@@ -1,11 +1,11 @@
 -- Results, one after another, and what is found in them.
-use Rattle.std.proofs.Common.{◌≡◌, ℕ, zero, suc, ◌+◌, ◌<◌, ◌≤◌, List, [], ◌∷◌, ◌++◌, length, Some, refl, sym, ap, ◌∙◌, subst, arith}
+use Rattle.std.proofs.Common.{◌≡◌, ℕ, zero, suc, ◌+◌, List, [], ◌∷◌, ◌++◌, length, Some, refl, sym, ap, ◌∙◌, subst, arith}
 use Rattle.std.specs.Prelude.{slice_get}
 use Rattle.std.proofs.lemmas.List.{length-append}
 use Rattle.flat_machine.specs.declared.config.Config.{Config}
 use Rattle.elf_image.specs.Images.{ImageContents}
 use Rattle.hunt_command.specs.Findings.{FindingState, FindingsState, noted}
-use Rattle.hunt_command.specs.Hunts.{AreFound, AreResults, IsResultOf, ResultState, found_from, greater, greatest_from, number_at}
+use Rattle.hunt_command.specs.Hunts.{AreFound, IsResultOf, ResultState, found_from, greater, greatest_from, number_at}
 
 found_more : (start place : ℕ) (fs : List FindingState) (rs : List ResultState) (r : ResultState) →
     found_from start place fs (rs ++ r ∷ []) ≡ noted (found_from start place fs rs) r.text (number_at start (place + length rs))

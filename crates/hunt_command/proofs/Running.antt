@@ -8,7 +8,7 @@ use Rattle.trace_file.specs.Traces.{HaveRecords}
 use Rattle.accounts.proofs.Lemmas.{is_spelled, none_stalls, only_memory}
 use Rattle.accounts.specs.trace_replay.Replays.{StallsAt}
 use Rattle.machine_runs.specs.Machines.{MachineLists}
-use Rattle.machine_runs.specs.Runs.{IsOpening, IsReplay}
+use Rattle.machine_runs.specs.Runs.{IsOpening}
 use Rattle.machine_log.specs.Logs.{IsKept, Log}
 use Rattle.machine_sweep.specs.Sweeps.{opened}
 use Rattle.machine_sweep.specs.declared.sweeping.SweepEnd.{SweepEnd}

@@ -1,5 +1,5 @@
 -- Different results, and how often each came.
-use Rattle.std.specs.Prelude.{ℕ, zero, suc, ◌+◌, ◌≤◌, All, List, [], ◌∷◌, ◌++◌, Option, Some, None, bytes_eq, codes, if◌then◌else◌, slice_get, slice_set}
+use Rattle.std.specs.Prelude.{ℕ, suc, ◌+◌, ◌≤◌, All, List, [], ◌∷◌, ◌++◌, Option, Some, None, bytes_eq, codes, if◌then◌else◌, slice_get, slice_set}
 use Rattle.std.specs.Fmt.{decimal}
 
 -- the text of a result, how many runs came to it, and the number of the first of them

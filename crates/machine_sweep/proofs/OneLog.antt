@@ -1,20 +1,20 @@
 -- The steps that a run enters are a function of the machine's size, the image and the most steps that its sweep enters.
-use Rattle.std.proofs.Common.{◌≡◌, ℕ, zero, suc, ◌+◌, ◌-◌, ◌^◌, ◌<◌, ◌≤◌, ◌⊎◌, inl, inr, List, [], ◌∷◌, ◌++◌, length, take, drop, refl, sym, ap, ap₂, ◌∙◌}
+use Rattle.std.proofs.Common.{◌≡◌, ℕ, zero, suc, ◌+◌, ◌-◌, ◌<◌, ◌≤◌, ◌⊎◌, inl, inr, List, [], ◌∷◌, ◌++◌, take, drop, refl, sym, ap, ◌∙◌}
 use Rattle.std.proofs.Common.{subst, arith, append_assoc}
 use Rattle.std.proofs.lemmas.Bool.{cases_lt, cases_eq}
-use Rattle.std.proofs.lemmas.List.{append-nil, length-append, take-append-drop, take_at}
+use Rattle.std.proofs.lemmas.List.{append-nil, take-append-drop}
 use Rattle.flat_machine.specs.declared.config.Config.{Config}
 use Rattle.machine_runs.specs.elf_image.Images.{ImageContents}
 use Rattle.steps.specs.declared.step.Step.{Step}
-use Rattle.machine_runs.specs.Machines.{MachineLists, machine_of}
-use Rattle.machine_runs.specs.Runs.{IsReplay, all_after, answer_after}
-use Rattle.machine_log.specs.Logs.{Log, entered}
+use Rattle.machine_runs.specs.Machines.{MachineLists}
+use Rattle.machine_runs.specs.Runs.{IsReplay}
+use Rattle.machine_log.specs.Logs.{Log}
 use Rattle.machine_sweep.specs.Rounds.{round}
-use Rattle.machine_sweep.specs.Sweeps.{EndsAt, IsFault, IsOver, IsWholeRun, RunsAfter, entered_of, rounds, status_after}
+use Rattle.machine_sweep.specs.Sweeps.{EndsAt, IsWholeRun, entered_of, rounds}
 use Rattle.machine_sweep.specs.declared.sweeping.SweepEnd.{SweepEnd}
 use Rattle.machine_sweep.specs.declared.sweeping.SweepEnd.TheVariants.{Over, Budget}
 use Rattle.machine_sweep.proofs.Alike.{GoesOnFrom, HasEnded, WasAskedFor, goes_on}
-use Rattle.machine_sweep.proofs.Own.{AreOwn, own_asked}
+use Rattle.machine_sweep.proofs.Own.{own_asked}
 
 -- ---- of two sweeps one goes on where the other stops
 

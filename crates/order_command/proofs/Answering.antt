@@ -1,6 +1,6 @@
 -- What a machine answers that takes an entry, and what it becomes: a step of the flat machine.
 use Rattle.std.proofs.Common.{◌≡◌, ℕ, ◌^◌, ◌<◌, Bool, true, false, Option, Some, None, nat_lt, lt-ltb, refl, sym, ap, ◌∙◌, subst}
-use Rattle.std.specs.Prelude.{length, ◌&&◌, if◌then◌else◌}
+use Rattle.std.specs.Prelude.{◌&&◌, if◌then◌else◌}
 use Rattle.flat_machine.specs.declared.config.Config.{Config}
 use Rattle.flat_machine.specs.declared.event.Event.{Event}
 use Rattle.flat_machine.specs.declared.event.Event.TheVariants as event

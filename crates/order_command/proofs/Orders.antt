@@ -1,6 +1,6 @@
 -- The lines of the order of a whole run, by machines that open on its image.
-use Rattle.std.proofs.Common.{◌≡◌, ℕ, ◌^◌, ◌<◌, List, [], sym, ap, ap₂, ◌∙◌, subst}
-use Rattle.std.specs.Prelude.{map, slice_index_or}
+use Rattle.std.proofs.Common.{◌≡◌, ℕ, ◌^◌, ◌<◌, List, sym, ap, ap₂, ◌∙◌, subst}
+use Rattle.std.specs.Prelude.{slice_index_or}
 use Rattle.std.proofs.Math.ListN.{get_or-map}
 use Rattle.flat_machine.specs.declared.config.Config.{Config}
 use Rattle.flat_machine.specs.declared.poke.Entry.{Entry}
@@ -8,20 +8,17 @@ use Rattle.flat_machine.specs.Flat.{flat_run}
 use Rattle.flat_machine.specs.State.{FlatState, Processor}
 use Rattle.elf_image.specs.Images.{ImageContents}
 use Rattle.elf_image.specs.Openings.{opening as flat_opening}
-use Rattle.machine_runs.specs.serialization.Order.{ran}
 use Rattle.steps.specs.declared.step.Step.{Step}
 use Rattle.machine_runs.specs.machine_ports.Ports.{PortState}
-use Rattle.machine_runs.specs.machine_program.Processors.{no_port, no_processor, sizes_of, program}
-use Rattle.machine_runs.specs.machine_program.Steps.{named}
-use Rattle.machine_runs.specs.machine_program.Theory as theory
-use Rattle.machine_runs.specs.Machines.{MachineLists, machine_of}
+use Rattle.machine_runs.specs.machine_program.Processors.{no_port, no_processor}
+use Rattle.machine_runs.specs.Machines.{MachineLists}
 use Rattle.machine_runs.specs.Runs.{IsOpening, flat_state, passed}
 use Rattle.machine_runs.specs.Standing.{HasFaulted, IsFaulted, processor_of}
 use Rattle.order_lines.specs.declared.choice.Choice.{Choice}
 use Rattle.order_lines.specs.Lines.{lines_of}
 use Rattle.accounts.specs.Reports.{HasFlatFaulted, IsExitOf, flat_processor}
 use Rattle.accounts.specs.Explained.{IsBroughtHome}
-use Rattle.order_command.specs.Orders.{AreFlatLines, AreOrderLines, order_of}
+use Rattle.order_command.specs.Orders.{AreOrderLines, order_of}
 
 -- ---- faults
 

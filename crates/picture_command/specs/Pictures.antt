@@ -1,5 +1,5 @@
 -- What the command prints: a picture of a machine behind steps. What it shows is not said here.
-use Rattle.std.specs.Prelude.{◌≡◌, ℕ, List, Option, Some, None, take}
+use Rattle.std.specs.Prelude.{ℕ, List, Option, Some, None, take}
 use Rattle.flat_machine.specs.declared.config.Config.{Config}
 use Rattle.elf_image.specs.Images.{ImageContents}
 use Rattle.steps.specs.declared.step.Step.{Step}

@@ -1,18 +1,13 @@
 -- The steps that a run enters are a function of the machine's size, the image, the run's number and the most steps and turns.
-use Rattle.std.proofs.Common.{◌≡◌, ℕ, ◌+◌, ◌<◌, ◌≤◌, ◌⊎◌, inl, inr, List, [], ◌∷◌, ◌++◌, length, take, refl, sym, ap, ap₂, ◌∙◌, subst, arith}
-use Rattle.std.proofs.lemmas.Bool.{cases_lt}
-use Rattle.std.proofs.lemmas.List.{length-append, take_at}
+use Rattle.std.proofs.Common.{◌≡◌, ℕ, ◌+◌, ◌≤◌, ◌⊎◌, inl, inr, List, [], ◌∷◌, ◌++◌, length, refl, sym, ap, ap₂, ◌∙◌, subst, arith}
+use Rattle.std.proofs.lemmas.List.{length-append}
 use Rattle.machine_log.specs.flat_machine.declared.config.Config.{Config}
-use Rattle.machine_log.specs.flat_machine.State.{FlatState}
 use Rattle.machine_sweep.specs.elf_image.Images.{ImageContents}
-use Rattle.machine_sweep.specs.elf_image.Openings.{opening as flat_opening}
 use Rattle.steps.specs.declared.step.Step.{Step}
-use Rattle.machine_runs.specs.Draining.{drain_steps}
 use Rattle.machine_runs.specs.Machines.{MachineLists}
-use Rattle.machine_runs.specs.Runs.{IsReplay, all_after, events_of}
+use Rattle.machine_runs.specs.Runs.{IsReplay}
 use Rattle.machine_log.specs.Logs.{Log}
 use Rattle.machine_sweep.specs.Own.{AreOwn}
-use Rattle.machine_sweep.specs.Sweeps.{IsOver, entered_of}
 use Rattle.machine_sweep.specs.declared.sweeping.SweepEnd.{SweepEnd}
 use Rattle.machine_sweep.specs.declared.sweeping.SweepEnd.TheVariants.{Over, Budget}
 use Rattle.machine_sweep.proofs.Lemmas.{GoesOnFrom, HasEnded, WasAskedFor, goes_on}

@@ -1,5 +1,5 @@
 -- A run of the image that a file means, by the sweep, and why there is none.
-use Rattle.std.specs.Prelude.{◌≡◌, ℕ, List, Option}
+use Rattle.std.specs.Prelude.{ℕ, List, Option}
 use Rattle.flat_machine.specs.declared.config.Config.{Config}
 use Rattle.flat_machine.specs.Limits.{IsWithinLimits}
 use Rattle.machine_sweep.specs.elf_image.Files.{IsImageOf, IsImageRefusal}

@@ -1,8 +1,8 @@
 -- Which step makes which lists of a network longer: those of requests and records, at the stage where a request moves, and those of
 -- replies, where a reply moves.
 use Rattle.std.proofs.Common.{◌≡◌, ℕ, suc, ◌<◌, ◌≤◌, ◌%◌, Bool, true, false, ◌⊎◌, inl, inr, nat_lt, List, [], ◌∷◌, ◌++◌, length, drop}
-use Rattle.std.proofs.Common.{Option, Some, None, refl, sym, ap, ◌∙◌, subst, arith}
-use Rattle.std.specs.Prelude.{◌==◌, filter, if◌then◌else◌, not}
+use Rattle.std.proofs.Common.{Option, Some, None, refl, sym, ◌∙◌, subst, arith}
+use Rattle.std.specs.Prelude.{◌==◌, if◌then◌else◌, not}
 use Rattle.indexed_network.specs.omega_wires.Wires.{wire_after, wire_before}
 use Rattle.flat_machine.specs.declared.config.Config.{Config}
 use Rattle.machine_runs.specs.messages.declared.message.Request.{Request}

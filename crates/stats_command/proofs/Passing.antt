@@ -14,14 +14,14 @@ use Rattle.steps.specs.declared.step.Step.TheVariants as step
 use Rattle.steps.specs.declared.step.Outcome.{Outcome}
 use Rattle.machine_runs.specs.machine_program.Theory as theory
 use Rattle.machine_runs.specs.machine_program.Processors.{Told}
-use Rattle.machine_runs.specs.machine_program.Steps.{after, machine_of_parts}
+use Rattle.machine_runs.specs.machine_program.Steps.{machine_of_parts}
 use Rattle.machine_runs.specs.Machines.{MachineLists, IsStep, machine_of}
 use Rattle.machine_runs.specs.Runs.{IsRun, all_after}
-use Rattle.run_counts.specs.Longest.{at_stage, no_longest, of_held, with_longest}
+use Rattle.run_counts.specs.Longest.{at_stage, no_longest, of_held}
 use Rattle.run_counts.specs.declared.longest.Held.{Held}
 use Rattle.run_counts.specs.declared.longest.Held.TheVariants.{Requests, Records, Replies}
 use Rattle.run_counts.specs.declared.longest.Longest.{Longest}
-use Rattle.stats_command.specs.Longest.{AreLongest, IsMet, IsMost, count_of, longest_after, most_of, net_behind, raised}
+use Rattle.stats_command.specs.Longest.{AreLongest, IsMet, IsMost, count_of, longest_after, most_of, net_behind}
 use Rattle.stats_command.proofs.Growing.{Grows, grows_there}
 
 -- ---- the most of numbers

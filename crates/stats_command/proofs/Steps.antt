@@ -8,7 +8,7 @@ use Rattle.machine_runs.specs.Runs.{IsRun}
 use Rattle.told_steps.specs.Answers.{Answer, answer}
 use Rattle.step_answers.specs.Answers.{AnswersBegin, AnswersGoOn, answers_of}
 use Rattle.told_steps.specs.Groups.{GroupsGoOn, groups_after, groups_of, no_groups}
-use Rattle.run_counts.specs.Counting.{Noted, NotesGoOn, note, noted_of, size_of}
+use Rattle.run_counts.specs.Counting.{NotesGoOn, note, noted_of, size_of}
 use Rattle.run_counts.specs.Counts.{AreCounts, CountsGoOn, CountsState, counts_after, no_counts}
 use Rattle.run_counts.specs.Longest.{no_longest}
 use Rattle.run_counts.specs.declared.longest.Held.TheVariants.{Requests, Records, Replies}

@@ -1,4 +1,4 @@
-use Rattle.std.proofs.Common.{◌≡◌, ◌∙◌, ◌++◌, ap, sym, subst}
+use Rattle.std.proofs.Common.{◌∙◌, ◌++◌, ap, sym, subst}
 use Rattle.std.specs.Vec.{vec_capacity}
 use Rattle.machine_runs.specs.Draining.{drain_steps}
 use Rattle.machine_runs.specs.Runs.{IsReplay}

@@ -1,4 +1,4 @@
-use Rattle.std.proofs.Common.{◌≡◌, ◌∙◌, arith, length, not, sym, ap, true}
+use Rattle.std.proofs.Common.{◌∙◌, arith, length, not, sym, ap}
 use Rattle.std.proofs.lemmas.Bool.{and_from}
 use Rattle.machine_runs.specs.Runs.{flat_state}
 use Rattle.debug_replies.proofs.Smallest.{smallest_is}

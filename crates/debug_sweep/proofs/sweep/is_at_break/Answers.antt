@@ -1,4 +1,4 @@
-use Rattle.std.proofs.Common.{◌<◌, ◌≤◌, ◌^◌, ◌∙◌, sym, arith}
+use Rattle.std.proofs.Common.{◌<◌, ◌^◌, ◌∙◌, sym, arith}
 use Rattle.std.specs.Prelude.{not}
 use Rattle.machine_runs.specs.machine_program.Processors.{port_at}
 use Rattle.machine_runs.specs.Machines.{away_at}

@@ -1,6 +1,4 @@
-use Rattle.std.proofs.Common.{◌∙◌}
 use Rattle.std.specs.Prelude.{string_bytes}
-use Rattle.machine_runs.specs.Runs.{flat_state}
 use Rattle.order_command.proofs.Orders.{are_lines}
 use Rattle.order_command.proofs.command.lines_of_entries.Goals as goal
 

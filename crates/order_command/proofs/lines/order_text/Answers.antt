@@ -1,6 +1,6 @@
 use Rattle.std.proofs.Common.{List, take, slice_index_or, sym, subst, arith}
 use Rattle.std.specs.Prelude.{string_bytes}
-use Rattle.std.proofs.lemmas.List.{length-take-le, take_all, take_more}
+use Rattle.std.proofs.lemmas.List.{length-take-le, take_more}
 use Rattle.flat_machine.specs.declared.poke.Entry.{Entry}
 use Rattle.flat_machine.specs.declared.poke.Entry.TheVariants as entry
 use Rattle.order_command.proofs.Telling.{AreTold, none_told, one_told}

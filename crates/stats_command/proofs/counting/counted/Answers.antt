@@ -1,10 +1,7 @@
-use Rattle.std.proofs.Common.{◌≡◌, List, take, slice_index_or, sym, subst, ◌∙◌, arith}
-use Rattle.std.proofs.lemmas.List.{length-take-le, take_all, take_more}
+use Rattle.std.proofs.Common.{List, take, slice_index_or, sym, subst}
+use Rattle.std.proofs.lemmas.List.{take_more}
 use Rattle.steps.specs.declared.step.Step.{Step}
 use Rattle.steps.specs.declared.step.Step.TheVariants as step
-use Rattle.run_counts.specs.Counting.{noted_of}
-use Rattle.run_counts.specs.Counts.{AreCounts}
-use Rattle.step_answers.specs.Answers.{answers_of}
 use Rattle.stats_command.proofs.Steps.{AreCounted, none_counted, one_counted}
 use Rattle.stats_command.proofs.counting.counted.Goals as goal
 

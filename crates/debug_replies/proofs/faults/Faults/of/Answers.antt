@@ -1,4 +1,4 @@
-use Rattle.std.proofs.Common.{◌≡◌, ◌<◌, ◌≤◌, ◌+◌, ◌∙◌, length, arith, sym, rules, ℕ, false}
+use Rattle.std.proofs.Common.{◌≡◌, ◌<◌, ◌∙◌, length, arith, rules}
 use Rattle.std.proofs.lemmas.List.{length-set}
 use Rattle.machine_runs.specs.Runs.{flat_state}
 use Rattle.debug_replies.proofs.Faulted.{all_told, none_flagged, rest_more, told_more}

@@ -1,6 +1,6 @@
 use Rattle.std.proofs.Common.{◌≡◌, List, [], refl, sym, ◌∙◌, ap, subst}
 use Rattle.flat_machine.specs.declared.config.Config.{Config}
-use Rattle.machine_runs.specs.messages.Network.{IsEmptyNet, Net, empty_net}
+use Rattle.machine_runs.specs.messages.Network.{IsEmptyNet, empty_net}
 use Rattle.indexed_network.specs.omega_network.Networks.{net_of}
 use Rattle.steps.specs.declared.step.Step.{Step}
 use Rattle.machine_runs.specs.machine_program.Theory as theory

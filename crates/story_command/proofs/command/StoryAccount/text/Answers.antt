@@ -1,5 +1,4 @@
 use Rattle.std.proofs.Common.{List, ◌∙◌, ap, subst}
-use Rattle.std.specs.Prelude.{string_bytes}
 use Rattle.steps.specs.declared.step.Step.{Step}
 use Rattle.machine_runs.specs.Runs.{IsRun}
 use Rattle.step_answers.specs.Answers.{answers_of}
