@@ -170,6 +170,13 @@ impl Core {
             .set_number(address % REGION_BYTES, Size::Byte, u32::from(value));
     }
 
+    /// Sets the number that the processor reads as its own, below 64.
+    pub fn set_number(&mut self, number: u8)
+        ensures { self.new ≡ record self.old { setting = record self.old.setting { number = number } } }
+    {
+        self.setting.number = number;
+    }
+
     /// Records why the processor stopped.
     pub fn stop(&mut self, cause: Cause)
         ensures { self.new ≡ record self.old { state = record self.old.state { status = status_of cause } } }
