@@ -23,7 +23,7 @@ module _ (at : ℕ → Setting) (code : List ℕ) (kept : Station → Station) (
   abbrev SettlesTo : (ℕ → ℕ) → Standing → Type 0
   SettlesTo c t = SettlesIn at code kept (flat_step m (entry.Processor k)) (consoles_after consoles (one_events m k)) c t
 
-  -- where it takes no turn
+  -- If the machine takes no turn, it settles to s as before.
   pub idle_turn : flat_step m (entry.Processor k) ≡ m → one_events m k ≡ [] →
       SettlesIn at code kept (flat_step m (entry.Processor k)) (consoles_after consoles (one_events m k)) counts s
   idle_turn same none =
@@ -40,35 +40,39 @@ module _ (at : ℕ → Setting) (code : List ℕ) (kept : Station → Station) (
     turn_is : (x : Turn) → turn_of (at k) code p ≡ x → turn_of (setting_of m k) m.code p ≡ x
     turn_is x e = let same : turn_of (setting_of m k) m.code p ≡ turn_of (at k) code p = λ i. turn_of (h.settings k i) (h.code_is i) p in same ∙ e
 
+    -- What the turn x makes of the flat machine.
     pub becomes : (x : Turn) → turn_of (at k) code p ≡ x → flat_step m (entry.Processor k) ≡ with_taken m k (taken p m.shared x)
     becomes x e = stepped m k p there runs ∙ ap (λ y. with_taken m k (taken p m.shared y)) (turn_is x e)
 
     shows : (x : Turn) → turn_of (at k) code p ≡ x → one_events m k ≡ (k, (taken p m.shared x).2) ∷ []
     shows x e = showed m k p there runs ∙ ap (λ y. (k, (taken p m.shared y).2) ∷ []) (turn_is x e)
 
+    -- What the processor has printed behind the turn x.
     pub printed : (x : Turn) → turn_of (at k) code p ≡ x → later k ≡ printed_after (consoles k) (taken p m.shared x).2
     printed x e = ap (λ es. consoles_after consoles es k) (shows x e) ∙ console_here consoles k (taken p m.shared x).2
 
     others : (x : Turn) → turn_of (at k) code p ≡ x → (j : ℕ) → j ≢ k → later j ≡ consoles j
     others x e j ne = ap (λ es. consoles_after consoles es j) (shows x e) ∙ console_other consoles k (taken p m.shared x).2 j ne
 
+    -- If the turn retires an instruction that refers to no shared word, the machine settles to s, one turn nearer.
     pub retiring_turn : (q : Processor) (r : Retired) → turn_of (at k) code p ≡ Retires q r → Nearer
     retiring_turn q r e =
         let near = own_counted at code kept m consoles s k p later counts h there (others (Retires q r) e) (behind mine (q, r)) runs
         (λ w. subst IsReference e w) (ap (alone_by mine) e) (printed (Retires q r) e) in
         (near.0, near.1, subst (λ n. SettlesIn at code kept n later (put counts k near.0) s) (sym (becomes (Retires q r) e)) near.2)
 
+    -- So it does if the turn stops the processor.
     pub stopping_turn : (c : _) → turn_of (at k) code p ≡ Stops c → Nearer
     stopping_turn c e =
         let near = own_counted at code kept m consoles s k p later counts h there (others (Stops c) e) (stopped_by mine c) runs
         (λ w. subst IsReference e w) (ap (alone_by mine) e) (printed (Stops c) e) in
         (near.0, near.1, subst (λ n. SettlesIn at code kept n later (put counts k near.0) s) (sym (becomes (Stops c) e)) near.2)
 
-    -- the station of a processor that is about to refer to a word
+    -- If the processor is about to refer to a word, s has what is kept of its station as it is.
     pub settled_there : IsSettled (at k) code p → slice_get s.stations k ≡ Some (kept (station_of p (consoles k)))
     settled_there settled = (h.each k p there).0 ∙ ap (λ z. Some (kept z)) (settled_stays (counts k) (at k) code mine settled)
 
-    -- by a move that another station, of which the same is kept, makes
+    -- If the turn is a reference, the machine settles to where a move of a station leads of which the same is kept.
     pub reaching_turn : (f : IsForgetful at code kept) (word : ℕ) (change : ℕ → ℕ) (after : ℕ → Processor × Retired) →
         turn_of (at k) code p ≡ Reaches word change after →
         (t : Standing) (move : IsMove at code kept s k t) → SettlesTo (put counts k move.count) t
@@ -99,7 +103,7 @@ module _ (at : ℕ → Setting) (code : List ℕ) (kept : Station → Station) (
             (subst (λ u. SettlesIn at code kept (with_taken m k (taken p m.shared (Reaches move.word move.change after))) later (put counts k move.count) u)
             (sym move.leaves) done)
 
-    -- a settled processor may move
+    -- A processor that is about to refer to a word may move in s.
     pub may_move : (f : IsForgetful at code kept) (word : ℕ) (change : ℕ → ℕ) (after : ℕ → Processor × Retired) →
         turn_of (at k) code p ≡ Reaches word change after → MayMove at code s k
     may_move f word change after e = record {
@@ -117,14 +121,16 @@ module _ (at : ℕ → Setting) (code : List ℕ) (kept : Station → Station) (
 
 -- ---- runs
 
-module _ (at : ℕ → Setting) (code : List ℕ) (kept : Station →
-    Station) (f : IsForgetful at code kept) (states : List Standing) (closed : IsClosed at code kept states) where
-  Covered : FlatState → (ℕ → List ℕ) → Type 0
-  Covered m consoles = (t : Standing) × IsIn states t × Settles at code kept m consoles t
+-- Here a set is what holds of its states.
+module _ (at : ℕ → Setting) (code : List ℕ) (kept : Station → Station) (f : IsForgetful at code kept) (In : Standing → Type 0)
+    (closed : (s : Standing) (k : ℕ) (a : Station) → In s → slice_get s.stations k ≡ Some a → is_running a.processor.status ≡ true →
+    IsReference (turn_of (at k) code a.processor) → (t : Standing) × IsMove at code kept s k t × In t) where
+  -- The flat machine settles to a state of the set.
+  abbrev pub Covered : FlatState → (ℕ → List ℕ) → Type 0
+  Covered m consoles = (t : Standing) × In t × Settles at code kept m consoles t
 
-  covered_step : (m : FlatState) (consoles : ℕ → List ℕ) (s : Standing) (k : ℕ) → IsIn states s → Settles at code kept m consoles s →
+  covered_step : (m : FlatState) (consoles : ℕ → List ℕ) (s : Standing) (k : ℕ) → In s → Settles at code kept m consoles s →
       Covered (flat_step m (entry.Processor k)) (consoles_after consoles (one_events m k))
-  unfolding Covered
   covered_step m consoles s k inside settles = by_processor (slice_get m.processors k) refl
     where
       both : (counts : ℕ → ℕ) × SettlesIn at code kept m consoles counts s
@@ -133,7 +139,7 @@ module _ (at : ℕ → Setting) (code : List ℕ) (kept : Station →
       h : SettlesIn at code kept m consoles both.0 s
       h = both.1
 
-      stays_in : (t : Standing) → IsIn states t → (c : ℕ → ℕ) →
+      stays_in : (t : Standing) → In t → (c : ℕ → ℕ) →
           SettlesIn at code kept (flat_step m (entry.Processor k)) (consoles_after consoles (one_events m k)) c t →
           Covered (flat_step m (entry.Processor k)) (consoles_after consoles (one_events m k))
       stays_in t within c there = (t, within, uncounted at code kept (flat_step m (entry.Processor k)) (consoles_after consoles (one_events m k)) t c there)
@@ -166,9 +172,9 @@ module _ (at : ℕ → Setting) (code : List ℕ) (kept : Station →
           (idle_turn at code kept m consoles both.0 s k h (absent m k none) (absent_silent m k none))
       by_processor (Some p) there = by_running p there (is_running p.status) refl
 
-  covered_run : (order : List ℕ) (m : FlatState) (consoles : ℕ → List ℕ) (s : Standing) → IsIn states s → Settles at code kept m consoles s →
+  -- If the flat machine settles to a state of a closed set, it does so after each order of turns.
+  pub covered_run : (order : List ℕ) (m : FlatState) (consoles : ℕ → List ℕ) (s : Standing) → In s → Settles at code kept m consoles s →
       Covered (flat_run m (turns order)) (consoles_after consoles (flat_events m (turns order)))
-  unfolding Covered
   covered_run [] m consoles s inside h = (s, inside, h)
   covered_run (k ∷ ks) m consoles s inside h =
       let next : Covered (flat_step m (entry.Processor k)) (consoles_after consoles (one_events m k)) = covered_step m consoles s k inside h in
@@ -179,8 +185,8 @@ module _ (at : ℕ → Setting) (code : List ℕ) (kept : Station →
             (sym (consoles_more consoles (one_events m k) (flat_events (flat_step m (entry.Processor k)) (turns ks)))) after.2,
       )
 
--- where each processor is settled, nothing is left to do alone
 module _ (at : ℕ → Setting) (code : List ℕ) (kept : Station → Station) where
+  -- If each processor is settled, the state to which the machine settles is what is kept of it.
   pub settled_kept : (m : FlatState) (consoles : ℕ → List ℕ) (s : Standing) → Settles at code kept m consoles s →
       ((k : ℕ) (p : Processor) → slice_get m.processors k ≡ Some p → IsSettled (at k) code p) → IsKeptOf kept m consoles s
   settled_kept m consoles s h rests = record {
@@ -189,27 +195,28 @@ module _ (at : ℕ → Setting) (code : List ℕ) (kept : Station → Station) w
     each = λ k p e. let stood = h.each k p e in stood.1 ∙ ap (λ z. Some (kept z)) (settled_stays stood.0 (at k) code (station_of p (consoles k)) (rests k p e));
   }
 
-stopped_settled : (at : ℕ → Setting) (code : List ℕ) (m : FlatState) → HasStopped m → (k : ℕ) (p : Processor) → slice_get m.processors k ≡ Some p →
+-- If all processors have stopped, each is settled.
+pub stopped_settled : (at : ℕ → Setting) (code : List ℕ) (m : FlatState) → HasStopped m → (k : ℕ) (p : Processor) → slice_get m.processors k ≡ Some p →
     IsSettled (at k) code p
 stopped_settled at code m stopped k p e runs = let f = stopped k p e in absurd (cc)
 
+-- A closed set has what is kept of each end.
 pub ends_are_in : (at : ℕ → Setting) (code : List ℕ) (kept : Station → Station) (states : List Standing) (m : FlatState) (consoles : ℕ →
     List ℕ) (s : Standing) (order : List ℕ) →
     IsForgetful at code kept → IsClosed at code kept states → IsIn states s → Settles at code kept m consoles s → HasStopped (flat_run m (turns order)) →
     (t : Standing) × IsIn states t × IsKeptOf kept (flat_run m (turns order)) (consoles_after consoles (flat_events m (turns order))) t
-unfolding Covered
 ends_are_in at code kept states m consoles s order f closed inside h stopped =
-    let last : Covered at code kept f states closed (flat_run m (turns order)) (consoles_after consoles (flat_events m (turns order))) =
-    covered_run at code kept f states closed order m consoles s inside h in (
+    let last : Covered at code kept f (IsIn states) closed (flat_run m (turns order)) (consoles_after consoles (flat_events m (turns order))) =
+    covered_run at code kept f (IsIn states) closed order m consoles s inside h in (
       last.0,
       last.1,
       settled_kept at code kept (flat_run m (turns order)) (consoles_after consoles (flat_events m (turns order))) last.0 last.2
           (stopped_settled at code (flat_run m (turns order)) stopped),
     )
 
+-- No order of turns leaves a closed set.
 pub not_left : (at : ℕ → Setting) (code : List ℕ) (kept : Station → Station) (states : List Standing) (m : FlatState) (consoles : ℕ →
     List ℕ) (s : Standing) (order : List ℕ) →
     IsForgetful at code kept → IsClosed at code kept states → IsIn states s → Settles at code kept m consoles s →
     (t : Standing) × IsIn states t × Settles at code kept (flat_run m (turns order)) (consoles_after consoles (flat_events m (turns order))) t
-unfolding Covered
-not_left at code kept states m consoles s order f closed inside h = covered_run at code kept f states closed order m consoles s inside h
+not_left at code kept states m consoles s order f closed inside h = covered_run at code kept f (IsIn states) closed order m consoles s inside h

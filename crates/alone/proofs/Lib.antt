@@ -4,3 +4,8 @@ pub mod Reaching
 pub mod Forgetting
 pub mod Bounding
 pub mod Moving
+pub mod Numbers
+pub mod Exchanging
+pub mod UpTo
+pub mod Results
+pub mod Lemmas

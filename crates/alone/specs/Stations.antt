@@ -1,4 +1,5 @@
--- Processors with what they have printed, and what each does alone: up to its next reference to a shared word, or its stop.
+-- Processors with what they have printed, and what each does alone: up to its next reference to a shared word, or its
+-- stop.
 use Rattle.std.specs.Prelude.{◌≡◌, ℕ, zero, suc, true, ◌==◌, List, [], ◌∷◌, if◌then◌else◌}
 use Rattle.flat_machine.specs.declared.setting.Setting.{Setting}
 use Rattle.flat_machine.specs.declared.event.Event.{Event}
@@ -20,7 +21,8 @@ printed_after console (event.Stopped cause) = console
 -- the console of a processor behind these events, of which it takes its own
 abbrev pub console_after : (k : ℕ) → List ℕ → List (ℕ × Event) → List ℕ
 console_after k console [] = console
-console_after k console ((j, shown) ∷ events) = console_after k (if j == k then printed_after console shown else console) events
+console_after k console ((j, shown) ∷ events) =
+    console_after k (if j == k then printed_after console shown else console) events
 
 -- those of all processors
 abbrev pub consoles_after : (ℕ → List ℕ) → List (ℕ × Event) → ℕ → List ℕ

@@ -1,8 +1,9 @@
 //! Laws of states between references: each is the contract of a function that does nothing.
 
-ghost use Rattle.alone.specs.Laws.{ClosedSetsAreNotLeft, ClosedSetsHaveAllEnds, MovesAreTurns, MovesOfWhatIsKept, ShortSchedulesEnd, StoppedAreForgotten};
+ghost use Rattle.alone.specs.Laws.{ClosedSetsAreNotLeft, ClosedSetsHaveAllEnds, MovesAreTurns, MovesOfWhatIsKept};
+ghost use Rattle.alone.specs.Laws.{ShortSchedulesEnd, StoppedAreForgotten};
 
-/// Where a set of states has the one to which a flat machine settles, and with each state those after
+/// If a set of states has the one to which a flat machine settles, and with each state those after
 /// a reference of each of its processors, it has each end of that machine: what is kept of each state
 /// in which all processors have stopped, and of what they have printed.
 pub fn closed_sets_have_all_ends()
@@ -30,7 +31,7 @@ pub fn stopped_processors_can_be_forgotten()
     ensures forgotten { StoppedAreForgotten }
 {}
 
-/// Where references follow one another only so many times, every schedule ends.
+/// If references follow one another only so many times, every schedule ends.
 pub fn short_schedules_end()
     ensures ends { ShortSchedulesEnd }
 {}

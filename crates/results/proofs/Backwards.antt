@@ -37,7 +37,8 @@ use Rattle.machine_runs.specs.Runs.{all_after, events_of}
 use Rattle.machine_runs.specs.Draining.{step_of}
 use Rattle.machine_runs.proofs.Lemmas.{FirstTurn, IsAnswered, IsAsking, IsLone, Named, drain_named, first_turn, lone_goes_on as goes_on, named_again, starts}
 use Rattle.alone.specs.Stations.{turns}
-use Rattle.results.specs.Results.{FinalResult, IsFlatResult, IsOfTheMachine, AreOfTheMachine, stands_after, IsMachineResult}
+use Rattle.alone.specs.Results.{FinalResult, IsFlatResult}
+use Rattle.results.specs.Results.{IsOfTheMachine, AreOfTheMachine, stands_after, IsMachineResult}
 use Rattle.results.proofs.Ending.{found_at, Matches, results_same, none_runs}
 use Rattle.results.proofs.Forwards.{turns_lawful, passes_all, theory_all, matches}
 use Rattle.results.proofs.Shifting.{events_join, events_behind, shift, behind, forget, as_before, all_shifted}

@@ -15,7 +15,8 @@ use Rattle.machine_runs.specs.machine_program.Processors.{Told, no_processor}
 use Rattle.machine_runs.specs.machine_theorem.Flatness.{with_events}
 use Rattle.alone.specs.Stations.{printed_after, console_after, consoles_after}
 use Rattle.alone.specs.Closing.{HasStopped}
-use Rattle.results.specs.Results.{result_with, result_of, printed_by, machine_result, NoneRuns}
+use Rattle.alone.specs.Results.{result_with, result_of}
+use Rattle.results.specs.Results.{printed_by, machine_result, NoneRuns}
 
 -- ---- consoles
 

@@ -37,7 +37,8 @@ use Rattle.machine_runs.proofs.Lemmas.machine.{sound}
 use Rattle.machine_runs.specs.Runs.{all_after, passed}
 use Rattle.machine_runs.proofs.Lemmas.{opens}
 use Rattle.alone.specs.Stations.{turns}
-use Rattle.results.specs.Results.{FinalResult, IsFlatResult, NoneRuns, IsOfTheMachine, AreOfTheMachine, stands_after, IsMachineResult}
+use Rattle.alone.specs.Results.{FinalResult, IsFlatResult}
+use Rattle.results.specs.Results.{NoneRuns, IsOfTheMachine, AreOfTheMachine, stands_after, IsMachineResult}
 use Rattle.results.proofs.Ending.{Matches, results_same, stopped_flat}
 
 -- ---- orders of turns

@@ -2,7 +2,8 @@
 use Rattle.std.specs.Prelude.{◌↔◌}
 use Rattle.machine_runs.specs.machine.Machines.{MachineLists, IsIdle, IsMachine}
 use Rattle.machine_runs.specs.machine.Openings.{flat_state}
-use Rattle.results.specs.Results.{FinalResult, IsFlatResult, IsMachineResult}
+use Rattle.alone.specs.Results.{FinalResult, IsFlatResult}
+use Rattle.results.specs.Results.{IsMachineResult}
 
 -- A machine in which no reference is open has the results of the flat machine that it is, and no others.
 abbrev pub ResultsAreThoseOfTheFlatMachine : Type 0
