@@ -1,2 +1,4 @@
+pub mod Cutting
+pub mod Paths
 pub mod Ranks
 pub mod Schedules

@@ -1,69 +1,57 @@
-//! Ranks of rows, by where their moves lead.
+//! Ranks of states, by where their moves lead.
 
 ghost use Rattle.std.specs.Prelude.{◌≡◌, ◌↔◌, ◌≤◌, ℕ, length, IfOk, IsTrue};
-ghost use Rattle.move_ranks.specs.Ranks.{AreBelow, AreRanks, AreRanksSoFar, HasBelow, HasNone, IsPassed, IsReady, no_move, rank_at};
+ghost use Rattle.move_ranks.specs.Ranks.{AreBelow, AreRanks, AreRanksSoFar, HasBelow, IsPassed, IsReady};
+ghost use Rattle.move_ranks.specs.Ranks.{no_rank, rank_at};
 
-use crate::moves::{NO_MOVE, Targets};
+use crate::successors::Successors;
 use std::alloc::{AllocError, Global};
 
-/// What a row is ranked for.
+/// What a state is ranked for.
 #[derive(Clone, Copy, Debug, PartialEq, Eq, Drop)]
 pub enum Rule {
-    /// Each of its moves leads to a row that is ranked before it.
+    /// Each of its successors is ranked before it.
     Each,
-    /// It has no move, or one of its moves leads to a row that is ranked before it.
+    /// It has no successor, or one of its successors is ranked before it.
     One,
 }
 
-/// What stands for the rank of a row that has none.
-pub const NO_RANK: u32 = NO_MOVE;
+/// What stands for the rank of a state that has none.
+pub const NO_RANK: u32 = u32::MAX;
 
-/// A rank for each row that can have one by the rule, and [`NO_RANK`] for the others.
-pub fn ranks_of(
-    alloc: Global,
-    rule: Rule,
-    moves: &[Targets],
-    processors: u8,
-) -> Result<Vec<u32>, AllocError>
-    requires room { processors ≤ 8 }
-    requires few { length moves.now ≤ no_move }
-    ensures { IfOk result (λ ranks. AreRanks rule moves.now processors ranks.items) }
+/// A rank for each state that can have one by the rule, and [`NO_RANK`] for the others.
+pub fn ranks_of(alloc: Global, rule: Rule, moves: &Successors) -> Result<Vec<u32>, AllocError>
+    requires few { length moves.now ≤ no_rank }
+    ensures { IfOk result (λ ranks. AreRanks rule moves.now ranks.items) }
 {
     let mut ranks = without_ranks(alloc, moves.len())?;
     let mut next = 0;
-    while rank_ready(rule, moves, processors, &mut ranks, &mut next) {}
+    while rank_ready(rule, moves, &mut ranks, &mut next) {}
     Ok(ranks)
 }
 
-/// So many rows without a rank.
+/// So many states without a rank.
 fn without_ranks(alloc: Global, count: usize) -> Result<Vec<u32>, AllocError>
     ensures all { IfOk result (λ ranks. length ranks.items ≡ count) }
-    ensures none { IfOk result (λ ranks. (i : ℕ) → no_move ≤ rank_at ranks.items i) }
+    ensures none { IfOk result (λ ranks. (i : ℕ) → no_rank ≤ rank_at ranks.items i) }
 {
     let mut ranks = Vec::new(alloc);
     ranks.resize(count, NO_RANK)?;
     Ok(ranks)
 }
 
-/// Ranks each row that is ready, from the last to the first, and says whether there was one.
-fn rank_ready(
-    rule: Rule,
-    moves: &[Targets],
-    processors: u8,
-    ranks: &mut Vec<u32>,
-    next: &mut u32,
-) -> bool
-    requires room { processors ≤ 8 }
-    requires few { length moves.now ≤ no_move }
-    requires ranks { AreRanksSoFar rule moves.now processors ranks.old.items next.old }
-    ensures ranks { AreRanksSoFar rule moves.now processors ranks.new.items next.new }
-    ensures passed { IsPassed rule moves.now processors ranks.old.items ranks.new.items 0 result }
+/// Ranks each state that is ready, from the last to the first, and says whether there was one.
+fn rank_ready(rule: Rule, moves: &Successors, ranks: &mut Vec<u32>, next: &mut u32) -> bool
+    requires few { length moves.now ≤ no_rank }
+    requires ranks { AreRanksSoFar rule moves.now ranks.old.items next.old }
+    ensures ranks { AreRanksSoFar rule moves.now ranks.new.items next.new }
+    ensures passed { IsPassed rule moves.now ranks.old.items ranks.new.items 0 result }
 {
     let mut at = moves.len();
     let mut is_found = false;
     while at > 0 {
         at -= 1;
-        if ranks[at] == NO_RANK && is_ready(rule, &moves[at], processors, ranks.as_slice()) {
+        if ranks[at] == NO_RANK && is_ready(rule, moves.of(at), ranks.as_slice()) {
             ranks[at] = *next;
             *next += 1;
             is_found = true;
@@ -72,62 +60,38 @@ fn rank_ready(
     is_found
 }
 
-/// Whether a row can be ranked whose moves are these.
-fn is_ready(rule: Rule, targets: &Targets, processors: u8, ranks: &[u32]) -> bool
-    requires room { processors ≤ 8 }
-    ensures { IsTrue result ↔ IsReady rule targets.now processors ranks.now no_move }
+/// Whether a state can be ranked that has these successors.
+fn is_ready(rule: Rule, successors: &[u32], ranks: &[u32]) -> bool
+    ensures { IsTrue result ↔ IsReady rule successors.now ranks.now no_rank }
 {
     match rule {
-        Rule::Each => are_ranked(targets, processors, ranks),
-        Rule::One => has_none(targets, processors) || has_ranked(targets, processors, ranks),
+        Rule::Each => are_ranked(successors, ranks),
+        Rule::One => successors.is_empty() || has_ranked(successors, ranks),
     }
 }
 
-/// Whether each move leads to a row that is ranked.
-fn are_ranked(targets: &Targets, processors: u8, ranks: &[u32]) -> bool
-    requires room { processors ≤ 8 }
-    ensures { IsTrue result ↔ AreBelow targets.now processors ranks.now no_move }
+/// Whether each successor is ranked.
+fn are_ranked(successors: &[u32], ranks: &[u32]) -> bool
+    ensures { IsTrue result ↔ AreBelow successors.now ranks.now no_rank }
 {
-    for p in 0..processors {
-        let target = targets[usize::from(p)];
-        if target != NO_MOVE && rank_of(ranks, target) == NO_RANK {
-            return false;
-        }
-    }
-    true
+    successors
+        .iter()
+        .all(|state| rank_of(ranks, *state) != NO_RANK)
 }
 
-/// Whether some move leads to a row that is ranked.
-fn has_ranked(targets: &Targets, processors: u8, ranks: &[u32]) -> bool
-    requires room { processors ≤ 8 }
-    ensures { IsTrue result ↔ HasBelow targets.now processors ranks.now no_move }
+/// Whether some successor is ranked.
+fn has_ranked(successors: &[u32], ranks: &[u32]) -> bool
+    ensures { IsTrue result ↔ HasBelow successors.now ranks.now no_rank }
 {
-    for p in 0..processors {
-        let target = targets[usize::from(p)];
-        if target != NO_MOVE && rank_of(ranks, target) != NO_RANK {
-            return true;
-        }
-    }
-    false
+    successors
+        .iter()
+        .any(|state| rank_of(ranks, *state) != NO_RANK)
 }
 
-/// Whether there is no move.
-fn has_none(targets: &Targets, processors: u8) -> bool
-    requires room { processors ≤ 8 }
-    ensures { IsTrue result ↔ HasNone targets.now processors }
-{
-    for p in 0..processors {
-        if targets[usize::from(p)] != NO_MOVE {
-            return false;
-        }
-    }
-    true
-}
-
-/// The rank of the row at a place.
-pub fn rank_of(ranks: &[u32], place: u32) -> u32
+/// The rank of the state at a place.
+fn rank_of(ranks: &[u32], place: u32) -> u32
     ensures is { result ≡ rank_at ranks.now place }
-    ensures small { result ≤ no_move }
+    ensures small { result ≤ no_rank }
 {
     match ranks.get(place as usize) {
         Some(rank) => *rank,

@@ -1,11 +1,11 @@
-//! Whether schedules end, told from where the moves of each row lead.
+//! Whether schedules end, told from the successors of states.
 
-ghost use Rattle.std.specs.Prelude.{◌<◌, ◌≤◌, ℕ, length, IfOk, MatchOption};
-ghost use Rattle.move_ranks.specs.Ranks.{no_move, rank_at};
+ghost use Rattle.std.specs.Prelude.{◌≡◌, ◌<◌, ◌≤◌, ℕ, length, IfOk, MatchOption};
+ghost use Rattle.move_ranks.specs.Ranks.{no_rank, rank_at, unranked};
 ghost use Rattle.move_ranks.specs.Schedules.{AreTold};
 
-use crate::moves::Targets;
 use crate::ranks::{NO_RANK, Rule, ranks_of};
+use crate::successors::Successors;
 use std::alloc::{AllocError, Global};
 
 /// Whether schedules end.
@@ -19,21 +19,20 @@ pub enum Schedules {
     MayBeStuck { states: usize, first: u32 },
 }
 
-/// Whether schedules end that begin at the first row.
-pub fn schedules_of(
-    alloc: Global,
-    moves: &[Targets],
-    processors: u8,
-) -> Result<Schedules, AllocError>
-    requires room { processors ≤ 8 }
-    requires few { length moves.now ≤ no_move }
-    ensures { IfOk result (AreTold moves.now processors) }
+/// Whether schedules end that begin at the first state.
+///
+/// # Errors
+///
+/// [`AllocError`] if there is no memory for the ranks of all states.
+pub fn schedules_of(alloc: Global, moves: &Successors) -> Result<Schedules, AllocError>
+    requires few { length moves.now ≤ no_rank }
+    ensures { IfOk result (AreTold moves.now) }
 {
-    let ends = ranks_of(alloc, Rule::Each, moves, processors)?;
+    let ends = ranks_of(alloc, Rule::Each, moves)?;
     if first_unranked(ends.as_slice()).is_none() {
         return Ok(Schedules::End);
     }
-    let reaches = ranks_of(alloc, Rule::One, moves, processors)?;
+    let reaches = ranks_of(alloc, Rule::One, moves)?;
     match first_unranked(reaches.as_slice()) {
         None => Ok(Schedules::MayEnd),
         Some(first) => Ok(Schedules::MayBeStuck {
@@ -43,11 +42,11 @@ pub fn schedules_of(
     }
 }
 
-/// The place of the first row without a rank.
+/// The place of the first state without a rank.
 fn first_unranked(ranks: &[u32]) -> Option<u32>
-    requires few { length ranks.now ≤ no_move }
-    ensures { MatchOption result ((i : ℕ) → i < length ranks.now → rank_at ranks.now i < no_move)
-        (λ place. (place < length ranks.now) × (no_move ≤ rank_at ranks.now place)) }
+    requires few { length ranks.now ≤ no_rank }
+    ensures { MatchOption result ((i : ℕ) → i < length ranks.now → rank_at ranks.now i < no_rank)
+        (λ place. (place < length ranks.now) × (no_rank ≤ rank_at ranks.now place)) }
 {
     let mut place = 0;
     for rank in ranks {
@@ -59,13 +58,9 @@ fn first_unranked(ranks: &[u32]) -> Option<u32>
     None
 }
 
-/// How many rows have no rank.
-fn count_unranked(ranks: &[u32]) -> usize {
-    let mut count = 0usize;
-    for rank in ranks {
-        if *rank == NO_RANK {
-            count += 1;
-        }
-    }
-    count
+/// How many states have no rank.
+fn count_unranked(ranks: &[u32]) -> usize
+    ensures { result ≡ unranked ranks.now }
+{
+    ranks.iter().filter(|rank| **rank == NO_RANK).count()
 }

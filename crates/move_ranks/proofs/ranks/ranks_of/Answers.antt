@@ -4,5 +4,5 @@ use Rattle.move_ranks.proofs.ranks.ranks_of.Goals as goal
 
 pub loop-rule-init : goal.loop-rule-init
 loop-rule-init c =
-    none_ranked c.args.rule c.args.moves.now c.args.processors c.requires.few c.in_ok-ranks.ranks.items (omega (arith, c.in_ok-ranks.ensures.all))
+    none_ranked c.args.rule c.args.moves.now c.requires.few c.in_ok-ranks.ranks.items (omega (arith, c.in_ok-ranks.ensures.all))
     c.in_ok-ranks.ensures.none
