@@ -53,6 +53,7 @@ module _ (e : Extent) (t u : TableLists) (row : List ℕ) (kept : HasGrown t u) 
       let stations = listed_same (λ p. kept_by u.live (placed_at u (slice_index row p)).station) e.processors
       (λ p. kept_by t.live (placed_at t (slice_index row p)).station)
       (λ p l. λ i. kept_by (sym kept.live i) (sym (kept.same_station (slice_index row p) (h.there p l)) i).station) in
-      let shared = listed_same (slice_index (words_at u (slice_index row 8))) e.shared_words (slice_index (words_at t (slice_index row 8)))
-      (λ i l. ap (λ list. slice_index list i) (sym (kept.same_words (slice_index row 8) h.words))) in
+      let shared = listed_same (slice_index (words_at u (slice_index row e.processors))) e.shared_words
+      (slice_index (words_at t (slice_index row e.processors)))
+      (λ i l. ap (λ list. slice_index list i) (sym (kept.same_words (slice_index row e.processors) h.words))) in
       λ i. record { stations = stations i; shared = shared i }

@@ -7,8 +7,11 @@ use Rattle.std.proofs.lemmas.Bool.{cases_eq, cases_lt}
 use Rattle.std.proofs.lemmas.List.{length-set, get_or-set_same, get_or-set_other}
 use Rattle.flat_machine.specs.declared.setting.Setting.{Setting}
 use Rattle.alone.specs.Stations.{Station}
-use Rattle.alone.specs.Closing.{Standing, IsMove, IsWay}
+use Rattle.alone.specs.Closing.{Standing}
+use Rattle.alone.specs.Exchanging.{IsMoveUpTo, IsWayUpTo}
 use Rattle.std.proofs.lemmas.List.FromFn.{length-map-range_with_len, get_or-map-range_with_len, fill_by_all}
+-- Exchanges, and results that stand for others.
+pub use Rattle.alone.proofs.Lemmas.{none, both, trade, trade_all, stands_for_on, stands_for_back}
 
 -- below one more, a number is below or the last
 pub up_to : (k n : ℕ) → k < n + 1 → (k < n) ⊎ (k ≡ n)
@@ -71,8 +74,8 @@ module _ {X : Type 0} (f : ℕ → X) (n : ℕ) where
       at i l (inr other) = get_or-set_other listed k i x x other ∙ (listed_at i x l ∙ sym (others i other l))
 
 -- a way with one move behind it
-module _ (at : ℕ → Setting) (code : List ℕ) (kept : Station → Station) where
-  pub way_on : (way : List (ℕ × Standing)) (s u t : Standing) (k : ℕ) → IsWay at code kept s way u → IsMove at code kept u k t →
-      IsWay at code kept s (way ++ (k, t) ∷ []) t
-  way_on [] s u t k w m = (subst (λ v. IsMove at code kept v k t) (sym w) m, refl)
+module _ (at : ℕ → Setting) (code : List ℕ) (kept : Station → Station) (classes : List ℕ) where
+  pub way_on : (way : List (ℕ × Standing)) (s u t : Standing) (k : ℕ) → IsWayUpTo at code kept classes s way u → IsMoveUpTo at code kept classes u k t →
+      IsWayUpTo at code kept classes s (way ++ (k, t) ∷ []) t
+  way_on [] s u t k w m = (subst (λ v. IsMoveUpTo at code kept classes v k t) (sym w) m, refl)
   way_on ((j, v) ∷ way) s u t k w m = (w.0, way_on way v u t k w.1 m)

@@ -7,5 +7,7 @@ pub mod Moving
 pub mod Searching
 pub mod Ending
 pub mod Opened
-pub mod Scheduling
 pub mod Clearing
+pub mod Trading
+pub mod RowExchanges
+pub mod Classing

@@ -15,9 +15,10 @@ use Rattle.station_search.specs.Words.{IsWritten}
 use Rattle.station_search.specs.Tables.{TableLists, placed_at, words_at, HasGrown, IsBehind}
 use Rattle.station_search.specs.Memo.{Remembered, nothing, answer_to, IsNoted, KnowsStations, KnowsLists}
 
-pub behind_kept : (code : List ℕ) (before : ℕ) (old : Placed) (t u : TableLists) (number : ℕ) → HasGrown t u → IsBehind code before old t number →
-    IsBehind code before old u number
-behind_kept code before old t u number kept h =
+pub behind_kept : (quietly : Bool) (code : List ℕ) (before : ℕ) (old : Placed) (t u : TableLists) (number : ℕ) →
+    HasGrown t u → IsBehind quietly code before old t number →
+    IsBehind quietly code before old u number
+behind_kept quietly code before old t u number kept h =
     let same = kept.same_station number h.there in
     record {
       there = omega (arith, h.there, kept.stations);
@@ -27,14 +28,16 @@ behind_kept code before old t u number kept h =
           subst (λ live. kept_by live (placed_at u number).station ≡ kept_by live (alone h.count old.setting code (behind old.station done))) (sym kept.live)
           (ap (λ (a : Placed). kept_by t.live a.station) same ∙ h.gone done is);
       settled = h.settled;
+      quiet = h.quiet;
     }
 
-pub stations_kept : (code : List ℕ) (t u : TableLists) (m : Remembered) → HasGrown t u → KnowsStations code t m → KnowsStations code u m
-stations_kept code t u m kept h number word before behind told =
+pub stations_kept : (quietly : Bool) (code : List ℕ) (t u : TableLists) (m : Remembered) →
+    HasGrown t u → KnowsStations quietly code t m → KnowsStations quietly code u m
+stations_kept quietly code t u m kept h number word before behind told =
     let k = h number word before behind told in (
       omega (arith, k.0, kept.stations),
-      subst (λ (a : Placed). IsBehind code before a u behind) (sym (kept.same_station number k.0))
-          (behind_kept code before (placed_at t number) t u behind kept k.1),
+      subst (λ (a : Placed). IsBehind quietly code before a u behind) (sym (kept.same_station number k.0))
+          (behind_kept quietly code before (placed_at t number) t u behind kept k.1),
     )
 
 pub lists_kept : (t u : TableLists) (m : Remembered) → HasGrown t u → KnowsLists t m → KnowsLists u m
@@ -46,21 +49,21 @@ lists_kept t u m kept h number word value written told =
           (subst (IsWritten (words_at t number) word value) (sym (kept.same_words written k.1)) k.2),
     )
 
-pub stations_noted : (code : List ℕ) (t : TableLists) (m n : Remembered) (number word before behind : ℕ) → KnowsStations code t m →
-    IsNoted m (number ∷ word ∷ before ∷ []) behind n → number < length t.stations → IsBehind code before (placed_at t number) t behind →
-    KnowsStations code t n
-stations_noted code t m n number word before behind h noted there is i w x j told = at (noted (i ∷ w ∷ x ∷ []) j told)
+pub stations_noted : (quietly : Bool) (code : List ℕ) (t : TableLists) (m n : Remembered) (number word before behind : ℕ) → KnowsStations quietly code t m →
+    IsNoted m (number ∷ word ∷ before ∷ []) behind n → number < length t.stations → IsBehind quietly code before (placed_at t number) t behind →
+    KnowsStations quietly code t n
+stations_noted quietly code t m n number word before behind h noted there is i w x j told = at (noted (i ∷ w ∷ x ∷ []) j told)
   where
     at : (answer_to m (i ∷ w ∷ x ∷ []) ≡ Some j) ⊎ (((i ∷ w ∷ x ∷ []) ≡ (number ∷ word ∷ before ∷ [])) × (j ≡ behind)) →
-        (i < length t.stations) × IsBehind code x (placed_at t i) t j
+        (i < length t.stations) × IsBehind quietly code x (placed_at t i) t j
     at (inl old) = h i w x j old
     at (inr new) =
         let first : number ≡ i = sym (ap (λ q. slice_index q 0) new.0) in
         let third : before ≡ x = sym (ap (λ q. slice_index q 2) new.0) in (
           subst (λ k. k < length t.stations) first there,
-          subst (λ k. IsBehind code x (placed_at t i) t k) (sym new.1)
-              (subst (λ y. IsBehind code y (placed_at t i) t behind) third
-              (subst (λ k. IsBehind code before (placed_at t k) t behind) first is)),
+          subst (λ k. IsBehind quietly code x (placed_at t i) t k) (sym new.1)
+              (subst (λ y. IsBehind quietly code y (placed_at t i) t behind) third
+              (subst (λ k. IsBehind quietly code before (placed_at t k) t behind) first is)),
         )
 
 pub lists_noted : (t : TableLists) (m n : Remembered) (number word value written : ℕ) → KnowsLists t m →
@@ -108,8 +111,8 @@ pub either : {A B : Type 0} {P Q : Type 0} (r : Result A B) → OnOk r P → OnE
 either (Ok x) p q = inl p
 either (Err e) p q = inr q
 
-pub knows_no_stations : (code : List ℕ) (t : TableLists) → KnowsStations code t nothing
-knows_no_stations code t number word before behind told = absurd cc
+pub knows_no_stations : (quietly : Bool) (code : List ℕ) (t : TableLists) → KnowsStations quietly code t nothing
+knows_no_stations quietly code t number word before behind told = absurd cc
 
 pub knows_no_lists : (t : TableLists) → KnowsLists t nothing
 knows_no_lists t number word value written told = absurd cc

@@ -1,18 +1,22 @@
--- What is found stays found where tables and rows grow, and the last move that is found completes a state.
-use Rattle.std.proofs.Common.{◌≡◌, ◌≢◌, ◌⊎◌, inl, inr, ℕ, ◌+◌, ◌<◌, ◌≤◌, zero, suc, Bool, true, false, cond}
-use Rattle.std.proofs.Common.{List, [], ◌∷◌, ◌++◌, Option, Some, None, length, refl, sym, ap, subst, ◌∙◌, arith, length-append}
-use Rattle.std.specs.Prelude.{slice_get, slice_set, slice_index, slice_index_or}
+-- What is found stays found as tables and rows grow, and the move of the last processor completes a state.
+use Rattle.std.proofs.Common.{◌≡◌, ◌⊎◌, inl, inr, ℕ, ◌+◌, ◌<◌, ◌≤◌, zero, suc, Bool, true, false, cond}
+use Rattle.std.proofs.Common.{List, [], ◌∷◌, ◌++◌, Some, length, refl, sym, ap, subst, ◌∙◌, arith, length-append}
+use Rattle.std.specs.Prelude.{slice_get, slice_index, slice_index_or, Contains}
 use Rattle.std.specs.List.{list_any}
 use Rattle.std.proofs.lemmas.Bool.{cases_lt}
-use Rattle.std.proofs.lemmas.List.{get_or_append_left, get_or-set_same, get_or-set_other}
+use Rattle.std.proofs.lemmas.List.{get_or_append_left}
+use Rattle.std.proofs.lemmas.List.Elements.{Contains-append_left, Contains-push, Contains-push_cases}
 use Rattle.indexmap.specs.IndexSet.{insert_key}
 use Rattle.alone.specs.Closing.{Standing}
+use Rattle.alone.specs.Exchanging.{AreAlike}
+use Rattle.alone.specs.Stations.{IsReference}
+use Rattle.alone.proofs.Lemmas.{reference_same}
 use Rattle.live_registers.specs.Forgetting.{kept_by}
-use Rattle.move_ranks.specs.Ranks.{no_move, target_at}
+use Rattle.move_ranks.specs.Ranks.{successors_at}
 use Rattle.station_search.specs.declared.tables.Extent.{Extent}
-use Rattle.station_search.specs.Tables.{TableLists, HasGrown, setting_at, means, IsRow}
-use Rattle.station_search.specs.Search.{state_at, IsPlaced, IsNoted, Moves, IsReached, MayMove, IsNext, IsTarget, Searched, Expanded}
-use Rattle.station_search.proofs.Lemmas.{found_at, way_on, up_to}
+use Rattle.station_search.specs.Tables.{TableLists, HasGrown, placed_at, setting_at, means, IsRow}
+use Rattle.station_search.specs.Search.{state_at, IsPlaced, CanMove, Moves, IsReached, IsNextUpTo, IsSuccessor, HasSuccessor, Searched, Expanded}
+use Rattle.station_search.proofs.Lemmas.{found_at, listed_there, way_on, up_to}
 use Rattle.station_search.proofs.Growing.{row_kept, means_kept}
 
 -- ---- a list with a row inserted
@@ -49,8 +53,8 @@ module _ (eq : List ℕ → List ℕ → Bool) (exact : (x y : List ℕ) → eq 
 
   -- where a row has a place in what a list becomes with it
   pub placed : (rows : List (List ℕ)) (row : List ℕ) (new : List (List ℕ)) (place : ℕ) → new ≡ insert_key eq rows row →
-      (k : List ℕ) × (slice_get new place ≡ Some k) × (eq row k ≡ true) → place ≢ no_move → IsPlaced rows row new place
-  placed rows row new place is stored real =
+      (k : List ℕ) × (slice_get new place ≡ Some k) × (eq row k ≡ true) → IsPlaced rows row new place
+  placed rows row new place is stored =
       let more : IsLonger rows row new = subst (IsLonger rows row) (sym is) (inserted rows row) in
       let here = found_at new place stored.0 [] stored.1 in
       record {
@@ -59,152 +63,210 @@ module _ (eq : List ℕ → List ℕ → Bool) (exact : (x y : List ℕ) → eq 
         others = more.others;
         within = here.0;
         is = here.1 ∙ sym (exact row stored.0 stored.2);
-        real = real;
       }
+
+-- ---- processors with equal numbers
+
+stations_same : (e : Extent) (t : TableLists) (row : List ℕ) (q p : ℕ) → q < e.processors → p < e.processors → slice_index row q ≡ slice_index row p →
+    slice_get (means e t row).stations q ≡ slice_get (means e t row).stations p
+stations_same e t row q p fq fp same =
+    listed_there (λ i. kept_by t.live (placed_at t (slice_index row i)).station) e.processors q fq
+    ∙ (ap (λ i. Some (kept_by t.live (placed_at t i).station)) same
+    ∙ sym (listed_there (λ i. kept_by t.live (placed_at t (slice_index row i)).station) e.processors p fp))
 
 -- ---- ways
 
-module _ (e : Extent) (code : List ℕ) where
-  pub reached_on : (live : List (List Bool)) (s u t : Standing) (k : ℕ) → IsReached e code live s u → Moves e code live u k t → IsReached e code live s t
-  reached_on live s u t k r m = (r.0 ++ (k, t) ∷ [], way_on (setting_at e) code (kept_by live) r.0 s u t k r.1 m)
+module _ (e : Extent) (code : List ℕ) (classes : List ℕ) where
+  pub reached_on : (live : List (List Bool)) (s u t : Standing) (k : ℕ) → IsReached e code classes live s u →
+      Moves e code classes live u k t → IsReached e code classes live s t
+  reached_on live s u t k r m =
+      (r.0 ++ (k, t) ∷ [], way_on (setting_at e) code (kept_by live) classes r.0 s u t k r.1 m)
+
+  -- ---- rows whose states stay: tables grow, or rows come behind
+
+  -- Each of the first so many rows of the old means in the new tables what it meant.
+  module _ (t u : TableLists) (rows new : List (List ℕ)) (longer : length rows ≤ length new) (live : u.live ≡ t.live)
+      (same : (i : ℕ) → i < length rows → state_at e t rows i ≡ state_at e u new i) where
+    moves_stay : (s v : Standing) (k : ℕ) (s' v' : Standing) → s ≡ s' → v ≡ v' → Moves e code classes t.live s k v →
+        Moves e code classes u.live s' k v'
+    moves_stay s v k s' v' es ev m =
+        subst (λ (z : List (List Bool) × Standing × Standing). Moves e code classes z.0 z.1 k z.2)
+        (λ j. (sym live j, es j, ev j)) m
+
+    pub successor_stays : (i v : ℕ) → i < length rows → IsSuccessor e code classes t rows (state_at e t rows i) v →
+        IsSuccessor e code classes u new (state_at e u new i) v
+    successor_stays i v l x =
+        let below = x.0 in
+        (omega (arith, below, longer), x.1, moves_stay _ _ x.1 _ _ (same i l) (same v below) x.2)
+
+    pub has_stays : (i k : ℕ) (successors : List ℕ) → i < length rows →
+        HasSuccessor e code classes t rows (state_at e t rows i) successors k →
+        HasSuccessor e code classes u new (state_at e u new i) successors k
+    has_stays i k successors l h may =
+        let x = h (subst (λ s. CanMove e code s k) (sym (same i l)) may) in
+        let below = x.2 in
+        (x.0, x.1, omega (arith, below, longer), moves_stay _ _ k _ _ (same i l) (same x.0 below) x.3)
+
+    pub searched_stays : (moves : List (List ℕ)) (first : Standing) (done : ℕ) → Searched e code classes t rows moves first done →
+        ((i : ℕ) → i < length new → IsRow e u (slice_index_or new i [])) →
+        ((i : ℕ) → i < length new → IsReached e code classes u.live first (state_at e u new i)) →
+        Searched e code classes u new moves first done
+    searched_stays moves first done h are reached = record {
+      are_rows = are;
+      reached = reached;
+      filled = omega (arith, h.filled, longer);
+      begins = sym (same 0 h.filled) ∙ h.begins;
+      within = omega (arith, h.within, longer);
+      noted = h.noted;
+      sound = λ i v below x. successor_stays i v (omega (arith, below, h.within)) (h.sound i v below x);
+      complete = λ i k below few.
+          has_stays i k (successors_at moves i) (omega (arith, below, h.within)) (h.complete i k below few);
+    }
 
   -- ---- tables that grow
 
   module _ (t u : TableLists) (kept : HasGrown t u) (rows moves : List (List ℕ)) (first : Standing) (done : ℕ) where
-    module _ (h : Searched e code t rows moves first done) where
-      same : (i : ℕ) → i < length rows → state_at e t rows i ≡ state_at e u rows i
-      same i l = means_kept e t u (slice_index_or rows i []) kept (h.are_rows i l)
+    abbrev stay : Searched e code classes t rows moves first done → (i : ℕ) → i < length rows →
+        state_at e t rows i ≡ state_at e u rows i
+    stay h i l = means_kept e t u (slice_index_or rows i []) kept (h.are_rows i l)
 
-      pub target_kept : (i k target : ℕ) → i < length rows → IsTarget e code t rows (state_at e t rows i) k target →
-          IsTarget e code u rows (state_at e u rows i) k target
-      target_kept i k target l h = record {
-        none = λ lacks may. h.none lacks (subst (λ s. MayMove e code s k) (sym (same i l)) may);
-        some = λ real.
-            let m = h.some real in (
-              m.0,
-              subst (λ (z : List (List Bool) × Standing × Standing). Moves e code z.0 z.1 k z.2) (λ j. (sym kept.live j, same i l j, same target m.0 j)) m.1,
-            );
-      }
+    pub searched_kept : Searched e code classes t rows moves first done → Searched e code classes u rows moves first done
+    searched_kept h =
+        searched_stays t u rows rows (omega arith) kept.live (stay h) moves first done h
+        (λ i l. row_kept e t u (slice_index_or rows i []) kept (h.are_rows i l))
+        (λ i l. subst (λ (z : List (List Bool) × Standing). IsReached e code classes z.0 first z.1)
+        (λ j. (sym kept.live j, stay h i l j)) (h.reached i l))
 
-      pub searched_kept : Searched e code u rows moves first done
-      searched_kept = record {
-        are_rows = λ i l. row_kept e t u (slice_index_or rows i []) kept (h.are_rows i l);
-        reached = λ i l. subst (λ (z : List (List Bool) × Standing). IsReached e code z.0 first z.1) (λ j. (sym kept.live j, same i l j)) (h.reached i l);
-        filled = h.filled;
-        begins = sym (same 0 h.filled) ∙ h.begins;
-        within = h.within;
-        noted = h.noted;
-        closed = λ i k below few. target_kept i k (target_at moves i k) (omega (arith, below, h.within)) (h.closed i k below few);
-      }
-
-    pub expanded_kept : (targets : List ℕ) (processors : ℕ) → Expanded e code t rows moves first targets done processors →
-        Expanded e code u rows moves first targets done processors
-    expanded_kept targets processors h = record {
+    pub expanded_kept : (successors : List ℕ) (processors : ℕ) →
+        Expanded e code classes t rows moves first successors done processors →
+        Expanded e code classes u rows moves first successors done processors
+    expanded_kept successors processors h = record {
       searched = searched_kept h.searched;
       more = h.more;
-      moved = λ k below. target_kept h.searched done k (slice_index targets k) h.more (h.moved k below);
+      sound = λ v x. successor_stays t u rows rows (omega arith) kept.live (stay h.searched) done v h.more (h.sound v x);
+      complete = λ k below.
+          has_stays t u rows rows (omega arith) kept.live (stay h.searched) done k successors h.more (h.complete k below);
     }
 
-  -- ---- rows that grow
+  -- ---- one row more
 
-  module _ (t : TableLists) (rows : List (List ℕ)) (row : List ℕ) (new : List (List ℕ)) (place : ℕ) (ins : IsPlaced rows row new place) (moves : List (List ℕ))
-      (first : Standing) (done : ℕ) where
-    stays : (i : ℕ) → i < length rows → state_at e t rows i ≡ state_at e t new i
+  module _ (t : TableLists) (rows : List (List ℕ)) (row : List ℕ) (new : List (List ℕ)) (place : ℕ) (ins : IsPlaced rows row new place)
+      (moves : List (List ℕ)) (first : Standing) (done : ℕ) where
+    abbrev stays : (i : ℕ) → i < length rows → state_at e t rows i ≡ state_at e t new i
     stays i l = ap (means e t) (sym (ins.same i l))
 
-    target_stays : (i k target : ℕ) → i < length rows → IsTarget e code t rows (state_at e t rows i) k target →
-        IsTarget e code t new (state_at e t new i) k target
-    target_stays i k target l h = record {
-      none = λ lacks may. h.none lacks (subst (λ s. MayMove e code s k) (sym (stays i l)) may);
-      some = λ real.
-          let m = h.some real in
-          (omega (arith, m.0, ins.longer), subst (λ (z : Standing × Standing). Moves e code t.live z.0 k z.1) (λ j. (stays i l j, stays target m.0 j)) m.1);
-    }
-
-    pub searched_more : Searched e code t rows moves first done → IsRow e t row → IsReached e code t.live first (means e t row) →
-        Searched e code t new moves first done
-    searched_more h is_row reached = record {
-      are_rows = λ i l. row_at i (ins.others i l);
-      reached = λ i l. reached_at i (ins.others i l);
-      filled = omega (arith, h.filled, ins.longer);
-      begins = sym (stays 0 h.filled) ∙ h.begins;
-      within = omega (arith, h.within, ins.longer);
-      noted = h.noted;
-      closed = λ i k below few. target_stays i k (target_at moves i k) (omega (arith, below, h.within)) (h.closed i k below few);
-    }
+    pub searched_more : Searched e code classes t rows moves first done → IsRow e t row →
+        IsReached e code classes t.live first (means e t row) → Searched e code classes t new moves first done
+    searched_more h is_row reached =
+        searched_stays t t rows new ins.longer refl stays moves first done h (λ i l. row_at i (ins.others i l))
+        (λ i l. reached_at i (ins.others i l))
       where
         row_at : (i : ℕ) → (i < length rows) ⊎ (slice_index_or new i [] ≡ row) → IsRow e t (slice_index_or new i [])
         row_at i (inl l) = subst (IsRow e t) (sym (ins.same i l)) (h.are_rows i l)
         row_at i (inr is) = subst (IsRow e t) (sym is) is_row
 
-        reached_at : (i : ℕ) → (i < length rows) ⊎ (slice_index_or new i [] ≡ row) → IsReached e code t.live first (state_at e t new i)
-        reached_at i (inl l) = subst (IsReached e code t.live first) (stays i l) (h.reached i l)
-        reached_at i (inr is) = subst (λ r. IsReached e code t.live first (means e t r)) (sym is) reached
+        reached_at : (i : ℕ) → (i < length rows) ⊎ (slice_index_or new i [] ≡ row) →
+            IsReached e code classes t.live first (state_at e t new i)
+        reached_at i (inl l) = subst (IsReached e code classes t.live first) (stays i l) (h.reached i l)
+        reached_at i (inr is) = subst (λ r. IsReached e code classes t.live first (means e t r)) (sym is) reached
 
   -- ---- one processor more
 
-  module _ (t u : TableLists) (kept : HasGrown t u) (rows moves : List (List ℕ)) (first : Standing) (targets : List ℕ) (done p target : ℕ) (row : List ℕ)
-      (wide : p < length targets) (h : Expanded e code t rows moves first targets done p) (is : slice_index_or rows done [] ≡ row) where
-    abbrev put : List ℕ
-    put = slice_set targets p target
-
-    k : Expanded e code u rows moves first targets done p
-    k = expanded_kept t u kept rows moves first done targets p h
+  module _ (t u : TableLists) (kept : HasGrown t u) (rows moves : List (List ℕ)) (first : Standing) (successors : List ℕ)
+      (done p : ℕ) (row : List ℕ) (h : Expanded e code classes t rows moves first successors done p)
+      (is : slice_index_or rows done [] ≡ row) where
+    k : Expanded e code classes u rows moves first successors done p
+    k = expanded_kept t u kept rows moves first done successors p h
 
     state_is : means e t row ≡ state_at e u rows done
     state_is = ap (means e t) (sym is) ∙ means_kept e t u (slice_index_or rows done []) kept (h.searched.are_rows done h.more)
 
-    here : slice_index put p ≡ target
-    here = get_or-set_same targets p target 0 wide
-
-    there : (q : ℕ) → q < p → slice_index put q ≡ slice_index targets q
-    there q below = get_or-set_other targets p q target 0 (λ same. omega (arith, below, same))
-
-    -- with what is noted of each move of the first so many processors
-    each : (new : List (List ℕ)) → Searched e code u new moves first done → done < length new →
-        ((q v : ℕ) → q < p → IsTarget e code u rows (state_at e u rows done) q v → IsTarget e code u new (state_at e u new done) q v) →
-        IsTarget e code u new (state_at e u new done) p target → Expanded e code u new moves first put done (p + 1)
-    each new searched more stay one = record { searched = searched; more = more; moved = λ q below. by q (up_to q p below) }
+    -- no successor more
+    with_none : HasSuccessor e code classes u rows (state_at e u rows done) successors p →
+        Expanded e code classes u rows moves first successors done (p + 1)
+    with_none last = record { searched = k.searched; more = h.more; sound = k.sound; complete = λ q below. by q (up_to q p below) }
       where
-        by : (q : ℕ) → (q < p) ⊎ (q ≡ p) → IsTarget e code u new (state_at e u new done) q (slice_index put q)
-        by q (inl below) =
-            subst (IsTarget e code u new (state_at e u new done) q) (sym (there q below)) (stay q (slice_index targets q) below (k.moved q below))
-        by q (inr last_one) =
-            subst (λ (z : ℕ × ℕ). IsTarget e code u new (state_at e u new done) z.0 z.1)
-            (λ j. (sym last_one j, (sym here ∙ ap (slice_index put) (sym last_one)) j)) one
+        by : (q : ℕ) → (q < p) ⊎ (q ≡ p) → HasSuccessor e code classes u rows (state_at e u rows done) successors q
+        by q (inl below) = k.complete q below
+        by q (inr same) = subst (HasSuccessor e code classes u rows (state_at e u rows done) successors) (sym same) last
 
-    stood : IsNext e code u (means e t row) p None → target ≡ no_move → Expanded e code u rows moves first put done (p + 1)
-    stood none is_none =
-        each rows k.searched h.more (λ q v below x. x)
-        (record { none = λ same may. none (subst (λ s. MayMove e code s p) (sym state_is) may); some = λ real. absurd (real is_none) })
+    -- A processor that has no move adds no successor,
+    pub stood : (CanMove e code (means e t row) p → ⊥) → Expanded e code classes u rows moves first successors done (p + 1)
+    stood none = with_none (λ may. absurd (none (subst (λ s. CanMove e code s p) (sym state_is) may)))
 
-    went : (next : List ℕ) (new : List (List ℕ)) → IsNext e code u (means e t row) p (Some next) → IsPlaced rows next new target →
-        Expanded e code u new moves first put done (p + 1)
-    went next new moved ins =
-        each new
-        (searched_more u rows next new target ins moves first done k.searched moved.0
-        (reached_on u.live first (state_at e u rows done) (means e u next) p (k.searched.reached done h.more) move)) (omega (arith, h.more, ins.longer))
-        (λ q v below x. target_stays u rows next new target ins moves first done done q v h.more x)
-        (record {
-          none = λ lacks. absurd (ins.real lacks);
-          some = λ real. (
-            ins.within,
-            subst (λ (z : Standing × Standing). Moves e code u.live z.0 p z.1)
-                (λ j. (stays u rows next new target ins moves first done done h.more j, ap (means e u) (sym ins.is) j)) move,
-          );
-        })
+    -- nor does one that stands as another of its class before it,
+    pub copied_on : (q : ℕ) → q < p → AreAlike classes q p → slice_index row q ≡ slice_index row p → p < e.processors →
+        Expanded e code classes u rows moves first successors done (p + 1)
+    copied_on q below alike same few = with_none stand_in
       where
-        move : Moves e code u.live (state_at e u rows done) p (means e u next)
-        move = subst (λ s. Moves e code u.live s p (means e u next)) state_is moved.1
+        here : slice_get (state_at e u rows done).stations q ≡ slice_get (state_at e u rows done).stations p
+        here = subst (λ (s : Standing). slice_get s.stations q ≡ slice_get s.stations p) state_is
+            (stations_same e t row q p (omega (arith, below, few)) few same)
 
-    pub noted_on : (next : Option (List ℕ)) (new : List (List ℕ)) → IsNext e code u (means e t row) p next → IsNoted rows next new target →
-        Expanded e code u new moves first put done (p + 1)
-    noted_on None new none noted = subst (λ ks. Expanded e code u ks moves first put done (p + 1)) (sym noted.0) (stood none noted.1)
-    noted_on (Some next) new moved ins = went next new moved ins
+        stand_in : HasSuccessor e code classes u rows (state_at e u rows done) successors p
+        stand_in may =
+            let x = k.complete q below (record {
+              station = may.station;
+              there = here ∙ may.there;
+              runs = may.runs;
+              refers =
+                  subst IsReference (reference_same (setting_at e p) (setting_at e q)
+                  (record { processors = refl; shared_words = refl }) code may.station.processor may.refers) may.refers;
+            }) in (
+              x.0,
+              x.1,
+              x.2,
+              record {
+                mover = x.3.mover;
+                alike = x.3.alike ∙ alike;
+                same = x.3.same ∙ here;
+                left = x.3.left;
+                move = x.3.move;
+                exchange = x.3.exchange;
+              },
+            )
+
+    -- and one that has a move adds the place of the row to which it leads.
+    pub went : (next : List ℕ) (new : List (List ℕ)) (target : ℕ) → IsNextUpTo e code classes u (means e t row) p (Some next) →
+        IsPlaced rows next new target → Expanded e code classes u new moves first (successors ++ target ∷ []) done (p + 1)
+    went next new target moved ins = record {
+      searched = searched_more u rows next new target ins moves first done k.searched moved.0
+          (reached_on u.live first (state_at e u rows done) (means e u next) p (k.searched.reached done h.more) move);
+      more = omega (arith, h.more, ins.longer);
+      sound = λ v x. sound v (Contains-push_cases successors target v x);
+      complete = λ q below. by q (up_to q p below);
+    }
+      where
+        move : Moves e code classes u.live (state_at e u rows done) p (means e u next)
+        move = subst (λ s. Moves e code classes u.live s p (means e u next)) state_is moved.1
+
+        stays_here : (i : ℕ) → i < length rows → state_at e u rows i ≡ state_at e u new i
+        stays_here i l = ap (means e u) (sym (ins.same i l))
+
+        there : Moves e code classes u.live (state_at e u new done) p (state_at e u new target)
+        there = subst (λ (z : Standing × Standing). Moves e code classes u.live z.0 p z.1)
+            (λ j. (stays_here done h.more j, ap (means e u) (sym ins.is) j)) move
+
+        sound : (v : ℕ) → Contains successors v ⊎ (target ≡ v) → IsSuccessor e code classes u new (state_at e u new done) v
+        sound v (inl x) = successor_stays u u rows new ins.longer refl stays_here done v h.more (k.sound v x)
+        sound v (inr x) =
+            subst (IsSuccessor e code classes u new (state_at e u new done)) x (ins.within, p, there)
+
+        by : (q : ℕ) → (q < p) ⊎ (q ≡ p) →
+            HasSuccessor e code classes u new (state_at e u new done) (successors ++ target ∷ []) q
+        by q (inl below) may =
+            let x = has_stays u u rows new ins.longer refl stays_here done q successors h.more (k.complete q below) may in
+            (x.0, Contains-append_left successors (target ∷ []) x.0 x.1, x.2, x.3)
+        by q (inr same) may = (
+          target,
+          Contains-push successors target,
+          ins.within,
+          subst (λ i. Moves e code classes u.live (state_at e u new done) i (state_at e u new target)) (sym same) there,
+        )
 
   -- ---- the beginning, and a state whose moves are all found
 
-  pub begun : (t : TableLists) (row : List ℕ) → IsRow e t row → Searched e code t (row ∷ []) [] (means e t row) 0
+  pub begun : (t : TableLists) (row : List ℕ) → IsRow e t row → Searched e code classes t (row ∷ []) [] (means e t row) 0
   begun t row h = record {
     are_rows = λ i l. row_at i l;
     reached = λ i l. reached_at i l;
@@ -212,42 +274,59 @@ module _ (e : Extent) (code : List ℕ) where
     begins = refl;
     within = omega arith;
     noted = refl;
-    closed = λ i k below few. absurd (omega (arith, below));
+    sound = λ i v below. absurd (omega (arith, below));
+    complete = λ i k below. absurd (omega (arith, below));
   }
     where
       row_at : (i : ℕ) → i < 1 → IsRow e t (slice_index_or (row ∷ []) i [])
       row_at zero l = h
       row_at (suc i) l = absurd (omega (arith, l))
 
-      reached_at : (i : ℕ) → i < 1 → IsReached e code t.live (means e t row) (state_at e t (row ∷ []) i)
+      reached_at : (i : ℕ) → i < 1 → IsReached e code classes t.live (means e t row) (state_at e t (row ∷ []) i)
       reached_at zero l = ([], refl)
       reached_at (suc i) l = absurd (omega (arith, l))
 
-  pub completed : (t : TableLists) (rows moves : List (List ℕ)) (first : Standing) (targets : List ℕ) (done : ℕ) →
-      Expanded e code t rows moves first targets done e.processors → Searched e code t rows (moves ++ targets ∷ []) first (done + 1)
-  completed t rows moves first targets done h = record {
+  pub completed : (t : TableLists) (rows moves : List (List ℕ)) (first : Standing) (successors : List ℕ) (done : ℕ) →
+      Expanded e code classes t rows moves first successors done e.processors →
+      Searched e code classes t rows (moves ++ successors ∷ []) first (done + 1)
+  completed t rows moves first successors done h = record {
     are_rows = h.searched.are_rows;
     reached = h.searched.reached;
     filled = h.searched.filled;
     begins = h.searched.begins;
     within = omega (arith, h.more);
-    noted = omega (arith, length-append moves (targets ∷ []), h.searched.noted);
-    closed = λ i k below few. by i k few (up_to i done below);
+    noted = omega (arith, length-append moves (successors ∷ []), h.searched.noted);
+    sound = λ i v below. sound i v (up_to i done below);
+    complete = λ i k below few. complete i k few (up_to i done below);
   }
     where
-      new : List (List ℕ)
-      new = moves ++ targets ∷ []
+      before : (i : ℕ) → i < done → successors_at (moves ++ successors ∷ []) i ≡ successors_at moves i
+      before i below = get_or_append_left moves (successors ∷ []) [] i (omega (arith, below, h.searched.noted))
 
-      by : (i k : ℕ) → k < e.processors → (i < done) ⊎ (i ≡ done) → IsTarget e code t rows (state_at e t rows i) k (target_at (moves ++ targets ∷ []) i k)
-      by i k few (inl below) =
-          subst (IsTarget e code t rows (state_at e t rows i) k)
-          (ap (λ ts. slice_index ts k) (sym (get_or_append_left moves (targets ∷ []) [] i (omega (arith, below, h.searched.noted)))))
-          (h.searched.closed i k below few)
-      by i k few (inr last_one) =
-          let place : i ≡ length moves = last_one ∙ sym h.searched.noted in
-          let row : slice_index_or (moves ++ targets ∷ []) i [] ≡ targets = ap (λ j. slice_index_or (moves ++ targets ∷ []) j []) place ∙ last moves targets in
-          subst (λ (z : ℕ × List ℕ). IsTarget e code t rows (state_at e t rows z.0) k (slice_index z.1 k)) (λ j. (sym last_one j, sym row j)) (h.moved k few)
+      here : (i : ℕ) → i ≡ done → successors_at (moves ++ successors ∷ []) i ≡ successors
+      here i same = ap (successors_at (moves ++ successors ∷ [])) (same ∙ sym h.searched.noted) ∙ last moves successors
 
-  pub expanding : (t : TableLists) (rows moves : List (List ℕ)) (first : Standing) (targets : List ℕ) (done : ℕ) →
-      Searched e code t rows moves first done → done < length rows → Expanded e code t rows moves first targets done 0
-  expanding t rows moves first targets done h more = record { searched = h; more = more; moved = λ k below. absurd (omega (arith, below)) }
+      sound : (i v : ℕ) → (i < done) ⊎ (i ≡ done) → Contains (successors_at (moves ++ successors ∷ []) i) v →
+          IsSuccessor e code classes t rows (state_at e t rows i) v
+      sound i v (inl below) x = h.searched.sound i v below (subst (λ vs. Contains vs v) (before i below) x)
+      sound i v (inr same) x =
+          subst (λ j. IsSuccessor e code classes t rows (state_at e t rows j) v) (sym same)
+          (h.sound v (subst (λ vs. Contains vs v) (here i same) x))
+
+      complete : (i k : ℕ) → k < e.processors → (i < done) ⊎ (i ≡ done) →
+          HasSuccessor e code classes t rows (state_at e t rows i) (successors_at (moves ++ successors ∷ []) i) k
+      complete i k few (inl below) =
+          subst (λ vs. HasSuccessor e code classes t rows (state_at e t rows i) vs k) (sym (before i below))
+          (h.searched.complete i k below few)
+      complete i k few (inr same) =
+          subst (λ (z : ℕ × List ℕ). HasSuccessor e code classes t rows (state_at e t rows z.0) z.1 k)
+          (λ j. (sym same j, sym (here i same) j)) (h.complete k few)
+
+  pub expanding : (t : TableLists) (rows moves : List (List ℕ)) (first : Standing) (done : ℕ) →
+      Searched e code classes t rows moves first done → done < length rows → Expanded e code classes t rows moves first [] done 0
+  expanding t rows moves first done h more = record {
+    searched = h;
+    more = more;
+    sound = λ v x. let none = x.1 in absurd (omega (arith, none));
+    complete = λ k below. absurd (omega (arith, below));
+  }

@@ -1,5 +1,5 @@
 -- What is remembered of moves, and that it is right.
-use Rattle.std.specs.Prelude.{◌≡◌, ◌⊎◌, ℕ, ◌<◌, List, [], ◌∷◌, Option, Some, length, nat_eq}
+use Rattle.std.specs.Prelude.{◌≡◌, ◌⊎◌, Bool, ℕ, ◌<◌, List, [], ◌∷◌, Option, Some, length, nat_eq}
 use Rattle.std.specs.Cmp.Lexicographic.{pointwise}
 use Rattle.std.specs.Map.{lookup}
 use Rattle.station_search.specs.Tables.{TableLists, placed_at, words_at, IsBehind}
@@ -22,13 +22,14 @@ IsNoted old question answer new =
     (q : List ℕ) (a : ℕ) → answer_to new q ≡ Some a → (answer_to old q ≡ Some a) ⊎ ((q ≡ question) × (a ≡ answer))
 
 -- A reference of a station of the tables, to a word that had a value before, leads to the station that is remembered.
-abbrev pub KnowsStations : (code : List ℕ) → TableLists → Remembered → Type 0
-KnowsStations code t m =
+abbrev pub KnowsStations : (quietly : Bool) → (code : List ℕ) → TableLists → Remembered → Type 0
+KnowsStations quietly code t m =
     (number word before behind : ℕ) → answer_to m (number ∷ word ∷ before ∷ []) ≡ Some behind →
-    (number < length t.stations) × IsBehind code before (placed_at t number) t behind
+    (number < length t.stations) × IsBehind quietly code before (placed_at t number) t behind
 
 -- A list of the tables in which a word is written is the list that is remembered.
 abbrev pub KnowsLists : TableLists → Remembered → Type 0
 KnowsLists t m =
     (number word value written : ℕ) → answer_to m (number ∷ word ∷ value ∷ []) ≡ Some written →
-    (number < length t.words) × (written < length t.words) × IsWritten (words_at t number) word value (words_at t written)
+    (number < length t.words) × (written < length t.words)
+    × IsWritten (words_at t number) word value (words_at t written)

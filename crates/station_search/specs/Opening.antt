@@ -1,5 +1,5 @@
 -- The state in which processors that have printed nothing have done what they do alone.
-use Rattle.std.specs.Prelude.{◌≡◌, ℕ, ◌<◌, List, length, map, slice_get, Some}
+use Rattle.std.specs.Prelude.{◌≡◌, ℕ, Bool, if◌then◌else◌, ◌<◌, List, length, map, slice_get, Some}
 use Rattle.flat_machine.specs.State.{FlatState}
 use Rattle.hart.specs.State.{CoreState}
 use Rattle.alone.specs.Stations.{alone, IsSettled}
@@ -18,9 +18,10 @@ abbrev pub flat_of : (code : List ℕ) → List CoreState → (words : List ℕ)
 flat_of code cores words = record { processors = map (λ (c : CoreState). c.state) cores; shared = words; code = code }
 
 -- The tables have under the number what the processor becomes in some turns alone.
-pub record IsOpened (code : List ℕ) (c : CoreState) (t : TableLists) (number : ℕ) : Type 0 where
+pub record IsOpened (exchanged : Bool) (code : List ℕ) (c : CoreState) (t : TableLists) (number : ℕ) : Type 0 where
   pub there : number < length t.stations
-  pub setting : (placed_at t number).setting ≡ c.setting
+  pub setting : (placed_at t number).setting ≡ record c.setting { number = if exchanged then 0 else c.setting.number }
   pub count : ℕ
-  pub gone : kept_by t.live (placed_at t number).station ≡ kept_by t.live (alone count c.setting code (placed_of c).station)
+  pub gone : kept_by t.live (placed_at t number).station
+      ≡ kept_by t.live (alone count c.setting code (placed_of c).station)
   pub settled : IsSettled c.setting code (alone count c.setting code (placed_of c).station).processor

@@ -6,20 +6,24 @@
 //! such numbers. [`search`] finds each row that references lead to, from a first one.
 #![tactic(auto)]
 
+mod classes;
 mod finding;
-mod laws;
 mod memo;
 mod moves;
 mod opening;
+mod ordering;
 mod refusal;
 mod station;
 mod tables;
+mod walk;
 mod watch;
 mod words;
 
+pub use classes::classes_of;
 pub use finding::{Found, search};
-pub use laws::moves_tell_of_schedules;
+pub use memo::Memos;
 pub use refusal::Refusal;
 pub use station::Station;
-pub use tables::{Extent, Row, Tables, WORDS_PLACE};
+pub use tables::{Extent, Row, Tables};
+pub use walk::{Walk, movers_of};
 pub use watch::{Unwatched, Watch};

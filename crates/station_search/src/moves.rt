@@ -5,15 +5,15 @@ ghost use Rattle.flat_machine.specs.Turns.{turn_of};
 ghost use Rattle.hart.specs.Deciding.{IsReference};
 ghost use Rattle.live_registers.specs.Live.{HasAllLive};
 ghost use Rattle.station_search.specs.Memo.{KnowsLists, KnowsStations};
-ghost use Rattle.station_search.specs.Search.{IsNext};
+ghost use Rattle.station_search.specs.Search.{AreClasses, IsNext};
 ghost use Rattle.station_search.specs.Tables.{IsBehind, HasGrown, IsRow, means, placed_at, words_at};
 ghost use Rattle.station_search.specs.Words.{IsWritten};
 
 use crate::memo::{Memo, Memos};
 use crate::refusal::Refusal;
-use crate::tables::{Extent, Row, Tables, WORDS_PLACE};
+use crate::tables::{Extent, Row, Tables};
 use crate::words::{with_word, word_of};
-use alone::moves_are_of_what_is_kept;
+use alone::{moves_are_of_any, moves_are_of_what_is_kept};
 use hart::Decision;
 use live_registers::dead_registers_can_be_forgotten;
 use local_memory::Code;
@@ -24,29 +24,36 @@ impl Tables {
     ///
     /// # Errors
     ///
-    /// [`Refusal::Memory`] and [`Refusal::Alone`].
-    pub fn next(
+    /// [`Refusal::Asks`], where processors are exchanged, [`Refusal::Memory`] and [`Refusal::Alone`].
+    pub fn next<const N: usize>(
         &mut self,
         memos: &mut Memos,
         code: &Code,
         extent: Extent,
-        row: Row,
+        classes: &[u8],
+        row: Row<N>,
         p: u8,
-    ) -> Result<Option<Row>, Refusal>
+    ) -> Result<Option<Row<N>>, Refusal>
         requires live { HasAllLive code.now self.old.live }
         requires row { IsRow extent self.old row }
+        requires classes { AreClasses extent classes.now }
         requires there { p < extent.processors }
-        requires room { extent.processors ≤ 8 }
-        requires stations { KnowsStations code.now self.old memos.old.stations }
+        requires room { extent.processors < N }
+        requires narrow { N ≤ 65 }
+        requires stations { KnowsStations extent.exchanged code.now self.old memos.old.stations }
         requires lists { KnowsLists self.old memos.old.lists }
         ensures kept { OnOk result (HasGrown self.old self.new) }
-        ensures stations { OnOk result (KnowsStations code.now self.new memos.new.stations) }
+        ensures stations { OnOk result (KnowsStations extent.exchanged code.now self.new memos.new.stations) }
         ensures lists { OnOk result (KnowsLists self.new memos.new.lists) }
-        ensures next { IfOk result (IsNext extent code.now self.new (means extent self.old row) p) }
+        ensures next { IfOk result (IsNext extent code.now classes.now self.new (means extent self.old row.entry) p) }
     {
+        moves_are_of_any();
         moves_are_of_what_is_kept();
+        let _ = classes;
         dead_registers_can_be_forgotten();
-        let number = row[usize::from(p)];
+        let place = usize::from(p);
+        let words_place = usize::from(extent.processors);
+        let number = row[place];
         let station = self.station(number);
         if !station.is_running() {
             return Ok(None);
@@ -54,13 +61,20 @@ impl Tables {
         let Decision::Refer { word, phi, .. } = station.core().decide(code) else {
             return Ok(None);
         };
-        let list = row[WORDS_PLACE];
+        let list = row[words_place];
         let before = word_of(self.words(list).as_slice(), word);
-        let after = self.moved(&mut memos.stations, code, number, word, before)?;
+        let after = self.moved(
+            &mut memos.stations,
+            code,
+            extent.exchanged,
+            number,
+            word,
+            before,
+        )?;
         let written = self.rewritten(&mut memos.lists, list, word, phi.apply(before))?;
         let mut next = row;
-        next[usize::from(p)] = after;
-        next[WORDS_PLACE] = written;
+        next[place] = after;
+        next[words_place] = written;
         Ok(Some(next))
     }
 
@@ -69,31 +83,40 @@ impl Tables {
         &mut self,
         memo: &mut Memo,
         code: &Code,
+        quietly: bool,
         number: u32,
         word: u32,
         before: u32,
     ) -> Result<u32, Refusal>
         requires there { number < length self.old.stations }
-        requires refers { IsReference (turn_of (placed_at self.old number).setting code.now (placed_at self.old number).station.processor) }
-        requires known { KnowsStations code.now self.old memo.old }
+        requires refers { IsReference (turn_of (placed_at self.old number).setting code.now
+            (placed_at self.old number).station.processor) }
+        requires known { KnowsStations quietly code.now self.old memo.old }
         ensures kept { OnOk result (HasGrown self.old self.new) }
-        ensures known { OnOk result (KnowsStations code.now self.new memo.new) }
-        ensures behind { IfOk result (IsBehind code.now before (placed_at self.old number) self.new) }
+        ensures known { OnOk result (KnowsStations quietly code.now self.new memo.new) }
+        ensures behind { IfOk result (IsBehind quietly code.now before (placed_at self.old number) self.new) }
     {
         if let Some(behind) = memo.get([number, word, before]) {
             return Ok(behind);
         }
-        let behind = self.retired(code, number, before)?;
+        let behind = self.retired(code, quietly, number, before)?;
         memo.note([number, word, before], behind);
         Ok(behind)
     }
 
     /// Makes the reference, and gives the number of the station behind it.
-    fn retired(&mut self, code: &Code, number: u32, before: u32) -> Result<u32, Refusal>
+    fn retired(
+        &mut self,
+        code: &Code,
+        quietly: bool,
+        number: u32,
+        before: u32,
+    ) -> Result<u32, Refusal>
         requires there { number < length self.old.stations }
-        requires refers { IsReference (turn_of (placed_at self.old number).setting code.now (placed_at self.old number).station.processor) }
+        requires refers { IsReference (turn_of (placed_at self.old number).setting code.now
+            (placed_at self.old number).station.processor) }
         ensures kept { OnOk result (HasGrown self.old self.new) }
-        ensures behind { IfOk result (IsBehind code.now before (placed_at self.old number) self.new) }
+        ensures behind { IfOk result (IsBehind quietly code.now before (placed_at self.old number) self.new) }
     {
         let Ok(mut station) = self.station(number).copy() else {
             return Err(Refusal::Memory);
@@ -101,7 +124,7 @@ impl Tables {
         let Ok(()) = station.retire(code, before) else {
             return Err(Refusal::Memory);
         };
-        station.settle(code)?;
+        station.settle(code, quietly)?;
         self.station_number(station)
     }
 
@@ -118,7 +141,8 @@ impl Tables {
         ensures kept { OnOk result (HasGrown self.old self.new) }
         ensures known { OnOk result (KnowsLists self.new memo.new) }
         ensures there { IfOk result (λ written. written < length self.new.words) }
-        ensures written { IfOk result (λ written. IsWritten (words_at self.old number) word value (words_at self.new written)) }
+        ensures written { IfOk result (λ written.
+            IsWritten (words_at self.old number) word value (words_at self.new written)) }
     {
         if let Some(written) = memo.get([number, word, value]) {
             return Ok(written);
@@ -133,7 +157,8 @@ impl Tables {
         requires { number < length self.old.words }
         ensures kept { OnOk result (HasGrown self.old self.new) }
         ensures there { IfOk result (λ written. written < length self.new.words) }
-        ensures written { IfOk result (λ written. IsWritten (words_at self.old number) word value (words_at self.new written)) }
+        ensures written { IfOk result (λ written.
+            IsWritten (words_at self.old number) word value (words_at self.new written)) }
     {
         let Ok(list) = with_word(self.words(number), word, value) else {
             return Err(Refusal::Memory);

@@ -9,7 +9,7 @@ ghost use Rattle.station_search.specs.Words.{HasSameWords};
 
 use crate::refusal::Refusal;
 use crate::station::Station;
-use crate::tables::{Extent, Row, Tables, WORDS_PLACE};
+use crate::tables::{Extent, Row, Tables};
 use crate::words::trim;
 use hart::Core;
 use local_memory::Code;
@@ -22,39 +22,51 @@ impl Tables {
     /// # Errors
     ///
     /// [`Refusal::Alone`] and [`Refusal::Memory`].
-    pub fn open(
+    pub fn open<const N: usize>(
         &mut self,
         alloc: Global,
         code: &Code,
         extent: Extent,
         cores: &[Core],
         words: Vec<u32>,
-    ) -> Result<Row, Refusal>
+    ) -> Result<Row<N>, Refusal>
         requires cores { AreOfExtent extent cores.now }
-        requires room { extent.processors ≤ 8 }
+        requires room { extent.processors < N }
+        requires narrow { N ≤ 65 }
         requires words { length words.items ≡ extent.shared_words }
         ensures kept { OnOk result (HasGrown self.old self.new) }
         ensures row { IfOk result (IsRow extent self.new) }
         ensures settles { IfOk result (λ row.
-            Settles (setting_at extent) code.now (kept_by self.new.live) (flat_of code.now cores.now words.items) (λ k. []) (means extent self.new row)) }
+            Settles (setting_at extent) code.now (kept_by self.new.live)
+            (flat_of code.now cores.now words.items) (λ k. [])
+            (means extent self.new row)) }
     {
-        let mut row = [0; 9];
+        let mut row = [0; N];
         for (p, core) in cores.iter().enumerate() {
-            row[p] = self.opened(alloc, code, core)?;
+            row[p] = self.opened(alloc, code, extent.exchanged, core)?;
         }
-        row[WORDS_PLACE] = self.trimmed_number(words)?;
+        row[usize::from(extent.processors)] = self.trimmed_number(words)?;
         Ok(row)
     }
 
     /// The number of the station at which a processor settles that has printed nothing.
-    fn opened(&mut self, alloc: Global, code: &Code, core: &Core) -> Result<u32, Refusal>
+    fn opened(
+        &mut self,
+        alloc: Global,
+        code: &Code,
+        exchanged: bool,
+        core: &Core,
+    ) -> Result<u32, Refusal>
         ensures kept { OnOk result (HasGrown self.old self.new) }
-        ensures opened { IfOk result (IsOpened code.now core.now self.new) }
+        ensures opened { IfOk result (IsOpened exchanged code.now core.now self.new) }
     {
         let Ok(mut station) = Station::new(alloc, core) else {
             return Err(Refusal::Memory);
         };
-        station.settle(code)?;
+        station.settle(code, false)?;
+        if exchanged {
+            station.set_number(0);
+        }
         self.station_number(station)
     }
 

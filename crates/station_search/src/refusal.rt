@@ -9,4 +9,6 @@ pub enum Refusal {
     States,
     /// A processor goes on for 1,000,000 instructions without a reference.
     Alone,
+    /// A processor asks for its own number behind a reference, while processors are exchanged.
+    Asks,
 }

@@ -1,17 +1,19 @@
 //! A processor between two references.
 
-ghost use Rattle.std.specs.Prelude.{◌≡◌, IfOk, IsTrue, OnOk};
+ghost use Rattle.std.specs.Prelude.{◌≡◌, false, IfOk, IsTrue, OnOk};
+ghost use Rattle.alone.specs.Exchanging.{Asks};
 ghost use Rattle.flat_machine.specs.State.{is_running};
 ghost use Rattle.flat_machine.specs.Turns.{turn_of};
 ghost use Rattle.hart.specs.Deciding.{IsReference};
-ghost use Rattle.station_search.specs.Placed.{placed_of, printing, IsEqual, IsSame, IsStill, HasGone, HasRetired, HasTurned};
+ghost use Rattle.station_search.specs.Placed.{placed_of, printing, IsEqual, IsSame, IsStill, HasGone, HasRetired};
+ghost use Rattle.station_search.specs.Placed.{HasTurned};
 
 use crate::refusal::Refusal;
 use flat_machine::{Cause, Retired, Status};
 use hart::{Core, Taken};
 use live_registers::{LiveTable, dead_registers_are_not_kept};
 use local_memory::Code;
-use rv_table::Register;
+use rv_table::{Insn, Register};
 use std::alloc::{AllocError, Global};
 use std::marker::Model;
 
@@ -117,13 +119,14 @@ impl Station {
     ///
     /// # Errors
     ///
-    /// [`Refusal::Alone`] where these are more than [`MAX_ALONE`], and [`Refusal::Memory`].
-    pub fn settle(&mut self, code: &Code) -> Result<(), Refusal>
-        ensures gone { OnOk result (HasGone code.now self.old self.new) }
+    /// [`Refusal::Asks`] where one of them asks for the processor's own number though it is to go quietly,
+    /// [`Refusal::Alone`] where they are more than [`MAX_ALONE`], and [`Refusal::Memory`].
+    pub fn settle(&mut self, code: &Code, quietly: bool) -> Result<(), Refusal>
+        ensures gone { OnOk result (HasGone quietly code.now self.old self.new) }
         ensures still { OnOk result (IsStill code.now self.new) }
     {
         for _turn in 0..MAX_ALONE {
-            if self.step(code)? {
+            if self.step(code, quietly)? {
                 return Ok(());
             }
         }
@@ -131,12 +134,15 @@ impl Station {
     }
 
     /// Takes a turn alone, and says whether the processor has stopped, or waits for a shared word.
-    fn step(&mut self, code: &Code) -> Result<bool, Refusal>
-        ensures turned { OnOk result (HasTurned code.now self.old self.new) }
+    fn step(&mut self, code: &Code, quietly: bool) -> Result<bool, Refusal>
+        ensures turned { OnOk result (HasTurned quietly code.now self.old self.new) }
         ensures still { IfOk result (λ stands. IsTrue stands → IsStill code.now self.new) }
     {
         if !self.is_running() {
             return Ok(true);
+        }
+        if quietly && self.asks(code) {
+            return Err(Refusal::Asks);
         }
         match self.core.take(code) {
             Taken::Retired(retired) => match self.print(retired) {
@@ -153,6 +159,25 @@ impl Station {
                 Ok(true)
             }
         }
+    }
+
+    /// Whether the next turn asks for the processor's own number.
+    #[tactic(auto, unfolding(flat_machine::specs::Effects::register_of))]
+    fn asks(&self, code: &Code) -> bool
+        ensures { result ≡ false → Asks code.now self.now.station.processor → ⊥ }
+    {
+        match code.fetch(self.core.pc()) {
+            Ok(Insn::Ecall) => self.core.registers()[17] == 2,
+            _ => false,
+        }
+    }
+
+    /// Gives the processor another number.
+    pub fn set_number(&mut self, number: u8)
+        ensures setting { self.new.setting ≡ record self.old.setting { number = number } }
+        ensures station { self.new.station ≡ self.old.station }
+    {
+        self.core.set_number(number);
     }
 
     /// Appends what an instruction gave to the console.

@@ -14,19 +14,15 @@ use std::marker::Model;
 /// How many processors and shared words a machine has.
 #[derive(Clone, Copy, Debug, PartialEq, Eq, Drop)]
 pub struct Extent {
-    /// At most 8.
+    /// At most 64.
     pub processors: u8,
     pub shared_words: u32,
+    /// Whether processors that stand alike are exchanged. Then the stations of all have the number 0.
+    pub exchanged: bool,
 }
 
-/// Where a row has the number of its list of words.
-pub const WORDS_PLACE: usize = 8;
-
-/// How many processors a row has room for.
-pub const MAX_PROCESSORS: u8 = 8;
-
-/// A state: the number of the station of each processor, and behind them that of the list of words.
-pub type Row = [u32; 9];
+/// A state: the number of the station of each processor, after them that of the list of words, and zeros.
+pub type Row<const N: usize> = [u32; N];
 
 /// Stations and lists of shared words, each with a number. They only grow, so a row means the same in
 /// all that they become. What registers hold that are not live is not kept of a station.
@@ -43,7 +39,11 @@ impl Model for Tables {
 
     ghost Value = { TableLists };
 
-    ghost view = { λ t. record { live = t.live; stations = t.stations.items; words = map (λ list. list.items) t.words.keys } };
+    ghost view = { λ t. record {
+      live = t.live;
+      stations = t.stations.items;
+      words = map (λ list. list.items) t.words.keys;
+    } };
 }
 
 impl Tables {
@@ -77,7 +77,8 @@ impl Tables {
         }
     }
 
-    /// The number of a station, which is added where there is no other that is the same. It is brought to its least form first.
+    /// The number of a station, which is added where there is no other that is the same. It is brought to its least
+    /// form first.
     ///
     /// # Errors
     ///

@@ -5,7 +5,7 @@ pub trait Watch {
     /// So many states are found by now. It is told before the moves of each state are looked at.
     fn found(&mut self, states: usize);
 
-    /// The search is over. No other call follows.
+    /// The search is over. Another may begin.
     fn over(&mut self);
 }
 

@@ -7,14 +7,14 @@ use Rattle.station_search.specs.Tables.{HasGrown, IsRow}
 use Rattle.station_search.proofs.finding.expand.Given as goal
 
 abbrev pub invariant-loop-p : goal.invariant-loop-p
-invariant-loop-p l = record {
+invariant-loop-p g l = record {
   kept : HasGrown l.fn.tables l.tables;
-  stations : KnowsStations l.code l.tables l.memos.stations;
+  stations : KnowsStations l.extent.exchanged l.code l.tables l.memos.stations;
   lists : KnowsLists l.tables l.memos.lists;
-  wide : length l.targets ≡ 8;
   there : l.at < length l.rows.keys;
   row_is : slice_index_or l.rows.keys l.at [] ≡ l.row;
   is_row : IsRow l.extent l.tables l.row;
-  expanded : (first : Standing) (moves : List (List ℕ)) → Searched l.extent l.code l.fn.tables l.fn.rows.keys moves first l.at →
-      Expanded l.extent l.code l.tables l.rows.keys moves first l.targets l.at l.p;
+  expanded : (first : Standing) (moves : List (List ℕ)) →
+      Searched l.extent l.code l.classes l.fn.tables l.fn.rows.keys moves first l.at →
+      Expanded l.extent l.code l.classes l.tables l.rows.keys moves first l.successors.items l.at l.p;
 }

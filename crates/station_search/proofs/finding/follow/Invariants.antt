@@ -6,7 +6,7 @@ use Rattle.station_search.proofs.finding.follow.Given as goal
 abbrev pub invariant-loop-at : goal.invariant-loop-at
 invariant-loop-at g l = record {
   kept : HasGrown l.fn.tables l.tables;
-  stations : KnowsStations l.code l.tables l.memos.stations;
+  stations : KnowsStations l.extent.exchanged l.code l.tables l.memos.stations;
   lists : KnowsLists l.tables l.memos.lists;
-  searched : Searched l.extent l.code l.tables l.found.rows.keys l.found.moves.items (means l.extent l.fn.tables l.fn.first) l.at;
+  searched : Searched l.extent l.code l.classes l.tables l.found.rows.keys l.found.moves (means l.extent l.fn.tables l.fn.first) l.at;
 }
