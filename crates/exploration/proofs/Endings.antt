@@ -1,5 +1,5 @@
 -- Rows in which no processor runs, and their results.
-use Rattle.std.proofs.Common.{◌≡◌, ◌⊎◌, inl, inr, ℕ, ◌+◌, ◌<◌, ◌≤◌, zero, suc, Bool, true, false, cond, true≢false, List, [], ◌∷◌, ◌++◌, Some}
+use Rattle.std.proofs.Common.{◌≡◌, ◌⊎◌, inl, inr, ℕ, ◌+◌, ◌<◌, zero, suc, Bool, true, false, cond, true≢false, List, [], ◌∷◌, ◌++◌, Some}
 use Rattle.std.proofs.Common.{All, length, map, refl, sym, ap, subst, ◌∙◌, arith}
 use Rattle.std.specs.Prelude.{Contains, slice_get, slice_index}
 use Rattle.std.specs.List.{range_with_len}
@@ -9,12 +9,13 @@ use Rattle.std.proofs.lemmas.List.FromFn.{length-map-range_with_len, fill_by_all
 use Rattle.flat_machine.specs.State.{is_running}
 use Rattle.results.specs.alone.Stations.{Station}
 use Rattle.live_registers.specs.Forgetting.{with_live, kept_by}
-use Rattle.results.specs.Results.{FinalResult}
+use Rattle.results.specs.alone.Results.{FinalResult, HaveStopped, StandsFor, result_at, station_result}
+use Rattle.station_search.proofs.Lemmas.{stands_for_back}
 use Rattle.station_search.specs.declared.tables.Extent.{Extent}
 use Rattle.station_search.specs.Tables.{TableLists, nowhere, placed_at, means}
 use Rattle.station_search.specs.Search.{state_at}
 use Rattle.station_search.proofs.Lemmas.{found_at, listed_there, listed_is, mapped_at, up_to}
-use Rattle.exploration.specs.Endings.{HaveStopped, IsAdded, IsEnding, IsOnce, result_at, station_result}
+use Rattle.exploration.specs.Endings.{IsAdded, IsEnding, IsEndingAdded, IsOnce, IsStoodFor}
 
 -- ---- what is kept of a station
 
@@ -50,6 +51,12 @@ module _ (e : Extent) (t : TableLists) (row : List ℕ) where
       (length-map (means e t row).stations station_result ∙ length-map-range_with_len (λ p. kept_by t.live (station p)) 0 e.processors)
       (λ k l. mapped_at station_result (means e t row).stations k (kept_by t.live (station k)) (station_result nowhere.station)
       (listed_there (λ p. kept_by t.live (station p)) e.processors k l) ∙ kept_result t.live (station k))
+
+  -- There are as many results as processors.
+  pub results_all : length (map station_result (means e t row).stations) ≡ e.processors
+  results_all =
+      length-map (means e t row).stations station_result
+      ∙ length-map-range_with_len (λ p. kept_by t.live (station p)) 0 e.processors
 
   pub all_stopped : ((p : ℕ) → p < e.processors → is_running (placed_at t (slice_index row p)).station.processor.status ≡ false) → HaveStopped (means e t row)
   all_stopped h k a found =
@@ -91,41 +98,64 @@ once_more results r new once i j x ei ej = by (at_place results r x i ei) (at_pl
 
 -- ---- the results of the first so many rows
 
-module _ (e : Extent) (t : TableLists) (rows : List (List ℕ)) where
+module _ (e : Extent) (classes : List ℕ) (t : TableLists) (rows : List (List ℕ)) where
   pub record AreEndings (done : ℕ) (results : List FinalResult) : Type 0 where
-    pub sound : All (IsEnding e t rows) results
-    pub complete : (i : ℕ) → i < done → HaveStopped (state_at e t rows i) → Contains results (result_at (state_at e t rows i))
+    pub sound : All (IsEnding e classes t rows) results
+    pub complete : (i : ℕ) → i < done → HaveStopped (state_at e t rows i) →
+        IsStoodFor classes results (result_at (state_at e t rows i))
     pub once : IsOnce results
 
   pub no_endings : AreEndings 0 []
-  no_endings = record { sound = All-nil (IsEnding e t rows); complete = λ i l. absurd (omega (arith, l)); once = λ i j r e. absurd (nowhere_there i r e) }
+  no_endings = record {
+    sound = All-nil (IsEnding e classes t rows);
+    complete = λ i l. absurd (omega (arith, l));
+    once = λ i j r e. absurd (nowhere_there i r e);
+  }
 
-  pub ended : (done : ℕ) (results new : List FinalResult) (r : FinalResult) → AreEndings done results → done < length rows →
-      HaveStopped (state_at e t rows done) → r ≡ result_at (state_at e t rows done) → IsAdded results r new → AreEndings (done + 1) new
-  ended done results new r h within stopped is (inl there) =
-      subst (AreEndings (done + 1)) (sym there.1)
-      (record { sound = h.sound; complete = λ i l. by i (up_to i done l); once = h.once })
-    where
-      by : (i : ℕ) → (i < done) ⊎ (i ≡ done) → HaveStopped (state_at e t rows i) → Contains results (result_at (state_at e t rows i))
-      by i (inl below) s = h.complete i below s
-      by i (inr last) s = subst (Contains results) (is ∙ ap (λ j. result_at (state_at e t rows j)) (sym last)) there.0
-  ended done results new r h within stopped is (inr more) =
-      subst (AreEndings (done + 1)) (sym more.1)
-      (record {
-        sound = All-append (IsEnding e t rows) results (r ∷ []) h.sound
-            (All-cons (IsEnding e t rows) r [] (record { place = done; within = within; stopped = stopped; is = is }) (All-nil (IsEnding e t rows)));
-        complete = λ i l. by i (up_to i done l);
-        once = once_more results r more.0 h.once;
-      })
-    where
-      by : (i : ℕ) → (i < done) ⊎ (i ≡ done) → HaveStopped (state_at e t rows i) → Contains (results ++ r ∷ []) (result_at (state_at e t rows i))
-      by i (inl below) s = Contains-append_left results (r ∷ []) (result_at (state_at e t rows i)) (h.complete i below s)
-      by i (inr last) s =
-          subst (Contains (results ++ r ∷ [])) (is ∙ ap (λ j. result_at (state_at e t rows j)) (sym last)) (Contains-push results r)
+  -- The result of one row more is there.
+  module _ (done : ℕ) (results new : List FinalResult) (r : FinalResult) (h : AreEndings done results) where
+    grown : ((q : FinalResult) → Contains results q → Contains new q) → Contains new r →
+        StandsFor classes (result_at (state_at e t rows done)) r → (i : ℕ) → i < done + 1 → HaveStopped (state_at e t rows i) →
+        IsStoodFor classes new (result_at (state_at e t rows i))
+    grown more here is i l = by (up_to i done l)
+      where
+        by : (i < done) ⊎ (i ≡ done) → HaveStopped (state_at e t rows i) → IsStoodFor classes new (result_at (state_at e t rows i))
+        by (inl below) stopped = let x = h.complete i below stopped in (x.0, more x.0 x.1, x.2)
+        by (inr last) stopped =
+            subst (λ j. IsStoodFor classes new (result_at (state_at e t rows j))) (sym last)
+            (r, here, stands_for_back classes (result_at (state_at e t rows done)) r is)
 
-  pub passed : (done : ℕ) (results : List FinalResult) → AreEndings done results → (HaveStopped (state_at e t rows done) → ⊥) → AreEndings (done + 1) results
+    pub ended : done < length rows → HaveStopped (state_at e t rows done) →
+        StandsFor classes (result_at (state_at e t rows done)) r → IsAdded results r new → AreEndings (done + 1) new
+    ended within stopped is (inl there) =
+        let more : (q : FinalResult) → Contains results q → Contains new q = λ q. subst (λ rs. Contains rs q) (sym there.1) in
+        record {
+          sound = subst (All (IsEnding e classes t rows)) (sym there.1) h.sound;
+          complete = grown more (more r there.0) is;
+          once = subst IsOnce (sym there.1) h.once;
+        }
+    ended within stopped is (inr added) = record {
+      sound = subst (All (IsEnding e classes t rows)) (sym added.1)
+          (All-append (IsEnding e classes t rows) results (r ∷ []) h.sound
+          (All-cons (IsEnding e classes t rows) r []
+          (record { place = done; within = within; stopped = stopped; is = is }) (All-nil (IsEnding e classes t rows))));
+      complete = grown (λ q x. subst (λ rs. Contains rs q) (sym added.1) (Contains-append_left results (r ∷ []) q x))
+          (subst (λ rs. Contains rs r) (sym added.1) (Contains-push results r)) is;
+      once = subst IsOnce (sym added.1) (once_more results r added.0 h.once);
+    }
+
+  -- A row in which a processor runs has none.
+  pub passed : (done : ℕ) (results : List FinalResult) → AreEndings done results →
+      (HaveStopped (state_at e t rows done) → ⊥) → AreEndings (done + 1) results
   passed done results h runs = record { sound = h.sound; complete = λ i l. by i (up_to i done l); once = h.once }
     where
-      by : (i : ℕ) → (i < done) ⊎ (i ≡ done) → HaveStopped (state_at e t rows i) → Contains results (result_at (state_at e t rows i))
+      by : (i : ℕ) → (i < done) ⊎ (i ≡ done) → HaveStopped (state_at e t rows i) →
+          IsStoodFor classes results (result_at (state_at e t rows i))
       by i (inl below) s = h.complete i below s
       by i (inr last) s = absurd (runs (subst (λ j. HaveStopped (state_at e t rows j)) last s))
+
+  -- One row more, whether a processor runs in it or not.
+  pub row_more : (done : ℕ) (results new : List FinalResult) → AreEndings done results → done < length rows →
+      IsEndingAdded classes (state_at e t rows done) results new → AreEndings (done + 1) new
+  row_more done results new h within (inl x) = ended done results new x.1 h within x.0 x.2 x.3
+  row_more done results new h within (inr x) = subst (AreEndings (done + 1)) (sym x.1) (passed done results h x.0)

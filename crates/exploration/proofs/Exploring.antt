@@ -1,102 +1,126 @@
 -- The results of the rows that a search has found are those of the machine.
-use Rattle.std.proofs.Common.{◌≡◌, ℕ, ◌<◌, ◌≤◌, ◌^◌, Bool, true, false, cond, List, [], Some, None, length, map, sym, ap, subst}
-use Rattle.std.proofs.Common.{◌∙◌, arith}
-use Rattle.std.specs.Prelude.{slice_get, slice_index_or}
+use Rattle.std.proofs.Common.{◌≡◌, ◌⊎◌, inl, inr, ℕ, ◌<◌, ◌≤◌, ◌^◌, Bool, true, false, cond, List, [], Some, None, Contains, length, map}
+use Rattle.std.proofs.Common.{sym, ap, subst, ◌∙◌, arith}
+use Rattle.std.specs.Prelude.{slice_get, slice_index}
 use Rattle.std.specs.List.{range_with_len}
 use Rattle.std.proofs.Math.Nat.{pow-le-pow_right}
+use Rattle.std.proofs.lemmas.Bool.{cases_lt}
+use Rattle.std.proofs.lemmas.Option.{slice_get_past}
 use Rattle.std.proofs.lemmas.List.{length-map}
 use Rattle.std.proofs.lemmas.List.FromFn.{length-map-range_with_len, fill_by_all}
-use Rattle.flat_machine.specs.declared.event.Event.{Event}
-use Rattle.flat_machine.specs.State.{FlatState, Processor, is_running}
-use Rattle.flat_machine.specs.Flat.{flat_run, flat_events}
+use Rattle.flat_machine.specs.State.{FlatState, Processor}
 use Rattle.hart.specs.State.{CoreState}
 use Rattle.machine.specs.machine_ports.Ports.{PortState}
 use Rattle.machine.specs.machine_program.Processors.{no_processor, no_port, port_at, word_at}
 use Rattle.machine.specs.Machines.{MachineLists, IsMachine}
 use Rattle.machine.specs.Openings.{flat_state}
-use Rattle.results.specs.alone.Stations.{Station, consoles_after, turns}
-use Rattle.results.specs.alone.Closing.{station_of, Standing, Settles, IsKeptOf, HasStopped}
+use Rattle.results.specs.alone.Closing.{IsForgetful, Standing, Settles}
+use Rattle.results.specs.alone.Exchanging.{AreAlike, IsUniform}
+use Rattle.results.specs.alone.Results.{FinalResult, IsFlatResult, HaveStopped, StandsFor, result_at}
+use Rattle.station_search.proofs.Lemmas.{stands_for_on}
+use Rattle.found_states.specs.Laws.{AllStoodForAreResults, AreSchedulesOf, EachResultIsStoodFor, KeepsResults, SuccessorsTellOfSchedules}
 use Rattle.live_registers.specs.Forgetting.{kept_by}
-use Rattle.results.specs.Results.{ProcessorResult, FinalResult, result_with, result_of, IsFlatResult}
+use Rattle.move_ranks.specs.declared.schedules.Schedules.{Schedules}
+use Rattle.move_ranks.specs.Schedules.{AreTold}
 use Rattle.station_search.specs.declared.tables.Extent.{Extent}
-use Rattle.station_search.specs.Tables.{TableLists, setting_at}
+use Rattle.station_search.specs.Tables.{TableLists, placed_at, setting_at, means}
 use Rattle.station_search.specs.Opening.{AreOfExtent, flat_of}
-use Rattle.station_search.specs.Search.{state_at}
-use Rattle.station_search.specs.Ends.{HaveAllEnds, AreTurns}
+use Rattle.station_search.specs.Search.{AreClasses, AreClassesOf, state_at}
+use Rattle.station_search.specs.Ends.{AreFound}
 use Rattle.station_search.proofs.Lemmas.{there, found_at, mapped_at, listed_there, listed_is}
-use Rattle.exploration.specs.Endings.{HaveStopped, IsEnding, result_at, station_result}
-use Rattle.exploration.proofs.Endings.{kept_result, kept_stands}
+use Rattle.exploration.specs.Endings.{AreSingle, IsEnding, IsStoodFor}
+use Rattle.exploration.proofs.Endings.{kept_result}
 
--- ---- what is kept of a machine has its result
+-- ---- the rows that a search has found
 
-module _ (live : List (List Bool)) (n : FlatState) (consoles : ℕ → List ℕ) (s : Standing) (h : IsKeptOf (kept_by live) n consoles s) where
-  pub stopped_so : HaveStopped s → HasStopped n
-  stopped_so stopped k p found = sym (kept_stands live (station_of p (consoles k))) ∙ stopped k (kept_by live (station_of p (consoles k))) (h.each k p found)
+-- What is kept of a station has its result.
+keeps : (live : List (List Bool)) → KeepsResults (kept_by live)
+keeps = kept_result
 
-  pub so_stopped : HasStopped n → HaveStopped s
-  so_stopped stopped k a found =
-      let within : k < length n.processors = subst (λ m. k < m) h.all (found_at s.stations k a a found).0 in
-      let here = there n.processors k no_processor within in
-      let both : Some (kept_by live (station_of (slice_index_or n.processors k no_processor) (consoles k))) ≡ Some a =
-      sym (h.each k (slice_index_or n.processors k no_processor) here) ∙ found in
-      let is : kept_by live (station_of (slice_index_or n.processors k no_processor) (consoles k)) ≡ a = cc in
-      ap (λ (b : Station). is_running b.processor.status) (sym is)
-      ∙ (kept_stands live (station_of (slice_index_or n.processors k no_processor) (consoles k)) ∙ stopped k (slice_index_or n.processors k no_processor) here)
+-- Processors of one class that have equal numbers in a row stand in equal states.
+pub uniform : (e : Extent) (classes : List ℕ) (t : TableLists) (row : List ℕ) → AreClasses e classes → AreClassesOf e classes row →
+    IsUniform classes (means e t row)
+uniform e classes t row are of j k alike = by (cases_lt j e.processors) (cases_lt k e.processors)
+  where
+    within : (j k : ℕ) → AreAlike classes j k → k < e.processors → j < e.processors
+    within j k a l =
+        let x = there classes k 0 (subst (λ n. k < n) (sym are.all) l) in
+        subst (λ n. j < n) are.all (found_at classes j (slice_index classes k) 0 (a ∙ x)).0
 
-  abbrev shown : ℕ → ProcessorResult
-  shown k = result_with (slice_index_or n.processors k no_processor) (consoles k)
+    past : (k : ℕ) → e.processors ≤ k → slice_get (means e t row).stations k ≡ None
+    past k far =
+        let long = length-map-range_with_len (λ p. kept_by t.live (placed_at t (slice_index row p)).station) 0 e.processors in
+        slice_get_past (means e t row).stations k (omega (arith, long, far))
 
-  pub processors_kept : map shown (range_with_len 0 (length n.processors)) ≡ map station_result s.stations
-  processors_kept = sym (fill_by_all shown (map station_result s.stations) (length n.processors) (shown 0)
-      (length-map s.stations station_result ∙ h.all)
-      (λ k l. mapped_at station_result s.stations k (kept_by live (station_of (slice_index_or n.processors k no_processor) (consoles k))) (shown 0)
-      (h.each k (slice_index_or n.processors k no_processor) (there n.processors k no_processor l))
-      ∙ kept_result live (station_of (slice_index_or n.processors k no_processor) (consoles k))))
+    by : (j < e.processors) ⊎ (e.processors ≤ j) → (k < e.processors) ⊎ (e.processors ≤ k) →
+        slice_get (means e t row).stations j ≡ slice_get (means e t row).stations k
+    by (inl lj) (inl lk) =
+        let same : slice_index classes j ≡ slice_index classes k =
+        (found_at classes j (slice_index classes k) 0 (alike ∙ there classes k 0 (subst (λ n. k < n) (sym are.all) lk))).1 in
+        listed_there (λ p. kept_by t.live (placed_at t (slice_index row p)).station) e.processors j lj
+        ∙ (ap (λ i. Some (kept_by t.live (placed_at t i).station)) (of j k lj lk same)
+        ∙ sym (listed_there (λ p. kept_by t.live (placed_at t (slice_index row p)).station) e.processors k lk))
+    by (inl lj) (inr fk) = let l = within k j (sym alike) lj in absurd (omega (arith, l, fk))
+    by (inr fj) (inl lk) = let l = within j k alike lk in absurd (omega (arith, l, fj))
+    by (inr fj) (inr fk) = past j fj ∙ sym (past k fk)
 
-result_kept : (live : List (List Bool)) (n : FlatState) (events : List (ℕ × Event)) (s : Standing) →
-    IsKeptOf (kept_by live) n (consoles_after (λ j. []) events) s →
-    result_of n events ≡ result_at s
-result_kept live n events s h =
-    let processors = processors_kept live n (consoles_after (λ j. []) events) s h in
-    λ i. record { processors = processors i; words = sym h.shared i }
+module _ (e : Extent) (code : List ℕ) (classes : List ℕ) (t : TableLists) (rows moves : List (List ℕ)) (first : Standing)
+    (m : FlatState) (f : IsForgetful (setting_at e) code (kept_by t.live)) (found : AreFound e code classes t rows moves first)
+    (settles_first : Settles (setting_at e) code (kept_by t.live) m (λ k. []) first) (results : List FinalResult) where
+  settles : Settles (setting_at e) code (kept_by t.live) m (λ k. []) (state_at e t rows 0)
+  settles = subst (Settles (setting_at e) code (kept_by t.live) m (λ k. [])) (sym found.begins) settles_first
 
-module _ (e : Extent) (code : List ℕ) (t : TableLists) (rows : List (List ℕ)) (first : Standing) (m : FlatState)
-    (settles : Settles (setting_at e) code (kept_by t.live) m (λ k. []) first) where
-  pub flat_sound : AreTurns e code t rows first → (r : FinalResult) → IsEnding e t rows r → IsFlatResult m r
-  flat_sound all r h =
-      let x = all m (λ k. []) h.place settles h.within in (
-        x.0,
-        stopped_so t.live (flat_run m (turns x.0)) (consoles_after (λ j. []) (flat_events m (turns x.0))) (state_at e t rows h.place) x.1 h.stopped,
-        h.is ∙ sym (result_kept t.live (flat_run m (turns x.0)) (flat_events m (turns x.0)) (state_at e t rows h.place) x.1),
-      )
+  -- All that the results stand for are results of the flat machine,
+  pub flat_sound : AllStoodForAreResults → IsUniform classes first →
+      ((r : FinalResult) → Contains results r → IsEnding e classes t rows r) → (r q : FinalResult) → Contains results r →
+      StandsFor classes r q → IsFlatResult m q
+  flat_sound law same ends r q there stands =
+      let h = ends r there in
+      law (setting_at e) code (kept_by t.live) classes (state_at e t rows) (length rows) m h.place q f (keeps t.live) found.reached
+      (subst (IsUniform classes) (sym found.begins) same) settles h.within h.stopped
+      (stands_for_on classes (result_at (state_at e t rows h.place)) r q h.is stands)
 
-  pub flat_complete : HaveAllEnds e code t rows first → (r : FinalResult) → IsFlatResult m r → IsEnding e t rows r
-  flat_complete all r h =
-      let x = all m (λ k. []) h.0 settles h.1 in
-      record {
-        place = x.0;
-        within = x.1;
-        stopped = so_stopped t.live (flat_run m (turns h.0)) (consoles_after (λ j. []) (flat_events m (turns h.0))) (state_at e t rows x.0) x.2 h.1;
-        is = h.2 ∙ result_kept t.live (flat_run m (turns h.0)) (flat_events m (turns h.0)) (state_at e t rows x.0) x.2;
-      }
+  -- and each of its results is stood for.
+  pub flat_complete : EachResultIsStoodFor →
+      ((i : ℕ) → i < length rows → HaveStopped (state_at e t rows i) → IsStoodFor classes results (result_at (state_at e t rows i))) →
+      (q : FinalResult) → IsFlatResult m q → IsStoodFor classes results q
+  flat_complete law all q is =
+      let x = law (setting_at e) code (kept_by t.live) classes (state_at e t rows) (length rows) moves m q f (keeps t.live)
+      found.successors settles is in
+      let y = all x.0 x.1 x.2 in
+      (y.0, y.1, stands_for_on classes y.0 (result_at (state_at e t rows x.0)) q y.2 x.3)
+
+  -- What is told of the schedules is so.
+  pub flat_schedules : SuccessorsTellOfSchedules → (told : Schedules) → AreTold moves told → AreSchedulesOf m told
+  flat_schedules law told =
+      law (setting_at e) code (kept_by t.live) classes (state_at e t rows) (length rows) moves m (λ k. []) told f
+      found.successors found.reached settles
 
 -- ---- the machine
 
-pub few_processors : (k : ℕ) → k ≤ 3 → 2 ^ k ≤ 8
+-- A machine has at most 64 processors.
+pub few_processors : (k : ℕ) → k ≤ 6 → 2 ^ k ≤ 64
 few_processors k few = pow-le-pow_right {n = 2} (omega arith) few
 
 -- what is known of a machine's size, its cores and its words, as they were read
 pub record AreRead (m : MachineLists) (e : Extent) (cores : List CoreState) (words : List ℕ) : Type 0 where
   pub sound : IsMachine m
-  pub extent : e ≡ record { processors = 2 ^ m.config.k; shared_words = m.config.shared_words }
+  pub processors : e.processors ≡ 2 ^ m.config.k
+  pub shared : e.shared_words ≡ m.config.shared_words
   pub cores_are : cores ≡ map (λ p. (port_at m.ports p).core) (range_with_len 0 (2 ^ m.config.k))
   pub words_are : words ≡ map (word_at m.config.k m.modules) (range_with_len 0 m.config.shared_words)
 
-pub are_read : {m : MachineLists} {e : Extent} {cores : List CoreState} {words : List ℕ} → IsMachine m →
-    e ≡ record { processors = 2 ^ m.config.k; shared_words = m.config.shared_words } →
+pub are_read : {m : MachineLists} {e : Extent} {cores : List CoreState} {words : List ℕ} {exchanged : Bool} → IsMachine m →
+    e ≡ record { processors = 2 ^ m.config.k; shared_words = m.config.shared_words; exchanged = exchanged } →
     cores ≡ map (λ p. (port_at m.ports p).core) (range_with_len 0 (2 ^ m.config.k)) →
     words ≡ map (word_at m.config.k m.modules) (range_with_len 0 m.config.shared_words) → AreRead m e cores words
-are_read sound extent cores_are words_are = record { sound = sound; extent = extent; cores_are = cores_are; words_are = words_are }
+are_read sound extent cores_are words_are = record {
+  sound = sound;
+  processors = ap (λ (e : Extent). e.processors) extent;
+  shared = ap (λ (e : Extent). e.shared_words) extent;
+  cores_are = cores_are;
+  words_are = words_are;
+}
 
 module _ {m : MachineLists} {e : Extent} {cores : List CoreState} {list : List ℕ} (seen : AreRead m e cores list) where
   abbrev core : ℕ → CoreState
@@ -104,19 +128,21 @@ module _ {m : MachineLists} {e : Extent} {cores : List CoreState} {list : List �
 
   pub of_extent : AreOfExtent e cores
   of_extent = record {
-    all = ap length seen.cores_are ∙ (length-map-range_with_len core 0 (2 ^ m.config.k) ∙ sym (ap (λ (x : Extent). x.processors) seen.extent));
+    all = ap length seen.cores_are ∙ (length-map-range_with_len core 0 (2 ^ m.config.k) ∙ sym seen.processors);
     settings = λ p c found. by p c (listed_is core (2 ^ m.config.k) p c (ap (λ xs. slice_get xs p) (sym seen.cores_are) ∙ found));
   }
     where
       by : (p : ℕ) (c : CoreState) → (p < 2 ^ m.config.k) × (core p ≡ c) → c.setting ≡ setting_at e p
       by p c x =
           ap (λ (d : CoreState). d.setting) (sym x.1)
-          ∙ (seen.sound.ports.settings p x.0 ∙ ap (λ (x : Extent). record { number = p; processors = x.processors; shared_words = x.shared_words })
-          (sym seen.extent))
+          ∙ (seen.sound.ports.settings p x.0 ∙ (λ i. record {
+            number = p;
+            processors = sym seen.processors i;
+            shared_words = sym seen.shared i;
+          }))
 
   pub wide : length list ≡ e.shared_words
-  wide = ap length seen.words_are ∙ (length-map-range_with_len (word_at m.config.k m.modules) 0 m.config.shared_words ∙ sym
-      (ap (λ (x : Extent). x.shared_words) seen.extent))
+  wide = ap length seen.words_are ∙ (length-map-range_with_len (word_at m.config.k m.modules) 0 m.config.shared_words ∙ sym seen.shared)
 
   abbrev state : ℕ → Processor
   state p = (port_at m.ports p).core.state
@@ -145,3 +171,8 @@ module _ {m : MachineLists} {e : Extent} {cores : List CoreState} {list : List �
 pub picked : {X : Type 0} (b : Bool) (x y : X) → Some x ≡ cond b (Some y) None → x ≡ y
 picked true x y e = cc
 picked false x y e = absurd (cc)
+
+-- If processors are not exchanged, each is of a class of its own.
+pub single : {e : Extent} {classes : List ℕ} {count : ℕ} → e.processors ≡ count → AreClasses e classes → e.exchanged ≡ false →
+    AreSingle count classes
+single all are off j k few alike = are.own off j k (subst (λ n. k < n) (sym all) few) alike

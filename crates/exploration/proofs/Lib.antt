@@ -1,3 +1,4 @@
 pub mod Endings
 pub mod Exploring
 pub mod Sameness
+pub mod Exchanged

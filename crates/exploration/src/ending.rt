@@ -1,51 +1,91 @@
 //! The results of rows in which no processor runs.
 
-ghost use Rattle.std.specs.Prelude.{◌≡◌, ◌↔◌, ◌<◌, ◌≤◌, ℕ, All, Contains, length, slice_index, IfOk, IsTrue, OnOk};
-ghost use Rattle.exploration.specs.Endings.{HaveStopped, IsAdded, IsEnding, IsOnce, result_at, station_result};
-ghost use Rattle.move_ranks.specs.Ranks.{no_move};
+ghost use Rattle.std.specs.Prelude.{◌≡◌, ◌↔◌, ◌<◌, ◌≤◌, ℕ, All, Contains, length, map, slice_index, IfOk, IsTrue, OnOk};
+ghost use Rattle.results.specs.alone.Results.{HaveStopped, StandsFor, result_at, station_result};
+ghost use Rattle.exploration.specs.Endings.{IsAdded, IsEnding, IsEndingAdded, IsOnce, IsStoodFor};
+ghost use Rattle.move_ranks.specs.Ranks.{no_rank};
 ghost use Rattle.station_search.specs.Ends.{AreRows};
-ghost use Rattle.station_search.specs.Search.{state_at};
+ghost use Rattle.station_search.specs.Search.{AreClasses, state_at};
 ghost use Rattle.station_search.specs.Tables.{IsRow, means, placed_at};
 
+use crate::order::put_in_order;
 use crate::outcome::{FinalResult, ProcessorResult};
-use station_search::{Extent, Row, Tables, WORDS_PLACE};
+use station_search::{Extent, Row, Tables};
 use std::alloc::{AllocError, Global};
 
-/// The result of each row in which no processor runs, each once.
-pub fn results_of(
+/// Results, and the place of the row of each.
+#[derive(Drop)]
+pub(crate) struct Endings {
+    pub results: Vec<FinalResult>,
+    pub places: Vec<u32>,
+}
+
+/// The result of each row in which no processor runs, up to exchanges of processors of one class, each once.
+pub(crate) fn results_of<const N: usize>(
     alloc: Global,
     tables: &Tables,
     extent: Extent,
-    rows: &[Row],
-) -> Result<Vec<FinalResult>, AllocError>
+    classes: &[u8],
+    rows: &[Row<N>],
+) -> Result<Endings, AllocError>
     requires rows { AreRows extent tables.now rows.now }
-    requires room { extent.processors ≤ 8 }
-    requires few { length rows.now ≤ no_move }
-    ensures sound { IfOk result (λ results. All (IsEnding extent tables.now rows.now) results.items) }
-    ensures once { IfOk result (λ results. IsOnce results.items) }
-    ensures complete { IfOk result (λ results. (i : ℕ) → i < length rows.now → HaveStopped (state_at extent tables.now rows.now i)
-        → Contains results.items (result_at (state_at extent tables.now rows.now i))) }
+    requires classes { AreClasses extent classes.now }
+    requires room { extent.processors < N }
+    requires narrow { N ≤ 65 }
+    requires few { length rows.now ≤ no_rank }
+    ensures sound { IfOk result (λ e. All (IsEnding extent classes.now tables.now rows.now) e.results.items) }
+    ensures once { IfOk result (λ e. IsOnce e.results.items) }
+    ensures complete { IfOk result (λ e. (i : ℕ) → i < length rows.now → HaveStopped (state_at extent tables.now rows.now i)
+        → IsStoodFor classes.now e.results.items (result_at (state_at extent tables.now rows.now i))) }
 {
-    let mut results = Vec::new(alloc);
+    let mut endings = Endings {
+        results: Vec::new(alloc),
+        places: Vec::new(alloc),
+    };
     let mut place = 0;
     for row in rows {
-        if has_stopped(tables, extent, row) {
-            add(&mut results, result_of(alloc, tables, extent, row, place)?)?;
-        }
+        add_ending(alloc, tables, extent, classes, row, place, &mut endings)?;
         place += 1;
     }
-    Ok(results)
+    Ok(endings)
 }
 
-/// Adds a result, if it is not there.
-fn add(results: &mut Vec<FinalResult>, last: FinalResult) -> Result<(), AllocError>
+/// Adds the result of a row, if no processor runs in it and the result is not there.
+fn add_ending<const N: usize>(
+    alloc: Global,
+    tables: &Tables,
+    extent: Extent,
+    classes: &[u8],
+    row: &Row<N>,
+    place: u32,
+    endings: &mut Endings,
+) -> Result<(), AllocError>
+    requires row { IsRow extent tables.now row.now }
+    requires classes { AreClasses extent classes.now }
+    requires room { extent.processors < N }
+    requires narrow { N ≤ 65 }
+    ensures { OnOk result (IsEndingAdded classes.now (means extent tables.now row.now) endings.old.results.items
+        endings.new.results.items) }
+{
+    if !has_stopped(tables, extent, row) {
+        return Ok(());
+    }
+    let last = result_of(alloc, tables, extent, classes, row, &mut [])?;
+    if add(&mut endings.results, last)? {
+        endings.places.push(place)?;
+    }
+    Ok(())
+}
+
+/// Adds a result if it is not there, and says whether it was added.
+fn add(results: &mut Vec<FinalResult>, last: FinalResult) -> Result<bool, AllocError>
     ensures added { OnOk result (IsAdded results.old.items last results.new.items) }
 {
     if has(results.as_slice(), &last) {
-        return Ok(());
+        return Ok(false);
     }
     results.push(last)?;
-    Ok(())
+    Ok(true)
 }
 
 /// Whether a result is there.
@@ -61,9 +101,10 @@ fn has(results: &[FinalResult], last: &FinalResult) -> bool
 }
 
 /// Whether no processor runs.
-fn has_stopped(tables: &Tables, extent: Extent, row: &Row) -> bool
+fn has_stopped<const N: usize>(tables: &Tables, extent: Extent, row: &Row<N>) -> bool
     requires row { IsRow extent tables.now row.now }
-    requires room { extent.processors ≤ 8 }
+    requires room { extent.processors < N }
+    requires narrow { N ≤ 65 }
     ensures { IsTrue result ↔ HaveStopped (means extent tables.now row.now) }
 {
     for p in 0..extent.processors {
@@ -74,29 +115,49 @@ fn has_stopped(tables: &Tables, extent: Extent, row: &Row) -> bool
     true
 }
 
-/// The result of a row in which no processor runs, which was found at a place.
-fn result_of(
+/// The result of a row in which no processor runs, with the processors of each class in order. Holders that stand at
+/// the places of the row trade as its processors do; there may be none.
+pub(crate) fn result_of<const N: usize>(
     alloc: Global,
     tables: &Tables,
     extent: Extent,
-    row: &Row,
-    place: u32,
+    classes: &[u8],
+    row: &Row<N>,
+    holders: &mut [u8],
 ) -> Result<FinalResult, AllocError>
     requires row { IsRow extent tables.now row.now }
-    requires room { extent.processors ≤ 8 }
-    ensures { IfOk result (λ r. r ≡ result_at (means extent tables.now row.now)) }
+    requires classes { AreClasses extent classes.now }
+    requires room { extent.processors < N }
+    requires narrow { N ≤ 65 }
+    ensures { IfOk result (λ r. StandsFor classes.now (result_at (means extent tables.now row.now)) r) }
+{
+    let mut processors = processors_of(alloc, tables, extent, row)?;
+    put_in_order(processors.as_mut_slice(), classes, holders);
+    let words = copied(tables.words(row[usize::from(extent.processors)]))?;
+    Ok(FinalResult {
+        processors,
+        words,
+        shared_words: extent.shared_words,
+    })
+}
+
+/// The results of the processors of a row.
+fn processors_of<const N: usize>(
+    alloc: Global,
+    tables: &Tables,
+    extent: Extent,
+    row: &Row<N>,
+) -> Result<Vec<ProcessorResult>, AllocError>
+    requires row { IsRow extent tables.now row.now }
+    requires room { extent.processors < N }
+    requires narrow { N ≤ 65 }
+    ensures { IfOk result (λ all. all.items ≡ map station_result (means extent tables.now row.now).stations) }
 {
     let mut processors = Vec::new(alloc);
     for p in 0..extent.processors {
         processors.push(processor_result(alloc, tables, row[usize::from(p)])?)?;
     }
-    let words = copied(tables.words(row[WORDS_PLACE]))?;
-    Ok(FinalResult {
-        processors,
-        words,
-        shared_words: extent.shared_words,
-        place,
-    })
+    Ok(processors)
 }
 
 /// The result of a station.

@@ -3,7 +3,7 @@
 ghost use Rattle.std.specs.Prelude.{◌≡◌, ◌↔◌, ◌<◌, ℕ, slice_index, IsTrue};
 
 use flat_machine::Status;
-use move_ranks::{Schedules, Targets};
+use move_ranks::Schedules;
 use std::marker::Model;
 
 /// Where a processor has stopped, how, and the bytes that it has printed.
@@ -15,7 +15,7 @@ pub struct ProcessorResult {
 }
 
 impl Model for ProcessorResult {
-    ghost use Rattle.results.specs.Results.{ProcessorResult as Contents};
+    ghost use Rattle.results.specs.alone.Results.{ProcessorResult as Contents};
 
     ghost Value = { Contents };
 
@@ -30,14 +30,12 @@ pub struct FinalResult {
     pub words: Vec<u32>,
     /// How many words there are.
     pub shared_words: u32,
-    /// Where the state was found that has it: no part of the result.
-    pub place: u32,
 }
 
 impl Model for FinalResult {
     ghost use Rattle.std.specs.Prelude.{map, slice_index};
     ghost use Rattle.std.specs.List.{range_with_len};
-    ghost use Rattle.results.specs.Results.{FinalResult as Contents};
+    ghost use Rattle.results.specs.alone.Results.{FinalResult as Contents};
 
     ghost Value = { Contents };
 
@@ -56,7 +54,7 @@ impl ProcessorResult {
 }
 
 impl FinalResult {
-    /// Whether both are the same, wherever they were found.
+    /// Whether both are the same.
     pub fn is_same(&self, other: &FinalResult) -> bool
         ensures { IsTrue result ↔ (self.now ≡ other.now) }
     {
@@ -111,11 +109,18 @@ fn word_at(words: &[u32], place: u32) -> u32
     }
 }
 
-/// All final results, in the order in which they are found, and whether schedules end.
+/// All final results, up to exchanges of processors of one class, and whether schedules end.
 #[derive(Drop)]
 pub struct Explored {
+    /// In the order in which they are found. Each has its processors, in each class, in an order by what they show.
     pub results: Vec<FinalResult>,
     pub schedules: Schedules,
-    /// For each state that was found, where the references of its processors lead.
-    pub moves: Vec<Targets>,
+    /// How many states are found.
+    pub states: usize,
+    /// The class of each processor, named by the first that is in it. A result stands for each that comes of it if
+    /// processors of one class are exchanged.
+    pub classes: Vec<u8>,
+    /// The processors whose references, one after another, lead to what was wanted, on a way with as few of them as
+    /// any. It is empty if nothing was wanted, or that is not there.
+    pub way: Vec<u8>,
 }

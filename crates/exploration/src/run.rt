@@ -1,130 +1,291 @@
 //! The search of a machine.
 
-ghost use Rattle.std.specs.Prelude.{◌≡◌, ◌≤◌, ◌<◌, ◌^◌, ℕ, All, Contains, length, IfOk};
-ghost use Rattle.exploration.specs.Endings.{HaveStopped, IsEnding, IsOnce, result_at};
-ghost use Rattle.move_ranks.specs.Ranks.{no_move};
-ghost use Rattle.move_ranks.specs.Schedules.{AreTold};
-ghost use Rattle.station_search.specs.Ends.{AreRows};
-ghost use Rattle.station_search.specs.Search.{state_at};
-ghost use Rattle.station_search.specs.Scheduled.{AreSchedulesOf};
+ghost use Rattle.std.specs.Prelude.{◌≡◌, ◌<◌, ◌≤◌, ◌^◌, ℕ, false, Contains, length, IfOk};
+ghost use Rattle.results.specs.alone.Results.{FinalResult, HaveStopped, IsFlatResult, StandsFor, result_at};
+ghost use Rattle.exploration.specs.Endings.{AreSingle, IsEnding, IsOnce, IsStoodFor};
+ghost use Rattle.found_states.specs.Laws.{AreSchedulesOf};
+ghost use Rattle.live_registers.specs.Live.{HasAllLive};
 ghost use Rattle.machine.specs.Machines.{AreHome, IsIdle};
 ghost use Rattle.machine.specs.Openings.{flat_state};
-ghost use Rattle.results.specs.Results.{FinalResult, IsFlatResult, IsMachineResult};
+ghost use Rattle.move_ranks.specs.Ranks.{no_rank};
+ghost use Rattle.move_ranks.specs.Schedules.{AreTold};
+ghost use Rattle.results.specs.Results.{IsMachineResult};
+ghost use Rattle.station_search.specs.Ends.{AreRows};
+ghost use Rattle.station_search.specs.Memo.{KnowsLists, KnowsStations};
 ghost use Rattle.station_search.specs.Opening.{AreOfExtent, flat_of};
+ghost use Rattle.station_search.specs.Search.{AreClasses, state_at};
 
 use crate::ending::results_of;
 use crate::opening::{cores_of, words_of};
 use crate::outcome::Explored;
+use crate::refusal::Refusal;
+use crate::way::{place_of, way_of};
+use found_states::{
+    all_stood_for_are_results, each_result_is_stood_for, successors_tell_of_schedules,
+};
 use hart::Core;
-use live_registers::LiveTable;
+use live_registers::{LiveTable, dead_registers_can_be_forgotten};
 use local_memory::Code;
 use machine::{Machine, machine_is_sound};
 use move_ranks::schedules_of;
 use results::results_are_those_of_the_flat_machine;
-use station_search::{Extent, Found, Refusal, Tables, Watch, moves_tell_of_schedules, search};
-use std::alloc::{AllocError, Global};
+use station_search::{
+    Extent, Found, Memos, Refusal as SearchRefusal, Tables, Watch, classes_of, search,
+};
+use std::alloc::Global;
 
-/// All final results that a machine of up to 8 processors can have: each in which some steps without
-/// writes from outside end, after which no processor runs. How many states are found is told as they are.
+/// What is searched for.
+#[derive(Clone, Copy, Debug, PartialEq, Eq, Drop)]
+pub struct Search {
+    /// With how many states between references the search is given up.
+    pub limit: u32,
+    /// Whether processors that stand alike are exchanged. If not, each result is listed by itself.
+    pub exchanged: bool,
+    /// To which result a way is wanted, from 1 in their order, or 0 for a state from which no end can be reached.
+    pub wanted: Option<u32>,
+}
+
+/// All final results that a machine can have, up to exchanges of processors that stand alike: each in which some steps
+/// without writes from outside end, after which no processor runs. How many states are found is told as they are.
+///
+/// If a processor asks for its own number after a reference, processors are not exchanged: the search is made once more
+/// without.
 ///
 /// # Errors
 ///
-/// [`Refusal::States`] where there are as many states between references as `limit`, or more, [`Refusal::Alone`]
-/// where a processor goes on for 1,000,000 instructions without a reference, and [`Refusal::Memory`].
+/// [`Refusal::States`] if there are as many states between references as the limit, or more, [`Refusal::Alone`] if a
+/// processor goes on for 1,000,000 instructions without a reference, and [`Refusal::Memory`].
 pub fn explore<G: Watch>(
     alloc: Global,
     machine: &Machine,
-    limit: u32,
+    wish: Search,
     watch: &mut G,
 ) -> Result<Explored, Refusal>
     requires idle { IsIdle machine.now }
     requires home { AreHome machine.now }
-    requires few { machine.now.config.k ≤ 3 }
-    ensures sound { IfOk result (λ e. All (IsMachineResult machine.now) e.results.items) }
-    ensures complete { IfOk result (λ e. (r : FinalResult) → IsMachineResult machine.now r → Contains e.results.items r) }
+    ensures sound { IfOk result (λ e. (r q : FinalResult) → Contains e.results.items r → StandsFor e.classes.items r q
+        → IsMachineResult machine.now q) }
+    ensures complete { IfOk result (λ e. (q : FinalResult) → IsMachineResult machine.now q
+        → IsStoodFor e.classes.items e.results.items q) }
     ensures once { IfOk result (λ e. IsOnce e.results.items) }
+    ensures classes { IfOk result (λ e. length e.classes.items ≡ 2 ^ machine.now.config.k) }
+    ensures single { IfOk result (λ e. wish.exchanged ≡ false → AreSingle (2 ^ machine.now.config.k) e.classes.items) }
+    ensures schedules { IfOk result (λ e. AreSchedulesOf (flat_state machine.now) e.schedules) }
+{
+    if wish.exchanged {
+        match explore_as(alloc, machine, wish, true, watch) {
+            Ok(explored) => return Ok(explored),
+            Err(SearchRefusal::Asks) => {}
+            Err(refusal) => return Err(Refusal::of(refusal)),
+        }
+    }
+    match explore_as(alloc, machine, wish, false, watch) {
+        Ok(explored) => Ok(explored),
+        Err(refusal) => Err(Refusal::of(refusal)),
+    }
+}
+
+/// The same, with processors exchanged or not.
+fn explore_as<G: Watch>(
+    alloc: Global,
+    machine: &Machine,
+    wish: Search,
+    exchanged: bool,
+    watch: &mut G,
+) -> Result<Explored, SearchRefusal>
+    requires idle { IsIdle machine.now }
+    requires home { AreHome machine.now }
+    ensures sound { IfOk result (λ e. (r q : FinalResult) → Contains e.results.items r → StandsFor e.classes.items r q
+        → IsMachineResult machine.now q) }
+    ensures complete { IfOk result (λ e. (q : FinalResult) → IsMachineResult machine.now q
+        → IsStoodFor e.classes.items e.results.items q) }
+    ensures once { IfOk result (λ e. IsOnce e.results.items) }
+    ensures classes { IfOk result (λ e. length e.classes.items ≡ 2 ^ machine.now.config.k) }
+    ensures single { IfOk result (λ e. exchanged ≡ false → AreSingle (2 ^ machine.now.config.k) e.classes.items) }
     ensures schedules { IfOk result (λ e. AreSchedulesOf (flat_state machine.now) e.schedules) }
 {
     machine_is_sound(machine);
     results_are_those_of_the_flat_machine();
-    let extent = extent_of(machine);
+    let extent = extent_of(machine, exchanged);
     let Ok(cores) = cores_of(alloc, machine) else {
-        return Err(Refusal::Memory);
+        return Err(SearchRefusal::Memory);
     };
     let Ok(words) = words_of(alloc, machine) else {
-        return Err(Refusal::Memory);
+        return Err(SearchRefusal::Memory);
     };
     let all = cores.as_slice();
     let code: &Code = machine.code();
-    let explored = explored(alloc, code, extent, all, words, limit, watch)?;
+    let explored = explored_by_width(alloc, code, extent, all, words, wish, watch)?;
     Ok(explored)
 }
 
 /// How many processors and words a machine has.
-fn extent_of(machine: &Machine) -> Extent
-    ensures { result ≡ record { processors = 2 ^ machine.now.config.k; shared_words = machine.now.config.shared_words } }
+fn extent_of(machine: &Machine, exchanged: bool) -> Extent
+    ensures { result ≡ record { processors = 2 ^ machine.now.config.k; shared_words = machine.now.config.shared_words; exchanged = exchanged } }
 {
     let config = machine.config();
     Extent {
         processors: config.processors(),
         shared_words: config.shared_words,
+        exchanged,
     }
 }
 
-/// All results of the flat machine of these cores and words.
-fn explored<G: Watch>(
+/// All results of the flat machine of these cores and words, found by rows as wide as its processors need.
+fn explored_by_width<G: Watch>(
     alloc: Global,
     code: &Code,
     extent: Extent,
     cores: &[Core],
     words: Vec<u32>,
-    limit: u32,
+    wish: Search,
     watch: &mut G,
-) -> Result<Explored, Refusal>
+) -> Result<Explored, SearchRefusal>
     requires cores { AreOfExtent extent cores.now }
-    requires room { extent.processors ≤ 8 }
+    requires room { extent.processors ≤ 64 }
     requires words { length words.items ≡ extent.shared_words }
-    ensures sound { IfOk result (λ e. All (IsFlatResult (flat_of code.now cores.now words.items)) e.results.items) }
-    ensures complete { IfOk result (λ e. (r : FinalResult) → IsFlatResult (flat_of code.now cores.now words.items) r → Contains e.results.items r) }
+    ensures sound { IfOk result (λ e. (r q : FinalResult) → Contains e.results.items r → StandsFor e.classes.items r q
+        → IsFlatResult (flat_of code.now cores.now words.items) q) }
+    ensures complete { IfOk result (λ e. (q : FinalResult) → IsFlatResult (flat_of code.now cores.now words.items) q
+        → IsStoodFor e.classes.items e.results.items q) }
     ensures once { IfOk result (λ e. IsOnce e.results.items) }
+    ensures classes { IfOk result (λ e. AreClasses extent e.classes.items) }
     ensures schedules { IfOk result (λ e. AreSchedulesOf (flat_of code.now cores.now words.items) e.schedules) }
 {
-    moves_tell_of_schedules();
+    if extent.processors <= 8 {
+        explored::<9, G>(alloc, code, extent, cores, words, wish, watch)
+    } else if extent.processors <= 16 {
+        explored::<17, G>(alloc, code, extent, cores, words, wish, watch)
+    } else if extent.processors <= 32 {
+        explored::<33, G>(alloc, code, extent, cores, words, wish, watch)
+    } else {
+        explored::<65, G>(alloc, code, extent, cores, words, wish, watch)
+    }
+}
+
+/// All results of the flat machine of these cores and words.
+fn explored<const N: usize, G: Watch>(
+    alloc: Global,
+    code: &Code,
+    extent: Extent,
+    cores: &[Core],
+    words: Vec<u32>,
+    wish: Search,
+    watch: &mut G,
+) -> Result<Explored, SearchRefusal>
+    requires cores { AreOfExtent extent cores.now }
+    requires room { extent.processors < N }
+    requires narrow { N ≤ 65 }
+    requires words { length words.items ≡ extent.shared_words }
+    ensures sound { IfOk result (λ e. (r q : FinalResult) → Contains e.results.items r → StandsFor e.classes.items r q
+        → IsFlatResult (flat_of code.now cores.now words.items) q) }
+    ensures complete { IfOk result (λ e. (q : FinalResult) → IsFlatResult (flat_of code.now cores.now words.items) q
+        → IsStoodFor e.classes.items e.results.items q) }
+    ensures once { IfOk result (λ e. IsOnce e.results.items) }
+    ensures classes { IfOk result (λ e. AreClasses extent e.classes.items) }
+    ensures schedules { IfOk result (λ e. AreSchedulesOf (flat_of code.now cores.now words.items) e.schedules) }
+{
+    all_stood_for_are_results();
+    each_result_is_stood_for();
+    successors_tell_of_schedules();
+    dead_registers_can_be_forgotten();
     let Ok(live) = LiveTable::new(alloc, code) else {
-        return Err(Refusal::Memory);
+        return Err(SearchRefusal::Memory);
     };
     let mut tables = Tables::new(alloc, live);
-    let first = tables.open(alloc, code, extent, cores, words)?;
-    let found = search(alloc, &mut tables, code, extent, first, limit, watch)?;
-    let Ok(explored) = told(alloc, &tables, extent, found) else {
-        return Err(Refusal::Memory);
+    let first = tables.open::<N>(alloc, code, extent, cores, words)?;
+    let Ok(classes) = classes_of(alloc, extent, &first) else {
+        return Err(SearchRefusal::Memory);
     };
+    let mut memos = Memos::new(alloc);
+    let found = search(
+        alloc,
+        &mut tables,
+        &mut memos,
+        code,
+        extent,
+        classes.as_slice(),
+        first,
+        wish.limit,
+        watch,
+    )?;
+    let explored = told(
+        alloc,
+        &mut tables,
+        &mut memos,
+        code,
+        extent,
+        classes,
+        found,
+        wish.wanted,
+    )?;
     Ok(explored)
 }
 
-/// The results of the rows that a search has found, and what their moves tell of schedules.
+/// The results of the rows that a search has found, what their successors tell of schedules, and the way that is
+/// wanted.
 // A function of its own, so that none has many values to drop at each of its ends.
-fn told(
+fn told<const N: usize>(
     alloc: Global,
-    tables: &Tables,
+    tables: &mut Tables,
+    memos: &mut Memos,
+    code: &Code,
     extent: Extent,
-    found: Found,
-) -> Result<Explored, AllocError>
-    requires rows { AreRows extent tables.now found.rows.keys }
-    requires room { extent.processors ≤ 8 }
-    requires few { length found.rows.keys ≤ no_move }
-    requires all { length found.moves.items ≡ length found.rows.keys }
-    ensures sound { IfOk result (λ e. All (IsEnding extent tables.now found.rows.keys) e.results.items) }
+    classes: Vec<u8>,
+    found: Found<N>,
+    wanted: Option<u32>,
+) -> Result<Explored, SearchRefusal>
+    requires live { HasAllLive code.now tables.old.live }
+    requires rows { AreRows extent tables.old found.rows.keys }
+    requires classes { AreClasses extent classes.items }
+    requires room { extent.processors < N }
+    requires narrow { N ≤ 65 }
+    requires few { length found.moves ≤ no_rank }
+    requires all { length found.moves ≡ length found.rows.keys }
+    requires stations { KnowsStations extent.exchanged code.now tables.old memos.old.stations }
+    requires lists { KnowsLists tables.old memos.old.lists }
+    ensures classes { IfOk result (λ e. e.classes.items ≡ classes.items) }
+    ensures sound { IfOk result (λ e. (r : FinalResult) → Contains e.results.items r
+        → IsEnding extent classes.items tables.old found.entry.rows.keys r) }
     ensures once { IfOk result (λ e. IsOnce e.results.items) }
-    ensures complete { IfOk result (λ e. (i : ℕ) → i < length found.rows.keys → HaveStopped (state_at extent tables.now found.rows.keys i)
-        → Contains e.results.items (result_at (state_at extent tables.now found.rows.keys i))) }
-    ensures schedules { IfOk result (λ e. AreTold found.moves.items extent.processors e.schedules) }
+    ensures complete { IfOk result (λ e. (i : ℕ) → i < length found.entry.rows.keys → HaveStopped (state_at extent tables.old found.entry.rows.keys i)
+        → IsStoodFor classes.items e.results.items (result_at (state_at extent tables.old found.entry.rows.keys i))) }
+    ensures schedules { IfOk result (λ e. AreTold found.entry.moves e.schedules) }
 {
-    let results = results_of(alloc, tables, extent, found.rows.as_slice())?;
-    let schedules = schedules_of(alloc, found.moves.as_slice(), extent.processors)?;
+    let Ok(endings) = results_of(
+        alloc,
+        tables,
+        extent,
+        classes.as_slice(),
+        found.rows.as_slice(),
+    ) else {
+        return Err(SearchRefusal::Memory);
+    };
+    let Ok(schedules) = schedules_of(alloc, &found.moves) else {
+        return Err(SearchRefusal::Memory);
+    };
+    let way = match place_of(endings.places.as_slice(), schedules, wanted) {
+        Some(place) => {
+            let is_end = wanted != Some(0);
+            way_of(
+                alloc,
+                tables,
+                memos,
+                code,
+                extent,
+                classes.as_slice(),
+                &found,
+                place,
+                is_end,
+            )?
+        }
+        None => Vec::new(alloc),
+    };
     Ok(Explored {
-        results,
+        results: endings.results,
         schedules,
-        moves: found.moves,
+        states: found.moves.len(),
+        classes,
+        way,
     })
 }

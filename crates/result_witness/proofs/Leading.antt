@@ -27,8 +27,10 @@ use Rattle.run_report.specs.Tallies.{ShownBy, TallyState, nothing_shown, with_by
 use Rattle.machine_runs.specs.Standing.{HasRunning, processor_of}
 use Rattle.accounts.specs.Retaking.{IsRetaken}
 use Rattle.exploration.specs.results.alone.Stations.{printed_after}
-use Rattle.exploration.specs.results.Results.{AreOfTheMachine, FinalResult, IsOfTheMachine, NoneRuns, ProcessorResult, machine_result, printed_by}
-use Rattle.exploration.specs.results.Results.{result_with, stands_after}
+use Rattle.exploration.specs.alone.Results.{FinalResult, ProcessorResult}
+use Rattle.exploration.specs.results.Results.{AreOfTheMachine, IsOfTheMachine, NoneRuns, machine_result, printed_by}
+use Rattle.exploration.specs.alone.Results.{result_with}
+use Rattle.exploration.specs.results.Results.{stands_after}
 use Rattle.result_witness.specs.Witnesses.{AreTaken, IsEnd, IsStuck, IsWitness, LeadTo, LeadToResult, left_by, processor_left}
 
 -- ---- what is counted of a processor is what it has printed

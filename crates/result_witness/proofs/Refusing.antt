@@ -6,7 +6,7 @@ use Rattle.machine_log.specs.declared.log.LogRefusal.TheVariants as log
 use Rattle.command_io.specs.declared.fault.Fault.{Fault}
 use Rattle.command_io.specs.declared.fault.Fault.TheVariants as fault
 use Rattle.accounts.specs.Causes.{IsFaultOfSize}
-use Rattle.exploration.specs.results.Results.{FinalResult}
+use Rattle.exploration.specs.alone.Results.{FinalResult}
 use Rattle.exploration.specs.move_ranks.declared.schedules.Schedules.{Schedules}
 use Rattle.result_witness.specs.declared.refused.Refused.{Refused}
 use Rattle.result_witness.specs.declared.refused.Refused.TheVariants as refused

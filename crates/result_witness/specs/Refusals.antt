@@ -5,7 +5,7 @@ use Rattle.flat_machine.specs.Limits.{IsWithinLimits}
 use Rattle.machine_log.specs.declared.log.LogRefusal.{LogRefusal}
 use Rattle.machine_log.specs.declared.log.LogRefusal.TheVariants as log
 use Rattle.command_io.specs.declared.fault.Fault.TheVariants as fault
-use Rattle.exploration.specs.results.Results.{FinalResult}
+use Rattle.exploration.specs.alone.Results.{FinalResult}
 use Rattle.exploration.specs.move_ranks.declared.schedules.Schedules.{Schedules}
 use Rattle.exploration.specs.move_ranks.declared.schedules.Schedules.TheVariants as told
 use Rattle.result_witness.specs.declared.refused.Refused.{Refused}

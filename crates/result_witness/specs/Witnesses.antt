@@ -11,12 +11,13 @@ use Rattle.machine_runs.specs.machine_program.Processors.{word_at}
 use Rattle.run_report.specs.Tallies.{ShownBy, TallyState, nothing_shown}
 use Rattle.machine_runs.specs.Standing.{HasRunning, processor_of}
 use Rattle.accounts.specs.Retaking.{IsRetaken}
-use Rattle.exploration.specs.results.Results.{AreOfTheMachine, FinalResult, IsMachineResult, NoneRuns, ProcessorResult, machine_result, stands_after}
+use Rattle.exploration.specs.alone.Results.{FinalResult, ProcessorResult}
+use Rattle.exploration.specs.results.Results.{AreOfTheMachine, IsMachineResult, NoneRuns, machine_result, stands_after}
 
 -- ---- what steps lead to
 
--- The steps lead to the result: each of them does something, none is a write from outside, behind them no processor runs, and this
--- is left.
+-- The steps lead to the result: each of them does something, none is a write from outside, behind them no processor
+-- runs, and this is left.
 pub record LeadToResult (opening : MachineLists) (steps : List Step) (r : FinalResult) : Type 0 where
   pub machine : MachineLists
   pub replay : IsReplay opening steps machine

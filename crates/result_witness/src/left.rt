@@ -26,7 +26,6 @@ pub(crate) fn left_by(
         processors,
         words,
         shared_words: machine.config().shared_words,
-        place: 0,
     })
 }
 

@@ -14,8 +14,8 @@ use steps::{Outcome, Step};
 /// How many turns a processor is given to come to its next reference, or to stop: as many as the search gives it.
 const MAX_TURNS: u32 = 1_000_000;
 
-/// The log of a way, on a machine of this size that opens on a copy of the image. Behind it no reference is open; and where it is to
-/// end in a result, each processor has taken turns until it stops.
+/// The log of a way, on a machine of this size that opens on a copy of the image. Behind it no reference is open; and
+/// where it is to end in a result, each processor has taken turns until it stops.
 #[tactic(auto, using(crate::proofs::Refusing::size_refuses, crate::proofs::Refusing::steps_refuse))]
 pub(crate) fn log_of(
     alloc: Global,

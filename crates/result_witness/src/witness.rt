@@ -1,6 +1,6 @@
 //! Steps that lead to a result, or to where no end can be reached.
 
-ghost use Rattle.std.specs.Prelude.{◌≡◌, ◌≤◌, ◌↔◌, ◌^◌, true, is_some, length, IfErr, IfOk, IsTrue, OnOk};
+ghost use Rattle.std.specs.Prelude.{◌≡◌, ◌≤◌, ◌↔◌, ◌^◌, length, IfErr, IfOk, IsTrue, OnOk};
 ghost use Rattle.exploration.specs.results.Results.{AreOfTheMachine, IsOfTheMachine};
 ghost use Rattle.machine_runs.specs.Machines.{AreHome};
 ghost use Rattle.result_witness.specs.Refusals.{HasWitness, IsNoWitness, IsNotTaken, IsOfSteps};
@@ -12,7 +12,7 @@ use crate::taking::taken;
 use crate::way::log_of;
 use command_io::Fault;
 use elf_image::Image;
-use exploration::{Explored, FinalResult, Refusal, Schedules, Unwatched, explore, way_to};
+use exploration::{Explored, FinalResult, Refusal, Schedules, Search, Unwatched, explore};
 use flat_machine::Config;
 use machine_log::Logged;
 use machine_runs::{Machine, any_runs};
@@ -21,14 +21,15 @@ use std::alloc::Global;
 use steps::Step;
 use trace_file::is_trace;
 
-/// The log of a machine of this size that opens on a copy of the image, and ends in the result of this number, from 1; for 0, in a
-/// state from which no end can be reached, by another search of at most so many states.
+/// The log of a machine of this size that opens on a copy of the image, and ends in the result of this number, from 1;
+/// for 0, in a state from which no end can be reached, by another search of at most so many states. Its references are
+/// those of the way that was wanted as the machine was explored.
 ///
 /// # Errors
 ///
-/// [`Refused::Unknown`] where no result has the number, or, for 0, from each state that was found an end can be reached;
-/// [`Refused::Missed`] where the steps lead elsewhere, [`Fault::Full`] where there would be more than [`steps::MAX_STEPS`],
-/// [`Fault::Size`] where the size is out of its limits, and [`Fault::Memory`].
+/// [`Refused::Unknown`] where no result has the number, or, for 0, from each state that was found an end can be
+/// reached; [`Refused::Missed`] where the steps lead elsewhere, [`Fault::Full`] where there would be more than
+/// [`steps::MAX_STEPS`], [`Fault::Size`] where the size is out of its limits, and [`Fault::Memory`].
 #[tactic(auto, using(crate::proofs::Refusing::not_taken))]
 pub fn witness_of(
     alloc: Global,
@@ -39,32 +40,27 @@ pub fn witness_of(
     limit: u32,
 ) -> Result<Logged, Refused>
     requires words { image.now.shared_words ≡ config.shared_words }
-    requires few { config.k ≤ 3 }
     ensures witness { IfOk result (λ log. IsWitness config image.now explored.now.results.items number log.steps) }
     ensures refused { IfErr result (IsNoWitness config explored.now.results.items explored.now.schedules number) }
 {
     let results = explored.results.as_slice();
-    let Some(place) = place_of(results, explored.schedules, number) else {
+    if !has_witness(results, explored.schedules, number) {
         return Err(Refused::Unknown);
-    };
-    let way = way_to(alloc, explored.moves.as_slice(), place)?;
-    let log = log_of(alloc, image, config, way.as_slice(), number > 0)?;
+    }
+    let log = log_of(alloc, image, config, explored.way.as_slice(), number > 0)?;
     check(alloc, image, config, results, number, limit, log.steps())?;
     Ok(log)
 }
 
-/// Where the state was found that has the result of a number; for 0, the first from which no end can be reached.
-fn place_of(results: &[FinalResult], schedules: Schedules, number: u32) -> Option<u32>
-    ensures { (is_some result ≡ true) ↔ HasWitness results.now schedules number }
+/// Whether a result has the number; for 0, whether there is a state from which no end can be reached.
+fn has_witness(results: &[FinalResult], schedules: Schedules, number: u32) -> bool
+    ensures { IsTrue result ↔ HasWitness results.now schedules number }
 {
     match number.checked_sub(1) {
-        Some(before) => match results.get(before as usize) {
-            Some(last) => Some(last.place),
-            None => None,
-        },
+        Some(before) => (before as usize) < results.len(),
         None => match schedules {
-            Schedules::MayBeStuck { first, .. } => Some(first),
-            Schedules::End | Schedules::MayEnd => None,
+            Schedules::MayBeStuck { .. } => true,
+            Schedules::End | Schedules::MayEnd => false,
         },
     }
 }
@@ -80,7 +76,6 @@ fn check(
     steps: &[Step],
 ) -> Result<(), Refused>
     requires words { image.now.shared_words ≡ config.shared_words }
-    requires few { config.k ≤ 3 }
     requires room { length steps.now ≤ 4194304 }
     ensures witness { OnOk result (IsWitness config image.now results.now number steps.now) }
     ensures refused { IfErr result (IsNotTaken config) }
@@ -139,14 +134,18 @@ fn compare(
 /// Sees that from a machine no end can be reached.
 fn look_for_an_end(alloc: Global, machine: &Machine, limit: u32) -> Result<(), Refused>
     requires home { AreHome machine.now }
-    requires few { machine.now.config.k ≤ 3 }
     ensures stuck { OnOk result (IsStuck machine.now) }
     ensures refused { IfErr result IsOfSteps }
 {
     if !machine.is_idle() {
         return Err(Refused::Missed);
     }
-    match explore(alloc, machine, limit, &mut Unwatched) {
+    let search = Search {
+        limit,
+        exchanged: true,
+        wanted: None,
+    };
+    match explore(alloc, machine, search, &mut Unwatched) {
         Ok(found) if found.results.as_slice().is_empty() => Ok(()),
         Err(Refusal::Memory) => Err(Refused::Fault(Fault::Memory)),
         _ => Err(Refused::Missed),

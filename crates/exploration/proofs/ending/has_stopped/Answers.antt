@@ -7,7 +7,7 @@ use Rattle.exploration.proofs.Endings.{all_stopped, one_runs}
 use Rattle.exploration.proofs.ending.has_stopped.Goals as goal
 
 pub returns-then-is_running : goal.returns-then-is_running
-returns-then-is_running c =
+returns-then-is_running g c =
     let is : c.station.result.now ≡ placed_at c.args.tables.now (slice_index c.args.row.now c.loop-p.p) =
     c.station.ensures ∙ ap (λ i. placed_at c.args.tables.now (slice_index c.args.row.now i)) c.from.ensures in
     let runs : is_running (placed_at c.args.tables.now (slice_index c.args.row.now c.loop-p.p)).station.processor.status ≡ true =
@@ -15,5 +15,5 @@ returns-then-is_running c =
     (λ t. absurd (cc), λ h. absurd (one_runs c.args.extent c.args.tables.now c.args.row.now c.loop-p.p c.loop-p-test.true runs h))
 
 pub returns : goal.returns
-returns c =
-    (λ t. all_stopped c.args.extent c.args.tables.now c.args.row.now (λ p few. c.loop-p.invariant p (omega (arith, few))), λ h. refl)
+returns g c =
+    (λ t. all_stopped c.args.extent c.args.tables.now c.args.row.now (λ p few. c.loop-p.invariant.stopped p (omega (arith, few))), λ h. refl)

@@ -5,4 +5,6 @@ use Rattle.station_search.specs.Tables.{placed_at}
 use Rattle.exploration.proofs.ending.has_stopped.Given as goal
 
 abbrev pub invariant-loop-p : goal.invariant-loop-p
-invariant-loop-p l = (q : ℕ) → q < l.p → is_running (placed_at l.tables (slice_index l.row q)).station.processor.status ≡ false
+invariant-loop-p g l = record {
+  stopped : (q : ℕ) → q < l.p → is_running (placed_at l.tables (slice_index l.row q)).station.processor.status ≡ false;
+}

@@ -1,29 +1,20 @@
-use Rattle.std.proofs.Common.{◌+◌, true≢false, sym, ap, subst, ◌∙◌, arith}
-use Rattle.std.specs.Prelude.{◌↔◌, IsTrue}
-use Rattle.station_search.specs.Search.{state_at}
-use Rattle.exploration.specs.Endings.{HaveStopped}
-use Rattle.exploration.proofs.Endings.{AreEndings, ended, passed}
+use Rattle.std.proofs.Common.{[], subst, ◌∙◌, arith}
+use Rattle.station_search.proofs.Lemmas.{any_default}
+use Rattle.station_search.specs.Tables.{means}
+use Rattle.exploration.specs.Endings.{IsEndingAdded}
+use Rattle.exploration.proofs.Endings.{row_more}
 use Rattle.exploration.proofs.ending.results_of.Goals as goal
-use Rattle.exploration.proofs.ending.results_of.Goals.{then-has_stopped+in_ok-result_of+in_ok-add, else-has_stopped}
 
 pub loop-row-preserved : goal.loop-row-preserved
-loop-row-preserved c =
-    let stops : IsTrue c.has_stopped.result ↔ HaveStopped (state_at c.args.extent c.args.tables.now c.args.rows.now c.loop-row.row-index) =
-    c.has_stopped.ensures in
-    record {
-      place = omega (arith, c.loop-row.invariant.place);
-      endings = elim c.if-has_stopped.branch [
-        | then-has_stopped+in_ok-result_of+in_ok-add w ↦
-            subst (AreEndings c.args.extent c.args.tables.now c.args.rows.now (c.loop-row.row-index + 1)) (sym (ap (λ v. v.items) w.results-is))
-            (ended c.args.extent c.args.tables.now c.args.rows.now c.loop-row.row-index c.loop-row.results.items w.add.new.results.items
-            w.in_ok-result_of.field-0 c.loop-row.invariant.endings c.loop-row-test.true (stops.0 w.if-has_stopped.true) w.in_ok-result_of.ensures
-            w.in_ok-add.ensures.added)
-        | else-has_stopped w ↦
-            subst (AreEndings c.args.extent c.args.tables.now c.args.rows.now (c.loop-row.row-index + 1)) (sym (ap (λ v. v.items) w.results-is))
-            (passed c.args.extent c.args.tables.now c.args.rows.now c.loop-row.row-index c.loop-row.results.items c.loop-row.invariant.endings
-            (λ h. true≢false (sym (stops.1 h) ∙ w.if-has_stopped.false)))
-      ];
-    }
+loop-row-preserved g c = record {
+  place = omega (arith, c.loop-row.invariant.place);
+  endings = row_more c.args.extent c.args.classes.now c.args.tables.now c.args.rows.now c.loop-row.row-index
+      c.loop-row.endings.results.items c.add_ending.new.endings.results.items c.loop-row.invariant.endings c.loop-row-test.true
+      (subst (λ row. IsEndingAdded c.args.classes.now (means c.args.extent c.args.tables.now row) c.loop-row.endings.results.items
+      c.add_ending.new.endings.results.items)
+      (c.row-item.is ∙ any_default c.args.rows.now c.loop-row.row-index c.row-item.result [] c.loop-row-test.true)
+      c.in_ok-add_ending.ensures);
+}
 
 pub returns-clause-complete : goal.returns-clause-complete
-returns-clause-complete c = λ i l h. c.loop-row.invariant.endings.complete i (omega (arith, l)) h
+returns-clause-complete g c = λ i l h. c.loop-row.invariant.endings.complete i (omega (arith, l)) h

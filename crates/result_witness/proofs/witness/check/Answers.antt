@@ -9,9 +9,11 @@ pub compare-requires-clause-home : goal.compare-requires-clause-home
 compare-requires-clause-home c =
     taken_home c.args.config c.args.image.now c.args.steps.now c.in_ok-machine.machine c.in_ok-machine.tally c.in_ok-machine.ensures.taken
 
-pub look_for_an_end-requires-clause-home : goal.look_for_an_end-requires-clause-home
-look_for_an_end-requires-clause-home c =
-    taken_home c.args.config c.args.image.now c.args.steps.now c.in_ok-machine.machine c.in_ok-machine.tally c.in_ok-machine.ensures.taken
+pub look_for_an_end-requires : goal.look_for_an_end-requires
+look_for_an_end-requires c = record {
+  home = taken_home c.args.config c.args.image.now c.args.steps.now c.in_ok-machine.machine c.in_ok-machine.tally
+      c.in_ok-machine.ensures.taken;
+}
 
 pub returns-in-Some-get-clause-witness : goal.returns-in-Some-get-clause-witness
 returns-in-Some-get-clause-witness c =

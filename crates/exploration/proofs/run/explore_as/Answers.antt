@@ -1,20 +1,20 @@
-use Rattle.std.proofs.Common.{◌≡◌, ◌^◌, sym, ap, subst, ◌∙◌, arith}
-use Rattle.std.specs.Prelude.{◌↔◌, slice_index_or}
+use Rattle.std.proofs.Common.{◌≡◌, sym, ap, subst, ◌∙◌, arith}
+use Rattle.std.specs.Prelude.{◌↔◌}
 use Rattle.flat_machine.specs.State.{FlatState}
+use Rattle.results.specs.alone.Results.{FinalResult, IsFlatResult}
+use Rattle.found_states.specs.Laws.{AreSchedulesOf}
 use Rattle.machine.specs.Openings.{flat_state}
+use Rattle.results.specs.Results.{IsMachineResult}
 use Rattle.station_search.specs.declared.tables.Extent.{Extent}
 use Rattle.station_search.specs.Opening.{flat_of}
-use Rattle.station_search.specs.Scheduled.{AreSchedulesOf}
-use Rattle.results.specs.Results.{FinalResult, IsFlatResult, IsMachineResult}
-use Rattle.exploration.proofs.Exploring.{are_read, few_processors, flat_is, of_extent, wide}
-use Rattle.exploration.proofs.run.explore.Goals as goal
+use Rattle.exploration.proofs.Exploring.{are_read, few_processors, flat_is, of_extent, wide, single}
+use Rattle.exploration.proofs.run.explore_as.Goals as goal
 
-pub explored-requires : goal.explored-requires
-explored-requires g c =
+pub explored_by_width-requires : goal.explored_by_width-requires
+explored_by_width-requires g c =
     let seen = are_read c.machine_is_sound.ensures c.extent_of-extent.ensures (c.as_slice-all.ensures.value ∙ c.in-Ok.ensures) c.in-Ok-words_of.ensures in
-    let processors : c.extent_of-extent.result.processors ≡ 2 ^ c.args.machine.now.config.k = ap (λ (e : Extent). e.processors) c.extent_of-extent.ensures in
-    let few = few_processors c.args.machine.now.config.k c.requires.few in
-    record { cores = of_extent seen; room = omega (arith, processors, few); words = wide seen }
+    let few = few_processors c.args.machine.now.config.k c.machine_is_sound.ensures.limits.stages in
+    record { cores = of_extent seen; room = omega (arith, seen.processors, few); words = wide seen }
 
 pub returns : goal.returns
 returns g c =
@@ -26,9 +26,12 @@ returns g c =
     λ r. c.results_are_those_of_the_flat_machine.ensures.results m r c.machine_is_sound.ensures c.requires.idle in
     let found = c.in_ok-explored.explored in
     record {
-      sound = λ k d l. (law (slice_index_or found.results.items k d)).1
-          (subst (λ (n : FlatState). IsFlatResult n (slice_index_or found.results.items k d)) flat (c.in_ok-explored.ensures.sound k d l));
-      complete = λ r h. c.in_ok-explored.ensures.complete r (subst (λ (n : FlatState). IsFlatResult n r) (sym flat) ((law r).0 h));
+      sound = λ r q there stands. (law q).1
+          (subst (λ (n : FlatState). IsFlatResult n q) flat (c.in_ok-explored.ensures.sound r q there stands));
+      complete = λ q h. c.in_ok-explored.ensures.complete q (subst (λ (n : FlatState). IsFlatResult n q) (sym flat) ((law q).0 h));
       once = c.in_ok-explored.ensures.once;
+      classes = c.in_ok-explored.ensures.classes.all ∙ seen.processors;
+      single = λ off. single seen.processors c.in_ok-explored.ensures.classes
+          (ap (λ (e : Extent). e.exchanged) c.extent_of-extent.ensures ∙ off);
       schedules = subst (λ (n : FlatState). AreSchedulesOf n found.schedules) flat c.in_ok-explored.ensures.schedules;
     }

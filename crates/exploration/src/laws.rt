@@ -1,0 +1,13 @@
+//! Laws of results up to exchanges: each is the contract of a function that does nothing.
+
+ghost use Rattle.exploration.specs.Laws.{ExploringEitherWayStandsForTheSame, ResultsAreClosedUnderExchange};
+
+/// If results stand for those of a machine, each exchange of a result of the machine is one.
+pub fn results_are_closed_under_exchange()
+    ensures closed { ResultsAreClosedUnderExchange }
+{}
+
+/// Whatever the classes, results that stand for those of a machine stand for the same results.
+pub fn exploring_either_way_stands_for_the_same()
+    ensures same { ExploringEitherWayStandsForTheSame }
+{}

@@ -1,0 +1,113 @@
+//! The way to a state that is found, by the processors whose references lead there.
+
+ghost use Rattle.std.specs.Prelude.{◌≡◌, ◌<◌, ◌≤◌, length, OnOk};
+ghost use Rattle.live_registers.specs.Live.{HasAllLive};
+ghost use Rattle.station_search.specs.Ends.{AreRows};
+ghost use Rattle.station_search.specs.Memo.{KnowsLists, KnowsStations};
+ghost use Rattle.station_search.specs.Search.{AreClasses};
+
+use crate::ending::result_of;
+use local_memory::Code;
+use move_ranks::{Schedules, path_to};
+use station_search::{Extent, Found, Memos, Refusal, Tables, movers_of};
+use std::alloc::Global;
+
+/// The place of the row that is wanted, if it is there.
+pub(crate) fn place_of(places: &[u32], schedules: Schedules, wanted: Option<u32>) -> Option<u32> {
+    match wanted?.checked_sub(1) {
+        Some(before) => places.get(before as usize).copied(),
+        None => match schedules {
+            Schedules::MayBeStuck { first, .. } => Some(first),
+            Schedules::End | Schedules::MayEnd => None,
+        },
+    }
+}
+
+/// The processors whose references, one after another, lead to the row at a place. Each has the name under which it
+/// stands in the row, or, if the row is an end, in its result.
+///
+/// # Errors
+///
+/// As of [`explore`](crate::explore).
+pub(crate) fn way_of<const N: usize>(
+    alloc: Global,
+    tables: &mut Tables,
+    memos: &mut Memos,
+    code: &Code,
+    extent: Extent,
+    classes: &[u8],
+    found: &Found<N>,
+    place: u32,
+    is_end: bool,
+) -> Result<Vec<u8>, Refusal>
+    requires live { HasAllLive code.now tables.old.live }
+    requires rows { AreRows extent tables.old found.now.rows.keys }
+    requires classes { AreClasses extent classes.now }
+    requires room { extent.processors < N }
+    requires narrow { N ≤ 65 }
+    requires stations { KnowsStations extent.exchanged code.now tables.old memos.old.stations }
+    requires lists { KnowsLists tables.old memos.old.lists }
+{
+    let Ok(path) = path_to(alloc, &found.moves, place) else {
+        return Err(Refusal::Memory);
+    };
+    let mut walk = movers_of(
+        alloc,
+        tables,
+        memos,
+        code,
+        extent,
+        classes,
+        &found.rows,
+        path.as_slice(),
+    )?;
+    if is_end {
+        let holders = walk.holders.as_mut_slice();
+        trade_as_result(alloc, tables, extent, classes, found, place, holders)?;
+    }
+    name_by_places(walk.movers.as_mut_slice(), walk.holders.as_slice());
+    Ok(walk.movers)
+}
+
+/// Trades the holders of a row's places as its processors trade where its result has them in order.
+fn trade_as_result<const N: usize>(
+    alloc: Global,
+    tables: &Tables,
+    extent: Extent,
+    classes: &[u8],
+    found: &Found<N>,
+    place: u32,
+    holders: &mut [u8],
+) -> Result<(), Refusal>
+    requires rows { AreRows extent tables.now found.now.rows.keys }
+    requires classes { AreClasses extent classes.now }
+    requires room { extent.processors < N }
+    requires narrow { N ≤ 65 }
+{
+    let Some(row) = found.rows.get_index(place as usize) else {
+        return Ok(());
+    };
+    match result_of(alloc, tables, extent, classes, row, holders) {
+        Ok(_) => Ok(()),
+        Err(_) => Err(Refusal::Memory),
+    }
+}
+
+/// Names each processor by the place that it holds.
+fn name_by_places(movers: &mut [u8], holders: &[u8]) {
+    for mover in movers.iter_mut() {
+        *mover = place_held_by(holders, *mover);
+    }
+}
+
+/// The place that a processor holds.
+fn place_held_by(holders: &[u8], processor: u8) -> u8 {
+    let mut place = 0;
+    for holder in holders {
+        if *holder == processor {
+            return place;
+        }
+        place = place.saturating_add(1);
+    }
+    processor
+}
