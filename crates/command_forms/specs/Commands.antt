@@ -150,8 +150,9 @@ picture_command = with_rule (replaying (codes "picture")) (number step)
 
 unfoldable pub explore_command : App
 explore_command =
-    with_rule (with_number states
-    (with_sizes (with_rule (with_rule (with_file (new_app (codes "explore"))) (option (codes "trace"))) (flag (codes "quiet"))))) (number witness)
+    with_rule (with_number states (with_sizes
+    (with_rule (with_rule (with_rule (with_rule (with_file (new_app (codes "explore"))) (option (codes "trace")))
+    (flag (codes "each"))) (flag (codes "every"))) (flag (codes "quiet"))))) (number witness)
 
 unfoldable pub hunt_command : App
 hunt_command =

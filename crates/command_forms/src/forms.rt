@@ -173,13 +173,21 @@ const HUNT: CommandForm = CommandForm {
 
 const EXPLORE: CommandForm = CommandForm {
     name: "explore",
-    about: "Print every final result that an image's program can have, on any schedule of the machine's steps",
+    about: "Print every final result that an image's program can have on 1 to 64 processors, whatever the schedule",
     arguments: &[
         IMAGE,
         Argument::Text {
             name: "trace",
             value: "OUT",
             help: "Where to write the steps to the result that --witness names, for `ultra replay`; opened only once they are there",
+        },
+        Argument::Flag {
+            name: "each",
+            help: "List every result by itself; processors that stand alike are not exchanged",
+        },
+        Argument::Flag {
+            name: "every",
+            help: "Explore each k from 0 to 6, whatever --k says, and print a line for each; not with --witness",
         },
         Argument::Flag {
             name: "quiet",

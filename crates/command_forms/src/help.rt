@@ -180,27 +180,37 @@ command line, 3 a file or standard output failed, 4 no memory.";
 pub(crate) const EXPLORE_ENDS: &str = "\
 A result is what is left where no processor runs any more: where each stands and why it stopped, what it
 has printed, and the shared words. Every result that steps of the machine can leave is found, and no
-other, so none depends on --c, --b or --r; the machine has 8 processors at most, so --k is 3 at most.
+other, so none depends on --c, --b or --r.
+
+Processors that are in the same state at their first reference to shared memory stand for each other, if
+no processor asks for its own number after that: one result is printed for all that come of it by
+exchanging such processors, and a line says which can be exchanged. With --each none is exchanged, and
+every result is printed; the search may then find many more states.
 
 Each result is printed once: `result N`, a line `processor P pc VVVVVVVV STATUS console HEX` for each
 processor, and a line `word I VVVVVVVV` for each shared word that is not zero, all as in the report of
-`ultra run`. Behind them stand the number of results, and that of the states between references to
-shared words that were found. The last line is `every schedule ends`, `some schedule never ends; an end
-can always be reached`, or `from N states no end can be reached`.
+`ultra run`. Behind them stand the processors that can be exchanged, if there are any, the number of
+results, and that of the states between references to shared words that were found. The last line is
+`every schedule ends`, `some schedule never ends; an end can always be reached`, or `from N states no end
+can be reached`.
+
+With --every the machines of 1, 2, 4, 8, 16, 32 and 64 processors are explored one after another, and a
+line is printed for each; --k has no effect. It goes with neither --witness nor --trace.
 
 With --witness N and --trace OUT the steps of a way to result N are written to OUT, by a machine with
 --c and --b: `ultra replay OUT FILE` prints the report of that result. With --witness 0 they lead to the
 first of the states from which no end can be reached.
 
-Faults are told on standard error, and then nothing is printed: `ultra: I1` to `I8` a refused image, `K1`
-a size out of the limits, `states` as many states as --states says are found, or more, `alone` a processor
-goes on for a million instructions without a reference to a shared word, `link` FILE cannot be opened or
-standard output cannot be written, `I9` FILE cannot be read, `X5` OUT cannot be written, `L2` a way of more
-than 4194304 steps, `memory`.
+Faults are told on standard error, and then no result is printed: `ultra: I1` to `I8` a refused image, `K1`
+a size out of the machine's limits, `states` as many states as --states says are found, or more, `alone` a
+processor goes on for a million instructions without a reference to a shared word, `link` FILE cannot be
+opened or standard output cannot be written, `I9` FILE cannot be read, `X5` OUT cannot be written, `L2` a
+way of more than 4194304 steps, `memory`.
 
 Exit status: 0 done, 1 in a result a fault has stopped a processor or from a state no end can be reached,
 2 a refused image or command line, or there is no such witness, 3 a file or standard output failed, 4 no
-memory, too many states, a processor alone for too long, or a way too long.";
+memory, too many states, a processor alone for too long, or a way too long. With --every it is the
+greatest of all sizes.";
 
 /// How `hunt` goes, what it prints, and its exit statuses.
 pub(crate) const HUNT_ENDS: &str = "\

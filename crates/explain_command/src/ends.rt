@@ -38,14 +38,16 @@ processors, by a smaller `--k`. A smaller `--budget` tells a loop without end so
         name: "states",
         meaning: "a program has as many states as `--states` says, or more",
         advice: "\
-`ultra explore` tells it, and prints no result. Exit status 4. A state has each processor at its next
-reference to a shared word, or stopped, and the shared words.
+`ultra explore` tells it, and prints no result; with `--every` it goes on to the next size. Exit
+status 4. A state has each processor at its next reference to a shared word, or stopped, with what it
+has printed, and the shared words. States that differ by an exchange of processors are one.
 
-Usual causes: more processors or rounds than the question needs; a counter in a register that each
-round makes larger, so that no state comes again.
+Usual causes: more processors or rounds than the question needs; processors that keep their own
+number, or ask for it after a reference, so that none can be exchanged; a counter that each round
+makes larger, or printing while a processor waits, so that no state comes again.
 
-What to do: fewer processors, by a smaller `--k`, or rounds; or allow more states, each of which takes
-about a hundred bytes.
+What to do: fewer processors, by a smaller `--k`, or rounds; a ticket by fetch-and-add in place of
+the number; or allow more states, which take more memory.
 
     ultra explore --k 1 --states 10000000 program.elf
 ",

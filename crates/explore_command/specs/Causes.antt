@@ -1,5 +1,5 @@
 -- Why no results are printed, or not all of them.
-use Rattle.std.specs.Prelude.{◌≡◌, ◌≤◌, ℕ, Bool, true, false, List, Option}
+use Rattle.std.specs.Prelude.{◌≡◌, ℕ, Bool, true, false, List, Option}
 use Rattle.flat_machine.specs.declared.config.Config.{Config}
 use Rattle.flat_machine.specs.Limits.{IsWithinLimits}
 use Rattle.elf_image.specs.Files.{IsImageOf, IsImageRefusal}
@@ -15,9 +15,9 @@ use Rattle.command_io.specs.declared.fault.Fault.TheVariants as fault
 use Rattle.command_io.specs.Faults.{status_of_fault}
 use Rattle.command_io.specs.Printing.{IsPartPrinted}
 use Rattle.accounts.specs.Accounts.{IsPartSaved}
-use Rattle.exploration.specs.results.Results.{FinalResult}
+use Rattle.exploration.specs.alone.Results.{FinalResult}
 use Rattle.exploration.specs.move_ranks.declared.schedules.Schedules.{Schedules}
-use Rattle.exploration.specs.station_search.Scheduled.{AreSchedulesOf}
+use Rattle.exploration.specs.found_states.Laws.{AreSchedulesOf}
 use Rattle.result_witness.specs.declared.refused.Refused.{Refused}
 use Rattle.result_witness.specs.declared.refused.Refused.TheVariants as refused
 use Rattle.result_witness.specs.Refusals.{HasWitness}
@@ -30,8 +30,8 @@ status_of (refused.Fault f) = status_of_fault f
 status_of refused.Unknown = 2
 status_of refused.Missed = 4
 
--- The exit status tells why, which has its cause. A failed write to the output is told as the output's fault; where no write failed,
--- the output is as it was.
+-- The exit status tells why, which has its cause. A failed write to the output is told as the output's fault; where no
+-- write failed, the output is as it was.
 pub record IsToldAs {W : Type 0} (has_failed : W → Bool) (is_cause : Refused → Type 0) (old new : W) (status : ℕ) : Type 0 where
   pub why : Refused
   pub tells : status ≡ status_of why
@@ -40,13 +40,8 @@ pub record IsToldAs {W : Type 0} (has_failed : W → Bool) (is_cause : Refused �
   pub source : why ≡ refused.Fault fault.Link → has_failed new ≡ true
   pub silent : has_failed new ≡ false → new ≡ old
 
--- A machine of this size can be explored: it has 8 processors at most.
-pub record IsExplorable (c : Config) : Type 0 where
-  pub limits : IsWithinLimits c
-  pub few : c.k ≤ 3
-
--- Why a machine's results are not there: there were too many states, or a processor went on for too long alone. Of neither is more said,
--- nor of want of memory.
+-- Why a machine's results are not there: there were too many states, or a processor went on for too long alone. Of
+-- neither is more said, nor of want of memory.
 abbrev pub IsNotSearched : Fault → Type 0
 IsNotSearched fault.States = Unit {0}
 IsNotSearched fault.Alone = Unit {0}
@@ -61,8 +56,9 @@ Opens c image = (opening : MachineLists) × IsOpening c image opening
 pub record HasNoneOf (c : Config) (image : ImageContents) (number : ℕ) : Type 0 where
   pub opening : MachineLists
   pub opens : IsOpening c image opening
+  pub classes : List ℕ
   pub results : List FinalResult
-  pub all : AreResultsOf opening results
+  pub all : AreResultsOf opening classes results
   pub schedules : Schedules
   pub told : AreSchedulesOf (flat_state opening) schedules
   pub none : HasWitness results schedules number → ⊥
@@ -74,8 +70,8 @@ pub record IsPartWitnessed {T : Type 0} (contents : T →
   pub witness : IsWitness c image results number steps
   pub part : IsPartSaved contents trace trace' (trace_bytes (trace_of c steps))
 
--- Why the trace of a witness is not written: there is none for the number, or the trace cannot be written; else the way is too long
--- or leads elsewhere, or there is no memory.
+-- Why the trace of a witness is not written: there is none for the number, or the trace cannot be written; else the way
+-- is too long or leads elsewhere, or there is no memory.
 abbrev pub IsNotSaved : {T : Type 0} → (contents : T → Option (List ℕ)) → Config → ImageContents → List FinalResult → Schedules → (number : ℕ) →
     (trace trace' : Option T) → Refused → Type 0
 IsNotSaved contents c image results schedules number trace trace' refused.Unknown = (trace' ≡ trace) × (HasWitness results schedules number → ⊥)
@@ -87,13 +83,13 @@ IsNotSaved contents c image results schedules number trace trace' (refused.Fault
 IsNotSaved contents c image results schedules number trace trace' (refused.Fault fault.Memory) = trace' ≡ trace
 IsNotSaved contents c image results schedules number trace trace' (refused.Fault other) = ⊥
 
--- Why the results of an image are not there, or not their witness: the machine cannot be explored for its size; or there is the
--- machine, and not its results, or nothing that the number names, or the trace cannot be written.
+-- Why the results of an image are not there, or not their witness: the machine cannot be explored for its size; or
+-- there is the machine, and not its results, or nothing that the number names, or the trace cannot be written.
 abbrev pub IsNotFound : {T : Type 0} → (contents : T → Option (List ℕ)) → Config → ImageContents → (number : ℕ) → (trace trace' : Option T) → Refused →
     Type 0
 IsNotFound contents c image number trace trace' refused.Unknown = (trace' ≡ trace) × HasNoneOf c image number
 IsNotFound contents c image number trace trace' refused.Missed = (trace' ≡ trace) × Opens c image
-IsNotFound contents c image number trace trace' (refused.Fault fault.Size) = (trace' ≡ trace) × (IsExplorable c → ⊥)
+IsNotFound contents c image number trace trace' (refused.Fault fault.Size) = (trace' ≡ trace) × (IsWithinLimits c → ⊥)
 IsNotFound contents c image number trace trace' (refused.Fault fault.States) = (trace' ≡ trace) × Opens c image
 IsNotFound contents c image number trace trace' (refused.Fault fault.Alone) = (trace' ≡ trace) × Opens c image
 IsNotFound contents c image number trace trace' (refused.Fault fault.Full) = (trace' ≡ trace) × Opens c image
@@ -102,13 +98,14 @@ IsNotFound contents c image number trace trace' (refused.Fault (fault.Trace e)) 
 IsNotFound contents c image number trace trace' (refused.Fault fault.Memory) = trace' ≡ trace
 IsNotFound contents c image number trace trace' (refused.Fault other) = ⊥
 
--- Why no results are printed, or not all of them: the image is refused, its results or their witness are not there, or the lines
--- cannot be written.
-abbrev pub IsRefused : {T : Type 0} → (contents : T → Option (List ℕ)) → Config → (number : ℕ) → (known : Option (List ℕ)) → (trace trace' : Option T) →
-    (out out' : Option (List ℕ)) → Refused → Type 0
-IsRefused contents c number known trace trace' out out' (refused.Fault (fault.Image e)) = (trace' ≡ trace) × IsImageRefusal c.shared_words known e
-IsRefused contents c number known trace trace' out out' (refused.Fault fault.Link) =
-    IsPartPrinted (PrintsSomeResults contents c number known trace trace') out out'
-IsRefused contents c number known trace trace' out out' (refused.Fault fault.Memory) = trace' ≡ trace
-IsRefused contents c number known trace trace' out out' other =
+-- Why no results are printed, or not all of them: the image is refused, its results or their witness are not there, or
+-- the lines cannot be written.
+abbrev pub IsRefused : {T : Type 0} → (contents : T → Option (List ℕ)) → Config → (each : Bool) → (number : ℕ) →
+    (known : Option (List ℕ)) → (trace trace' : Option T) → (out out' : Option (List ℕ)) → Refused → Type 0
+IsRefused contents c each number known trace trace' out out' (refused.Fault (fault.Image e)) =
+    (trace' ≡ trace) × IsImageRefusal c.shared_words known e
+IsRefused contents c each number known trace trace' out out' (refused.Fault fault.Link) =
+    IsPartPrinted (PrintsSomeResults contents c each number known trace trace') out out'
+IsRefused contents c each number known trace trace' out out' (refused.Fault fault.Memory) = trace' ≡ trace
+IsRefused contents c each number known trace trace' out out' other =
     (image : ImageContents) × IsImageOf c.shared_words known image × IsNotFound contents c image number trace trace' other

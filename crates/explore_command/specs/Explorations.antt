@@ -1,5 +1,5 @@
 -- What the command prints: from the bytes of a file to all final results of the program that it means.
-use Rattle.std.specs.Prelude.{◌≡◌, ℕ, List, Option, Some, None, All, Contains}
+use Rattle.std.specs.Prelude.{◌≡◌, ℕ, ◌^◌, Bool, true, List, Option, Some, None, All, length}
 use Rattle.flat_machine.specs.declared.config.Config.{Config}
 use Rattle.elf_image.specs.Files.{IsImageOf}
 use Rattle.elf_image.specs.Images.{ImageContents}
@@ -10,21 +10,22 @@ use Rattle.machine_runs.specs.Runs.{IsOpening}
 use Rattle.machine_runs.specs.machine.Openings.{flat_state}
 use Rattle.machine_runs.specs.Standing.{IsFaulted}
 use Rattle.accounts.specs.Accounts.{IsSaved}
-use Rattle.exploration.specs.results.Results.{ProcessorResult, FinalResult, IsMachineResult}
-use Rattle.exploration.specs.Endings.{IsOnce}
+use Rattle.exploration.specs.alone.Results.{ProcessorResult, FinalResult}
+use Rattle.exploration.specs.Endings.{AreResultsUpTo, AreSingle, IsOnce}
 use Rattle.exploration.specs.move_ranks.declared.schedules.Schedules.{Schedules}
 use Rattle.exploration.specs.move_ranks.declared.schedules.Schedules.TheVariants as told
-use Rattle.exploration.specs.station_search.Scheduled.{AreSchedulesOf}
+use Rattle.exploration.specs.found_states.Laws.{AreSchedulesOf}
 use Rattle.result_witness.specs.Witnesses.{IsWitness}
 use Rattle.explore_command.specs.Lines.{results_lines}
 
 -- ---- what is printed
 
--- These are the final results of the machine: each is left by some steps without writes from outside behind which no processor runs,
--- and all that such steps can leave are among them, each once.
-pub record AreResultsOf (m : MachineLists) (results : List FinalResult) : Type 0 where
-  pub sound : All (IsMachineResult m) results
-  pub complete : (r : FinalResult) → IsMachineResult m r → Contains results r
+-- These results stand for the final results of the machine, each of which some steps without writes from outside leave,
+-- after which no processor runs, and for no others; and each is listed once. A result stands for all that come of it if
+-- processors of one class are exchanged.
+pub record AreResultsOf (m : MachineLists) (classes : List ℕ) (results : List FinalResult) : Type 0 where
+  pub stand : AreResultsUpTo m classes results
+  pub all : length classes ≡ 2 ^ m.config.k
   pub once : IsOnce results
 
 abbrev pub IsNotFaulted : ProcessorResult → Type 0
@@ -46,38 +47,50 @@ pub record IsExitOf (results : List FinalResult) (schedules : Schedules) (status
   pub faulted : (All IsFaultless results → ⊥) → status ≡ 1
   pub stuck : (IsNotStuck schedules → ⊥) → status ≡ 1
 
--- Where a trace is asked for, that of steps is written that lead to the result of this number, or for 0 to where no result can be
--- reached.
+-- Where a trace is asked for, that of steps is written that lead to the result of this number, or for 0 to where no
+-- result can be reached.
 abbrev pub IsWitnessed : {T : Type 0} → (contents : T → Option (List ℕ)) → Config → ImageContents → List FinalResult → (number : ℕ) →
     (trace trace' : Option T) → Type 0
 IsWitnessed contents c image results number None trace' = trace' ≡ None
 IsWitnessed contents c image results number (Some old) trace' =
     (steps : List Step) × IsWitness c image results number steps × IsSaved contents (Some old) trace' (trace_bytes (trace_of c steps))
 
--- These are the lines of the final results of the machine of this size that opens on the image, with how many states were found and
--- whether its schedules end, and this is the exit status. The trace of a witness is written, where one is asked for.
-pub record AreExplored {T : Type 0} (contents : T →
-    Option (List ℕ)) (c : Config) (image : ImageContents) (number : ℕ) (trace trace' : Option T) (text : List ℕ) (status : ℕ) : Type 0 where
+-- These are the final results of the machine of this size that opens on the image, up to exchanges of processors of one
+-- class, and so its schedules end. If each result is asked for, each processor is of a class of its own.
+pub record IsFound (c : Config) (image : ImageContents) (each : Bool) (classes : List ℕ) (results : List FinalResult)
+    (schedules : Schedules) : Type 0 where
   pub opening : MachineLists
   pub opens : IsOpening c image opening
-  pub results : List FinalResult
-  pub all : AreResultsOf opening results
-  pub states : ℕ
-  pub schedules : Schedules
+  pub all : AreResultsOf opening classes results
+  pub single : each ≡ true → AreSingle (2 ^ c.k) classes
   pub told : AreSchedulesOf (flat_state opening) schedules
-  pub lines : text ≡ results_lines results states schedules
-  pub exit : IsExitOf results schedules status
-  pub witnessed : IsWitnessed contents c image results number trace trace'
 
--- These are the lines of the final results of the image that a file means, and this is the exit status; the trace of a witness is
--- written, where one is asked for.
-pub record PrintsResults {T : Type 0} (contents : T →
-    Option (List ℕ)) (c : Config) (number : ℕ) (known : Option (List ℕ)) (trace trace' : Option T) (status : ℕ) (text : List ℕ) : Type 0 where
+-- the same, with how many states were found
+pub record Explorations (c : Config) (image : ImageContents) (each : Bool) : Type 0 where
+  pub classes : List ℕ
+  pub results : List FinalResult
+  pub schedules : Schedules
+  pub states : ℕ
+  pub is : IsFound c image each classes results schedules
+
+-- These are its lines, and this is the exit status. The trace of a witness is written, if one is asked for.
+pub record AreExplored {T : Type 0} (contents : T → Option (List ℕ)) (c : Config) (image : ImageContents) (each : Bool)
+    (number : ℕ) (trace trace' : Option T) (text : List ℕ) (status : ℕ) : Type 0 where
+  pub found : Explorations c image each
+  pub lines : text ≡ results_lines found.results found.classes found.states found.schedules
+  pub exit : IsExitOf found.results found.schedules status
+  pub witnessed : IsWitnessed contents c image found.results number trace trace'
+
+-- These are the lines of the final results of the image that a file means, and this is the exit status; the trace of a
+-- witness is written, where one is asked for.
+pub record PrintsResults {T : Type 0} (contents : T → Option (List ℕ)) (c : Config) (each : Bool) (number : ℕ)
+    (known : Option (List ℕ)) (trace trace' : Option T) (status : ℕ) (text : List ℕ) : Type 0 where
   pub image : ImageContents
   pub meant : IsImageOf c.shared_words known image
-  pub explored : AreExplored contents c image number trace trace' text status
+  pub explored : AreExplored contents c image each number trace trace' text status
 
 -- the lines, with whatever exit status
-abbrev pub PrintsSomeResults : {T : Type 0} → (contents : T → Option (List ℕ)) → Config → (number : ℕ) → (known : Option (List ℕ)) →
-    (trace trace' : Option T) → (text : List ℕ) → Type 0
-PrintsSomeResults contents c number known trace trace' text = (status : ℕ) × PrintsResults contents c number known trace trace' status text
+abbrev pub PrintsSomeResults : {T : Type 0} → (contents : T → Option (List ℕ)) → Config → (each : Bool) → (number : ℕ) →
+    (known : Option (List ℕ)) → (trace trace' : Option T) → (text : List ℕ) → Type 0
+PrintsSomeResults contents c each number known trace trace' text =
+    (status : ℕ) × PrintsResults contents c each number known trace trace' status text

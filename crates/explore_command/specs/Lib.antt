@@ -1,3 +1,4 @@
 pub mod Lines
 pub mod Explorations
 pub mod Causes
+pub mod Sizes

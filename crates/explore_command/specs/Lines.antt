@@ -1,10 +1,12 @@
 -- The lines of final results.
-use Rattle.std.specs.Prelude.{ℕ, zero, suc, ◌+◌, ◌==◌, List, [], ◌++◌, codes, length, slice_index, slice_index_or, if◌then◌else◌}
+use Rattle.std.specs.Prelude.{ℕ, zero, suc, ◌+◌, ◌==◌, nat_lt, Bool, false, List, [], ◌++◌, codes, length, slice_index}
+use Rattle.std.specs.Prelude.{slice_index_or}
+use Rattle.std.specs.Prelude.{if◌then◌else◌}
 use Rattle.std.specs.Fmt.{decimal}
 use Rattle.flat_machine.specs.declared.event.Status.TheVariants.{Running}
 use Rattle.command_io.specs.Digits.{hex_of_word, line_feed, status_text}
 use Rattle.run_report.specs.Lines.{console_text, word_lines}
-use Rattle.exploration.specs.results.Results.{ProcessorResult, FinalResult}
+use Rattle.exploration.specs.alone.Results.{ProcessorResult, FinalResult}
 use Rattle.exploration.specs.move_ranks.declared.schedules.Schedules.{Schedules}
 use Rattle.exploration.specs.move_ranks.declared.schedules.Schedules.TheVariants as told
 
@@ -51,13 +53,71 @@ abbrev pub counted : ℕ → (noun : List ℕ) → List ℕ
 counted count noun = decimal count ++ codes " " ++ noun ++ (if count == 1 then [] else codes "s")
 
 -- what is told of the schedules
-abbrev pub schedules_line : Schedules → List ℕ
-schedules_line told.End = codes "every schedule ends\n"
-schedules_line told.MayEnd = codes "some schedule never ends; an end can always be reached\n"
-schedules_line (told.MayBeStuck states first) = codes "from " ++ counted states (codes "state") ++ codes " no end can be reached\n"
+abbrev pub schedules_text : Schedules → List ℕ
+schedules_text told.End = codes "every schedule ends"
+schedules_text told.MayEnd = codes "some schedule never ends; an end can always be reached"
+schedules_text (told.MayBeStuck states first) = codes "from " ++ counted states (codes "state") ++ codes " no end can be reached"
 
--- the lines of all results, behind them `N results, M states`, and last what is told of the schedules
-abbrev pub results_lines : List FinalResult → (states : ℕ) → Schedules → List ℕ
-results_lines results states schedules =
-    first_lines results (length results)
-    ++ (counted (length results) (codes "result") ++ codes ", " ++ counted states (codes "state") ++ line_feed) ++ schedules_line schedules
+-- ---- processors that can be exchanged
+
+-- the class of a processor; past the last there is none
+abbrev pub class_at : (classes : List ℕ) → (processor : ℕ) → ℕ
+class_at classes p = slice_index_or classes p 64
+
+-- a comma, but before the first of the class, which gives the class its name
+abbrev pub separator : (class processor : ℕ) → List ℕ
+separator class p = if p == class then [] else codes ", "
+
+module _ (classes : List ℕ) (class : ℕ) where
+  abbrev pub is_of : (processor : ℕ) → Bool
+  is_of p = class_at classes p == class
+
+  -- the same of the processor before
+  abbrev pub is_of_before : (processor : ℕ) → Bool
+  is_of_before zero = false
+  is_of_before (suc p) = is_of p
+
+  -- what is told of a processor: the first of some that follow one another, and ` to ` and the last of them, if there
+  -- are more
+  abbrev pub member_text : (processor : ℕ) → List ℕ
+  member_text p =
+      if is_of p
+      then (if is_of_before p
+      then (if is_of (p + 1) then [] else codes " to " ++ decimal p)
+      else separator class p ++ decimal p)
+      else []
+
+  -- the same of the first processors
+  abbrev pub members_text : (count : ℕ) → List ℕ
+  members_text zero = []
+  members_text (suc p) = members_text p ++ member_text p
+
+  -- how many of the first processors are of the class
+  abbrev pub members_of : (count : ℕ) → ℕ
+  members_of zero = 0
+  members_of (suc p) = members_of p + (if is_of p then 1 else 0)
+
+-- `processors 0, 2 to 5 can be exchanged`
+abbrev pub class_text : (classes : List ℕ) → (class : ℕ) → List ℕ
+class_text classes class =
+    codes "processors " ++ members_text classes class (length classes) ++ codes " can be exchanged\n"
+
+-- the same, if the class has two processors or more
+abbrev pub class_line : (classes : List ℕ) → (class : ℕ) → List ℕ
+class_line classes class =
+    if nat_lt 1 (members_of classes class (length classes)) then class_text classes class else []
+
+-- a line for each of the first classes
+abbrev pub class_lines : (classes : List ℕ) → (count : ℕ) → List ℕ
+class_lines classes zero = []
+class_lines classes (suc class) = class_lines classes class ++ class_line classes class
+
+-- ---- what is printed
+
+-- the lines of all results, behind them those of the processors that can be exchanged, `N results, M states`, and last
+-- what is told of the schedules
+abbrev pub results_lines : List FinalResult → (classes : List ℕ) → (states : ℕ) → Schedules → List ℕ
+results_lines results classes states schedules =
+    first_lines results (length results) ++ class_lines classes (length classes)
+    ++ (counted (length results) (codes "result") ++ codes ", " ++ counted states (codes "state") ++ line_feed)
+    ++ schedules_text schedules ++ line_feed

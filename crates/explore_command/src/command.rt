@@ -15,29 +15,32 @@ use result_witness::Refused;
 use std::alloc::Global;
 use std::io::{Read, Write};
 
-/// What a search is asked for.
+/// What is asked of a search.
 #[derive(Clone, Copy, Debug, PartialEq, Eq, Drop)]
-pub struct Search {
+pub struct Asked {
     /// With how many states between references to shared words it is given up.
     pub limit: u32,
-    /// The number of the result that the trace is to lead to, from 1; or 0 for a state from which no end can be reached. It is of no
-    /// account where no trace is asked for.
+    /// Whether each result is to be listed by itself, so that processors that stand alike are not exchanged.
+    pub each: bool,
+    /// The number of the result that the trace is to lead to, from 1; or 0 for a state from which no end can be
+    /// reached. It is of no account if no trace is asked for.
     pub witness: u32,
 }
 
-/// Finds every final result that the program can have which the image means that a file is, on a machine of
-/// this size of up to 8 processors, and prints them: each where no processor runs any more behind some
-/// steps of the machine; and whether its schedules end. How many states are found is told meanwhile. Where a trace is asked for, that
-/// of a way to the result of a number is written before.
+/// Finds every final result that the program can have which the image means that a file is, on a machine of this size,
+/// and prints them, up to exchanges of processors that stand alike: each after some steps of the machine after which no
+/// processor runs; and which processors can be exchanged, and whether schedules end. How many states are found is told
+/// meanwhile. If a trace is asked for, that of a way to the result of a number is written before.
 ///
-/// Answers the exit status: 0 where the results are printed, 1 where they are and in one of them a fault has
-/// stopped a processor, or from a state no end can be reached, else that of the fault that is told on standard error. A fault is told in this order:
-/// of the image, of the machine's size, of the search, of the witness, of the trace, of standard output.
+/// Answers the exit status: 0 if the results are printed, 1 if they are and in one of them a fault has stopped a
+/// processor, or from a state no end can be reached, else that of the fault that is told on standard error. A fault is
+/// told in this order: of the image, of the machine's size, of the search, of the witness, of the trace, of standard
+/// output.
 pub fn explore_command<R: Read + Drop, T: LinkWrite, G: Watch, W: LinkWrite, E: Write>(
     alloc: Global,
     file: R,
     config: Config,
-    search: Search,
+    asked: Asked,
     trace: &mut Option<T>,
     watch: &mut G,
     out: &mut W,
@@ -45,15 +48,16 @@ pub fn explore_command<R: Read + Drop, T: LinkWrite, G: Watch, W: LinkWrite, E: 
 ) -> u8
     requires works { IsWorking T.has_failed trace.old }
     requires prints { W.has_failed out.old ≡ false }
-    ensures printed { result ≤ 1 → IsPrinted (PrintsResults T.contents config search.witness (R.remaining file) trace.old trace.new result)
+    ensures printed { result ≤ 1 → IsPrinted (PrintsResults T.contents config asked.each asked.witness (R.remaining file) trace.old trace.new result)
         (W.contents out.old) (W.contents out.new) }
     ensures told { 2 ≤ result → IsToldAs W.has_failed
-        (IsRefused T.contents config search.witness (R.remaining file) trace.old trace.new (W.contents out.old) (W.contents out.new)) out.old out.new result }
+        (IsRefused T.contents config asked.each asked.witness (R.remaining file) trace.old trace.new
+        (W.contents out.old) (W.contents out.new)) out.old out.new result }
     ensures failed { W.has_failed out.new ≡ true → result ≡ 3 }
 {
-    match carried_out(alloc, file, config, search, trace, watch, out) {
+    match carried_out(alloc, file, config, asked, trace, watch, out) {
         Ok(status) => status,
-        Err(refused) => tell_refused(refused, search.witness, err),
+        Err(refused) => tell_refused(refused, asked.witness, err),
     }
 }
 
@@ -83,7 +87,7 @@ fn carried_out<R: Read + Drop, T: LinkWrite, G: Watch, W: LinkWrite>(
     alloc: Global,
     file: R,
     config: Config,
-    search: Search,
+    asked: Asked,
     trace: &mut Option<T>,
     watch: &mut G,
     out: &mut W,
@@ -91,15 +95,15 @@ fn carried_out<R: Read + Drop, T: LinkWrite, G: Watch, W: LinkWrite>(
     requires works { IsWorking T.has_failed trace.old }
     requires prints { W.has_failed out.old ≡ false }
     ensures failed { IsErrOf result (Refused.Fault Fault.Link) ↔ (W.has_failed out.new ≡ true) }
-    ensures printed { IfOk result (λ status. IsPrinted (PrintsResults T.contents config search.witness (R.remaining file) trace.old trace.new status)
+    ensures printed { IfOk result (λ status. IsPrinted (PrintsResults T.contents config asked.each asked.witness (R.remaining file) trace.old trace.new status)
         (W.contents out.old) (W.contents out.new)) }
     ensures low { IfOk result (λ status. status ≤ 1) }
     ensures told { IfErr result
-        (IsRefused T.contents config search.witness (R.remaining file) trace.old trace.new (W.contents out.old) (W.contents out.new)) }
+        (IsRefused T.contents config asked.each asked.witness (R.remaining file) trace.old trace.new (W.contents out.old) (W.contents out.new)) }
     ensures silent { OnErr result (W.has_failed out.new ≡ false → out.new ≡ out.old) }
 {
     let image = image_of(alloc, file, &config)?;
-    let (text, status) = explored(alloc, image, config, search, trace, watch)?;
+    let (text, status) = explored(alloc, image, config, asked, trace, watch)?;
     print(out, text.as_str())?;
     Ok(status)
 }

@@ -2,50 +2,55 @@
 
 ghost use Rattle.std.specs.Prelude.{◌≡◌, ◌+◌, ◌++◌, ◌<◌, ◌^◌, codes, length, slice_index, IfOk, OnOk, string_bytes};
 ghost use Rattle.std.specs.Fmt.{decimal};
-ghost use Rattle.explore_command.specs.Lines.{counted, processor_line, processor_lines, result_lines, results_lines, schedules_line, shared_lines};
+ghost use Rattle.explore_command.specs.Lines.{counted, processor_line, processor_lines, result_lines, results_lines};
+ghost use Rattle.explore_command.specs.Lines.{schedules_text, shared_lines};
 
+use crate::classes::push_classes;
 use command_io::{push_status, push_word};
 use exploration::{FinalResult, ProcessorResult, Schedules};
 use run_report::{push_console, push_shared_word};
 use std::alloc::{AllocError, Global};
 use std::fmt::Write;
 
-/// The lines of these results, behind them one with their number and that of the states that were found, and one that tells whether
-/// schedules end.
+/// The lines of these results, and after them a line for each class of processors that can be exchanged, one with the
+/// number of the results and that of the states that were found, and one that tells whether schedules end.
 ///
 /// # Errors
 ///
-/// [`AllocError`] where there is no memory for them.
+/// [`AllocError`] if there is no memory for them.
 pub fn results_text(
     alloc: Global,
     results: &[FinalResult],
+    classes: &[u8],
     states: usize,
     schedules: Schedules,
 ) -> Result<String, AllocError>
-    ensures { IfOk result (λ text. string_bytes text ≡ results_lines results.now states schedules) }
+    ensures { IfOk result (λ text. string_bytes text ≡ results_lines results.now classes.now states schedules) }
 {
     let mut text = String::new(alloc);
     for (place, result) in results.iter().enumerate() {
         push_result(alloc, &mut text, place, result)?;
     }
+    push_classes(&mut text, classes)?;
     push_counts(&mut text, results.len(), states)?;
     push_schedules(&mut text, schedules)?;
+    text.push('\n')?;
     Ok(text)
 }
 
 /// Appends what is told of the schedules.
-fn push_schedules(text: &mut String, schedules: Schedules) -> Result<(), AllocError>
-    ensures { OnOk result (string_bytes text.new ≡ string_bytes text.old ++ schedules_line schedules) }
+pub(crate) fn push_schedules(text: &mut String, schedules: Schedules) -> Result<(), AllocError>
+    ensures { OnOk result (string_bytes text.new ≡ string_bytes text.old ++ schedules_text schedules) }
 {
     match schedules {
-        Schedules::End => text.push_str("every schedule ends\n"),
+        Schedules::End => text.push_str("every schedule ends"),
         Schedules::MayEnd => {
-            text.push_str("some schedule never ends; an end can always be reached\n")
+            text.push_str("some schedule never ends; an end can always be reached")
         }
         Schedules::MayBeStuck { states, .. } => {
             text.push_str("from ")?;
             push_count(text, states, "state")?;
-            text.push_str(" no end can be reached\n")
+            text.push_str(" no end can be reached")
         }
     }
 }
@@ -62,7 +67,7 @@ fn push_counts(text: &mut String, results: usize, states: usize) -> Result<(), A
 }
 
 /// Appends how many there are of something.
-fn push_count(text: &mut String, count: usize, noun: &str) -> Result<(), AllocError>
+pub(crate) fn push_count(text: &mut String, count: usize, noun: &str) -> Result<(), AllocError>
     ensures { OnOk result (string_bytes text.new ≡ string_bytes text.old ++ counted count noun.now) }
 {
     write!(text, "{count} {noun}")?;

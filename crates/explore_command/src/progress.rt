@@ -6,8 +6,9 @@ use std::time::{Clock, Instant};
 /// How many milliseconds a line stands at least, before it is written anew.
 const LEAST: u64 = 1000;
 
-/// One who tells on a terminal how many states are found, and how many were in each second of those that have gone by. There is one
-/// line, which is written anew at most once a second, and not in the first. It is gone once the search is over.
+/// One who tells on a terminal how many states are found, and how many were in each second of those that have gone by.
+/// There is one line, which is written anew at most once a second, and not in the first. It is gone once the search is
+/// over; then another may begin.
 #[derive(Drop)]
 pub struct SearchProgress<'a, C: Clock, E: Eprint> {
     clock: &'a C,
@@ -55,5 +56,7 @@ impl<C: Clock, E: Eprint> Watch for SearchProgress<'_, C, E> {
         if self.written != 0 {
             let _ = eprint!(self.terminal; "\r\x1b[K");
         }
+        self.begun = Instant::now(self.clock).ok();
+        self.written = 0;
     }
 }

@@ -1,93 +1,101 @@
 //! The search, its lines and its witness.
 
-ghost use Rattle.std.specs.Prelude.{◌≡◌, ◌≤◌, IfOk, IfErr, OnOk, string_bytes};
+ghost use Rattle.std.specs.Prelude.{◌≡◌, ◌≤◌, ◌^◌, false, not, IfOk, IfErr, OnOk, string_bytes};
 ghost use Rattle.machine_runs.specs.machine.Openings.{flat_state};
 ghost use Rattle.machine_runs.specs.Machines.{AreHome, IsIdle};
 ghost use Rattle.machine_runs.specs.Runs.{IsOpening};
-ghost use Rattle.exploration.specs.station_search.Scheduled.{AreSchedulesOf};
+ghost use Rattle.exploration.specs.Endings.{AreSingle};
+ghost use Rattle.exploration.specs.found_states.Laws.{AreSchedulesOf};
 ghost use Rattle.accounts.specs.Accounts.{IsWorking};
 ghost use Rattle.explore_command.specs.Causes.{IsNotFound, IsNotSaved, IsNotSearched};
 ghost use Rattle.explore_command.specs.Explorations.{AreExplored, AreResultsOf, IsWitnessed};
 
-use crate::command::Search;
+use crate::command::Asked;
 use crate::lines::results_text;
 use crate::status::exit_status;
 use accounts::{machine_of, save};
 use command_io::Fault;
 use elf_image::Image;
-use exploration::{Explored, Refusal, Watch, explore};
+use exploration::{Explored, Refusal, Search, Watch, explore};
 use flat_machine::Config;
 use link::LinkWrite;
 use machine_runs::Machine;
 use result_witness::{Refused, witness_of};
 use std::alloc::Global;
 
-/// The most stages of switches of a machine that is explored: it has 8 processors then.
-const MAX_EXPLORED_STAGES: u8 = 3;
-
 /// The lines of the results, and the exit status. Where a trace is asked for, that of a witness is written.
 pub(crate) fn explored<T: LinkWrite, G: Watch>(
     alloc: Global,
     image: Image,
     config: Config,
-    search: Search,
+    asked: Asked,
     trace: &mut Option<T>,
     watch: &mut G,
 ) -> Result<(String, u8), Refused>
     requires words { image.shared_words ≡ config.shared_words }
     requires works { IsWorking T.has_failed trace.old }
-    ensures lines { IfOk result (λ done. AreExplored T.contents config image search.witness trace.old trace.new (string_bytes done.0) done.1) }
+    ensures lines { IfOk result (λ done. AreExplored T.contents config image asked.each asked.witness trace.old trace.new (string_bytes done.0) done.1) }
     ensures low { IfOk result (λ done. done.1 ≤ 1) }
-    ensures refused { IfErr result (IsNotFound T.contents config image search.witness trace.old trace.new) }
+    ensures refused { IfErr result (IsNotFound T.contents config image asked.witness trace.old trace.new) }
 {
-    if config.k > MAX_EXPLORED_STAGES {
-        return Err(Refused::Fault(Fault::Size));
-    }
     let machine = machine_of(alloc, image, config)?;
-    explored_from(alloc, &machine, config, search, trace, watch)
+    explored_from(alloc, &machine, config, asked, trace, watch)
 }
 
-/// The lines of the results of a machine that has just opened, and the exit status. Where a trace is asked for, that of a witness is
-/// written.
+/// The lines of the results of a machine that has just opened, and the exit status. Where a trace is asked for, that of
+/// a witness is written.
 // A function of its own, so that none has many values to drop at each of its ends.
 fn explored_from<T: LinkWrite, G: Watch>(
     alloc: Global,
     machine: &Machine,
     config: Config,
-    search: Search,
+    asked: Asked,
     trace: &mut Option<T>,
     watch: &mut G,
 ) -> Result<(String, u8), Refused>
     requires opens { IsOpening config machine.now.image machine.now }
-    requires few { config.k ≤ 3 }
     requires words { machine.now.image.shared_words ≡ config.shared_words }
     requires works { IsWorking T.has_failed trace.old }
-    ensures lines { IfOk result (λ done. AreExplored T.contents config machine.now.image search.witness trace.old trace.new (string_bytes done.0) done.1) }
+    ensures lines { IfOk result (λ done. AreExplored T.contents config machine.now.image asked.each asked.witness
+        trace.old trace.new (string_bytes done.0) done.1) }
     ensures low { IfOk result (λ done. done.1 ≤ 1) }
-    ensures refused { IfErr result (IsNotFound T.contents config machine.now.image search.witness trace.old trace.new) }
+    ensures refused { IfErr result (IsNotFound T.contents config machine.now.image asked.witness trace.old trace.new) }
 {
-    let found = found(alloc, machine, search.limit, watch)?;
+    let search = search_of(asked, trace.is_some());
+    let found = found(alloc, machine, search, watch)?;
     let results = found.results.as_slice();
-    let text = results_text(alloc, results, found.moves.len(), found.schedules)?;
-    save_witness(alloc, machine.image(), config, &found, search, trace)?;
+    let classes = found.classes.as_slice();
+    let text = results_text(alloc, results, classes, found.states, found.schedules)?;
+    save_witness(alloc, machine.image(), config, &found, asked, trace)?;
     Ok((text, exit_status(results, found.schedules)))
 }
 
+/// What a search is to look for, if a witness is wanted or not.
+pub(crate) fn search_of(asked: Asked, is_wanted: bool) -> Search
+    ensures { result.exchanged ≡ not asked.each }
+{
+    Search {
+        limit: asked.limit,
+        exchanged: !asked.each,
+        wanted: if is_wanted { Some(asked.witness) } else { None },
+    }
+}
+
 /// The results of a machine that has just opened.
-fn found<G: Watch>(
+pub(crate) fn found<G: Watch>(
     alloc: Global,
     machine: &Machine,
-    limit: u32,
+    search: Search,
     watch: &mut G,
 ) -> Result<Explored, Fault>
     requires idle { IsIdle machine.now }
     requires home { AreHome machine.now }
-    requires few { machine.now.config.k ≤ 3 }
-    ensures results { IfOk result (λ found. AreResultsOf machine.now found.results.items) }
+    ensures results { IfOk result (λ found. AreResultsOf machine.now found.classes.items found.results.items) }
+    ensures single { IfOk result (λ found. search.exchanged ≡ false → AreSingle (2 ^ machine.now.config.k) found.classes.items) }
     ensures schedules { IfOk result (λ found. AreSchedulesOf (flat_state machine.now) found.schedules) }
     ensures refused { IfErr result IsNotSearched }
 {
-    let found = explore(alloc, machine, limit, watch);
+    let found = explore(alloc, machine, search, watch);
     watch.over();
     match found {
         Ok(found) => Ok(found),
@@ -103,20 +111,19 @@ fn save_witness<T: LinkWrite>(
     image: &Image,
     config: Config,
     found: &Explored,
-    search: Search,
+    asked: Asked,
     trace: &mut Option<T>,
 ) -> Result<(), Refused>
     requires words { image.now.shared_words ≡ config.shared_words }
-    requires few { config.k ≤ 3 }
     requires works { IsWorking T.has_failed trace.old }
-    ensures saved { OnOk result (IsWitnessed T.contents config image.now found.now.results.items search.witness trace.old trace.new) }
+    ensures saved { OnOk result (IsWitnessed T.contents config image.now found.now.results.items asked.witness trace.old trace.new) }
     ensures refused { IfErr result
-        (IsNotSaved T.contents config image.now found.now.results.items found.now.schedules search.witness trace.old trace.new) }
+        (IsNotSaved T.contents config image.now found.now.results.items found.now.schedules asked.witness trace.old trace.new) }
 {
     if trace.is_none() {
         return Ok(());
     }
-    let log = witness_of(alloc, image, config, found, search.witness, search.limit)?;
+    let log = witness_of(alloc, image, config, found, asked.witness, asked.limit)?;
     save(trace, &config, log.steps())?;
     Ok(())
 }

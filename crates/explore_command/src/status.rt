@@ -7,8 +7,8 @@ use command_io::{DONE, STOPPED_BY_FAULT};
 use exploration::{FinalResult, ProcessorResult, Schedules};
 use flat_machine::Status;
 
-/// The exit status of results: [`STOPPED_BY_FAULT`] where in one of them a fault has stopped a processor, or from a state no end
-/// can be reached, else [`DONE`].
+/// The exit status of results: [`STOPPED_BY_FAULT`] where in one of them a fault has stopped a processor, or from a
+/// state no end can be reached, else [`DONE`].
 pub fn exit_status(results: &[FinalResult], schedules: Schedules) -> u8
     ensures exit { IsExitOf results.now schedules result }
     ensures low { result ≤ 1 }

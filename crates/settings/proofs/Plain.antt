@@ -346,7 +346,9 @@ explain_given code words named =
 -- ---- `explore FILE`
 
 explore_rows : (file : Text) → List Row
-explore_rows file = row (codes "FILE") file CommandLine ∷ row (codes "quiet") (codes "false") DefaultValue ∷ []
+explore_rows file =
+    row (codes "FILE") file CommandLine ∷ row (codes "each") (codes "false") DefaultValue
+    ∷ row (codes "every") (codes "false") DefaultValue ∷ row (codes "quiet") (codes "false") DefaultValue ∷ []
 
 explore_met : (program file : Text) → IsPlain file → Meets (program ∷ codes "explore" ∷ file ∷ []) (codes "explore") (explore_rows file)
 unfolding row explore_rows clap_on_literals commands
@@ -355,14 +357,16 @@ explore_met program file h = rw (no_hyphens file h, no_hyphen file h, no_hyphen 
 explore_are : (file : Text) (s : Settings) → (name_of s ≡ codes "explore") × AreOf (explore_rows file) s → AreExploreOf file s
 unfolding name_of row explore_rows
 explore_are file (asked.Explore x) said =
-    let sizes = said.1.3 in
-    let states = said.1.4 in (
+    let sizes = said.1.5 in
+    let states = said.1.6 in (
       same_text file x.file.now said.1.0,
       no_text x.trace said.1.1,
-      unset x.quiet said.1.2.0,
+      unset x.each said.1.2.0,
+      unset x.every said.1.3.0,
+      unset x.quiet said.1.4.0,
       (sizes.0.0, sizes.1.0, sizes.2.0, sizes.3.0, sizes.4.0),
       states.0,
-      said.1.5,
+      said.1.7,
     )
 explore_are file other said = apart (name_of other) (codes "explore") refl said.0
 

@@ -1,5 +1,5 @@
 -- What the settings are of the words of a command line.
-use Rattle.std.specs.Prelude.{◌≡◌, ◌≤◌, ◌↔◌, ℕ, pos, Bool, true, List, [], ◌∷◌, codes, Option, Some, None, option_map}
+use Rattle.std.specs.Prelude.{◌≡◌, ◌≤◌, ◌↔◌, ℕ, pos, Bool, true, List, codes, Option, Some, None, option_map}
 use Rattle.std.specs.Prelude.{IsSomeAnd, MatchOption}
 use Rattle.std.specs.Str.Parse.{signed_digits_value}
 use Rattle.clap.specs.Words.{Row, Text, first_of, subcommand_of}
@@ -80,7 +80,8 @@ GivesSession rows d = IsPath (codes "FILE") rows d.file.now × AreSizes rows d.s
 
 abbrev pub GivesExplore : List Row → Explore → Type 0
 GivesExplore rows x = IsPath (codes "FILE") rows x.file.now × IsOption (codes "trace") rows (option_map (λ t. t.now) x.trace)
-    × IsFlag (codes "quiet") rows x.quiet × AreSizes rows x.sizes × IsNumber states rows x.states × IsChoice witness rows x.witness
+    × IsFlag (codes "each") rows x.each × IsFlag (codes "every") rows x.every × IsFlag (codes "quiet") rows x.quiet
+    × AreSizes rows x.sizes × IsNumber states rows x.states × IsChoice witness rows x.witness
 
 abbrev pub GivesHunt : List Row → Hunt → Type 0
 GivesHunt rows h = IsPath (codes "FILE") rows h.file.now × IsOption (codes "trace") rows (option_map (λ prefix. prefix.now) h.trace) × AreSizes rows h.sizes

@@ -95,8 +95,8 @@ ArePictureOf trace file other = ⊥
 
 -- the settings are those of `explore FILE`: no trace, no flag, no witness, each number its default
 abbrev pub AreExploreOf : Text → Settings → Type 0
-AreExploreOf file (asked.Explore x) = (x.file.now ≡ file) × (x.trace ≡ None) × (x.quiet ≡ false) × AreUsual x.sizes × (x.states ≡ 1000000)
-    × (x.witness ≡ None)
+AreExploreOf file (asked.Explore x) = (x.file.now ≡ file) × (x.trace ≡ None) × (x.each ≡ false) × (x.every ≡ false)
+    × (x.quiet ≡ false) × AreUsual x.sizes × (x.states ≡ 1000000) × (x.witness ≡ None)
 AreExploreOf file other = ⊥
 
 -- the settings are those of `hunt FILE`: no trace, each number its default

@@ -142,6 +142,11 @@ pub struct Explore<'a> {
     pub file: &'a str,
     /// Where the trace of a witness is written, if anywhere.
     pub trace: Option<&'a str>,
+    /// Whether every result is listed by itself. Else one is for all that come of it by exchanging processors that
+    /// stand alike.
+    pub each: bool,
+    /// Whether every size is explored, `k` from 0 to 6, and a line is printed for each. Else it is `sizes.k` alone.
+    pub every: bool,
     /// Whether nothing is to be told of how far the search is.
     pub quiet: bool,
     /// The sizes of the machine.

@@ -245,6 +245,8 @@ fn explore<'a>(matches: &ArgMatches<'a>) -> Explore<'a>
     Explore {
         file: path(matches, "FILE"),
         trace: option(matches, "trace"),
+        each: flag(matches, "each"),
+        every: flag(matches, "every"),
         quiet: flag(matches, "quiet"),
         sizes: sizes(matches),
         states: number(matches, STATES),

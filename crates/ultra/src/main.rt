@@ -21,7 +21,9 @@ use command_io::{Fault, REFUSED, tell};
 use debug_command::debug_command;
 use dis_command::dis_command;
 use explain_command::{all_topics, explain_command};
-use explore_command::{Search, SearchProgress, Unwatched, explore_command};
+use explore_command::{
+    Asked, SearchProgress, Unwatched, Watch, explore_command, explore_every_size,
+};
 use flat_machine::Config;
 use hunt_command::{Hunt as Hunted, hunt_command};
 use link::{LinkWrite, Meter};
@@ -233,6 +235,9 @@ fn explore_file<R: Files + Clock + Eprint + AllocGlobal, W: LinkWrite, E: Write>
 ) -> Result<u8, Refusal>
     requires works { W.has_failed out.old ≡ false }
 {
+    if explore.every && (explore.witness.is_some() || explore.trace.is_some()) {
+        return Err(Refusal::Every);
+    }
     if explore.witness.is_some() != explore.trace.is_some() {
         return Err(Refusal::Half);
     }
@@ -261,16 +266,37 @@ fn explore_image<
     requires works { W.has_failed out.old ≡ false }
 {
     let alloc = rt.alloc();
-    let config = config_of(&explore.sizes);
-    let search = Search {
-        limit: explore.states,
-        witness: explore.witness.unwrap_or(0),
-    };
     if terminal && !explore.quiet {
         let mut watch = SearchProgress::new(rt, rt);
-        explore_command(alloc, file, config, search, trace, &mut watch, out, err)
+        explore_watched(alloc, file, explore, trace, &mut watch, out, err)
     } else {
-        explore_command(alloc, file, config, search, trace, &mut Unwatched, out, err)
+        explore_watched(alloc, file, explore, trace, &mut Unwatched, out, err)
+    }
+}
+
+/// Explores an image, on a machine of one size or of every size.
+fn explore_watched<F: Read + Drop, T: LinkWrite, G: Watch, W: LinkWrite, E: Write>(
+    alloc: Global,
+    file: F,
+    explore: &Explore<'_>,
+    trace: &mut Option<T>,
+    watch: &mut G,
+    out: &mut W,
+    err: &mut E,
+) -> u8
+    requires saves { IsWorking T.has_failed trace.old }
+    requires works { W.has_failed out.old ≡ false }
+{
+    let config = config_of(&explore.sizes);
+    let asked = Asked {
+        limit: explore.states,
+        each: explore.each,
+        witness: explore.witness.unwrap_or(0),
+    };
+    if explore.every {
+        explore_every_size(alloc, file, config, asked, watch, out, err)
+    } else {
+        explore_command(alloc, file, config, asked, trace, watch, out, err)
     }
 }
 

@@ -12,6 +12,8 @@ pub(crate) enum Refusal {
     SameFile,
     /// A witness is asked for, and not where its trace goes, or the other way round.
     Half,
+    /// A witness is asked for, and every size.
+    Every,
 }
 
 impl Refusal {
@@ -21,6 +23,7 @@ impl Refusal {
             Refusal::Closed => tell(Fault::Link, err),
             Refusal::SameFile => refuse("OUT is the same file as FILE", err),
             Refusal::Half => refuse("--witness and --trace go together", err),
+            Refusal::Every => refuse("--every goes with neither --witness nor --trace", err),
         }
     }
 }

@@ -1,19 +1,35 @@
 //! `explore FILE` and its options.
 
 /// Ways to ask for `explore`.
-pub const TAKEN: &str = r#"$ ultra explore a.elf
-Explore(Explore { file: "a.elf", trace: None, quiet: false, sizes: Sizes { k: 2, c: 4, b: 4, r: 1, words: 1024 }, states: 1000000, witness: None })
+pub const TAKEN: &str = "\
+$ ultra explore a.elf
+Explore(Explore { file: \"a.elf\", trace: None, each: false, every: false, quiet: false, \
+    sizes: Sizes { k: 2, c: 4, b: 4, r: 1, words: 1024 }, states: 1000000, witness: None })
 $ ultra explore --states 1 a.elf --k 3
-Explore(Explore { file: "a.elf", trace: None, quiet: false, sizes: Sizes { k: 3, c: 4, b: 4, r: 1, words: 1024 }, states: 1, witness: None })
+Explore(Explore { file: \"a.elf\", trace: None, each: false, every: false, quiet: false, \
+    sizes: Sizes { k: 3, c: 4, b: 4, r: 1, words: 1024 }, states: 1, witness: None })
 $ ultra explore a.elf --states=4294967295 --k 0 --c 16 --b 0 --words 262144
-Explore(Explore { file: "a.elf", trace: None, quiet: false, sizes: Sizes { k: 0, c: 16, b: 0, r: 1, words: 262144 }, states: 4294967295, witness: None })
+Explore(Explore { file: \"a.elf\", trace: None, each: false, every: false, quiet: false, \
+    sizes: Sizes { k: 0, c: 16, b: 0, r: 1, words: 262144 }, states: 4294967295, witness: None })
 $ ultra explore a.elf --quiet
-Explore(Explore { file: "a.elf", trace: None, quiet: true, sizes: Sizes { k: 2, c: 4, b: 4, r: 1, words: 1024 }, states: 1000000, witness: None })
+Explore(Explore { file: \"a.elf\", trace: None, each: false, every: false, quiet: true, \
+    sizes: Sizes { k: 2, c: 4, b: 4, r: 1, words: 1024 }, states: 1000000, witness: None })
 $ ultra explore a.elf --witness 0 --trace t
-Explore(Explore { file: "a.elf", trace: Some("t"), quiet: false, sizes: Sizes { k: 2, c: 4, b: 4, r: 1, words: 1024 }, states: 1000000, witness: Some(0) })
+Explore(Explore { file: \"a.elf\", trace: Some(\"t\"), each: false, every: false, quiet: false, \
+    sizes: Sizes { k: 2, c: 4, b: 4, r: 1, words: 1024 }, states: 1000000, witness: Some(0) })
 $ ultra explore --trace=t a --witness=4294967295 --quiet --states 9
-Explore(Explore { file: "a", trace: Some("t"), quiet: true, sizes: Sizes { k: 2, c: 4, b: 4, r: 1, words: 1024 }, states: 9, witness: Some(4294967295) })
-"#;
+Explore(Explore { file: \"a\", trace: Some(\"t\"), each: false, every: false, quiet: true, \
+    sizes: Sizes { k: 2, c: 4, b: 4, r: 1, words: 1024 }, states: 9, witness: Some(4294967295) })
+$ ultra explore a.elf --each --k 6
+Explore(Explore { file: \"a.elf\", trace: None, each: true, every: false, quiet: false, \
+    sizes: Sizes { k: 6, c: 4, b: 4, r: 1, words: 1024 }, states: 1000000, witness: None })
+$ ultra explore --every a.elf
+Explore(Explore { file: \"a.elf\", trace: None, each: false, every: true, quiet: false, \
+    sizes: Sizes { k: 2, c: 4, b: 4, r: 1, words: 1024 }, states: 1000000, witness: None })
+$ ultra explore --every --quiet --k 3 --each a.elf
+Explore(Explore { file: \"a.elf\", trace: None, each: true, every: true, quiet: true, \
+    sizes: Sizes { k: 3, c: 4, b: 4, r: 1, words: 1024 }, states: 1000000, witness: None })
+";
 
 /// Parts of the help.
 pub const HELP: &str = "\
@@ -25,7 +41,16 @@ DisplayHelp
 --states <NUMBER>   Give up where as many states as this are found, 1 to 4294967295 [default: 1000000]
 $ ultra explore --help
 DisplayHelp
+--each              List every result by itself; processors that stand alike are not exchanged
+$ ultra explore --help
+DisplayHelp
+--every             Explore each k from 0 to 6, whatever --k says,\
+$ ultra explore --help
+DisplayHelp
 --witness <NUMBER>  Write the trace of a way to the result of this number,\
+$ ultra explore --help
+DisplayHelp
+With --every the machines of 1, 2, 4, 8, 16, 32 and 64 processors are explored one after another,\
 $ ultra explore --help
 DisplayHelp
 Exit status: 0 done, 1 in a result a fault has stopped a processor or from a state no end can be reached,\

@@ -181,7 +181,7 @@ fn no_numbers(rt: &(impl Abort + AllocGlobal)) -> bool {
 }
 
 /// Words with an argument that stands twice.
-static TWICE: [(&str, &str); 14] = [
+static TWICE: [(&str, &str); 15] = [
     ("dis --words 1 --words 2 a.elf", "--words <NUMBER>"),
     ("run --k 3 a.elf --k 3", "--k <NUMBER>"),
     ("run --c 3 a.elf --c 3", "--c <NUMBER>"),
@@ -197,6 +197,7 @@ static TWICE: [(&str, &str); 14] = [
     ),
     ("order --word 1 a.trace --word 1 a.elf", "--word <NUMBER>"),
     ("explore a.elf --states 1 --states 1", "--states <NUMBER>"),
+    ("explore --every a.elf --every", "--every"),
     (
         "explore a.elf --witness 1 --witness 2 --trace t",
         "--witness <NUMBER>",

@@ -1,0 +1,51 @@
+//! The greatest status of a processor in results.
+
+ghost use Rattle.std.specs.Prelude.{◌≡◌};
+ghost use Rattle.explore_command.specs.Sizes.{IsGreatestStatus, IsGreatestWith, greater, rank_of_status};
+
+use exploration::{FinalResult, ProcessorResult};
+use flat_machine::Status;
+
+/// The greatest status of a processor in any of these results, if there is one: halts come in the order of their bytes,
+/// and after them faults in the order of their numbers.
+pub(crate) fn greatest_status(results: &[FinalResult]) -> Option<Status>
+    ensures { IsGreatestStatus results.now result }
+{
+    let mut greatest = None;
+    for result in results {
+        greatest = greatest_in(greatest, result.processors.as_slice());
+    }
+    greatest
+}
+
+/// The greatest of a status, if there is one, and those of processors.
+fn greatest_in(status: Option<Status>, processors: &[ProcessorResult]) -> Option<Status>
+    ensures { IsGreatestWith status processors.now result }
+{
+    let mut greatest = status;
+    for processor in processors {
+        greatest = Some(greater(greatest, processor.status));
+    }
+    greatest
+}
+
+/// The greater of two statuses, if there are two.
+fn greater(one: Option<Status>, other: Status) -> Status
+    ensures { result ≡ greater one other }
+{
+    match one {
+        Some(one) if rank_of(one) > rank_of(other) => one,
+        _ => other,
+    }
+}
+
+/// The place of a status in their order.
+fn rank_of(status: Status) -> u16
+    ensures { result ≡ rank_of_status status }
+{
+    match status {
+        Status::Running => 0,
+        Status::Halted(byte) => u16::from(byte) + 1,
+        Status::Faulted(fault) => u16::from(fault.number()) + 257,
+    }
+}
