@@ -4,9 +4,10 @@
 mod devices;
 mod ends;
 mod programs;
+mod sizes;
 mod witnesses;
 
-use explore_command::{Search, Unwatched, explore_command};
+use explore_command::{Asked, Unwatched, explore_command, explore_every_size};
 use flat_machine::Config;
 use link::Meter;
 use std::alloc::Global;
@@ -28,18 +29,55 @@ struct Ran {
     err: Vec<u8>,
 }
 
+/// A search up to exchanges of processors that stand alike, without a witness.
+const fn up_to_exchanges(limit: u32) -> Asked {
+    Asked {
+        limit,
+        each: false,
+        witness: 0,
+    }
+}
+
+/// A search that lists each result by itself.
+const fn each(limit: u32) -> Asked {
+    Asked {
+        limit,
+        each: true,
+        witness: 0,
+    }
+}
+
 /// All results of an image.
-fn explore(alloc: Global, file: &[u8], config: Config, limit: u32) -> Ran {
+fn explore(alloc: Global, file: &[u8], config: Config, asked: Asked) -> Ran {
     let mut out = Meter::new(Vec::new(alloc));
     let mut err = Vec::new(alloc);
-    let search = Search { limit, witness: 0 };
     let mut trace: Option<Meter<Vec<u8>>> = None;
     let status = explore_command(
         alloc,
         file,
         config,
-        search,
+        asked,
         &mut trace,
+        &mut Unwatched,
+        &mut out,
+        &mut err,
+    );
+    Ran {
+        status,
+        out: out.device,
+        err,
+    }
+}
+
+/// What there is of an image on machines of every size.
+fn explore_sizes(alloc: Global, file: &[u8], config: Config, asked: Asked) -> Ran {
+    let mut out = Meter::new(Vec::new(alloc));
+    let mut err = Vec::new(alloc);
+    let status = explore_every_size(
+        alloc,
+        file,
+        config,
+        asked,
         &mut Unwatched,
         &mut out,
         &mut err,

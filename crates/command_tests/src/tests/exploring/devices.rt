@@ -2,8 +2,8 @@
 
 ghost use Rattle.std.specs.Prelude.{◌≡◌, false};
 
-use super::config_of;
-use explore_command::{Search, Unwatched, explore_command};
+use super::{config_of, each};
+use explore_command::{Unwatched, explore_command, explore_every_size};
 use link::{LinkWrite, Meter};
 use std::alloc::Global;
 use std::io::{Read, Write};
@@ -26,17 +26,54 @@ fn explored<R: Read + Drop, W: LinkWrite, E: Write>(
 ) -> u8
     requires { W.has_failed out.old ≡ false }
 {
-    let search = Search {
-        limit: 10,
-        witness: 0,
-    };
     let mut trace: Option<Meter<Vec<u8>>> = None;
     explore_command(
         alloc,
         file,
         config_of(0),
-        search,
+        each(10),
         &mut trace,
+        &mut Unwatched,
+        out,
+        err,
+    )
+}
+
+/// What there is of `ebreak` on every size.
+const EVERY_STOPPED: &[u8] = b"k 0: 1 processor, 1 result, 1 state, every schedule ends, fault 8
+k 1: 2 processors, 1 result, 1 state, every schedule ends, fault 8
+k 2: 4 processors, 1 result, 1 state, every schedule ends, fault 8
+k 3: 8 processors, 1 result, 1 state, every schedule ends, fault 8
+k 4: 16 processors, 1 result, 1 state, every schedule ends, fault 8
+k 5: 32 processors, 1 result, 1 state, every schedule ends, fault 8
+k 6: 64 processors, 1 result, 1 state, every schedule ends, fault 8
+";
+
+/// The same where one state is too many.
+const NONE_EXPLORED: &[u8] = b"k 0: 1 processor, not explored: states
+k 1: 2 processors, not explored: states
+k 2: 4 processors, not explored: states
+k 3: 8 processors, not explored: states
+k 4: 16 processors, not explored: states
+k 5: 32 processors, not explored: states
+k 6: 64 processors, not explored: states
+";
+
+/// What there is of an image on every size.
+fn explored_sizes<R: Read + Drop, W: LinkWrite, E: Write>(
+    alloc: Global,
+    file: R,
+    limit: u32,
+    out: &mut W,
+    err: &mut E,
+) -> u8
+    requires { W.has_failed out.old ≡ false }
+{
+    explore_every_size(
+        alloc,
+        file,
+        config_of(0),
+        each(limit),
         &mut Unwatched,
         out,
         err,
@@ -63,13 +100,70 @@ fn lines_that_cannot_be_printed(rt: HostRuntime) {
     }
 }
 
+/// The lines of the sizes before are printed, and a beginning of the one that fails. The first has 66 bytes, the next
+/// three have 67 each, and the last three 68, so the last byte of all is the 471st.
+#[test]
+fn sizes_that_cannot_be_printed(rt: HostRuntime) {
+    let alloc = rt.alloc();
+    for fails_at in [0, 1, 2, 66, 67, 133, 134, 300, 403, 404, 471, 472] {
+        let mut out = Meter::new(Sink::new(Vec::new(alloc), fails_at));
+        let mut err = Sink::new(Vec::new(alloc), 0);
+        let file = EBREAK.as_slice();
+        let status = explored_sizes(alloc, file, 10, &mut out, &mut err);
+        if 1 <= fails_at && fails_at <= 471 {
+            assert_same!(rt; Some(out.device.bytes.as_slice()), EVERY_STOPPED.get(..fails_at - 1));
+            assert_same!(rt; err.bytes.as_slice(), b"ultra: link\n".as_slice());
+            assert_same!(rt; status, 3, fails_at);
+        } else {
+            assert_same!(rt; out.device.bytes.as_slice(), EVERY_STOPPED);
+            assert_same!(rt; err.bytes.len(), 0);
+            assert_same!(rt; status, 1, fails_at);
+        }
+    }
+}
+
+/// Of each size before, and of the one whose line fails, is told why it is not explored; and then that the line has
+/// failed.
+#[test]
+fn refused_sizes_that_cannot_be_printed(rt: HostRuntime) {
+    let alloc = rt.alloc();
+    for (fails_at, told, status) in [
+        (20, b"ultra: states\nultra: link\n".as_slice(), 3),
+        (
+            60,
+            b"ultra: states\nultra: states\nultra: link\n".as_slice(),
+            3,
+        ),
+    ] {
+        let mut out = Meter::new(Sink::new(Vec::new(alloc), fails_at));
+        let mut err = Sink::new(Vec::new(alloc), 0);
+        let found = explored_sizes(alloc, EBREAK.as_slice(), 1, &mut out, &mut err);
+        assert_same!(rt; Some(out.device.bytes.as_slice()), NONE_EXPLORED.get(..fails_at - 1));
+        assert_same!(rt; err.bytes.as_slice(), told);
+        assert_same!(rt; found, status);
+    }
+}
+
+/// Where nothing can be told of a size, its line and the exit status are the same.
+#[test]
+fn sizes_that_cannot_be_told(rt: HostRuntime) {
+    let alloc = rt.alloc();
+    let mut out = Meter::new(Sink::new(Vec::new(alloc), 0));
+    let status = explored_sizes(alloc, EBREAK.as_slice(), 1, &mut out, &mut Deaf);
+    assert_same!(rt; out.device.bytes.as_slice(), NONE_EXPLORED);
+    assert_same!(rt; status, 4);
+}
+
 /// An image that cannot be read. Where standard error fails too, the exit status alone tells the fault.
 #[test]
 fn image_that_cannot_be_read(rt: HostRuntime) {
     let alloc = rt.alloc();
     let mut out = Meter::new(Sink::new(Vec::new(alloc), 0));
-    let file = Source::new(&EBREAK, 5);
-    let status = explored(alloc, file, &mut out, &mut Deaf);
+    let status = explored(alloc, Source::new(&EBREAK, 5), &mut out, &mut Deaf);
+    assert_same!(rt; out.device.bytes.len(), 0);
+    assert_same!(rt; status, 3);
+    let mut out = Meter::new(Sink::new(Vec::new(alloc), 0));
+    let status = explored_sizes(alloc, Source::new(&EBREAK, 5), 10, &mut out, &mut Deaf);
     assert_same!(rt; out.device.bytes.len(), 0);
     assert_same!(rt; status, 3);
 }
@@ -90,4 +184,42 @@ fn short_of_memory(rt: HostRuntime) -> Result<(), Fail> {
         assert_same!(rt; err.bytes.as_slice(), b"ultra: memory\n".as_slice());
     }
     Ok(())
+}
+
+/// The size that lacks memory is not explored, and its line tells it; or there is none for a line, and those before are
+/// there.
+#[test]
+fn every_size_is_short_of_memory(rt: HostRuntime) -> Result<(), Fail> {
+    let alloc = rt.alloc();
+    let mut out = Meter::new(Sink::new(Vec::with_capacity(alloc, 512)?, 0));
+    let mut err = Sink::new(Vec::with_capacity(alloc, 64)?, 0);
+    let status = explored_sizes(alloc, EBREAK.as_slice(), 10, &mut out, &mut err);
+    let lines = out.device.bytes.as_slice();
+    if status == 1 {
+        assert_same!(rt; lines, EVERY_STOPPED);
+        assert_same!(rt; err.bytes.len(), 0);
+    } else {
+        assert_same!(rt; status, 4);
+        assert_same!(rt; err.bytes.as_slice(), b"ultra: memory\n".as_slice());
+        let is_cut = EVERY_STOPPED.starts_with(lines) && lines != EVERY_STOPPED;
+        assert!(rt; is_cut || lacks_a_size(str::from_utf8(lines)?));
+    }
+    Ok(())
+}
+
+/// Whether these are the lines of all sizes, of which one lacked memory.
+fn lacks_a_size(lines: &str) -> bool {
+    let mut lacking = 0u8;
+    let mut wanted = str::from_utf8(EVERY_STOPPED).unwrap_or("").lines();
+    for line in lines.lines() {
+        let is_lacking = line.ends_with(", not explored: memory");
+        match wanted.next() {
+            Some(all) if line == all => {}
+            Some(all) if is_lacking && line.get(..20) == all.get(..20) => {
+                lacking = lacking.saturating_add(1)
+            }
+            _ => return false,
+        }
+    }
+    wanted.next().is_none() && lacking == 1
 }

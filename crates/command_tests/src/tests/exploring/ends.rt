@@ -1,10 +1,18 @@
 //! What is told where there are no lines.
 
-use super::{config_of, explore};
+use super::{config_of, each, explore, explore_sizes, up_to_exchanges};
 use flat_machine::Config;
 use std::test::Fail;
 use test_devices::{EBREAK, assert_same};
 use test_machines::image_of;
+
+/// A size whose queues have too little room.
+fn narrow(k: u8) -> Config {
+    Config {
+        c: 1,
+        ..config_of(k)
+    }
+}
 
 /// A loop that needs no shared word.
 const SPIN: &str = "spin: jal x0, spin";
@@ -17,56 +25,48 @@ const SUM: &str = "
  ecall
 ";
 
-/// Each refusal has its name and status, and nothing is printed.
+/// Each refusal has its name and status, and nothing is printed. Up to exchanges two that add have three states.
 #[test]
 fn refusals(rt: HostRuntime) -> Result<(), Fail> {
     let alloc = rt.alloc();
     let sum = image_of(alloc, SUM)?;
     let spin = image_of(alloc, SPIN)?;
-    for (file, config, limit, told, status) in [
-        (
-            &EBREAK[..51],
-            config_of(0),
-            10,
-            b"ultra: I1\n".as_slice(),
-            2,
-        ),
-        (
-            EBREAK.as_slice(),
-            config_of(4),
-            10,
-            b"ultra: K1\n".as_slice(),
-            2,
-        ),
-        (
-            EBREAK.as_slice(),
-            Config {
-                c: 1,
-                ..config_of(0)
-            },
-            10,
-            b"ultra: K1\n".as_slice(),
-            2,
-        ),
+    for (file, config, asked, told, status) in [
+        (&EBREAK[..51], config_of(0), each(10), "ultra: I1\n", 2),
+        (EBREAK.as_slice(), config_of(7), each(10), "ultra: K1\n", 2),
+        (EBREAK.as_slice(), narrow(0), each(10), "ultra: K1\n", 2),
+        (sum.as_slice(), config_of(1), each(3), "ultra: states\n", 4),
+        (sum.as_slice(), config_of(1), each(4), "ultra: states\n", 4),
         (
             sum.as_slice(),
             config_of(1),
-            3,
-            b"ultra: states\n".as_slice(),
+            up_to_exchanges(3),
+            "ultra: states\n",
             4,
         ),
+        (spin.as_slice(), config_of(0), each(10), "ultra: alone\n", 4),
         (
             spin.as_slice(),
-            config_of(0),
-            10,
-            b"ultra: alone\n".as_slice(),
+            config_of(1),
+            up_to_exchanges(10),
+            "ultra: alone\n",
             4,
         ),
     ] {
-        let ran = explore(alloc, file, config, limit);
-        assert_same!(rt; ran.err.as_slice(), told);
+        let ran = explore(alloc, file, config, asked);
+        assert_same!(rt; str::from_utf8(ran.err.as_slice())?, told);
         assert_same!(rt; ran.out.len(), 0);
         assert_same!(rt; ran.status, status);
     }
+    Ok(())
+}
+
+/// Of an image that is refused no line of any size is printed.
+#[test]
+fn refused_image(rt: HostRuntime) -> Result<(), Fail> {
+    let ran = explore_sizes(rt.alloc(), &EBREAK[..51], config_of(0), each(10));
+    assert_same!(rt; str::from_utf8(ran.err.as_slice())?, "ultra: I1\n");
+    assert_same!(rt; ran.out.len(), 0);
+    assert_same!(rt; ran.status, 2);
     Ok(())
 }

@@ -1,0 +1,155 @@
+//! The programs, as texts of the assembler.
+
+// ---- one word
+
+/// Each adds 1 to the first word, once, by a fetch and add.
+pub const SUM: &str = "lui x1, 0x80000\naddi x4, x0, 1\namoadd.w x0, x4, (x1)\necall";
+
+/// The same by a load and a store: an addition may be lost.
+pub const LOST_SUM: &str = "lui x1, 0x80000\nlw x2, 0(x1)\naddi x2, x2, 1\nsw x2, 0(x1)\necall";
+
+/// Each of two does the same, and waits until the sum is 2.
+pub const NEEDED_SUM: &str =
+    "lui x1, 0x80000\naddi x5, x0, 2\nlw x2, 0(x1)\naddi x2, x2, 1\nsw x2, 0(x1)\nwait: lw x2, 0(x1)\n\
+    bne x2, x5, wait\necall";
+
+/// Each adds 1 to the first word, three times, and never reads what it gets.
+pub const COUNTER: &str =
+    "lui x1, 0x80000\naddi x4, x0, 1\namoadd.w x5, x4, (x1)\namoadd.w x5, x4, (x1)\namoadd.w x5, x4, (x1)\necall";
+
+/// Each adds 1 to the first word, and halts with the sum that it then reads.
+pub const SEEN: &str =
+    "lui x1, 0x80000\naddi x4, x0, 1\namoadd.w x5, x4, (x1)\nlw a0, 0(x1)\necall";
+
+/// Each takes a lock by tickets twice, and adds 1 inside by a load and a store.
+pub const TICKETS: &str =
+    "lui x1, 0x80000\naddi x2, x0, 1\naddi x3, x0, 2\nagain: amoadd.w x4, x2, (x1)\nwait: lw x5, 4(x1)\n\
+    bne x5, x4, wait\nlw x6, 8(x1)\naddi x6, x6, 1\nsw x6, 8(x1)\naddi x5, x5, 1\nsw x5, 4(x1)\naddi x3, x3, -1\n\
+    bne x3, x0, again\necall";
+
+/// Each calls a function that adds 1 to the first word, and comes back by the address that it was called with.
+pub const CALL: &str =
+    "lui x1, 0x80000\naddi x4, x0, 1\njal x6, add\naddi a7, x0, 0\necall\nadd: amoadd.w x5, x4, (x1)\njalr x0, 0(x6)";
+
+/// Waits for a word that nobody writes.
+pub const DEADLOCK: &str = "lui x1, 0x80000\nwait: lw x2, 0(x1)\nbeq x2, x0, wait\necall";
+
+/// Prints a byte, and faults.
+pub const PRINTED: &str = "addi a7, x0, 1\naddi a0, x0, 65\necall\nebreak";
+
+// ---- processors that know their numbers
+
+/// Each of two stores 1 into its own word, and halts with the other's: one of them sees a 1.
+pub const NEIGHBOURS: &str =
+    "addi a7, x0, 2\necall\nlui x1, 0x80000\nslli x2, a0, 2\nadd x3, x1, x2\naddi x4, x0, 1\nsw x4, 0(x3)\n\
+    xori x2, x2, 4\nadd x3, x1, x2\nlw a0, 0(x3)\naddi a7, x0, 0\necall";
+
+/// Processor 0 writes a word for which the others wait. Each halts with its number.
+pub const SIGNAL: &str =
+    "addi a7, x0, 2\necall\nlui x1, 0x80000\nbne a0, x0, wait\naddi x4, x0, 1\nsw x4, 0(x1)\nwait: lw x2, 0(x1)\n\
+    beq x2, x0, wait\naddi a7, x0, 0\necall";
+
+/// The same, where all halt with 0, so that the others forget their numbers.
+pub const LEADER: &str =
+    "addi a7, x0, 2\necall\nlui x1, 0x80000\nbne a0, x0, wait\naddi x4, x0, 1\nsw x4, 0(x1)\nwait: lw x2, 0(x1)\n\
+    beq x2, x0, wait\naddi a7, x0, 0\naddi a0, x0, 0\necall";
+
+/// Each waits for a word that only the other writes, and only behind its own wait.
+pub const DEADLY_EMBRACE: &str =
+    "addi a7, x0, 2\necall\nlui x1, 0x80000\nslli x2, a0, 2\nadd x3, x1, x2\nxori x2, x2, 4\nadd x4, x1, x2\n\
+    wait: lw x5, 0(x3)\nbeq x5, x0, wait\naddi x6, x0, 1\nsw x6, 0(x4)\necall";
+
+/// Processor 1 writes 1, and then 0 again, while the other waits for the 1. It may come too late.
+pub const MISSED: &str =
+    "addi a7, x0, 2\necall\nlui x1, 0x80000\nbeq a0, x0, wait\naddi x4, x0, 1\nsw x4, 0(x1)\nsw x0, 0(x1)\n\
+    jal x0, done\nwait: lw x2, 0(x1)\nbeq x2, x0, wait\ndone: addi a7, x0, 0\necall";
+
+/// Processors 62 and 63 add 1 to the first word by a load and a store. All others halt at once.
+pub const LAST_TWO: &str =
+    "addi a7, x0, 2\necall\naddi x5, x0, 62\nbltu a0, x5, done\nlui x1, 0x80000\nlw x2, 0(x1)\naddi x2, x2, 1\n\
+    sw x2, 0(x1)\ndone: addi a7, x0, 0\naddi a0, x0, 0\necall";
+
+/// Each keeps its number in its local memory, adds 1 to the first word, and halts with its number.
+pub const KEPT: &str =
+    "addi a7, x0, 2\necall\nlui x2, 0x20\nsw a0, 0(x2)\nlui x1, 0x80000\naddi x4, x0, 1\namoadd.w x5, x4, (x1)\n\
+    lw a0, 0(x2)\naddi a7, x0, 0\necall";
+
+/// Each halts at once, with the last bit of its number.
+pub const SIDE: &str = "addi a7, x0, 2\necall\nandi a0, a0, 1\naddi a7, x0, 0\necall";
+
+/// Each adds 1 to the first word, and only then asks for its number, with which it halts.
+pub const ASKS_LATE: &str =
+    "lui x1, 0x80000\naddi x4, x0, 1\namoadd.w x5, x4, (x1)\naddi a7, x0, 2\necall\naddi a7, x0, 0\necall";
+
+/// The same, where only who comes second asks.
+pub const SECOND_ASKS: &str =
+    "lui x1, 0x80000\naddi x4, x0, 1\namoadd.w x5, x4, (x1)\nbne x5, x4, done\naddi a7, x0, 2\necall\n\
+    done: addi a7, x0, 0\necall";
+
+/// The same, where each asks how many processors there are, which is no matter of its own.
+pub const ASKS_HOW_MANY: &str =
+    "lui x1, 0x80000\naddi x4, x0, 1\namoadd.w x5, x4, (x1)\naddi a7, x0, 3\necall\naddi a7, x0, 0\necall";
+
+// ---- who draws which number: a halt has in its lowest three bits that of a draw, in the next three that of another
+
+/// Each draws a number, and halts with it.
+pub const DRAWS: &str =
+    "lui x1, 0x80000\naddi x4, x0, 1\namoadd.w x5, x4, (x1)\nslli x6, x5, 3\nor a0, x5, x6\necall";
+
+/// The same, with a halt that is the smaller the greater the number is.
+pub const DRAWS_BACK: &str =
+    "lui x1, 0x80000\naddi x4, x0, 1\namoadd.w x5, x4, (x1)\nslli x6, x5, 3\nor a0, x5, x6\nxori a0, a0, 63\necall";
+
+/// Each draws two numbers.
+pub const TWICE: &str =
+    "lui x1, 0x80000\naddi x4, x0, 1\namoadd.w x5, x4, (x1)\namoadd.w x6, x4, (x1)\nslli x5, x5, 3\nor a0, x5, x6\n\
+    ecall";
+
+/// The same, with a halt that is the smaller the greater the numbers are.
+pub const TWICE_BACK: &str =
+    "lui x1, 0x80000\naddi x4, x0, 1\namoadd.w x5, x4, (x1)\namoadd.w x6, x4, (x1)\nslli x5, x5, 3\nor a0, x5, x6\n\
+    xori a0, a0, 63\necall";
+
+/// Each draws a number, and halts with it and the last bit of its own.
+pub const SIDES: &str =
+    "addi a7, x0, 2\necall\nandi x7, a0, 1\nslli x7, x7, 6\nlui x1, 0x80000\naddi x4, x0, 1\namoadd.w x5, x4, (x1)\n\
+    slli x6, x5, 3\nor x6, x6, x5\nor a0, x6, x7\naddi a7, x0, 0\necall";
+
+/// The same with the bit above.
+pub const HALVES: &str =
+    "addi a7, x0, 2\necall\nsrli x7, a0, 1\nslli x7, x7, 6\nlui x1, 0x80000\naddi x4, x0, 1\namoadd.w x5, x4, (x1)\n\
+    slli x6, x5, 3\nor x6, x6, x5\nor a0, x6, x7\naddi a7, x0, 0\necall";
+
+// ---- what comes of a number that is drawn
+
+/// Who draws 1 makes a call that there is not, where the others halt.
+pub const UNKNOWN_CALL: &str =
+    "lui x1, 0x80000\naddi x4, x0, 1\namoadd.w x5, x4, (x1)\nbne x5, x4, end\naddi a7, x0, 9\nend: ecall";
+
+/// Who draws 1 breaks, behind where the others halt.
+pub const BREAK_BEHIND: &str =
+    "lui x1, 0x80000\naddi x4, x0, 1\namoadd.w x5, x4, (x1)\nbeq x5, x4, bad\necall\nbad: ebreak";
+
+/// Who draws 1 breaks, before where the others halt.
+pub const BREAK_BEFORE: &str =
+    "lui x1, 0x80000\naddi x4, x0, 1\namoadd.w x5, x4, (x1)\nbne x5, x4, fine\nebreak\nfine: ecall";
+
+/// Each loads from an address in no region; that of who draws 0 is aligned.
+pub const NO_ADDRESS: &str =
+    "lui x1, 0x80000\naddi x4, x0, 1\namoadd.w x5, x4, (x1)\nlw x6, 4(x5)\necall";
+
+/// Each prints 128 less what it draws.
+pub const PRINTS: &str =
+    "lui x1, 0x80000\naddi x4, x0, 1\namoadd.w x5, x4, (x1)\naddi x6, x0, 128\nsub a0, x6, x5\naddi a7, x0, 1\n\
+    ecall\naddi a7, x0, 0\naddi a0, x0, 0\necall";
+
+/// Each prints 3 less what it draws, and halts with what it draws.
+pub const PRINTS_AND_HALTS: &str =
+    "lui x1, 0x80000\naddi x4, x0, 1\namoadd.w x5, x4, (x1)\naddi x6, x0, 3\nsub a0, x6, x5\naddi a7, x0, 1\necall\n\
+    addi a7, x0, 0\naddi a0, x5, 0\necall";
+
+/// Each prints a byte 3 times less what it draws.
+pub const PRINTS_OFTEN: &str =
+    "lui x1, 0x80000\naddi x4, x0, 1\namoadd.w x5, x4, (x1)\naddi x6, x0, 3\nsub x6, x6, x5\naddi a0, x0, 65\n\
+    addi a7, x0, 1\nmore: beq x6, x0, end\necall\naddi x6, x6, -1\njal x0, more\nend: addi a7, x0, 0\n\
+    addi a0, x0, 0\necall";
