@@ -7,8 +7,9 @@
 // eight the connection is closed in their midst.
 //
 // The program has to end by itself within 20 seconds of its own time and 60 on the clock, in bounded memory, with a status from 0 to
-// 4. Where that is 0 or 1 it says nothing on standard error; else it says one fault there that has a code, and prints nothing. Each
-// line of a debugger has one reply, up to the first `quit` and where the connection holds, and no reply is other than documented.
+// 4. Where that is 0 or 1 it says nothing on standard error; else it says one fault there that has a code, and prints nothing. If sizes
+// are not explored, `explore --every` prints a line of each size, and says a fault for each that is not. Each line of a debugger has
+// one reply, up to the first `quit` and where the connection holds, and no reply is other than documented.
 //
 // What breaks that is saved in FOLDER, with a line on standard output. The last line is how many tries ended with which status.
 #define _GNU_SOURCE
@@ -35,7 +36,7 @@
 enum { MOST_BYTES = 1 << 15, MOST_FILES = 256, STATUSES = 5 };
 
 // What a command takes behind its options.
-enum takes { A_FILE, A_FILE_AND_NOWHERE, A_TRACE_AND_AN_IMAGE, LINES };
+enum takes { A_FILE, A_FILE_AND_NOWHERE, A_TRACE_AND_AN_IMAGE, AN_IMAGE_OF_EVERY_SIZE, LINES };
 
 // A command, its options, and the most memory that it may take, in KiB: a log of a million instructions for `words`.
 static const struct command {
@@ -50,6 +51,9 @@ static const struct command {
     { "run", { "--k", "1", "--budget", "2000" }, A_FILE, 32 << 10 },
     { "run", { "--sweep", "--k", "3", "--budget", "20000" }, A_FILE, 32 << 10 },
     { "explore", { "--k", "1", "--states", "2000" }, A_FILE, 32 << 10 },
+    { "explore", { "--k", "6", "--states", "100" }, A_FILE, 32 << 10 },
+    { "explore", { "--each", "--k", "2", "--states", "500" }, A_FILE, 32 << 10 },
+    { "explore", { "--every", "--states", "100" }, AN_IMAGE_OF_EVERY_SIZE, 32 << 10 },
     { "hunt", { "--k", "1", "--runs", "3", "--budget", "1000" }, A_FILE, 32 << 10 },
     { "replay", { NULL }, A_TRACE_AND_AN_IMAGE, 32 << 10 },
     { "order", { NULL }, A_TRACE_AND_AN_IMAGE, 32 << 10 },
@@ -348,8 +352,21 @@ static const char *wrong_replies(const struct ended *ended, const struct bytes *
     return is_right ? NULL : "how many replies there are";
 }
 
+// The faults that are told, and the lines of every size.
+static regex_t fault, faults, sizes;
+
+// Whether this is a line of each size, beside faults of some of them.
+static bool are_sizes(int out, const char *said) {
+    static char printed[4096];
+    ssize_t count = pread(out, printed, sizeof printed - 1, 0);
+    if (count < 0)
+        fail("read");
+    printed[count] = 0;
+    return !regexec(&faults, said, 0, NULL, 0) && !regexec(&sizes, printed, 0, NULL, 0);
+}
+
 // What is wrong with how a run ended, or NULL.
-static const char *wrong(const struct ended *ended, const struct command *command, int out, int err, const regex_t *fault) {
+static const char *wrong(const struct ended *ended, const struct command *command, int out, int err) {
     static char said[4096];
     struct stat printed;
     ssize_t count = pread(err, said, sizeof said - 1, 0);
@@ -366,7 +383,9 @@ static const char *wrong(const struct ended *ended, const struct command *comman
         return "the memory that it takes";
     if (ended->status <= 1)
         return count ? "what it says on standard error" : NULL;
-    if (regexec(fault, said, 0, NULL, 0))
+    if (command->takes == AN_IMAGE_OF_EVERY_SIZE && printed.st_size)
+        return are_sizes(out, said) ? NULL : "the sizes that it tells";
+    if (regexec(&fault, said, 0, NULL, 0))
         return "the fault that it tells";
     // A session may fail once it has said where it listens.
     return printed.st_size && command->takes != LINES ? "what it prints beside a fault" : NULL;
@@ -388,10 +407,13 @@ int main(int argc, char **argv) {
         close(file);
         files[file_count++].count = count;
     }
-    regex_t fault, reply;
+    regex_t reply;
     if (regcomp(&reply, "^(ok|E0[1-6]|halted|at (-|[0-9a-f]{1,2})|run|halt [0-9a-f]{2}|fault [1-8]|([0-9a-f]{2})+)$", REG_EXTENDED | REG_NOSUB))
         fail("regcomp");
     if (regcomp(&fault, "^ultra: ([A-Z][0-9]+|Start|alone|budget|link|memory|states)( line [0-9]+| step [0-9]+)?\n$", REG_EXTENDED | REG_NOSUB))
+        fail("regcomp");
+    if (regcomp(&faults, "^(ultra: (alone|memory|states)\n){1,7}$", REG_EXTENDED | REG_NOSUB) ||
+        regcomp(&sizes, "^(k [0-6]: [0-9]+ processors?, [^\n]+\n){7}$", REG_EXTENDED | REG_NOSUB))
         fail("regcomp");
     state = seed * 0x9E3779B97F4A7C15ULL + 1;
     int one = memory_file("one"), other = memory_file("other"), out = memory_file("out"), err = memory_file("err");
@@ -433,7 +455,7 @@ int main(int argc, char **argv) {
         if (connection >= 0)
             converse(connection, &second, is_cut, &replies);
         struct ended ended = end_of(child);
-        const char *what = wrong(&ended, command, out, err, &fault);
+        const char *what = wrong(&ended, command, out, err);
         if (!what && connection >= 0)
             what = wrong_replies(&ended, &second, is_cut, &replies, &reply);
         tried++;
