@@ -2,7 +2,8 @@
 
 use super::texts::{
     ASKS_LATE, BREAK_BEHIND, DEADLOCK, DRAWS, HALVES, KEPT, LEADER, LOST_SUM, NEEDED_SUM,
-    NEIGHBOURS, NO_ADDRESS, PRINTS_OFTEN, SEEN, SIDE, SIDES, SIGNAL, TICKETS, TWICE, UNKNOWN_CALL,
+    NEIGHBOURS, NO_ADDRESS, PRINTS_OFTEN, SECOND, SEEN, SIDE, SIDES, SIGNAL, TICKETS, TWICE,
+    UNKNOWN_CALL,
 };
 use super::{each, exchanged, found};
 use exploration::{Explored, FinalResult, ProcessorResult, Schedules};
@@ -12,8 +13,10 @@ use test_devices::assert_same;
 
 /// Programs with the number of their results, up to exchanges and by themselves. Who draws which of n numbers are n!
 /// results, if no draw is like another; if two are of one class and two of another, C(4, 2) up to exchanges. Where each
-/// draws twice there are as many as ways to go, (2n)! / 2^n, and n! of them are one up to exchanges.
-const COUNTED: [(&str, u8, usize, usize); 20] = [
+/// draws twice there are as many as ways to go, (2n)! / 2^n, and n! of them are one up to exchanges. The second draws
+/// are those of a row in which no more second draws come than first ones, up to any place: these rows are as many as
+/// the n-th Catalan number, and each of the n! ways to give them out is a result.
+const COUNTED: [(&str, u8, usize, usize); 23] = [
     (LOST_SUM, 1, 2, 2),
     (LOST_SUM, 2, 4, 4),
     (NEEDED_SUM, 1, 1, 1),
@@ -29,10 +32,13 @@ const COUNTED: [(&str, u8, usize, usize); 20] = [
     (ASKS_LATE, 1, 1, 1),
     (DRAWS, 2, 1, 24),
     (TWICE, 1, 3, 6),
+    (SECOND, 1, 2, 4),
+    (SECOND, 2, 14, 336),
     (SIDES, 2, 6, 24),
     (HALVES, 2, 6, 24),
     (UNKNOWN_CALL, 2, 1, 4),
     (BREAK_BEHIND, 1, 1, 2),
+    (NO_ADDRESS, 2, 1, 4),
     (PRINTS_OFTEN, 2, 1, 24),
 ];
 

@@ -110,6 +110,12 @@ pub const TWICE_BACK: &str =
     "lui x1, 0x80000\naddi x4, x0, 1\namoadd.w x5, x4, (x1)\namoadd.w x6, x4, (x1)\nslli x5, x5, 3\nor a0, x5, x6\n\
     xori a0, a0, 63\necall";
 
+/// Each draws two numbers, and halts with the second. It looks at the first only once it has the second, and then
+/// forgets it.
+pub const SECOND: &str =
+    "lui x1, 0x80000\naddi x4, x0, 1\namoadd.w x5, x4, (x1)\namoadd.w x6, x4, (x1)\nand x5, x5, x0\n\
+    or a0, x5, x6\necall";
+
 /// Each draws a number, and halts with it and the last bit of its own.
 pub const SIDES: &str =
     "addi a7, x0, 2\necall\nandi x7, a0, 1\nslli x7, x7, 6\nlui x1, 0x80000\naddi x4, x0, 1\namoadd.w x5, x4, (x1)\n\

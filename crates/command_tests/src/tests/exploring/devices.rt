@@ -212,14 +212,19 @@ fn lacks_a_size(lines: &str) -> bool {
     let mut lacking = 0u8;
     let mut wanted = str::from_utf8(EVERY_STOPPED).unwrap_or("").lines();
     for line in lines.lines() {
-        let is_lacking = line.ends_with(", not explored: memory");
         match wanted.next() {
             Some(all) if line == all => {}
-            Some(all) if is_lacking && line.get(..20) == all.get(..20) => {
-                lacking = lacking.saturating_add(1)
-            }
+            Some(all) if is_lacking(line, all) => lacking = lacking.saturating_add(1),
             _ => return false,
         }
     }
     wanted.next().is_none() && lacking == 1
+}
+
+/// Whether the line tells of the same size as the other that there was no memory for it.
+fn is_lacking(line: &str, all: &str) -> bool {
+    match (line.split_once(", "), all.split_once(", ")) {
+        (Some((size, told)), Some((same, _))) => size == same && told == "not explored: memory",
+        _ => false,
+    }
 }
