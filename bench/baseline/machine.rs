@@ -5,7 +5,7 @@
 //! on standard error.
 //!
 //! `machine [--k K] .. --runs RUNS FILE` only sweeps, and does that RUNS times, on a new machine each time, with no log. It prints
-//! what the first run came to, and how many steps did something, and in which time, as `crates/machine_bench` prints it.
+//! what the first run came to, and how many steps did something, and in which time, as `bench steps` of `crates/bench` prints it.
 
 mod instructions;
 

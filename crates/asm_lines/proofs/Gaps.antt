@@ -1,6 +1,6 @@
 -- Blanks on either side of a bracket change nothing in an operand.
-use Rattle.std.proofs.Common.{◌≡◌, ℕ, zero, suc, ◌+◌, ◌<◌, ◌≤◌, Bool, true, false, eqb, List, [], ◌∷◌, ◌++◌, length, Some, None, refl, sym, ap, ap₂, subst}
-use Rattle.std.proofs.Common.{◌∙◌, append_assoc, arith, inl, inr, ◌⊎◌}
+use Rattle.std.proofs.Common.{◌≡◌, ℕ, zero, suc, ◌+◌, ◌<◌, ◌≤◌, Bool, true, false, eqb, List, [], ◌∷◌, ◌++◌, length}
+use Rattle.std.proofs.Common.{Some, None, refl, sym, ap, ap₂, subst, ◌∙◌, append_assoc, arith, inl, inr, ◌⊎◌}
 use Rattle.std.specs.Prelude.{◌&&◌, reverse, if◌then◌else◌}
 use Rattle.std.specs.Str.{bytes_eq}
 use Rattle.std.proofs.lemmas.Bool.{and_right, ne_eqb}
@@ -10,8 +10,8 @@ use Rattle.asm_lines.specs.Statements.{is_name, register_in, bracketed}
 use Rattle.asm_lines.specs.Alike.{AreBlanks, AreReadAlike}
 use Rattle.asm_lines.proofs.PlainWords.{joined_all, cut_last_mid}
 use Rattle.asm_lines.proofs.Trims.{lacks, lacks_both, no_such, Ends, blank, solid, ends_of, trimmed_behind, trimmed_before, front_before, Kept, kept_of}
-use Rattle.asm_lines.proofs.Cuts.{parts_trimmed, LastCut, without, last, last_cut, cut_last_none, Parts, cut_trimmed, bracketed_snoc, SameCut, same_cut}
-use Rattle.asm_lines.proofs.Cuts.{from_cuts}
+use Rattle.asm_lines.proofs.Cuts.{parts_trimmed, LastCut, without, last, last_cut, cut_last_none, Parts}
+use Rattle.asm_lines.proofs.Cuts.{cut_trimmed, bracketed_snoc, SameCut, same_cut, from_cuts}
 use Rattle.asm_lines.proofs.WithBracket.{IsBracket, unlike, register_fails, no_name}
 
 -- ---- a text with a bracket, and the same with blanks on either side of it

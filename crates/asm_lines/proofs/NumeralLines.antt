@@ -7,8 +7,8 @@ use Rattle.std.proofs.lemmas.Bool.{and_left, not-true}
 use Rattle.asm_lines.specs.Text.{trimmed, operands_of}
 use Rattle.asm_lines.specs.Statements.{is_name, bracketed, line_of}
 use Rattle.asm_lines.specs.Written.{in_brackets}
-use Rattle.asm_lines.specs.Alike.{IsNumeralOf, AreReadAlike, Pairwise, none, more, SayTheSame, same, numerals, offsets, IsQuiet, IsFirstWord, IsLead}
-use Rattle.asm_lines.specs.Alike.{statement_line}
+use Rattle.asm_lines.specs.Alike.{IsNumeralOf, AreReadAlike, Pairwise, none, more, SayTheSame, same}
+use Rattle.asm_lines.specs.Alike.{numerals, offsets, IsQuiet, IsFirstWord, IsLead, statement_line}
 use Rattle.asm_lines.proofs.PlainWords.{cut_last_mid}
 use Rattle.asm_lines.proofs.Numerals.{digit_passes}
 use Rattle.asm_lines.proofs.Alike.{looks, numerals_alike}

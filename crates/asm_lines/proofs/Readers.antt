@@ -10,8 +10,9 @@ use Rattle.asm_lines.specs.declared.mnemonic.Mnemonic.{Mnemonic}
 use Rattle.asm_lines.specs.declared.mnemonic.Mnemonic.TheVariants.{Op, OpImm, Shift, Load, Store, Branch, Upper, Jal, Jalr, Fence, Ecall, Ebreak, Amo}
 use Rattle.asm_lines.specs.declared.mnemonic.Order.{Order}
 use Rattle.asm_lines.specs.Steps.{◌>>=◌}
-use Rattle.asm_lines.specs.Statements.{Val, register_in, lower_in, bracketed, base_in, nothing_in, op_in, op_imm_in, shift_in, addressed_in, branch_in}
-use Rattle.asm_lines.specs.Statements.{upper_insn_in, jal_in, fence_in, amo_in, instruction_in, each, word_in, byte_in, count_in, directive_in, chosen}
+use Rattle.asm_lines.specs.Statements.{Val, register_in, lower_in, bracketed, base_in, nothing_in, op_in, op_imm_in}
+use Rattle.asm_lines.specs.Statements.{shift_in, addressed_in, branch_in, upper_insn_in, jal_in, fence_in, amo_in}
+use Rattle.asm_lines.specs.Statements.{instruction_in, each, word_in, byte_in, count_in, directive_in, chosen}
 use Rattle.asm_lines.specs.Alike.{AreBracketedAlike, AreReadAlike, Pairwise, none, more}
 
 bind_same : {A B : Type 0} (r : Result A LineFault) (f g : A → Result B LineFault) → ((x : A) → f x ≡ g x) → (r >>= f) ≡ (r >>= g)

@@ -22,14 +22,16 @@ use Rattle.asm_lines.specs.declared.mnemonic.Mnemonic.TheVariants.{Op, OpImm, Sh
 use Rattle.asm_lines.specs.declared.mnemonic.Order.{Order}
 use Rattle.asm_lines.specs.Text.{is_blank, cut_at, cut_last_at, parts_at, operands_of}
 use Rattle.asm_lines.specs.Names.{written, unordered, plain_mnemonic, mnemonic_of, directive_of, x_name, register_of}
-use Rattle.asm_lines.specs.Statements.{Instr, number, instruction, whole, op_imm, load, store, branch, upper, jal, jalr, is_letter, is_name, register_in}
-use Rattle.asm_lines.specs.Statements.{value_in, bracketed, part_in, upper_in, lower_in, base_in, nothing_in, op_in, op_imm_in, shift_in, addressed_in}
-use Rattle.asm_lines.specs.Statements.{branch_in, upper_insn_in, jal_in, fence_in, amo_in, instruction_in, statement_in, rest_of_line, label_in, said_in}
-use Rattle.asm_lines.specs.Statements.{line_of}
+use Rattle.asm_lines.specs.Statements.{Instr, number, instruction, whole, op_imm, load, store, branch, upper}
+use Rattle.asm_lines.specs.Statements.{jal, jalr, is_letter, is_name, register_in, value_in, bracketed, part_in}
+use Rattle.asm_lines.specs.Statements.{upper_in, lower_in, base_in, nothing_in, op_in, op_imm_in, shift_in}
+use Rattle.asm_lines.specs.Statements.{addressed_in, branch_in, upper_insn_in, jal_in, fence_in, amo_in}
+use Rattle.asm_lines.specs.Statements.{instruction_in, statement_in, rest_of_line, label_in, said_in, line_of}
 use Rattle.asm_lines.specs.Written.{signed, offset, in_brackets, after_commas, with_operands, text_of, as_said}
-use Rattle.asm_lines.proofs.PlainWords.{joined_all, is_plain, Word, Words, none, more, no_blank, no_comment, no_colon, no_line_feed, one_part, word_trimmed}
-use Rattle.asm_lines.proofs.PlainWords.{trimmed_nothing, cut_at_none, cut_at_mid, operands_again, no_operands_again, text_quiet, text_trimmed, bracketed_none}
-use Rattle.asm_lines.proofs.PlainWords.{bracketed_again}
+use Rattle.asm_lines.proofs.PlainWords.{joined_all, is_plain, Word, Words, none, more, no_blank, no_comment}
+use Rattle.asm_lines.proofs.PlainWords.{no_colon, no_line_feed, one_part, word_trimmed, trimmed_nothing}
+use Rattle.asm_lines.proofs.PlainWords.{cut_at_none, cut_at_mid, operands_again, no_operands_again, text_quiet}
+use Rattle.asm_lines.proofs.PlainWords.{text_trimmed, bracketed_none, bracketed_again}
 use Rattle.asm_lines.proofs.Numerals.{signed_pass, within_again, natural_again, signed_word, decimal_word}
 use Rattle.asm_lines.proofs.Fields.{signed_small, signed_low, signed_high, offset_high}
 

@@ -1,6 +1,6 @@
 -- Cuts of a text.
-use Rattle.std.proofs.Common.{◌≡◌, ℕ, suc, ◌+◌, ◌<◌, Bool, true, false, cond, not, List, [], ◌∷◌, length, Some, None, refl, ap, arith, sym, ◌∙◌, ◌++◌}
-use Rattle.std.proofs.Common.{append_assoc, map, Bor, inl, inr}
+use Rattle.std.proofs.Common.{◌≡◌, ℕ, suc, ◌+◌, ◌<◌, Bool, true, false, cond, not, List, [], ◌∷◌, length, Some}
+use Rattle.std.proofs.Common.{None, refl, ap, arith, sym, ◌∙◌, ◌++◌, append_assoc, map, Bor, inl, inr}
 use Rattle.std.specs.List.{position_or_len, position, before_first, after_first, slice_split}
 use Rattle.std.proofs.lemmas.List.{map-append}
 use Rattle.std.proofs.lemmas.List.Splits.{slice_split_first, slice_split-cons_no}

@@ -1,6 +1,7 @@
 -- What a line of text says.
-use Rattle.std.specs.Prelude.{ℕ, ◌-◌, ◌^◌, Bool, false, ◌==◌, ◌&&◌, ◌||◌, nat_le, List, [], ◌∷◌, length, take, map, Option, Some, None, ok_or, Result, Ok, Err}
-use Rattle.std.specs.Prelude.{if◌then◌else◌, ℤ, pos, negsuc, codes, slice_index}
+use Rattle.std.specs.Prelude.{ℕ, ◌-◌, ◌^◌, Bool, false, ◌==◌, ◌&&◌, ◌||◌, nat_le, List, []}
+use Rattle.std.specs.Prelude.{◌∷◌, length, take, map, Option, Some, None, ok_or, Result, Ok}
+use Rattle.std.specs.Prelude.{Err, if◌then◌else◌, ℤ, pos, negsuc, codes, slice_index}
 use Rattle.std.specs.List.{list_all}
 use Rattle.std.specs.Option.{option_map}
 use Rattle.std.specs.Str.{bytes_eq}

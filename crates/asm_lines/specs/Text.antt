@@ -1,6 +1,6 @@
 -- Blanks at the ends of a text, and the parts of a text round a byte.
-use Rattle.std.specs.Prelude.{ℕ, ◌+◌, Bool, List, [], ◌∷◌, ◌==◌, ◌||◌, if◌then◌else◌, reverse, not, nat_lt, length, map, take, drop, position, Option, Some}
-use Rattle.std.specs.Prelude.{None}
+use Rattle.std.specs.Prelude.{ℕ, ◌+◌, Bool, List, [], ◌∷◌, ◌==◌, ◌||◌, if◌then◌else◌, reverse, not}
+use Rattle.std.specs.Prelude.{nat_lt, length, map, take, drop, position, Option, Some, None}
 use Rattle.std.specs.List.{suffix_len, before_last, after_last, slice_split}
 use Rattle.std.specs.Option.{option_map}
 

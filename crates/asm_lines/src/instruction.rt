@@ -2,8 +2,9 @@
 
 ghost use Rattle.std.specs.Prelude.{◌≡◌, map};
 ghost use Rattle.asm_lines.specs.Steps.{GivesFault};
-ghost use Rattle.asm_lines.specs.Statements.{instr_of, val_of, op_in, op_imm_in, shift_in, addressed, addressed_in, branch_in, upper_insn_in, jal_in};
-ghost use Rattle.asm_lines.specs.Statements.{fence_in, bare, amo_in, instruction_in};
+ghost use Rattle.asm_lines.specs.Statements.{instr_of, val_of, op_in, op_imm_in, shift_in, addressed, addressed_in};
+ghost use Rattle.asm_lines.specs.Statements.{branch_in, upper_insn_in, jal_in, fence_in, bare, amo_in};
+ghost use Rattle.asm_lines.specs.Statements.{instruction_in};
 
 use crate::fault::LineFault;
 use crate::mnemonic::{Mnemonic, Order};

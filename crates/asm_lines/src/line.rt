@@ -3,8 +3,9 @@
 ghost use Rattle.std.specs.Prelude.{◌≡◌, ok_or, map};
 ghost use Rattle.std.specs.Option.{option_map};
 ghost use Rattle.asm_lines.specs.Steps.{Gives, GivesFault};
-ghost use Rattle.asm_lines.specs.Statements.{val_of, stmt_of, said_of, each, word_in, byte_in, count_in, directive_in, chosen, statement_in, rest_of_line};
-ghost use Rattle.asm_lines.specs.Statements.{label_in, said_in, line_of};
+ghost use Rattle.asm_lines.specs.Statements.{val_of, stmt_of, said_of, each, word_in, byte_in, count_in};
+ghost use Rattle.asm_lines.specs.Statements.{directive_in, chosen, statement_in, rest_of_line, label_in, said_in};
+ghost use Rattle.asm_lines.specs.Statements.{line_of};
 
 use crate::directive::Directive;
 use crate::fault::{LineError, LineFault};

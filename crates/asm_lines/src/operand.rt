@@ -4,8 +4,8 @@ ghost use Rattle.std.specs.Prelude.{◌≡◌, ◌≤ℤ◌, pos, negsuc, ◌^�
 ghost use Rattle.std.specs.List.{list_all};
 ghost use Rattle.std.specs.Option.{option_map};
 ghost use Rattle.asm_lines.specs.Steps.{GivesFault};
-ghost use Rattle.asm_lines.specs.Statements.{is_letter, is_name_byte, is_name, register_in, value_in, bracketed, part_in, upper_in, lower_in, base_in};
-ghost use Rattle.asm_lines.specs.Statements.{nothing_in, val_of};
+ghost use Rattle.asm_lines.specs.Statements.{is_letter, is_name_byte, is_name, register_in, value_in, bracketed};
+ghost use Rattle.asm_lines.specs.Statements.{part_in, upper_in, lower_in, base_in, nothing_in, val_of};
 
 use crate::fault::LineFault;
 use crate::number::number_within;

@@ -1,6 +1,6 @@
 -- What a text means fits into its regions.
-use Rattle.std.proofs.Common.{◌≡◌, ℕ, ◌+◌, ◌*◌, ◌^◌, ◌≤◌, Bool, true, false, List, [], ◌∷◌, ◌++◌, length, Option, Some, None, Result, Ok, Err, refl, sym, ap}
-use Rattle.std.proofs.Common.{subst, ◌∙◌, arith, length-append}
+use Rattle.std.proofs.Common.{◌≡◌, ℕ, ◌+◌, ◌*◌, ◌^◌, ◌≤◌, Bool, true, false, List, [], ◌∷◌, ◌++◌, length, Option}
+use Rattle.std.proofs.Common.{Some, None, Result, Ok, Err, refl, sym, ap, subst, ◌∙◌, arith, length-append}
 use Rattle.std.specs.Prelude.{pos, All, IsOk, nat_le, replicate, if◌then◌else◌}
 use Rattle.std.proofs.lemmas.Bool.{leb-true, false≢true}
 use Rattle.std.proofs.lemmas.List.{length-replicate}
@@ -15,10 +15,11 @@ use Rattle.elf_image.specs.declared.layout.Layout.{Layout}
 use Rattle.assembler.specs.declared.fault.AsmFault.{AsmFault}
 use Rattle.assembler.specs.declared.fault.AsmFault.TheVariants.{SectionFull, LabelTwice}
 use Rattle.assembler.specs.Faults.{◌>>=◌, lifted}
-use Rattle.assembler.specs.Meaning.{Labels, Place, start, room_of, count_of, address, size_of, grown, after_statement, after_option, labelled, after_said}
-use Rattle.assembler.specs.Meaning.{after_read, after, Placed, misplaced, fit_or_fault, place_statement, is_taken, place_said, part_of, insn_at, word_bytes}
-use Rattle.assembler.specs.Meaning.{words_bytes, statement_bytes, Piece, piece_of, line_piece, pieces_from, pieces_of, labels_of, lines_of, bytes_in}
-use Rattle.assembler.specs.Meaning.{section_bytes, IsMeaning, FitsRegions}
+use Rattle.assembler.specs.Meaning.{Labels, Place, start, room_of, count_of, address, size_of, grown, after_statement}
+use Rattle.assembler.specs.Meaning.{after_option, labelled, after_said, after_read, after, Placed, misplaced}
+use Rattle.assembler.specs.Meaning.{fit_or_fault, place_statement, is_taken, place_said, part_of, insn_at, word_bytes}
+use Rattle.assembler.specs.Meaning.{words_bytes, statement_bytes, Piece, piece_of, line_piece, pieces_from, pieces_of}
+use Rattle.assembler.specs.Meaning.{labels_of, lines_of, bytes_in, section_bytes, IsMeaning, FitsRegions}
 
 -- ---- results
 

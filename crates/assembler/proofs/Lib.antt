@@ -8,3 +8,4 @@ pub mod LineBytes
 pub mod PlacedBytes
 pub mod Opened
 pub mod Reading
+pub mod Again

@@ -1,5 +1,6 @@
 -- The two passes, line by line.
-use Rattle.std.proofs.Common.{◌≡◌, ℕ, ◌+◌, ◌-◌, ◌<◌, ◌≤◌, List, [], ◌∷◌, ◌++◌, length, get_or, drop, take, Some, Result, Err, Bor, refl, sym, ap, subst, ◌∙◌}
+use Rattle.std.proofs.Common.{◌≡◌, ℕ, ◌+◌, ◌-◌, ◌<◌, ◌≤◌, List, [], ◌∷◌, ◌++◌, length, get_or}
+use Rattle.std.proofs.Common.{drop, take, Some, Result, Err, Bor, refl, sym, ap, subst, ◌∙◌}
 use Rattle.std.proofs.Common.{append_assoc, append-nil, arith, add-one, drop-cons}
 use Rattle.std.specs.Prelude.{codes, fold, map, slice_get, IsOk, All}
 use Rattle.std.proofs.lemmas.List.{map_push, map_more, take_all, length_push, length-map}
@@ -16,8 +17,8 @@ use Rattle.asm_lines.specs.declared.statement.Section.TheVariants.{Code, Local, 
 use Rattle.assembler.specs.declared.cursor.LineAt.{LineAt}
 use Rattle.assembler.specs.declared.cursor.Cursor.{Cursor}
 use Rattle.assembler.specs.Faults.{◌>>=◌}
-use Rattle.assembler.specs.Meaning.{Labels, Piece, start, after, place_line, line_piece, pieces_from, piece_of, bytes_in, section_bytes, labels_of, lines_of}
-use Rattle.assembler.specs.Meaning.{pieces_of, entry_of, IsMeaning}
+use Rattle.assembler.specs.Meaning.{Labels, Piece, start, after, place_line, line_piece, pieces_from, piece_of}
+use Rattle.assembler.specs.Meaning.{bytes_in, section_bytes, labels_of, lines_of, pieces_of, entry_of, IsMeaning}
 use Rattle.assembler.specs.Passes.{place_of, nows, piece_at, label_values}
 
 -- ---- the first pass

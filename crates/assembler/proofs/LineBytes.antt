@@ -1,6 +1,6 @@
 -- What a line says has bytes alone: numbers below 256.
-use Rattle.std.proofs.Common.{◌≡◌, ℕ, zero, suc, ◌^◌, ◌<◌, Bool, true, false, List, [], ◌∷◌, ◌++◌, length, Option, Some, None, Result, Ok, Err, refl, subst}
-use Rattle.std.proofs.Common.{arith}
+use Rattle.std.proofs.Common.{◌≡◌, ℕ, zero, suc, ◌^◌, ◌<◌, Bool, true, false, List, [], ◌∷◌, ◌++◌}
+use Rattle.std.proofs.Common.{length, Option, Some, None, Result, Ok, Err, refl, subst, arith}
 use Rattle.std.specs.Prelude.{pos, negsuc, ◌==◌, replicate, slice_index, if◌then◌else◌}
 use Rattle.std.specs.Int.{bytes_low_first}
 use Rattle.asm_lines.specs.declared.fault.LineFault.{LineFault}
@@ -11,8 +11,9 @@ use Rattle.asm_lines.specs.declared.directive.Directive.TheVariants as directive
 use Rattle.asm_lines.specs.Steps.{◌>>=◌}
 use Rattle.asm_lines.specs.Text.{is_blank, trimmed, cut_at, operands_of}
 use Rattle.asm_lines.specs.Number.{number_within, low_bits}
-use Rattle.asm_lines.specs.Statements.{Stmt, section, words, bytes, zeros, instruction, Said, nothing_in, each, word_in, byte_in, count_in, directive_in}
-use Rattle.asm_lines.specs.Statements.{instruction_in, chosen, statement_in, statement_parts, rest_of_line, label_in, said_in, before_comment, line_of}
+use Rattle.asm_lines.specs.Statements.{Stmt, section, words, bytes, zeros, instruction, Said, nothing_in, each}
+use Rattle.asm_lines.specs.Statements.{word_in, byte_in, count_in, directive_in, instruction_in, chosen, statement_in}
+use Rattle.asm_lines.specs.Statements.{statement_parts, rest_of_line, label_in, said_in, before_comment, line_of}
 
 -- ---- lists of bytes
 

@@ -1,6 +1,6 @@
 -- A machine that opens on the layout that a text means has at each address what the text places there.
-use Rattle.std.proofs.Common.{◌≡◌, ℕ, ◌+◌, ◌-◌, ◌*◌, ◌/◌, ◌%◌, ◌^◌, ◌<◌, ◌≤◌, Bool, true, false, List, length, Option, Some, None, refl, sym, ap, subst, ◌∙◌}
-use Rattle.std.proofs.Common.{inl, inr, arith}
+use Rattle.std.proofs.Common.{◌≡◌, ℕ, ◌+◌, ◌-◌, ◌*◌, ◌/◌, ◌%◌, ◌^◌, ◌<◌, ◌≤◌, Bool, true, false, List}
+use Rattle.std.proofs.Common.{length, Option, Some, None, refl, sym, ap, subst, ◌∙◌, inl, inr, arith}
 use Rattle.std.specs.Prelude.{◌==◌, ◌&&◌, nat_lt, slice_index, if◌then◌else◌}
 use Rattle.std.proofs.lemmas.Bool.{cases_lt}
 use Rattle.std.proofs.lemmas.Bool.Decides.{nat_tests}
@@ -10,7 +10,7 @@ use Rattle.flat_machine.specs.Memory.{in_shared}
 use Rattle.flat_machine.specs.State.{Processor}
 use Rattle.elf_image.specs.declared.layout.Layout.{Layout}
 use Rattle.elf_image.specs.Openings.{opening}
-use Rattle.image_laws.specs.Laws.{IsPlacedAt, IsOpeningProcessor, IsLayoutOpening, IsOpenable}
+use Rattle.elf_image.specs.Laws.{IsPlacedAt, IsOpeningProcessor, IsLayoutOpening, IsOpenable}
 use Rattle.asm_lines.specs.declared.statement.Section.{Section}
 use Rattle.asm_lines.specs.declared.statement.Section.TheVariants.{Code, Local, Shared}
 use Rattle.assembler.specs.declared.symbol.Symbol.{Symbol}

@@ -9,9 +9,10 @@ use Rattle.asm_lines.specs.Statements.{Val, Stmt, section, words, bytes, zeros, 
 use Rattle.assembler.specs.declared.fault.AsmFault.{AsmFault}
 use Rattle.assembler.specs.declared.fault.AsmFault.TheVariants.{LabelTwice}
 use Rattle.assembler.specs.Faults.{◌>>=◌, lifted}
-use Rattle.assembler.specs.Meaning.{Labels, Place, start, address, Placed, misplaced, place_statement, is_taken, place_said, after, part_of, insn_at}
-use Rattle.assembler.specs.Meaning.{word_bytes, words_bytes, option_bytes, same_section, Piece, piece_of, line_piece, pieces_from, pieces_of, labels_of}
-use Rattle.assembler.specs.Meaning.{bytes_in, section_bytes}
+use Rattle.assembler.specs.Meaning.{Labels, Place, start, address, Placed, misplaced, place_statement}
+use Rattle.assembler.specs.Meaning.{is_taken, place_said, after, part_of, insn_at, word_bytes, words_bytes}
+use Rattle.assembler.specs.Meaning.{option_bytes, same_section, Piece, piece_of, line_piece, pieces_from}
+use Rattle.assembler.specs.Meaning.{pieces_of, labels_of, bytes_in, section_bytes}
 use Rattle.assembler.proofs.Fits.{bind_ok, placed_fits}
 use Rattle.assembler.proofs.LineBytes.{AreBytes, bytes_append, zero_bytes, number_bytes, HasBytesIn, line_bytes}
 

@@ -9,8 +9,9 @@ use Rattle.asm_lines.specs.declared.statement.Section.TheVariants.{Code, Local, 
 use Rattle.asm_lines.specs.Statements.{Stmt, section, words, bytes, zeros, instruction, Said, line_of}
 use Rattle.elf_image.specs.declared.layout.Layout.{Layout}
 use Rattle.assembler.specs.declared.symbol.Symbol.{Symbol}
-use Rattle.assembler.specs.Meaning.{Labels, Place, start, base_of, count_of, address, grown, after_option, labelled, after_said, after_read, after, line_piece}
-use Rattle.assembler.specs.Meaning.{pieces_from, pieces_of, labels_of, lines_of, IsMeaning}
+use Rattle.assembler.specs.Meaning.{Labels, Place, start, base_of, count_of, address, grown, after_option}
+use Rattle.assembler.specs.Meaning.{labelled, after_said, after_read, after, line_piece, pieces_from}
+use Rattle.assembler.specs.Meaning.{pieces_of, labels_of, lines_of, IsMeaning}
 use Rattle.assembler.proofs.Fits.{IsWithin, ok_piece, line_step}
 
 abbrev AreWords : Labels → Type 0

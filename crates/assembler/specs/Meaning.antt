@@ -3,9 +3,9 @@
 --
 -- The language is this project's own. Source of %hi and %lo: the RISC-V manual, Volume I, "RISC-V Assembly Programmer's
 -- Handbook", and "Integer Register-Immediate Instructions" (LUI and AUIPC with a signed low part).
-use Rattle.std.specs.Prelude.{◌≡◌, ℕ, ◌+◌, ◌-◌, ◌*◌, ◌/◌, ◌%◌, ◌^◌, ◌<◌, ◌≤◌, Bool, true, false, ◌==◌, ◌&&◌, nat_le, IsOk, List, [], ◌∷◌, ◌++◌, length}
-use Rattle.std.specs.Prelude.{replicate, fold, Option, Some, None, ok_or, is_some, Result, Ok, Err, if◌then◌else◌, ℤ, pos, negsuc, ◌-ℤ◌, int_le, codes}
-use Rattle.std.specs.Prelude.{slice_get}
+use Rattle.std.specs.Prelude.{◌≡◌, ℕ, ◌+◌, ◌-◌, ◌*◌, ◌/◌, ◌%◌, ◌^◌, ◌<◌, ◌≤◌, Bool, true, false, ◌==◌, ◌&&◌, nat_le}
+use Rattle.std.specs.Prelude.{IsOk, List, [], ◌∷◌, ◌++◌, length, replicate, fold, Option, Some, None, ok_or, is_some}
+use Rattle.std.specs.Prelude.{Result, Ok, Err, if◌then◌else◌, ℤ, pos, negsuc, ◌-ℤ◌, int_le, codes, slice_get}
 use Rattle.std.specs.List.{flat_map, All}
 use Rattle.std.specs.Map.{update}
 use Rattle.std.specs.Str.{bytes_eq}
@@ -18,8 +18,8 @@ use Rattle.asm_lines.specs.declared.statement.Section.{Section}
 use Rattle.asm_lines.specs.declared.statement.Section.TheVariants.{Code, Local, Shared}
 use Rattle.asm_lines.specs.Text.{parts_at}
 use Rattle.asm_lines.specs.Number.{low_bits}
-use Rattle.asm_lines.specs.Statements.{Val, number, label, Instr, whole, op_imm, load, store, branch, upper, jal, jalr, Stmt, section, words, bytes, zeros}
-use Rattle.asm_lines.specs.Statements.{instruction, Said, line_of}
+use Rattle.asm_lines.specs.Statements.{Val, number, label, Instr, whole, op_imm, load, store, branch, upper, jal}
+use Rattle.asm_lines.specs.Statements.{jalr, Stmt, section, words, bytes, zeros, instruction, Said, line_of}
 use Rattle.assembler.specs.declared.fault.AsmFault.{AsmFault}
 use Rattle.assembler.specs.declared.fault.AsmFault.TheVariants.{Form, Range, LabelTwice, LabelMissing, SectionFull}
 use Rattle.assembler.specs.declared.fault.AsmError.{AsmError}

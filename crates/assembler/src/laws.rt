@@ -11,7 +11,7 @@ ghost use Rattle.assembler.specs.Meaning.{Labels, labels_of, lines_of, IsMeaning
 ghost use Rattle.assembler.specs.Openings.{IsReadAsText};
 ghost use Rattle.assembler.specs.Parts.{MakeValue};
 
-use image_laws::{
+use elf_image::{
     input_means_one_layout, machine_opens_on_the_layout, not_refused_is_accepted,
     spelling_is_headers_and_bytes, spelling_means_its_layout,
 };

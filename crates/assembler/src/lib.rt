@@ -1,4 +1,4 @@
-//! Assembler text to a program.
+//! Assembler text to a program, and instructions to their text.
 //!
 //! What a text means is `specs/Meaning.antt`, line by line at the places that the lines before have
 //! left, with label values from the whole text. The code works in two passes: the first finds the
@@ -7,6 +7,9 @@
 //! [`Program::to_elf`] gives a program's image file. `specs/Openings.antt` says with what a machine
 //! opens on a text, address by address, and the law [`image_opens_on_the_text`] that it does so on the
 //! image file.
+//!
+//! [`disassemble`] writes the text that `asm_lines` defines for an instruction (`text_of`). The law [`disassembled_again`] says
+//! that the text means the instruction's one word.
 //!
 //! # The language
 //!
@@ -47,6 +50,8 @@
 #![tactic(auto)]
 
 mod cursor;
+mod disassembly;
+mod disassembly_laws;
 mod emit;
 mod fault;
 mod laws;
@@ -57,6 +62,8 @@ mod sections;
 mod symbol;
 mod values;
 
+pub use disassembly::disassemble;
+pub use disassembly_laws::disassembled_again;
 pub use fault::{AsmError, AsmFault};
 pub use laws::{
     fault_or_meaning, high_and_low_make_the_value, image_opens_on_the_text, meaning_fits,

@@ -4,8 +4,9 @@ ghost use Rattle.std.specs.Prelude.{◌≡◌, ◌≢◌, ◌≤◌, ◌-◌, �
 ghost use Rattle.std.specs.Option.{option_map};
 ghost use Rattle.asm_lines.specs.Statements.{stmt_of, said_of};
 ghost use Rattle.assembler.specs.declared.fault.AsmFault.TheVariants.{Memory, LabelTwice};
-ghost use Rattle.assembler.specs.Meaning.{Labels, Place, start, address, count_of, after_option, labelled, is_taken};
-ghost use Rattle.assembler.specs.Meaning.{place_statement, place_said, place_line, after_said, after, line_piece, pieces_from};
+ghost use Rattle.assembler.specs.Meaning.{Labels, Place, start, address, count_of, after_option};
+ghost use Rattle.assembler.specs.Meaning.{labelled, is_taken, place_statement, place_said, place_line};
+ghost use Rattle.assembler.specs.Meaning.{after_said, after, line_piece, pieces_from};
 ghost use Rattle.assembler.specs.Passes.{name_of, nows, place_of, piece_at};
 
 use crate::cursor::{Cursor, LineAt};

@@ -1,6 +1,7 @@
 -- What an output does with a request, by whether some entry combines with it and by room.
-use Rattle.std.proofs.Common.{◌≡◌, ◌⊎◌, inl, inr, ℕ, zero, suc, ◌<◌, ◌≤◌, List, [], ◌∷◌, ◌++◌, length, Option, Some, None, refl, sym, ap, ◌∙◌, arith}
-use Rattle.std.proofs.Common.{Bool, true, false, ◌&&◌, nat_lt, ltb-true, eqb-true, eq-eqb}
+use Rattle.std.proofs.Common.{◌≡◌, ◌⊎◌, inl, inr, ℕ, zero, suc, ◌<◌, ◌≤◌, List, [], ◌∷◌, ◌++◌}
+use Rattle.std.proofs.Common.{length, Option, Some, None, refl, sym, ap, ◌∙◌, arith, Bool}
+use Rattle.std.proofs.Common.{true, false, ◌&&◌, nat_lt, ltb-true, eqb-true, eq-eqb}
 use Rattle.std.specs.Prelude.{slice_set, ◌==◌, if◌then◌else◌}
 use Rattle.std.proofs.lemmas.Bool.{lt-ltb, ltb-false, le-ltb}
 use Rattle.std.proofs.lemmas.Option.{slice_get_within}
@@ -11,8 +12,8 @@ use Rattle.messages.specs.Queues.{Combination, combination, combined_in, joint, 
 use Rattle.combining_switch.specs.declared.answers.Accepted.{Accepted}
 use Rattle.combining_switch.specs.declared.answers.Accepted.TheVariants.{Queued, Combined, Full}
 use Rattle.combining_switch.specs.Outputs.{OutputLists, accepted, accepted_as}
-use Rattle.combining_switch.specs.Accepting.{CombinesAt, CanCombine, NoneInFront, CombinesWhereItCan, CombinesWithTheFirst, QueuesWhereThereIsRoom}
-use Rattle.combining_switch.specs.Accepting.{RefusesWhereThereIsNone}
+use Rattle.combining_switch.specs.Accepting.{CombinesAt, CanCombine, NoneInFront, CombinesWhereItCan}
+use Rattle.combining_switch.specs.Accepting.{CombinesWithTheFirst, QueuesWhereThereIsRoom, RefusesWhereThereIsNone}
 use Rattle.messages.proofs.Lemmas.{NoneBefore, combined_at, combined_nowhere}
 
 -- ---- one entry

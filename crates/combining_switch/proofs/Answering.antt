@@ -5,7 +5,7 @@ use Rattle.messages.specs.declared.message.Record.{Record}
 use Rattle.messages.specs.declared.message.Reply.{Reply}
 use Rattle.messages.specs.Queues.{answers, records_but, records_of}
 use Rattle.messages.specs.Seconds.{seconds_told}
-use Rattle.message_cells.specs.Pools.{PoolLists}
+use Rattle.combining_switch.specs.Pools.{PoolLists}
 use Rattle.combining_switch.specs.declared.answers.Answered.{Answered}
 use Rattle.combining_switch.specs.declared.answers.Answered.TheVariants.{One, Many, NoRoom}
 use Rattle.combining_switch.specs.Switches.{SwitchState, answered, answered_for, has_room, put_replies, records_at, with_records}

@@ -4,3 +4,9 @@ pub mod Queueing
 pub mod Taking
 pub mod Answering
 pub mod Replying
+pub mod Lists
+pub mod Walks
+pub mod Linking
+pub mod Pools
+pub mod Free
+pub mod Lemmas

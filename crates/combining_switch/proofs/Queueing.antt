@@ -1,13 +1,12 @@
 -- Cells that stay free while replies are queued, and queues that stay in the pool.
-use Rattle.std.proofs.Common.{◌≡◌, ℕ, ◌+◌, ◌<◌, List, [], ◌∷◌, ◌++◌, length, map, drop, get_or, ◌⊎◌, inl, inr, ap, subst, arith}
-use Rattle.std.proofs.Common.{length-set}
+use Rattle.std.proofs.Common.{◌≡◌, ℕ, ◌+◌, ◌<◌, List, [], ◌∷◌, ◌++◌, length, map, drop, get_or, ◌⊎◌, inl, inr, ap, subst, arith, length-set}
 use Rattle.std.proofs.lemmas.List.{drop_more, map-append, set-get_or}
 use Rattle.messages.specs.declared.message.Reply.{Reply}
 use Rattle.messages.specs.declared.message.Request.{Request}
 use Rattle.messages.specs.Places.{In}
 use Rattle.messages.proofs.Lemmas.{In-append, In-map}
-use Rattle.message_cells.proofs.Lemmas.{free_of_replies}
-use Rattle.message_cells.specs.Pools.{IsFree, PoolLists, leader_of_reply, replies_at, requests_at, with_replies, with_requests}
+use Rattle.combining_switch.proofs.Free.{free_of_replies}
+use Rattle.combining_switch.specs.Pools.{IsFree, PoolLists, leader_of_reply, replies_at, requests_at, with_replies, with_requests}
 use Rattle.combining_switch.specs.Switches.{CanBeQueued, StandsIn, SwitchState, input_for, put_reply}
 
 -- a queue's own requests change nothing

@@ -6,7 +6,7 @@ use Rattle.omega_wires.specs.Wires.{bit}
 use Rattle.messages.specs.declared.message.Record.{Record}
 use Rattle.messages.specs.declared.message.Reply.{Reply}
 use Rattle.messages.specs.Queues.{answers, records_of, reply_of}
-use Rattle.message_cells.specs.Pools.{PoolLists}
+use Rattle.combining_switch.specs.Pools.{PoolLists}
 use Rattle.combining_switch.specs.Switches.{put_replies, put_reply, records_for, replies_for}
 use Rattle.combining_switch.proofs.Rooms.{put_replies-append}
 

@@ -1,13 +1,13 @@
 -- Replies that are put to their inputs, and whether there is room for them.
-use Rattle.std.proofs.Common.{◌≡◌, ℕ, zero, suc, ◌+◌, ◌-◌, ◌<◌, ◌≤◌, Bool, true, false, cond, ◌&&◌, List, [], ◌∷◌, ◌++◌, length, take, get_or, refl}
-use Rattle.std.proofs.Common.{sym, ap}
-use Rattle.std.proofs.Common.{◌∙◌, subst, arith, eq-eqb, eqb-true, length-append, get_or-set_same, get_or-set_other, length-set}
+use Rattle.std.proofs.Common.{◌≡◌, ℕ, zero, suc, ◌+◌, ◌-◌, ◌<◌, ◌≤◌, Bool, true, false, cond, ◌&&◌, List}
+use Rattle.std.proofs.Common.{[], ◌∷◌, ◌++◌, length, take, get_or, refl, sym, ap, ◌∙◌, subst, arith, eq-eqb}
+use Rattle.std.proofs.Common.{eqb-true, length-append, get_or-set_same, get_or-set_other, length-set}
 use Rattle.std.specs.Prelude.{◌==◌, nat_le}
 use Rattle.std.proofs.lemmas.Bool.{eqb-false, le-leb, leb-true, leb-false}
 use Rattle.std.proofs.lemmas.List.{take_more}
 use Rattle.omega_wires.specs.Wires.{bit}
 use Rattle.messages.specs.declared.message.Reply.{Reply}
-use Rattle.message_cells.specs.Pools.{PoolLists, replies_at, with_replies}
+use Rattle.combining_switch.specs.Pools.{PoolLists, replies_at, with_replies}
 use Rattle.combining_switch.specs.Switches.{StandsIn, SwitchState, has_room, input_for, input_of, put_replies, put_reply, replies_for}
 
 -- the queues of two inputs in a pool

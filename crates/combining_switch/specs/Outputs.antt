@@ -3,7 +3,7 @@ use Rattle.std.specs.Prelude.{ℕ, List, [], ◌∷◌, ◌++◌, length, nat_lt
 use Rattle.messages.specs.declared.message.Request.{Request}
 use Rattle.messages.specs.declared.message.Record.{Record}
 use Rattle.messages.specs.Queues.{Combination, combination, unmarked}
-use Rattle.message_cells.specs.Pools.{PoolLists, requests_at}
+use Rattle.combining_switch.specs.Pools.{PoolLists, requests_at}
 use Rattle.combining_switch.specs.declared.answers.Accepted.{Accepted}
 use Rattle.combining_switch.specs.declared.answers.Accepted.TheVariants.{Queued, Combined, Full}
 

@@ -6,7 +6,7 @@ use Rattle.messages.specs.declared.message.Record.{Record}
 use Rattle.messages.specs.Places.{ApartBy, In}
 use Rattle.messages.specs.Queues.{answers, records_of, records_but}
 use Rattle.messages.specs.Seconds.{seconds_told}
-use Rattle.message_cells.specs.Pools.{IsFree, PoolLists, leader_of_reply, replies_at, with_replies}
+use Rattle.combining_switch.specs.Pools.{IsFree, PoolLists, leader_of_reply, replies_at, with_replies}
 use Rattle.combining_switch.specs.Outputs.{OutputState, output_with}
 use Rattle.combining_switch.specs.declared.answers.Answered.{Answered}
 use Rattle.combining_switch.specs.declared.answers.Answered.TheVariants.{One, Many, NoRoom}

@@ -2,17 +2,17 @@
 
 ghost use Rattle.std.specs.Prelude.{◌≡◌, ◌↔◌, ◌+◌, ◌<◌, ◌≤◌, [], drop, length, slice_get, slice_index_or, IfSome, IsTrue, OnSome, option_map};
 ghost use Rattle.messages.specs.Queues.{combination, combined_in, joint, records_but};
-ghost use Rattle.message_cells.specs.Pools.{IsFree, requests_at, with_requests};
+ghost use Rattle.combining_switch.specs.Pools.{IsFree, requests_at, with_requests};
 ghost use Rattle.combining_switch.specs.declared.answers.Accepted.TheVariants.{Full};
 ghost use Rattle.combining_switch.specs.Outputs.{accepted, combined, output_in, output_with, queued};
 ghost use Rattle.combining_switch.specs.Partners.{IsPartner, partnership};
 
 use crate::answers::Accepted;
-use crate::wait_buffer::WaitBuffer;
-use message_cells::Pool;
+use crate::pool::Pool;
 use messages::{Record, Request};
 use phi_algebra::{Phi, compose};
 use std::marker::Model;
+use wait_buffers::WaitBuffer;
 
 /// The number of a queue of requests in the pool, and the records of those that were combined in it.
 #[derive(Drop)]

@@ -4,17 +4,18 @@ ghost use Rattle.std.specs.Prelude.{List, ◌≡◌, ◌↔◌, ◌-◌, ◌<◌
 ghost use Rattle.messages.specs.declared.message.Reply.{Reply};
 ghost use Rattle.messages.specs.declared.message.Record.{Record};
 ghost use Rattle.messages.specs.Queues.{answers, records_but, records_of, reply_of};
-ghost use Rattle.message_cells.specs.Pools.{IsFree, replies_at, requests_at, with_replies, with_requests};
+ghost use Rattle.combining_switch.specs.Pools.{IsFree, replies_at, requests_at, with_replies, with_requests};
 ghost use Rattle.omega_wires.specs.Wires.{bit};
 ghost use Rattle.combining_switch.specs.declared.answers.Accepted.TheVariants.{Full};
 ghost use Rattle.combining_switch.specs.declared.answers.Answered.TheVariants.{NoRoom};
 ghost use Rattle.combining_switch.specs.Outputs.{accepted, output_in};
-ghost use Rattle.combining_switch.specs.Switches.{CanBeQueued, StandsIn, answered, answered_for, has_room, input_for, input_of, new_switch, output_of};
-ghost use Rattle.combining_switch.specs.Switches.{put_replies, put_reply, records_at, records_for, replies_for, with_records};
+ghost use Rattle.combining_switch.specs.Switches.{CanBeQueued, StandsIn, answered, answered_for, has_room, input_for};
+ghost use Rattle.combining_switch.specs.Switches.{input_of, new_switch, output_of, put_replies, put_reply};
+ghost use Rattle.combining_switch.specs.Switches.{records_at, records_for, replies_for, with_records};
 
 use crate::answers::{Accepted, Answered};
 use crate::output::Output;
-use message_cells::Pool;
+use crate::pool::Pool;
 use messages::{Record, Reply, Request};
 use omega_wires::bit;
 use std::marker::Model;

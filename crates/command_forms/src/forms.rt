@@ -2,9 +2,10 @@
 
 ghost use Rattle.std.specs.Prelude.{◌≡◌};
 ghost use Rattle.command_forms.specs.Forms.{app_of_form, with_forms};
-ghost use Rattle.command_forms.specs.Commands.{asm_command, check_command, debug_command, dis_command, explain_command, explore_command, hunt_command};
-ghost use Rattle.command_forms.specs.Commands.{order_command, picture_command, program, replay_command, run_command, stats_command, story_command};
-ghost use Rattle.command_forms.specs.Commands.{ultra_command, words_command};
+ghost use Rattle.command_forms.specs.Commands.{asm_command, check_command, debug_command, dis_command};
+ghost use Rattle.command_forms.specs.Commands.{explain_command, explore_command, hunt_command, order_command};
+ghost use Rattle.command_forms.specs.Commands.{picture_command, program, replay_command, run_command, stats_command};
+ghost use Rattle.command_forms.specs.Commands.{story_command, ultra_command, words_command};
 
 use crate::help::{
     ASM_ENDS, CHECK_ENDS, DEBUG_ENDS, DIS_ENDS, EXPLAIN_ENDS, EXPLORE_ENDS, HUNT_ENDS, ORDER_ENDS,

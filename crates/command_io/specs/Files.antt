@@ -1,5 +1,7 @@
 -- What is read of a file, and what a fault says of it.
 use Rattle.std.specs.Prelude.{ℕ, List, Option}
+use Rattle.flat_machine.specs.declared.config.Config.{Config}
+use Rattle.flat_machine.specs.Limits.{IsWithinLimits}
 use Rattle.elf_image.specs.Files.{IsImageRefusal}
 use Rattle.command_io.specs.declared.fault.Fault.{Fault}
 use Rattle.command_io.specs.declared.fault.Fault.TheVariants as fault
@@ -10,3 +12,9 @@ abbrev pub IsFaultOfImage : (shared_words : ℕ) → (known : Option (List ℕ))
 IsFaultOfImage shared_words known (fault.Image e) = IsImageRefusal shared_words known e
 IsFaultOfImage shared_words known fault.Memory = Unit {0}
 IsFaultOfImage shared_words known _ = ⊥
+
+-- what a fault says of a machine's size
+abbrev pub IsFaultOfSize : Config → Fault → Type 0
+IsFaultOfSize c fault.Size = IsWithinLimits c → ⊥
+IsFaultOfSize c fault.Memory = Unit {0}
+IsFaultOfSize c _ = ⊥

@@ -3,5 +3,6 @@ pub mod Files
 pub mod OnFirstWrite
 pub mod Digits
 pub mod Printing
--- Words of lower crates, passed on to those above.
-pub use Rattle.trace_file.specs as trace_file
+pub mod Tallies
+pub mod Events
+pub mod Lines

@@ -1,10 +1,8 @@
 -- What was taken of each processor, followed by the rest of its queue, is what it sent: one more queue at a time.
-use Rattle.std.proofs.Common.{◌≡◌, ◌∙◌, ℕ, zero, suc, ◌<◌, List, [], ◌∷◌, ◌++◌, length, map, ap, sym, refl, append_assoc, arith, inl, inr, ◌⊎◌}
-use Rattle.std.proofs.Common.{subst}
+use Rattle.std.proofs.Common.{◌≡◌, ◌∙◌, ℕ, zero, suc, ◌<◌, List, [], ◌∷◌, ◌++◌, length, map, ap, sym, refl, append_assoc, arith, inl, inr, ◌⊎◌, subst}
 use Rattle.std.specs.Prelude.{slice_set, slice_index_or}
-use Rattle.std.proofs.lemmas.List.{map-set, append-nil}
+use Rattle.std.proofs.lemmas.List.{map-set, append-nil, get_or-map, length-append}
 use Rattle.std.proofs.Math.Seq.{map-set_same}
-use Rattle.std.proofs.lemmas.List.{get_or-map, length-append}
 use Rattle.atomic_table.specs.Seated.{TableId}
 use Rattle.console_monitor.specs.Ends.{joined, at, taken_of, sender_queue, inlet_queue, sent_by}
 use Rattle.console_monitor.specs.declared.queue.Inlet.{Inlet}

@@ -8,6 +8,8 @@
 mod ends;
 mod monitor;
 mod queue;
+mod refusal;
 
 pub use monitor::{End, Monitor, console};
 pub use queue::{CAPACITY, Sender};
+pub use refusal::ConsoleRefusal;

@@ -14,6 +14,7 @@ ghost use Rattle.console_monitor.specs.Ends.{
 
 use crate::ends::{both_ends, rest};
 use crate::queue::{Inlet, Sender};
+use crate::refusal::ConsoleRefusal;
 use std::alloc::{AllocError, Global};
 use std::sync::Wait;
 
@@ -31,7 +32,11 @@ pub struct End {
 }
 
 /// Queues for `n` processors: their senders, and the monitor.
-pub fn console(alloc: Global, n: u8) -> Result<(Vec<Sender>, Monitor), AllocError>
+///
+/// # Errors
+///
+/// [`ConsoleRefusal::Memory`] if there is no memory for them.
+pub fn console(alloc: Global, n: u8) -> Result<(Vec<Sender>, Monitor), ConsoleRefusal>
     ensures queues { IfOk result (λ made. map sender_queue made.0.items ≡ queues_of made.1) }
     ensures put { IfOk result (λ made. map put_of made.0.items ≡ replicate n []) }
     ensures taken { IfOk result (λ made. takens_of made.1 ≡ replicate n []) }
@@ -58,12 +63,16 @@ impl Monitor {
     }
 
     /// What still stood in each queue when all senders had ended, followed by the byte that its sender held.
+    ///
+    /// # Errors
+    ///
+    /// [`ConsoleRefusal::Memory`] if there is no memory for these bytes. They are lost then.
     pub fn finish<R: Wait>(
         self,
         rt: &R,
         alloc: Global,
         ends: Vec<End>,
-    ) -> Result<Vec<Vec<u8>>, AllocError>
+    ) -> Result<Vec<Vec<u8>>, ConsoleRefusal>
         requires { map (λ e. sender_queue e.sender) ends.items ≡ queues_of self }
         ensures count { IfOk result (λ rests. vec_len rests ≡ vec_len ends) }
         ensures whole { IfOk result (λ rests. joined (takens_of self) (map (λ v. v.items) rests.items) ≡ map sent_by ends.items) }

@@ -9,15 +9,15 @@ use Rattle.std.specs.Str.{bytes_eq}
 use Rattle.debug_lines.specs.declared.word.Word.{Word}
 use Rattle.debug_lines.specs.declared.word.Word.TheVariants as word
 use Rattle.debug_lines.specs.declared.command.Command.{Command}
-use Rattle.debug_lines.specs.declared.command.Command.TheVariants.{State, Registers, Register, Set, Memory, Write, Break, Clear, Step, Continue, Quit}
-use Rattle.debug_lines.specs.declared.command.Command.TheVariants.{Malformed}
+use Rattle.debug_lines.specs.declared.command.Command.TheVariants.{State, Registers, Register, Set, Memory, Write}
+use Rattle.debug_lines.specs.declared.command.Command.TheVariants.{Break, Clear, Step, Continue, Quit, Malformed}
 use Rattle.debug_lines.specs.Numbers.{number_of, cut_at_space}
 use Rattle.debug_lines.specs.Words.{word_of, words, name_of}
 use Rattle.debug_lines.specs.Commands.{of_parts, listed_of, command_of}
 use Rattle.debug_lines.specs.Spelling.{IsNumber, IsSpelling, Spells}
 use Rattle.debug_lines.proofs.Digits.{number-read, number-written}
-use Rattle.debug_lines.proofs.Operands.{whole, cut-read, map-read, register-read, register-written, set-read, set-written, memory-read, memory-written}
-use Rattle.debug_lines.proofs.Operands.{write-read, write-written}
+use Rattle.debug_lines.proofs.Operands.{whole, cut-read, map-read, register-read, register-written, set-read}
+use Rattle.debug_lines.proofs.Operands.{set-written, memory-read, memory-written, write-read, write-written}
 
 -- ---- what is spelled is read
 

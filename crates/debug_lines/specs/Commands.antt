@@ -4,8 +4,8 @@ use Rattle.std.specs.Option.{option_map}
 use Rattle.debug_lines.specs.declared.word.Word.{Word}
 use Rattle.debug_lines.specs.declared.word.Word.TheVariants as word
 use Rattle.debug_lines.specs.declared.command.Command.{Command}
-use Rattle.debug_lines.specs.declared.command.Command.TheVariants.{State, Registers, Register, Set, Memory, Write, Break, Clear, Step, Continue, Quit}
-use Rattle.debug_lines.specs.declared.command.Command.TheVariants.{Malformed}
+use Rattle.debug_lines.specs.declared.command.Command.TheVariants.{State, Registers, Register, Set, Memory, Write}
+use Rattle.debug_lines.specs.declared.command.Command.TheVariants.{Break, Clear, Step, Continue, Quit, Malformed}
 use Rattle.debug_lines.specs.Numbers.{number_of, operand_of, cut_at_space, bytes_of}
 use Rattle.debug_lines.specs.Words.{word_of}
 

@@ -1,9 +1,9 @@
 -- Which error a command has: of several the one of the smallest number.
-use Rattle.std.specs.Prelude.{ℕ, zero, suc, ◌+◌, ◌%◌, ◌^◌, Bool, true, false, ◌==◌, ◌&&◌, ◌||◌, not, List, length, codes, Option, Some, None, nat_lt, nat_le}
-use Rattle.std.specs.Prelude.{if◌then◌else◌}
+use Rattle.std.specs.Prelude.{ℕ, zero, suc, ◌+◌, ◌%◌, ◌^◌, Bool, true, false, ◌==◌, ◌&&◌, ◌||◌, not, List}
+use Rattle.std.specs.Prelude.{length, codes, Option, Some, None, nat_lt, nat_le, if◌then◌else◌}
 use Rattle.debug_lines.specs.declared.command.Command.{Command}
-use Rattle.debug_lines.specs.declared.command.Command.TheVariants.{State, Registers, Register, Set, Memory, Write, Break, Clear, Step, Continue, Quit}
-use Rattle.debug_lines.specs.declared.command.Command.TheVariants.{Malformed}
+use Rattle.debug_lines.specs.declared.command.Command.TheVariants.{State, Registers, Register, Set, Memory, Write}
+use Rattle.debug_lines.specs.declared.command.Command.TheVariants.{Break, Clear, Step, Continue, Quit, Malformed}
 use Rattle.flat_machine.specs.State.{FlatState}
 use Rattle.flat_machine.specs.Memory.{in_code, in_local, in_shared}
 use Rattle.debug_replies.specs.Breaking.{is_code_word}

@@ -1,6 +1,6 @@
 -- Stop replies: where a machine stands after `step` and `cont`. Texts are without their line feed.
-use Rattle.std.specs.Prelude.{ℕ, zero, suc, Bool, true, false, ◌&&◌, not, List, length, ◌++◌, codes, Option, Some, None, slice_get, slice_index_or}
-use Rattle.std.specs.Prelude.{if◌then◌else◌}
+use Rattle.std.specs.Prelude.{ℕ, zero, suc, Bool, true, false, ◌&&◌, not, List, length, ◌++◌, codes}
+use Rattle.std.specs.Prelude.{Option, Some, None, slice_get, slice_index_or, if◌then◌else◌}
 use Rattle.std.specs.Option.{option_map}
 use Rattle.std.specs.Fmt.{digits}
 use Rattle.flat_machine.specs.declared.event.Status.{Status}

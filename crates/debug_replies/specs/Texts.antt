@@ -2,10 +2,10 @@
 use Rattle.std.specs.Prelude.{ℕ, zero, suc, ◌+◌, ◌^◌, ◌==◌, ◌&&◌, List, [], ◌++◌, codes, flat_map, Option, Some, None, nat_le, slice_get, if◌then◌else◌}
 use Rattle.command_io.specs.Digits.{hex_of_byte, hex_of_word, status_text}
 use Rattle.debug_lines.specs.declared.command.Command.{Command}
-use Rattle.debug_lines.specs.declared.command.Command.TheVariants.{State, Registers, Register, Set, Memory, Write, Break, Clear, Step, Continue, Quit}
-use Rattle.debug_lines.specs.declared.command.Command.TheVariants.{Malformed}
+use Rattle.debug_lines.specs.declared.command.Command.TheVariants.{State, Registers, Register, Set, Memory, Write}
+use Rattle.debug_lines.specs.declared.command.Command.TheVariants.{Break, Clear, Step, Continue, Quit, Malformed}
 use Rattle.flat_machine.specs.State.{Processor, FlatState}
-use Rattle.machine_runs.specs.machine.Seeing.{byte_seen}
+use Rattle.machine_steps.specs.Seeing.{byte_seen}
 
 -- ---- one processor. Of one that is not there nothing is shown.
 

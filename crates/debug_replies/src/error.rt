@@ -2,12 +2,12 @@
 
 ghost use Rattle.std.specs.Prelude.{◌≡◌, ◌≤◌, ◌<◌, ◌+◌, ◌^◌, length};
 ghost use Rattle.debug_replies.specs.Errors.{error_of, error_text, has_addresses, is_malformed, is_range, is_reached, processor_of, register_of};
-ghost use Rattle.machine_runs.specs.Runs.{flat_state};
+ghost use Rattle.machine_steps.specs.Runs.{flat_state};
 
 use crate::breaks::is_code_word;
 use debug_lines::Command;
 use flat_machine::{CODE_START, LOCAL_START, PC, REGION_BYTES, SHARED_START};
-use machine_runs::{Machine, flat_processors, flat_shared_words};
+use machine_steps::{Machine, flat_processors, flat_shared_words};
 
 /// The most bytes that one reply shows.
 pub(crate) const MAX_SHOWN: u32 = 512;

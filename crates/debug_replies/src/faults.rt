@@ -1,12 +1,12 @@
 //! Which processors faults have stopped.
 
 ghost use Rattle.std.specs.Prelude.{◌≡◌, ◌<◌, ℕ};
-ghost use Rattle.machine_runs.specs.Machines.{AreHome};
-ghost use Rattle.machine_runs.specs.Runs.{flat_state};
+ghost use Rattle.machine_steps.specs.Machines.{AreHome};
+ghost use Rattle.machine_steps.specs.Runs.{flat_state};
 ghost use Rattle.debug_replies.specs.Stops.{is_faulted, is_faulted_at, is_flagged};
 
 use flat_machine::Status;
-use machine_runs::{Machine, flat_processors, flat_status};
+use machine_steps::{Machine, flat_processors, flat_status};
 use std::marker::Model;
 
 /// The most processors that a machine has.

@@ -2,8 +2,8 @@
 
 ghost use Rattle.std.specs.Prelude.{◌≡◌, ◌≤◌, ◌+◌, ◌++◌, length, slice_get};
 ghost use Rattle.arrayvec.specs.ArrayVec.{array_vec_len};
-ghost use Rattle.machine_runs.specs.Machines.{AreHome};
-ghost use Rattle.machine_runs.specs.Runs.{flat_state};
+ghost use Rattle.machine_steps.specs.Machines.{AreHome};
+ghost use Rattle.machine_steps.specs.Runs.{flat_state};
 ghost use Rattle.debug_replies.specs.Texts.{memory_text, register_at, register_text, registers_text, shown_text, state_text};
 
 use crate::digits::{push, push_byte, push_status, push_word, push_words};
@@ -11,7 +11,7 @@ use crate::error::MAX_SHOWN;
 use arrayvec::ArrayVec;
 use debug_lines::Command;
 use flat_machine::PC;
-use machine_runs::{Machine, flat_byte, flat_pc, flat_registers, flat_status};
+use machine_steps::{Machine, flat_byte, flat_pc, flat_registers, flat_status};
 
 /// Puts the reply to a command that has no error into the text, in place of what it had, where it does not depend on
 /// what the command does: what is shown, or `ok`. For `step` and `cont`, and for what is not there, the text is left

@@ -3,10 +3,11 @@
 ghost use Rattle.std.specs.Prelude.{◌≡◌, ◌≤◌, ◌<◌, ◌++◌, ◌&&◌, not, false, length};
 ghost use Rattle.std.specs.Fmt.{digit_glyph, digits};
 ghost use Rattle.arrayvec.specs.ArrayVec.{array_vec_len};
-ghost use Rattle.machine_runs.specs.Machines.{AreHome};
-ghost use Rattle.machine_runs.specs.Runs.{flat_state};
+ghost use Rattle.machine_steps.specs.Machines.{AreHome};
+ghost use Rattle.machine_steps.specs.Runs.{flat_state};
 ghost use Rattle.flat_machine.specs.State.{is_running};
-ghost use Rattle.debug_replies.specs.Stops.{are_halted, has_break_at, is_at_break, is_flagged, is_halted, is_halted_at, is_newly_faulted, is_running_at};
+ghost use Rattle.debug_replies.specs.Stops.{are_halted, has_break_at, is_at_break, is_flagged};
+ghost use Rattle.debug_replies.specs.Stops.{is_halted, is_halted_at, is_newly_faulted, is_running_at};
 ghost use Rattle.debug_replies.specs.Stops.{name_text, named_stop, smallest, stop_text};
 
 use crate::breaks::Breaks;
@@ -14,7 +15,7 @@ use crate::digits::push;
 use crate::faults::{Faults, is_faulted};
 use arrayvec::ArrayVec;
 use flat_machine::Status;
-use machine_runs::{Machine, flat_pc, flat_processors, flat_status};
+use machine_steps::{Machine, flat_pc, flat_processors, flat_status};
 
 /// Puts a stop reply into the text, in place of what it had: `halted` where all processors are halted, else `at` with
 /// the processor that is named, in hex without leading zeros, or with `-`.

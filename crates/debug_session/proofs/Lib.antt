@@ -2,3 +2,11 @@ pub mod GoingOn
 pub mod Sound
 pub mod Talking
 pub mod Writing
+pub mod Splits
+pub mod Noting
+pub mod Standing
+pub mod Stepping
+pub mod Quieting
+pub mod Few
+pub mod Running
+pub mod Beginning

@@ -1,6 +1,6 @@
 -- How a dialogue goes on, and how a session ends.
-use Rattle.std.proofs.Common.{◌≡◌, ◌<◌, ◌≤◌, ◌-◌, length, take, drop, ℕ, List, [], ◌∷◌, ◌++◌, refl, sym, ap, ◌∙◌, append_assoc, Option, Bool, true}
-use Rattle.std.proofs.Common.{false, subst}
+use Rattle.std.proofs.Common.{◌≡◌, ◌<◌, ◌≤◌, ◌-◌, length, take, drop, ℕ, List, [], ◌∷◌, ◌++◌, refl}
+use Rattle.std.proofs.Common.{sym, ap, ◌∙◌, append_assoc, Option, Bool, true, false, subst}
 use Rattle.std.proofs.lemmas.List.{append-nil, take-append-drop}
 use Rattle.std.proofs.lemmas.Slice.{between_to_end}
 use Rattle.std.proofs.KnownBytes.{Appends-nil, Appends-trans, Consumes-trans}
@@ -9,7 +9,7 @@ use Rattle.link.specs.Transfer.{AppendsPart}
 use Rattle.debug_lines.specs.declared.reader.Event.{Event}
 use Rattle.debug_lines.specs.Lines.{Held, IsAfter, joined}
 use Rattle.debug_replies.specs.Breaking.{is_break}
-use Rattle.machine_runs.specs.Machines.{IsIdle}
+use Rattle.machine_steps.specs.Machines.{IsIdle}
 use Rattle.machine_log.specs.Logs.{Log}
 use Rattle.debug_session.specs.Answers.{Session, Answers}
 use Rattle.debug_session.specs.Dialogues.{asked, Dialogue, NoneQuits, is_quit}

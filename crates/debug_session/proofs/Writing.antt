@@ -1,7 +1,7 @@
 -- The writes of a line of bytes.
-use Rattle.std.proofs.Common.{◌≡◌, ℕ, zero, suc, ◌+◌, ◌-◌, ◌*◌, ◌/◌, ◌<◌, ◌≤◌, ◌^◌, ◌==◌, ◌&&◌, ◌||◌, not, ◌⊎◌, inl, inr, Bool, true, false, List, []}
-use Rattle.std.proofs.Common.{◌∷◌, ◌++◌}
-use Rattle.std.proofs.Common.{length, take, nat_le, nat_lt, slice_index, slice_index_or, refl, sym, ap, ◌∙◌, arith, subst, add-zero}
+use Rattle.std.proofs.Common.{◌≡◌, ℕ, zero, suc, ◌+◌, ◌-◌, ◌*◌, ◌/◌, ◌<◌, ◌≤◌, ◌^◌, ◌==◌, ◌&&◌, ◌||◌, not, ◌⊎◌}
+use Rattle.std.proofs.Common.{inl, inr, Bool, true, false, List, [], ◌∷◌, ◌++◌, length, take, nat_le, nat_lt}
+use Rattle.std.proofs.Common.{slice_index, slice_index_or, refl, sym, ap, ◌∙◌, arith, subst, add-zero}
 use Rattle.std.specs.Prelude.{if◌then◌else◌, slice_set}
 use Rattle.std.proofs.lemmas.Bool.{cases_eq, leb-true}
 use Rattle.std.proofs.lemmas.Bool.Decides.{nat_tests}
@@ -10,7 +10,7 @@ use Rattle.flat_machine.specs.declared.config.Config.{Config}
 use Rattle.flat_machine.specs.declared.poke.Poke.{Poke}
 use Rattle.flat_machine.specs.declared.poke.Poke.TheVariants as poke
 use Rattle.flat_machine.specs.State.{FlatState}
-use Rattle.machine_runs.specs.machine_program.Processors.{is_lawful_poke}
+use Rattle.machine_steps.specs.machine_theory.Processors.{is_lawful_poke}
 use Rattle.machine_log.specs.Logs.{AreLawful}
 use Rattle.debug_replies.specs.Errors.{are_reached, is_range, is_reached}
 use Rattle.debug_session.specs.Answers.{poke_of, pokes_of}

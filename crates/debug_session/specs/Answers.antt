@@ -1,27 +1,26 @@
 -- What a command does to a log and to the breaks of a session, and what is answered to it.
-use Rattle.std.specs.Prelude.{◌≡◌, ◌≤◌, ◌+◌, ◌*◌, ℕ, zero, suc, Bool, true, false, nat_le, ◌^◌, List, [], ◌∷◌, ◌++◌, length, Option, Some, None}
-use Rattle.std.specs.Prelude.{Result, Ok, Err}
-use Rattle.std.specs.Prelude.{if◌then◌else◌}
+use Rattle.std.specs.Prelude.{◌≡◌, ◌≤◌, ◌+◌, ◌*◌, ℕ, zero, suc, Bool, true, false, nat_le, ◌^◌, List, []}
+use Rattle.std.specs.Prelude.{◌∷◌, ◌++◌, length, Option, Some, None, Result, Ok, Err, if◌then◌else◌}
 use Rattle.flat_machine.specs.declared.poke.Poke.{Poke}
 use Rattle.flat_machine.specs.declared.poke.Poke.TheVariants as poke
 use Rattle.flat_machine.specs.Flat.{flat_run}
 use Rattle.flat_machine.specs.State.{FlatState}
-use Rattle.machine_runs.specs.steps.declared.step.Outcome.{Outcome}
-use Rattle.machine_runs.specs.Runs.{flat_state, passed}
-use Rattle.machine_runs.specs.Whole.{one_steps, IsOne}
+use Rattle.steps.specs.declared.step.Outcome.{Outcome}
+use Rattle.machine_steps.specs.Runs.{flat_state, passed}
+use Rattle.machine_steps.specs.Whole.{one_steps, IsOne}
 use Rattle.machine_log.specs.Logs.{Log, HasPoked}
-use Rattle.machine_log.specs.declared.log.LogRefusal.{LogRefusal}
-use Rattle.machine_log.specs.declared.log.LogRefusal.TheVariants as refusal
+use Rattle.machine_log.specs.declared.refusal.LockRefusal.{LockRefusal}
+use Rattle.machine_log.specs.declared.refusal.LockRefusal.TheVariants as refusal
 use Rattle.debug_lines.specs.declared.command.Command.{Command}
-use Rattle.debug_lines.specs.declared.command.Command.TheVariants.{State, Registers, Register, Set, Memory, Write, Break, Clear, Step, Continue, Quit}
-use Rattle.debug_lines.specs.declared.command.Command.TheVariants.{Malformed}
+use Rattle.debug_lines.specs.declared.command.Command.TheVariants.{State, Registers, Register, Set, Memory, Write}
+use Rattle.debug_lines.specs.declared.command.Command.TheVariants.{Break, Clear, Step, Continue, Quit, Malformed}
 use Rattle.debug_replies.specs.declared.error.Error.{Error}
 use Rattle.debug_replies.specs.declared.error.Error.TheVariants as error
 use Rattle.debug_replies.specs.Breaking.{with_flag}
 use Rattle.debug_replies.specs.Errors.{error_of, error_text}
 use Rattle.debug_replies.specs.Stops.{is_faulted_at, is_running_at, named_stop, stop_text}
 use Rattle.debug_replies.specs.Texts.{shown_text}
-use Rattle.debug_sweep.specs.Runs.{HasDriven}
+use Rattle.debug_session.specs.Runs.{HasDriven}
 
 -- What a session stands in: the log with its machine, and the breaks.
 pub record Session : Type 0 where
@@ -33,11 +32,12 @@ abbrev pub Ending : Type 0
 Ending = Result (Unit {0}) Error
 
 -- how a command ended that a log has answered
-abbrev pub ending_of : {T : Type 0} → Result T LogRefusal → Ending
+abbrev pub ending_of : {T : Type 0} → Result T LockRefusal → Ending
 ending_of (Ok answer) = Ok tt
 ending_of (Err refusal.Memory) = Err error.Memory
 ending_of (Err refusal.Full) = Err error.Room
 ending_of (Err refusal.Unnamed) = Err error.Processor
+ending_of (Err refusal.NotFree) = Err error.Processor
 
 -- ---- commands that take steps
 

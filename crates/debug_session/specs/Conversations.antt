@@ -4,8 +4,8 @@ use Rattle.std.specs.Io.KnownBytes.{Appends, Consumes, IsAtEnd}
 use Rattle.debug_lines.specs.declared.reader.Event.{Event}
 use Rattle.debug_lines.specs.Lines.{Held, IsAfter, joined}
 use Rattle.debug_replies.specs.Breaking.{is_break}
-use Rattle.machine_runs.specs.Draining.{drain_steps, IsDrained}
-use Rattle.machine_runs.specs.Machines.{IsIdle}
+use Rattle.machine_steps.specs.Draining.{drain_steps, IsDrained}
+use Rattle.machine_steps.specs.Machines.{IsIdle}
 use Rattle.machine_log.specs.Logs.{Log}
 use Rattle.debug_session.specs.Answers.{Session}
 use Rattle.debug_session.specs.Dialogues.{Dialogue, NoneQuits, is_quit}

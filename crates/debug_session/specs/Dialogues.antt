@@ -1,8 +1,8 @@
 -- The dialogue of a session: all events of a stream with their replies.
 use Rattle.std.specs.Prelude.{◌≡◌, ℕ, Bool, true, false, List, [], ◌∷◌, ◌++◌}
 use Rattle.debug_lines.specs.declared.command.Command.{Command}
-use Rattle.debug_lines.specs.declared.command.Command.TheVariants.{State, Registers, Register, Set, Memory, Write, Break, Clear, Step, Continue, Quit}
-use Rattle.debug_lines.specs.declared.command.Command.TheVariants.{Malformed}
+use Rattle.debug_lines.specs.declared.command.Command.TheVariants.{State, Registers, Register, Set, Memory, Write}
+use Rattle.debug_lines.specs.declared.command.Command.TheVariants.{Break, Clear, Step, Continue, Quit, Malformed}
 use Rattle.debug_lines.specs.declared.reader.Event.{Event}
 use Rattle.debug_lines.specs.declared.reader.Event.TheVariants.{Line, TooLong}
 use Rattle.debug_lines.specs.Commands.{command_of}

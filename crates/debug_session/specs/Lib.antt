@@ -1,3 +1,7 @@
 pub mod Answers
 pub mod Dialogues
 pub mod Conversations
+pub mod Runs
+pub mod Breaks
+pub mod Sweeps
+pub mod Sessions

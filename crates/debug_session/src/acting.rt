@@ -2,16 +2,17 @@
 
 ghost use Rattle.std.specs.Prelude.{◌≡◌, None};
 ghost use Rattle.debug_replies.specs.Errors.{error_of};
-ghost use Rattle.machine_runs.specs.Machines.{IsIdle};
-ghost use Rattle.machine_runs.specs.Runs.{flat_state};
+ghost use Rattle.machine_steps.specs.Machines.{IsIdle};
+ghost use Rattle.machine_steps.specs.Runs.{flat_state};
 ghost use Rattle.debug_session.specs.Answers.{ending_of, poke_of, Continues, Sets, StepsOnce, Writes};
 
+use crate::laws::runs_are_in_order;
+use crate::runner::Runner;
 use debug_lines::{Command, Written};
 use debug_replies::{Breaks, Error, is_running};
-use debug_sweep::{Runner, runs_are_in_order};
 use flat_machine::{Poke, SHARED_START};
-use machine_log::{LogRefusal, Logged, log_is_kept};
-use machine_runs::flat_states_are_read;
+use machine_log::{LockRefusal, Logged, log_is_kept};
+use machine_steps::flat_states_are_read;
 
 /// The most bytes that a line writes.
 const MOST_BYTES: usize = 512;
@@ -113,13 +114,13 @@ pub(crate) fn go_on(
 }
 
 /// How a log's answer is told.
-fn told(answer: Result<(), LogRefusal>) -> Result<(), Error>
+fn told(answer: Result<(), LockRefusal>) -> Result<(), Error>
     ensures { result ≡ ending_of answer }
 {
     match answer {
         Ok(()) => Ok(()),
-        Err(LogRefusal::Memory) => Err(Error::Memory),
-        Err(LogRefusal::Full) => Err(Error::Room),
-        Err(LogRefusal::Unnamed) => Err(Error::Processor),
+        Err(LockRefusal::Memory) => Err(Error::Memory),
+        Err(LockRefusal::Full) => Err(Error::Room),
+        Err(LockRefusal::Unnamed | LockRefusal::NotFree) => Err(Error::Processor),
     }
 }

@@ -3,17 +3,17 @@
 ghost use Rattle.std.specs.Prelude.{◌≡◌, ◌<◌, ℕ};
 ghost use Rattle.debug_replies.specs.Errors.{error_of, error_text};
 ghost use Rattle.debug_replies.specs.Stops.{is_faulted_at, is_flagged};
-ghost use Rattle.machine_runs.specs.Machines.{IsIdle};
-ghost use Rattle.machine_runs.specs.Runs.{flat_state};
+ghost use Rattle.machine_steps.specs.Machines.{IsIdle};
+ghost use Rattle.machine_steps.specs.Runs.{flat_state};
 ghost use Rattle.debug_session.specs.Answers.{done_text, ActsUnless, Answers};
 
 use crate::acting::{go_on, set, step, write};
+use crate::runner::Runner;
 use arrayvec::ArrayVec;
 use debug_lines::Command;
 use debug_replies::{Breaks, Error, Faults, error_of, named_stop, show, show_stop};
-use debug_sweep::Runner;
 use machine_log::Logged;
-use machine_runs::flat_states_are_read;
+use machine_steps::flat_states_are_read;
 
 /// Carries a command out, and puts the reply to it into the text, in place of what it had.
 pub(crate) fn answer(

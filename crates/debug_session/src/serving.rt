@@ -3,20 +3,20 @@
 ghost use Rattle.std.specs.Prelude.{◌≡◌, ◌↔◌, ◌<◌, ◌+◌, [], ◌∷◌, ◌++◌, ℕ, List, true, false, length, is_err, MatchResult, IfSome, IfNone};
 ghost use Rattle.std.specs.Io.KnownBytes.{Appends};
 ghost use Rattle.link.specs.Transfer.{AppendsPart};
-ghost use Rattle.machine_runs.specs.Draining.{drain_bound};
-ghost use Rattle.machine_runs.specs.Machines.{IsIdle};
+ghost use Rattle.machine_steps.specs.Draining.{drain_bound};
+ghost use Rattle.machine_steps.specs.Machines.{IsIdle};
 ghost use Rattle.debug_session.specs.Answers.{Answers};
 ghost use Rattle.debug_session.specs.Dialogues.{asked, is_quit};
 ghost use Rattle.debug_session.specs.Conversations.{Goes, HasServed, IsServed, Stops};
 
 use crate::answering::answer;
+use crate::runner::Runner;
 use crate::session_end::SessionEnd;
 use arrayvec::ArrayVec;
 use debug_lines::{Command, Event, LineReader, pack};
 use debug_replies::Breaks;
-use debug_sweep::Runner;
 use link::{Failed, LinkRead, LinkWrite, write_whole};
-use machine_log::{LogRefusal, Logged};
+use machine_log::{LockRefusal, Logged};
 use std::sync::Wait;
 
 /// The most bytes that are read at once.
@@ -54,7 +54,7 @@ pub fn serve<R: LinkRead, W: LinkWrite>(
 {
     match log.drain() {
         Ok(_) => {}
-        Err(LogRefusal::Full) => return SessionEnd::TraceFull,
+        Err(LockRefusal::Full) => return SessionEnd::TraceFull,
         Err(_) => return SessionEnd::Memory,
     }
     let mut breaks = Breaks::new();

@@ -1,15 +1,16 @@
 -- Refusals of the input, and their place in the order.
-use Rattle.std.proofs.Common.{◌≡◌, ℕ, ◌+◌, ◌*◌, ◌&&◌, ◌≤◌, Bool, true, false, not, cond, List, [], ◌∷◌, length, Option, None, Some, refl, subst, ap, arith}
-use Rattle.std.proofs.Common.{nat_lt}
+use Rattle.std.proofs.Common.{◌≡◌, ℕ, ◌+◌, ◌*◌, ◌&&◌, ◌≤◌, Bool, true, false, not, cond, List, []}
+use Rattle.std.proofs.Common.{◌∷◌, length, Option, None, Some, refl, subst, ap, arith, nat_lt}
 use Rattle.std.proofs.lemmas.Bool.Decides.{nat_tests}
 use Rattle.elf_image.specs.declared.error.ImageError.{ImageError}
-use Rattle.elf_image.specs.declared.error.ImageError.TheVariants.{Truncated, NotExecutable, UnsupportedHeader, OutsideInput, OutsideRegions, Overlap, Entry}
-use Rattle.elf_image.specs.declared.error.ImageError.TheVariants.{TooLong, Link, Memory}
+use Rattle.elf_image.specs.declared.error.ImageError.TheVariants.{Truncated, NotExecutable, UnsupportedHeader}
+use Rattle.elf_image.specs.declared.error.ImageError.TheVariants.{OutsideInput, OutsideRegions, Overlap}
+use Rattle.elf_image.specs.declared.error.ImageError.TheVariants.{Entry, TooLong, Link, Memory}
 use Rattle.elf_image.specs.declared.segment.ProgramHeader.{ProgramHeader}
 use Rattle.elf_image.specs.Headers.{file_header, segments}
 use Rattle.elf_image.specs.Regions.{is_in_a_region}
-use Rattle.elf_image.specs.Refusals.{is_executable, is_supported, header_refusal, is_in_file, segment_refusal, segment_refusals, have_overlap, is_entry}
-use Rattle.elf_image.specs.Refusals.{first_of, refusal_of}
+use Rattle.elf_image.specs.Refusals.{is_executable, is_supported, header_refusal, is_in_file, segment_refusal}
+use Rattle.elf_image.specs.Refusals.{segment_refusals, have_overlap, is_entry, first_of, refusal_of}
 use Rattle.elf_image.specs.Images.{IsCause}
 
 -- an error that tells of what the input holds

@@ -1,2 +1,1 @@
--- Lemmas of lower crates, passed on to those above.
-pub use Rattle.local_memory.proofs.Lemmas as local_memory
+-- The lemmas that crates above may cite: they name no other file of these proofs.

@@ -5,4 +5,10 @@ pub mod Loads
 pub mod Meant
 pub mod Causes
 pub mod Numbers
+pub mod Acceptance
+pub mod Uniqueness
+pub mod Opened
+pub mod Spelled
+pub mod SpelledMeant
+pub mod Refused
 pub mod Lemmas

@@ -1,6 +1,6 @@
 -- From what the checks and the loader tell to accepted input and its meaning.
-use Rattle.std.proofs.Common.{◌≡◌, ℕ, ◌+◌, ◌-◌, ◌/◌, ◌%◌, ◌<◌, ◌≤◌, Bool, true, false, cond, List, [], length, None, Some, refl, ap, ◌∙◌, inl, inr, arith}
-use Rattle.std.proofs.Common.{nat_lt, eqb}
+use Rattle.std.proofs.Common.{◌≡◌, ℕ, ◌+◌, ◌-◌, ◌/◌, ◌%◌, ◌<◌, ◌≤◌, Bool, true, false, cond, List}
+use Rattle.std.proofs.Common.{[], length, None, Some, refl, ap, ◌∙◌, inl, inr, arith, nat_lt, eqb}
 use Rattle.std.specs.Prelude.{slice_get, slice_index}
 use Rattle.std.proofs.lemmas.Bool.{cases_lt, cases_eq}
 use Rattle.std.proofs.lemmas.Bool.Decides.{nat_tests}

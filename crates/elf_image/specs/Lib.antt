@@ -8,6 +8,6 @@ pub mod Loading
 pub mod Spellings
 pub mod Openings
 pub mod Files
+pub mod Laws
 -- Words of lower crates, passed on to those above.
-pub use Rattle.flat_machine.specs as flat_machine
 pub use Rattle.local_memory.specs as local_memory

@@ -1,10 +1,11 @@
 -- Which input is refused, and why: the order of the refusals.
-use Rattle.std.specs.Prelude.{ℕ, ◌+◌, ◌*◌, ◌%◌, Bool, false, not, ◌==◌, ◌&&◌, ◌||◌, nat_eq, nat_lt, nat_le, min, max, List, [], ◌∷◌, map, length, Option, Some}
-use Rattle.std.specs.Prelude.{None, if◌then◌else◌}
+use Rattle.std.specs.Prelude.{ℕ, ◌+◌, ◌*◌, ◌%◌, Bool, false, not, ◌==◌, ◌&&◌, ◌||◌, nat_eq, nat_lt, nat_le}
+use Rattle.std.specs.Prelude.{min, max, List, [], ◌∷◌, map, length, Option, Some, None, if◌then◌else◌}
 use Rattle.std.specs.List.{list_any, starts_with}
 use Rattle.flat_machine.specs.Memory.{in_code}
 use Rattle.elf_image.specs.declared.error.ImageError.{ImageError}
-use Rattle.elf_image.specs.declared.error.ImageError.TheVariants.{Truncated, NotExecutable, UnsupportedHeader, OutsideInput, OutsideRegions, Overlap, Entry}
+use Rattle.elf_image.specs.declared.error.ImageError.TheVariants.{Truncated, NotExecutable, UnsupportedHeader}
+use Rattle.elf_image.specs.declared.error.ImageError.TheVariants.{OutsideInput, OutsideRegions, Overlap, Entry}
 use Rattle.elf_image.specs.declared.error.ImageError.TheVariants.{TooLong}
 use Rattle.elf_image.specs.declared.header.FileHeader.{FileHeader}
 use Rattle.elf_image.specs.declared.segment.ProgramHeader.{ProgramHeader}

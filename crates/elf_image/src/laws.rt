@@ -1,4 +1,4 @@
-//! What reading an image shows, for the laws of images above this crate.
+//! What reading an image shows, for the laws of images (`image_laws`).
 
 ghost use Rattle.std.specs.Prelude.{◌≡◌, ℕ, List, None};
 ghost use Rattle.elf_image.specs.declared.layout.Layout.{Layout};

@@ -1,21 +1,23 @@
 //! Images of programs: what stands at which address when a machine starts.
 //!
-//! An image file is a little-endian ELF32 executable for RISC-V. [`read_image`] reads one, and
-//! refuses all that is not accepted for a configuration, each by its number; [`write_image`] writes
-//! the one spelling of a [`Layout`]. Which bytes are accepted, which refusal comes first, and what
-//! the bytes mean, is defined in `specs/`, in terms of addresses that segments set; the code
-//! compares and copies ranges. `specs/Openings.antt` says how a machine opens on a layout. The
-//! laws of all this stand in `image_laws`.
+//! An image file is a little-endian ELF32 executable for RISC-V. [`read_image`] reads one, and refuses all that is not accepted
+//! for a configuration, each by its number; [`write_image`] writes the one spelling of a [`Layout`]. `specs/` defines which
+//! bytes are accepted, which refusal comes first, and what the bytes mean, in terms of addresses that segments set; the code
+//! compares and copies ranges. `specs/Openings.antt` says how a machine opens on a layout.
 //!
-//! Source: System V Application Binary Interface, "Object Files" (ELF header) and "Program Loading
-//! and Dynamic Linking" (program header); the RISC-V ELF psABI for the number of the machine. The
-//! definitions name the fields as these do.
+//! The laws (`image_laws`): the order of refusals refuses just what is not accepted, each for its cause. A file means one
+//! layout. A machine that opens on a layout has at each address what the layout has there, and so what the file has. A layout
+//! that is written is read back as it was.
+//!
+//! Source: System V Application Binary Interface, "Object Files" (ELF header) and "Program Loading and Dynamic Linking"
+//! (program header); the RISC-V ELF psABI for the number of the machine. The definitions name the fields as these do.
 #![tactic(auto)]
 
 mod bytes;
 mod error;
 mod header;
 mod image;
+mod image_laws;
 mod laws;
 mod layout;
 mod load;
@@ -26,8 +28,15 @@ mod write;
 
 pub use bytes::Bytes;
 pub use error::ImageError;
+pub use flat_machine::Config;
 pub use image::Image;
+pub use image_laws::{
+    input_means_one_layout, machine_opens_on_the_file, machine_opens_on_the_layout,
+    not_refused_is_accepted, refusals_have_their_causes, spelling_is_headers_and_bytes,
+    spelling_means_its_layout,
+};
 pub use laws::loading_gives_the_meaning;
 pub use layout::Layout;
+pub use link::{Link, LinkRead, LinkWrite, Meter};
 pub use read::{MAX_IMAGE_BYTES, read_image};
 pub use write::write_image;

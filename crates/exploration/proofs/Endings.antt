@@ -1,20 +1,19 @@
 -- Rows in which no processor runs, and their results.
-use Rattle.std.proofs.Common.{◌≡◌, ◌⊎◌, inl, inr, ℕ, ◌+◌, ◌<◌, zero, suc, Bool, true, false, cond, true≢false, List, [], ◌∷◌, ◌++◌, Some}
-use Rattle.std.proofs.Common.{All, length, map, refl, sym, ap, subst, ◌∙◌, arith}
+use Rattle.std.proofs.Common.{◌≡◌, ◌⊎◌, inl, inr, ℕ, ◌+◌, ◌<◌, zero, suc, Bool, true, false, cond, true≢false}
+use Rattle.std.proofs.Common.{List, [], ◌∷◌, ◌++◌, Some, All, length, map, refl, sym, ap, subst, ◌∙◌, arith}
 use Rattle.std.specs.Prelude.{Contains, slice_get, slice_index}
 use Rattle.std.specs.List.{range_with_len}
 use Rattle.std.proofs.lemmas.List.{length-map}
 use Rattle.std.proofs.lemmas.List.Elements.{All-append, All-cons, All-nil, Contains-append_left, Contains-push}
 use Rattle.std.proofs.lemmas.List.FromFn.{length-map-range_with_len, fill_by_all}
 use Rattle.flat_machine.specs.State.{is_running}
-use Rattle.results.specs.alone.Stations.{Station}
-use Rattle.live_registers.specs.Forgetting.{with_live, kept_by}
-use Rattle.results.specs.alone.Results.{FinalResult, HaveStopped, StandsFor, result_at, station_result}
-use Rattle.station_search.proofs.Lemmas.{stands_for_back}
-use Rattle.station_search.specs.declared.tables.Extent.{Extent}
-use Rattle.station_search.specs.Tables.{TableLists, nowhere, placed_at, means}
-use Rattle.station_search.specs.Search.{state_at}
-use Rattle.station_search.proofs.Lemmas.{found_at, listed_there, listed_is, mapped_at, up_to}
+use Rattle.local_reduction.specs.Stations.{Station}
+use Rattle.local_reduction.specs.Forgetting.{with_live, kept_by}
+use Rattle.local_reduction.specs.Results.{FinalResult, HaveStopped, StandsFor, result_at, station_result}
+use Rattle.state_search.proofs.Lemmas.{stands_for_back, found_at, listed_there, listed_is, mapped_at, up_to}
+use Rattle.state_search.specs.declared.tables.Extent.{Extent}
+use Rattle.state_search.specs.Tables.{TableLists, nowhere, placed_at, means}
+use Rattle.state_search.specs.Search.{state_at}
 use Rattle.exploration.specs.Endings.{IsAdded, IsEnding, IsEndingAdded, IsOnce, IsStoodFor}
 
 -- ---- what is kept of a station

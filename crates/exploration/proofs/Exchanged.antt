@@ -5,11 +5,9 @@ use Rattle.std.specs.List.{SwappedAt}
 use Rattle.std.proofs.lemmas.Bool.{cases_lt}
 use Rattle.std.proofs.lemmas.Option.{slice_get_past}
 use Rattle.flat_machine.specs.declared.event.Status.TheVariants.{Running}
-use Rattle.results.specs.alone.Exchanging.{AreAlike}
-use Rattle.results.specs.alone.Results.{ProcessorResult}
-use Rattle.station_search.proofs.Lemmas.{none, both, trade, trade_all}
-use Rattle.station_search.proofs.Lemmas.{stands_for_on}
-use Rattle.station_search.proofs.Lemmas.{there}
+use Rattle.local_reduction.specs.Exchanging.{AreAlike}
+use Rattle.local_reduction.specs.Results.{ProcessorResult}
+use Rattle.state_search.proofs.Lemmas.{none, both, trade, trade_all, stands_for_on, there}
 use Rattle.exploration.specs.Endings.{AreExchanged}
 use Rattle.exploration.specs.Laws.{ExploringEitherWayStandsForTheSame, ResultsAreClosedUnderExchange}
 

@@ -1,6 +1,6 @@
 -- The results of the rows that a search has found are those of the machine.
-use Rattle.std.proofs.Common.{◌≡◌, ◌⊎◌, inl, inr, ℕ, ◌<◌, ◌≤◌, ◌^◌, Bool, true, false, cond, List, [], Some, None, Contains, length, map}
-use Rattle.std.proofs.Common.{sym, ap, subst, ◌∙◌, arith}
+use Rattle.std.proofs.Common.{◌≡◌, ◌⊎◌, inl, inr, ℕ, ◌<◌, ◌≤◌, ◌^◌, Bool, true, false, cond, List}
+use Rattle.std.proofs.Common.{[], Some, None, Contains, length, map, sym, ap, subst, ◌∙◌, arith}
 use Rattle.std.specs.Prelude.{slice_get, slice_index}
 use Rattle.std.specs.List.{range_with_len}
 use Rattle.std.proofs.Math.Nat.{pow-le-pow_right}
@@ -10,24 +10,23 @@ use Rattle.std.proofs.lemmas.List.{length-map}
 use Rattle.std.proofs.lemmas.List.FromFn.{length-map-range_with_len, fill_by_all}
 use Rattle.flat_machine.specs.State.{FlatState, Processor}
 use Rattle.hart.specs.State.{CoreState}
-use Rattle.machine.specs.machine_ports.Ports.{PortState}
-use Rattle.machine.specs.machine_program.Processors.{no_processor, no_port, port_at, word_at}
-use Rattle.machine.specs.Machines.{MachineLists, IsMachine}
-use Rattle.machine.specs.Openings.{flat_state}
-use Rattle.results.specs.alone.Closing.{IsForgetful, Standing, Settles}
-use Rattle.results.specs.alone.Exchanging.{AreAlike, IsUniform}
-use Rattle.results.specs.alone.Results.{FinalResult, IsFlatResult, HaveStopped, StandsFor, result_at}
-use Rattle.station_search.proofs.Lemmas.{stands_for_on}
-use Rattle.found_states.specs.Laws.{AllStoodForAreResults, AreSchedulesOf, EachResultIsStoodFor, KeepsResults, SuccessorsTellOfSchedules}
-use Rattle.live_registers.specs.Forgetting.{kept_by}
-use Rattle.move_ranks.specs.declared.schedules.Schedules.{Schedules}
-use Rattle.move_ranks.specs.Schedules.{AreTold}
-use Rattle.station_search.specs.declared.tables.Extent.{Extent}
-use Rattle.station_search.specs.Tables.{TableLists, placed_at, setting_at, means}
-use Rattle.station_search.specs.Opening.{AreOfExtent, flat_of}
-use Rattle.station_search.specs.Search.{AreClasses, AreClassesOf, state_at}
-use Rattle.station_search.specs.Ends.{AreFound}
-use Rattle.station_search.proofs.Lemmas.{there, found_at, mapped_at, listed_there, listed_is}
+use Rattle.machine_steps.specs.machine_ports.Ports.{PortState}
+use Rattle.machine_steps.specs.machine_theory.Processors.{no_processor, no_port, port_at, word_at}
+use Rattle.machine_steps.specs.Machines.{MachineLists, IsMachine}
+use Rattle.machine_steps.specs.Openings.{flat_state}
+use Rattle.local_reduction.specs.Closing.{IsForgetful, Standing, Settles}
+use Rattle.local_reduction.specs.Exchanging.{AreAlike, IsUniform}
+use Rattle.local_reduction.specs.Results.{FinalResult, IsFlatResult, HaveStopped, StandsFor, result_at}
+use Rattle.state_search.proofs.Lemmas.{stands_for_on, there, found_at, mapped_at, listed_there, listed_is}
+use Rattle.state_graph.specs.Laws.{AllStoodForAreResults, AreSchedulesOf, EachResultIsStoodFor, KeepsResults, SuccessorsTellOfSchedules}
+use Rattle.local_reduction.specs.Forgetting.{kept_by}
+use Rattle.state_graph.specs.declared.schedules.Schedules.{Schedules}
+use Rattle.state_graph.specs.Schedules.{AreTold}
+use Rattle.state_search.specs.declared.tables.Extent.{Extent}
+use Rattle.state_search.specs.Tables.{TableLists, placed_at, setting_at, means}
+use Rattle.state_search.specs.Opening.{AreOfExtent, flat_of}
+use Rattle.state_search.specs.Search.{AreClasses, AreClassesOf, state_at}
+use Rattle.state_search.specs.Ends.{AreFound}
 use Rattle.exploration.specs.Endings.{AreSingle, IsEnding, IsStoodFor}
 use Rattle.exploration.proofs.Endings.{kept_result}
 

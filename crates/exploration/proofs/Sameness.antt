@@ -3,8 +3,8 @@ use Rattle.std.proofs.Common.{◌≡◌, ℕ, ◌<◌, suc, List, [], ◌∷◌,
 use Rattle.std.specs.Prelude.{slice_get, slice_index}
 use Rattle.std.specs.List.{range_with_len}
 use Rattle.std.proofs.lemmas.List.FromFn.{length-map-range_with_len}
-use Rattle.results.specs.alone.Results.{ProcessorResult, FinalResult}
-use Rattle.station_search.proofs.Lemmas.{listed_at, listed_same}
+use Rattle.local_reduction.specs.Results.{ProcessorResult, FinalResult}
+use Rattle.state_search.proofs.Lemmas.{listed_at, listed_same}
 
 pub same_lists : {X : Type 0} (xs ys : List X) → length xs ≡ length ys → ((i : ℕ) → i < length xs → slice_get xs i ≡ slice_get ys i) → xs ≡ ys
 same_lists [] [] as_long each = refl

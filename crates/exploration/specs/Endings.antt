@@ -1,13 +1,13 @@
 -- The results of states in which no processor runs.
 use Rattle.std.specs.Prelude.{◌≡◌, ◌⊎◌, ℕ, ◌<◌, List, [], ◌∷◌, ◌++◌, Some, Contains, length, slice_get}
-use Rattle.results.specs.alone.Closing.{Standing}
-use Rattle.results.specs.alone.Exchanging.{AreAlike, Exchange}
-use Rattle.results.specs.alone.Results.{ProcessorResult, FinalResult, HaveStopped, StandsFor, result_at}
-use Rattle.results.specs.Results.{IsMachineResult}
-use Rattle.machine.specs.Machines.{MachineLists}
-use Rattle.station_search.specs.declared.tables.Extent.{Extent}
-use Rattle.station_search.specs.Tables.{TableLists}
-use Rattle.station_search.specs.Search.{state_at}
+use Rattle.local_reduction.specs.Closing.{Standing}
+use Rattle.local_reduction.specs.Exchanging.{AreAlike, Exchange}
+use Rattle.local_reduction.specs.Results.{ProcessorResult, FinalResult, HaveStopped, StandsFor, result_at}
+use Rattle.exploration.specs.Results.{IsMachineResult}
+use Rattle.machine_steps.specs.Machines.{MachineLists}
+use Rattle.state_search.specs.declared.tables.Extent.{Extent}
+use Rattle.state_search.specs.Tables.{TableLists}
+use Rattle.state_search.specs.Search.{state_at}
 
 -- Each processor takes the place of one of its class.
 abbrev pub AreExchanged : (classes : List ℕ) → (old new : List ProcessorResult) → Type 0

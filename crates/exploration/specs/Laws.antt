@@ -1,8 +1,8 @@
 -- What results that are found up to exchanges have to do with one another.
 use Rattle.std.specs.Prelude.{ℕ, ◌↔◌, List}
-use Rattle.results.specs.alone.Results.{FinalResult, StandsFor}
-use Rattle.results.specs.Results.{IsMachineResult}
-use Rattle.machine.specs.Machines.{MachineLists}
+use Rattle.local_reduction.specs.Results.{FinalResult, StandsFor}
+use Rattle.exploration.specs.Results.{IsMachineResult}
+use Rattle.machine_steps.specs.Machines.{MachineLists}
 use Rattle.exploration.specs.Endings.{AreResultsUpTo, IsStoodFor}
 
 -- An exchange of processors of one class leads from a result of the machine to another.

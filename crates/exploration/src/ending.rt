@@ -1,16 +1,16 @@
 //! The results of rows in which no processor runs.
 
 ghost use Rattle.std.specs.Prelude.{◌≡◌, ◌↔◌, ◌<◌, ◌≤◌, ℕ, All, Contains, length, map, slice_index, IfOk, IsTrue, OnOk};
-ghost use Rattle.results.specs.alone.Results.{HaveStopped, StandsFor, result_at, station_result};
+ghost use Rattle.local_reduction.specs.Results.{HaveStopped, StandsFor, result_at, station_result};
 ghost use Rattle.exploration.specs.Endings.{IsAdded, IsEnding, IsEndingAdded, IsOnce, IsStoodFor};
-ghost use Rattle.move_ranks.specs.Ranks.{no_rank};
-ghost use Rattle.station_search.specs.Ends.{AreRows};
-ghost use Rattle.station_search.specs.Search.{AreClasses, state_at};
-ghost use Rattle.station_search.specs.Tables.{IsRow, means, placed_at};
+ghost use Rattle.state_graph.specs.Ranks.{no_rank};
+ghost use Rattle.state_search.specs.Ends.{AreRows};
+ghost use Rattle.state_search.specs.Search.{AreClasses, state_at};
+ghost use Rattle.state_search.specs.Tables.{IsRow, means, placed_at};
 
 use crate::order::put_in_order;
 use crate::outcome::{FinalResult, ProcessorResult};
-use station_search::{Extent, Row, Tables};
+use state_search::{Extent, Row, Tables};
 use std::alloc::{AllocError, Global};
 
 /// Results, and the place of the row of each.

@@ -2,11 +2,11 @@
 
 ghost use Rattle.std.specs.Prelude.{◌≡◌, ◌≤◌, ◌^◌, map, IfOk};
 ghost use Rattle.std.specs.List.{range_with_len};
-ghost use Rattle.machine.specs.Machines.{AreHome};
-ghost use Rattle.machine.specs.machine_program.Processors.{port_at, word_at};
+ghost use Rattle.machine_steps.specs.Machines.{AreHome};
+ghost use Rattle.machine_steps.specs.machine_theory.Processors.{port_at, word_at};
 
 use hart::Core;
-use machine::Machine;
+use machine_steps::Machine;
 use std::alloc::{AllocError, Global};
 
 /// The cores of all processors, none of which is away.

@@ -3,7 +3,7 @@
 ghost use Rattle.std.specs.Prelude.{◌≡◌, ◌↔◌, ◌<◌, ℕ, slice_index, IsTrue};
 
 use flat_machine::Status;
-use move_ranks::Schedules;
+use state_graph::Schedules;
 use std::marker::Model;
 
 /// Where a processor has stopped, how, and the bytes that it has printed.
@@ -15,7 +15,7 @@ pub struct ProcessorResult {
 }
 
 impl Model for ProcessorResult {
-    ghost use Rattle.results.specs.alone.Results.{ProcessorResult as Contents};
+    ghost use Rattle.local_reduction.specs.Results.{ProcessorResult as Contents};
 
     ghost Value = { Contents };
 
@@ -35,7 +35,7 @@ pub struct FinalResult {
 impl Model for FinalResult {
     ghost use Rattle.std.specs.Prelude.{map, slice_index};
     ghost use Rattle.std.specs.List.{range_with_len};
-    ghost use Rattle.results.specs.alone.Results.{FinalResult as Contents};
+    ghost use Rattle.local_reduction.specs.Results.{FinalResult as Contents};
 
     ghost Value = { Contents };
 

@@ -2,7 +2,7 @@
 
 ghost use Rattle.std.specs.Prelude.{◌≡◌};
 
-use station_search::Refusal as SearchRefusal;
+use state_search::Refusal as SearchRefusal;
 
 /// Why a search is given up.
 #[derive(Clone, Copy, Debug, PartialEq, Eq, Drop)]

@@ -1,35 +1,34 @@
 //! The search of a machine.
 
 ghost use Rattle.std.specs.Prelude.{◌≡◌, ◌<◌, ◌≤◌, ◌^◌, ℕ, false, Contains, length, IfOk};
-ghost use Rattle.results.specs.alone.Results.{FinalResult, HaveStopped, IsFlatResult, StandsFor, result_at};
+ghost use Rattle.local_reduction.specs.Results.{FinalResult, HaveStopped, IsFlatResult, StandsFor, result_at};
 ghost use Rattle.exploration.specs.Endings.{AreSingle, IsEnding, IsOnce, IsStoodFor};
-ghost use Rattle.found_states.specs.Laws.{AreSchedulesOf};
-ghost use Rattle.live_registers.specs.Live.{HasAllLive};
-ghost use Rattle.machine.specs.Machines.{AreHome, IsIdle};
-ghost use Rattle.machine.specs.Openings.{flat_state};
-ghost use Rattle.move_ranks.specs.Ranks.{no_rank};
-ghost use Rattle.move_ranks.specs.Schedules.{AreTold};
-ghost use Rattle.results.specs.Results.{IsMachineResult};
-ghost use Rattle.station_search.specs.Ends.{AreRows};
-ghost use Rattle.station_search.specs.Memo.{KnowsLists, KnowsStations};
-ghost use Rattle.station_search.specs.Opening.{AreOfExtent, flat_of};
-ghost use Rattle.station_search.specs.Search.{AreClasses, state_at};
+ghost use Rattle.state_graph.specs.Laws.{AreSchedulesOf};
+ghost use Rattle.local_reduction.specs.Live.{HasAllLive};
+ghost use Rattle.machine_steps.specs.Machines.{AreHome, IsIdle};
+ghost use Rattle.machine_steps.specs.Openings.{flat_state};
+ghost use Rattle.state_graph.specs.Ranks.{no_rank};
+ghost use Rattle.state_graph.specs.Schedules.{AreTold};
+ghost use Rattle.exploration.specs.Results.{IsMachineResult};
+ghost use Rattle.state_search.specs.Ends.{AreRows};
+ghost use Rattle.state_search.specs.Memo.{KnowsLists, KnowsStations};
+ghost use Rattle.state_search.specs.Opening.{AreOfExtent, flat_of};
+ghost use Rattle.state_search.specs.Search.{AreClasses, state_at};
 
 use crate::ending::results_of;
 use crate::opening::{cores_of, words_of};
 use crate::outcome::Explored;
 use crate::refusal::Refusal;
+use crate::result_laws::results_are_those_of_the_flat_machine;
 use crate::way::{place_of, way_of};
-use found_states::{
-    all_stood_for_are_results, each_result_is_stood_for, successors_tell_of_schedules,
-};
 use hart::Core;
-use live_registers::{LiveTable, dead_registers_can_be_forgotten};
 use local_memory::Code;
-use machine::{Machine, machine_is_sound};
-use move_ranks::schedules_of;
-use results::results_are_those_of_the_flat_machine;
-use station_search::{
+use local_reduction::{LiveTable, dead_registers_can_be_forgotten};
+use machine_steps::{Machine, machine_is_sound};
+use state_graph::{
+    all_stood_for_are_results, each_result_is_stood_for, schedules_of, successors_tell_of_schedules,
+};
+use state_search::{
     Extent, Found, Memos, Refusal as SearchRefusal, Tables, Watch, classes_of, search,
 };
 use std::alloc::Global;

@@ -1,15 +1,15 @@
 //! The way to a state that is found, by the processors whose references lead there.
 
 ghost use Rattle.std.specs.Prelude.{◌≡◌, ◌<◌, ◌≤◌, length, OnOk};
-ghost use Rattle.live_registers.specs.Live.{HasAllLive};
-ghost use Rattle.station_search.specs.Ends.{AreRows};
-ghost use Rattle.station_search.specs.Memo.{KnowsLists, KnowsStations};
-ghost use Rattle.station_search.specs.Search.{AreClasses};
+ghost use Rattle.local_reduction.specs.Live.{HasAllLive};
+ghost use Rattle.state_search.specs.Ends.{AreRows};
+ghost use Rattle.state_search.specs.Memo.{KnowsLists, KnowsStations};
+ghost use Rattle.state_search.specs.Search.{AreClasses};
 
 use crate::ending::result_of;
 use local_memory::Code;
-use move_ranks::{Schedules, path_to};
-use station_search::{Extent, Found, Memos, Refusal, Tables, movers_of};
+use state_graph::{Schedules, path_to};
+use state_search::{Extent, Found, Memos, Refusal, Tables, movers_of};
 use std::alloc::Global;
 
 /// The place of the row that is wanted, if it is there.

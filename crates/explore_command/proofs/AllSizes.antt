@@ -1,7 +1,6 @@
 -- The lines of one size more, and why a size is not explored.
 use Rattle.std.proofs.Common.{◌≡◌, ◌⊎◌, inl, inr, ℕ, ◌+◌, ◌<◌, ◌≤◌, zero, suc, max, Bool, cond, eqb, List, [], ◌++◌}
-use Rattle.std.proofs.Common.{Option, Some, None}
-use Rattle.std.proofs.Common.{append_assoc, eq-eqb, ne_eqb, refl, sym, ap, ap₂, subst, ◌∙◌, arith}
+use Rattle.std.proofs.Common.{Option, Some, None, append_assoc, eq-eqb, ne_eqb, refl, sym, ap, ap₂, subst, ◌∙◌, arith}
 use Rattle.std.specs.Io.KnownBytes.{Appends}
 use Rattle.std.proofs.lemmas.Bool.{cases_eq}
 use Rattle.std.proofs.lemmas.List.{append-nil}
@@ -12,7 +11,7 @@ use Rattle.link.specs.Transfer.{EndsInTheRest}
 use Rattle.command_io.specs.declared.fault.Fault.{Fault}
 use Rattle.command_io.specs.declared.fault.Fault.TheVariants as fault
 use Rattle.command_io.specs.Printing.{IsPrinted}
-use Rattle.accounts.specs.Causes.{IsFaultOfSize}
+use Rattle.command_io.specs.Files.{IsFaultOfSize}
 use Rattle.explore_command.specs.Causes.{IsNotSearched, Opens}
 use Rattle.explore_command.specs.Sizes.{IsSizeTold, IsSizeRefused, IsSizeNotPrinted, first_sizes, greatest_exit}
 use Rattle.explore_command.specs.Sizes.{AreSizesTold, AreSizesPrinted, AreSizesNotPrinted, IsEveryRefused, sizes}

@@ -5,7 +5,7 @@ use Rattle.std.specs.Prelude.{Contains, slice_index_or}
 use Rattle.std.proofs.lemmas.Bool.{cases_lt, lt-ltb, le-ltb}
 use Rattle.std.proofs.lemmas.List.Elements.{Contains-append_left, Contains-push, Contains-push_cases}
 use Rattle.flat_machine.specs.declared.event.Status.{Status}
-use Rattle.exploration.specs.alone.Results.{FinalResult, ProcessorResult}
+use Rattle.exploration.specs.local_reduction.Results.{FinalResult, ProcessorResult}
 use Rattle.explore_command.specs.Sizes.{rank_of_status, greater, HasStatusWith, IsGreatestWith, HasStatus, IsGreatestStatus}
 
 -- one more is taken

@@ -3,8 +3,8 @@ use Rattle.std.proofs.Common.{◌≡◌, ℕ, ◌+◌, ◌≤◌, zero, suc, Lis
 use Rattle.std.specs.Prelude.{slice_index}
 use Rattle.std.specs.List.{range_with_len}
 use Rattle.std.proofs.lemmas.List.FromFn.{length-map-range_with_len, get_or-map-range_with_len}
-use Rattle.exploration.specs.alone.Results.{ProcessorResult, FinalResult}
-use Rattle.run_report.specs.Lines.{word_lines}
+use Rattle.exploration.specs.local_reduction.Results.{ProcessorResult, FinalResult}
+use Rattle.command_io.specs.Lines.{word_lines}
 use Rattle.explore_command.specs.Lines.{shared_lines}
 
 module _ (words : List ℕ) (count : ℕ) where

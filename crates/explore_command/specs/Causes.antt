@@ -4,24 +4,24 @@ use Rattle.flat_machine.specs.declared.config.Config.{Config}
 use Rattle.flat_machine.specs.Limits.{IsWithinLimits}
 use Rattle.elf_image.specs.Files.{IsImageOf, IsImageRefusal}
 use Rattle.elf_image.specs.Images.{ImageContents}
-use Rattle.result_witness.specs.steps.declared.step.Step.{Step}
-use Rattle.result_witness.specs.trace_file.declared.error.TraceError.TheVariants as of_trace
-use Rattle.result_witness.specs.trace_file.Traces.{trace_bytes, trace_of}
-use Rattle.machine_runs.specs.Machines.{MachineLists}
-use Rattle.machine_runs.specs.Runs.{IsOpening}
-use Rattle.machine_runs.specs.machine.Openings.{flat_state}
+use Rattle.steps.specs.declared.step.Step.{Step}
+use Rattle.trace_file.specs.declared.error.TraceError.TheVariants as of_trace
+use Rattle.trace_file.specs.Traces.{trace_bytes, trace_of}
+use Rattle.machine_steps.specs.Machines.{MachineLists}
+use Rattle.machine_steps.specs.Runs.{IsOpening}
+use Rattle.machine_steps.specs.Openings.{flat_state}
 use Rattle.command_io.specs.declared.fault.Fault.{Fault}
 use Rattle.command_io.specs.declared.fault.Fault.TheVariants as fault
 use Rattle.command_io.specs.Faults.{status_of_fault}
 use Rattle.command_io.specs.Printing.{IsPartPrinted}
-use Rattle.accounts.specs.Accounts.{IsPartSaved}
-use Rattle.exploration.specs.alone.Results.{FinalResult}
-use Rattle.exploration.specs.move_ranks.declared.schedules.Schedules.{Schedules}
-use Rattle.exploration.specs.found_states.Laws.{AreSchedulesOf}
-use Rattle.result_witness.specs.declared.refused.Refused.{Refused}
-use Rattle.result_witness.specs.declared.refused.Refused.TheVariants as refused
-use Rattle.result_witness.specs.Refusals.{HasWitness}
-use Rattle.result_witness.specs.Witnesses.{IsWitness}
+use Rattle.trace_commands.specs.Accounts.{IsPartSaved}
+use Rattle.exploration.specs.local_reduction.Results.{FinalResult}
+use Rattle.exploration.specs.state_graph.declared.schedules.Schedules.{Schedules}
+use Rattle.exploration.specs.state_graph.Laws.{AreSchedulesOf}
+use Rattle.explore_command.specs.declared.refused.Refused.{Refused}
+use Rattle.explore_command.specs.declared.refused.Refused.TheVariants as refused
+use Rattle.explore_command.specs.Refusals.{HasWitness}
+use Rattle.explore_command.specs.Witnesses.{IsWitness}
 use Rattle.explore_command.specs.Explorations.{AreResultsOf, PrintsSomeResults}
 
 -- the exit status that tells why

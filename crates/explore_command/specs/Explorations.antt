@@ -3,19 +3,19 @@ use Rattle.std.specs.Prelude.{◌≡◌, ℕ, ◌^◌, Bool, true, List, Option,
 use Rattle.flat_machine.specs.declared.config.Config.{Config}
 use Rattle.elf_image.specs.Files.{IsImageOf}
 use Rattle.elf_image.specs.Images.{ImageContents}
-use Rattle.result_witness.specs.steps.declared.step.Step.{Step}
-use Rattle.result_witness.specs.trace_file.Traces.{trace_bytes, trace_of}
-use Rattle.machine_runs.specs.Machines.{MachineLists}
-use Rattle.machine_runs.specs.Runs.{IsOpening}
-use Rattle.machine_runs.specs.machine.Openings.{flat_state}
-use Rattle.machine_runs.specs.Standing.{IsFaulted}
-use Rattle.accounts.specs.Accounts.{IsSaved}
-use Rattle.exploration.specs.alone.Results.{ProcessorResult, FinalResult}
+use Rattle.steps.specs.declared.step.Step.{Step}
+use Rattle.trace_file.specs.Traces.{trace_bytes, trace_of}
+use Rattle.machine_steps.specs.Machines.{MachineLists}
+use Rattle.machine_steps.specs.Runs.{IsOpening}
+use Rattle.machine_steps.specs.Openings.{flat_state}
+use Rattle.machine_steps.specs.Standing.{IsFaulted}
+use Rattle.trace_commands.specs.Accounts.{IsSaved}
+use Rattle.exploration.specs.local_reduction.Results.{ProcessorResult, FinalResult}
 use Rattle.exploration.specs.Endings.{AreResultsUpTo, AreSingle, IsOnce}
-use Rattle.exploration.specs.move_ranks.declared.schedules.Schedules.{Schedules}
-use Rattle.exploration.specs.move_ranks.declared.schedules.Schedules.TheVariants as told
-use Rattle.exploration.specs.found_states.Laws.{AreSchedulesOf}
-use Rattle.result_witness.specs.Witnesses.{IsWitness}
+use Rattle.exploration.specs.state_graph.declared.schedules.Schedules.{Schedules}
+use Rattle.exploration.specs.state_graph.declared.schedules.Schedules.TheVariants as told
+use Rattle.exploration.specs.state_graph.Laws.{AreSchedulesOf}
+use Rattle.explore_command.specs.Witnesses.{IsWitness}
 use Rattle.explore_command.specs.Lines.{results_lines}
 
 -- ---- what is printed

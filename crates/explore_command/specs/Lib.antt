@@ -2,3 +2,5 @@ pub mod Lines
 pub mod Explorations
 pub mod Causes
 pub mod Sizes
+pub mod Witnesses
+pub mod Refusals

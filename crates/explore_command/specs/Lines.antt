@@ -1,14 +1,12 @@
 -- The lines of final results.
-use Rattle.std.specs.Prelude.{ℕ, zero, suc, ◌+◌, ◌==◌, nat_lt, Bool, false, List, [], ◌++◌, codes, length, slice_index}
-use Rattle.std.specs.Prelude.{slice_index_or}
-use Rattle.std.specs.Prelude.{if◌then◌else◌}
+use Rattle.std.specs.Prelude.{ℕ, zero, suc, ◌+◌, ◌==◌, nat_lt, Bool, false, List, [], ◌++◌, codes, length, slice_index, slice_index_or, if◌then◌else◌}
 use Rattle.std.specs.Fmt.{decimal}
 use Rattle.flat_machine.specs.declared.event.Status.TheVariants.{Running}
 use Rattle.command_io.specs.Digits.{hex_of_word, line_feed, status_text}
-use Rattle.run_report.specs.Lines.{console_text, word_lines}
-use Rattle.exploration.specs.alone.Results.{ProcessorResult, FinalResult}
-use Rattle.exploration.specs.move_ranks.declared.schedules.Schedules.{Schedules}
-use Rattle.exploration.specs.move_ranks.declared.schedules.Schedules.TheVariants as told
+use Rattle.command_io.specs.Lines.{console_text, word_lines}
+use Rattle.exploration.specs.local_reduction.Results.{ProcessorResult, FinalResult}
+use Rattle.exploration.specs.state_graph.declared.schedules.Schedules.{Schedules}
+use Rattle.exploration.specs.state_graph.declared.schedules.Schedules.TheVariants as told
 
 -- ---- a result
 

@@ -1,6 +1,6 @@
 -- What is told of every size of a machine.
-use Rattle.std.specs.Prelude.{if◌then◌else◌, nat_lt, ◌≡◌, ◌⊎◌, ℕ, zero, suc, ◌+◌, ◌<◌, ◌≤◌, ◌^◌, max, Bool, List, []}
-use Rattle.std.specs.Prelude.{◌++◌, Option, Some, None, Contains, codes, length}
+use Rattle.std.specs.Prelude.{if◌then◌else◌, nat_lt, ◌≡◌, ◌⊎◌, ℕ, zero, suc, ◌+◌, ◌<◌, ◌≤◌, ◌^◌, max}
+use Rattle.std.specs.Prelude.{Bool, List, [], ◌++◌, Option, Some, None, Contains, codes, length}
 use Rattle.std.specs.Fmt.{decimal}
 use Rattle.flat_machine.specs.declared.config.Config.{Config}
 use Rattle.flat_machine.specs.declared.event.Status.{Status}
@@ -14,8 +14,8 @@ use Rattle.command_io.specs.declared.fault.Fault.TheVariants as fault
 use Rattle.command_io.specs.Digits.{line_feed, status_text}
 use Rattle.command_io.specs.Faults.{status_of_fault}
 use Rattle.command_io.specs.Printing.{IsPartPrinted, IsPrinted}
-use Rattle.exploration.specs.alone.Results.{FinalResult, ProcessorResult}
-use Rattle.exploration.specs.move_ranks.declared.schedules.Schedules.{Schedules}
+use Rattle.exploration.specs.local_reduction.Results.{FinalResult, ProcessorResult}
+use Rattle.exploration.specs.state_graph.declared.schedules.Schedules.{Schedules}
 use Rattle.explore_command.specs.Causes.{Opens}
 use Rattle.explore_command.specs.Explorations.{Explorations, IsExitOf}
 use Rattle.explore_command.specs.Lines.{counted, schedules_text}

@@ -3,8 +3,7 @@
 ghost use Rattle.std.specs.Prelude.{◌≡◌, ◌++◌, ◌<◌, length, OnOk, string_bytes};
 ghost use Rattle.std.specs.Fmt.{decimal};
 ghost use Rattle.explore_command.specs.Lines.{class_at, class_line, class_lines, class_text, is_of, is_of_before};
-ghost use Rattle.explore_command.specs.Lines.{member_text};
-ghost use Rattle.explore_command.specs.Lines.{members_of, members_text, separator};
+ghost use Rattle.explore_command.specs.Lines.{member_text, members_of, members_text, separator};
 
 use std::alloc::AllocError;
 use std::fmt::Write;

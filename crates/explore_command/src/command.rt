@@ -2,16 +2,16 @@
 
 ghost use Rattle.std.specs.Prelude.{◌≡◌, ◌≤◌, ◌↔◌, true, false, IfOk, IfErr, IsErrOf, OnErr};
 ghost use Rattle.command_io.specs.Printing.{IsPrinted};
-ghost use Rattle.accounts.specs.Accounts.{IsWorking};
+ghost use Rattle.trace_commands.specs.Accounts.{IsWorking};
 ghost use Rattle.explore_command.specs.Causes.{IsRefused, IsToldAs, status_of};
 ghost use Rattle.explore_command.specs.Explorations.{PrintsResults};
 
+use crate::refused::Refused;
 use crate::searching::explored;
 use command_io::{Fault, REFUSED, SPENT, image_of, print, tell};
 use exploration::Watch;
 use flat_machine::Config;
 use link::LinkWrite;
-use result_witness::Refused;
 use std::alloc::Global;
 use std::io::{Read, Write};
 

@@ -2,13 +2,11 @@
 
 ghost use Rattle.std.specs.Prelude.{◌≡◌, ◌+◌, ◌++◌, ◌<◌, ◌^◌, codes, length, slice_index, IfOk, OnOk, string_bytes};
 ghost use Rattle.std.specs.Fmt.{decimal};
-ghost use Rattle.explore_command.specs.Lines.{counted, processor_line, processor_lines, result_lines, results_lines};
-ghost use Rattle.explore_command.specs.Lines.{schedules_text, shared_lines};
+ghost use Rattle.explore_command.specs.Lines.{counted, processor_line, processor_lines, result_lines, results_lines, schedules_text, shared_lines};
 
 use crate::classes::push_classes;
-use command_io::{push_status, push_word};
+use command_io::{push_console, push_shared_word, push_status, push_word};
 use exploration::{FinalResult, ProcessorResult, Schedules};
-use run_report::{push_console, push_shared_word};
 use std::alloc::{AllocError, Global};
 use std::fmt::Write;
 

@@ -1,27 +1,28 @@
 //! The search, its lines and its witness.
 
 ghost use Rattle.std.specs.Prelude.{◌≡◌, ◌≤◌, ◌^◌, false, not, IfOk, IfErr, OnOk, string_bytes};
-ghost use Rattle.machine_runs.specs.machine.Openings.{flat_state};
-ghost use Rattle.machine_runs.specs.Machines.{AreHome, IsIdle};
-ghost use Rattle.machine_runs.specs.Runs.{IsOpening};
+ghost use Rattle.machine_steps.specs.Openings.{flat_state};
+ghost use Rattle.machine_steps.specs.Machines.{AreHome, IsIdle};
+ghost use Rattle.machine_steps.specs.Runs.{IsOpening};
 ghost use Rattle.exploration.specs.Endings.{AreSingle};
-ghost use Rattle.exploration.specs.found_states.Laws.{AreSchedulesOf};
-ghost use Rattle.accounts.specs.Accounts.{IsWorking};
+ghost use Rattle.exploration.specs.state_graph.Laws.{AreSchedulesOf};
+ghost use Rattle.trace_commands.specs.Accounts.{IsWorking};
 ghost use Rattle.explore_command.specs.Causes.{IsNotFound, IsNotSaved, IsNotSearched};
 ghost use Rattle.explore_command.specs.Explorations.{AreExplored, AreResultsOf, IsWitnessed};
 
 use crate::command::Asked;
 use crate::lines::results_text;
+use crate::refused::Refused;
 use crate::status::exit_status;
-use accounts::{machine_of, save};
-use command_io::Fault;
+use crate::witness::witness_of;
+use command_io::{Fault, machine_of};
 use elf_image::Image;
 use exploration::{Explored, Refusal, Search, Watch, explore};
 use flat_machine::Config;
 use link::LinkWrite;
-use machine_runs::Machine;
-use result_witness::{Refused, witness_of};
+use machine_steps::Machine;
 use std::alloc::Global;
+use trace_commands::save;
 
 /// The lines of the results, and the exit status. Where a trace is asked for, that of a witness is written.
 pub(crate) fn explored<T: LinkWrite, G: Watch>(

@@ -4,17 +4,16 @@ ghost use Rattle.std.specs.Prelude.{◌≡◌, ◌⊎◌, ◌++◌, ◌≤◌, f
 ghost use Rattle.command_io.specs.Printing.{IsPrinted};
 ghost use Rattle.explore_command.specs.Explorations.{IsFound};
 ghost use Rattle.explore_command.specs.Sizes.{AreSizesNotPrinted, AreSizesPrinted, IsEveryRefused, IsEveryTold};
-ghost use Rattle.explore_command.specs.Sizes.{IsGreatestStatus, IsSizeRefused};
-ghost use Rattle.explore_command.specs.Sizes.{IsSizeNotPrinted, IsSizeTold, PrintsEverySize, greatest_text};
-ghost use Rattle.explore_command.specs.Sizes.{refusal_text, refused_line, size_line, size_text, sizes};
+ghost use Rattle.explore_command.specs.Sizes.{IsGreatestStatus, IsSizeRefused, IsSizeNotPrinted, IsSizeTold};
+ghost use Rattle.explore_command.specs.Sizes.{PrintsEverySize, greatest_text, refusal_text, refused_line};
+ghost use Rattle.explore_command.specs.Sizes.{size_line, size_text, sizes};
 
 use crate::command::Asked;
 use crate::greatest::greatest_status;
 use crate::lines::{push_count, push_schedules};
 use crate::searching::{found, search_of};
 use crate::status::exit_status;
-use accounts::opened;
-use command_io::{Fault, image_of, print, push_status, tell};
+use command_io::{Fault, image_of, opened, print, push_status, tell};
 use elf_image::Image;
 use exploration::{Explored, Watch};
 use flat_machine::{Config, Status};

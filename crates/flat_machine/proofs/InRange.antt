@@ -1,6 +1,6 @@
 -- Words stay words, in a turn, a step and a run.
-use Rattle.std.proofs.Common.{◌≡◌, ℕ, ◌*◌, ◌+◌, ◌-◌, ◌/◌, ◌%◌, ◌^◌, ◌<◌, ◌≤◌, Bool, true, false, cond, eqb, List, [], ◌∷◌, Option, Some, None, Result, Ok, Err}
-use Rattle.std.proofs.Common.{length, refl, arith}
+use Rattle.std.proofs.Common.{◌≡◌, ℕ, ◌*◌, ◌+◌, ◌-◌, ◌/◌, ◌%◌, ◌^◌, ◌<◌, ◌≤◌, Bool, true, false, cond, eqb}
+use Rattle.std.proofs.Common.{List, [], ◌∷◌, Option, Some, None, Result, Ok, Err, length, refl, arith}
 use Rattle.std.specs.Prelude.{All, not, slice_get, slice_index, slice_set}
 use Rattle.std.proofs.lemmas.List.{length-set}
 use Rattle.std.proofs.lemmas.List.Elements.{All-head, All-set, All-tail}
@@ -26,8 +26,8 @@ use Rattle.flat_machine.specs.Operations.{amo_value, load_size, loaded, store_si
 use Rattle.flat_machine.specs.Memory.{in_code, number_at, region_of, with_number}
 use Rattle.flat_machine.specs.Effects.{effect_of, with_register}
 use Rattle.flat_machine.specs.Turns.{Turn, Retires, Reaches, Stops, accessed, fetched, found, gone_to, next_pc, performed, retired_writing, turn_by, turn_of}
-use Rattle.flat_machine.specs.Flat.{flat_run, flat_step, is_lawful, poked, step_of, taken, turned, with_poked_byte, with_poked_register, with_processor}
-use Rattle.flat_machine.specs.Flat.{with_taken, written}
+use Rattle.flat_machine.specs.Flat.{flat_run, flat_step, is_lawful, poked, step_of, taken, turned, with_poked_byte}
+use Rattle.flat_machine.specs.Flat.{with_poked_register, with_processor, with_taken, written}
 use Rattle.flat_machine.specs.Laws.{AreBelow, AsksForWords, HasWords, IsInRange, LeavesWords, WritesWords}
 use Rattle.flat_machine.proofs.Accesses.{load_inside, number_small, part_small, set_below, shared_region, store_inside, with_number_below, with_part_small}
 use Rattle.flat_machine.proofs.Kept.{all_get}

@@ -1,5 +1,6 @@
 -- Facts of processors that a whole run keeps.
-use Rattle.std.proofs.Common.{◌≡◌, ◌≢◌, ℕ, ◌+◌, ◌%◌, ◌^◌, Bool, true, false, cond, eqb, zero, suc, ◌<◌, ◌≤◌, List, [], ◌∷◌, Option, Some, None, Result, Ok}
+use Rattle.std.proofs.Common.{◌≡◌, ◌≢◌, ℕ, ◌+◌, ◌%◌, ◌^◌, Bool, true, false, cond, eqb, zero}
+use Rattle.std.proofs.Common.{suc, ◌<◌, ◌≤◌, List, [], ◌∷◌, Option, Some, None, Result, Ok}
 use Rattle.std.proofs.Common.{Err, length, refl, sym, ap, subst, ◌∙◌, arith, rules}
 use Rattle.std.specs.Prelude.{All, slice_get, slice_set, slice_index, nat_le, nat_lt, ◌&&◌, ◌||◌}
 use Rattle.std.proofs.lemmas.List.Elements.{All-set}
@@ -26,8 +27,9 @@ use Rattle.flat_machine.specs.Operations.{load_size, loaded, store_size, amo_val
 use Rattle.flat_machine.specs.Memory.{region_of}
 use Rattle.flat_machine.specs.Effects.{effect_of, with_register}
 use Rattle.flat_machine.specs.Turns.{Turn, Retires, Reaches, Stops, turn_of, turn_by, performed, accessed, fetched, gone_to, next_pc, retired_writing}
-use Rattle.flat_machine.specs.Flat.{taken, with_taken, step_of, turned, flat_step, flat_run, poked, written, is_lawful, is_lawful_register}
-use Rattle.flat_machine.specs.Flat.{with_poked_register, with_poked_byte, with_processor}
+use Rattle.flat_machine.specs.Flat.{taken, with_taken, step_of, turned, flat_step, flat_run, poked, written}
+use Rattle.flat_machine.specs.Flat.{is_lawful, is_lawful_register, with_poked_register, with_poked_byte}
+use Rattle.flat_machine.specs.Flat.{with_processor}
 use Rattle.flat_machine.specs.Laws.{HasZero, HasAlignedPc}
 
 -- what holds of all holds of the one at a place

@@ -1,6 +1,6 @@
 -- What the laws of the flat machine speak of.
-use Rattle.std.specs.Prelude.{◌≡◌, ◌≢◌, ℕ, ◌+◌, ◌-◌, ◌*◌, ◌%◌, ◌^◌, ◌<◌, ◌≤◌, pos, ◌+ℤ◌, ◌*ℤ◌, unsigned_abs, true, false, Option, Some, None, List, All}
-use Rattle.std.specs.Prelude.{length, slice_get, slice_index, slice_set}
+use Rattle.std.specs.Prelude.{◌≡◌, ◌≢◌, ℕ, ◌+◌, ◌-◌, ◌*◌, ◌%◌, ◌^◌, ◌<◌, ◌≤◌, pos, ◌+ℤ◌, ◌*ℤ◌, unsigned_abs, true}
+use Rattle.std.specs.Prelude.{false, Option, Some, None, List, All, length, slice_get, slice_index, slice_set}
 use Rattle.std.specs.Int.{w64, cast_signed, is_negative}
 use Rattle.rv_table.specs.declared.insn.Insn.{Insn}
 use Rattle.rv_table.specs.declared.operation.RegisterOp.TheVariants as reg

@@ -1,6 +1,6 @@
 -- Memory: bytes of a region as numbers, and where an address lies.
-use Rattle.std.specs.Prelude.{ℕ, zero, suc, ◌+◌, ◌-◌, ◌*◌, ◌/◌, ◌%◌, ◌^◌, Bool, ◌==◌, ◌&&◌, not, List, Result, Ok, Err, nat_lt, nat_le, slice_index, slice_set}
-use Rattle.std.specs.Prelude.{if◌then◌else◌}
+use Rattle.std.specs.Prelude.{ℕ, zero, suc, ◌+◌, ◌-◌, ◌*◌, ◌/◌, ◌%◌, ◌^◌, Bool, ◌==◌, ◌&&◌, not, List}
+use Rattle.std.specs.Prelude.{Result, Ok, Err, nat_lt, nat_le, slice_index, slice_set, if◌then◌else◌}
 use Rattle.flat_machine.specs.declared.fault.Fault.{Fault}
 use Rattle.flat_machine.specs.declared.fault.Fault.TheVariants.{AddressNotAligned, NoRegion, StoreToCode}
 use Rattle.flat_machine.specs.declared.effect.Region.{Region}

@@ -2,8 +2,9 @@
 use Rattle.std.specs.Prelude.{ℕ, Bool, true, false, List, length}
 use Rattle.flat_machine.specs.declared.setting.Setting.{Setting}
 use Rattle.flat_machine.specs.declared.fault.Fault.{Fault}
-use Rattle.flat_machine.specs.declared.fault.Fault.TheVariants.{NoRow, FetchOutsideCode, TargetNotAligned, AddressNotAligned, NoRegion, StoreToCode}
-use Rattle.flat_machine.specs.declared.fault.Fault.TheVariants.{UnknownCall, Breakpoint}
+use Rattle.flat_machine.specs.declared.fault.Fault.TheVariants.{NoRow, FetchOutsideCode, TargetNotAligned}
+use Rattle.flat_machine.specs.declared.fault.Fault.TheVariants.{AddressNotAligned, NoRegion, StoreToCode, UnknownCall}
+use Rattle.flat_machine.specs.declared.fault.Fault.TheVariants.{Breakpoint}
 use Rattle.flat_machine.specs.declared.event.Status.{Status}
 use Rattle.flat_machine.specs.declared.event.Status.TheVariants.{Running, Halted, Faulted}
 use Rattle.flat_machine.specs.declared.event.Cause.{Cause}

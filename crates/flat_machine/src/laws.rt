@@ -4,10 +4,11 @@ ghost use Rattle.std.specs.Prelude.{◌≡◌, ◌≢◌, ℕ, ◌++◌, List, A
 ghost use Rattle.flat_machine.specs.declared.poke.Entry.{Entry};
 ghost use Rattle.flat_machine.specs.State.{FlatState, Processor, is_running};
 ghost use Rattle.flat_machine.specs.Flat.{flat_step, flat_run, flat_events};
-ghost use Rattle.flat_machine.specs.Laws.{ChangesOneWord, HasAlignedPc, HasZero, IsInRange, LocalTurnsCommute, StopChangesStatus, WritesWords};
-ghost use Rattle.flat_machine.specs.Laws.{EffectsAskForWords, TurnsLeaveWords};
-ghost use Rattle.flat_machine.specs.Laws.{NaturalHalves, SignedHalves, MixedHalves, NaturalDivision, SignedDivision, WordDivision};
-ghost use Rattle.flat_machine.specs.Laws.{RemainderIsNearer, RemainderHasTheSign, DivisionByZero, DivisionOverflow};
+ghost use Rattle.flat_machine.specs.Laws.{ChangesOneWord, HasAlignedPc, HasZero, IsInRange, LocalTurnsCommute};
+ghost use Rattle.flat_machine.specs.Laws.{StopChangesStatus, WritesWords, EffectsAskForWords, TurnsLeaveWords};
+ghost use Rattle.flat_machine.specs.Laws.{NaturalHalves, SignedHalves, MixedHalves, NaturalDivision, SignedDivision};
+ghost use Rattle.flat_machine.specs.Laws.{WordDivision, RemainderIsNearer, RemainderHasTheSign, DivisionByZero};
+ghost use Rattle.flat_machine.specs.Laws.{DivisionOverflow};
 
 /// Register 0 always holds 0.
 #[tactic(auto, using(crate::proofs::Kept::zero_kept))]

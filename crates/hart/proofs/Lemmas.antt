@@ -2,5 +2,6 @@
 
 -- References to shared words: they are aligned, and a whole word is its own part.
 pub use Rattle.hart.proofs.References.{whole_change}
--- Lemmas of lower crates, passed on to those above.
-pub use Rattle.phi_instructions.proofs.Lemmas as phi_instructions
+-- The function of the table means what the instruction does to the word.
+pub use Rattle.hart.proofs.Meanings.{add_meaning, amo_small, and_meaning, load_meaning, max_meaning, maxu_meaning}
+pub use Rattle.hart.proofs.Meanings.{min_meaning, minu_meaning, or_meaning, store_meaning, swap_meaning, xor_meaning}

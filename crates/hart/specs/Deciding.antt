@@ -1,7 +1,7 @@
 -- What a decision says of a turn.
 use Rattle.std.specs.Prelude.{◌≡◌, ℕ, ◌+◌, ◌%◌, ◌^◌, ◌<◌, ◌≤◌, Option, Some, None}
 use Rattle.phi_algebra.specs.Functions.{apply}
-use Rattle.phi_instructions.specs.Table.{load_phi, store_phi, amo_phi}
+use Rattle.hart.specs.Table.{load_phi, store_phi, amo_phi}
 use Rattle.flat_machine.specs.declared.effect.Effect.{Effect}
 use Rattle.flat_machine.specs.declared.effect.Effect.TheVariants as does
 use Rattle.flat_machine.specs.declared.effect.Region.{Region}

@@ -1,3 +1,7 @@
 pub mod Noting
-pub mod Running
+pub mod RunsOfSchedules
 pub mod Gathering
+pub mod Plans
+pub mod Asking
+pub mod Recorded
+pub mod OneRun

@@ -1,6 +1,6 @@
 -- A result that is noted: the place that is looked for, and that none came more often than results were noted.
-use Rattle.std.proofs.Common.{◌≡◌, ℕ, ◌+◌, ◌<◌, ◌≤◌, Bool, true, false, List, [], ◌∷◌, ◌++◌, drop, length, take, sym, ap, ◌∙◌}
-use Rattle.std.proofs.Common.{arith, append_assoc, slice_index_or}
+use Rattle.std.proofs.Common.{◌≡◌, ℕ, ◌+◌, ◌<◌, ◌≤◌, Bool, true, false, List, [], ◌∷◌, ◌++◌, drop}
+use Rattle.std.proofs.Common.{length, take, sym, ap, ◌∙◌, arith, append_assoc, slice_index_or}
 use Rattle.std.specs.Prelude.{All, bytes_eq, if◌then◌else◌, slice_set, suc}
 use Rattle.std.proofs.Math.Seq.{drop-cons}
 use Rattle.std.proofs.lemmas.List.{append-nil, drop_all, take_all, take_more}

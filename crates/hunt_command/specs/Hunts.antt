@@ -7,18 +7,18 @@ use Rattle.elf_image.specs.Files.{IsImageOf, IsImageRefusal}
 use Rattle.elf_image.specs.Images.{ImageContents}
 use Rattle.trace_file.specs.declared.error.TraceError.TheVariants as of_trace
 use Rattle.trace_file.specs.Traces.{IsTrace, trace_bytes, trace_of}
-use Rattle.machine_runs.specs.Machines.{MachineLists}
-use Rattle.machine_runs.specs.Runs.{IsOpening}
+use Rattle.machine_steps.specs.Machines.{MachineLists}
+use Rattle.machine_steps.specs.Runs.{IsOpening}
 use Rattle.machine_log.specs.Logs.{Log}
-use Rattle.machine_sweep.specs.Sweeps.{most_of}
-use Rattle.machine_sweep.specs.declared.sweeping.SweepEnd.{SweepEnd}
-use Rattle.random_runs.specs.Runs.{IsRandomRun}
+use Rattle.schedules.specs.Sweeps.{most_of}
+use Rattle.schedules.specs.declared.sweeping.SweepEnd.{SweepEnd}
+use Rattle.hunt_command.specs.Runs.{IsRandomRun}
 use Rattle.command_io.specs.declared.fault.Fault.{Fault}
 use Rattle.command_io.specs.declared.fault.Fault.TheVariants as fault
 use Rattle.command_io.specs.Printing.{IsPartPrinted}
-use Rattle.run_report.specs.Tallies.{TallyState}
-use Rattle.accounts.specs.Reports.{IsExitOf}
-use Rattle.accounts.specs.Retaking.{IsRetaken}
+use Rattle.command_io.specs.Tallies.{TallyState}
+use Rattle.trace_commands.specs.Reports.{IsExitOf}
+use Rattle.trace_commands.specs.Retaking.{IsRetaken}
 use Rattle.hunt_command.specs.declared.command.Hunt.{Hunt}
 use Rattle.hunt_command.specs.Findings.{FindingState, findings_lines, noted}
 use Rattle.hunt_command.specs.Lines.{result_of}

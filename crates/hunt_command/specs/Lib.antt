@@ -1,3 +1,5 @@
 pub mod Lines
 pub mod Findings
 pub mod Hunts
+pub mod Schedules
+pub mod Runs

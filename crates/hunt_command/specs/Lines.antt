@@ -2,14 +2,14 @@
 use Rattle.std.specs.Prelude.{ℕ, zero, suc, ◌^◌, List, [], ◌++◌, codes, slice_index_or}
 use Rattle.std.specs.Fmt.{decimal}
 use Rattle.flat_machine.specs.declared.event.Status.{Status}
-use Rattle.machine_runs.specs.Machines.{MachineLists}
-use Rattle.machine_runs.specs.Standing.{processor_of}
-use Rattle.machine_sweep.specs.declared.sweeping.SweepEnd.{SweepEnd}
-use Rattle.machine_sweep.specs.declared.sweeping.SweepEnd.TheVariants.{Over, Budget}
+use Rattle.machine_steps.specs.Machines.{MachineLists}
+use Rattle.machine_steps.specs.Standing.{processor_of}
+use Rattle.schedules.specs.declared.sweeping.SweepEnd.{SweepEnd}
+use Rattle.schedules.specs.declared.sweeping.SweepEnd.TheVariants.{Over, Budget}
 use Rattle.command_io.specs.Digits.{line_feed, status_text}
-use Rattle.run_report.specs.Lines.{console_text}
-use Rattle.run_report.specs.Tallies.{ShownBy, nothing_shown}
-use Rattle.accounts.specs.Reports.{shared_lines}
+use Rattle.command_io.specs.Lines.{console_text}
+use Rattle.command_io.specs.Tallies.{ShownBy, nothing_shown}
+use Rattle.trace_commands.specs.Reports.{shared_lines}
 
 -- how a run ended
 abbrev pub end_line : SweepEnd → List ℕ

@@ -2,19 +2,18 @@
 
 ghost use Rattle.std.specs.Prelude.{◌≡◌, ◌<◌, ◌++◌, ◌^◌, codes, IfOk, OnOk, length, slice_index_or, string_bytes};
 ghost use Rattle.std.specs.Fmt.{decimal};
-ghost use Rattle.run_report.specs.Tallies.{nothing_shown};
-ghost use Rattle.machine_runs.specs.Machines.{AreHome};
-ghost use Rattle.machine_runs.specs.Standing.{processor_of};
+ghost use Rattle.command_io.specs.Tallies.{nothing_shown};
+ghost use Rattle.machine_steps.specs.Machines.{AreHome};
+ghost use Rattle.machine_steps.specs.Standing.{processor_of};
 ghost use Rattle.hunt_command.specs.Lines.{end_line, outcome_line, outcome_lines, result_of};
 
-use accounts::push_words;
-use command_io::push_status;
+use command_io::{Shown, Tally, push_console, push_status};
 use flat_machine::Status;
-use machine_runs::Machine;
-use machine_sweep::SweepEnd;
-use run_report::{Shown, Tally, push_console};
+use machine_steps::Machine;
+use schedules::SweepEnd;
 use std::alloc::{AllocError, Global};
 use std::fmt::Write;
+use trace_commands::push_words;
 
 /// What a run came to that ended so and left this machine, whose processors have shown this: how it ended, a line for each
 /// processor and one for each shared word that is not zero.

@@ -1,20 +1,20 @@
 //! Runs, and what they come to.
 
 ghost use Rattle.std.specs.Prelude.{◌≡◌, ◌≤◌, ℕ, IfErr, IfOk, string_bytes};
-ghost use Rattle.machine_sweep.specs.Sweeps.{most_of};
-ghost use Rattle.accounts.specs.Causes.{IsFaultOfSize};
+ghost use Rattle.schedules.specs.Sweeps.{most_of};
+ghost use Rattle.command_io.specs.Files.{IsFaultOfSize};
 ghost use Rattle.hunt_command.specs.Hunts.{AreFound, IsLogOf, IsResultOf, IsSomeLog, greater};
 
 use crate::findings::Findings;
 use crate::lines::result_text;
-use accounts::{exit_status, opened, retaken};
-use command_io::Fault;
+use crate::running::random_run;
+use command_io::{Fault, opened};
 use elf_image::Image;
 use flat_machine::Config;
 use machine_log::{Logged, log_is_kept};
-use machine_sweep::SweepEnd;
-use random_runs::random_run;
+use schedules::SweepEnd;
 use std::alloc::Global;
+use trace_commands::{exit_status, retaken};
 
 /// The log of the run of a number, on a machine of this size that opens on a copy of the image, and where the run ended.
 ///

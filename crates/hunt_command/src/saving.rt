@@ -1,7 +1,7 @@
 //! Traces of runs.
 
 ghost use Rattle.std.specs.Prelude.{◌≡◌, false, IfErr, IfOk, OnOk};
-ghost use Rattle.machine_sweep.specs.Sweeps.{most_of};
+ghost use Rattle.schedules.specs.Sweeps.{most_of};
 ghost use Rattle.hunt_command.specs.Hunts.{IsNotSaved, IsRunSaved};
 
 use crate::findings::Finding;

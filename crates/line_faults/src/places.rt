@@ -2,8 +2,7 @@
 
 ghost use Rattle.std.specs.Prelude.{◌≡◌, ◌≤◌, ◌+◌, ◌-◌, ◌^◌, IfOk, IfErr, OnOk, Ok, Err, Some};
 ghost use Rattle.asm_lines.specs.Statements.{stmt_of, said_of};
-ghost use Rattle.assembler.specs.Meaning.{start, address, count_of, place_statement};
-ghost use Rattle.assembler.specs.Meaning.{labelled, after_statement, after_said};
+ghost use Rattle.assembler.specs.Meaning.{start, address, count_of, place_statement, labelled, after_statement, after_said};
 ghost use Rattle.assembler.specs.Passes.{name_of};
 ghost use Rattle.line_faults.specs.Faults.{said_fault};
 ghost use Rattle.line_faults.specs.Places.{label_values, place_of};

@@ -1,8 +1,8 @@
 -- Bytes of a region, and the zeros behind them: the region's bytes one by one, written over or behind, and when two are the same.
 use Rattle.std.proofs.Common.{◌≡◌, ℕ, zero, suc, ◌+◌, ◌-◌, ◌<◌, ◌≤◌, List, [], ◌∷◌, ◌++◌, length, append_assoc, refl, sym, ap, ◌∙◌, arith, inl, inr}
 use Rattle.std.specs.Prelude.{replicate, slice_index, slice_set}
-use Rattle.std.proofs.lemmas.List.{get_or_append_left, get_or-append_right, get_or_past, length-append, length-replicate}
-use Rattle.std.proofs.lemmas.List.{replicate-append-replicate, set-append_left}
+use Rattle.std.proofs.lemmas.List.{get_or_append_left, get_or-append_right, get_or_past, length-append}
+use Rattle.std.proofs.lemmas.List.{length-replicate, replicate-append-replicate, set-append_left}
 use Rattle.std.proofs.lemmas.Bool.{cases_lt}
 use Rattle.local_memory.specs.Accesses.{padded}
 

@@ -10,4 +10,5 @@ mod code;
 mod local;
 
 pub use code::Code;
+pub use flat_machine::{Fault, Size};
 pub use local::Local;

@@ -2,5 +2,7 @@
 
 -- Steps that are taken and entered, one after another.
 pub use Rattle.machine_log.proofs.Taking.{entered_length, entered_moving, entered_one, kept_after, kept_home}
--- Lemmas of lower crates, passed on to those above.
-pub use Rattle.machine_runs.proofs.Lemmas as machine_runs
+-- Ports with all cores back.
+pub use Rattle.machine_log.proofs.Backing.{back_at, replicate_none}
+-- All machines that open on one image are one: none of the steps that one of them takes stalls in another.
+pub use Rattle.machine_log.proofs.OneOpening.{none_stalls}

@@ -1,2 +1,9 @@
 pub mod Taking
+pub mod Backing
+pub mod Noticing
+pub mod Stepping
+pub mod Changing
+pub mod Catching
+pub mod Stopping
+pub mod OneOpening
 pub mod Lemmas

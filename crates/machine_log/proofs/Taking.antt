@@ -14,11 +14,11 @@ use Rattle.steps.specs.declared.step.Step.TheVariants as step
 use Rattle.steps.specs.declared.step.Outcome.{Outcome}
 use Rattle.steps.specs.declared.step.Outcome.TheVariants.{Poked, Stalled}
 use Rattle.steps.specs.Answers.{is_stalled}
-use Rattle.machine_runs.specs.Machines.{MachineLists, machine_of, AreHome, IsIdle, IsMachine, IsStep}
-use Rattle.machine_runs.specs.machine_program.Processors.{is_lawful_poke}
-use Rattle.machine_runs.specs.Runs.{flat_state, IsReplay}
-use Rattle.machine_runs.specs.Whole.{IsPoked}
-use Rattle.machine_runs.proofs.Lemmas.{replay_begins, replay_joined, replay_kept, replay_more, run_home, stalled_is}
+use Rattle.machine_steps.specs.Machines.{MachineLists, machine_of, AreHome, IsIdle, IsMachine, IsStep}
+use Rattle.machine_theory.specs.Processors.{is_lawful_poke}
+use Rattle.machine_steps.specs.Runs.{flat_state, IsReplay}
+use Rattle.machine_steps.specs.Whole.{IsPoked}
+use Rattle.machine_steps.proofs.Lemmas.{replay_begins, replay_joined, replay_kept, replay_more, run_home, stalled_is}
 use Rattle.machine_log.specs.Logs.{Log, entered, IsKept, IsEntered, ArePoked, places_of}
 
 -- ---- stalls

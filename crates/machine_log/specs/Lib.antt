@@ -1,5 +1,6 @@
 pub mod Logs
 pub mod Lending
+pub mod Lendings
+pub mod Replays
 -- Words of lower crates, passed on to those above.
-pub use Rattle.machine_runs.specs as machine_runs
-pub use Rattle.flat_machine.specs as flat_machine
+pub use Rattle.machine_theory.specs as machine_theory

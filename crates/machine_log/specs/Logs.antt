@@ -11,9 +11,9 @@ use Rattle.steps.specs.declared.step.Step.TheVariants as step
 use Rattle.steps.specs.declared.step.Outcome.{Outcome}
 use Rattle.steps.specs.declared.step.Outcome.TheVariants.{Stalled}
 use Rattle.steps.specs.Answers.{is_stalled}
-use Rattle.machine_runs.specs.Machines.{MachineLists, machine_of, AreHome, IsIdle, IsMachine, IsStep}
-use Rattle.machine_runs.specs.machine_program.Processors.{is_lawful_poke}
-use Rattle.machine_runs.specs.Runs.{flat_state, IsReplay}
+use Rattle.machine_steps.specs.Machines.{MachineLists, machine_of, AreHome, IsIdle, IsMachine, IsStep}
+use Rattle.machine_theory.specs.Processors.{is_lawful_poke}
+use Rattle.machine_steps.specs.Runs.{flat_state, IsReplay}
 
 pub record Log : Type 0 where
   -- the machine before the first of the steps

@@ -3,14 +3,14 @@
 ghost use Rattle.std.specs.Prelude.{◌≡◌, ◌≤◌, ◌<◌, ◌+◌, ◌*◌, ◌++◌, ℕ, List, [], length};
 ghost use Rattle.std.specs.Vec.{vec_capacity};
 ghost use Rattle.flat_machine.specs.declared.event.Event.{Event};
-ghost use Rattle.machine_runs.specs.machine_program.Steps.{outcome_of};
-ghost use Rattle.machine_runs.specs.Machines.{machine_of, AreHome, IsIdle, IsStep};
-ghost use Rattle.machine_runs.specs.Draining.{drain_bound, drain_steps, IsDrained};
-ghost use Rattle.machine_runs.specs.Whole.{one_steps, IsOne, IsPoked};
+ghost use Rattle.machine_theory.specs.Steps.{outcome_of};
+ghost use Rattle.machine_steps.specs.Machines.{machine_of, AreHome, IsIdle, IsStep};
+ghost use Rattle.machine_steps.specs.Draining.{drain_bound, drain_steps, IsDrained};
+ghost use Rattle.machine_steps.specs.Whole.{one_steps, IsOne, IsPoked};
 ghost use Rattle.machine_log.specs.Logs.{entered, AreLawful, ArePoked, IsEntered};
 
 use flat_machine::Poke;
-use machine_runs::{Machine, drain_noted, machine_is_sound, one_noted};
+use machine_steps::{Machine, machine_is_sound};
 use steps::{Outcome, Step};
 
 /// Takes a step, and enters it in a list unless it stalls. There is room for it.
@@ -42,7 +42,7 @@ pub(crate) fn one(machine: &mut Machine, steps: &mut Vec<Step>, p: u8) -> Outcom
     ensures entered { IsEntered machine.old steps.old.items (2 * machine.old.config.k + 3) machine.new steps.new.items }
     ensures capacity { vec_capacity steps.new ≡ vec_capacity steps.old }
 {
-    let Ok(outcome) = one_noted(machine, p, steps);
+    let Ok(outcome) = machine.one_noted(p, steps);
     machine_is_sound(machine);
     outcome
 }
@@ -55,7 +55,7 @@ pub(crate) fn drain(machine: &mut Machine, steps: &mut Vec<Step>) -> u32
     ensures entered { IsEntered machine.old steps.old.items (drain_bound machine.old.config) machine.new steps.new.items }
     ensures capacity { vec_capacity steps.new ≡ vec_capacity steps.old }
 {
-    let Ok(moves) = drain_noted(machine, steps);
+    let Ok(moves) = machine.drain_noted(steps);
     machine_is_sound(machine);
     moves
 }

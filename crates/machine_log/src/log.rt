@@ -3,35 +3,21 @@
 ghost use Rattle.std.specs.Prelude.{◌≡◌, ◌≤◌, ◌<◌, ◌+◌, ◌*◌, ◌^◌, ◌↔◌, ◌++◌, [], length, nat_lt, true, false, Err, IfOk, OnOk, OnErr};
 ghost use Rattle.std.specs.Borrow.{sem};
 ghost use Rattle.flat_machine.specs.Limits.{IsWithinLimits};
-ghost use Rattle.machine_runs.specs.Machines.{AreHome, IsIdle};
-ghost use Rattle.machine_runs.specs.Draining.{drain_bound, drain_steps, IsDrained};
-ghost use Rattle.machine_runs.specs.Runs.{answer_after, IsReplay, IsSerialized};
-ghost use Rattle.machine_runs.specs.Whole.{one_steps, IsOne, IsPoked};
+ghost use Rattle.machine_steps.specs.Machines.{AreHome, IsIdle};
+ghost use Rattle.machine_steps.specs.Draining.{drain_bound, drain_steps, IsDrained};
+ghost use Rattle.machine_steps.specs.Runs.{answer_after, IsReplay, IsSerialized};
+ghost use Rattle.machine_steps.specs.Whole.{one_steps, IsOne, IsPoked};
 ghost use Rattle.machine_log.specs.Logs.{is_named, opened, AreLawful, HasPoked, HasTaken, IsKept, IsLonger};
 ghost use Rattle.machine_log.specs.Lending.{LendsRoom};
 
+use crate::refusal::LockRefusal;
 use crate::roomy::{Roomy, roomy_is_kept};
 use flat_machine::{Config, Poke};
-use machine_runs::{Machine, drain_bound};
+use machine_steps::Machine;
 use std::alloc::Global;
 use std::marker::Model;
 use std::snapshot::Snapshot;
 use steps::{Outcome, Step};
-use thiserror::Error;
-
-/// Why a call was refused. Nothing is changed then.
-#[derive(Clone, Copy, Debug, PartialEq, Eq, Drop, Error)]
-pub enum LogRefusal {
-    /// There was no memory for a place in the log.
-    #[error("L1")]
-    Memory,
-    /// The log would pass [`steps::MAX_STEPS`] steps.
-    #[error("L2")]
-    Full,
-    /// The machine has no processor, module, wire or stage of a number that was named.
-    #[error("L3")]
-    Unnamed,
-}
 
 /// A machine with the log of its steps: its opening, the steps since, and the machine after them.
 #[derive(Drop)]
@@ -111,19 +97,20 @@ impl Logged {
     ///
     /// # Errors
     ///
-    /// [`LogRefusal::Unnamed`] where the machine has not each place that the step names, else
-    /// [`LogRefusal::Full`] where the log has [`steps::MAX_STEPS`] steps, else [`LogRefusal::Memory`]
+    /// [`LockRefusal::Unnamed`] where the machine has not each place that the step names, else
+    /// [`LockRefusal::Full`] where the log has [`steps::MAX_STEPS`] steps, else [`LockRefusal::Memory`]
     /// where there is no memory for a place in the log. Each leaves all as it was.
-    pub fn step(&mut self, step: Step) -> Result<Outcome, LogRefusal>
+    pub fn step(&mut self, step: Step) -> Result<Outcome, LockRefusal>
         ensures taken { IfOk result (λ o. HasTaken self.old step o self.new) }
         ensures answer { IfOk result (λ o. o ≡ answer_after self.old.opening self.old.steps step) }
         ensures poked { IfOk result (λ o. IsIdle self.old.machine → (poke : Poke) → step ≡ Step.Poke poke → IsPoked self.old.machine poke o self.new.machine) }
-        ensures unnamed { (result ≡ Err LogRefusal.Unnamed) ↔ (is_named self.old.machine.config step ≡ false) }
-        ensures full { (result ≡ Err LogRefusal.Full) ↔ ((is_named self.old.machine.config step ≡ true) × (4194304 ≤ length self.old.steps)) }
+        ensures unnamed { (result ≡ Err LockRefusal.Unnamed) ↔ (is_named self.old.machine.config step ≡ false) }
+        ensures not_free { result ≡ Err LockRefusal.NotFree → ⊥ }
+        ensures full { (result ≡ Err LockRefusal.Full) ↔ ((is_named self.old.machine.config step ≡ true) × (4194304 ≤ length self.old.steps)) }
         ensures refused { OnErr result (self.new ≡ self.old) }
     {
         if !self.names(&step) {
-            return Err(LogRefusal::Unnamed);
+            return Err(LockRefusal::Unnamed);
         }
         self.log.make_room(1)?;
         Ok(self.log.step(step))
@@ -133,60 +120,63 @@ impl Logged {
     ///
     /// # Errors
     ///
-    /// [`LogRefusal::Full`] where the log would pass [`steps::MAX_STEPS`] steps with them, else
-    /// [`LogRefusal::Memory`] where there is no memory. Each leaves all as it was.
-    pub fn room(&mut self, extra: u32) -> Result<&mut Roomy, LogRefusal>
+    /// [`LockRefusal::Full`] where the log would pass [`steps::MAX_STEPS`] steps with them, else
+    /// [`LockRefusal::Memory`] where there is no memory. Each leaves all as it was.
+    pub fn room(&mut self, extra: u32) -> Result<&mut Roomy, LockRefusal>
         ensures* lends { sem 𝓛 (LendsRoom self.entry result) }
         ensures places { IfOk result (λ roomy. extra ≤ roomy.now.places) }
         ensures log { IfOk result (λ roomy. roomy.now.log ≡ self.old) }
-        ensures full { (result ≡ Err LogRefusal.Full) ↔ (4194304 < length self.old.steps + extra) }
-        ensures named { result ≡ Err LogRefusal.Unnamed → ⊥ }
+        ensures full { (result ≡ Err LockRefusal.Full) ↔ (4194304 < length self.old.steps + extra) }
+        ensures named { result ≡ Err LockRefusal.Unnamed → ⊥ }
+        ensures not_free { result ≡ Err LockRefusal.NotFree → ⊥ }
     {
         self.log.make_room(extra)?;
         Ok(&mut self.log)
     }
 
-    /// Takes steps until no reference is open, as [`machine_runs::drain`] does, enters them, and answers how
+    /// Takes steps until no reference is open, as [`machine_steps::Machine::drain`] does, enters them, and answers how
     /// many: `2^k * (2k + 2)` at most, for which it makes room first.
     ///
     /// # Errors
     ///
-    /// [`LogRefusal::Full`] where the log would pass [`steps::MAX_STEPS`] steps with as many, else
-    /// [`LogRefusal::Memory`] where there is no memory for them. Each leaves all as it was.
-    pub fn drain(&mut self) -> Result<u32, LogRefusal>
+    /// [`LockRefusal::Full`] where the log would pass [`steps::MAX_STEPS`] steps with as many, else
+    /// [`LockRefusal::Memory`] where there is no memory for them. Each leaves all as it was.
+    pub fn drain(&mut self) -> Result<u32, LockRefusal>
         ensures drained { IfOk result (λ count. IsDrained self.old.machine count self.new.machine) }
         ensures entered { OnOk result (self.new.steps ≡ self.old.steps ++ drain_steps self.old.machine) }
         ensures opening { self.new.opening ≡ self.old.opening }
-        ensures full { (result ≡ Err LogRefusal.Full) ↔ (4194304 < length self.old.steps + drain_bound self.old.machine.config) }
-        ensures named { result ≡ Err LogRefusal.Unnamed → ⊥ }
+        ensures full { (result ≡ Err LockRefusal.Full) ↔ (4194304 < length self.old.steps + drain_bound self.old.machine.config) }
+        ensures named { result ≡ Err LockRefusal.Unnamed → ⊥ }
+        ensures not_free { result ≡ Err LockRefusal.NotFree → ⊥ }
         ensures refused { OnErr result (self.new ≡ self.old) }
     {
-        let most = drain_bound(self.machine());
+        let most = self.machine().drain_bound();
         self.log.make_room(most)?;
         Ok(self.log.drain())
     }
 
-    /// Takes one whole instruction of a processor, as [`machine_runs::one`] does, and enters its steps:
+    /// Takes one whole instruction of a processor, as [`machine_steps::Machine::one`] does, and enters its steps:
     /// `2k + 3` at most, for which it makes room first.
     ///
     /// # Errors
     ///
-    /// [`LogRefusal::Unnamed`] where the machine has no processor of this number, else
-    /// [`LogRefusal::Full`] where the log would pass [`steps::MAX_STEPS`] steps with `2k + 3` more, else
-    /// [`LogRefusal::Memory`] where there is no memory for them. Each leaves all as it was.
-    pub fn one(&mut self, p: u8) -> Result<Outcome, LogRefusal>
+    /// [`LockRefusal::Unnamed`] where the machine has no processor of this number, else
+    /// [`LockRefusal::Full`] where the log would pass [`steps::MAX_STEPS`] steps with `2k + 3` more, else
+    /// [`LockRefusal::Memory`] where there is no memory for them. Each leaves all as it was.
+    pub fn one(&mut self, p: u8) -> Result<Outcome, LockRefusal>
         ensures whole { IfOk result (λ o. IsIdle self.old.machine → IsOne self.old.machine p o self.new.machine) }
         ensures busy { IfOk result (λ o. (IsIdle self.old.machine → ⊥) → (o ≡ Outcome.Stalled) × (self.new ≡ self.old)) }
         ensures entered { OnOk result (IsIdle self.old.machine → self.new.steps ≡ self.old.steps ++ one_steps self.old.machine p) }
         ensures longer { OnOk result (IsLonger self.old self.new (2 * self.old.machine.config.k + 3)) }
-        ensures unnamed { (result ≡ Err LogRefusal.Unnamed) ↔ (nat_lt p (2 ^ self.old.machine.config.k) ≡ false) }
-        ensures full { (result ≡ Err LogRefusal.Full)
+        ensures unnamed { (result ≡ Err LockRefusal.Unnamed) ↔ (nat_lt p (2 ^ self.old.machine.config.k) ≡ false) }
+        ensures not_free { result ≡ Err LockRefusal.NotFree → ⊥ }
+        ensures full { (result ≡ Err LockRefusal.Full)
             ↔ ((p < 2 ^ self.old.machine.config.k) × (4194304 < length self.old.steps + (2 * self.old.machine.config.k + 3))) }
         ensures refused { OnErr result (self.new ≡ self.old) }
     {
         let config = self.machine().config();
         if p >= config.processors() {
-            return Err(LogRefusal::Unnamed);
+            return Err(LockRefusal::Unnamed);
         }
         self.log.make_room(2 * u32::from(config.k) + 3)?;
         Ok(self.log.one(p))
@@ -197,18 +187,19 @@ impl Logged {
     ///
     /// # Errors
     ///
-    /// [`LogRefusal::Full`] where the log would pass [`steps::MAX_STEPS`] steps with them, else
-    /// [`LogRefusal::Memory`] where there is no memory for them. Each leaves all as it was.
-    pub fn pokes(&mut self, pokes: &[Poke]) -> Result<(), LogRefusal>
+    /// [`LockRefusal::Full`] where the log would pass [`steps::MAX_STEPS`] steps with them, else
+    /// [`LockRefusal::Memory`] where there is no memory for them. Each leaves all as it was.
+    pub fn pokes(&mut self, pokes: &[Poke]) -> Result<(), LockRefusal>
         requires idle { IsIdle self.old.machine }
         requires lawful { AreLawful self.old.machine.config pokes.now }
         ensures poked { OnOk result (HasPoked self.old pokes.now self.new) }
-        ensures full { (result ≡ Err LogRefusal.Full) ↔ (4194304 < length self.old.steps + length pokes.now) }
-        ensures named { result ≡ Err LogRefusal.Unnamed → ⊥ }
+        ensures full { (result ≡ Err LockRefusal.Full) ↔ (4194304 < length self.old.steps + length pokes.now) }
+        ensures named { result ≡ Err LockRefusal.Unnamed → ⊥ }
+        ensures not_free { result ≡ Err LockRefusal.NotFree → ⊥ }
         ensures refused { OnErr result (self.new ≡ self.old) }
     {
         let Ok(count) = u32::try_from(pokes.len()) else {
-            return Err(LogRefusal::Full);
+            return Err(LockRefusal::Full);
         };
         self.log.make_room(count)?;
         self.log.pokes(pokes);

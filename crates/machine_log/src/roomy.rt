@@ -1,16 +1,16 @@
 //! A log with room for steps.
 
 ghost use Rattle.std.specs.Prelude.{◌≡◌, ◌≤◌, ◌<◌, ◌+◌, ◌*◌, ◌↔◌, ◌++◌, [], length, Err, OnOk};
-ghost use Rattle.machine_runs.specs.Machines.{AreHome, IsIdle};
-ghost use Rattle.machine_runs.specs.Draining.{drain_bound, drain_steps, IsDrained};
-ghost use Rattle.machine_runs.specs.Runs.{answer_after, IsReplay, IsSerialized};
-ghost use Rattle.machine_runs.specs.Whole.{one_steps, IsOne, IsPoked};
+ghost use Rattle.machine_steps.specs.Machines.{AreHome, IsIdle};
+ghost use Rattle.machine_steps.specs.Draining.{drain_bound, drain_steps, IsDrained};
+ghost use Rattle.machine_steps.specs.Runs.{answer_after, IsReplay, IsSerialized};
+ghost use Rattle.machine_steps.specs.Whole.{one_steps, IsOne, IsPoked};
 ghost use Rattle.machine_log.specs.Logs.{opened, AreLawful, HasPoked, HasTaken, IsKept, IsLonger, KeepsPlaces};
 
 use crate::entering;
-use crate::log::LogRefusal;
+use crate::refusal::LockRefusal;
 use flat_machine::Poke;
-use machine_runs::{Machine, machine_is_sound};
+use machine_steps::{Machine, machine_is_sound};
 use std::alloc::Global;
 use std::marker::Model;
 use std::snapshot::Snapshot;
@@ -86,20 +86,21 @@ impl Roomy {
     ///
     /// # Errors
     ///
-    /// [`LogRefusal::Full`] where the log would pass [`steps::MAX_STEPS`] steps with them, else
-    /// [`LogRefusal::Memory`] where there is no memory.
-    pub(crate) fn make_room(&mut self, extra: u32) -> Result<(), LogRefusal>
+    /// [`LockRefusal::Full`] where the log would pass [`steps::MAX_STEPS`] steps with them, else
+    /// [`LockRefusal::Memory`] where there is no memory.
+    pub(crate) fn make_room(&mut self, extra: u32) -> Result<(), LockRefusal>
         ensures places { OnOk result (extra ≤ self.new.places) }
-        ensures full { (result ≡ Err LogRefusal.Full) ↔ (4194304 < length self.old.log.steps + extra) }
-        ensures named { result ≡ Err LogRefusal.Unnamed → ⊥ }
+        ensures full { (result ≡ Err LockRefusal.Full) ↔ (4194304 < length self.old.log.steps + extra) }
+        ensures named { result ≡ Err LockRefusal.Unnamed → ⊥ }
+        ensures not_free { result ≡ Err LockRefusal.NotFree → ⊥ }
         ensures kept { self.new.log ≡ self.old.log }
     {
         if extra as usize > MAX_STEPS - self.steps.len() {
-            return Err(LogRefusal::Full);
+            return Err(LockRefusal::Full);
         }
         match self.steps.reserve(extra as usize) {
             Ok(()) => Ok(()),
-            Err(_) => Err(LogRefusal::Memory),
+            Err(_) => Err(LockRefusal::Memory),
         }
     }
 
@@ -136,7 +137,7 @@ impl Roomy {
         entering::enter(&mut self.machine, &mut self.steps, step)
     }
 
-    /// Takes steps until no reference is open, as [`machine_runs::drain`] does, enters them, and answers how
+    /// Takes steps until no reference is open, as [`machine_steps::Machine::drain`] does, enters them, and answers how
     /// many: `2^k * (2k + 2)` at most.
     pub fn drain(&mut self) -> u32
         requires room { drain_bound self.old.log.machine.config ≤ self.old.places }
@@ -148,7 +149,7 @@ impl Roomy {
         entering::drain(&mut self.machine, &mut self.steps)
     }
 
-    /// Takes one whole instruction of a processor, as [`machine_runs::one`] does, and enters its steps: `2k + 3`
+    /// Takes one whole instruction of a processor, as [`machine_steps::Machine::one`] does, and enters its steps: `2k + 3`
     /// at most.
     pub fn one(&mut self, p: u8) -> Outcome
         requires room { 2 * self.old.log.machine.config.k + 3 ≤ self.old.places }

@@ -2,10 +2,9 @@
 
 ghost use Rattle.std.specs.Prelude.{◌<◌};
 
-use crate::layout::wires_of;
 use flat_machine::MAX_STAGES;
-use indexed_network::IndexedNetwork;
 use messages::Record;
+use omega_network::Network;
 
 /// How many processors a machine has at most.
 const PROCESSORS: usize = 64;
@@ -18,7 +17,7 @@ pub struct Leaders {
 
 impl Leaders {
     /// Those of a network.
-    pub fn of(network: &IndexedNetwork) -> Self {
+    pub fn of(network: &Network) -> Self {
         let mut leaders = Leaders {
             into: [None; PROCESSORS],
         };
@@ -29,10 +28,10 @@ impl Leaders {
     }
 
     /// Notes the records of a stage.
-    fn note_stage(&mut self, network: &IndexedNetwork, stage: u8)
+    fn note_stage(&mut self, network: &Network, stage: u8)
         requires { stage < network.now.k }
     {
-        for wire in 0..wires_of(network.stages()) {
+        for wire in 0..network.wires() {
             self.note(network.records(stage, wire));
         }
     }

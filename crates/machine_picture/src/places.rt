@@ -1,8 +1,7 @@
 //! What stands at the places of a network.
 
-use crate::layout::wires_of;
-use indexed_network::IndexedNetwork;
 use messages::Record;
+use omega_network::Network;
 
 /// What stands in a place of the network.
 #[derive(Clone, Copy, Debug, PartialEq, Eq, Drop)]
@@ -32,10 +31,9 @@ pub enum Told {
 }
 
 /// What stands at this position of a place, the first at 0. None where nothing does, and where the network has no such place.
-pub fn told_at(network: &IndexedNetwork, place: Place, position: usize) -> Option<Told> {
+pub fn told_at(network: &Network, place: Place, position: usize) -> Option<Told> {
     let Place { kind, depth, wire } = place;
-    let stages = network.stages();
-    if depth > stages || wire >= wires_of(stages) {
+    if depth > network.stages() || wire >= network.wires() {
         return None;
     }
     match kind {

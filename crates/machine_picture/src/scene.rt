@@ -2,7 +2,7 @@
 
 use crate::leaders::Leaders;
 use flat_machine::{Config, Status};
-use indexed_network::IndexedNetwork;
+use omega_network::Network;
 
 /// A shared word.
 #[derive(Clone, Copy, Debug, Drop)]
@@ -29,7 +29,7 @@ pub struct Scene<'a> {
     pub(crate) config: Config,
     pub(crate) steps: usize,
     pub(crate) processors: &'a [Shown],
-    pub(crate) network: &'a IndexedNetwork,
+    pub(crate) network: &'a Network,
     pub(crate) leaders: Leaders,
 }
 
@@ -39,7 +39,7 @@ impl<'a> Scene<'a> {
         config: Config,
         steps: usize,
         processors: &'a [Shown],
-        network: &'a IndexedNetwork,
+        network: &'a Network,
     ) -> Self {
         Scene {
             config,

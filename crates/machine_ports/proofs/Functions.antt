@@ -9,9 +9,9 @@ use borrow.Author.Gap.{read_sfits}
 use Rattle.rv_table.specs.declared.operation.AmoOp.{AmoOp}
 use Rattle.rv_table.specs.declared.operation.AmoOp.TheVariants as amo
 use Rattle.phi_algebra.specs.Functions.{IsInRange, apply}
-use Rattle.hart.specs.phi_instructions.Table.{amo_phi, load_phi, store_phi}
-use Rattle.hart.proofs.Lemmas.phi_instructions.{add_meaning, and_meaning, load_meaning, max_meaning, maxu_meaning, min_meaning, minu_meaning, or_meaning}
-use Rattle.hart.proofs.Lemmas.phi_instructions.{swap_meaning, xor_meaning}
+use Rattle.hart.specs.Table.{amo_phi, load_phi, store_phi}
+use Rattle.hart.proofs.Lemmas.{add_meaning, and_meaning, load_meaning, max_meaning, maxu_meaning}
+use Rattle.hart.proofs.Lemmas.{min_meaning, minu_meaning, or_meaning, swap_meaning, xor_meaning}
 use Rattle.flat_machine.specs.Operations.{amo_value}
 
 pub load_range : IsInRange load_phi

@@ -5,8 +5,8 @@ use Rattle.rv_table.specs.declared.insn.Insn.TheVariants.{Op, OpImm, Shift, Load
 use Rattle.rv_table.specs.declared.operation.UpperOp.TheVariants.{Lui, Auipc}
 use Rattle.phi_algebra.specs.declared.phi.Phi.{Phi}
 use Rattle.phi_algebra.specs.Functions.{IsInRange, apply}
-use Rattle.hart.specs.phi_instructions.Table.{amo_phi, load_phi, store_phi}
-use Rattle.hart.proofs.Lemmas.phi_instructions.{amo_small, store_meaning}
+use Rattle.hart.specs.Table.{amo_phi, load_phi, store_phi}
+use Rattle.hart.proofs.Lemmas.{amo_small, store_meaning, whole_change}
 use Rattle.flat_machine.specs.declared.effect.Effect.{Effect}
 use Rattle.flat_machine.specs.declared.effect.Effect.TheVariants as does
 use Rattle.flat_machine.specs.declared.effect.Region.{Region}
@@ -24,7 +24,6 @@ use Rattle.flat_machine.specs.State.{Processor}
 use Rattle.flat_machine.specs.Turns.{Turn, Retires, Reaches, Stops, accessed, fetched, gone_to, performed, retired_writing, turn_by, turn_of}
 use Rattle.flat_machine.specs.Words.{extended, part_of, plus, with_part}
 use Rattle.flat_machine.proofs.Lemmas.{register_small, shared_region, store_inside}
-use Rattle.hart.proofs.Lemmas.{whole_change}
 use Rattle.machine_ports.specs.Ports.{phi_of_effect, phi_of_insn, reference_phi}
 use Rattle.machine_ports.proofs.Functions.{amo_means, amo_range, load_means, load_range, store_range}
 

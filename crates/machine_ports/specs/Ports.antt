@@ -3,7 +3,7 @@ use Rattle.std.specs.Prelude.{ℕ, ◌%◌, ◌==◌, Bool, true, false, List, [
 use Rattle.rv_table.specs.declared.insn.Insn.{Insn}
 use Rattle.phi_algebra.specs.declared.phi.Phi.{Phi}
 use Rattle.phi_algebra.specs.declared.phi.Phi.TheVariants.{Add}
-use Rattle.hart.specs.phi_instructions.Table.{load_phi, store_phi, amo_phi}
+use Rattle.hart.specs.Table.{load_phi, store_phi, amo_phi}
 use Rattle.flat_machine.specs.declared.effect.Effect.{Effect}
 use Rattle.flat_machine.specs.declared.effect.Effect.TheVariants as does
 use Rattle.flat_machine.specs.declared.event.Status.TheVariants.{Halted}

@@ -1,5 +1,5 @@
-//! Tests of the machine (`machine`) and its runs (`machine_runs`): small programs whose every step is written out,
-//! drains, whole instructions, limits and refusals.
+//! Tests of the machine and its runs (`machine_steps`): small programs whose every step is written out, drains, whole
+//! instructions, limits and refusals; and long random lists of steps, beside a plain machine.
 //!
 //! They stand in a crate of their own, so that what stands on the machine need not wait for them.
 #![tactic(auto)]

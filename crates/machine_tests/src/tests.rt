@@ -1,6 +1,7 @@
 //! The machine on small programs. Words of instructions and what they do are the RISC-V manual's;
-//! all other values are worked out by hand. Most tests are tables of cases (`test_cases`).
+//! all other values are worked out by hand. Most tests are tables of cases (`test_support`).
 
+mod beside_a_plain_machine;
 mod combining;
 mod draining;
 mod limits;
@@ -13,7 +14,7 @@ mod whole;
 use flat_machine::CODE_START;
 use std::fmt::Debug;
 use std::process::Abort;
-use test_cases::Program;
+use test_support::Program;
 
 /// Ends the test where the two differ, and tells them and the case that they are of ([`assert_same!`]).
 fn same<T: PartialEq + Debug, A: Debug>(rt: &impl Abort, found: &T, wanted: &T, at: &A) {

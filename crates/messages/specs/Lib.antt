@@ -7,4 +7,3 @@ pub mod Moves
 pub mod Laws
 -- Words of lower crates, passed on to those above.
 pub use Rattle.phi_algebra.specs as phi_algebra
-pub use Rattle.omega_wires.specs as omega_wires

@@ -2,10 +2,13 @@
 
 ghost use Rattle.std.specs.Prelude.{◌≡◌};
 
+mod both;
 mod buffers;
 mod cells;
 mod indexed;
 mod memory;
+mod plain;
+mod random;
 mod runs;
 mod switches;
 mod wires;
@@ -14,7 +17,7 @@ use messages::{DownMove, Request, Seconds, UpMove};
 use phi_algebra::{Phi, SignedRange};
 use std::fmt::Debug;
 use std::process::Abort;
-use test_devices::{Words, low};
+use test_support::{Words, low};
 
 /// Ends the test where the two differ, and tells them and the case that they are of ([`assert_same!`]).
 fn same<T: PartialEq + Debug, A: Debug>(rt: &impl Abort, found: &T, wanted: &T, at: &A) {

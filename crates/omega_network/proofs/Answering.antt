@@ -6,7 +6,7 @@ use Rattle.messages.specs.declared.moves.DownMove.{DownMove}
 use Rattle.messages.specs.declared.moves.DownMove.TheVariants as down
 use Rattle.messages.specs.Queues.{answers, records_of}
 use Rattle.messages.specs.Moves as moves
-use Rattle.message_cells.specs.Pools.{PoolLists}
+use Rattle.combining_switch.specs.Pools.{PoolLists}
 use Rattle.combining_switch.specs.declared.answers.Answered.{Answered}
 use Rattle.combining_switch.specs.declared.answers.Answered.TheVariants.{NoRoom}
 use Rattle.combining_switch.specs.Switches.{CanBeQueued, SwitchState, answered, records_at}

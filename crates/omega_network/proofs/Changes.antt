@@ -1,6 +1,6 @@
 -- A network with one queue or one switch replaced, as a network of places.
-use Rattle.std.proofs.Common.{◌≡◌, ℕ, ◌/◌, ◌%◌, ◌^◌, ◌<◌, ◌≤◌, Bool, List, [], length, get_or, set, ◌⊎◌, inl, inr}
-use Rattle.std.proofs.Common.{sym, ap, ◌∙◌, arith, lt-ltb, le-ltb, get_or-set_same, get_or-set_other}
+use Rattle.std.proofs.Common.{◌≡◌, ℕ, ◌/◌, ◌%◌, ◌^◌, ◌<◌, ◌≤◌, Bool, List, [], length, get_or, set, ◌⊎◌, inl}
+use Rattle.std.proofs.Common.{inr, sym, ap, ◌∙◌, arith, lt-ltb, le-ltb, get_or-set_same, get_or-set_other}
 use Rattle.std.specs.Prelude.{if◌then◌else◌}
 use Rattle.std.proofs.lemmas.Bool.{cases_eq, cases_lt}
 use Rattle.messages.specs.declared.message.Request.{Request}
@@ -9,11 +9,10 @@ use Rattle.messages.specs.declared.message.Record.{Record}
 use Rattle.messages.specs.Places.{put2}
 use Rattle.messages.specs.Network.{put_records, put_replies, put_requests}
 use Rattle.messages.proofs.Lemmas.{is_put2}
-use Rattle.message_cells.specs.Pools.{replies_at, requests_at, with_replies, with_requests}
+use Rattle.combining_switch.specs.Pools.{replies_at, requests_at, with_replies, with_requests}
 use Rattle.combining_switch.specs.Outputs.{OutputState, output_with}
 use Rattle.combining_switch.specs.Switches.{SwitchState, no_output, output_of, records_at, with_records}
-use Rattle.omega_network.specs.Networks.{IsNetwork, NetworkLists, half, net_of, on_wire, place, records_behind, replies_before, requests_before}
-use Rattle.omega_network.specs.Networks.{switch_at}
+use Rattle.omega_network.specs.Networks.{IsNetwork, NetworkLists, half, net_of, on_wire, place, records_behind, replies_before, requests_before, switch_at}
 use Rattle.omega_network.proofs.Switches.{half_of_wire, one_place, switch_kept, switch_put, with_pool, with_switch}
 
 pub inside : {X : Type 0} (k w : ℕ) (xs : List X) → w < 2 ^ k → on_wire k w xs ≡ xs

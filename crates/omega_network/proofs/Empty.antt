@@ -1,18 +1,16 @@
 -- The numbers of the places of a network, and that nothing stands at a place where no queue and no wait buffer has anything.
-use Rattle.std.proofs.Common.{◌≡◌, ℕ, zero, suc, ◌+◌, ◌-◌, ◌*◌, ◌/◌, ◌%◌, ◌^◌, ◌<◌, ◌≤◌, Bool, true, false, List, [], length, get_or, nat_lt, ◌⊎◌, inl}
-use Rattle.std.proofs.Common.{inr}
-use Rattle.std.proofs.Common.{refl, sym, ap, ◌∙◌, subst, arith}
+use Rattle.std.proofs.Common.{◌≡◌, ℕ, zero, suc, ◌+◌, ◌-◌, ◌*◌, ◌/◌, ◌%◌, ◌^◌, ◌<◌, ◌≤◌, Bool, true, false, List}
+use Rattle.std.proofs.Common.{[], length, get_or, nat_lt, ◌⊎◌, inl, inr, refl, sym, ap, ◌∙◌, subst, arith}
 use Rattle.std.specs.Prelude.{All, IsTrue, ◌↔◌, if◌then◌else◌}
 use Rattle.std.proofs.Math.Nat.{div-lt_iff_lt-mul}
 use Rattle.std.proofs.lemmas.Bool.{cases_lt}
 use Rattle.std.proofs.lemmas.Nat.{div-add-mod', pow_pos}
 use Rattle.std.proofs.lemmas.List.{get_or_default, get_or_past}
 use Rattle.messages.specs.Network.{IsEmptyNet}
-use Rattle.message_cells.specs.Pools.{replies_at, requests_at}
+use Rattle.combining_switch.specs.Pools.{replies_at, requests_at}
 use Rattle.combining_switch.specs.Switches.{SwitchState, records_at}
-use Rattle.omega_network.specs.Networks.{HasNoMessage, HasNoRecord, IsNetwork, NetworkLists, half, net_of, no_switch, on_wire, place, records_behind}
-use Rattle.omega_network.specs.Networks.{replies_before}
-use Rattle.omega_network.specs.Networks.{requests_before, switch_at}
+use Rattle.omega_network.specs.Networks.{HasNoMessage, HasNoRecord, IsNetwork, NetworkLists, half, net_of, no_switch}
+use Rattle.omega_network.specs.Networks.{on_wire, place, records_behind, replies_before, requests_before, switch_at}
 use Rattle.omega_network.proofs.Changes.{at_output, at_queue, at_reply_queue}
 use Rattle.omega_network.proofs.Switches.{two_halves}
 

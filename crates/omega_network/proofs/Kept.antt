@@ -3,7 +3,7 @@ use Rattle.std.proofs.Common.{◌≡◌, ℕ, zero, suc, ◌+◌, ◌*◌, ◌/�
 use Rattle.std.proofs.lemmas.Bool.{cases_eq}
 use Rattle.messages.specs.declared.message.Record.{Record}
 use Rattle.messages.specs.Places.{put2}
-use Rattle.message_cells.specs.Pools.{PoolLists}
+use Rattle.combining_switch.specs.Pools.{PoolLists}
 use Rattle.combining_switch.specs.Switches.{SwitchState, records_at, with_records}
 use Rattle.omega_network.specs.Networks.{AreSeconds, IsNetwork, NetworkLists, half, records_behind, switch_at, the_switch}
 use Rattle.omega_network.proofs.Changes.{records_put}

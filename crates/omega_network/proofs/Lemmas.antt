@@ -6,3 +6,5 @@ pub use Rattle.omega_network.proofs.Moves.{first_is, free_is, none_is, push_take
 pub use Rattle.omega_network.proofs.New.{get_last, get_left}
 -- The numbers of switches.
 pub use Rattle.omega_network.proofs.Switches.{half_of_wire, one_place, place_is, place_within, two_halves}
+-- What a move leaves as it was.
+pub use Rattle.omega_network.proofs.Elsewhere.{down_requests, up_replies}

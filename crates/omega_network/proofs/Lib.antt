@@ -1,6 +1,6 @@
 pub mod Switches
 pub mod Changes
-pub mod Seconds
+pub mod SecondReplies
 pub mod Kept
 pub mod Offers
 pub mod Forms
@@ -13,4 +13,7 @@ pub mod Offering
 pub mod Answering
 pub mod Taken
 pub mod Naming
+mod Elsewhere
+mod Indexing
+mod Looking
 pub mod Lemmas

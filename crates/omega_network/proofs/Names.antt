@@ -1,7 +1,6 @@
 -- Whether a message or a record names a processor, by a look through the pool and the switches.
-use Rattle.std.proofs.Common.{◌≡◌, ℕ, zero, suc, ◌+◌, ◌*◌, ◌/◌, ◌%◌, ◌^◌, ◌<◌, ◌≤◌, Bool, true, false, ◌||◌, List, [], ◌∷◌, length, map, get_or, ◌⊎◌, inl}
-use Rattle.std.proofs.Common.{inr, refl}
-use Rattle.std.proofs.Common.{sym, ap, ◌∙◌, subst, arith}
+use Rattle.std.proofs.Common.{◌≡◌, ℕ, zero, suc, ◌+◌, ◌*◌, ◌/◌, ◌%◌, ◌^◌, ◌<◌, ◌≤◌, Bool, true, false, ◌||◌, List}
+use Rattle.std.proofs.Common.{[], ◌∷◌, length, map, get_or, ◌⊎◌, inl, inr, refl, sym, ap, ◌∙◌, subst, arith}
 use Rattle.std.specs.List.{list_any}
 use Rattle.std.proofs.lemmas.Bool.{cases_eq, cases_lt}
 use Rattle.std.proofs.lemmas.List.{get_or_past}
@@ -10,10 +9,9 @@ use Rattle.messages.specs.declared.message.Reply.{Reply}
 use Rattle.messages.specs.declared.message.Record.{Record}
 use Rattle.messages.specs.Places.{In}
 use Rattle.messages.proofs.Lemmas.{In-map}
-use Rattle.message_cells.specs.Pools.{IsFree, leader_of_reply, leader_of_request, replies_at, requests_at}
+use Rattle.combining_switch.specs.Pools.{IsFree, leader_of_reply, leader_of_request, replies_at, requests_at}
 use Rattle.combining_switch.specs.Switches.{SwitchState, records_at}
-use Rattle.omega_network.specs.Networks.{IsNetwork, NetworkLists, half, no_switch, on_wire, place, records_behind, replies_before, requests_before}
-use Rattle.omega_network.specs.Networks.{switch_at}
+use Rattle.omega_network.specs.Networks.{IsNetwork, NetworkLists, half, no_switch, on_wire, place, records_behind, replies_before, requests_before, switch_at}
 use Rattle.omega_network.proofs.Changes.{at_queue, at_reply_queue, inside, outside}
 use Rattle.omega_network.proofs.Empty.{at_number, on_a_wire, place_of}
 

@@ -4,7 +4,7 @@ use Rattle.std.specs.Prelude.{IsTrue, ◌↔◌, ◌==◌, not}
 use Rattle.std.specs.List.{list_any}
 use Rattle.messages.specs.declared.message.Record.{Record}
 use Rattle.messages.specs.Naming.{Names, Unnamed}
-use Rattle.message_cells.specs.Pools.{IsFree}
+use Rattle.combining_switch.specs.Pools.{IsFree}
 use Rattle.combining_switch.specs.Switches.{SwitchState, records_at}
 use Rattle.omega_network.specs.Networks.{IsNetwork, NetworkLists, is_named, is_second, net_of}
 use Rattle.omega_network.proofs.Names.{Leads, by_reply, by_request, free_leads_none, leads_or_free, record_seen, seen_record}

@@ -1,7 +1,6 @@
 -- The switches of a new network, and that nothing stands in it.
-use Rattle.std.proofs.Common.{◌≡◌, ℕ, zero, suc, ◌+◌, ◌*◌, ◌/◌, ◌%◌, ◌^◌, ◌<◌, ◌≤◌, List, [], ◌∷◌, ◌++◌, length, get_or, Some, ◌⊎◌, inl, inr, refl, sym, ap}
-use Rattle.std.proofs.Common.{◌∙◌, subst}
-use Rattle.std.proofs.Common.{arith, length-append}
+use Rattle.std.proofs.Common.{◌≡◌, ℕ, zero, suc, ◌+◌, ◌*◌, ◌/◌, ◌%◌, ◌^◌, ◌<◌, ◌≤◌, List, [], ◌∷◌, ◌++◌, length}
+use Rattle.std.proofs.Common.{get_or, Some, ◌⊎◌, inl, inr, refl, sym, ap, ◌∙◌, subst, arith, length-append}
 use Rattle.std.specs.Prelude.{All, replicate, slice_get}
 use Rattle.std.proofs.lemmas.Bool.{cases_lt}
 use Rattle.std.proofs.lemmas.List.{get_or-replicate, get_or_past, length-replicate}
@@ -12,10 +11,10 @@ use Rattle.messages.specs.declared.message.Reply.{Reply}
 use Rattle.messages.specs.declared.message.Request.{Request}
 use Rattle.messages.specs.Places.{ApartBy, In}
 use Rattle.messages.specs.Network.{IsEmptyNet}
-use Rattle.message_cells.specs.Pools.{PoolLists, empty_pool, replies_at, requests_at}
+use Rattle.combining_switch.specs.Pools.{PoolLists, empty_pool, replies_at, requests_at}
 use Rattle.combining_switch.specs.Switches.{SwitchState, records_at}
-use Rattle.omega_network.specs.Networks.{AreNew, HasNoMessage, HasNoRecord, IsNetwork, NetworkLists, half, net_of, no_switch, records_behind, second_of}
-use Rattle.omega_network.specs.Networks.{switch_at, the_switch}
+use Rattle.omega_network.specs.Networks.{AreNew, HasNoMessage, HasNoRecord, IsNetwork, NetworkLists, half, net_of}
+use Rattle.omega_network.specs.Networks.{no_switch, records_behind, second_of, switch_at, the_switch}
 use Rattle.omega_network.proofs.Empty.{empty_net}
 use Rattle.omega_network.proofs.Switches.{place_within}
 

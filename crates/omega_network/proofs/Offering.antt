@@ -1,6 +1,6 @@
 -- The network after a request was offered to a switch, and what a call tells of it.
-use Rattle.std.proofs.Common.{◌≡◌, ℕ, suc, ◌+◌, ◌*◌, ◌/◌, ◌%◌, ◌^◌, ◌<◌, Bool, length, map, get_or, set, ◌⊎◌, inl, inr}
-use Rattle.std.proofs.Common.{refl, sym, ap, ◌∙◌, subst, arith, length-set}
+use Rattle.std.proofs.Common.{◌≡◌, ℕ, suc, ◌+◌, ◌*◌, ◌/◌, ◌%◌, ◌^◌, ◌<◌, Bool, length, map, get_or}
+use Rattle.std.proofs.Common.{set, ◌⊎◌, inl, inr, refl, sym, ap, ◌∙◌, subst, arith, length-set}
 use Rattle.std.specs.Prelude.{IsTrue, ◌↔◌}
 use Rattle.std.proofs.lemmas.List.{get_or_default}
 use Rattle.messages.specs.declared.message.Request.{Request}
@@ -11,8 +11,8 @@ use Rattle.messages.specs.Places.{In, put2}
 use Rattle.messages.specs.Network.{Net, put_records, put_requests}
 use Rattle.messages.specs.Moves as moves
 use Rattle.messages.proofs.Lemmas.{put2_id}
-use Rattle.message_cells.specs.Pools.{IsFree, PoolLists, leader_of_request, with_requests}
-use Rattle.message_cells.proofs.Lemmas.{free_of_requests}
+use Rattle.combining_switch.specs.Pools.{IsFree, PoolLists, leader_of_request, with_requests}
+use Rattle.combining_switch.proofs.Lemmas.{free_of_requests}
 use Rattle.combining_switch.specs.declared.answers.Accepted.{Accepted}
 use Rattle.combining_switch.specs.declared.answers.Accepted.TheVariants.{Full}
 use Rattle.combining_switch.specs.Outputs.{OutputLists, accepted, output_in}
@@ -23,7 +23,7 @@ use Rattle.omega_network.proofs.Changes.{at_queue, requests_put, switch_records_
 use Rattle.omega_network.proofs.Forms.{in_pool, lists_are, queue_is}
 use Rattle.omega_network.proofs.Kept.{pool_kept, records_kept}
 use Rattle.omega_network.proofs.Offers.{Became, Offered, after, offered_there, one_more, output_at, same_records, stalls}
-use Rattle.omega_network.proofs.Seconds.{queues_changed, record_added}
+use Rattle.omega_network.proofs.SecondReplies.{queues_changed, record_added}
 use Rattle.omega_network.proofs.Switches.{half_of_wire, place_within, queue_within, with_pool, with_switch}
 
 -- ---- the switch that a call finds

@@ -1,6 +1,5 @@
 -- A request that is offered to a switch, in a network of places.
-use Rattle.std.proofs.Common.{◌≡◌, ℕ, suc, Bool, true, false, List, [], ◌∷◌, ◌++◌, length, map, nat_lt, Option, Some, None}
-use Rattle.std.proofs.Common.{◌⊎◌, inl, inr, refl, sym, ap, subst}
+use Rattle.std.proofs.Common.{◌≡◌, ℕ, suc, Bool, true, false, List, [], ◌∷◌, ◌++◌, length, map, nat_lt, Option, Some, None, ◌⊎◌, inl, inr, refl, sym, ap, subst}
 use Rattle.std.specs.Prelude.{if◌then◌else◌}
 use Rattle.std.proofs.lemmas.List.{map-append}
 use Rattle.phi_algebra.specs.declared.phi.Phi.{Phi}
@@ -13,7 +12,7 @@ use Rattle.messages.specs.Queues.{Combination, behind, combination, combined_in,
 use Rattle.messages.specs.Network.{Net, Sizes, put_records, put_requests}
 use Rattle.messages.specs.Moves as moves
 use Rattle.messages.proofs.Lemmas.{In-append, put2_id}
-use Rattle.message_cells.specs.Pools.{leader_of_request}
+use Rattle.combining_switch.specs.Pools.{leader_of_request}
 use Rattle.combining_switch.specs.declared.answers.Accepted.{Accepted}
 use Rattle.combining_switch.specs.declared.answers.Accepted.TheVariants.{Queued, Combined, Full}
 use Rattle.combining_switch.specs.Outputs.{OutputLists, accepted, accepted_as}

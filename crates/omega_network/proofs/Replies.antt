@@ -1,7 +1,7 @@
 -- Replies that are put at a switch, in a network of places.
-use Rattle.std.proofs.Common.{◌≡◌, ℕ, suc, ◌+◌, ◌*◌, ◌/◌, ◌%◌, ◌^◌, ◌<◌, ◌≤◌, Bool, true, false, ◌&&◌, List, [], ◌∷◌, ◌++◌, length, map, ◌⊎◌, inl, inr, refl}
-use Rattle.std.proofs.Common.{sym, ap, ◌∙◌, subst}
-use Rattle.std.proofs.Common.{arith, length-set, eqb-true, eq-eqb}
+use Rattle.std.proofs.Common.{◌≡◌, ℕ, suc, ◌+◌, ◌*◌, ◌/◌, ◌%◌, ◌^◌, ◌<◌, ◌≤◌, Bool, true, false}
+use Rattle.std.proofs.Common.{◌&&◌, List, [], ◌∷◌, ◌++◌, length, map, ◌⊎◌, inl, inr, refl, sym}
+use Rattle.std.proofs.Common.{ap, ◌∙◌, subst, arith, length-set, eqb-true, eq-eqb}
 use Rattle.std.specs.Prelude.{◌==◌, not, if◌then◌else◌, nat_le}
 use Rattle.std.proofs.lemmas.List.{map-append, set-get_or}
 use Rattle.omega_wires.specs.Wires.{wire_before}
@@ -16,20 +16,19 @@ use Rattle.messages.specs.Network as network
 use Rattle.messages.specs.Moves.{push_all}
 use Rattle.messages.specs.Moves as moves
 use Rattle.messages.proofs.Lemmas.{ApartBy-filter, ApartBy-same, In-append, In-filter, In-map_from, In-put2}
-use Rattle.message_cells.specs.Pools.{IsFree, PoolLists, leader_of_reply, replies_at, with_replies}
-use Rattle.message_cells.proofs.Lemmas.{free_of_replies}
+use Rattle.combining_switch.specs.Pools.{IsFree, PoolLists, leader_of_reply, replies_at, with_replies}
+use Rattle.combining_switch.proofs.Lemmas.{free_of_replies}
 use Rattle.combining_switch.specs.declared.answers.Answered.{Answered}
 use Rattle.combining_switch.specs.declared.answers.Answered.TheVariants.{One, Many, NoRoom}
-use Rattle.combining_switch.specs.Switches.{CanBeQueued, SwitchState, answered, answered_for, has_room, input_for, put_replies, put_reply, records_at}
-use Rattle.combining_switch.specs.Switches.{with_records}
+use Rattle.combining_switch.specs.Switches.{CanBeQueued, SwitchState, answered, answered_for, has_room, input_for}
+use Rattle.combining_switch.specs.Switches.{put_replies, put_reply, records_at, with_records}
 use Rattle.omega_network.specs.Answers.{down_of}
-use Rattle.omega_network.specs.Networks.{IsNetwork, MayLead, NetworkLists, half, net_of, no_switch, place, records_behind, replies_before}
-use Rattle.omega_network.specs.Networks.{second_of}
-use Rattle.omega_network.specs.Networks.{sizes_of, switch_at}
+use Rattle.omega_network.specs.Networks.{IsNetwork, MayLead, NetworkLists, half, net_of, no_switch, place}
+use Rattle.omega_network.specs.Networks.{records_behind, replies_before, second_of, sizes_of, switch_at}
 use Rattle.omega_network.proofs.Changes.{at_output, at_reply_queue, replies_put, switch_records_put}
 use Rattle.omega_network.proofs.Forms.{form, input_is, on_way}
 use Rattle.omega_network.proofs.Kept.{IsLike, pool_kept, records_kept}
-use Rattle.omega_network.proofs.Seconds.{queues_changed, records_dropped, was_there}
+use Rattle.omega_network.proofs.SecondReplies.{queues_changed, records_dropped, was_there}
 use Rattle.omega_network.proofs.Switches.{queue_within, with_pool, with_switch}
 
 -- ---- what putting leaves

@@ -1,9 +1,9 @@
 -- The numbers of queues and switches, and what is read of the switches after one is replaced.
-use Rattle.std.proofs.Common.{◌≡◌, ℕ, zero, suc, ◌+◌, ◌-◌, ◌*◌, ◌/◌, ◌%◌, ◌^◌, ◌<◌, ◌≤◌, length, sym, ap, ◌∙◌, arith, get_or-set_same}
-use Rattle.std.proofs.Common.{lit≤, get_or-set_other, mul-le-mul_right, pow-suc}
+use Rattle.std.proofs.Common.{◌≡◌, ℕ, zero, suc, ◌+◌, ◌-◌, ◌*◌, ◌/◌, ◌%◌, ◌^◌, ◌<◌, ◌≤◌, length, sym, ap, ◌∙◌}
+use Rattle.std.proofs.Common.{arith, get_or-set_same, lit≤, get_or-set_other, mul-le-mul_right, pow-suc}
 use Rattle.std.specs.Prelude.{slice_set}
 use Rattle.std.proofs.lemmas.Nat.{mod-mul-add, div-mul-add}
-use Rattle.message_cells.specs.Pools.{PoolLists}
+use Rattle.combining_switch.specs.Pools.{PoolLists}
 use Rattle.combining_switch.specs.Switches.{SwitchState}
 use Rattle.omega_network.specs.Networks.{NetworkLists, half, no_switch, place, switch_at}
 

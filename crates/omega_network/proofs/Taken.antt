@@ -1,6 +1,6 @@
 -- A message that is put into a queue or taken out of it, in a network of places.
-use Rattle.std.proofs.Common.{◌≡◌, ℕ, suc, ◌^◌, ◌<◌, ◌≤◌, List, [], ◌∷◌, ◌++◌, length, map, drop, Option, Some, None, ◌⊎◌, inl, inr, refl, sym, ap, ◌∙◌, subst}
-use Rattle.std.proofs.Common.{length-set}
+use Rattle.std.proofs.Common.{◌≡◌, ℕ, suc, ◌^◌, ◌<◌, ◌≤◌, List, [], ◌∷◌, ◌++◌, length, map, drop, Option}
+use Rattle.std.proofs.Common.{Some, None, ◌⊎◌, inl, inr, refl, sym, ap, ◌∙◌, subst, length-set}
 use Rattle.std.specs.Prelude.{◌*◌, IfSome, slice_get, slice_index_or}
 use Rattle.std.proofs.lemmas.List.{map-append}
 use Rattle.messages.specs.declared.message.Request.{Request}
@@ -10,13 +10,13 @@ use Rattle.messages.specs.Places.{In}
 use Rattle.messages.specs.Network.{Net, put_replies, put_requests}
 use Rattle.messages.proofs.Lemmas.{In-append}
 use Rattle.messages.specs.Naming.{Names, Unnamed}
-use Rattle.message_cells.specs.Pools.{IsFree, PoolLists, leader_of_reply, leader_of_request, with_replies, with_requests}
-use Rattle.message_cells.proofs.Lemmas.{free_of_replies, free_of_requests}
+use Rattle.combining_switch.specs.Pools.{IsFree, PoolLists, leader_of_reply, leader_of_request, with_replies, with_requests}
+use Rattle.combining_switch.proofs.Lemmas.{free_of_replies, free_of_requests}
 use Rattle.omega_network.specs.Networks.{IsNetwork, MayLead, NetworkLists, net_of, place, records_behind, replies_before, requests_before}
 use Rattle.omega_network.proofs.Changes.{at_queue, at_reply_queue, replies_put, requests_put}
 use Rattle.omega_network.proofs.Kept.{IsLike, pool_kept}
 use Rattle.omega_network.proofs.Naming.{unnamed_is_free}
-use Rattle.omega_network.proofs.Seconds.{queues_changed}
+use Rattle.omega_network.proofs.SecondReplies.{queues_changed}
 use Rattle.omega_network.proofs.Switches.{queue_within, with_pool}
 
 -- ---- who may lead a message

@@ -1,14 +1,13 @@
 -- What a contract sees of a `Network`, and how its lists are read as a network of places.
-use Rattle.std.specs.Prelude.{◌≡◌, ◌==◌, ◌||◌, ◌≤◌, ◌<◌, Bool, Some, slice_get, ℕ, suc, ◌+◌, ◌-◌, ◌*◌, ◌/◌, ◌%◌, ◌^◌, List, [], ◌∷◌, length, nat_lt}
-use Rattle.std.specs.Prelude.{slice_index_or}
-use Rattle.std.specs.Prelude.{if◌then◌else◌}
+use Rattle.std.specs.Prelude.{◌≡◌, ◌==◌, ◌||◌, ◌≤◌, ◌<◌, Bool, Some, slice_get, ℕ, suc, ◌+◌, ◌-◌, ◌*◌, ◌/◌}
+use Rattle.std.specs.Prelude.{◌%◌, ◌^◌, List, [], ◌∷◌, length, nat_lt, slice_index_or, if◌then◌else◌}
 use Rattle.omega_wires.specs.Wires.{bit_of_stage}
 use Rattle.messages.specs.declared.message.Request.{Request}
 use Rattle.messages.specs.declared.message.Reply.{Reply}
 use Rattle.messages.specs.declared.message.Record.{Record}
 use Rattle.messages.specs.Places.{ApartBy, In}
 use Rattle.messages.specs.Network.{Net, Sizes}
-use Rattle.message_cells.specs.Pools.{IsFree, PoolLists, replies_at, requests_at}
+use Rattle.combining_switch.specs.Pools.{IsFree, PoolLists, replies_at, requests_at}
 use Rattle.std.specs.List.{list_any}
 use Rattle.combining_switch.specs.Switches.{SwitchState, records_at}
 

@@ -12,8 +12,7 @@ ghost use Rattle.combining_switch.specs.Switches.{records_at};
 ghost use Rattle.omega_network.specs.Answers.{down_of, up_of};
 ghost use Rattle.omega_network.specs.Networks.{AreNew, HasNoMessage, HasNoRecord, MayLead, half, is_named, is_second, net_of, place, sizes_of, the_switch};
 
-use combining_switch::{Accepted, Answered, Switch};
-use message_cells::Pool;
+use combining_switch::{Accepted, Answered, Pool, Switch};
 use messages::{DownMove, Record, Reply, Request, UpMove, moves_of_nothing_stall};
 use omega_wires::{module_of, wire_after};
 use phi_algebra::Phi;

@@ -1,2 +1,4 @@
 pub mod Paths
+pub mod Changes
+pub mod First
 pub mod Lemmas

@@ -1,9 +1,8 @@
 -- The laws of the wiring.
-use Rattle.std.proofs.Common.{◌≡◌, ℕ, zero, suc, ◌+◌, ◌-◌, ◌*◌, ◌/◌, ◌%◌, ◌^◌, ◌<◌, ◌≤◌, refl, sym, ap, ap₂, ◌∙◌, subst, arith, pow-suc, pow-add, pow_pos}
-use Rattle.std.proofs.Common.{mul-le-mul_right, mod-eq_of_lt, mul_comm, mul_assoc}
-use Rattle.std.proofs.lemmas.Nat.{div-mul-add, mod-mul-add, mod-pow-add, mod_below, shr_below, shr-shr, div-add-mod'}
-use Rattle.std.proofs.Common.{inl, inr, bit_and}
-use Rattle.std.proofs.lemmas.Nat.{and_mask}
+use Rattle.std.proofs.Common.{◌≡◌, ℕ, zero, suc, ◌+◌, ◌-◌, ◌*◌, ◌/◌, ◌%◌, ◌^◌, ◌<◌, ◌≤◌, refl, sym}
+use Rattle.std.proofs.Common.{ap, ap₂, ◌∙◌, subst, arith, pow-suc, pow-add, pow_pos, mul-le-mul_right}
+use Rattle.std.proofs.Common.{mod-eq_of_lt, mul_comm, mul_assoc, inl, inr, bit_and}
+use Rattle.std.proofs.lemmas.Nat.{div-mul-add, mod-mul-add, mod-pow-add, mod_below, shr_below, shr-shr, div-add-mod', and_mask}
 use Rattle.std.proofs.Math.Pow.{pow_mono}
 use Rattle.std.proofs.lemmas.Bool.{cases_lt}
 use Rattle.omega_wires.specs.Laws.{RotationsAreInverse, RotationsStayOnWires, PathsThatMeetStayTogether, RepliesEndAtTheirLeader}

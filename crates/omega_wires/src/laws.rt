@@ -1,8 +1,9 @@
 //! What holds of every way through the network. Each is the contract of a function that does
 //! nothing.
 
-ghost use Rattle.omega_wires.specs.Laws.{PathEndsAtTheModule, PathsStayOnWires, PathsThatMeetStayTogether, RepliesEndAtTheirLeader, RepliesGoBackTheSameWay};
-ghost use Rattle.omega_wires.specs.Laws.{RotationsAreInverse, RotationsStayOnWires};
+ghost use Rattle.omega_wires.specs.Laws.{PathEndsAtTheModule, PathsStayOnWires, PathsThatMeetStayTogether};
+ghost use Rattle.omega_wires.specs.Laws.{RepliesEndAtTheirLeader, RepliesGoBackTheSameWay, RotationsAreInverse};
+ghost use Rattle.omega_wires.specs.Laws.{RotationsStayOnWires};
 
 /// Each rotation undoes the other, and both give wires.
 pub fn rotations_are_inverse()

@@ -9,7 +9,7 @@
 //!
 //! `specs/Wires.antt` has the definitions, and `specs/Laws.antt` what holds of every way: where it ends,
 //! that a reply goes back over the same wires, and that two ways to one module that meet stay
-//! together. No call here takes memory.
+//! together. A [`WireSet`] is a set of wires of one stage. No call here takes memory.
 //!
 //! Source: the perfect shuffle and the omega network are those of Lawrie, "Access and Alignment of
 //! Data in an Array Processor", IEEE Transactions on Computers C-24(12), 1975. Which bit a stage goes
@@ -17,12 +17,16 @@
 #![tactic(auto)]
 
 mod laws;
+mod set_laws;
+mod wire_set;
 mod wires;
 
 pub use laws::{
     path_ends_at_the_module, paths_stay_on_wires, paths_that_meet_stay_together,
     replies_go_back_the_same_way, rotations_are_inverse,
 };
+pub use set_laws::no_bits_no_wires;
+pub use wire_set::WireSet;
 pub use wires::{
     bit, input_port, module_of, path, rotate_left, rotate_right, switch_of, wire_after, wire_before,
 };

@@ -1,6 +1,6 @@
 -- The composition is one, and there is none only where the functions are apart.
-use Rattle.std.proofs.Common.{◌≡◌, ℕ, ◌+◌, ◌%◌, ◌^◌, ◌<◌, ◌≤◌, ◌≢◌, ◌↔◌, Bool, true, false, ◌||◌, refl, sym, ap, ◌∙◌, arith, min, max, ℤ, ◌≤ℤ◌, Option, Some}
-use Rattle.std.proofs.Common.{None, IsNone, IfSome, FitsSigned, if◌then◌else◌}
+use Rattle.std.proofs.Common.{◌≡◌, ℕ, ◌+◌, ◌%◌, ◌^◌, ◌<◌, ◌≤◌, ◌≢◌, ◌↔◌, Bool, true, false, ◌||◌, refl, sym, ap, ◌∙◌}
+use Rattle.std.proofs.Common.{arith, min, max, ℤ, ◌≤ℤ◌, Option, Some, None, IsNone, IfSome, FitsSigned, if◌then◌else◌}
 use Rattle.std.specs.Int.{w32, cast_signed, cast_unsigned, bit_at}
 use Rattle.std.specs.Int.Bits.{bit_and, bit_xor, xor_assoc}
 use Rattle.std.proofs.lemmas.Int.{ints, to_z-of_z}

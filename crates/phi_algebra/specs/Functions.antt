@@ -3,8 +3,8 @@ use Rattle.std.specs.Prelude.{◌≡◌, ℕ, ◌+◌, ◌-◌, ◌%◌, ◌^◌
 use Rattle.std.specs.Int.{w32, cast_signed, cast_unsigned}
 use Rattle.phi_algebra.specs.declared.phi.Phi.{Phi}
 use Rattle.phi_algebra.specs.declared.phi.Phi.TheVariants.{Add, Bits, Clamp, ClampU}
-use Rattle.phi_algebra.specs.Ranges.{IsSignedRange, IsUnsignedRange, clamped_signed, clamped_unsigned, is_full_signed, is_full_unsigned, is_single_signed}
-use Rattle.phi_algebra.specs.Ranges.{is_single_unsigned}
+use Rattle.phi_algebra.specs.Ranges.{IsSignedRange, IsUnsignedRange, clamped_signed, clamped_unsigned, is_full_signed}
+use Rattle.phi_algebra.specs.Ranges.{is_full_unsigned, is_single_signed, is_single_unsigned}
 
 unfoldable pub apply : Phi → ℕ → ℕ
 apply (Add e) x = (x + e) % 2 ^ 32

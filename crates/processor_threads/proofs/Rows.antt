@@ -2,8 +2,8 @@
 use Rattle.std.proofs.Common.{◌≡◌, ℕ, zero, suc, List, [], ◌∷◌, ◌++◌, length, length-append, refl, sym, ap, ◌∙◌, subst, arith}
 use Rattle.std.specs.Prelude.{map, replicate, Option, Some, None, slice_get}
 use Rattle.std.proofs.lemmas.List.{map-append}
-use Rattle.machine_passes.specs.Passes.{Held, held, IsWhole, new_passes}
-use Rattle.machine_passes.specs.Rows.{new_row}
+use Rattle.machine_lock.specs.Passes.{Held, held, IsWhole, new_passes}
+use Rattle.machine_lock.specs.Rows.{new_row}
 use Rattle.console_monitor.specs.Ends.{sent_by}
 use Rattle.console_monitor.specs.declared.monitor.End.{End}
 use Rattle.processor_threads.specs.declared.fault.RunFault.{RunFault}

@@ -1,6 +1,6 @@
 -- What a call tells a pass is sent, or is held.
-use Rattle.std.proofs.Common.{◌≡◌, ℕ, ◌+◌, Bool, true, false, List, [], ◌∷◌, ◌++◌, length, length-append, refl, sym, ap, ◌∙◌, subst}
-use Rattle.std.proofs.Common.{append_assoc, arith, eq-eqb, ◌⊎◌, inl, inr}
+use Rattle.std.proofs.Common.{◌≡◌, ℕ, ◌+◌, Bool, true, false, List, [], ◌∷◌, ◌++◌, length, length-append}
+use Rattle.std.proofs.Common.{refl, sym, ap, ◌∙◌, subst, append_assoc, arith, eq-eqb, ◌⊎◌, inl, inr}
 use Rattle.std.specs.Prelude.{suc, All, map, Option, Some, None, Result, Ok, Err, IfOk, OnOk, is_ok, if◌then◌else◌}
 use Rattle.std.specs.Result.{result_ok}
 use Rattle.std.proofs.lemmas.List.{append-nil, map-append}
@@ -15,18 +15,18 @@ use Rattle.steps.specs.declared.step.Outcome.TheVariants.{Retired, Issued, Stopp
 use Rattle.flat_machine.specs.declared.config.Config.{Config}
 use Rattle.console_monitor.specs.Ends.{held_of, put_of, sent_by}
 use Rattle.console_monitor.specs.declared.monitor.End.{End}
-use Rattle.machine_log.specs.declared.log.LogRefusal.{LogRefusal}
-use Rattle.machine_passes.specs.declared.row.Notice.{Notice}
-use Rattle.machine_passes.specs.Lists.{given_to, shown_at, is_turn_of, is_of_network, is_net, is_stop}
-use Rattle.machine_passes.specs.declared.desk.Round.{Round}
-use Rattle.machine_passes.specs.declared.desk.Rounds.{Rounds}
-use Rattle.machine_passes.specs.declared.row.Row.{Row}
-use Rattle.machine_passes.specs.Rows.{told, told_all}
-use Rattle.machine_passes.specs.Passes.{Held, held, is_answered, is_waiting, leaves_waiting, IsTold, IsTurned, IsAsked, TurnAndStep, GoesOnWith, HaveGone}
-use Rattle.machine_passes.specs.Passes.{HaveWaited, HasGoneOn, IsReturned, LoanState}
-use Rattle.local_runs.specs.LocalRuns.{EndsAt, IsQuiet, RetirementList}
-use Rattle.local_runs.specs.declared.run.LocalEnd.{LocalEnd}
-use Rattle.local_runs.specs.declared.run.LocalEnd.TheVariants.{Out, Most, Other}
+use Rattle.machine_log.specs.declared.refusal.LockRefusal.{LockRefusal}
+use Rattle.machine_lock.specs.declared.row.Notice.{Notice}
+use Rattle.machine_lock.specs.Lists.{given_to, shown_at, is_turn_of, is_of_network, is_net, is_stop}
+use Rattle.machine_lock.specs.declared.desk.Round.{Round}
+use Rattle.machine_lock.specs.declared.desk.Rounds.{Rounds}
+use Rattle.machine_lock.specs.declared.row.Row.{Row}
+use Rattle.machine_lock.specs.Rows.{told, told_all}
+use Rattle.machine_lock.specs.Passes.{Held, held, is_answered, is_waiting, leaves_waiting, IsTold, IsTurned, IsAsked}
+use Rattle.machine_lock.specs.Passes.{TurnAndStep, GoesOnWith, HaveGone, HaveWaited, HasGoneOn, IsReturned, LoanState}
+use Rattle.hart.specs.LocalRuns.{EndsAt, IsQuiet, RetirementList}
+use Rattle.hart.specs.declared.run.LocalEnd.{LocalEnd}
+use Rattle.hart.specs.declared.run.LocalEnd.TheVariants.{Out, Most, Other}
 use Rattle.processor_threads.specs.Consoles.{console_bytes, console_of, byte_of, end_queue, given_by, HoldsAnswer, IsHeard, IsWithin}
 use Rattle.processor_threads.specs.declared.fault.RunFault.{RunFault}
 use Rattle.processor_threads.specs.declared.hand.Gone.{Gone}
@@ -189,26 +189,26 @@ netted c from old new s o net t =
 -- ---- a turn, and then a step of the network
 
 -- What is asked for behind the turn gives the processor nothing.
-asked : (c : Config) (from : ℕ) (turn : Outcome) (old new : Held) (s : Step) (net : Option (Result Outcome LogRefusal)) → IsAsked from c turn old s net new →
+asked : (c : Config) (from : ℕ) (turn : Outcome) (old new : Held) (s : Step) (net : Option (Result Outcome LockRefusal)) → IsAsked from c turn old s net new →
     console_of new ≡ console_of old
 asked c from turn old new s None a = ap console_of a.1
 asked c from turn old new s (Some (Ok o)) a = let yes = a.1 in netted c from old new s o (λ no. absurd (cc)) a.2
-asked c from turn old new s (Some (Err e)) a = ap console_of a.2
+asked c from turn old new s (Some (Err e)) a = ap console_of a.3
 
 -- A round holds the byte that its turn gives, where none was held.
-pub turned_round : (c : Config) (from : ℕ) (old new : Held) (o : Outcome) (s : Step) (net : Option (Result Outcome LogRefusal)) (put : List ℕ) →
+pub turned_round : (c : Config) (from : ℕ) (old new : Held) (o : Outcome) (s : Step) (net : Option (Result Outcome LockRefusal)) (put : List ℕ) →
     TurnAndStep from c old o s net new → console_of old ≡ put ++ [] → console_of new ≡ put ++ held_of (byte_of o)
 turned_round c from old new o s net put t e = asked c from o t.between new s net t.net_is ∙ turn_given old.row.lent from old t.between o put t.turn_is e
 
 -- Behind a turn that stops the processor nothing is asked for.
-none_asked : (c : Config) (from : ℕ) (turn : Outcome) (old new : Held) (s : Step) (net : Option (Result Outcome LogRefusal)) →
+none_asked : (c : Config) (from : ℕ) (turn : Outcome) (old new : Held) (s : Step) (net : Option (Result Outcome LockRefusal)) →
     IsAsked from c turn old s net new → is_stop turn ≡ true → new ≡ old
 none_asked c from turn old new s None a stop = a.1
 none_asked c from turn old new s (Some (Ok o)) a stop = let no = a.0 in absurd (cc)
 none_asked c from turn old new s (Some (Err e)) a stop = let no = a.0 in absurd (cc)
 
 -- So a round whose turn stops the processor ends its list with the stop.
-pub stops_round : (c : Config) (from : ℕ) (old new : Held) (o : Outcome) (s : Step) (net : Option (Result Outcome LogRefusal)) →
+pub stops_round : (c : Config) (from : ℕ) (old new : Held) (o : Outcome) (s : Step) (net : Option (Result Outcome LockRefusal)) →
     TurnAndStep from c old o s net new → is_stop o ≡ true → EndsWithStop new
 stops_round c from old new o s net t stop =
     subst EndsWithStop (sym (none_asked c from o t.between new s net t.net_is stop)) (turn_stops old.row.lent from old t.between o t.turn_is stop)
@@ -216,7 +216,7 @@ stops_round c from old new o s net t stop =
 -- ---- the answer to a round
 
 -- What was given is sent or held once the answer is heard, where nothing was held before.
-heard : (c : Config) (from : ℕ) (old new : Held) (answer : Result Round LogRefusal) (s : Step) (end end' : End) (over : Result Gone RunFault) →
+heard : (c : Config) (from : ℕ) (old new : Held) (answer : Result Round LockRefusal) (s : Step) (end end' : End) (over : Result Gone RunFault) →
     GoesOnWith from c old answer s new → HoldsAnswer answer end end' over → end.held ≡ None → console_of old ≡ sent_by end → console_of new ≡ sent_by end'
 heard c from old new (Ok r) s end end' over on is none sent =
     turned_round c from old new r.turn s r.net (put_of end.sender) on (sent ∙ ap (λ held. put_of end.sender ++ held_of held) none)
@@ -224,7 +224,7 @@ heard c from old new (Ok r) s end end' over on is none sent =
 heard c from old new (Err refusal) s end end' over on is none sent = ap console_of on ∙ sent ∙ ap sent_by (sym is.0)
 
 -- A round that is told as the last one has stopped the processor.
-heard_stop : (c : Config) (from : ℕ) (old new : Held) (answer : Result Round LogRefusal) (s : Step) (end end' : End) (over : Result Gone RunFault)
+heard_stop : (c : Config) (from : ℕ) (old new : Held) (answer : Result Round LockRefusal) (s : Step) (end end' : End) (over : Result Gone RunFault)
     (gone : Gone) → GoesOnWith from c old answer s new → HoldsAnswer answer end end' over → over ≡ Ok gone → gone.stopped ≡ true → EndsWithStop new
 heard_stop c from old new (Ok r) s end end' over gone on is told stop = stops_round c from old new r.turn s r.net on (is.1 gone told stop)
 heard_stop c from old new (Err refusal) s end end' over gone on is told stop = absurd (is.1 gone told stop)
@@ -247,7 +247,7 @@ waiting_gives (Served leader) e = absurd (cc)
 waiting_gives (Answered to) e = absurd (cc)
 waiting_gives Poked e = absurd (cc)
 
-wait_given : (c : Config) (from : ℕ) (old new : Held) (answer : Result Round LogRefusal) (s : Step) → leaves_waiting answer ≡ true →
+wait_given : (c : Config) (from : ℕ) (old new : Held) (answer : Result Round LockRefusal) (s : Step) → leaves_waiting answer ≡ true →
     GoesOnWith from c old answer s new → console_of new ≡ console_of old
 wait_given c from old new (Ok r) s waits on =
     turned_round c from old new r.turn s r.net (console_of old) on (sym (append-nil (console_of old)))
@@ -285,7 +285,7 @@ module _ (c : Config) (from : ℕ) (old new : Held) (steps : List Step) (rounds 
           (omega (arith, same, count), omega (arith, same, count, all))
       within (Err fault) same = tt
 
-heard_queue : (answer : Result Round LogRefusal) (end end' : End) (over : Result Gone RunFault) → HoldsAnswer answer end end' over →
+heard_queue : (answer : Result Round LockRefusal) (end end' : End) (over : Result Gone RunFault) → HoldsAnswer answer end end' over →
     end_queue end' ≡ end_queue end
 heard_queue (Ok r) end end' over is = ap end_queue is.0
 heard_queue (Err refusal) end end' over is = ap end_queue is.0

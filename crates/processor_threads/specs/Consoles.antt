@@ -5,14 +5,14 @@ use Rattle.flat_machine.specs.declared.event.Event.{Event}
 use Rattle.flat_machine.specs.declared.event.Event.TheVariants as event
 use Rattle.steps.specs.declared.step.Outcome.{Outcome}
 use Rattle.steps.specs.declared.step.Outcome.TheVariants.{Retired, Issued, Stopped, Moved, Combined, Served, Answered, Poked, Stalled}
-use Rattle.machine_log.specs.declared.log.LogRefusal.{LogRefusal}
-use Rattle.machine_passes.specs.declared.desk.Round.{Round}
-use Rattle.machine_passes.specs.declared.desk.Rounds.{Rounds}
-use Rattle.machine_passes.specs.Lists.{is_stop}
+use Rattle.machine_log.specs.declared.refusal.LockRefusal.{LockRefusal}
+use Rattle.machine_lock.specs.declared.desk.Round.{Round}
+use Rattle.machine_lock.specs.declared.desk.Rounds.{Rounds}
+use Rattle.machine_lock.specs.Lists.{is_stop}
 use Rattle.console_monitor.specs.Ends.{held_of, sender_queue}
 use Rattle.console_monitor.specs.declared.monitor.End.{End}
-use Rattle.agreed_rows.specs.atomic_table.Seated.{TableId}
-use Rattle.machine_passes.specs.Passes.{Held}
+use Rattle.ghost_map.specs.atomic_table.Seated.{TableId}
+use Rattle.machine_lock.specs.Passes.{Held}
 use Rattle.processor_threads.specs.declared.fault.RunFault.{RunFault}
 use Rattle.processor_threads.specs.declared.hand.Gone.{Gone}
 
@@ -59,7 +59,7 @@ IsWithin count most = (1 ≤ count) × (count ≤ most)
 
 -- The end of a console's queue holds the byte that the last round's turn has given; only a turn that has stopped its processor is told as
 -- one.
-abbrev pub HoldsAnswer : (answer : Result Round LogRefusal) → (old new : End) → (over : Result Gone RunFault) → Type 0
+abbrev pub HoldsAnswer : (answer : Result Round LockRefusal) → (old new : End) → (over : Result Gone RunFault) → Type 0
 HoldsAnswer (Ok round) old new over =
     (new ≡ record old { held = byte_of round.turn }) × ((gone : Gone) → over ≡ Ok gone → gone.stopped ≡ true → is_stop round.turn ≡ true)
 HoldsAnswer (Err refusal) old new over = (new ≡ old) × ((gone : Gone) → over ≡ Ok gone → gone.stopped ≡ true → ⊥)

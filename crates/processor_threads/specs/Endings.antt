@@ -4,8 +4,8 @@ use Rattle.flat_machine.specs.declared.event.Cause.{Cause}
 use Rattle.flat_machine.specs.declared.event.Event.TheVariants.{Stopped}
 use Rattle.console_monitor.specs.Ends.{sent_by}
 use Rattle.console_monitor.specs.declared.monitor.End.{End}
-use Rattle.machine_passes.specs.declared.row.Notice.{Notice}
-use Rattle.machine_passes.specs.Passes.{Held}
+use Rattle.machine_lock.specs.declared.row.Notice.{Notice}
+use Rattle.machine_lock.specs.Passes.{Held}
 use Rattle.processor_threads.specs.declared.fault.RunFault.{RunFault}
 use Rattle.processor_threads.specs.declared.fault.RunFault.TheVariants.{Memory, Console}
 use Rattle.processor_threads.specs.Consoles.{console_of, end_queue}

@@ -2,7 +2,7 @@
 
 ghost use Rattle.std.specs.Prelude.{◌≡◌, ◌+◌, ◌-◌, ◌≤◌, ◌<◌, length};
 
-use shuffled::Arbiter;
+use schedules::Arbiter;
 use steps::Step;
 
 /// How many steps an arbiter is asked for at once, at most.

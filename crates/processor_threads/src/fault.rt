@@ -3,7 +3,7 @@
 ghost use Rattle.std.specs.Prelude.{◌≡◌};
 ghost use Rattle.processor_threads.specs.Faults.{graver_of, is_of_host};
 
-use machine_log::LogRefusal;
+use machine_log::LockRefusal;
 use thiserror::Error;
 
 /// Why a run ended before each processor had stopped, or what it wanted.
@@ -59,10 +59,10 @@ pub(crate) fn graver_of(first: Option<RunFault>, second: Option<RunFault>) -> Op
 /// # Errors
 ///
 /// [`RunFault::Full`] where the log is full, and [`RunFault::Memory`].
-pub(crate) fn heed(refusal: LogRefusal) -> Result<(), RunFault> {
+pub(crate) fn heed(refusal: LockRefusal) -> Result<(), RunFault> {
     match refusal {
-        LogRefusal::Memory => Err(RunFault::Memory),
-        LogRefusal::Full => Err(RunFault::Full),
-        LogRefusal::Unnamed => Ok(()),
+        LockRefusal::Memory => Err(RunFault::Memory),
+        LockRefusal::Full => Err(RunFault::Full),
+        LockRefusal::Unnamed | LockRefusal::NotFree => Ok(()),
     }
 }

@@ -1,7 +1,7 @@
 //! What the thread of a processor holds of the machine and of the console.
 
 ghost use Rattle.std.specs.Prelude.{◌≡◌, ◌≤◌, [], length, true, None, Ok, IfOk};
-ghost use Rattle.machine_passes.specs.Passes.{IsLoanOf};
+ghost use Rattle.machine_lock.specs.Passes.{IsLoanOf};
 ghost use Rattle.console_monitor.specs.Ends.{held_of, sent_by};
 ghost use Rattle.processor_threads.specs.Consoles.{byte_of, console_of, end_queue, IsHeard, IsWithin};
 ghost use Rattle.processor_threads.specs.declared.hand.Gone.{Gone};
@@ -10,10 +10,9 @@ ghost use Rattle.processor_threads.specs.Endings.{EndsWithStop};
 use crate::fault::{RunFault, heed};
 use crate::terms::Terms;
 use console_monitor::End;
-use local_runs::LocalEnd;
-use machine_loans::LendRefusal;
-use machine_log::LogRefusal;
-use machine_passes::{Loan, Pass, Rounds, Run, Shared, is_stop, is_waiting};
+use hart::LocalEnd;
+use machine_lock::{Loan, Pass, Rounds, Run, Shared, is_stop, is_waiting};
+use machine_log::LockRefusal;
 use std::alloc::Global;
 use std::sync::Wait;
 use steps::{Outcome, Step};
@@ -79,8 +78,10 @@ impl<N: Run> Hand<N> {
         }
         match shared.lend(rt, alloc, &mut self.pass, MOST) {
             Ok(loan) => self.run_alone(rt, shared, loan, steps),
-            Err(LendRefusal::Memory) => Err(RunFault::Memory),
-            Err(LendRefusal::Full | LendRefusal::NotFree) => self.turns(rt, shared, steps),
+            Err(LockRefusal::Memory) => Err(RunFault::Memory),
+            Err(LockRefusal::Full | LockRefusal::NotFree | LockRefusal::Unnamed) => self.turns(
+                rt, shared, steps,
+            ),
         }
     }
 
@@ -204,7 +205,7 @@ fn hear(end: &mut End, waits: &mut bool, rounds: Rounds) -> Result<Gone, RunFaul
 }
 
 /// Whether a thread goes on whose step of the network was answered so.
-fn heed_net(net: Option<Result<Outcome, LogRefusal>>) -> Result<(), RunFault> {
+fn heed_net(net: Option<Result<Outcome, LockRefusal>>) -> Result<(), RunFault> {
     match net {
         Some(Err(refusal)) => heed(refusal),
         _ => Ok(()),

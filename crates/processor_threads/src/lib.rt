@@ -1,6 +1,6 @@
 //! The processors of a machine, each run by a thread of its own.
 //!
-//! [`run_threads`] takes a logged machine, puts it under the lock (`machine_passes`), and runs a thread for each processor, which takes
+//! [`run_threads`] takes a logged machine, puts it under the lock (`machine_lock`), and runs a thread for each processor, which takes
 //! its turns and asks for steps of the network, and one that listens to what they send to the console (`console_monitor`). Once all
 //! threads have ended, the log, what the passes store and the consoles agree, whatever the threads did side by side.
 #![tactic(auto)]
@@ -18,3 +18,4 @@ mod worker;
 pub use fault::RunFault;
 pub use gate::{Gate, Open};
 pub use run::{Ended, run_threads};
+pub use schedules::{Arbiter, Shuffled};

@@ -6,7 +6,7 @@ ghost use Rattle.processor_threads.specs.Consoles.{AreBeginnings, bytes_of, end_
 
 use crate::fault::{RunFault, graver_of};
 use crate::terms::{LISTENER, Terms};
-use console_monitor::{End, Monitor, Sender, console};
+use console_monitor::{ConsoleRefusal, End, Monitor, Sender, console};
 use std::alloc::{AllocError, Global};
 use std::sync::Wait;
 
@@ -22,7 +22,10 @@ pub(crate) struct Listener {
 }
 
 /// The consoles of so many processors: an end for each, and what listens to them.
-pub(crate) fn consoles(alloc: Global, processors: u8) -> Result<(Vec<End>, Listener), AllocError>
+pub(crate) fn consoles(
+    alloc: Global,
+    processors: u8,
+) -> Result<(Vec<End>, Listener), ConsoleRefusal>
     ensures queues { IfOk result (λ made. map end_queue made.0.items ≡ queues_of made.1.monitor) }
     ensures sent { IfOk result (λ made. map sent_by made.0.items ≡ replicate processors []) }
 {
@@ -142,7 +145,7 @@ impl Listener {
                 Ok(()) => (taken, fault),
                 Err(AllocError) => (taken, graver_of(fault, Some(RunFault::Console))),
             },
-            Err(AllocError) => {
+            Err(ConsoleRefusal::Memory) => {
                 clear_each(&mut taken);
                 (taken, graver_of(fault, Some(RunFault::Console)))
             }

@@ -1,8 +1,8 @@
 //! A run of a logged machine on threads.
 
 ghost use Rattle.std.specs.Prelude.{◌≡◌, ℕ, ◌≤◌, ◌^◌, None, Some, [], map, replicate, slice_get, vec_len};
-ghost use Rattle.machine_passes.specs.Rows.{Fits};
-ghost use Rattle.machine_passes.specs.Passes.{Held, IsWhole, TotalsAgree, new_passes, rows_of};
+ghost use Rattle.machine_lock.specs.Rows.{Fits};
+ghost use Rattle.machine_lock.specs.Passes.{Held, IsWhole, TotalsAgree, new_passes, rows_of};
 ghost use Rattle.console_monitor.specs.Ends.{queues_of, sent_by};
 ghost use Rattle.processor_threads.specs.Consoles.{AreBeginnings, bytes_of, console_of, end_queue};
 ghost use Rattle.processor_threads.specs.Endings.{EndsWithStop, IsOfMemory, IsToldOf, WereMade};
@@ -12,11 +12,11 @@ use crate::fault::{RunFault, graver_of};
 use crate::gate::Gate;
 use crate::listener::{Listener, consoles};
 use crate::terms::Terms;
-use agreed_rows::Room;
 use flat_machine::Config;
+use ghost_map::Room;
+use machine_lock::{Pass, Row, Run, Shared};
 use machine_log::Logged;
-use machine_passes::{Pass, Row, Run, Shared};
-use shuffled::Arbiter;
+use schedules::Arbiter;
 use std::alloc::Global;
 use std::sync::Wait;
 use std::thread::Threads;

@@ -11,8 +11,8 @@ use crate::gate::Gate;
 use crate::hand::{Gone, Hand};
 use crate::terms::Terms;
 use flat_machine::Event;
-use machine_passes::{Run, Shared};
-use shuffled::Arbiter;
+use machine_lock::{Run, Shared};
+use schedules::Arbiter;
 use std::sync::Wait;
 use std::thread::yield_now;
 

@@ -1,6 +1,7 @@
 -- A network with one slot or one switch replaced, as a network of places.
-use Rattle.std.proofs.Common.{◌≡◌, ℕ, zero, suc, ◌/◌, ◌%◌, ◌^◌, ◌<◌, ◌≤◌, Bool, List, [], length, drop, set, nat_lt, Option, Some, None, ◌⊎◌, inl, inr, refl}
-use Rattle.std.proofs.Common.{sym, ap, ◌∙◌, arith, lt-ltb, le-ltb, get_or-set_same, get_or-set_other}
+use Rattle.std.proofs.Common.{◌≡◌, ℕ, zero, suc, ◌/◌, ◌%◌, ◌^◌, ◌<◌, ◌≤◌, Bool, List, [], length}
+use Rattle.std.proofs.Common.{drop, set, nat_lt, Option, Some, None, ◌⊎◌, inl, inr, refl, sym, ap}
+use Rattle.std.proofs.Common.{◌∙◌, arith, lt-ltb, le-ltb, get_or-set_same, get_or-set_other}
 use Rattle.std.specs.Prelude.{◌==◌, slice_get, if◌then◌else◌}
 use Rattle.std.specs.Option.{option_to_list}
 use Rattle.std.proofs.lemmas.Bool.{cases_eq, cases_lt, eq-eqb, ne_eqb}
@@ -10,7 +11,7 @@ use Rattle.omega_wires.specs.Laws.{RotationsAreInverse, RotationsStayOnWires}
 use Rattle.messages.specs.declared.message.Request.{Request}
 use Rattle.messages.specs.declared.message.Reply.{Reply}
 use Rattle.messages.specs.Places.{put2}
-use Rattle.ring_switch.specs.Switches.{SwitchLists, records_at, replies_at, requests_at}
+use Rattle.ring_network.specs.Switches.{SwitchLists, records_at, replies_at, requests_at}
 use Rattle.omega_network.specs.Networks.{half}
 use Rattle.ring_network.specs.Networks.{IsNetwork, NetworkLists, at_output, records_behind, replies_before, requests_before, slot_of, switch_at}
 use Rattle.ring_network.specs.Changes.{with_module_slot, with_slot, with_switch}

@@ -1,6 +1,7 @@
 -- Networks in which nothing stands.
-use Rattle.std.proofs.Common.{◌≡◌, ℕ, zero, suc, ◌+◌, ◌*◌, ◌/◌, ◌%◌, ◌^◌, ◌<◌, ◌≤◌, Bool, true, false, List, [], ◌∷◌, ◌++◌, length, get_or, Option, Some, None}
-use Rattle.std.proofs.Common.{◌⊎◌, inl, inr, refl, sym, ap, ◌∙◌, subst, arith, lt-ltb, nat_lt, mul-le-mul_left, mul_comm}
+use Rattle.std.proofs.Common.{◌≡◌, ℕ, zero, suc, ◌+◌, ◌*◌, ◌/◌, ◌%◌, ◌^◌, ◌<◌, ◌≤◌, Bool, true, false, List}
+use Rattle.std.proofs.Common.{[], ◌∷◌, ◌++◌, length, get_or, Option, Some, None, ◌⊎◌, inl, inr, refl, sym}
+use Rattle.std.proofs.Common.{ap, ◌∙◌, subst, arith, lt-ltb, nat_lt, mul-le-mul_left, mul_comm}
 use Rattle.std.specs.Prelude.{◌==◌, ◌↔◌, All, IsNone, IsTrue, if◌then◌else◌}
 use Rattle.std.specs.Option.{option_to_list}
 use Rattle.std.proofs.lemmas.Bool.{cases_lt}
@@ -8,7 +9,7 @@ use Rattle.omega_wires.specs.Wires.{input_port, rotated_left, rotated_right, swi
 use Rattle.omega_wires.specs.Laws.{RotationsAreInverse, RotationsStayOnWires}
 use Rattle.messages.specs.declared.message.Request.{Request}
 use Rattle.messages.specs.declared.message.Reply.{Reply}
-use Rattle.ring_switch.specs.Switches.{IsEmptySwitch, SwitchLists, empty_switch, records_at, replies_at, requests_at}
+use Rattle.ring_network.specs.Switches.{IsEmptySwitch, SwitchLists, empty_switch, records_at, replies_at, requests_at}
 use Rattle.messages.specs.Network.{IsEmptyNet}
 use Rattle.omega_network.specs.Networks.{half}
 use Rattle.ring_network.specs.Networks.{IsNetwork, NetworkLists, net_of, records_behind, replies_before, requests_before, slot_of, switch_at}

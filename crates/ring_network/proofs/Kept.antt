@@ -1,6 +1,7 @@
 -- What stays of a network and of a switch through every change.
-use Rattle.std.proofs.Common.{◌≡◌, ℕ, zero, suc, ◌+◌, ◌*◌, ◌/◌, ◌^◌, ◌<◌, Bool, true, false, List, [], ◌∷◌, length, set, get_or, nat_lt, Option, Some, None}
-use Rattle.std.proofs.Common.{◌⊎◌, inl, inr, refl, sym, ap, ◌∙◌, subst, arith, get_or-set_same, get_or-set_other, length-set}
+use Rattle.std.proofs.Common.{◌≡◌, ℕ, zero, suc, ◌+◌, ◌*◌, ◌/◌, ◌^◌, ◌<◌, Bool, true, false, List, [], ◌∷◌}
+use Rattle.std.proofs.Common.{length, set, get_or, nat_lt, Option, Some, None, ◌⊎◌, inl, inr, refl, sym}
+use Rattle.std.proofs.Common.{ap, ◌∙◌, subst, arith, get_or-set_same, get_or-set_other, length-set}
 use Rattle.std.proofs.lemmas.Bool.{cases_eq}
 use Rattle.omega_wires.specs.Laws.{RotationsStayOnWires}
 use Rattle.omega_wires.specs.Wires.{bit, bit_of_stage, rotated_left, switch_of}
@@ -9,9 +10,10 @@ use Rattle.messages.specs.declared.message.Reply.{Reply}
 use Rattle.messages.specs.declared.message.Record.{Record}
 use Rattle.messages.specs.Queues.{Combination, answers, combination, records_but, records_of}
 use Rattle.combining_switch.specs.Outputs.{OutputLists, accepted, accepted_as, queued}
-use Rattle.ring_switch.specs.Outputs.{empty_output}
-use Rattle.ring_switch.specs.Switches.{SwitchLists, answered, answered_from, empty_switch, has_room, output_of, put_replies, put_reply, records_at}
-use Rattle.ring_switch.specs.Switches.{with_inputs, with_output, with_records, with_requests}
+use Rattle.ring_network.specs.Outputs.{empty_output}
+use Rattle.ring_network.specs.Switches.{SwitchLists, answered, answered_from, empty_switch, has_room}
+use Rattle.ring_network.specs.Switches.{output_of, put_replies, put_reply, records_at, with_inputs}
+use Rattle.ring_network.specs.Switches.{with_output, with_records, with_requests}
 use Rattle.omega_network.specs.Networks.{half}
 use Rattle.ring_network.specs.Networks.{IsNetwork, IsSwitchOf, NetworkLists, switch_at}
 use Rattle.ring_network.specs.Changes.{with_module_slot, with_slot, with_switch}

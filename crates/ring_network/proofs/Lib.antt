@@ -3,7 +3,8 @@ pub mod Empty
 pub mod Kept
 pub mod Moves
 pub mod New
-pub mod Replies
+pub mod NetworkReplies
 pub mod Requests
 pub mod Slots
 pub mod Switches
+pub mod Rooms

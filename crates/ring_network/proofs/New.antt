@@ -1,12 +1,12 @@
 -- The switches of a new network, and that nothing stands in it.
-use Rattle.std.proofs.Common.{◌≡◌, ℕ, ◌+◌, ◌*◌, ◌/◌, ◌^◌, ◌<◌, ◌≤◌, List, [], ◌∷◌, ◌++◌, length, Some, ◌⊎◌, inl, inr, refl, sym, ap, ◌∙◌, subst}
-use Rattle.std.proofs.Common.{arith, length-append}
+use Rattle.std.proofs.Common.{◌≡◌, ℕ, ◌+◌, ◌*◌, ◌/◌, ◌^◌, ◌<◌, ◌≤◌, List, [], ◌∷◌, ◌++◌, length, Some}
+use Rattle.std.proofs.Common.{◌⊎◌, inl, inr, refl, sym, ap, ◌∙◌, subst, arith, length-append}
 use Rattle.std.specs.Prelude.{All, IsNone, slice_get}
 use Rattle.std.proofs.lemmas.Bool.{cases_lt}
 use Rattle.std.proofs.lemmas.Nat.{div-mul-add}
 use Rattle.std.proofs.lemmas.Option.{get_or_from_slice_get}
 use Rattle.omega_wires.specs.Wires.{bit_of_stage}
-use Rattle.ring_switch.specs.Switches.{IsEmptySwitch, SwitchLists, empty_switch}
+use Rattle.ring_network.specs.Switches.{IsEmptySwitch, SwitchLists, empty_switch}
 use Rattle.messages.specs.Network.{IsEmptyNet}
 use Rattle.omega_network.specs.Networks.{half}
 use Rattle.ring_network.specs.Networks.{IsNetwork, IsSwitchOf, NetworkLists, net_of, switch_at}

@@ -1,6 +1,7 @@
 -- A request that is accepted at a switch, or taken from it, in a network of places.
-use Rattle.std.proofs.Common.{◌≡◌, ℕ, suc, ◌/◌, ◌%◌, ◌^◌, ◌<◌, Bool, true, false, List, [], ◌∷◌, ◌++◌, length, drop, nat_lt, Option, Some, None, refl, sym, ap}
-use Rattle.std.proofs.Common.{◌∙◌, subst, arith, lt-ltb, get_or-set_same, get_or-set_other}
+use Rattle.std.proofs.Common.{◌≡◌, ℕ, suc, ◌/◌, ◌%◌, ◌^◌, ◌<◌, Bool, true, false, List, [], ◌∷◌}
+use Rattle.std.proofs.Common.{◌++◌, length, drop, nat_lt, Option, Some, None, refl, sym, ap, ◌∙◌}
+use Rattle.std.proofs.Common.{subst, arith, lt-ltb, get_or-set_same, get_or-set_other}
 use Rattle.std.specs.Prelude.{if◌then◌else◌}
 use Rattle.omega_wires.specs.Laws.{RotationsAreInverse, RotationsStayOnWires}
 use Rattle.messages.specs.declared.message.Request.{Request}
@@ -10,8 +11,8 @@ use Rattle.messages.specs.Network.{Net, Sizes, put_records, put_requests}
 use Rattle.combining_switch.specs.declared.answers.Accepted.{Accepted}
 use Rattle.combining_switch.specs.declared.answers.Accepted.TheVariants.{Combined}
 use Rattle.combining_switch.specs.Outputs.{OutputLists, accepted, accepted_as}
-use Rattle.ring_switch.specs.Outputs.{empty_output}
-use Rattle.ring_switch.specs.Switches.{SwitchLists, output_of, records_at, requests_at, with_output, with_requests}
+use Rattle.ring_network.specs.Outputs.{empty_output}
+use Rattle.ring_network.specs.Switches.{SwitchLists, output_of, records_at, requests_at, with_output, with_requests}
 use Rattle.ring_network.specs.Networks.{NetworkLists, at_output, net_of, records_behind, replies_before, requests_before, sizes_of, switch_at}
 use Rattle.ring_network.specs.Changes.{with_switch}
 use Rattle.ring_network.specs.Offers.{accepted_on, accepted_where, first_request_taken}

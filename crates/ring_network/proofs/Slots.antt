@@ -8,7 +8,7 @@ use Rattle.messages.specs.declared.message.Request.{Request}
 use Rattle.messages.specs.declared.message.Reply.{Reply}
 use Rattle.messages.specs.Network.{Net, Sizes, put_replies, put_requests}
 use Rattle.messages.specs.Moves.{injected, module_replied}
-use Rattle.ring_switch.specs.Switches.{SwitchLists, replies_at, requests_at}
+use Rattle.ring_network.specs.Switches.{SwitchLists, replies_at, requests_at}
 use Rattle.ring_network.specs.Networks.{IsNetwork, NetworkLists, net_of, records_behind, replies_before, requests_before, switch_at}
 use Rattle.ring_network.specs.Changes.{with_module_slot, with_slot}
 use Rattle.ring_network.specs.Offers.{first_reply_taken, first_request_taken}

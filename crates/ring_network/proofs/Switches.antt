@@ -1,8 +1,7 @@
 -- What is read of the switches of a network after one is replaced.
-use Rattle.std.proofs.Common.{◌≡◌, ℕ, ◌+◌, ◌*◌, ◌<◌, List, length, ◌⊎◌, inl, inr, sym, ap, ◌∙◌, get_or-set_same}
-use Rattle.std.proofs.Common.{get_or-set_other}
+use Rattle.std.proofs.Common.{◌≡◌, ℕ, ◌+◌, ◌*◌, ◌<◌, List, length, ◌⊎◌, inl, inr, sym, ap, ◌∙◌, get_or-set_same, get_or-set_other}
 use Rattle.std.proofs.lemmas.Bool.{cases_eq}
-use Rattle.ring_switch.specs.Switches.{SwitchLists, empty_switch}
+use Rattle.ring_network.specs.Switches.{SwitchLists, empty_switch}
 use Rattle.omega_network.specs.Networks.{half}
 use Rattle.omega_network.proofs.Lemmas.{one_place, place_within}
 use Rattle.ring_network.specs.Networks.{NetworkLists, switch_at}

@@ -3,7 +3,7 @@ use Rattle.std.specs.Prelude.{◌≡◌, ◌<◌, ℕ, ◌+◌, ◌*◌, ◌/◌
 use Rattle.omega_wires.specs.Wires.{bit_of_stage}
 use Rattle.messages.specs.declared.message.Request.{Request}
 use Rattle.messages.specs.declared.message.Reply.{Reply}
-use Rattle.ring_switch.specs.Switches.{SwitchLists, empty_switch}
+use Rattle.ring_network.specs.Switches.{SwitchLists, empty_switch}
 use Rattle.omega_network.specs.Networks.{half}
 use Rattle.ring_network.specs.Networks.{NetworkLists}
 

@@ -1,3 +1,6 @@
 pub mod Changes
 pub mod Networks
 pub mod Offers
+pub mod Outputs
+pub mod Partners
+pub mod Switches

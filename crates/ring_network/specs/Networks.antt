@@ -1,6 +1,5 @@
 -- What a contract sees of a `Network`, and how its lists are read as a network of places.
-use Rattle.std.specs.Prelude.{◌≡◌, ◌≤◌, ◌<◌, ◌==◌, ℕ, zero, suc, ◌+◌, ◌*◌, ◌/◌, ◌%◌, ◌^◌, List, [], length, nat_lt, Option, None, slice_index_or}
-use Rattle.std.specs.Prelude.{if◌then◌else◌}
+use Rattle.std.specs.Prelude.{◌≡◌, ◌≤◌, ◌<◌, ◌==◌, ℕ, zero, suc, ◌+◌, ◌*◌, ◌/◌, ◌%◌, ◌^◌, List, [], length, nat_lt, Option, None, slice_index_or, if◌then◌else◌}
 use Rattle.std.specs.Option.{option_to_list}
 use Rattle.omega_wires.specs.Wires.{bit_of_stage, input_port, switch_of}
 use Rattle.messages.specs.declared.message.Request.{Request}
@@ -9,7 +8,7 @@ use Rattle.messages.specs.declared.message.Record.{Record}
 use Rattle.messages.specs.Network.{Net, Sizes}
 use Rattle.combining_switch.specs.Outputs.{OutputLists}
 use Rattle.omega_network.specs.Networks.{half}
-use Rattle.ring_switch.specs.Switches.{SwitchLists, empty_switch, records_at, replies_at, requests_at}
+use Rattle.ring_network.specs.Switches.{SwitchLists, empty_switch, records_at, replies_at, requests_at}
 
 -- k stages of switches, each with queues of c messages and wait buffers of b records. An entry of a queue is combined up to r times.
 -- The switches stand stage by stage.

@@ -5,17 +5,17 @@ ghost use Rattle.std.specs.Option.{option_to_list};
 ghost use Rattle.omega_wires.specs.Wires.{switch_of};
 ghost use Rattle.messages.specs.Network.{IsEmptyNet, Sizes, put_replies, put_requests};
 ghost use Rattle.messages.specs.Moves.{injected, module_replied, module_taken, moved_down, moved_up, port_taken};
-ghost use Rattle.ring_switch.specs.Switches.{IsEmptySwitch};
+ghost use Rattle.ring_network.specs.Switches.{IsEmptySwitch};
 ghost use Rattle.omega_network.specs.Networks.{half};
 ghost use Rattle.ring_network.specs.Networks.{net_of, sizes_of};
 ghost use Rattle.ring_network.specs.Changes.{AreNew};
 ghost use Rattle.ring_network.specs.Offers.{accepted_on, answered_on, first_reply_taken, first_request_taken};
 
+use crate::switch::Switch;
 use combining_switch::{Accepted, Answered};
 use messages::{DownMove, Record, Reply, Request, UpMove, moves_of_nothing_stall};
 use omega_wires::{input_port, module_of, rotate_left, rotations_are_inverse, wire_after};
 use phi_algebra::Phi;
-use ring_switch::Switch;
 use std::alloc::{AllocError, Global};
 use std::marker::Model;
 

@@ -1,16 +1,16 @@
 -- A run is given by the machine's size, the budget and the bytes of the image's file.
 use Rattle.std.proofs.Common.{◌≡◌, ℕ, List, Some, sym, ◌∙◌, subst}
 use Rattle.flat_machine.specs.declared.config.Config.{Config}
-use Rattle.machine_sweep.specs.elf_image.declared.layout.Layout.{Layout}
-use Rattle.machine_sweep.specs.elf_image.Images.{ImageContents, IsMeant}
-use Rattle.machine_log.specs.machine_runs.steps.declared.step.Step.{Step}
+use Rattle.elf_image.specs.declared.layout.Layout.{Layout}
+use Rattle.elf_image.specs.Images.{ImageContents, IsMeant}
+use Rattle.machine_steps.specs.steps.declared.step.Step.{Step}
 use Rattle.machine_log.specs.Logs.{Log}
-use Rattle.machine_sweep.specs.Sweeps.{IsWholeRun, most_of}
-use Rattle.machine_sweep.specs.declared.sweeping.SweepEnd.{SweepEnd}
-use Rattle.machine_sweep.specs.declared.sweeping.SweepEnd.TheVariants.{Over}
-use Rattle.machine_sweep.specs.elf_image.Files.{IsImageOf}
-use Rattle.accounts.specs.Accounts.{IsReportOf, IsReportedRun}
-use Rattle.run_command.specs.Runs.{IsFinishedRun}
+use Rattle.schedules.specs.Sweeps.{IsWholeRun, most_of}
+use Rattle.schedules.specs.declared.sweeping.SweepEnd.{SweepEnd}
+use Rattle.schedules.specs.declared.sweeping.SweepEnd.TheVariants.{Over}
+use Rattle.elf_image.specs.Files.{IsImageOf}
+use Rattle.trace_commands.specs.Accounts.{IsReportOf, IsReportedRun}
+use Rattle.run_command.specs.SweepRuns.{IsFinishedRun}
 
 abbrev OneLayout : Type 0
 OneLayout = (shared_words : ℕ) (file : List ℕ) (one other : Layout) → IsMeant shared_words file one → IsMeant shared_words file other → one ≡ other

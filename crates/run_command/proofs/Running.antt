@@ -2,16 +2,16 @@
 use Rattle.std.proofs.Common.{◌≡◌, ℕ, List, Option, ◌∙◌, ap, sym, subst, arith}
 use Rattle.flat_machine.specs.declared.config.Config.{Config}
 use Rattle.flat_machine.specs.Limits.{IsWithinLimits}
-use Rattle.machine_sweep.specs.elf_image.Files.{IsImageOf}
-use Rattle.machine_sweep.specs.elf_image.Images.{ImageContents}
-use Rattle.machine_sweep.specs.trace_file.Traces.{HaveRecords, IsTrace, trace_of}
-use Rattle.machine_log.specs.machine_runs.Machines.{MachineLists}
-use Rattle.machine_log.specs.machine_runs.Runs.{IsOpening}
+use Rattle.elf_image.specs.Files.{IsImageOf}
+use Rattle.elf_image.specs.Images.{ImageContents}
+use Rattle.schedules.specs.trace_file.Traces.{HaveRecords, IsTrace, trace_of}
+use Rattle.machine_steps.specs.Machines.{MachineLists}
+use Rattle.machine_steps.specs.Runs.{IsOpening}
 use Rattle.machine_log.specs.Logs.{Log, IsKept}
-use Rattle.machine_sweep.specs.Sweeps.{IsSwept, most_of, opened}
-use Rattle.machine_sweep.specs.declared.sweeping.SweepEnd.{SweepEnd}
-use Rattle.accounts.proofs.Lemmas.{is_spelled}
-use Rattle.run_command.specs.Runs.{IsRunOf}
+use Rattle.schedules.specs.Sweeps.{IsSwept, most_of, opened}
+use Rattle.schedules.specs.declared.sweeping.SweepEnd.{SweepEnd}
+use Rattle.trace_commands.proofs.Lemmas.{is_spelled}
+use Rattle.run_command.specs.SweepRuns.{IsRunOf}
 
 module _ (c : Config) (budget : ℕ) (known : Option (List ℕ)) (image : ImageContents) (meant : IsImageOf c.shared_words known image) (m : MachineLists)
     (opens : IsOpening c image m) (old log : Log) (starts : old ≡ opened m) (kept : IsKept log) (end : SweepEnd)

@@ -2,13 +2,13 @@
 
 ghost use Rattle.std.specs.Prelude.{◌≡◌, ℕ, List, Some};
 ghost use Rattle.flat_machine.specs.declared.config.Config.{Config};
-ghost use Rattle.machine_log.specs.machine_runs.steps.declared.step.Step.{Step};
-ghost use Rattle.accounts.specs.Accounts.{IsReportedRun};
-ghost use Rattle.run_command.specs.Runs.{IsFinishedRun};
+ghost use Rattle.machine_steps.specs.steps.declared.step.Step.{Step};
+ghost use Rattle.trace_commands.specs.Accounts.{IsReportedRun};
+ghost use Rattle.run_command.specs.SweepRuns.{IsFinishedRun};
 
-use accounts::steps_have_one_report;
-use image_laws::input_means_one_layout;
-use machine_sweep::runs_have_one_log;
+use elf_image::input_means_one_layout;
+use schedules::runs_have_one_log;
+use trace_commands::steps_have_one_report;
 
 /// The steps of a run, its report and its exit status are a function of the machine's size, the budget and
 /// the bytes of the image's file: the same run comes out each time.

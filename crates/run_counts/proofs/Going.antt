@@ -3,8 +3,8 @@ use Rattle.std.proofs.Common.{◌≡◌, ℕ, suc, ◌+◌, ◌<◌, ◌⊎◌, 
 use Rattle.std.specs.Prelude.{slice_set, slice_index, slice_index_or, replicate, ◌==◌, if◌then◌else◌}
 use Rattle.std.proofs.lemmas.List.{get_or-set_same, get_or-set_other, get_or-replicate, length-append, length-replicate, length-set}
 use Rattle.std.proofs.lemmas.Bool.{cases_eq}
-use Rattle.told_steps.specs.Answers.{Answer}
-use Rattle.told_steps.specs.Groups.{groups_after, groups_from, groups_of, no_groups}
+use Rattle.steps.specs.Answered.{Answer}
+use Rattle.steps.specs.Groups.{groups_after, groups_from, groups_of, no_groups}
 use Rattle.run_counts.specs.Counting.{AreTimes, Noted, NotesGoOn, bumped, hit, note, noted_from, noted_of, size_of, times}
 use Rattle.run_counts.specs.Counts.{AreCounts, CountsGoOn, CountsState, counts_after, no_counts}
 use Rattle.run_counts.specs.Keys as key

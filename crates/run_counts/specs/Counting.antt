@@ -3,8 +3,8 @@ use Rattle.std.specs.Prelude.{◌≡◌, ℕ, ◌+◌, ◌<◌, ◌≤◌, ◌^�
 use Rattle.steps.specs.declared.step.Step.{Step}
 use Rattle.steps.specs.declared.step.Outcome.{Outcome}
 use Rattle.steps.specs.declared.step.Outcome.TheVariants.{Served}
-use Rattle.told_steps.specs.Answers.{Answer}
-use Rattle.told_steps.specs.Groups.{group_in, groups_after, groups_of, no_groups}
+use Rattle.steps.specs.Answered.{Answer}
+use Rattle.steps.specs.Groups.{group_in, groups_after, groups_of, no_groups}
 
 -- a step with what it did, and for how many processors a module has served
 pub record Noted : Type 0 where

@@ -1,8 +1,9 @@
 //! The lines of the counts.
 
 ghost use Rattle.std.specs.Prelude.{◌≡◌, ◌≤◌, ◌+◌, ◌*◌, ◌++◌, IfOk, OnOk, slice_index, string_bytes};
-ghost use Rattle.run_counts.specs.Lines.{first_lines, lines_of, longest_text, module_line, module_sizes, processor_line};
-ghost use Rattle.run_counts.specs.Lines.{rest_of_total, size_text, sizes_text, stage_line, total_line};
+ghost use Rattle.run_counts.specs.Lines.{first_lines, lines_of, longest_text, module_line, module_sizes};
+ghost use Rattle.run_counts.specs.Lines.{processor_line, rest_of_total, size_text, sizes_text, stage_line};
+ghost use Rattle.run_counts.specs.Lines.{total_line};
 
 use crate::counts::Counts;
 use crate::longest::{Held, Longest};

@@ -1,3 +1,9 @@
+pub mod Standing
+pub mod Least
+pub mod Distances
+pub mod Steadying
+pub mod Draining
+pub mod Drained
 pub mod Simulating
 pub mod SimulatingUp
 pub mod SimulatingDown

@@ -2,17 +2,18 @@
 use Rattle.std.proofs.Common.{◌≡◌, ℕ, Bool, true, false, ◌&&◌, List, [], ◌∷◌, nat_lt, inl, inr, Option, Some, None, refl, sym, ap, ◌∙◌, subst}
 use Rattle.std.specs.Prelude.{if◌then◌else◌}
 use Rattle.std.proofs.lemmas.Bool.{cases_Bool, true≢false}
-use Rattle.abstract_machine.specs.messages.declared.message.Request.{Request}
-use Rattle.abstract_machine.specs.messages.declared.message.Reply.{Reply}
-use Rattle.abstract_machine.specs.messages.Network.{Sizes, wires, Net}
-use Rattle.abstract_machine.specs.messages.declared.moves.UpMove.{UpMove}
-use Rattle.abstract_machine.specs.messages.declared.moves.UpMove.TheVariants as up
-use Rattle.abstract_machine.specs.messages.declared.moves.DownMove.{DownMove}
-use Rattle.abstract_machine.specs.messages.declared.moves.DownMove.TheVariants as down
-use Rattle.abstract_machine.specs.messages.Moves.{moved_up, moved_down}
-use Rattle.abstract_machine.specs.Program.{Program, Kind, Rests, Alone, Refers}
-use Rattle.abstract_machine.specs.Machine.{Machine, Step, Turn, Up, Serve, Down, Poke, Issued, Retired, stalled, retire_from, begin, turned, went_up}
-use Rattle.abstract_machine.specs.Machine.{went_down, serve_from, all_shut, poked, step, IsIdle}
+use Rattle.network_theory.specs.messages.declared.message.Request.{Request}
+use Rattle.network_theory.specs.messages.declared.message.Reply.{Reply}
+use Rattle.network_theory.specs.messages.Network.{Sizes, wires, Net}
+use Rattle.network_theory.specs.messages.declared.moves.UpMove.{UpMove}
+use Rattle.network_theory.specs.messages.declared.moves.UpMove.TheVariants as up
+use Rattle.network_theory.specs.messages.declared.moves.DownMove.{DownMove}
+use Rattle.network_theory.specs.messages.declared.moves.DownMove.TheVariants as down
+use Rattle.network_theory.specs.messages.Moves.{moved_up, moved_down}
+use Rattle.serialization.specs.Program.{Program, Kind, Rests, Alone, Refers}
+use Rattle.serialization.specs.Machine.{Machine, Step, Turn, Up, Serve, Down, Poke, Issued, Retired}
+use Rattle.serialization.specs.Machine.{stalled, retire_from, begin, turned, went_up, went_down}
+use Rattle.serialization.specs.Machine.{serve_from, all_shut, poked, step, IsIdle}
 use Rattle.serialization.specs.Order.{Passed, FlatMachine, flat_run}
 use Rattle.serialization.specs.Simulation.{shows}
 use Rattle.serialization.specs.Serialization.{FindsAt, AtTheMoment, IsFlat}

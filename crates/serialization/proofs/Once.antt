@@ -1,16 +1,16 @@
 -- Each reference is served once, by the outcomes alone.
-use Rattle.std.proofs.Common.{◌≡◌, ℕ, suc, ◌+◌, ◌≤◌, Bool, true, false, List, [], ◌∷◌, ◌++◌, length, ◌==◌, inl, inr, Option, Some, None, refl, sym, ap, ap₂}
-use Rattle.std.proofs.Common.{◌∙◌, subst, arith, eq-eqb, eqb-true, append-nil, append_assoc}
-use Rattle.std.specs.Prelude.{if◌then◌else◌}
+use Rattle.std.proofs.Common.{◌≡◌, ℕ, suc, ◌+◌, ◌≤◌, Bool, true, false, List, [], ◌∷◌, ◌++◌, length}
+use Rattle.std.proofs.Common.{◌==◌, inl, inr, Option, Some, None, refl, sym, ap, ap₂, ◌∙◌, subst}
+use Rattle.std.proofs.Common.{arith, eq-eqb, eqb-true, append-nil, append_assoc}
+use Rattle.std.specs.Prelude.{if◌then◌else◌, ◌||◌}
 use Rattle.std.proofs.lemmas.Bool.{cases_eq, cases_Bool, true≢false}
-use Rattle.abstract_machine.specs.messages.Places.{put, In}
-use Rattle.abstract_machine.specs.messages.Network.{Sizes}
-use Rattle.std.specs.Prelude.{◌||◌}
-use Rattle.abstract_machine.specs.Program.{Program, Keeps}
-use Rattle.abstract_machine.specs.Machine.{Machine, Step, Outcome, Issued, Advanced, Retired, Moved, Combined, Served, Answered, Poked, Stalled, step}
-use Rattle.serialization.specs.Order.{group_after, segment, served_from, served_after, Passed, pass, passes, from_machine, FlatMachine, flat_of, ran, outcomes}
-use Rattle.serialization.specs.Order.{groups_after, serial_order}
-use Rattle.abstract_machine.proofs.Lemmas.messages.{put_other, put_same}
+use Rattle.network_theory.specs.messages.Places.{put, In}
+use Rattle.network_theory.specs.messages.Network.{Sizes}
+use Rattle.serialization.specs.Program.{Program, Keeps}
+use Rattle.serialization.specs.Machine.{Machine, Step, Outcome, Issued, Advanced, Retired, Moved, Combined, Served, Answered, Poked, Stalled, step}
+use Rattle.serialization.specs.Order.{group_after, segment, served_from, served_after, Passed, pass, passes}
+use Rattle.serialization.specs.Order.{from_machine, FlatMachine, flat_of, ran, outcomes, groups_after, serial_order}
+use Rattle.network_theory.proofs.Lemmas.messages.{put_other, put_same}
 use Rattle.serialization.specs.Serialization.{Begins, serves, times_served, IsRetirement, HasNotRetired, EachServedOnce, is_among}
 use Rattle.serialization.proofs.Serial.{Follows, follows, follows_step, follows_passes}
 use Rattle.serialization.proofs.Moments.{issues_by, retires_served, shut_unserved, unserved_of}

@@ -1,31 +1,32 @@
 -- The machine is the flat one after the order, at each moment.
-use Rattle.std.proofs.Common.{◌≡◌, ℕ, suc, ◌<◌, Bool, true, false, ◌&&◌, List, [], ◌∷◌, ◌++◌, length, map, nat_lt, inl, inr, Option, Some, None, refl, sym, ap}
+use Rattle.std.proofs.Common.{◌≡◌, ℕ, suc, ◌<◌, Bool, true, false, ◌&&◌, List, [], ◌∷◌, ◌++◌}
+use Rattle.std.proofs.Common.{length, map, nat_lt, inl, inr, Option, Some, None, refl, sym, ap}
 use Rattle.std.proofs.Common.{◌∙◌, subst, arith, ltb-true, append_assoc, length-append}
 use Rattle.std.specs.Prelude.{if◌then◌else◌}
 use Rattle.std.proofs.lemmas.Bool.{cases_eq, cases_Bool, true≢false, and_parts}
-use Rattle.abstract_machine.specs.messages.declared.message.Request.{Request}
-use Rattle.abstract_machine.specs.messages.declared.message.Reply.{Reply}
-use Rattle.abstract_machine.specs.messages.Places.{put, In, Distinct}
-use Rattle.abstract_machine.specs.messages.Network.{Sizes, wires, Net}
-use Rattle.abstract_machine.specs.messages.declared.moves.UpMove.{UpMove}
-use Rattle.abstract_machine.specs.messages.declared.moves.UpMove.TheVariants as up
-use Rattle.abstract_machine.specs.messages.declared.moves.DownMove.{DownMove}
-use Rattle.abstract_machine.specs.messages.declared.moves.DownMove.TheVariants as down
-use Rattle.abstract_machine.specs.messages.Moves.{up_from, moved_up, down_from, moved_down}
-use Rattle.abstract_machine.specs.placement.Roles.{Idle}
-use Rattle.abstract_machine.specs.placement.Meaning.{Executed, execute, execute_all}
-use Rattle.abstract_machine.specs.Program.{Program, Kind, Rests, Alone, Refers, Keeps, own_of, word_of, path_of}
-use Rattle.abstract_machine.specs.Machine.{Machine, Step, Turn, Up, Serve, Down, Poke, Result, stalled, retire_from, begin, turned, went_up, went_down}
-use Rattle.abstract_machine.specs.Machine.{serve_from, all_shut, poked, step}
-use Rattle.serialization.specs.Order.{group_after, segment, served_from, served_after, Passed, pass, passes, from_machine, FlatMachine, flat_step, flat_run}
-use Rattle.serialization.specs.Order.{flat_of, ran}
+use Rattle.network_theory.specs.messages.declared.message.Request.{Request}
+use Rattle.network_theory.specs.messages.declared.message.Reply.{Reply}
+use Rattle.network_theory.specs.messages.Places.{put, In, Distinct}
+use Rattle.network_theory.specs.messages.Network.{Sizes, wires, Net}
+use Rattle.network_theory.specs.messages.declared.moves.UpMove.{UpMove}
+use Rattle.network_theory.specs.messages.declared.moves.UpMove.TheVariants as up
+use Rattle.network_theory.specs.messages.declared.moves.DownMove.{DownMove}
+use Rattle.network_theory.specs.messages.declared.moves.DownMove.TheVariants as down
+use Rattle.network_theory.specs.messages.Moves.{up_from, moved_up, down_from, moved_down}
+use Rattle.network_theory.specs.Roles.{Idle}
+use Rattle.network_theory.specs.Meaning.{Executed, execute, execute_all}
+use Rattle.serialization.specs.Program.{Program, Kind, Rests, Alone, Refers, Keeps, own_of, word_of, path_of}
+use Rattle.serialization.specs.Machine.{Machine, Step, Turn, Up, Serve, Down, Poke, Result, stalled, retire_from}
+use Rattle.serialization.specs.Machine.{begin, turned, went_up, went_down, serve_from, all_shut, poked, step}
+use Rattle.serialization.specs.Order.{group_after, segment, served_from, served_after, Passed, pass, passes}
+use Rattle.serialization.specs.Order.{from_machine, FlatMachine, flat_step, flat_run, flat_of, ran}
 use Rattle.serialization.specs.Simulation.{shows, owed_after, Simulates, Kept}
 use Rattle.serialization.proofs.Simulating.{kept_stalled, kept_issue, kept_advance, kept_retire, kept_serve, kept_poked, flat_shows_one, still_none}
-use Rattle.abstract_machine.proofs.Lemmas.{all_shut_is}
-use Rattle.abstract_machine.proofs.Lemmas.placement.{means_nothing}
+use Rattle.serialization.proofs.Steadying.{all_shut_is}
+use Rattle.network_theory.proofs.Lemmas.{means_nothing}
 use Rattle.serialization.proofs.SimulatingUp.{kept_up}
 use Rattle.serialization.proofs.SimulatingDown.{kept_down}
-use Rattle.abstract_machine.proofs.Lemmas.messages.{put_other, put_same}
+use Rattle.network_theory.proofs.Lemmas.messages.{put_other, put_same}
 use Rattle.serialization.specs.Serialization.{Begins, FindsAt}
 
 pub flat_run-append : {Core Pokes Entry : Type 0} → (P : Program Core Pokes Entry) (f : FlatMachine Core) (js ks : List Entry)

@@ -1,32 +1,31 @@
 -- Each step keeps how the machine stands to the flat one.
 use Rattle.std.proofs.Common.{◌≡◌, ℕ, ◌%◌, ◌^◌, ◌<◌, true, false, List, [], ◌∷◌, map, inl, inr, Option, Some, None, refl, sym, ap, ap₂, ◌∙◌, subst, arith, drop}
 use Rattle.std.proofs.lemmas.Bool.{cases_eq, cases_Bool, true≢false}
-use Rattle.abstract_machine.specs.phi_algebra.declared.phi.Phi.{Phi}
-use Rattle.abstract_machine.specs.phi_algebra.Functions.{IsInRange}
-use Rattle.abstract_machine.specs.messages.declared.message.Request.{Request}
-use Rattle.abstract_machine.specs.messages.declared.message.Reply.{Reply}
-use Rattle.abstract_machine.specs.messages.Places.{put, In, Distinct}
-use Rattle.abstract_machine.specs.messages.Queues.{applied}
-use Rattle.abstract_machine.specs.messages.Network.{Sizes, wires, Net, put_requests, put_replies, records_on}
-use Rattle.abstract_machine.specs.messages.Naming.{Unnamed}
-use Rattle.abstract_machine.specs.messages.Moves.{injected, module_taken, module_replied, port_taken}
-use Rattle.abstract_machine.specs.omega_wires.Wires.{path as way}
-use Rattle.abstract_machine.proofs.Lemmas.omega_wires.{path_zero}
-use Rattle.abstract_machine.specs.placement.Giving.{leaves}
-use Rattle.abstract_machine.specs.placement.Roles.{Role, Idle, Asking, Told, Placed}
-use Rattle.abstract_machine.specs.placement.Meaning.{Means, Executed, execute, execute_all}
-use Rattle.abstract_machine.specs.Program.{Program, Alone, Refers, Keeps, own_of, word_of, path_of}
-use Rattle.abstract_machine.specs.Machine.{Machine, stalled, with_net, retire_from, request_of, issue, advance, serve_from, poked}
+use Rattle.network_theory.specs.phi_algebra.declared.phi.Phi.{Phi}
+use Rattle.network_theory.specs.phi_algebra.Functions.{IsInRange}
+use Rattle.network_theory.specs.messages.declared.message.Request.{Request}
+use Rattle.network_theory.specs.messages.declared.message.Reply.{Reply}
+use Rattle.network_theory.specs.messages.Places.{put, In, Distinct}
+use Rattle.network_theory.specs.messages.Queues.{applied}
+use Rattle.network_theory.specs.messages.Network.{Sizes, wires, Net, put_requests, put_replies, records_on}
+use Rattle.network_theory.specs.messages.Naming.{Unnamed}
+use Rattle.network_theory.specs.messages.Moves.{injected, module_taken, module_replied, port_taken}
+use Rattle.network_theory.specs.omega_wires.Wires.{path as way}
+use Rattle.network_theory.proofs.Lemmas.omega_wires.{path_zero}
+use Rattle.network_theory.specs.Giving.{leaves}
+use Rattle.network_theory.specs.Roles.{Role, Idle, Asking, Told, Placed}
+use Rattle.network_theory.specs.Meaning.{Means, Executed, execute, execute_all}
+use Rattle.serialization.specs.Program.{Program, Alone, Refers, Keeps, own_of, word_of, path_of}
+use Rattle.serialization.specs.Machine.{Machine, stalled, with_net, retire_from, request_of, issue, advance, serve_from, poked}
 use Rattle.serialization.specs.Order.{FlatMachine, flat_turn, flat_taken, flat_step, flat_run}
 use Rattle.serialization.specs.Simulation.{shows, Simulates, Kept}
-use Rattle.abstract_machine.proofs.Lemmas.messages.{put_other, put_same}
-use Rattle.abstract_machine.proofs.Lemmas.placement.{applied_small, below_role, executed_mem, executed_other, gives_leads, groups_change, groups_issue}
-use Rattle.abstract_machine.proofs.Lemmas.placement.{groups_serve}
-use Rattle.abstract_machine.proofs.Lemmas.placement.{means_change, means_issue, means_nothing, means_pop_reply, means_pop_request, means_serve, not_idle}
-use Rattle.abstract_machine.proofs.Lemmas.placement.{placed_change}
-use Rattle.abstract_machine.proofs.Lemmas.placement.{placed_nowhere, pop_reply, pop_reply_unnamed, pop_request, pop_request_unnamed, push_reply, push_request}
-use Rattle.abstract_machine.proofs.Lemmas.placement.{put_agree}
-use Rattle.abstract_machine.proofs.Lemmas.placement.{request_led, small_put, unnamed_idle}
+use Rattle.network_theory.proofs.Lemmas.messages.{put_other, put_same}
+use Rattle.network_theory.proofs.Lemmas.{applied_small, below_role, executed_mem, executed_other, gives_leads}
+use Rattle.network_theory.proofs.Lemmas.{groups_change, groups_issue, groups_serve, means_change, means_issue}
+use Rattle.network_theory.proofs.Lemmas.{means_nothing, means_pop_reply, means_pop_request, means_serve, not_idle}
+use Rattle.network_theory.proofs.Lemmas.{placed_change, placed_nowhere, pop_reply, pop_reply_unnamed, pop_request}
+use Rattle.network_theory.proofs.Lemmas.{pop_request_unnamed, push_reply, push_request, put_agree, request_led}
+use Rattle.network_theory.proofs.Lemmas.{small_put, unnamed_idle}
 
 pub kept_stalled : {Core Pokes Entry : Type 0}
     → (z : Sizes) (P : Program Core Pokes Entry) (good : ℕ → Core → Type 0) (M : Machine Core) (group : ℕ → List ℕ) (owed : ℕ → Option ℕ)

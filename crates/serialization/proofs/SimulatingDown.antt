@@ -1,21 +1,20 @@
 -- A reply goes down.
-use Rattle.abstract_machine.proofs.Lemmas.placement.{answering_meaning, answering_places, answers_led, means_pop_reply, pop_reply, pop_reply_unnamed}
-use Rattle.abstract_machine.proofs.Lemmas.placement.{told_other}
+use Rattle.network_theory.proofs.Lemmas.{answering_meaning, answering_places, answers_led, means_pop_reply, pop_reply, pop_reply_unnamed, told_other}
 use Rattle.std.proofs.Common.{◌≡◌, ℕ, suc, ◌%◌, ◌<◌, Bool, true, false, List, [], ◌∷◌, inl, inr, Option, refl, sym, ap, ◌∙◌}
 use Rattle.std.specs.Prelude.{if◌then◌else◌}
-use Rattle.abstract_machine.specs.messages.declared.message.Reply.{Reply}
-use Rattle.abstract_machine.specs.messages.declared.message.Record.{Record}
-use Rattle.abstract_machine.specs.messages.Places.{In}
-use Rattle.abstract_machine.specs.messages.Queues.{records_of, records_but, answers}
-use Rattle.abstract_machine.specs.messages.Network.{Sizes, wires, Net, put_records, put_replies}
-use Rattle.abstract_machine.specs.messages.declared.moves.DownMove.TheVariants as down
-use Rattle.abstract_machine.specs.messages.Naming.{Unnamed}
-use Rattle.abstract_machine.specs.messages.Moves.{push_all, has_room, answered, down_from}
-use Rattle.abstract_machine.specs.omega_wires.Wires.{wire_before}
-use Rattle.abstract_machine.proofs.Lemmas.omega_wires.{before_path}
-use Rattle.abstract_machine.specs.placement.Roles.{Idle, told_all}
-use Rattle.abstract_machine.specs.Program.{Program, own_of, word_of, path_of}
-use Rattle.abstract_machine.specs.Machine.{Machine, with_net, went_down}
+use Rattle.network_theory.specs.messages.declared.message.Reply.{Reply}
+use Rattle.network_theory.specs.messages.declared.message.Record.{Record}
+use Rattle.network_theory.specs.messages.Places.{In}
+use Rattle.network_theory.specs.messages.Queues.{records_of, records_but, answers}
+use Rattle.network_theory.specs.messages.Network.{Sizes, wires, Net, put_records, put_replies}
+use Rattle.network_theory.specs.messages.declared.moves.DownMove.TheVariants as down
+use Rattle.network_theory.specs.messages.Naming.{Unnamed}
+use Rattle.network_theory.specs.messages.Moves.{push_all, has_room, answered, down_from}
+use Rattle.network_theory.specs.omega_wires.Wires.{wire_before}
+use Rattle.network_theory.proofs.Lemmas.omega_wires.{before_path}
+use Rattle.network_theory.specs.Roles.{Idle, told_all}
+use Rattle.serialization.specs.Program.{Program, own_of, word_of, path_of}
+use Rattle.serialization.specs.Machine.{Machine, with_net, went_down}
 use Rattle.serialization.specs.Order.{FlatMachine, flat_run}
 use Rattle.serialization.specs.Simulation.{Simulates, Kept}
 use Rattle.serialization.proofs.Simulating.{kept_stalled, kept_plain}

@@ -1,28 +1,28 @@
 -- A request goes up.
-use Rattle.abstract_machine.specs.placement.Meaning.{Groups, joined}
-use Rattle.abstract_machine.proofs.Lemmas.placement.{below_role, combining_meaning, combining_places, groups_joined, means_pop_request}
-use Rattle.abstract_machine.proofs.Lemmas.placement.{means_push_request}
-use Rattle.abstract_machine.proofs.Lemmas.placement.{not_idle, pop_request, pop_request_unnamed, push_request, records_none, request_further, request_led}
-use Rattle.abstract_machine.proofs.Lemmas.placement.{small_put}
-use Rattle.std.proofs.Common.{◌≡◌, ℕ, suc, ◌%◌, ◌<◌, ◌≤◌, true, false, List, [], ◌∷◌, ◌++◌, length, nat_lt, inl, inr, Option, Some, None, refl, sym, ap₂, ◌∙◌}
-use Rattle.std.proofs.Common.{subst, arith, ap}
+use Rattle.network_theory.specs.Meaning.{Groups, joined}
+use Rattle.network_theory.proofs.Lemmas.{below_role, combining_meaning, combining_places, groups_joined}
+use Rattle.network_theory.proofs.Lemmas.{means_pop_request, means_push_request, not_idle, pop_request}
+use Rattle.network_theory.proofs.Lemmas.{pop_request_unnamed, push_request, records_none, request_further}
+use Rattle.network_theory.proofs.Lemmas.{request_led, small_put}
+use Rattle.std.proofs.Common.{◌≡◌, ℕ, suc, ◌%◌, ◌<◌, ◌≤◌, true, false, List, [], ◌∷◌, ◌++◌, length, nat_lt}
+use Rattle.std.proofs.Common.{inl, inr, Option, Some, None, refl, sym, ap₂, ◌∙◌, subst, arith, ap}
 use Rattle.std.specs.Prelude.{if◌then◌else◌}
-use Rattle.abstract_machine.specs.messages.declared.message.Request.{Request}
-use Rattle.abstract_machine.specs.messages.declared.message.Record.{Record}
-use Rattle.abstract_machine.specs.messages.Places.{put, In}
-use Rattle.abstract_machine.specs.messages.Queues.{Combination, combination, unmarked}
-use Rattle.abstract_machine.specs.messages.Network.{Sizes, wires, Net, put_requests, records_on}
-use Rattle.abstract_machine.specs.messages.declared.moves.UpMove.TheVariants as up
-use Rattle.abstract_machine.specs.messages.Naming.{Unnamed}
-use Rattle.abstract_machine.specs.messages.Moves.{queued, combined, accepted, up_from}
-use Rattle.abstract_machine.specs.omega_wires.Wires.{wire_after}
-use Rattle.abstract_machine.proofs.Lemmas.omega_wires.{path_suc}
-use Rattle.abstract_machine.specs.placement.Roles.{Asking, Waiting, depth}
-use Rattle.abstract_machine.specs.Program.{Program, own_of, word_of, path_of}
-use Rattle.abstract_machine.specs.Machine.{Machine, Moved, with_net, went_up}
+use Rattle.network_theory.specs.messages.declared.message.Request.{Request}
+use Rattle.network_theory.specs.messages.declared.message.Record.{Record}
+use Rattle.network_theory.specs.messages.Places.{put, In}
+use Rattle.network_theory.specs.messages.Queues.{Combination, combination, unmarked}
+use Rattle.network_theory.specs.messages.Network.{Sizes, wires, Net, put_requests, records_on}
+use Rattle.network_theory.specs.messages.declared.moves.UpMove.TheVariants as up
+use Rattle.network_theory.specs.messages.Naming.{Unnamed}
+use Rattle.network_theory.specs.messages.Moves.{queued, combined, accepted, up_from}
+use Rattle.network_theory.specs.omega_wires.Wires.{wire_after}
+use Rattle.network_theory.proofs.Lemmas.omega_wires.{path_suc}
+use Rattle.network_theory.specs.Roles.{Asking, Waiting, depth}
+use Rattle.serialization.specs.Program.{Program, own_of, word_of, path_of}
+use Rattle.serialization.specs.Machine.{Machine, Moved, with_net, went_up}
 use Rattle.serialization.specs.Order.{FlatMachine, flat_run}
 use Rattle.serialization.specs.Simulation.{Simulates, Kept}
-use Rattle.abstract_machine.proofs.Lemmas.messages.{In-append_right, combination_joins, put_other}
+use Rattle.network_theory.proofs.Lemmas.messages.{In-append_right, combination_joins, put_other}
 use Rattle.serialization.proofs.Simulating.{kept_stalled, kept_plain}
 
 kept_moved : {Core Pokes Entry : Type 0}

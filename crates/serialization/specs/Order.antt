@@ -1,11 +1,11 @@
 -- The serial order that the outcomes of steps give, and the flat machine that takes it.
 use Rattle.std.specs.Prelude.{ℕ, suc, List, [], ◌∷◌, ◌++◌, map, length, Option, Some, None}
-use Rattle.abstract_machine.specs.messages.Places.{put}
-use Rattle.abstract_machine.specs.messages.Queues.{applied}
-use Rattle.abstract_machine.specs.messages.Network.{Sizes}
-use Rattle.abstract_machine.specs.placement.Meaning.{joined}
-use Rattle.abstract_machine.specs.Program.{Program, Kind, Rests, Alone, Refers, Content, TurnOf, PokeOf, Entries}
-use Rattle.abstract_machine.specs.Machine.{Machine, Step, Outcome, Issued, Advanced, Retired, Combined, Served, Poked, Result, step}
+use Rattle.network_theory.specs.messages.Places.{put}
+use Rattle.network_theory.specs.messages.Queues.{applied}
+use Rattle.network_theory.specs.messages.Network.{Sizes}
+use Rattle.network_theory.specs.Meaning.{joined}
+use Rattle.serialization.specs.Program.{Program, Kind, Rests, Alone, Refers, Content, TurnOf, PokeOf, Entries}
+use Rattle.serialization.specs.Machine.{Machine, Step, Outcome, Issued, Advanced, Retired, Combined, Served, Poked, Result, step}
 
 -- ---- by the outcomes alone
 

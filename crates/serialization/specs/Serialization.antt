@@ -1,11 +1,11 @@
 -- Serialization: the machine is the flat one that takes the serial order.
 use Rattle.std.specs.Prelude.{◌≡◌, ℕ, ◌+◌, ◌^◌, ◌<◌, ◌≤◌, Bool, true, false, ◌==◌, ◌||◌, List, [], ◌∷◌, ◌++◌, length, Some, None, if◌then◌else◌}
-use Rattle.abstract_machine.specs.messages.Network.{Sizes}
-use Rattle.abstract_machine.specs.placement.Roles.{Role}
-use Rattle.abstract_machine.specs.Program.{Program, Keeps}
-use Rattle.abstract_machine.specs.Machine.{Machine, Step, Turn, Outcome, Issued, Retired, Served, step, IsIdle}
+use Rattle.network_theory.specs.messages.Network.{Sizes}
+use Rattle.network_theory.specs.Roles.{Role}
+use Rattle.serialization.specs.Program.{Program, Keeps}
+use Rattle.serialization.specs.Machine.{Machine, Step, Turn, Outcome, Issued, Retired, Served, step, IsIdle}
 use Rattle.serialization.specs.Order.{group_after, groups_after, Passed, FlatMachine, flat_run, flat_of, ran, outcomes, serial_order}
-use Rattle.abstract_machine.specs.Steadiness.{Steady}
+use Rattle.serialization.specs.Steadiness.{Steady}
 
 -- Where a run may begin: an idle machine that can have come about, with good cores and words of 32 bits.
 pub record Begins {Core Pokes Entry : Type 0} (z : Sizes) (P : Program Core Pokes Entry) (good : ℕ → Core → Type 0) (M : Machine Core) : Type 0 where

@@ -1,11 +1,11 @@
 -- How a machine stands to the flat machine at any moment.
 use Rattle.std.specs.Prelude.{◌≡◌, ℕ, ◌^◌, ◌<◌, true, false, List, Option, Some, None, ◌⊎◌}
-use Rattle.abstract_machine.specs.messages.Places.{put}
-use Rattle.abstract_machine.specs.messages.Network.{Sizes, wires}
-use Rattle.abstract_machine.specs.placement.Roles.{Role, Idle, Placed}
-use Rattle.abstract_machine.specs.placement.Meaning.{Means, Groups, execute_all}
-use Rattle.abstract_machine.specs.Program.{Program, Refers, own_of, path_of, word_of}
-use Rattle.abstract_machine.specs.Machine.{Machine, Outcome, Served, Retired, Result}
+use Rattle.network_theory.specs.messages.Places.{put}
+use Rattle.network_theory.specs.messages.Network.{Sizes, wires}
+use Rattle.network_theory.specs.Roles.{Role, Idle, Placed}
+use Rattle.network_theory.specs.Meaning.{Means, Groups, execute_all}
+use Rattle.serialization.specs.Program.{Program, Refers, own_of, path_of, word_of}
+use Rattle.serialization.specs.Machine.{Machine, Outcome, Served, Retired, Result}
 use Rattle.serialization.specs.Order.{FlatMachine, group_after, segment, flat_run}
 
 -- the core in the flat machine: a processor that was served stands one reference behind

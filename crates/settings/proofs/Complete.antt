@@ -1,7 +1,6 @@
 -- At words with no fault, the program's command meets a subcommand of its own, with all that has to be given.
-use Rattle.std.proofs.Common.{◌≡◌, ◌∙◌, ◌||◌, ◌⊎◌, ℕ, inl, inr, Bool, cond, true, false, not, refl, subst, sym, true≢false, List, [], ◌∷◌, drop, Option, Some}
-use Rattle.std.proofs.Common.{None, is_some}
-use Rattle.std.proofs.Common.{codes, option_map}
+use Rattle.std.proofs.Common.{◌≡◌, ◌∙◌, ◌||◌, ◌⊎◌, ℕ, inl, inr, Bool, cond, true, false, not, refl, subst, sym}
+use Rattle.std.proofs.Common.{true≢false, List, [], ◌∷◌, drop, Option, Some, None, is_some, codes, option_map}
 use Rattle.std.specs.Prelude.{⊤, find}
 use Rattle.std.specs.List.{list_all, list_any}
 use Rattle.std.specs.Option.{option_map_or}
@@ -9,18 +8,18 @@ use Rattle.std.specs.Str.{bytes_eq}
 use Rattle.std.proofs.lemmas.Slice.Eq.{bytes_eq-Decides}
 use Rattle.clap.specs.Kinds.{check_kinds}
 use Rattle.clap.specs.Faults.{check_fault, defaults_fault, entered_fault, fault_of, level_fault, settle_fault, walk_fault}
-use Rattle.clap.specs.Simple.{App, Shape, argument_words, built, built_leaf, entered, label_of, names_of, rows_at}
-use Rattle.clap.specs.Simple.{subcommand_of}
+use Rattle.clap.specs.Simple.{App, Shape, argument_words, built, built_leaf, entered, label_of, names_of, rows_at, subcommand_of}
 use Rattle.clap.specs.Takes.{is_given}
 use Rattle.clap.specs.Walk.{Row, Text, answers_to, finished, nothing_held, rows_after, settled, walk, walk_from}
-use Rattle.command_forms.specs.Commands.{Bounds, asm_command, budget, check_command, combinations, debug_command, dis_command, explain_command, explore_command}
-use Rattle.command_forms.specs.Commands.{hunt_command}
-use Rattle.command_forms.specs.Commands.{order_command, port, processor, queue, records, picture_command, replay_command, run_command}
-use Rattle.command_forms.specs.Commands.{runs, shared_word, shared_words, stages, start, states}
-use Rattle.command_forms.specs.Commands.{stats_command, step, steps, story_command, ultra_command, witness, words_command}
+use Rattle.command_forms.specs.Commands.{Bounds, asm_command, budget, check_command, combinations, debug_command}
+use Rattle.command_forms.specs.Commands.{dis_command, explain_command, explore_command, hunt_command, order_command}
+use Rattle.command_forms.specs.Commands.{port, processor, queue, records, picture_command, replay_command}
+use Rattle.command_forms.specs.Commands.{run_command, runs, shared_word, shared_words, stages, start, states}
+use Rattle.command_forms.specs.Commands.{stats_command, step, steps, story_command, ultra_command, witness}
+use Rattle.command_forms.specs.Commands.{words_command}
 use Rattle.command_forms.proofs.Lemmas.{commands}
-use Rattle.settings.specs.Given.{HasAsm, HasDebug, HasDis, HasExplore, HasHunt, HasOrder, HasPath, HasPicture, HasReplay, HasRun, HasSizes, IsComplete, IsOneOf}
-use Rattle.settings.specs.Given.{IsWhole, command_names}
+use Rattle.settings.specs.Given.{HasAsm, HasDebug, HasDis, HasExplore, HasHunt, HasOrder, HasPath, HasPicture}
+use Rattle.settings.specs.Given.{HasReplay, HasRun, HasSizes, IsComplete, IsOneOf, IsWhole, command_names}
 use Rattle.settings.proofs.NoHelp.{IsNoHelp, StopsAtNoHelp, walk_stops}
 use Rattle.settings.proofs.Numbers.{is_apart_or_number, number_there}
 use Rattle.settings.proofs.Rows.{gives_value, required_there}

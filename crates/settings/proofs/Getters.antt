@@ -1,6 +1,6 @@
 -- What a getter of clap's matches gives, over plain values.
-use Rattle.std.proofs.Common.{◌≡◌, ◌∙◌, ◌==◌, ◌<◌, ◌≤◌, ◌^◌, ℕ, Bool, cond, ap, sym, arith, true≢false, [], ◌∷◌, drop, Option, Some, None, Result, Ok, true}
-use Rattle.std.proofs.Common.{false, option_map, is_some, refl, pos, codes}
+use Rattle.std.proofs.Common.{◌≡◌, ◌∙◌, ◌==◌, ◌<◌, ◌≤◌, ◌^◌, ℕ, Bool, cond, ap, sym, arith, true≢false, [], ◌∷◌, drop}
+use Rattle.std.proofs.Common.{Option, Some, None, Result, Ok, true, false, option_map, is_some, refl, pos, codes}
 use Rattle.std.specs.Prelude.{IfSome, IsSome, IsSomeAnd, MatchOption, unwrap_or}
 use Rattle.std.specs.Borrow.{Bor}
 use Rattle.std.specs.Str.{bytes_eq}

@@ -1,6 +1,7 @@
 -- At words with no fault, the text of an option that takes a number in a range spells such a number.
-use Rattle.std.proofs.Common.{◌≡◌, ◌&&◌, ◌||◌, ◌==◌, ◌++◌, ◌+◌, ◌∙◌, ℕ, Bool, cond, true, false, not, refl, sym, ap, true≢false, List, [], ◌∷◌, length, arith}
-use Rattle.std.proofs.Common.{Option, Some, None, pos, negsuc, min, option_map}
+use Rattle.std.proofs.Common.{◌≡◌, ◌&&◌, ◌||◌, ◌==◌, ◌++◌, ◌+◌, ◌∙◌, ℕ, Bool, cond, true}
+use Rattle.std.proofs.Common.{false, not, refl, sym, ap, true≢false, List, [], ◌∷◌, length}
+use Rattle.std.proofs.Common.{arith, Option, Some, None, pos, negsuc, min, option_map}
 use Rattle.std.specs.Prelude.{⊤, IfSome, find, option_and_then, slice_get}
 use Rattle.std.specs.List.{list_all}
 use Rattle.std.specs.Str.{bytes_eq}
@@ -14,8 +15,9 @@ use Rattle.clap.specs.Matches.{count_text}
 use Rattle.clap.specs.Simple.{Shape}
 use Rattle.clap.specs.Values.{IsSignedIn, read_as}
 use Rattle.clap.specs.ValueTests.{is_signed_in}
-use Rattle.clap.specs.Walk.{Row, Rule, Text, action_of, at_row, count_of, default_rows, has_row, is_empty, more_values, new_count, nothing_held, reading_by}
-use Rattle.clap.specs.Walk.{row_text, rows_after, used, used_as, values_or_missing, with_count, with_default, with_values, without}
+use Rattle.clap.specs.Walk.{Row, Rule, Text, action_of, at_row, count_of, default_rows, has_row, is_empty}
+use Rattle.clap.specs.Walk.{more_values, new_count, nothing_held, reading_by, row_text, rows_after, used}
+use Rattle.clap.specs.Walk.{used_as, values_or_missing, with_count, with_default, with_values, without}
 use Rattle.clap.proofs.ValueTestLemmas.{accepts-Accepts}
 use Rattle.clap.proofs.WalkLemmas.{both}
 use Rattle.clap.specs.declared.builder.action.ArgAction.{ArgAction}

@@ -1,6 +1,7 @@
 -- The command lines without options.
-use Rattle.std.proofs.Common.{◌≡◌, ◌∙◌, ◌==◌, Bool, true, false, true≢false, refl, sym, ap, subst, inl, inr, arith, List, [], ◌∷◌, Option, None, Some, Result}
-use Rattle.std.proofs.Common.{Ok, Err, IfOk, MatchResult, codes, option_map}
+use Rattle.std.proofs.Common.{◌≡◌, ◌∙◌, ◌==◌, Bool, true, false, true≢false, refl, sym, ap, subst, inl, inr, arith}
+use Rattle.std.proofs.Common.{List, [], ◌∷◌, Option, None, Some, Result, Ok, Err, IfOk, MatchResult, codes}
+use Rattle.std.proofs.Common.{option_map}
 use Rattle.std.specs.Borrow.{Bor}
 use Rattle.std.specs.Str.{bytes_eq}
 use Rattle.std.proofs.lemmas.Bool.Decides.{nat_tests}
@@ -17,12 +18,13 @@ use Rattle.settings.specs.declared.choice.Settings.{Settings}
 use Rattle.settings.specs.declared.choice.Settings.TheVariants as asked
 use Rattle.clap.proofs.OnLiterals.{clap_on_literals}
 use Rattle.settings.specs.declared.choice.Replay.{Replay}
-use Rattle.settings.specs.Lines.{IsAsked, IsChosen, GivesAsm, GivesCheck, GivesDis, GivesExplain, GivesExplore, GivesHunt, GivesOrder}
-use Rattle.settings.specs.Lines.{GivesPicture, GivesReplay, GivesRun, GivesSession}
-use Rattle.settings.specs.Lines.{GivesWords, Named}
+use Rattle.settings.specs.Lines.{IsAsked, IsChosen, GivesAsm, GivesCheck, GivesDis, GivesExplain, GivesExplore}
+use Rattle.settings.specs.Lines.{GivesHunt, GivesOrder, GivesPicture, GivesReplay, GivesRun, GivesSession, GivesWords}
+use Rattle.settings.specs.Lines.{Named}
 use Rattle.command_forms.specs.Commands.{ultra_command}
-use Rattle.settings.specs.Plain.{AreAsmOf, AreCheckOf, AreDebugOf, AreDisOf, AreExplainOf, AreExploreOf, AreHuntOf, AreOrderOf, ArePictureOf, AreReplayOf}
-use Rattle.settings.specs.Plain.{AreRunOf, AreStatsOf, AreStoryOf, AreWordsOf, IsPlain, IsReplayOf, NameExplainOf, NamesFile, NamesFiles}
+use Rattle.settings.specs.Plain.{AreAsmOf, AreCheckOf, AreDebugOf, AreDisOf, AreExplainOf, AreExploreOf, AreHuntOf}
+use Rattle.settings.specs.Plain.{AreOrderOf, ArePictureOf, AreReplayOf, AreRunOf, AreStatsOf, AreStoryOf, AreWordsOf}
+use Rattle.settings.specs.Plain.{IsPlain, IsReplayOf, NameExplainOf, NamesFile, NamesFiles}
 use Rattle.command_forms.proofs.Lemmas.{commands}
 
 no_hyphen : (file : Text) → IsPlain file → strip_byte 45 file ≡ None

@@ -1,6 +1,7 @@
 -- At words with no fault, each row that a level of the parse ends with has a value, and what is required has a row.
-use Rattle.std.proofs.Common.{◌≡◌, ◌<◌, ◌+◌, ◌&&◌, ◌||◌, ◌⊎◌, ℕ, Bool, cond, true, false, not, inl, inr, refl, sym, arith}
-use Rattle.std.proofs.Common.{true≢false, List, [], ◌∷◌, ◌++◌, length, min, Option, Some, None, is_some, nat_lt}
+use Rattle.std.proofs.Common.{◌≡◌, ◌<◌, ◌+◌, ◌&&◌, ◌||◌, ◌⊎◌, ℕ, Bool, cond, true, false, not, inl, inr, refl, sym}
+use Rattle.std.proofs.Common.{arith, true≢false, List, [], ◌∷◌, ◌++◌, length, min, Option, Some, None, is_some}
+use Rattle.std.proofs.Common.{nat_lt}
 use Rattle.std.specs.Option.{option_map_or}
 use Rattle.std.proofs.lemmas.List.{length-append}
 use Rattle.std.specs.Prelude.{⊤, find, option_and_then, slice_get}
@@ -9,18 +10,12 @@ use Rattle.std.specs.Str.{bytes_eq}
 use Rattle.clap.specs.Facts.{explicit_source, unwrap_or_range}
 use Rattle.clap.specs.Matches.{count_text}
 use Rattle.clap.specs.Kinds.{Kinds}
-use Rattle.clap.specs.Faults.{check_fault, level_fault}
-use Rattle.clap.specs.Faults.{use_fault}
+use Rattle.clap.specs.Faults.{check_fault, level_fault, use_fault}
 use Rattle.clap.specs.Simple.{Shape}
 use Rattle.clap.specs.Takes.{is_given}
-use Rattle.clap.specs.Walk.{Row, Rule, Text, action_of}
-use Rattle.clap.specs.Walk.{at_row, count_of}
-use Rattle.clap.specs.Walk.{default_rows, first_of, has_row, is_empty}
-use Rattle.clap.specs.Walk.{more_values, new_count, nothing_held}
-use Rattle.clap.specs.Walk.{reading_by, rows_after}
-use Rattle.clap.specs.Walk.{used, used_as}
-use Rattle.clap.specs.Walk.{values_or_missing, with_count, with_default}
-use Rattle.clap.specs.Walk.{with_values, without}
+use Rattle.clap.specs.Walk.{Row, Rule, Text, action_of, at_row, count_of, default_rows, first_of, has_row}
+use Rattle.clap.specs.Walk.{is_empty, more_values, new_count, nothing_held, reading_by, rows_after, used}
+use Rattle.clap.specs.Walk.{used_as, values_or_missing, with_count, with_default, with_values, without}
 use Rattle.clap.specs.declared.builder.action.ArgAction.{ArgAction}
 use Rattle.clap.specs.declared.builder.action.ArgAction.TheVariants as action
 use Rattle.clap.specs.declared.builder.value_parser.Reading.{Reading}

@@ -1,9 +1,8 @@
 -- What clap finds in words without a fault: all that has to be given to a command.
-use Rattle.std.specs.Prelude.{◌≡◌, ◌⊎◌, pos, true, List, [], ◌∷◌, codes, Option, is_some, option_map}
-use Rattle.std.specs.Prelude.{IfSome, IsSomeAnd}
+use Rattle.std.specs.Prelude.{◌≡◌, ◌⊎◌, pos, true, List, [], ◌∷◌, codes, Option, is_some, option_map, IfSome, IsSomeAnd}
 use Rattle.clap.specs.Words.{IsSignedIn, Row, Text, first_of, one_of, without_minus}
-use Rattle.command_forms.specs.Commands.{Bounds, budget, combinations, port, processor, queue, records, runs, shared_word, shared_words, stages, start, states}
-use Rattle.command_forms.specs.Commands.{step, steps, witness}
+use Rattle.command_forms.specs.Commands.{Bounds, budget, combinations, port, processor, queue, records, runs}
+use Rattle.command_forms.specs.Commands.{shared_word, shared_words, stages, start, states, step, steps, witness}
 
 abbrev pub HasPath : Text → List Row → Type 0
 HasPath id rows = is_some (first_of id rows) ≡ true

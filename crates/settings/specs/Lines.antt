@@ -1,6 +1,5 @@
 -- What the settings are of the words of a command line.
-use Rattle.std.specs.Prelude.{◌≡◌, ◌≤◌, ◌↔◌, ℕ, pos, Bool, true, List, codes, Option, Some, None, option_map}
-use Rattle.std.specs.Prelude.{IsSomeAnd, MatchOption}
+use Rattle.std.specs.Prelude.{◌≡◌, ◌≤◌, ◌↔◌, ℕ, pos, Bool, true, List, codes, Option, Some, None, option_map, IsSomeAnd, MatchOption}
 use Rattle.std.specs.Str.Parse.{signed_digits_value}
 use Rattle.clap.specs.Words.{Row, Text, first_of, subcommand_of}
 use Rattle.settings.specs.declared.choice.Settings.{Settings}
@@ -18,8 +17,9 @@ use Rattle.settings.specs.declared.choice.Picture.{Picture}
 use Rattle.settings.specs.declared.choice.Session.{Session}
 use Rattle.settings.specs.declared.choice.Explain.{Explain}
 use Rattle.settings.specs.declared.choice.Sizes.{Sizes}
-use Rattle.command_forms.specs.Commands.{Bounds, Ranged, stages, queue, records, combinations, shared_words, budget, steps, port, states, runs}
-use Rattle.command_forms.specs.Commands.{start, processor, shared_word, witness, step, ultra_command}
+use Rattle.command_forms.specs.Commands.{Bounds, Ranged, stages, queue, records, combinations, shared_words}
+use Rattle.command_forms.specs.Commands.{budget, steps, port, states, runs, start, processor, shared_word}
+use Rattle.command_forms.specs.Commands.{witness, step, ultra_command}
 
 abbrev pub IsPath : Text → List Row → Text → Type 0
 IsPath id rows file = first_of id rows ≡ Some file

@@ -1,6 +1,5 @@
 -- The command lines without options, in their own words.
-use Rattle.std.specs.Prelude.{◌≡◌, ◌≢◌, false, List, [], ◌∷◌, codes, Option, Some, None, option_map, slice_get}
-use Rattle.std.specs.Prelude.{IfSome}
+use Rattle.std.specs.Prelude.{◌≡◌, ◌≢◌, false, List, [], ◌∷◌, codes, Option, Some, None, option_map, slice_get, IfSome}
 use Rattle.clap.specs.Words.{Text}
 use Rattle.settings.specs.declared.choice.Settings.{Settings}
 use Rattle.settings.specs.declared.choice.Settings.TheVariants as asked

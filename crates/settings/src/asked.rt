@@ -3,8 +3,9 @@ ghost use Rattle.std.specs.Prelude.{◌≡◌, ◌≢◌, ℕ, List, Option, IfO
 ghost use Rattle.clap.specs.Words.{FailsBy, fault_of, kind_of};
 ghost use Rattle.command_forms.specs.Commands.{ultra_command};
 ghost use Rattle.settings.specs.Lines.{IsAsked};
-ghost use Rattle.settings.specs.Plain.{AreAsmOf, AreCheckOf, AreDebugOf, AreDisOf, AreExplainOf, AreExploreOf, AreHuntOf, AreOrderOf, ArePictureOf};
-ghost use Rattle.settings.specs.Plain.{AreReplayOf, AreRunOf, AreStatsOf, AreStoryOf, AreWordsOf, NameExplainOf, NamesFile, NamesFiles};
+ghost use Rattle.settings.specs.Plain.{AreAsmOf, AreCheckOf, AreDebugOf, AreDisOf, AreExplainOf, AreExploreOf};
+ghost use Rattle.settings.specs.Plain.{AreHuntOf, AreOrderOf, ArePictureOf, AreReplayOf, AreRunOf, AreStatsOf};
+ghost use Rattle.settings.specs.Plain.{AreStoryOf, AreWordsOf, NameExplainOf, NamesFile, NamesFiles};
 
 use crate::choice::Settings;
 use crate::reads::chosen;

@@ -1,11 +1,11 @@
 //! What the matches of a subcommand say.
 ghost use Rattle.std.specs.Prelude.{◌≡◌, ◌≤◌, ◌<◌, ◌^◌, codes, option_map};
 ghost use Rattle.clap.specs.Words.{found_of, rows_of, subcommand_rows_of};
-ghost use Rattle.settings.specs.Lines.{AreSizes, GivesAsm, GivesCheck, GivesDis, GivesExplain, GivesExplore, GivesHunt, IsChoice, IsChosen, IsFlag};
-ghost use Rattle.settings.specs.Lines.{IsNumber, IsOption};
-ghost use Rattle.settings.specs.Lines.{GivesOrder, IsPath, GivesPicture, GivesReplay, GivesRun, GivesSession, GivesWords};
-ghost use Rattle.settings.specs.Given.{HasAsm, HasDebug, HasDis, HasExplore, HasHunt, HasNumber, HasOrder, HasPath, HasPicture, HasReplay, HasRun, HasSizes};
-ghost use Rattle.settings.specs.Given.{IsComplete};
+ghost use Rattle.settings.specs.Lines.{AreSizes, GivesAsm, GivesCheck, GivesDis, GivesExplain, GivesExplore};
+ghost use Rattle.settings.specs.Lines.{GivesHunt, IsChoice, IsChosen, IsFlag, IsNumber, IsOption, GivesOrder};
+ghost use Rattle.settings.specs.Lines.{IsPath, GivesPicture, GivesReplay, GivesRun, GivesSession, GivesWords};
+ghost use Rattle.settings.specs.Given.{HasAsm, HasDebug, HasDis, HasExplore, HasHunt, HasNumber, HasOrder};
+ghost use Rattle.settings.specs.Given.{HasPath, HasPicture, HasReplay, HasRun, HasSizes, IsComplete};
 ghost use Rattle.command_forms.specs.Forms.{bounded, bounds_as, ranged, ranged_as};
 
 use crate::choice::{

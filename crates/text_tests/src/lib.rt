@@ -1,5 +1,5 @@
 //! Tests of texts: lines of the assembler's language, images of them and the lines of code,
-//! and what all commands print.
+//! the list of a text's faults, and what all commands print.
 //!
 //! They stand in a crate of their own, so that what stands on these parts need not wait for them.
 #![tactic(auto)]

@@ -5,6 +5,7 @@ mod assembling;
 mod dis;
 mod disassembling;
 mod door;
+mod fault_lists;
 mod lines;
 mod printing;
 

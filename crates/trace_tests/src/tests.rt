@@ -5,19 +5,20 @@ ghost use Rattle.std.specs.Prelude.{◌≡◌, false};
 mod counts;
 mod devices;
 mod ends;
+mod explanations;
+mod order_lines;
 mod orders;
+mod pictures;
 mod stories;
+mod story_lines;
 
-use accounts::account_command;
 use link::{LinkWrite, Meter};
-use order_command::Order;
-use order_lines::Choice;
-use stats_command::Stats;
 use std::alloc::Global;
 use std::fmt::Debug;
 use std::io::{self, Read, Write};
 use std::process::Abort;
-use story_command::Story;
+use trace_commands::{Order, Stats, Story, account_command};
+use trace_lines::Choice;
 
 /// Ends the test where the two differ, and tells them and the case that they are of ([`assert_same!`]).
 fn same<T: PartialEq + Debug, A: Debug>(rt: &impl Abort, found: &T, wanted: &T, at: &A) {

@@ -2,7 +2,7 @@
 
 ghost use Rattle.std.specs.Prelude.{◌≡◌, false, IfOk, ⊤};
 
-use debug_command::Connect;
+use debug_session::Connect;
 use link::{Failed, Meter};
 use std::io;
 use std::io::Write;

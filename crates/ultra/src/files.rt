@@ -1,7 +1,7 @@
 //! Files of this machine.
 
 ghost use Rattle.std.specs.Prelude.{◌≡◌, false};
-ghost use Rattle.accounts.specs.Accounts.{IsWorking};
+ghost use Rattle.trace_commands.specs.Accounts.{IsWorking};
 
 use crate::refusal::Refusal;
 use command_io::{CreateAt, OnFirstWrite};

@@ -2,7 +2,7 @@
 #![tactic(auto)]
 
 ghost use Rattle.std.specs.Prelude.{◌≡◌, false};
-ghost use Rattle.accounts.specs.Accounts.{IsWorking};
+ghost use Rattle.trace_commands.specs.Accounts.{IsWorking};
 
 mod door;
 mod files;
@@ -13,13 +13,10 @@ use crate::door::Door;
 use crate::files::{open, open_beside, trace_to, writer_to};
 use crate::refusal::{Refusal, refuse};
 use crate::traces::TraceFiles;
-use accounts::{Account, Report, account_command};
-use asm_command::asm_command;
-use check_command::check_command;
+use asm_commands::{asm_command, check_command, dis_command};
 use clap::Error;
 use command_io::{Fault, REFUSED, tell};
-use debug_command::debug_command;
-use dis_command::dis_command;
+use debug_session::debug_command;
 use explain_command::{all_topics, explain_command};
 use explore_command::{
     Asked, SearchProgress, Unwatched, Watch, explore_command, explore_every_size,
@@ -27,13 +24,9 @@ use explore_command::{
 use flat_machine::Config;
 use hunt_command::{Hunt as Hunted, hunt_command};
 use link::{LinkWrite, Meter};
-use order_command::Order;
-use order_lines::Choice;
-use picture_command::Picture;
 use processor_threads::Open;
-use run_command::run_command;
+use run_command::{Progress, run_command, threaded_run_command};
 use settings::{Explore, Hunt, Replay, Run, Session, Settings, Sizes, settings, status_of};
-use stats_command::Stats;
 use std::alloc::{AllocError, Global};
 use std::io::{self, ErrorKind, IsTerminal, Read, Write};
 use std::net::Net;
@@ -43,8 +36,8 @@ use std::sync::Wait;
 use std::thread::Threads;
 use std::time::Clock;
 use std::{env, fs};
-use story_command::Story;
-use threaded_run::{Progress, threaded_run_command};
+use trace_commands::{Account, Order, Picture, Report, Stats, Story, account_command};
+use trace_lines::Choice;
 use words_command::words_command;
 
 fn main(rt: HostRuntime) -> ExitCode {

@@ -1,6 +1,6 @@
 -- Runs in turns of processor 0, one instruction more.
-use Rattle.std.proofs.Common.{◌≡◌, ℕ, zero, suc, ◌+◌, ◌^◌, ◌<◌, Bool, true, false, cond, List, [], ◌∷◌, ◌++◌, length, Option, Some, None, refl, sym, ap, subst}
-use Rattle.std.proofs.Common.{◌∙◌, arith, append_assoc, get_or-set_same}
+use Rattle.std.proofs.Common.{◌≡◌, ℕ, zero, suc, ◌+◌, ◌^◌, ◌<◌, Bool, true, false, cond, List, [], ◌∷◌, ◌++◌, length}
+use Rattle.std.proofs.Common.{Option, Some, None, refl, sym, ap, subst, ◌∙◌, arith, append_assoc, get_or-set_same}
 use Rattle.std.specs.Prelude.{count_by, slice_get, slice_index_or, if◌then◌else◌}
 use Rattle.std.proofs.lemmas.Bool.{true≢false}
 use Rattle.std.proofs.lemmas.List.{append-nil}
@@ -15,12 +15,12 @@ use Rattle.flat_machine.specs.Turns.{Turn, Retires, Reaches, Stops, turn_of}
 use Rattle.flat_machine.specs.Flat.{flat_run, flat_step, flat_event, flat_events, taken, with_taken, step_of, turned, turn_event, with_processor_number}
 use Rattle.steps.specs.declared.step.Outcome.{Outcome}
 use Rattle.steps.specs.declared.step.Outcome.TheVariants as outcome
-use Rattle.machine_runs.specs.machine_program.Processors.{no_processor}
-use Rattle.machine_runs.proofs.Lemmas.machine_program.{read_found}
-use Rattle.machine_runs.specs.Machines.{MachineLists, IsMachine}
-use Rattle.machine_runs.specs.Runs.{flat_state}
-use Rattle.machine_runs.specs.Whole.{event_of, IsOne}
-use Rattle.machine_runs.proofs.Lemmas.machine.{count_is, state_at}
+use Rattle.machine_steps.specs.machine_theory.Processors.{no_processor}
+use Rattle.machine_steps.proofs.Lemmas.machine_theory.{read_found}
+use Rattle.machine_steps.specs.Machines.{MachineLists, IsMachine}
+use Rattle.machine_steps.specs.Runs.{flat_state}
+use Rattle.machine_steps.specs.Whole.{event_of, IsOne}
+use Rattle.machine_steps.proofs.Lemmas.{count_is, state_at}
 use Rattle.words_command.specs.Command.{HasProcessor}
 use Rattle.words_command.specs.Running.{HasRunAlone, is_retirement, is_retired, retirements, turns_of_zero, processor_of}
 

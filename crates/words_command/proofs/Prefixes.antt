@@ -1,7 +1,8 @@
 -- The bytes that are read of a file tell what all of it spells: a line that spells a word has eight bytes and its LF, and
 -- the line behind the 16,384th is refused whatever it is.
-use Rattle.std.proofs.Common.{◌≡◌, ℕ, zero, suc, ◌+◌, ◌-◌, ◌*◌, ◌<◌, ◌≤◌, Bool, true, false, eqb, List, [], ◌∷◌, length, take, drop, get_or, get_or-take}
-use Rattle.std.proofs.Common.{take_all, take-take, length-take-le, Option, Some, None, Err, ◌⊎◌, inl, inr, refl, sym, ap, ap₂, ◌∙◌, subst, arith}
+use Rattle.std.proofs.Common.{◌≡◌, ℕ, zero, suc, ◌+◌, ◌-◌, ◌*◌, ◌<◌, ◌≤◌, Bool, true, false, eqb, List, [], ◌∷◌}
+use Rattle.std.proofs.Common.{length, take, drop, get_or, get_or-take, take_all, take-take, length-take-le, Option}
+use Rattle.std.proofs.Common.{Some, None, Err, ◌⊎◌, inl, inr, refl, sym, ap, ap₂, ◌∙◌, subst, arith}
 use Rattle.std.specs.Prelude.{position, ◌%◌, ◌/◌, if◌then◌else◌, ◌==◌}
 use Rattle.std.proofs.lemmas.Bool.{cases_lt, eq-eqb, ne_eqb}
 use Rattle.std.proofs.lemmas.List.{drop-take}

@@ -8,8 +8,8 @@ use Rattle.flat_machine.specs.State.{Processor, FlatState}
 use Rattle.flat_machine.specs.Flat.{flat_run, flat_events}
 use Rattle.steps.specs.declared.step.Outcome.{Outcome}
 use Rattle.steps.specs.declared.step.Outcome.TheVariants as outcome
-use Rattle.machine_runs.specs.Machines.{MachineLists}
-use Rattle.machine_runs.specs.machine_program.Processors.{port_at}
+use Rattle.machine_steps.specs.Machines.{MachineLists}
+use Rattle.machine_steps.specs.machine_theory.Processors.{port_at}
 
 -- so many turns of processor 0
 abbrev pub turns_of_zero : ℕ → List Entry

@@ -3,15 +3,17 @@
 ghost use Rattle.std.specs.Prelude.{◌≡◌, ◌*◌, ◌≤◌, length, IfOk, IfErr};
 ghost use Rattle.elf_image.specs.Images.{IsPlaced, IsAccepted, IsMeant};
 ghost use Rattle.elf_image.specs.Spellings.{spelling};
-ghost use Rattle.machine_runs.specs.Machines.{AreHome, IsIdle};
-ghost use Rattle.machine_runs.specs.Runs.{flat_state};
+ghost use Rattle.machine_steps.specs.Machines.{AreHome, IsIdle};
+ghost use Rattle.machine_steps.specs.Runs.{flat_state};
 ghost use Rattle.words_command.specs.Loading.{bytes_of_words, layout_of_words, flat_of_words, IsWantOfMemory};
 
-use elf_image::{Bytes, Image, ImageError, Layout, read_image, write_image};
+use elf_image::{
+    Bytes, Image, ImageError, Layout, input_means_one_layout, not_refused_is_accepted, read_image,
+    spelling_means_its_layout, write_image,
+};
 use flat_machine::{CODE_START, Config};
-use image_laws::{input_means_one_layout, not_refused_is_accepted, spelling_means_its_layout};
 use link::Meter;
-use machine_runs::{Machine, NewError};
+use machine_steps::{Machine, NewError};
 use std::alloc::{AllocError, Global};
 
 /// One processor, and 1,024 shared words.

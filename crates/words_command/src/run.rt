@@ -2,14 +2,14 @@
 
 ghost use Rattle.std.specs.Prelude.{◌≡◌, ℕ, ◌<◌, ◌≤◌, ◌+◌, ◌*◌, [], length, true, false, Err, IfOk, IfErr, OnOk};
 ghost use Rattle.flat_machine.specs.State.{is_running};
-ghost use Rattle.machine_runs.specs.Machines.{IsIdle, IsMachine};
-ghost use Rattle.machine_runs.specs.Runs.{flat_state};
-ghost use Rattle.machine_runs.specs.Whole.{IsOne};
+ghost use Rattle.machine_steps.specs.Machines.{IsIdle, IsMachine};
+ghost use Rattle.machine_steps.specs.Runs.{flat_state};
+ghost use Rattle.machine_steps.specs.Whole.{IsOne};
 ghost use Rattle.words_command.specs.Command.{HasProcessor};
 ghost use Rattle.words_command.specs.Running.{HasRunAlone, is_retired, processor_of};
 
 use flat_machine::Status;
-use machine_log::{LogRefusal, Logged, log_is_kept};
+use machine_log::{LockRefusal, Logged, log_is_kept};
 use std::alloc::AllocError;
 use steps::Outcome;
 use thiserror::Error;
@@ -100,7 +100,7 @@ fn take_instruction(log: &mut Logged) -> Result<Outcome, AllocError>
     log_is_kept(log);
     match outcome {
         Ok(outcome) => Ok(outcome),
-        Err(LogRefusal::Memory) => Err(AllocError),
-        Err(LogRefusal::Full | LogRefusal::Unnamed) => unreachable!(),
+        Err(LockRefusal::Memory) => Err(AllocError),
+        Err(LockRefusal::Full | LockRefusal::Unnamed | LockRefusal::NotFree) => unreachable!(),
     }
 }

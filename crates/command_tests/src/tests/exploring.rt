@@ -3,7 +3,6 @@
 
 mod devices;
 mod ends;
-mod programs;
 mod sizes;
 mod witnesses;
 
@@ -11,7 +10,7 @@ use explore_command::{Asked, Unwatched, explore_command, explore_every_size};
 use flat_machine::Config;
 use link::Meter;
 use std::alloc::Global;
-use test_machines::size;
+use test_support::size;
 
 /// A machine of so many processors, with 16 shared words.
 fn config_of(k: u8) -> Config {

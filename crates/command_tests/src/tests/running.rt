@@ -7,14 +7,14 @@ mod memory;
 mod replays;
 mod reports;
 
-use accounts::replay_command;
 use flat_machine::Config;
 use link::Meter;
 use run_command::run_command;
 use std::alloc::Global;
 use std::io;
 use std::test::Fail;
-use test_machines::image_of;
+use test_support::image_of;
+use trace_commands::replay_command;
 
 /// A budget that no program here uses up, unless it has no end.
 const AMPLE: u32 = 200_000;

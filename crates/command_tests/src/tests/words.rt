@@ -5,7 +5,7 @@ use std::alloc::{AllocError, Global};
 use std::fmt::Write as _;
 use std::io::{Read, Write};
 use std::test::Fail;
-use test_devices::{Broken, Endless, Full, Ran, assert_same, ran};
+use test_support::{Broken, Endless, Full, Ran, assert_same, ran};
 use words_command::words_command;
 
 /// What a run of a file comes to, with this device for the report.

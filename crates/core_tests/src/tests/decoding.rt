@@ -7,7 +7,7 @@ use rv_table::{
     AmoOp, BranchOp, Immediate, ImmediateOp, Insn, LoadOp, Register, RegisterOp, ShiftOp, StoreOp,
     UpperOp,
 };
-use test_devices::assert_same;
+use test_support::assert_same;
 
 fn x(number: u8) -> Register
     requires { number < 32 }

@@ -4,7 +4,7 @@ ghost use Rattle.std.specs.Prelude.{◌≤◌, ◌≤ℤ◌};
 
 use phi_algebra::{Phi, SignedRange, UnsignedRange, compose};
 use rv_table::{AmoOp, StoreOp};
-use test_devices::assert_same;
+use test_support::assert_same;
 
 const LOWEST: u32 = 0x8000_0000;
 
@@ -73,7 +73,7 @@ fn each_amo_has_its_value(rt: HostRuntime) {
         (AmoOp::Maxu, 0, 0xFFFF_FFFF, 0xFFFF_FFFF),
     ];
     for (op, before, value, after) in rows {
-        assert_same!(rt; phi_instructions::amo(op, value).apply(before), after, (&op, &value, &before));
+        assert_same!(rt; hart::amo(op, value).apply(before), after, (&op, &value, &before));
     }
 }
 
@@ -82,72 +82,66 @@ fn each_instruction_has_its_function(rt: HostRuntime) {
     let v = 0xFFFF_FFFE;
     let rows = [
         (
-            phi_instructions::load(),
+            hart::load(),
             Phi::Bits {
                 and: 0xFFFF_FFFF,
                 xor: 0,
             },
         ),
         (
-            phi_instructions::store_byte(1, v),
+            hart::store_byte(1, v),
             Phi::Bits {
                 and: 0xFFFF_00FF,
                 xor: 0x0000_FE00,
             },
         ),
         (
-            phi_instructions::store_half(2, v),
+            hart::store_half(2, v),
             Phi::Bits {
                 and: 0x0000_FFFF,
                 xor: 0xFFFE_0000,
             },
         ),
         (
-            phi_instructions::store_word(v),
+            hart::store_word(v),
             Phi::Bits {
                 and: 0,
                 xor: 0xFFFF_FFFE,
             },
         ),
-        (phi_instructions::amo_add(v), Phi::Add(0xFFFF_FFFE)),
+        (hart::amo_add(v), Phi::Add(0xFFFF_FFFE)),
         (
-            phi_instructions::amo_swap(v),
+            hart::amo_swap(v),
             Phi::Bits {
                 and: 0,
                 xor: 0xFFFF_FFFE,
             },
         ),
         (
-            phi_instructions::amo_xor(v),
+            hart::amo_xor(v),
             Phi::Bits {
                 and: 0xFFFF_FFFF,
                 xor: 0xFFFF_FFFE,
             },
         ),
         (
-            phi_instructions::amo_or(v),
+            hart::amo_or(v),
             Phi::Bits {
                 and: 1,
                 xor: 0xFFFF_FFFE,
             },
         ),
         (
-            phi_instructions::amo_and(v),
+            hart::amo_and(v),
             Phi::Bits {
                 and: 0xFFFF_FFFE,
                 xor: 0,
             },
         ),
-        (phi_instructions::amo_min(v), clamp(-2_147_483_648, -2)),
-        (phi_instructions::amo_max(v), clamp(-2, 2_147_483_647)),
-        (
-            phi_instructions::amo_minu(v),
-            clamp_unsigned(0, 0xFFFF_FFFE),
-        ),
-        (
-            phi_instructions::amo_maxu(v),
-            clamp_unsigned(0xFFFF_FFFE, 0xFFFF_FFFF),
-        ),
+        (hart::amo_min(v), clamp(-2_147_483_648, -2)),
+        (hart::amo_max(v), clamp(-2, 2_147_483_647)),
+        (hart::amo_minu(v), clamp_unsigned(0, 0xFFFF_FFFE)),
+        (hart::amo_maxu(v), clamp_unsigned(0xFFFF_FFFE, 0xFFFF_FFFF)),
     ];
     for (phi, expected) in rows {
         assert_same!(rt; phi, expected);
@@ -157,26 +151,17 @@ fn each_instruction_has_its_function(rt: HostRuntime) {
 #[test]
 fn stores_keep_the_other_bytes(rt: HostRuntime) {
     let rows = [
-        (phi_instructions::store_byte(0, 0xAA), 0x1122_33AA),
-        (phi_instructions::store_byte(1, 0xAA), 0x1122_AA44),
-        (phi_instructions::store_byte(2, 0xAA), 0x11AA_3344),
-        (phi_instructions::store_byte(3, 0xAA), 0xAA22_3344),
-        (
-            phi_instructions::store(StoreOp::Sb, 3, 0xFFFF_FFAA),
-            0xAA22_3344,
-        ),
-        (phi_instructions::store_half(0, 0xBBAA), 0x1122_BBAA),
-        (phi_instructions::store_half(2, 0xBBAA), 0xBBAA_3344),
-        (
-            phi_instructions::store(StoreOp::Sh, 2, 0xFFFF_BBAA),
-            0xBBAA_3344,
-        ),
-        (phi_instructions::store_word(0xDDCC_BBAA), 0xDDCC_BBAA),
-        (
-            phi_instructions::store(StoreOp::Sw, 0, 0xDDCC_BBAA),
-            0xDDCC_BBAA,
-        ),
-        (phi_instructions::load(), 0x1122_3344),
+        (hart::store_byte(0, 0xAA), 0x1122_33AA),
+        (hart::store_byte(1, 0xAA), 0x1122_AA44),
+        (hart::store_byte(2, 0xAA), 0x11AA_3344),
+        (hart::store_byte(3, 0xAA), 0xAA22_3344),
+        (hart::store(StoreOp::Sb, 3, 0xFFFF_FFAA), 0xAA22_3344),
+        (hart::store_half(0, 0xBBAA), 0x1122_BBAA),
+        (hart::store_half(2, 0xBBAA), 0xBBAA_3344),
+        (hart::store(StoreOp::Sh, 2, 0xFFFF_BBAA), 0xBBAA_3344),
+        (hart::store_word(0xDDCC_BBAA), 0xDDCC_BBAA),
+        (hart::store(StoreOp::Sw, 0, 0xDDCC_BBAA), 0xDDCC_BBAA),
+        (hart::load(), 0x1122_3344),
     ];
     for (phi, after) in rows {
         assert_same!(rt; phi.apply(0x1122_3344), after, phi);

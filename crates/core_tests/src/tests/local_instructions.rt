@@ -1,13 +1,12 @@
 //! Runs of local instructions on a core by itself. The words come from the manual, and what they do is worked out by hand.
 
 use flat_machine::{CODE_START, Cause, Setting, Status};
-use hart::Core;
+use hart::{Core, LocalEnd, Retirements, run_local};
 use local_memory::Code;
-use local_runs::{LocalEnd, Retirements, run_local};
 use std::alloc::AllocGlobal;
 use std::process::Abort;
 use std::test::Fail;
-use test_devices::assert_same;
+use test_support::assert_same;
 
 /// `lui x5, 0x80000`, `addi x6, x0, 100`, `addi x7, x0, 1`, and then `amoadd.w x8, x7, (x5)`, which refers to the shared word 0.
 static ADDS: [u32; 4] = [0x8000_02B7, 0x0640_0313, 0x0010_0393, 0x0072_A42F];

@@ -6,7 +6,7 @@ use memory_module::Module;
 use phi_algebra::Phi;
 use rv_table::Insn;
 use std::test::Fail;
-use test_devices::assert_same;
+use test_support::assert_same;
 
 #[test]
 fn local_accesses(rt: HostRuntime) -> Result<(), Fail> {
@@ -67,12 +67,7 @@ fn words_are_served(rt: HostRuntime) -> Result<(), Fail> {
         (0, Phi::Add(7), 0, 7),
         (0, Phi::Add(u32::MAX), 7, 6),
         (2, Phi::constant(0x1122_3344), 0, 0x1122_3344),
-        (
-            2,
-            phi_instructions::store_byte(3, 0xBB),
-            0x1122_3344,
-            0xBB22_3344,
-        ),
+        (2, hart::store_byte(3, 0xBB), 0x1122_3344, 0xBB22_3344),
         (2, Phi::identity(), 0xBB22_3344, 0xBB22_3344),
         (1, Phi::Bits { and: 0, xor: 5 }, 0, 5),
     ] {

@@ -4,9 +4,9 @@ ghost use Rattle.std.specs.Prelude.{◌≡◌, ◌≤◌, length};
 
 use elf_image::{Bytes, Layout};
 use flat_machine::{Config, Status};
-use machine_opening::{new_modules, new_ports};
+use machine_steps::{new_modules, new_ports};
 use std::test::Fail;
-use test_devices::assert_same;
+use test_support::assert_same;
 
 /// Two processors, which share five words.
 const TWO: Config = Config {

@@ -6,7 +6,7 @@ use hart_ops::{
     load_result, load_size, part, register_result, shift_result, store_size, sum,
 };
 use rv_table::{AmoOp, BranchOp, Immediate, ImmediateOp, LoadOp, RegisterOp, ShiftOp, StoreOp};
-use test_devices::assert_same;
+use test_support::assert_same;
 
 #[test]
 fn operations_on_registers(rt: HostRuntime) {

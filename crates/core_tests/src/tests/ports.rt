@@ -9,7 +9,7 @@ use rv_table::{AmoOp, Immediate, ImmediateOp, Insn, Register};
 use std::alloc::AllocGlobal;
 use std::process::Abort;
 use std::test::Fail;
-use test_devices::assert_same;
+use test_support::assert_same;
 
 /// `addi x3, x1, 7`.
 const ADDI: u32 = 0x0070_8193;

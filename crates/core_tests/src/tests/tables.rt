@@ -5,7 +5,7 @@ use messages::Seconds;
 use rv_table::{AmoOp, Format, Immediate, Insn, Register, RegisterOp, Row, ShiftOp, row_of};
 use std::test::Fail;
 use steps::Outcome;
-use test_devices::assert_same;
+use test_support::assert_same;
 
 /// Masks and matches as the manual's listing has them.
 #[test]

@@ -13,7 +13,7 @@ use rv_table::Register;
 use std::alloc::AllocGlobal;
 use std::process::Abort;
 use std::test::Fail;
-use test_devices::assert_same;
+use test_support::assert_same;
 
 /// A core, and the code that it runs.
 #[derive(Drop)]

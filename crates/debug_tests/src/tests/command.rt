@@ -2,8 +2,7 @@
 
 ghost use Rattle.std.specs.Prelude.{⊤};
 
-use debug_command::{Connect, debug_command, debug_end};
-use debug_session::SessionEnd;
+use debug_session::{Connect, SessionEnd, debug_command, debug_end};
 use flat_machine::Config;
 use link::{Failed, Meter};
 use std::alloc::{AllocGlobal, Global};
@@ -11,8 +10,7 @@ use std::io::Read;
 use std::process::Abort;
 use std::sync::Wait;
 use std::test::Fail;
-use test_devices::{Broken, EBREAK, Sink, Source, assert_same, lend};
-use test_machines::{machine_of, size};
+use test_support::{Broken, EBREAK, Sink, Source, assert_same, lend, machine_of, size};
 
 /// A link over memory, of which a read or a write fails, or none.
 #[derive(Drop)]

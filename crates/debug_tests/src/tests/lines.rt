@@ -6,7 +6,7 @@ use arrayvec::ArrayVec;
 use debug_lines::{Command, Event, LineReader, MAX_LINE, pack};
 use std::alloc::{AllocError, Global};
 use std::test::Fail;
-use test_devices::assert_same;
+use test_support::assert_same;
 
 /// Each line and the command that it asks for, with one space between the parts of a line as it is meant.
 const COMMANDS: &str = "\

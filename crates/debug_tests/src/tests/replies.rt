@@ -7,13 +7,12 @@ mod replies;
 mod stops;
 
 use flat_machine::{Config, Poke};
-use machine::Machine;
+use machine_steps::Machine;
 use std::alloc::Global;
 use std::process::Abort;
 use std::test::Fail;
 use steps::{Outcome, Step};
-use test_devices::assert_same;
-use test_machines::machine_of;
+use test_support::{assert_same, machine_of};
 
 /// A machine of two processors with two shared words. Code is `ebreak`, one byte and, at its third word, `ecall`;
 /// local memory begins with two bytes, shared memory with `2A 00 00 80`.

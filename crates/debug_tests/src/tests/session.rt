@@ -5,18 +5,18 @@ ghost use Rattle.std.specs.Prelude.{◌≡◌, false};
 mod cutting;
 mod failing;
 mod limits;
+mod memory;
 mod replies;
+mod socket;
 
-use debug_session::{SessionEnd, serve};
-use debug_sweep::Sweep;
+use debug_session::{SessionEnd, Sweep, serve};
 use link::{LinkRead, Meter};
 use machine_log::Logged;
 use std::alloc::{AllocGlobal, Global};
 use std::process::Abort;
 use std::sync::Wait;
 use std::test::Fail;
-use test_devices::{Sink, assert_same};
-use test_machines::{FOUR_ADDENDS, adders_log, size};
+use test_support::{FOUR_ADDENDS, Sink, adders_log, assert_same, size};
 
 /// Instructions that refer to the shared word at `a2`, at 0x10000 to 0x10010.
 const ROW: &str = "

@@ -1,14 +1,13 @@
 //! Sweeps with breaks, by hand.
 
 use debug_replies::Breaks;
-use debug_sweep::{Runner, Sweep};
+use debug_session::{Runner, Sweep};
 use flat_machine::Status;
-use machine_log::{LogRefusal, Logged};
+use machine_log::{LockRefusal, Logged};
 use std::process::Abort;
 use std::test::Fail;
 use steps::Step;
-use test_devices::{assert_same, lend};
-use test_machines::{log_of, tight_size};
+use test_support::{assert_same, lend, log_of, tight_size};
 
 /// The breaks at these addresses.
 fn breaks_at(rt: &impl Abort, addresses: &[u32]) -> Breaks {
@@ -25,7 +24,7 @@ fn go_on(
     log: &mut Logged,
     breaks: &Breaks,
     budget: u32,
-) -> Result<(), LogRefusal> {
+) -> Result<(), LockRefusal> {
     assert!(rt; log.machine().is_idle());
     let answer = Sweep.run(log, breaks, budget);
     assert!(rt; log.machine().is_idle());
@@ -161,7 +160,7 @@ fn ends_at_each_fault(rt: HostRuntime) -> Result<(), Fail> {
 /// There is no room for a sweep with this budget, and nothing is done.
 fn is_refused(rt: &impl Abort, log: &mut Logged, breaks: &Breaks, budget: u32) {
     let before = log.steps().len();
-    assert_same!(rt; go_on(rt, log, breaks, budget), Err(LogRefusal::Full));
+    assert_same!(rt; go_on(rt, log, breaks, budget), Err(LockRefusal::Full));
     assert_same!(rt; log.steps().len(), before);
 }
 

@@ -13,7 +13,7 @@ use flat_machine::Config;
 use link::Meter;
 use std::alloc::{AllocError, AllocGlobal, Global};
 use std::process::Abort;
-use test_devices::{EBREAK, assert_same, layout_text, with_bytes};
+use test_support::{EBREAK, assert_same, layout_text, with_bytes};
 
 /// A segment of a file that is made for a test: its `p_vaddr`, `p_offset`, `p_filesz`, `p_memsz` and `p_flags`.
 type Part = (u32, u32, u32, u32, u32);

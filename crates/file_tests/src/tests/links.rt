@@ -7,7 +7,7 @@ use std::alloc::{AllocGlobal, Global};
 use std::io;
 use std::io::{ErrorKind, Read, Write};
 use std::process::Abort;
-use test_devices::{Sink, Source, assert_same};
+use test_support::{Sink, Source, assert_same};
 
 /// A sink that is interrupted where it fails, or that takes no byte there and has no flush.
 #[derive(Drop)]

@@ -7,7 +7,7 @@ use link::{Meter, read_within};
 use std::alloc::{AllocError, Global};
 use std::test::Fail;
 use steps::Step;
-use test_devices::{EBREAK, ONE_TURN, assert_same, layout_text};
+use test_support::{EBREAK, ONE_TURN, assert_same, layout_text};
 use trace_file::read_trace;
 
 /// The machine for which the image is read.

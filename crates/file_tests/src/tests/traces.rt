@@ -13,7 +13,7 @@ use link::Meter;
 use std::alloc::{AllocError, AllocGlobal, Global};
 use std::process::Abort;
 use steps::Step;
-use test_devices::assert_same;
+use test_support::assert_same;
 use trace_file::{Trace, TraceError, is_trace, read_trace, write_trace};
 
 /// The size of a machine with `k` stages, and with `c` and `b` of 4.

@@ -8,6 +8,7 @@ ghost use Rattle.hart.specs.Deciding.{Allows, Decides, IsOfEffect, NamesWord};
 
 use super::Core;
 use crate::decision::{Decision, Shape};
+use crate::instructions;
 use flat_machine::{Effect, Fault, Region, Size};
 use hart_ops::{load_size, store_size};
 use local_memory::Code;
@@ -66,7 +67,7 @@ impl Core {
         match self.region(load_size(op), address, false) {
             Ok(Region::Shared { word }) => Decision::Refer {
                 word,
-                phi: phi_instructions::load(),
+                phi: instructions::load(),
                 shape: Shape::Load(op),
             },
             Ok(Region::Local { .. } | Region::Code { .. }) => Decision::Local,
@@ -83,7 +84,7 @@ impl Core {
         match self.region(store_size(op), address, true) {
             Ok(Region::Shared { word }) => Decision::Refer {
                 word,
-                phi: phi_instructions::store(op, address % 4, value),
+                phi: instructions::store(op, address % 4, value),
                 shape: Shape::Store(op),
             },
             Ok(Region::Local { .. } | Region::Code { .. }) => Decision::Local,
@@ -101,7 +102,7 @@ impl Core {
         match self.region(Size::Word, address, true) {
             Ok(Region::Shared { word }) => Decision::Refer {
                 word,
-                phi: phi_instructions::amo(op, value),
+                phi: instructions::amo(op, value),
                 shape: Shape::Amo(op),
             },
             Ok(Region::Local { .. } | Region::Code { .. }) => Decision::Local,

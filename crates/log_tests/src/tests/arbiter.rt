@@ -3,10 +3,10 @@
 
 ghost use Rattle.std.specs.Prelude.{◌≤◌};
 
-use shuffled::{Arbiter, Shuffled};
+use schedules::{Arbiter, Shuffled};
 use std::test::*;
 use steps::Step;
-use test_devices::assert_same;
+use test_support::assert_same;
 
 fn up(stage: u8, wire: u8) -> Step {
     Step::Up { stage, wire }

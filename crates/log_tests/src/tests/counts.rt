@@ -6,7 +6,7 @@ use run_counts::{Counts, Held, Longest, counts_text, rounds_of};
 use std::process::Abort;
 use std::test::Fail;
 use steps::{Outcome, Step};
-use test_devices::{assert_same, lend};
+use test_support::{assert_same, lend};
 
 /// Notes eight steps: two requests meet at a stage, one is served for both and one for itself, and the reply for two is split.
 fn note_all(rt: &impl Abort, counts: &mut Counts) {

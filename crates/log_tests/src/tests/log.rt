@@ -7,13 +7,13 @@ mod steps_taken;
 mod whole;
 
 use flat_machine::{Config, Status};
-use machine_log::{LogRefusal, Logged};
-use machine_runs::Machine;
+use machine_log::{LockRefusal, Logged};
+use machine_steps::Machine;
 use std::alloc::{AllocGlobal, Global};
 use std::process::Abort;
 use std::test::Fail;
 use steps::Outcome;
-use test_machines::{FOUR_ADDENDS, adders, size};
+use test_support::{FOUR_ADDENDS, adders, size};
 
 /// A machine of one processor.
 const ONE: Config = Config {
@@ -80,7 +80,7 @@ fn result_of(outcome: Outcome) -> Option<u32> {
 }
 
 /// Whether a log has room for so many steps more.
-fn room_for(log: &mut Logged, extra: u32) -> Result<(), LogRefusal> {
+fn room_for(log: &mut Logged, extra: u32) -> Result<(), LockRefusal> {
     match log.room(extra) {
         Ok(_) => Ok(()),
         Err(refusal) => Err(refusal),

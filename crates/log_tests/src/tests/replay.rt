@@ -1,13 +1,12 @@
 //! Replays of small traces, by hand.
 
 use flat_machine::Config;
-use machine_runs::{Machine, run};
+use machine_log::{StalledStep, replay};
+use machine_steps::Machine;
 use std::alloc::{AllocError, Global};
 use std::test::Fail;
 use steps::Step;
-use test_devices::{assert_same, lend};
-use test_machines::adders;
-use trace_replay::{StalledStep, replay};
+use test_support::{adders, assert_same, lend};
 
 /// A machine of two processors.
 const TWO: Config = Config {
@@ -78,7 +77,7 @@ fn stops_at_a_step_that_stalls(rt: HostRuntime) -> Result<(), Fail> {
         let machines = (two_adds(rt.alloc())?, two_adds(rt.alloc())?);
         lend((machines, steps), |((machine, wanted), steps)| {
             assert_same!(rt; replay(machine, steps.as_slice()), Err(StalledStep { place }));
-            run(wanted, &COMBINED[..place]);
+            wanted.run(&COMBINED[..place]);
             assert_same!(rt; look_at(machine), look_at(wanted), place);
             assert_same!(rt; machine.is_idle(), wanted.is_idle(), place);
         });

@@ -2,14 +2,13 @@
 
 ghost use Rattle.std.specs.Prelude.{◌≡◌};
 
+use command_io::{Tally, push_processor, push_shared_word};
 use flat_machine::{Fault, Retired, Status};
-use run_report::{Tally, push_processor, push_shared_word};
 use rv_table::Insn;
 use std::alloc::{AllocError, Global};
 use std::test::Fail;
-use steps::{Outcome, Step};
-use test_devices::{assert_same, lend};
-use told_steps::Notes;
+use steps::{Notes, Outcome, Step};
+use test_support::{assert_same, lend};
 
 /// An environment call that has retired, and given this byte to the console.
 fn call(out: Option<u8>) -> Outcome {

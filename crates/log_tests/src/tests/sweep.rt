@@ -3,14 +3,13 @@
 mod rounds;
 
 use self::rounds::round_of;
-use machine_log::{LogRefusal, Logged};
-use machine_runs::{Machine, any_is_faulted, any_runs};
-use machine_sweep::{Round, SweepEnd, follow_sweep};
+use machine_log::{LockRefusal, Logged};
+use machine_steps::{Machine, any_is_faulted, any_runs};
+use schedules::{Round, SweepEnd, follow_sweep};
 use std::process::Abort;
 use std::test::Fail;
 use steps::Step;
-use test_devices::{assert_same, lend};
-use test_machines::{log_of, machine_of, tight_size};
+use test_support::{assert_same, lend, log_of, machine_of, tight_size};
 
 /// Each of four processors stops by a fault in its first turn, and each such turn ends a sweep.
 #[test]
@@ -96,7 +95,7 @@ fn asks_for_room_first(rt: HostRuntime) -> Result<(), Fail> {
     lend(log_of(rt.alloc(), "jal x0, 0", tight_size(0))?, |log| {
         assert_same!(rt; follow_sweep(log, 200_000), Ok(SweepEnd::Budget));
         // With 200,000 steps there is room for 3,994,304 more: those of a sweep, and two for its drain.
-        assert_same!(rt; follow_sweep(log, 3_994_303), Err(LogRefusal::Full));
+        assert_same!(rt; follow_sweep(log, 3_994_303), Err(LockRefusal::Full));
         assert_same!(rt; log.steps().len(), 200_000);
         assert_same!(rt; follow_sweep(log, 3), Ok(SweepEnd::Budget));
         assert_same!(rt; log.steps().len(), 200_003);

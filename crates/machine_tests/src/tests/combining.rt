@@ -5,7 +5,7 @@ use super::pieces::{
     TWO_COMES_FIRST, TWO_MEET, ZERO_COMES_FIRST,
 };
 use std::test::Fail;
-use test_cases::{Case, check_orders};
+use test_support::{Case, check_orders};
 
 #[test]
 fn requests_meet(rt: HostRuntime) -> Result<(), Fail> {

@@ -2,7 +2,7 @@
 
 use super::pieces::{ADDS, FOUR_TURNS, PAIRS_MEET, SUMS_IN_ORDER, SUMS_OF_PAIRS};
 use std::test::Fail;
-use test_cases::{Case, check};
+use test_support::{Case, check};
 
 #[test]
 fn machines_drain(rt: HostRuntime) -> Result<(), Fail> {

@@ -4,12 +4,11 @@ use super::REFERENCES;
 use super::pieces::ADDS;
 use elf_image::Image;
 use flat_machine::Config;
-use machine_runs::{Machine, NewError};
+use machine_steps::{Machine, NewError};
 use std::alloc::{AllocError, AllocGlobal, Global};
 use std::process::Abort;
 use std::test::Fail;
-use test_cases::{Case, check, image_of};
-use test_devices::assert_same;
+use test_support::{Case, assert_same, check};
 
 /// The image of most tests, read for machines with so many shared words.
 fn image(alloc: Global, shared_words: u32) -> Result<Image, Fail> {
@@ -20,7 +19,7 @@ fn image(alloc: Global, shared_words: u32) -> Result<Image, Fail> {
         r: 1,
         shared_words,
     };
-    image_of(alloc, &REFERENCES, &config)
+    REFERENCES.image(alloc, &config)
 }
 
 /// Each number of a configuration at its limits, and one past them; and an image that was read for another number of shared

@@ -1,12 +1,11 @@
 //! What machines open with.
 
 use flat_machine::{CODE_START, Config};
-use machine_runs::Machine;
+use machine_steps::Machine;
 use std::process::Abort;
 use std::test::Fail;
 use steps::{Outcome, Step};
-use test_cases::{Case, Program, check, machine_of};
-use test_devices::assert_same;
+use test_support::{Case, Program, assert_same, check};
 
 #[test]
 fn machines_open(rt: HostRuntime) -> Result<(), Fail> {
@@ -157,7 +156,7 @@ fn largest_machine(rt: HostRuntime) -> Result<(), Fail> {
         r: 1,
         shared_words: 64,
     };
-    let mut machine = machine_of(rt.alloc(), &WORDS_OF_THEIR_OWN, config)?;
+    let mut machine = WORDS_OF_THEIR_OWN.machine(rt.alloc(), config)?;
     for _ in 0..6 {
         take_turns(&mut machine);
     }

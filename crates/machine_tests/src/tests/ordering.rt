@@ -3,7 +3,7 @@
 use super::pieces::{ADD_AND_SWAP, ADDS, FOUR_ADDS, TWO_COMES_FIRST, ZERO_COMES_FIRST};
 use flat_machine::CODE_START;
 use std::test::Fail;
-use test_cases::{Case, Program, check_orders};
+use test_support::{Case, Program, check_orders};
 
 #[test]
 fn orders_are_listed(rt: HostRuntime) -> Result<(), Fail> {

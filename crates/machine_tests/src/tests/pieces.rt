@@ -1,7 +1,7 @@
 //! What cases have in common.
 
 use super::REFERENCES;
-use test_cases::Case;
+use test_support::Case;
 
 /// Four processors are to add 1, 2, 4 and 8 to word 0.
 pub const FOUR_ADDS: &str = "

@@ -3,7 +3,7 @@
 use super::pieces::{ADDS, FOUR_TURNS};
 use flat_machine::CODE_START;
 use std::test::Fail;
-use test_cases::{Case, Program, check};
+use test_support::{Case, Program, check};
 
 #[test]
 fn steps_stall(rt: HostRuntime) -> Result<(), Fail> {

@@ -2,7 +2,7 @@
 
 use flat_machine::CODE_START;
 use std::test::Fail;
-use test_cases::{Case, Program, check};
+use test_support::{Case, Program, check};
 
 #[test]
 fn instructions_are_whole(rt: HostRuntime) -> Result<(), Fail> {

@@ -1,10 +1,10 @@
 //! Records that are told apart by their leaders.
 
-use combining_switch::WaitBuffer;
 use messages::Record;
 use phi_algebra::Phi;
 use std::test::Fail;
-use test_devices::assert_same;
+use test_support::assert_same;
+use wait_buffers::WaitBuffer;
 
 fn record(leader: u8, amount: u32, second: u8) -> Record {
     Record {

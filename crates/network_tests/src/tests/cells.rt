@@ -1,11 +1,11 @@
 //! A pool of four cells with two queues of requests and one of replies.
 
 use super::request;
-use message_cells::Pool;
+use combining_switch::Pool;
 use messages::Reply;
 use phi_algebra::Phi;
 use std::test::Fail;
-use test_devices::assert_same;
+use test_support::assert_same;
 
 #[test]
 fn requests_go_in_order_and_free_their_cells(rt: HostRuntime) -> Result<(), Fail> {

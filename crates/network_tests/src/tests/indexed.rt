@@ -1,12 +1,12 @@
 //! The sets of wires of a network, for a few messages.
 
 use super::{down_of, phi_of, request, up_of};
-use indexed_network::IndexedNetwork;
 use messages::Reply;
+use omega_network::IndexedNetwork;
+use omega_wires::WireSet;
 use phi_algebra::Phi;
 use std::test::Fail;
-use test_devices::{Words, asked_and_wanted, assert_same, low, read_words};
-use wire_sets::WireSet;
+use test_support::{Words, asked_and_wanted, assert_same, low, read_words};
 
 /// The first eight wires as bits, wire 0 lowest.
 fn bits(set: WireSet) -> u8 {
@@ -52,7 +52,9 @@ fn answers(network: &mut IndexedNetwork, asked: Words, wanted: Words) -> bool {
     let (place, wire) = (low(a), low(b));
     match asked.verb {
         "add" => {
-            let fits = place < 4 && network.slot_is_free(place) && !network.names(place);
+            let fits = place < 4
+                && network.slot_is_free(place)
+                && !network.as_network().names(place);
             if fits {
                 network.inject(place, request(place, b, Phi::Add(operand)));
             }
@@ -61,7 +63,7 @@ fn answers(network: &mut IndexedNetwork, asked: Words, wanted: Words) -> bool {
         "up" => place < 2 && wire < 4 && Some(network.up(place, wire)) == up_of(wanted),
         "serve" => serves(network, wanted),
         "reply" => {
-            let fits = network.module_is_free(0) && network.may_reply(0);
+            let fits = network.module_is_free(0) && network.as_network().may_reply(0);
             if fits {
                 let value = wanted.numbers[0];
                 network.module_reply(0, Reply { leader: 0, value });

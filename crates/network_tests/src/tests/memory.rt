@@ -1,9 +1,8 @@
 //! Each allocation of these tests is to be refused in turn. Then what is made tells that there is no memory, which ends the test, or it
 //! is as with ample memory.
 
-use indexed_network::IndexedNetwork;
-use message_cells::Pool;
-use omega_network::Network;
+use combining_switch::Pool;
+use omega_network::{IndexedNetwork, Network};
 use std::test::Fail;
 
 #[test]

@@ -7,7 +7,7 @@ use messages::Reply;
 use omega_network::Network;
 use std::process::Abort;
 use std::test::Fail;
-use test_devices::{Words, asked_and_wanted, assert_same, low, read_words};
+use test_support::{Words, asked_and_wanted, assert_same, low, read_words};
 
 /// A run of a network of so many stages, with queues of so many places, so many records and so many combinations for an entry.
 struct Run {

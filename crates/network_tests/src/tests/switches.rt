@@ -1,12 +1,11 @@
 //! One switch, whose queues stand in a pool, over each of its calls. Networks have the cases.
 
 use super::request;
-use combining_switch::{Accepted, Answered, Switch};
-use message_cells::Pool;
+use combining_switch::{Accepted, Answered, Pool, Switch};
 use messages::Reply;
 use phi_algebra::Phi;
 use std::test::Fail;
-use test_devices::assert_same;
+use test_support::assert_same;
 
 /// A request goes through output 1. A reply is shown and taken at input 1, and put there as one that comes back.
 #[test]

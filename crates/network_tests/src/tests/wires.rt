@@ -1,10 +1,10 @@
 //! Small networks, with every wire worked by hand, and a set of wires.
 
 use omega_wires::{
-    bit, input_port, module_of, path, rotate_left, rotate_right, switch_of, wire_after, wire_before,
+    WireSet, bit, input_port, module_of, path, rotate_left, rotate_right, switch_of, wire_after,
+    wire_before,
 };
-use test_devices::assert_same;
-use wire_sets::WireSet;
+use test_support::assert_same;
 
 #[test]
 fn shuffle_of_eight_wires(rt: HostRuntime) {

@@ -1,12 +1,12 @@
 //! The command, from the bytes of a text to the bytes of an image: what no clause says of it.
 
 use super::door::Door;
-use asm_command::asm_command;
+use asm_commands::asm_command;
 use command_io::OnFirstWrite;
 use std::alloc::Global;
 use std::io::{Read, Write};
 use std::test::Fail;
-use test_devices::{Deaf, EBREAK, Endless, Ran, Sink, Source, assert_same, ran};
+use test_support::{Deaf, EBREAK, Endless, Ran, Sink, Source, assert_same, ran};
 
 /// What assembling a file comes to on two devices.
 fn run_on<R: Read + Drop, W: Write + Drop, E: Write + Drop>(

@@ -10,7 +10,7 @@ mod words;
 use assembler::assemble;
 use std::alloc::{AllocError, AllocGlobal, Global};
 use std::process::Abort;
-use test_devices::{assert_same, layout_text};
+use test_support::{assert_same, layout_text};
 
 /// Compares what a text assembles to with what it must.
 fn compare(rt: &(impl Abort + AllocGlobal), text: &str, wanted: &str) {

@@ -1,12 +1,12 @@
 //! The command, from the bytes of an image to the lines of its code: what no clause says of it.
 
 use super::image_of;
+use asm_commands::dis_command;
 use assembler::AsmError;
-use dis_command::dis_command;
 use std::alloc::Global;
 use std::io::{Read, Write};
 use std::test::Fail;
-use test_devices::{
+use test_support::{
     Deaf, EBREAK, Endless, HUNDRED_ADDS, Ran, Source, assert_same, ran, with_bytes,
 };
 

@@ -1,11 +1,10 @@
 //! Instructions to text and back.
 
 use arrayvec::ArrayString;
-use assembler::assemble;
+use assembler::{assemble, disassemble};
 use decode::{decode, encode};
-use disassembler::disassemble;
 use std::test::Fail;
-use test_devices::assert_same;
+use test_support::assert_same;
 
 #[test]
 fn words_have_their_texts(rt: HostRuntime) -> Result<(), Fail> {

@@ -5,7 +5,7 @@ use rv_table::{Insn, Register, RegisterOp};
 use std::alloc::AllocGlobal;
 use std::process::Abort;
 use std::test::Fail;
-use test_devices::assert_same;
+use test_support::assert_same;
 
 /// Compares the fault of each of these lines with this one.
 fn check(rt: &(impl Abort + AllocGlobal), lines: &[&str], fault: Option<LineError>) {

@@ -9,7 +9,7 @@ use link::{Link, Meter};
 use std::alloc::Global;
 use std::io::{self, ErrorKind, Write};
 use std::test::Fail;
-use test_devices::{Sink, assert_same};
+use test_support::{Sink, assert_same};
 
 #[test]
 fn digits(rt: HostRuntime) -> Result<(), Fail> {

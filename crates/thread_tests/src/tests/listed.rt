@@ -5,7 +5,7 @@ ghost use Rattle.std.specs.Prelude.{◌≤◌};
 
 use super::rounds::{Seen, run_text};
 use processor_threads::{Gate, Open, RunFault};
-use shuffled::Arbiter;
+use schedules::Arbiter;
 use std::alloc::{AllocGlobal, Global};
 use std::process::Abort;
 use std::sync::Wait;
@@ -13,7 +13,7 @@ use std::sync::atomic::{AtomicU64, Ordering};
 use std::test::Fail;
 use std::thread::Threads;
 use steps::Step;
-use test_devices::{assert_same, lend};
+use test_support::{assert_same, lend};
 
 /// Processor 0 adds 2 to word 0, and both halt.
 const ADDS: &str = "

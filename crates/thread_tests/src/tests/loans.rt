@@ -1,19 +1,19 @@
-//! Cores on loan: two at once on one thread, one that is lent twice, and one that is lost.
+//! Cores on loan: two at once on one thread, one that is lent twice, one that leaves the log no room, and one that is lost.
 
 ghost use Rattle.std.specs.Prelude.{◌≡◌, ◌≤◌, ℕ, Some};
-ghost use Rattle.machine_passes.specs.Passes.{IsWhole};
+ghost use Rattle.machine_lock.specs.Passes.{IsWhole};
 
 use super::trials::{Trial, attempt};
 use flat_machine::{CODE_START, Status};
-use local_runs::LocalEnd;
-use machine_passes::{Pass, Run, Shared};
+use hart::LocalEnd;
+use machine_lock::{Pass, Run, Shared};
+use machine_log::LockRefusal;
 use std::alloc::Global;
 use std::process::Abort;
 use std::sync::Wait;
 use std::test::Fail;
 use steps::Outcome;
-use test_devices::{HUNDRED_ADDS, assert_same, lend};
-use test_machines::{log_of, size};
+use test_support::{HUNDRED_ADDS, assert_same, lend, log_of, poke_often, prepared, size};
 
 /// A processor that writes the byte 65 to the console by its fourth instruction.
 const WRITES: &str =
@@ -131,6 +131,57 @@ pub(super) fn lend_twice<N: Run, R: Wait + Abort>(
 fn one_core_twice_or_short_of_memory(rt: HostRuntime) -> Result<(), Fail> {
     let logged = log_of(rt.alloc(), WRITES, size(0))?;
     attempt(&rt, rt.alloc(), logged, Trial::LentTwice)
+}
+
+/// Lends the core of one pass for three instructions, runs it, and takes it back: how the run ended, and how many it retired. While it is
+/// away, there is no room for a turn of another.
+fn run_in_the_last_places<N: Run, R: Wait + Abort>(
+    rt: &R,
+    alloc: Global,
+    shared: &Shared<N>,
+    one: &mut Pass<N>,
+    other: &mut Pass<N>,
+) -> Result<(LocalEnd, usize), Fail> {
+    let mut loan = match shared.lend(rt, alloc, one, 3) {
+        Ok(loan) => loan,
+        Err(refusal) => return Err(Fail::from(refusal)),
+    };
+    assert_same!(rt; shared.turn(rt, other), Err(LockRefusal::Full));
+    let end = loan.run_local();
+    let retired = loan.retired().len();
+    assert!(rt; shared.give_back(rt, one, loan).is_ok());
+    Ok((end, retired))
+}
+
+/// Lends a core twice in a log that has six places left.
+pub(super) fn lend_at_the_limit<N: Run, R: Wait + Abort>(
+    rt: &R,
+    alloc: Global,
+    shared: Shared<N>,
+    mut passes: Vec<Pass<N>>,
+) -> Result<(), Fail> {
+    let other = passes.pop().expect(rt, "a pass");
+    let one = passes.pop().expect(rt, "a pass");
+    lend((shared, one, other), |(shared, one, other)| {
+        assert_same!(rt; run_once(rt, alloc, shared, one, 3)?, (LocalEnd::Most, 3));
+        let last = run_in_the_last_places(rt, alloc, shared, one, other)?;
+        assert_same!(rt; last, (LocalEnd::Out(65), 1));
+        for place in [4_194_302, 4_194_303] {
+            assert!(rt; matches!(shared.turn(rt, other), Ok(Outcome::Retired(_))));
+            assert_same!(rt; last_place(other), Some(place));
+        }
+        assert_same!(rt; shared.turn(rt, other), Err(LockRefusal::Full));
+        Ok(())
+    })
+}
+
+/// The second loan takes one instruction of the three that it may. So the two places that were promised beyond it are free again: two
+/// turns find room, and a third does not.
+#[test]
+fn places_are_released(rt: HostRuntime) -> Result<(), Fail> {
+    let log = log_of(rt.alloc(), WRITES, size(1))?;
+    let logged = prepared(log, |log| poke_often(log, 4_194_298))?;
+    attempt(&rt, rt.alloc(), logged, Trial::AtTheLimit)
 }
 
 /// Lends the core of the first pass, lets it run, and loses it.

@@ -2,18 +2,19 @@
 //! and its steps are those by which four adds combine, worked out by hand.
 
 ghost use Rattle.std.specs.Prelude.{◌≡◌};
-ghost use Rattle.machine_passes.specs.Passes.{IsWhole};
+ghost use Rattle.machine_lock.specs.Passes.{IsWhole};
 
 use super::trials::{Trial, attempt};
-use machine_log::LogRefusal;
-use machine_passes::{Answer, Pass, Run, Shared};
+use machine_lock::{Answer, Pass, Run, Shared};
+use machine_log::LockRefusal;
 use std::alloc::Global;
 use std::process::Abort;
 use std::sync::Wait;
 use std::test::Fail;
 use steps::{Outcome, Step};
-use test_devices::{assert_same, lend};
-use test_machines::{COMBINED_ADDS, FOUR_ADDENDS, add_pokes, adders_log, combined_add, size};
+use test_support::{
+    COMBINED_ADDS, FOUR_ADDENDS, add_pokes, adders_log, assert_same, combined_add, lend, size,
+};
 
 /// The processor whose pass asks for each of the steps: that of a turn, and any of them where a message moves or is served.
 static ASKERS: [u8; 18] = [0, 1, 2, 3, 3, 2, 1, 0, 0, 1, 2, 3, 0, 1, 0, 1, 2, 3];
@@ -24,7 +25,7 @@ fn ask<N: Run, R: Wait>(
     shared: &Shared<N>,
     pass: &mut Pass<N>,
     step: Step,
-) -> Result<Outcome, LogRefusal>
+) -> Result<Outcome, LockRefusal>
     ensures { pass.new.processor ≡ pass.old.processor }
 {
     match step {

@@ -2,12 +2,12 @@
 
 ghost use Rattle.std.specs.Prelude.{◌≡◌, ◌^◌, IfOk, vec_len};
 
-use agreed_rows::Room;
 use flat_machine::{Event, Status};
+use ghost_map::Room;
+use machine_lock::{Pass, Row, Run};
 use machine_log::Logged;
-use machine_passes::{Pass, Row, Run};
 use processor_threads::{Gate, Open, RunFault, run_threads};
-use shuffled::{Arbiter, Shuffled};
+use schedules::{Arbiter, Shuffled};
 use std::alloc::Global;
 use std::marker::Brand;
 use std::process::Abort;
@@ -17,8 +17,7 @@ use std::test::Fail;
 use std::thread;
 use std::thread::Threads;
 use std::time::{Clock, Duration};
-use test_devices::{HUNDRED_ADDS, assert_same, lend};
-use test_machines::{log_of, size};
+use test_support::{HUNDRED_ADDS, assert_same, lend, log_of, size};
 
 /// An arbiter for each processor of a log.
 fn arbiters<A: Drop, F: Fn(u8) -> A>(
@@ -203,7 +202,8 @@ impl<C: Clock> Gate for Turnstile<'_, C> {
     }
 }
 
-/// Two threads run side by side: neither order in which one thread would run both processors gets through the gate.
+/// Two threads run side by side: neither order in which one thread would run both processors gets through the gate. Both flags are up
+/// behind it, so the gate was told of each turn that it waits for.
 #[test]
 fn side_by_side(rt: HostRuntime) -> Result<(), Fail> {
     let gate = Turnstile {
@@ -216,6 +216,8 @@ fn side_by_side(rt: HostRuntime) -> Result<(), Fail> {
         run_text(&rt, rt.alloc(), HUNDRED_ADDS, 1, shuffled, &gate, AMPLE)?,
         |seen| {
             assert_same!(rt; gate.gave_up.load(Ordering::SeqCst), 0);
+            assert_same!(rt; gate.begun.load(Ordering::SeqCst), 1);
+            assert_same!(rt; gate.answered.load(Ordering::SeqCst), 1);
             have_added(&rt, seen);
         },
     );

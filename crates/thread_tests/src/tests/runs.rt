@@ -4,14 +4,14 @@
 mod ends;
 mod reports;
 
-use accounts::replay_command;
 use flat_machine::Config;
 use link::Meter;
 use processor_threads::Open;
+use run_command::threaded_run_command;
 use std::alloc::Global;
 use std::sync::Wait;
 use std::thread::Threads;
-use threaded_run::threaded_run_command;
+use trace_commands::replay_command;
 
 /// A budget that no program here uses up, unless a thread cannot go on.
 const AMPLE: u32 = 10_000_000;

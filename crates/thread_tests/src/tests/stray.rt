@@ -4,10 +4,10 @@ ghost use Rattle.std.specs.Prelude.{◌≤◌};
 
 use super::rounds::run_text;
 use processor_threads::{Open, RunFault};
-use shuffled::Arbiter;
+use schedules::Arbiter;
 use std::test::Fail;
 use steps::Step;
-use test_devices::{HUNDRED_ADDS, assert_same, lend};
+use test_support::{HUNDRED_ADDS, assert_same, lend};
 
 /// Always asks for the service of a module that no machine has.
 #[derive(Drop)]

@@ -1,15 +1,14 @@
 //! Rounds of one processor with no other thread's step between them: how many there are, and what the last of them answers.
 
 use super::trials::{Trial, attempt};
-use machine_log::LogRefusal;
-use machine_passes::{Pass, Round, Rounds, Run, Shared};
+use machine_lock::{Pass, Round, Rounds, Run, Shared};
+use machine_log::LockRefusal;
 use std::alloc::Global;
 use std::process::Abort;
 use std::sync::Wait;
 use std::test::Fail;
 use steps::{Outcome, Step};
-use test_devices::{assert_same, lend};
-use test_machines::{log_of, size};
+use test_support::{assert_same, lend, log_of, size};
 
 /// A processor that adds to a shared word, and then halts.
 const ADDS: &str = "lui x12, 0x80000\namoadd.w x10, x11, (x12)\naddi x17, x0, 0\necall\n";
@@ -23,7 +22,7 @@ static WAY: [Step; 4] = [
 ];
 
 /// Rounds of which the last waits, and its step of the network was answered so.
-const fn waits(gone: usize, net: Result<Outcome, LogRefusal>) -> Rounds {
+const fn waits(gone: usize, net: Result<Outcome, LockRefusal>) -> Rounds {
     Rounds {
         gone,
         answer: Ok(Round {
@@ -62,7 +61,7 @@ pub(super) fn turn_by_turn<N: Run, R: Wait + Abort>(
     lend((shared, first_of(rt, passes)), |(shared, pass)| {
         assert_retired(rt, &shared.rounds(rt, pass, &WAY), 1);
         let unnamed = [WAY[0], Step::Serve(2), WAY[1]];
-        let refused = waits(2, Err(LogRefusal::Unnamed));
+        let refused = waits(2, Err(LockRefusal::Unnamed));
         assert_same!(rt; shared.rounds(rt, pass, &unnamed), refused);
         let served = waits(1, Ok(Outcome::Served { leader: 0 }));
         assert_same!(rt; shared.rounds(rt, pass, &WAY[1..2]), served);

@@ -2,12 +2,12 @@
 
 ghost use Rattle.std.specs.Prelude.{◌≡◌, ◌^◌};
 
-use super::loans::{both_away, lend_twice, lose};
+use super::loans::{both_away, lend_at_the_limit, lend_twice, lose};
 use super::passes::add_by_passes;
 use super::together::{behind_a_loan, turn_by_turn};
-use agreed_rows::Room;
+use ghost_map::Room;
+use machine_lock::{Row, Run, Shared};
 use machine_log::Logged;
-use machine_passes::{Row, Run, Shared};
 use std::alloc::Global;
 use std::marker::Brand;
 use std::process::Abort;
@@ -20,6 +20,7 @@ pub(super) enum Trial {
     FourAdds,
     BothAway,
     LentTwice,
+    AtTheLimit,
     Lost,
     TurnByTurn,
     BehindALoan,
@@ -46,6 +47,7 @@ fn go<N: Run, R: Wait + Abort>(
         Trial::FourAdds => add_by_passes(rt, alloc, shared, passes),
         Trial::BothAway => both_away(rt, alloc, shared, passes),
         Trial::LentTwice => lend_twice(rt, alloc, shared, passes),
+        Trial::AtTheLimit => lend_at_the_limit(rt, alloc, shared, passes),
         Trial::Lost => lose(rt, alloc, shared, passes),
         Trial::TurnByTurn => turn_by_turn(rt, shared, passes),
         Trial::BehindALoan => behind_a_loan(rt, alloc, shared, passes),

@@ -6,8 +6,7 @@ use link::Meter;
 use run_command::run_command;
 use std::alloc::Global;
 use std::test::Fail;
-use test_devices::{ADD_AT_X12, FOUR_ADDS, assert_same, trace_of};
-use test_machines::image_of;
+use test_support::{ADD_AT_X12, FOUR_ADDS, assert_same, image_of, trace_of};
 
 /// The counts of the trace, but for the rounds.
 const COUNTS: &str = "steps 27 turns 8 up 6 serve 1 down 3 poke 9 rounds ";

@@ -3,7 +3,7 @@
 use super::{Told, WHOLE, tell};
 use link::Meter;
 use std::test::Fail;
-use test_devices::{Deaf, EBREAK, ONE_TURN, Sink, Source, assert_same};
+use test_support::{Deaf, EBREAK, ONE_TURN, Sink, Source, assert_same};
 
 /// What is told of an image of `ebreak` on one processor.
 fn stopped(told: Told) -> &'static [u8] {

@@ -5,8 +5,7 @@ use std::alloc::Global;
 use std::io::{self, ErrorKind};
 use std::process::Abort;
 use std::test::Fail;
-use test_devices::{EBREAK, ONE_TURN, assert_same, trace_of};
-use test_machines::image_of;
+use test_support::{EBREAK, ONE_TURN, assert_same, image_of, trace_of};
 
 /// Of a trace on an image nothing is printed, and this is told.
 fn assert_told(

@@ -3,12 +3,11 @@
 use super::{ALL, Told, run};
 use flat_machine::Config;
 use link::Meter;
-use order_lines::Choice;
 use run_command::run_command;
 use std::fmt::Write;
 use std::test::Fail;
-use test_devices::{HUNDRED_ADDS, ONE_TURN, assert_same, trace_of};
-use test_machines::image_of;
+use test_support::{HUNDRED_ADDS, ONE_TURN, assert_same, image_of, trace_of};
+use trace_lines::Choice;
 
 /// Adds `x7` to shared word 0, and halts.
 const ONE_ADD: &str = "

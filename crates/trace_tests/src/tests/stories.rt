@@ -2,8 +2,7 @@
 
 use super::{Told, run};
 use std::test::Fail;
-use test_devices::{ADD_AT_X12, FOUR_ADDS, assert_same, trace_of};
-use test_machines::image_of;
+use test_support::{ADD_AT_X12, FOUR_ADDS, assert_same, image_of, trace_of};
 
 /// The lines up to the service.
 const GOING_UP: &str = "0 poke 0 x11 00000001: writes

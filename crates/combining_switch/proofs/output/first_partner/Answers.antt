@@ -1,6 +1,6 @@
 use Rattle.std.proofs.Common.{◌≡◌, Some, sym, ◌∙◌, arith}
 use Rattle.std.specs.Prelude.{slice_get}
-use Rattle.message_cells.specs.Pools.{requests_at}
+use Rattle.combining_switch.specs.Pools.{requests_at}
 use Rattle.messages.proofs.Lemmas.{combined_at, combined_nowhere, joint_fewer}
 use Rattle.combining_switch.proofs.output.first_partner.Goals as goal
 

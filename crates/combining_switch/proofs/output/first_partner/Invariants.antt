@@ -1,6 +1,6 @@
 use Rattle.std.proofs.Common.{◌≡◌}
 use Rattle.std.specs.Prelude.{slice_get}
-use Rattle.message_cells.specs.Pools.{requests_at}
+use Rattle.combining_switch.specs.Pools.{requests_at}
 use Rattle.messages.proofs.Lemmas.{NoneBefore}
 use Rattle.combining_switch.proofs.output.first_partner.Given as goal
 

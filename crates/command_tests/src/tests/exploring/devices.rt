@@ -1,4 +1,5 @@
-//! A write that fails, at each call; and each allocation of a test is to be refused in turn.
+//! Lines of sizes that cannot be printed or told; and each allocation of a test is to be refused in turn. The checks of the
+//! program fail each read and write of the command in turn.
 
 ghost use Rattle.std.specs.Prelude.{◌≡◌, false};
 
@@ -8,7 +9,7 @@ use link::{LinkWrite, Meter};
 use std::alloc::Global;
 use std::io::{Read, Write};
 use std::test::Fail;
-use test_devices::{Deaf, EBREAK, Sink, Source, assert_same};
+use test_support::{Deaf, EBREAK, Sink, assert_same};
 
 /// The one result of an image of `ebreak` on one processor.
 const STOPPED: &[u8] = b"result 1
@@ -80,48 +81,6 @@ fn explored_sizes<R: Read + Drop, W: LinkWrite, E: Write>(
     )
 }
 
-/// A beginning of the lines is printed, and standard output comes before the processor's fault.
-#[test]
-fn lines_that_cannot_be_printed(rt: HostRuntime) {
-    let alloc = rt.alloc();
-    for fails_at in [0, 1, 2, 45, 89, 90] {
-        let mut out = Meter::new(Sink::new(Vec::new(alloc), fails_at));
-        let mut err = Sink::new(Vec::new(alloc), 0);
-        let file = EBREAK.as_slice();
-        let status = explored(alloc, file, &mut out, &mut err);
-        if 1 <= fails_at && fails_at <= 89 {
-            assert_same!(rt; Some(out.device.bytes.as_slice()), STOPPED.get(..fails_at - 1));
-            assert_same!(rt; err.bytes.as_slice(), b"ultra: link\n".as_slice());
-            assert_same!(rt; status, 3, fails_at);
-        } else {
-            assert_same!(rt; out.device.bytes.as_slice(), STOPPED);
-            assert_same!(rt; status, 1, fails_at);
-        }
-    }
-}
-
-/// The lines of the sizes before are printed, and a beginning of the one that fails. The first has 66 bytes, the next
-/// three have 67 each, and the last three 68, so the last byte of all is the 471st.
-#[test]
-fn sizes_that_cannot_be_printed(rt: HostRuntime) {
-    let alloc = rt.alloc();
-    for fails_at in [0, 1, 2, 66, 67, 133, 134, 300, 403, 404, 471, 472] {
-        let mut out = Meter::new(Sink::new(Vec::new(alloc), fails_at));
-        let mut err = Sink::new(Vec::new(alloc), 0);
-        let file = EBREAK.as_slice();
-        let status = explored_sizes(alloc, file, 10, &mut out, &mut err);
-        if 1 <= fails_at && fails_at <= 471 {
-            assert_same!(rt; Some(out.device.bytes.as_slice()), EVERY_STOPPED.get(..fails_at - 1));
-            assert_same!(rt; err.bytes.as_slice(), b"ultra: link\n".as_slice());
-            assert_same!(rt; status, 3, fails_at);
-        } else {
-            assert_same!(rt; out.device.bytes.as_slice(), EVERY_STOPPED);
-            assert_same!(rt; err.bytes.len(), 0);
-            assert_same!(rt; status, 1, fails_at);
-        }
-    }
-}
-
 /// Of each size before, and of the one whose line fails, is told why it is not explored; and then that the line has
 /// failed.
 #[test]
@@ -152,20 +111,6 @@ fn sizes_that_cannot_be_told(rt: HostRuntime) {
     let status = explored_sizes(alloc, EBREAK.as_slice(), 1, &mut out, &mut Deaf);
     assert_same!(rt; out.device.bytes.as_slice(), NONE_EXPLORED);
     assert_same!(rt; status, 4);
-}
-
-/// An image that cannot be read. Where standard error fails too, the exit status alone tells the fault.
-#[test]
-fn image_that_cannot_be_read(rt: HostRuntime) {
-    let alloc = rt.alloc();
-    let mut out = Meter::new(Sink::new(Vec::new(alloc), 0));
-    let status = explored(alloc, Source::new(&EBREAK, 5), &mut out, &mut Deaf);
-    assert_same!(rt; out.device.bytes.len(), 0);
-    assert_same!(rt; status, 3);
-    let mut out = Meter::new(Sink::new(Vec::new(alloc), 0));
-    let status = explored_sizes(alloc, Source::new(&EBREAK, 5), 10, &mut out, &mut Deaf);
-    assert_same!(rt; out.device.bytes.len(), 0);
-    assert_same!(rt; status, 3);
 }
 
 #[test]

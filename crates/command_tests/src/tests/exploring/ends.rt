@@ -3,8 +3,7 @@
 use super::{config_of, each, explore, explore_sizes, up_to_exchanges};
 use flat_machine::Config;
 use std::test::Fail;
-use test_devices::{EBREAK, assert_same};
-use test_machines::image_of;
+use test_support::{EBREAK, assert_same, image_of};
 
 /// A size whose queues have too little room.
 fn narrow(k: u8) -> Config {

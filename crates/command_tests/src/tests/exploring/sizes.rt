@@ -5,8 +5,7 @@ use flat_machine::Config;
 use std::alloc::{AllocError, Global};
 use std::fmt::Write;
 use std::test::Fail;
-use test_devices::assert_same;
-use test_machines::image_of;
+use test_support::{assert_same, image_of};
 
 /// Each adds 1 to the first word. Of n 0 to n have added, or any of them.
 const SUM: &str = "

@@ -1,18 +1,17 @@
 //! A read or a write that fails, at each call.
 
 ghost use Rattle.std.specs.Prelude.{◌≡◌, false};
-ghost use Rattle.accounts.specs.Accounts.{IsWorking};
+ghost use Rattle.trace_commands.specs.Accounts.{IsWorking};
 
 use super::{AMPLE, Ran};
-use accounts::replay_command;
 use link::{Link, LinkWrite, Meter};
 use run_command::run_command;
 use std::alloc::{AllocGlobal, Global};
 use std::io::Read;
 use std::process::Abort;
 use std::test::Fail;
-use test_devices::{Deaf, EBREAK, ONE_TURN, Sink, Source, assert_same};
-use test_machines::{image_of, size};
+use test_support::{Deaf, EBREAK, ONE_TURN, Sink, Source, assert_same, image_of, size};
+use trace_commands::replay_command;
 
 /// The report of an image of `ebreak` on one processor.
 const STOPPED: &[u8] = b"processor 0 pc 00010000 fault 8 retired 0 console -\n";

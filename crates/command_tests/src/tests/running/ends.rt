@@ -7,8 +7,7 @@ use link::Meter;
 use std::io::{self, ErrorKind};
 use std::process::Abort;
 use std::test::Fail;
-use test_devices::{EBREAK, Endless, ONE_TURN, assert_same};
-use test_machines::{image_of, size};
+use test_support::{EBREAK, Endless, ONE_TURN, assert_same, image_of, size};
 
 /// Nothing is printed and no trace is written, and this is told.
 fn assert_told(rt: &impl Abort, ran: &Ran, told: &str, status: u8) {

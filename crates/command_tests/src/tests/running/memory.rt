@@ -2,12 +2,11 @@
 //! that there is none.
 
 use super::AMPLE;
-use accounts::replay_command;
 use link::Meter;
 use run_command::run_command;
 use std::test::Fail;
-use test_devices::{EBREAK, ONE_TURN, Sink, assert_same};
-use test_machines::size;
+use test_support::{EBREAK, ONE_TURN, Sink, assert_same, size};
+use trace_commands::replay_command;
 
 /// The report of an image of `ebreak` on one processor.
 const STOPPED: &[u8] = b"processor 0 pc 00010000 fault 8 retired 0 console -\n";

@@ -2,8 +2,7 @@
 
 use super::{AMPLE, replay, run_text};
 use std::test::Fail;
-use test_devices::{ONE_TURN, assert_same};
-use test_machines::{image_of, size};
+use test_support::{ONE_TURN, assert_same, image_of, size};
 
 /// The trace of a run of one `ecall`, and its replay.
 #[test]

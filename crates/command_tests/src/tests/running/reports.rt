@@ -2,8 +2,7 @@
 
 use super::{AMPLE, replay, run_text};
 use std::test::Fail;
-use test_devices::{HUNDRED_ADDS, assert_same, report_of_hundred_adds};
-use test_machines::{image_of, size};
+use test_support::{HUNDRED_ADDS, assert_same, image_of, report_of_hundred_adds, size};
 
 /// A run, and the replay of its trace.
 #[test]

@@ -3,7 +3,7 @@
 use super::at_word;
 use flat_machine::{Cause, Event, Status};
 use std::test::Fail;
-use test_devices::assert_same;
+use test_support::assert_same;
 
 struct Row {
     text: &'static str,
@@ -19,10 +19,11 @@ macro_rules! rows {
 }
 
 /// The instruction, its word, `x1` and the number of its fault (`flat_machine`, `Fault`).
-static FAULTING: [Row; 24] = rows![
+static FAULTING: [Row; 25] = rows![
     "zeros"                  0x0000_0000 0           1
     "ones"                   0xFFFF_FFFF 0           1
     "slli x1, x1, 32"        0x0200_9093 0           1
+    "srai x0, x0, 32"        0x4200_5013 0           1
     "mul x1, x2, x3, bit 26" 0x0631_00B3 0           1
     "jal x1, 2"              0x0020_00EF 5           3
     "jalr x1, 0(x1)"         0x0000_80E7 0x0001_0006 3

@@ -3,7 +3,7 @@
 use super::{Rig, at_word};
 use std::process::Abort;
 use std::test::Fail;
-use test_devices::assert_same;
+use test_support::assert_same;
 
 struct Row {
     text: &'static str,

@@ -7,7 +7,7 @@ use hart::{Decision, Shape};
 use phi_algebra::Phi;
 use rv_table::{AmoOp, Insn, Register};
 use std::test::Fail;
-use test_devices::assert_same;
+use test_support::assert_same;
 
 const ECALL: u32 = 0x0000_0073;
 

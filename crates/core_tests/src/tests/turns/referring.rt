@@ -7,7 +7,7 @@ use hart::{Decision, Shape};
 use phi_algebra::{Phi, SignedRange, UnsignedRange};
 use rv_table::{AmoOp, LoadOp, StoreOp};
 use std::test::Fail;
-use test_devices::assert_same;
+use test_support::assert_same;
 
 struct Row {
     text: &'static str,

@@ -3,7 +3,7 @@
 use super::at_word;
 use flat_machine::{Event, Retired, Status};
 use std::test::Fail;
-use test_devices::assert_same;
+use test_support::assert_same;
 
 struct Row {
     text: &'static str,

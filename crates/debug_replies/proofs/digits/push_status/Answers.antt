@@ -3,8 +3,9 @@ use Rattle.std.specs.Prelude.{codes}
 use Rattle.std.specs.Fmt.{decimal}
 use Rattle.std.proofs.lemmas.Fmt.{decimal_digit}
 use Rattle.flat_machine.specs.declared.fault.Fault.{Fault}
-use Rattle.flat_machine.specs.declared.fault.Fault.TheVariants.{NoRow, FetchOutsideCode, TargetNotAligned, AddressNotAligned, NoRegion, StoreToCode}
-use Rattle.flat_machine.specs.declared.fault.Fault.TheVariants.{UnknownCall, Breakpoint}
+use Rattle.flat_machine.specs.declared.fault.Fault.TheVariants.{NoRow, FetchOutsideCode, TargetNotAligned}
+use Rattle.flat_machine.specs.declared.fault.Fault.TheVariants.{AddressNotAligned, NoRegion, StoreToCode, UnknownCall}
+use Rattle.flat_machine.specs.declared.fault.Fault.TheVariants.{Breakpoint}
 use Rattle.command_io.specs.Digits.{status_text}
 use Rattle.flat_machine.specs.State.{number_of_fault}
 use Rattle.debug_replies.proofs.digits.push_status.Goals as goal

@@ -1,6 +1,6 @@
 use Rattle.std.proofs.Common.{◌≡◌, ◌+◌, ◌∙◌, arith, sym, refl, nat_le, true}
 use Rattle.std.proofs.lemmas.Bool.{le-leb}
-use Rattle.machine_runs.specs.Runs.{flat_state}
+use Rattle.machine_steps.specs.Runs.{flat_state}
 use Rattle.debug_replies.proofs.Ranges.{one_is_not}
 use Rattle.debug_replies.specs.Errors.{is_range}
 use Rattle.debug_replies.proofs.error.is_range.Goals as goal

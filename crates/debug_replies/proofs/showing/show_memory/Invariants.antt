@@ -1,5 +1,5 @@
 use Rattle.std.proofs.Common.{◌≡◌, ◌≤◌, ◌*◌, length}
-use Rattle.machine_runs.specs.Runs.{flat_state}
+use Rattle.machine_steps.specs.Runs.{flat_state}
 use Rattle.debug_replies.specs.Texts.{bytes_text}
 use Rattle.debug_replies.proofs.showing.show_memory.Given as goal
 

@@ -1,5 +1,5 @@
 use Rattle.std.proofs.Common.{◌≡◌, ◌∙◌, arith, length, subst, sym, true}
-use Rattle.machine_runs.specs.Runs.{flat_state}
+use Rattle.machine_steps.specs.Runs.{flat_state}
 use Rattle.debug_replies.proofs.Halts.{one_goes_on}
 use Rattle.debug_replies.specs.Stops.{are_halted}
 use Rattle.debug_replies.proofs.stopping.are_all_halted.Goals as goal

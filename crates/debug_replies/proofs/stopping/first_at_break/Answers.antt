@@ -1,5 +1,5 @@
 use Rattle.std.proofs.Common.{◌≡◌, ◌∙◌, arith, length, subst, sym, None}
-use Rattle.machine_runs.specs.Runs.{flat_state}
+use Rattle.machine_steps.specs.Runs.{flat_state}
 use Rattle.debug_replies.proofs.Smallest.{smallest_is}
 use Rattle.debug_replies.specs.Stops.{is_at_break, smallest}
 use Rattle.debug_replies.proofs.stopping.first_at_break.Goals as goal

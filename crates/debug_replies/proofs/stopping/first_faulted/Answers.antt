@@ -1,6 +1,6 @@
 use Rattle.std.proofs.Common.{◌∙◌, arith, length, not, sym, ap}
 use Rattle.std.proofs.lemmas.Bool.{and_from}
-use Rattle.machine_runs.specs.Runs.{flat_state}
+use Rattle.machine_steps.specs.Runs.{flat_state}
 use Rattle.debug_replies.proofs.Smallest.{smallest_is}
 use Rattle.debug_replies.specs.Stops.{is_flagged, is_newly_faulted}
 use Rattle.debug_replies.proofs.stopping.first_faulted.Goals as goal

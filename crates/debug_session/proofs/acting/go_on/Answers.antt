@@ -9,4 +9,4 @@ returns-clause-goes_on g c =
     let new = c.run-ran.new.log in
     subst (λ ending. Continues old ending new) (sym c.told.ensures)
     (gone_on old new c.run-ran.result (c.runs_are_in_order.ensures old new) c.log_is_kept.ensures.kept c.log_is_kept-2.ensures.kept c.requires.idle
-    c.run-ran.ensures.ran c.run-ran.ensures.named c.run-ran.ensures.refused)
+    c.run-ran.ensures.ran c.run-ran.ensures.named c.run-ran.ensures.not_free c.run-ran.ensures.refused)

@@ -1,5 +1,5 @@
 use Rattle.std.proofs.Common.{arith}
-use Rattle.machine_runs.specs.Runs.{flat_state}
+use Rattle.machine_steps.specs.Runs.{flat_state}
 use Rattle.debug_session.proofs.Sound.{few, set_is_lawful, set_processor, set_register}
 use Rattle.debug_session.proofs.acting.set.Goals as goal
 

@@ -1,5 +1,5 @@
 use Rattle.std.proofs.Common.{ap, arith, length, true}
-use Rattle.machine_runs.specs.Runs.{flat_state}
+use Rattle.machine_steps.specs.Runs.{flat_state}
 use Rattle.debug_session.proofs.Sound.{few, write_processor, write_range}
 use Rattle.debug_session.proofs.Writing.{array_is_lawful, range_end, written_more}
 use Rattle.debug_session.proofs.acting.write.Goals as goal

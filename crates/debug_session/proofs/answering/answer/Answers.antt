@@ -1,8 +1,8 @@
 use Rattle.std.proofs.Common.{◌∙◌, ap, ℕ, Bool, Ok}
 use mathlib.Core.Path.{fun_ext}
 use Rattle.debug_replies.specs.Stops.{is_faulted_at}
-use Rattle.machine_runs.specs.Machines.{MachineLists}
-use Rattle.machine_runs.specs.Runs.{flat_state}
+use Rattle.machine_steps.specs.Machines.{MachineLists}
+use Rattle.machine_steps.specs.Runs.{flat_state}
 use Rattle.debug_session.specs.Answers.{done_text, Session}
 use Rattle.debug_session.proofs.Sound.{step_is_small}
 use Rattle.debug_session.proofs.answering.answer.Goals as goal

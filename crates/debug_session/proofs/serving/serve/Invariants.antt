@@ -2,7 +2,7 @@ use Rattle.std.proofs.Common.{◌≡◌, ℕ, List, [], length, false}
 use Rattle.std.specs.Io.KnownBytes.{Consumes}
 use Rattle.debug_lines.specs.Lines.{Held, IsAfter}
 use Rattle.debug_replies.specs.Breaking.{is_break}
-use Rattle.machine_runs.specs.Machines.{IsIdle}
+use Rattle.machine_steps.specs.Machines.{IsIdle}
 use Rattle.debug_session.specs.Conversations.{Goes, HasDrained}
 use Rattle.debug_session.proofs.serving.serve.Given as goal
 

@@ -1,5 +1,5 @@
 use Rattle.std.proofs.Common.{◌≡◌, ℕ, List, ◌++◌, length, false}
-use Rattle.machine_runs.specs.Machines.{IsIdle}
+use Rattle.machine_steps.specs.Machines.{IsIdle}
 use Rattle.debug_session.specs.Conversations.{Goes}
 use Rattle.debug_session.proofs.serving.serve_piece.Given as goal
 

@@ -1,7 +1,7 @@
 //! Breaks at the limits of code.
 
 use debug_replies::Breaks;
-use test_devices::{assert_same, lend};
+use test_support::{assert_same, lend};
 
 /// Addresses, and whether each is that of a code word: in code and divisible by 4.
 static ADDRESSES: [(u32, bool); 14] = [

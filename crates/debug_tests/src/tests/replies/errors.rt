@@ -4,7 +4,7 @@ use super::two;
 use debug_lines::Command;
 use debug_replies::{Error, error_of};
 use std::test::Fail;
-use test_devices::{assert_same, lend};
+use test_support::{assert_same, lend};
 
 /// Each line, and the error that it has on a machine of two processors with two shared words.
 const ERRORS: &str = "\

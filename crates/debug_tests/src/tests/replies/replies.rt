@@ -5,11 +5,11 @@ use arrayvec::ArrayVec;
 use debug_lines::Command;
 use debug_replies::show;
 use flat_machine::{LOCAL_START, PC, Poke, SHARED_START};
-use machine::Machine;
+use machine_steps::Machine;
 use std::alloc::AllocGlobal;
 use std::process::Abort;
 use std::test::Fail;
-use test_devices::{assert_same, lend};
+use test_support::{assert_same, lend};
 
 /// Each line, and what it shows of a machine of two processors. Processor 0 has stopped at `ebreak`; processor 1 runs,
 /// and was written to.

@@ -4,10 +4,10 @@ use super::{poke, stop, two};
 use arrayvec::ArrayVec;
 use debug_replies::{Breaks, Faults, named_stop, show_stop};
 use flat_machine::{PC, Poke};
-use machine::Machine;
+use machine_steps::Machine;
 use std::process::Abort;
 use std::test::Fail;
-use test_devices::{assert_same, lend};
+use test_support::{assert_same, lend};
 
 /// The stop reply of a machine that names this processor is this text, in place of what stood there.
 fn shows(rt: &impl Abort, machine: &Machine, named: Option<u8>, reply: &str) {

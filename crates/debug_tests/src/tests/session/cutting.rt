@@ -10,8 +10,7 @@ use std::io::Read;
 use std::process::Abort;
 use std::sync::Wait;
 use std::test::Fail;
-use test_devices::{Source, assert_same, lend, prepared};
-use test_machines::{enter_adds, log_of, size};
+use test_support::{Source, assert_same, enter_adds, lend, log_of, prepared, size};
 
 /// Gives a first part of its bytes, and at the next call the others.
 #[derive(Drop)]

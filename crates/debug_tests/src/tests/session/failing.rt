@@ -1,14 +1,12 @@
 //! A reader and a writer that fail.
 
 use super::{BUDGET, ROW, talk};
-use debug_session::{SessionEnd, serve};
-use debug_sweep::Sweep;
+use debug_session::{SessionEnd, Sweep, serve};
 use link::Meter;
 use machine_log::Logged;
 use std::process::Abort;
 use std::test::Fail;
-use test_devices::{Sink, Source, assert_same, lend};
-use test_machines::{log_of, size};
+use test_support::{Sink, Source, assert_same, lend, log_of, size};
 
 /// A log behind a session: the session ended so, the word is this, and no reference is open.
 fn is_left(rt: &impl Abort, log: &Logged, ends: (SessionEnd, SessionEnd), word: u32, call: usize) {

@@ -3,8 +3,7 @@
 use super::{THREE, replies_are};
 use debug_session::SessionEnd;
 use std::test::Fail;
-use test_devices::{assert_same, lend};
-use test_machines::{log_of, poke_often, size};
+use test_support::{assert_same, lend, log_of, poke_often, size};
 
 /// Commands that ask for steps, of which there is room for two.
 const INPUT: &[u8] = b"step 0

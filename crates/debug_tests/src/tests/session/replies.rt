@@ -4,8 +4,7 @@ use super::{ROW, THREE, adders, replies_are};
 use debug_session::SessionEnd;
 use std::alloc::{AllocError, Global};
 use std::test::Fail;
-use test_devices::{assert_same, lend};
-use test_machines::{enter_adds, log_of, size};
+use test_support::{assert_same, enter_adds, lend, log_of, size};
 
 /// A session on a new machine of four processors, or of one, with its replies.
 static FOUR: &[(&str, &str)] = &[

@@ -2,8 +2,8 @@ use Rattle.std.proofs.Common.{◌≡◌, ℕ, [], ◌∷◌, ◌++◌, map, sym,
 use Rattle.std.proofs.lemmas.List.FromFn.{map-range_with_len_more}
 use Rattle.std.specs.Prelude.{slice_index}
 use Rattle.std.specs.List.{range_with_len}
-use Rattle.results.specs.alone.Results.{ProcessorResult, station_result}
-use Rattle.station_search.specs.Tables.{placed_at}
+use Rattle.local_reduction.specs.Results.{ProcessorResult, station_result}
+use Rattle.state_search.specs.Tables.{placed_at}
 use Rattle.exploration.proofs.Endings.{all_results}
 use Rattle.exploration.proofs.ending.processors_of.Goals as goal
 

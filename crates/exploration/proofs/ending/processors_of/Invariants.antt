@@ -1,8 +1,8 @@
 use Rattle.std.proofs.Common.{◌≡◌, map}
 use Rattle.std.specs.Prelude.{slice_index}
 use Rattle.std.specs.List.{range_with_len}
-use Rattle.results.specs.alone.Results.{station_result}
-use Rattle.station_search.specs.Tables.{placed_at}
+use Rattle.local_reduction.specs.Results.{station_result}
+use Rattle.state_search.specs.Tables.{placed_at}
 use Rattle.exploration.proofs.ending.processors_of.Given as goal
 
 abbrev pub invariant-loop-p : goal.invariant-loop-p

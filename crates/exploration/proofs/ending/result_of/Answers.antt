@@ -2,7 +2,7 @@ use Rattle.std.proofs.Common.{◌≡◌, ◌++◌, length, take, drop, map, sym,
 use Rattle.std.specs.Prelude.{slice_get, slice_index}
 use Rattle.std.specs.List.{range_with_len}
 use Rattle.std.proofs.Math.Seq.{take-append_seam}
-use Rattle.station_search.specs.Tables.{words_at}
+use Rattle.state_search.specs.Tables.{words_at}
 use Rattle.exploration.proofs.Endings.{results_all}
 use Rattle.exploration.proofs.ending.result_of.Goals as goal
 

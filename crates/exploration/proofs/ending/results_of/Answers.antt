@@ -1,6 +1,6 @@
 use Rattle.std.proofs.Common.{[], subst, ◌∙◌, arith}
-use Rattle.station_search.proofs.Lemmas.{any_default}
-use Rattle.station_search.specs.Tables.{means}
+use Rattle.state_search.proofs.Lemmas.{any_default}
+use Rattle.state_search.specs.Tables.{means}
 use Rattle.exploration.specs.Endings.{IsEndingAdded}
 use Rattle.exploration.proofs.Endings.{row_more}
 use Rattle.exploration.proofs.ending.results_of.Goals as goal

@@ -2,8 +2,8 @@ use Rattle.std.proofs.Common.{◌≡◌, ℕ, ◌∷◌, [], ◌++◌, map, sym,
 use Rattle.std.specs.List.{range_with_len}
 use Rattle.std.proofs.lemmas.List.FromFn.{map-range_with_len_more}
 use Rattle.hart.specs.State.{CoreState}
-use Rattle.machine.specs.machine_program.Processors.{port_at}
-use Rattle.machine.specs.Machines.{is_there}
+use Rattle.machine_steps.specs.machine_theory.Processors.{port_at}
+use Rattle.machine_steps.specs.Machines.{is_there}
 use Rattle.exploration.proofs.Exploring.{picked}
 use Rattle.exploration.proofs.opening.cores_of.Goals as goal
 

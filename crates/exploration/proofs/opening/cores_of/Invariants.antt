@@ -1,6 +1,6 @@
 use Rattle.std.proofs.Common.{◌≡◌, map}
 use Rattle.std.specs.List.{range_with_len}
-use Rattle.machine.specs.machine_program.Processors.{port_at}
+use Rattle.machine_steps.specs.machine_theory.Processors.{port_at}
 use Rattle.exploration.proofs.opening.cores_of.Given as goal
 
 abbrev pub invariant-loop-p : goal.invariant-loop-p

@@ -1,7 +1,7 @@
 use Rattle.std.proofs.Common.{◌≡◌, ℕ, ◌∷◌, [], ◌++◌, nat_lt, map, sym, ap, ◌∙◌, arith}
 use Rattle.std.specs.List.{range_with_len}
 use Rattle.std.proofs.lemmas.List.FromFn.{map-range_with_len_more}
-use Rattle.machine.specs.machine_program.Processors.{word_at}
+use Rattle.machine_steps.specs.machine_theory.Processors.{word_at}
 use Rattle.exploration.proofs.Exploring.{picked}
 use Rattle.exploration.proofs.opening.words_of.Goals as goal
 

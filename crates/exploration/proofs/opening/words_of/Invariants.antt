@@ -1,6 +1,6 @@
 use Rattle.std.proofs.Common.{◌≡◌, map}
 use Rattle.std.specs.List.{range_with_len}
-use Rattle.machine.specs.machine_program.Processors.{word_at}
+use Rattle.machine_steps.specs.machine_theory.Processors.{word_at}
 use Rattle.exploration.proofs.opening.words_of.Given as goal
 
 abbrev pub invariant-loop-number : goal.invariant-loop-number

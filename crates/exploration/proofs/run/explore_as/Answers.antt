@@ -1,12 +1,12 @@
 use Rattle.std.proofs.Common.{◌≡◌, sym, ap, subst, ◌∙◌, arith}
 use Rattle.std.specs.Prelude.{◌↔◌}
 use Rattle.flat_machine.specs.State.{FlatState}
-use Rattle.results.specs.alone.Results.{FinalResult, IsFlatResult}
-use Rattle.found_states.specs.Laws.{AreSchedulesOf}
-use Rattle.machine.specs.Openings.{flat_state}
-use Rattle.results.specs.Results.{IsMachineResult}
-use Rattle.station_search.specs.declared.tables.Extent.{Extent}
-use Rattle.station_search.specs.Opening.{flat_of}
+use Rattle.local_reduction.specs.Results.{FinalResult, IsFlatResult}
+use Rattle.state_graph.specs.Laws.{AreSchedulesOf}
+use Rattle.machine_steps.specs.Openings.{flat_state}
+use Rattle.exploration.specs.Results.{IsMachineResult}
+use Rattle.state_search.specs.declared.tables.Extent.{Extent}
+use Rattle.state_search.specs.Opening.{flat_of}
 use Rattle.exploration.proofs.Exploring.{are_read, few_processors, flat_is, of_extent, wide, single}
 use Rattle.exploration.proofs.run.explore_as.Goals as goal
 

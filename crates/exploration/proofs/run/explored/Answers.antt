@@ -1,12 +1,12 @@
 use Rattle.std.proofs.Common.{◌≡◌, [], sym, ap, subst, ◌∙◌, arith}
-use Rattle.results.specs.alone.Closing.{Settles}
-use Rattle.results.specs.alone.Results.{StandsFor}
-use Rattle.live_registers.specs.Live.{HasAllLive}
-use Rattle.live_registers.specs.Forgetting.{kept_by}
-use Rattle.station_search.specs.Ends.{AreFound}
-use Rattle.station_search.specs.Search.{AreClasses}
-use Rattle.station_search.specs.Tables.{TableLists, setting_at, means}
-use Rattle.station_search.specs.Opening.{flat_of}
+use Rattle.local_reduction.specs.Closing.{Settles}
+use Rattle.local_reduction.specs.Results.{StandsFor}
+use Rattle.local_reduction.specs.Live.{HasAllLive}
+use Rattle.local_reduction.specs.Forgetting.{kept_by}
+use Rattle.state_search.specs.Ends.{AreFound}
+use Rattle.state_search.specs.Search.{AreClasses}
+use Rattle.state_search.specs.Tables.{TableLists, setting_at, means}
+use Rattle.state_search.specs.Opening.{flat_of}
 use Rattle.exploration.specs.Endings.{IsStoodFor}
 use Rattle.exploration.proofs.Exploring.{flat_sound, flat_complete, flat_schedules, uniform}
 use Rattle.exploration.proofs.run.explored.Goals as goal

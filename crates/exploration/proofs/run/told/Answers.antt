@@ -1,6 +1,6 @@
 use Rattle.std.proofs.Common.{ℕ, ◌<◌, List, length, subst}
-use Rattle.results.specs.alone.Results.{HaveStopped, result_at}
-use Rattle.station_search.specs.Search.{state_at}
+use Rattle.local_reduction.specs.Results.{HaveStopped, result_at}
+use Rattle.state_search.specs.Search.{state_at}
 use Rattle.exploration.specs.Endings.{IsStoodFor}
 use Rattle.exploration.proofs.run.told.Goals as goal
 

@@ -1,6 +1,6 @@
 use Rattle.std.proofs.Common.{◌≡◌, ◌++◌, ◌∷◌, [], Some, length, take, sym, ap, subst, ◌∙◌, arith}
 use Rattle.std.proofs.Math.Seq.{take-length}
-use Rattle.exploration.specs.alone.Results.{ProcessorResult}
+use Rattle.exploration.specs.local_reduction.Results.{ProcessorResult}
 use Rattle.explore_command.specs.Sizes.{IsGreatestWith, greater}
 use Rattle.explore_command.proofs.Statuses.{of_none, of_more, taken_more}
 use Rattle.explore_command.proofs.greatest.greatest_in.Goals as goal

@@ -1,6 +1,6 @@
 use Rattle.std.proofs.Common.{◌≡◌, ◌++◌, ◌∷◌, [], length, take, sym, ap, subst, ◌∙◌, arith}
 use Rattle.std.proofs.Math.Seq.{take-length}
-use Rattle.exploration.specs.alone.Results.{FinalResult}
+use Rattle.exploration.specs.local_reduction.Results.{FinalResult}
 use Rattle.explore_command.specs.Sizes.{IsGreatestStatus, IsGreatestWith}
 use Rattle.explore_command.proofs.Statuses.{of_result, taken_more}
 use Rattle.explore_command.proofs.greatest.greatest_status.Goals as goal

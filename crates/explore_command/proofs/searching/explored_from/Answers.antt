@@ -1,7 +1,7 @@
 use Rattle.std.proofs.Common.{◌^◌, List, ℕ, not, ap, ap₂, subst, ◌∙◌}
 use Rattle.flat_machine.specs.declared.config.Config.{Config}
 use Rattle.exploration.specs.Endings.{AreSingle}
-use Rattle.exploration.specs.alone.Results.{FinalResult}
+use Rattle.exploration.specs.local_reduction.Results.{FinalResult}
 use Rattle.explore_command.specs.Explorations.{IsExitOf, IsWitnessed}
 use Rattle.explore_command.specs.Lines.{results_lines}
 use Rattle.explore_command.proofs.searching.explored_from.Goals as goal

@@ -4,7 +4,7 @@ use super::{Part, changed, compare, file_of, read, refusal, refusal_of};
 use elf_image::{Image, ImageError};
 use std::alloc::{AllocError, AllocGlobal, Global};
 use std::process::Abort;
-use test_devices::{EBREAK, assert_same, layout_text, with_bytes};
+use test_support::{EBREAK, assert_same, layout_text, with_bytes};
 
 /// Fields that are not looked at, at their offsets: the rest of `e_ident`, the section fields,
 /// `p_paddr` and `p_align`.

@@ -5,7 +5,7 @@ use super::{config, layout_of, told_of};
 use elf_image::{ImageError, read_image, write_image};
 use link::{Link, Meter};
 use std::alloc::{AllocError, Global};
-use test_devices::{EBREAK, Sink, Source, assert_same};
+use test_support::{EBREAK, Sink, Source, assert_same};
 
 /// What is told of the image of EBREAK where a call of its reader fails, and whether the reader has failed then.
 fn read(alloc: Global, fails_at: usize) -> Result<(String, bool), AllocError> {

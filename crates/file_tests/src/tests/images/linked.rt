@@ -2,7 +2,7 @@
 
 use super::{compare, refusal};
 use elf_image::ImageError;
-use test_devices::assert_same;
+use test_support::assert_same;
 
 /// `examples/c/sum.c` and `start.S`, as GNU ld 2.40 linked them with `image.ld`, `-n` and `-s`. Behind
 /// the three segments stand section names and section headers.

@@ -1,7 +1,7 @@
 //! What segments place in the regions.
 
 use super::{Part, compare, file_of};
-use test_devices::EBREAK;
+use test_support::EBREAK;
 
 /// The entry and the one instruction.
 #[test]

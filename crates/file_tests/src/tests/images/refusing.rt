@@ -6,7 +6,7 @@ use elf_image::ImageError::{
     UnsupportedHeader,
 };
 use std::alloc::{AllocError, Global};
-use test_devices::{EBREAK, assert_same, with_bytes};
+use test_support::{EBREAK, assert_same, with_bytes};
 
 /// Cut to under 84 bytes it has no whole program header, and to under 88 not all of its segment.
 #[test]

@@ -8,7 +8,7 @@ use elf_image::{ImageError, Layout, write_image};
 use link::Meter;
 use std::alloc::{AllocGlobal, Global};
 use std::process::Abort;
-use test_devices::{EBREAK, assert_same};
+use test_support::{EBREAK, assert_same};
 
 /// Whether a layout fits its regions.
 pub fn fits(layout: &Layout) -> bool

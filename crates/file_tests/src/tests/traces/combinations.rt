@@ -3,7 +3,7 @@
 use super::{Change, compare, compare_changes, compare_lengths};
 use flat_machine::Config;
 use steps::Step;
-use test_devices::assert_same;
+use test_support::assert_same;
 use trace_file::TraceError::{self, Header, Truncated};
 use trace_file::is_trace;
 

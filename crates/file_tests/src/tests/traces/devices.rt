@@ -5,7 +5,7 @@ use link::{Link, Meter};
 use std::io;
 use std::io::Write;
 use steps::Step;
-use test_devices::{ONE_TURN, Sink, Source, assert_same};
+use test_support::{ONE_TURN, Sink, Source, assert_same};
 use trace_file::{TraceError, is_trace, read_trace, write_trace};
 
 /// Counts its calls, and takes all that it is given.

@@ -3,7 +3,7 @@
 use super::{config, read, written};
 use std::alloc::{AllocError, Global};
 use steps::{MAX_STEPS, Step};
-use test_devices::assert_same;
+use test_support::assert_same;
 use trace_file::is_trace;
 
 /// So many turns, of one processor after another.

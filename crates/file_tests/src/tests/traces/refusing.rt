@@ -2,7 +2,7 @@
 
 use super::{Change, compare_changes, compare_lengths, refusal};
 use std::alloc::{AllocError, Global};
-use test_devices::{ONE_TURN, assert_same, trace_of};
+use test_support::{ONE_TURN, assert_same, trace_of};
 use trace_file::TraceError::{self, Header, Link, Memory, Record, Trailing, Truncated};
 
 /// Cut short at each place, and with one byte more.

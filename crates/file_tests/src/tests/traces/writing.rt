@@ -3,7 +3,7 @@
 use super::{compare, config};
 use flat_machine::{Config, PC, Poke};
 use steps::Step;
-use test_devices::{ONE_TURN, assert_same, trace_of};
+use test_support::{ONE_TURN, assert_same, trace_of};
 use trace_file::is_trace;
 
 /// A poke of a processor's register.

@@ -1,5 +1,5 @@
 use Rattle.std.proofs.Common.{◌+◌, ◌∙◌, refl, ap, arith, rules}
-use Rattle.machine_sweep.specs.Sweeps.{most_of}
+use Rattle.schedules.specs.Sweeps.{most_of}
 use Rattle.hunt_command.specs.Findings.{FindingsState}
 use Rattle.hunt_command.proofs.Gathering.{none_found, one_noted}
 use Rattle.hunt_command.proofs.runs.findings_of.Goals as goal

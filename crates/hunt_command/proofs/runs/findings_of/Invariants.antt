@@ -1,5 +1,5 @@
 use Rattle.std.proofs.Common.{◌≡◌, ◌≤◌}
-use Rattle.machine_sweep.specs.Sweeps.{most_of}
+use Rattle.schedules.specs.Sweeps.{most_of}
 use Rattle.hunt_command.specs.Hunts.{AreFound}
 use Rattle.hunt_command.proofs.runs.findings_of.Given as goal
 

@@ -1,5 +1,5 @@
 use Rattle.std.proofs.lemmas.Result.{IfOk-weaker}
-use Rattle.machine_sweep.specs.Sweeps.{most_of}
+use Rattle.schedules.specs.Sweeps.{most_of}
 use Rattle.hunt_command.proofs.runs.result_of.Goals as goal
 
 pub result_of_log-requires-clause-ran : goal.result_of_log-requires-clause-ran

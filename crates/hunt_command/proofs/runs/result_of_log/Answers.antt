@@ -1,10 +1,10 @@
 use Rattle.std.proofs.Common.{List, sym, subst}
 use Rattle.std.proofs.lemmas.Result.{err_from_is_err_and}
-use Rattle.machine_runs.specs.steps.declared.step.Step.{Step}
-use Rattle.machine_runs.proofs.Lemmas.{run_home}
-use Rattle.accounts.specs.Causes.{IsFaultOfSize}
-use Rattle.accounts.specs.Retaking.{IsRetaken}
-use Rattle.hunt_command.proofs.Running.{not_stalled}
+use Rattle.steps.specs.declared.step.Step.{Step}
+use Rattle.machine_steps.proofs.Lemmas.{run_home}
+use Rattle.command_io.specs.Files.{IsFaultOfSize}
+use Rattle.trace_commands.specs.Retaking.{IsRetaken}
+use Rattle.hunt_command.proofs.RunsOfSchedules.{not_stalled}
 use Rattle.hunt_command.proofs.runs.result_of_log.Goals as goal
 
 pub returns-in_err-tally-clause-refused : goal.returns-in_err-tally-clause-refused

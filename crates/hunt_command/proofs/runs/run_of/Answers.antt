@@ -1,5 +1,5 @@
-use Rattle.machine_sweep.specs.Sweeps.{most_of}
-use Rattle.hunt_command.proofs.Running.{log_of}
+use Rattle.schedules.specs.Sweeps.{most_of}
+use Rattle.hunt_command.proofs.RunsOfSchedules.{log_of}
 use Rattle.hunt_command.proofs.runs.run_of.Goals as goal
 
 pub returns-clause-ran : goal.returns-clause-ran

@@ -1,29 +1,28 @@
 //! A log that is almost full, and one that is full.
 
 use super::{look_at, one_add, room_for};
-use machine_log::{LogRefusal, Logged};
+use machine_log::{LockRefusal, Logged};
 use std::process::Abort;
 use std::test::Fail;
 use steps::{MAX_STEPS, Outcome, Step};
-use test_devices::{assert_same, lend};
-use test_machines::poke_often;
+use test_support::{assert_same, lend, poke_often};
 
 /// What a full log of one processor refuses, and why.
-static REFUSED: [(Step, LogRefusal); 4] = [
-    (Step::Turn(0), LogRefusal::Full),
-    (Step::Serve(0), LogRefusal::Full),
-    (Step::Turn(1), LogRefusal::Unnamed),
-    (Step::Up { stage: 0, wire: 0 }, LogRefusal::Unnamed),
+static REFUSED: [(Step, LockRefusal); 4] = [
+    (Step::Turn(0), LockRefusal::Full),
+    (Step::Serve(0), LockRefusal::Full),
+    (Step::Turn(1), LockRefusal::Unnamed),
+    (Step::Up { stage: 0, wire: 0 }, LockRefusal::Unnamed),
 ];
 
 /// With room for two steps, a turn and a service are taken.
 fn fill_up(rt: &impl Abort, log: &mut Logged) {
     assert_same!(rt; room_for(log, 2), Ok(()));
-    assert_same!(rt; room_for(log, 3), Err(LogRefusal::Full));
-    assert_same!(rt; log.one(0), Err(LogRefusal::Full));
+    assert_same!(rt; room_for(log, 3), Err(LockRefusal::Full));
+    assert_same!(rt; log.one(0), Err(LockRefusal::Full));
     assert_same!(rt; log.drain(), Ok(0));
     assert_same!(rt; log.step(Step::Turn(0)), Ok(Outcome::Issued));
-    assert_same!(rt; log.drain(), Err(LogRefusal::Full));
+    assert_same!(rt; log.drain(), Err(LockRefusal::Full));
     assert_same!(rt; log.steps().len(), 4_194_303);
     let served = Outcome::Served { leader: 0 };
     assert_same!(rt; log.step(Step::Serve(0)), Ok(served));
@@ -36,10 +35,10 @@ fn expect_full(rt: &impl Abort, log: &mut Logged) {
     for (step, refusal) in &REFUSED {
         assert_same!(rt; log.step(*step), Err(*refusal), step);
     }
-    assert_same!(rt; log.one(1), Err(LogRefusal::Unnamed));
-    assert_same!(rt; log.one(0), Err(LogRefusal::Full));
-    assert_same!(rt; log.drain(), Err(LogRefusal::Full));
-    assert_same!(rt; room_for(log, 1), Err(LogRefusal::Full));
+    assert_same!(rt; log.one(1), Err(LockRefusal::Unnamed));
+    assert_same!(rt; log.one(0), Err(LockRefusal::Full));
+    assert_same!(rt; log.drain(), Err(LockRefusal::Full));
+    assert_same!(rt; room_for(log, 1), Err(LockRefusal::Full));
     assert_same!(rt; room_for(log, 0), Ok(()));
     assert_same!(rt; look_at(log.machine()), before);
     assert_same!(rt; log.steps().len(), 4_194_304);

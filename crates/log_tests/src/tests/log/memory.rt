@@ -6,15 +6,13 @@ use super::{log_from, room_for};
 use elf_image::{Image, read_image};
 use flat_machine::{Cause, Config, Poke, SHARED_START};
 use link::Meter;
-use machine_log::{LogRefusal, Logged};
-use machine_runs::Machine;
-use machine_sweep::{SweepEnd, follow_sweep};
-use serial_order::order;
+use machine_log::{LockRefusal, Logged};
+use machine_steps::Machine;
+use schedules::{SweepEnd, follow_sweep};
 use std::alloc::Global;
 use std::test::Fail;
 use steps::{Outcome, Step};
-use test_devices::{assert_same, lend};
-use test_machines::image_of;
+use test_support::{assert_same, image_of, lend};
 
 /// A machine of two processors.
 const TWO: Config = Config {
@@ -52,7 +50,7 @@ static POKES: [Poke; 2] = [
 ];
 
 /// Takes a step, and answers whether that did this.
-fn does(log: &mut Logged, step: Step, outcome: Outcome) -> Result<bool, LogRefusal> {
+fn does(log: &mut Logged, step: Step, outcome: Outcome) -> Result<bool, LockRefusal> {
     match log.step(step) {
         Ok(answer) => Ok(answer == outcome),
         Err(refusal) => Err(refusal),
@@ -60,7 +58,7 @@ fn does(log: &mut Logged, step: Step, outcome: Outcome) -> Result<bool, LogRefus
 }
 
 /// Takes an instruction of a processor, and answers whether that has halted it with 0.
-fn halts(log: &mut Logged, processor: u8) -> Result<bool, LogRefusal> {
+fn halts(log: &mut Logged, processor: u8) -> Result<bool, LockRefusal> {
     match log.one(processor) {
         Ok(answer) => Ok(answer == Outcome::Stopped(Cause::Halt(0))),
         Err(refusal) => Err(refusal),
@@ -90,7 +88,7 @@ fn order_is_short_of_memory(rt: HostRuntime) -> Result<(), Fail> {
     let steps = [Step::Poke(POKES[0]), Step::Poke(POKES[1]), Step::Turn(0)];
     lend(machine(rt.alloc())?, |machine| {
         assert!(rt; machine.is_idle());
-        assert_same!(rt; order(machine, rt.alloc(), &steps)?.len(), 2);
+        assert_same!(rt; machine.order(rt.alloc(), &steps)?.len(), 2);
         Ok(())
     })
 }

@@ -2,15 +2,15 @@
 
 use super::{four_adds, one_add, result_of, room_for};
 use flat_machine::{PC, Poke};
-use machine_log::{LogRefusal, Logged};
-use machine_runs::{Machine, drain_bound};
+use machine_log::{LockRefusal, Logged};
+use machine_steps::Machine;
 use std::process::Abort;
 use std::test::Fail;
 use steps::{Outcome, Step};
-use test_devices::{assert_same, lend};
+use test_support::{assert_same, lend};
 
 /// Writes these, which the machine has.
-pub(super) fn write(rt: &impl Abort, log: &mut Logged, pokes: &[Poke]) -> Result<(), LogRefusal> {
+pub(super) fn write(rt: &impl Abort, log: &mut Logged, pokes: &[Poke]) -> Result<(), LockRefusal> {
     let machine = log.machine();
     assert!(rt; machine.is_idle());
     let lawful = pokes.iter().all(|poke| machine.is_lawful(*poke));
@@ -207,11 +207,11 @@ fn pokes_are_seen(rt: HostRuntime) -> Result<(), Fail> {
 }
 
 /// A reference, by a step and a drain, each in room that was made for it.
-fn refer(rt: &impl Abort, log: &mut Logged) -> Result<(), LogRefusal> {
+fn refer(rt: &impl Abort, log: &mut Logged) -> Result<(), LockRefusal> {
     assert_same!(rt; log.room(1)?.step(Step::Turn(0)), Outcome::Issued);
     assert_same!(rt; log.machine().is_open(0), Some(true));
     assert_same!(rt; log.machine().is_open(1), None);
-    let most = drain_bound(log.machine());
+    let most = log.machine().drain_bound();
     assert_same!(rt; log.room(most)?.drain(), 2);
     assert_same!(rt; log.machine().is_open(0), Some(false));
     let wanted = [Step::Turn(0), Step::Serve(0), Step::Turn(0)];
@@ -220,7 +220,7 @@ fn refer(rt: &impl Abort, log: &mut Logged) -> Result<(), LogRefusal> {
 }
 
 /// What one instruction writes to a register, in room that was made for it.
-fn take_one(log: &mut Logged) -> Result<Option<u32>, LogRefusal> {
+fn take_one(log: &mut Logged) -> Result<Option<u32>, LockRefusal> {
     let k = log.machine().config().k;
     Ok(result_of(log.room(2 * u32::from(k) + 3)?.one(0)))
 }
@@ -233,7 +233,7 @@ fn room_is_used(rt: HostRuntime) -> Result<(), Fail> {
         refer(&rt, log)?;
         assert_same!(rt; take_one(log)?, Some(11));
         assert_same!(rt; log.steps().len(), 4);
-        assert_same!(rt; room_for(log, 4_194_301), Err(LogRefusal::Full));
+        assert_same!(rt; room_for(log, 4_194_301), Err(LockRefusal::Full));
         assert_same!(rt; room_for(log, 4_194_300), Ok(()));
         Ok(())
     })

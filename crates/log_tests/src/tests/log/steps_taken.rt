@@ -2,13 +2,12 @@
 
 use super::{four_adds, four_machine, look_at, one_add};
 use flat_machine::Poke;
-use machine_log::{LogRefusal, Logged};
-use machine_runs::{Machine, run};
+use machine_log::{LockRefusal, Logged};
+use machine_steps::Machine;
 use std::process::Abort;
 use std::test::Fail;
 use steps::{Outcome, Step};
-use test_devices::{assert_same, lend};
-use test_machines::{COMBINED_ADDS, add_that_found, enter_adds};
+use test_support::{COMBINED_ADDS, add_that_found, assert_same, enter_adds, lend};
 
 /// A reference without switches: the turn sends it, the module executes it, and the next turn takes
 /// the word that it found. A turn before the reply, and a second service, stall, and are not entered.
@@ -50,7 +49,7 @@ fn entered_steps_replay(rt: HostRuntime) -> Result<(), Fail> {
         assert_same!(rt; log.machine().word(0), Some(25));
         assert_same!(rt; log.steps(), COMBINED_ADDS.as_slice());
         lend(four_machine(rt.alloc())?, |again| {
-            run(again, log.steps());
+            again.run(log.steps());
             assert_same!(rt; look_at(again), look_at(log.machine()));
             expect_found(&rt, again, [10, 15, 11, 17]);
         });
@@ -96,7 +95,7 @@ fn expect_unnamed(rt: &impl Abort, log: &mut Logged) {
     let entered = log.steps().len();
     for step in &UNNAMED {
         assert!(rt; !log.names(step), "{step:?}");
-        assert_same!(rt; log.step(*step), Err(LogRefusal::Unnamed), step);
+        assert_same!(rt; log.step(*step), Err(LockRefusal::Unnamed), step);
         assert_same!(rt; look_at(log.machine()), before, step);
         assert_same!(rt; log.steps().len(), entered, step);
     }

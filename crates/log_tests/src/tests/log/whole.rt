@@ -2,14 +2,13 @@
 
 use super::{Seen, four_adds, look_at, result_of, room_for};
 use flat_machine::{Cause, Fault, Status};
-use machine_log::LogRefusal;
-use machine_runs::Machine;
+use machine_log::LockRefusal;
+use machine_steps::Machine;
 use std::alloc::AllocGlobal;
 use std::process::Abort;
 use std::test::Fail;
 use steps::{Outcome, Step};
-use test_devices::{assert_same, lend};
-use test_machines::enter_adds;
+use test_support::{assert_same, enter_adds, lend};
 
 /// Where the four processors stand, with their `a0`, where each runs.
 fn running(at: [(u32, u32); 4], word: u32) -> Seen {
@@ -64,13 +63,13 @@ fn one_enters_an_instruction(rt: HostRuntime) -> Result<(), Fail> {
 #[test]
 fn one_wants_an_idle_machine(rt: HostRuntime) -> Result<(), Fail> {
     lend(four_adds(&rt)?, |log| {
-        assert_same!(rt; log.one(4), Err(LogRefusal::Unnamed));
+        assert_same!(rt; log.one(4), Err(LockRefusal::Unnamed));
         assert_same!(rt; log.step(Step::Turn(1)), Ok(Outcome::Issued));
         let before = look_at(log.machine());
         for p in 0..4u8 {
             assert_same!(rt; log.one(p), Ok(Outcome::Stalled));
         }
-        assert_same!(rt; log.one(255), Err(LogRefusal::Unnamed));
+        assert_same!(rt; log.one(255), Err(LockRefusal::Unnamed));
         assert_same!(rt; look_at(log.machine()), before);
         assert_same!(rt; log.steps().len(), 1);
         Ok(())
@@ -106,12 +105,12 @@ fn drain_enters_its_steps(rt: HostRuntime) -> Result<(), Fail> {
 }
 
 /// For how many steps there is room, and for how many not, where one step is entered.
-static ROOM: [(u32, Option<LogRefusal>); 5] = [
+static ROOM: [(u32, Option<LockRefusal>); 5] = [
     (0, None),
     (1, None),
     (4_194_303, None),
-    (4_194_304, Some(LogRefusal::Full)),
-    (u32::MAX, Some(LogRefusal::Full)),
+    (4_194_304, Some(LockRefusal::Full)),
+    (u32::MAX, Some(LockRefusal::Full)),
 ];
 
 /// Room is made for as many steps as the log may have, and for no more. It changes nothing that is seen.

@@ -2,12 +2,12 @@
 
 ghost use Rattle.std.specs.Prelude.{◌≤◌};
 
-use machine_sweep::step_at;
+use schedules::step_at;
 use std::alloc::{AllocError, AllocGlobal, Global};
 use std::process::Abort;
 use std::test::Fail;
 use steps::Step;
-use test_devices::{assert_same, lend};
+use test_support::{assert_same, lend};
 
 /// The steps of a round, one after another.
 pub(super) fn round_of(alloc: Global, k: u8) -> Result<Vec<Step>, AllocError>

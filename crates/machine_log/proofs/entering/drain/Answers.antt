@@ -1,6 +1,6 @@
 use Rattle.std.specs.Vec.{vec_capacity}
-use Rattle.machine_runs.specs.Draining.{drain_bound, drain_steps}
-use Rattle.machine_runs.proofs.Lemmas.{drain_is_bounded, listed}
+use Rattle.machine_steps.specs.Draining.{drain_bound, drain_steps}
+use Rattle.machine_steps.proofs.Lemmas.{drain_is_bounded, listed}
 use Rattle.machine_log.proofs.Taking.{entered_all}
 use Rattle.machine_log.proofs.entering.drain.Goals as goal
 
@@ -12,7 +12,7 @@ pub returns-clause-entered : goal.returns-clause-entered
 returns-clause-entered c =
     let m = c.args.machine.now in
     let list = c.drain_noted.new.notes in
-    entered_all m c.drain_noted.new.machine c.args.steps.now.items (drain_steps m) list.items (drain_bound m.config) c.machine_is_sound.ensures
+    entered_all m c.drain_noted.new.self c.args.steps.now.items (drain_steps m) list.items (drain_bound m.config) c.machine_is_sound.ensures
     (listed (λ list. list.items) vec_capacity m (drain_steps m) c.args.steps.now list c.in-Ok.ensures.noted).0 (drain_is_bounded m)
     c.in-Ok.ensures.replay
 

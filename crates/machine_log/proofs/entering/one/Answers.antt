@@ -1,7 +1,7 @@
 use Rattle.std.proofs.Common.{◌+◌, ◌*◌}
 use Rattle.std.specs.Vec.{vec_capacity}
-use Rattle.machine_runs.specs.Whole.{one_steps}
-use Rattle.machine_runs.proofs.Lemmas.{listed}
+use Rattle.machine_steps.specs.Whole.{one_steps}
+use Rattle.machine_steps.proofs.Lemmas.{listed}
 use Rattle.machine_log.proofs.Taking.{entered_all}
 use Rattle.machine_log.proofs.entering.one.Goals as goal
 
@@ -14,7 +14,7 @@ pub returns-clause-entered : goal.returns-clause-entered
 returns-clause-entered c =
     let m = c.args.machine.now in
     let steps = one_steps m c.args.p in
-    entered_all m c.one_noted.new.machine c.args.steps.now.items steps c.one_noted.new.notes.items (2 * m.config.k + 3) c.machine_is_sound.ensures
+    entered_all m c.one_noted.new.self c.args.steps.now.items steps c.one_noted.new.notes.items (2 * m.config.k + 3) c.machine_is_sound.ensures
     (listed (λ list. list.items) vec_capacity m steps c.args.steps.now c.one_noted.new.notes (c.in-Ok.ensures.noted c.requires.idle)).0
     (c.in-Ok.ensures.few c.requires.idle) (c.in-Ok.ensures.whole c.requires.idle).replay
 

@@ -1,7 +1,7 @@
 use Rattle.std.proofs.Common.{◌≡◌, ◌∙◌, ◌<◌, length, take, slice_index_or, refl, sym, subst, arith}
 use Rattle.std.proofs.lemmas.List.{take_more, take_all, length-take-le}
 use Rattle.flat_machine.specs.declared.poke.Poke.TheVariants as poke
-use Rattle.machine_runs.proofs.Lemmas.{run_home}
+use Rattle.machine_steps.proofs.Lemmas.{run_home}
 use Rattle.machine_log.specs.Logs.{ArePoked}
 use Rattle.machine_log.proofs.Taking.{entered_length, poked_none, poked_more}
 use Rattle.machine_log.proofs.entering.pokes.Goals as goal

@@ -1,5 +1,5 @@
 use Rattle.std.proofs.Common.{subst}
-use Rattle.machine_runs.specs.Machines.{AreHome}
+use Rattle.machine_steps.specs.Machines.{AreHome}
 use Rattle.machine_log.specs.Logs.{RoomyLog}
 use Rattle.machine_log.proofs.Taking.{kept_home}
 use Rattle.machine_log.proofs.roomy.roomy_is_kept.Goals as goal

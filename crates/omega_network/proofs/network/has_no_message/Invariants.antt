@@ -1,5 +1,5 @@
 use Rattle.std.proofs.Common.{◌≡◌, ◌<◌, ℕ, []}
-use Rattle.message_cells.specs.Pools.{replies_at, requests_at}
+use Rattle.combining_switch.specs.Pools.{replies_at, requests_at}
 use Rattle.omega_network.proofs.network.has_no_message.Given as goal
 
 -- no queue so far has a message

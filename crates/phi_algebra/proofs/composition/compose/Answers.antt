@@ -1,8 +1,10 @@
 use Rattle.std.proofs.Common.{refl, sym, ◌∙◌}
 use Rattle.phi_algebra.specs.Composition.{composed}
 use Rattle.phi_algebra.proofs.Composing.{across_add, across_bits, across_clamp, across_clampu, meaning_by, none_exactly}
-use Rattle.phi_algebra.proofs.composition.compose.Goals.{in_default-via-in-Add+in_default, in_default-via-in-Bits+in_default}
-use Rattle.phi_algebra.proofs.composition.compose.Goals.{in_default-via-in-Clamp+in_default, in_default-via-in-ClampU+in_default}
+use Rattle.phi_algebra.proofs.composition.compose.Goals.{in_default-via-in-Add+in_default}
+use Rattle.phi_algebra.proofs.composition.compose.Goals.{in_default-via-in-Bits+in_default}
+use Rattle.phi_algebra.proofs.composition.compose.Goals.{in_default-via-in-Clamp+in_default}
+use Rattle.phi_algebra.proofs.composition.compose.Goals.{in_default-via-in-ClampU+in_default}
 use Rattle.phi_algebra.proofs.composition.compose.Goals as goal
 
 pub returns-in-Add-Add-clause-exact : goal.returns-in-Add-Add-clause-exact

@@ -1,7 +1,7 @@
 use Rattle.std.proofs.Common.{List, sym, ap, ◌∙◌, subst}
 use Rattle.std.specs.Prelude.{Option}
 use Rattle.console_monitor.specs.declared.monitor.End.{End}
-use Rattle.machine_passes.specs.Passes.{Held}
+use Rattle.machine_lock.specs.Passes.{Held}
 use Rattle.processor_threads.specs.declared.fault.RunFault.{RunFault}
 use Rattle.processor_threads.specs.Consoles.{end_queue}
 use Rattle.processor_threads.specs.Endings.{AllComeBack, ComesBack}

@@ -1,6 +1,6 @@
 use Rattle.std.proofs.Crossing.{crosses}
 use denote.Param.Send.{sendable}
-use Rattle.machine_passes.proofs.Lemmas.{Shared-sync}
+use Rattle.machine_lock.proofs.Lemmas.{Shared-sync}
 use Rattle.processor_threads.proofs.terms.Terms.TheSendSync as terms
 use Rattle.processor_threads.proofs.worker.Worker.TheSendSync as worker
 use Rattle.processor_threads.proofs.crew.start.Goals as goal

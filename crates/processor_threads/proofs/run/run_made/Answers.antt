@@ -1,7 +1,7 @@
 use Rattle.std.proofs.Common.{List, length, map, sym, ap, ◌∙◌, subst}
 use Rattle.std.proofs.lemmas.List.{length-map}
 use Rattle.console_monitor.specs.Ends.{sent_by}
-use Rattle.machine_passes.specs.Passes.{Held, IsWhole, TotalsAgree}
+use Rattle.machine_lock.specs.Passes.{Held, IsWhole, TotalsAgree}
 use Rattle.processor_threads.specs.Consoles.{console_of}
 use Rattle.processor_threads.specs.Endings.{AreEnded}
 use Rattle.processor_threads.specs.Faults.{graver_of}

@@ -1,5 +1,5 @@
 use Rattle.std.proofs.Common.{◌≡◌, ◌<◌, ◌+◌, ◌*◌, [], ◌∷◌, ◌++◌, sym, ap, ◌∙◌, subst, arith}
-use Rattle.ring_switch.specs.Switches.{SwitchLists}
+use Rattle.ring_network.specs.Switches.{SwitchLists}
 use Rattle.omega_network.specs.Networks.{half}
 use Rattle.ring_network.proofs.New.{SoFar, all_done, none_yet, one_more, stage_done}
 use Rattle.ring_network.proofs.network.new_switches.Goals as goal

@@ -1,5 +1,6 @@
-use Rattle.settings.proofs.Plain.{OfCheck, OfDebug, OfDis, OfHunt, OfOrder, OfPicture, OfReplay, OfStats, OfStory, OfWords}
-use Rattle.settings.proofs.Plain.{asm_given, explain_given, explore_given, file_given, run_given, trace_given}
+use Rattle.settings.proofs.Plain.{OfCheck, OfDebug, OfDis, OfHunt, OfOrder, OfPicture, OfReplay, OfStats, OfStory}
+use Rattle.settings.proofs.Plain.{OfWords, asm_given, explain_given, explore_given, file_given, run_given}
+use Rattle.settings.proofs.Plain.{trace_given}
 use Rattle.settings.proofs.asked.settings.Goals as goal
 
 pub returns-clause-words_file : goal.returns-clause-words_file

@@ -2,7 +2,7 @@
 
 use super::compare_each;
 use assembler::{AsmError, AsmFault};
-use test_devices::assert_same;
+use test_support::assert_same;
 
 #[test]
 fn faults_name_their_line(rt: HostRuntime) {

@@ -6,7 +6,7 @@ use flat_machine::Config;
 use link::Meter;
 use std::alloc::{AllocError, Global};
 use std::test::Fail;
-use test_devices::{EBREAK, assert_same, layout_text};
+use test_support::{EBREAK, assert_same, layout_text};
 
 /// What is told of a text's image file, when it is read for a machine with so many shared words: its refusal, or the layout, and the
 /// words that it was read for.

@@ -2,7 +2,7 @@
 
 use super::{compare, compare_all, compare_each};
 use std::alloc::{AllocError, Global};
-use test_devices::{HUNDRED_ADDS, assert_same};
+use test_support::{HUNDRED_ADDS, assert_same};
 
 #[test]
 fn one_instruction_is_one_word(rt: HostRuntime) {

@@ -6,13 +6,12 @@ use super::{AMPLE, Ran, run};
 use flat_machine::Config;
 use link::{Link, Meter};
 use processor_threads::Open;
+use run_command::threaded_run_command;
 use std::alloc::Global;
 use std::fmt::Write;
 use std::process::Abort;
 use std::test::Fail;
-use test_devices::{EBREAK, Sink, assert_same};
-use test_machines::{image_of, size};
-use threaded_run::threaded_run_command;
+use test_support::{EBREAK, Sink, assert_same, image_of, size};
 
 /// Nothing is printed and no trace is written, and this is told.
 fn tells(rt: &impl Abort, ran: Ran, told: &str, status: u8) {

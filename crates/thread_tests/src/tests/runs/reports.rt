@@ -8,8 +8,7 @@ use std::process::Abort;
 use std::sync::Wait;
 use std::test::Fail;
 use std::thread::Threads;
-use test_devices::{HUNDRED_ADDS, assert_same, report_of_hundred_adds};
-use test_machines::{image_of, size};
+use test_support::{HUNDRED_ADDS, assert_same, image_of, report_of_hundred_adds, size};
 
 /// A command has printed this report, told nothing, and ended with this status.
 fn prints(rt: &impl Abort, ran: Ran, report: &str, status: u8) {
@@ -41,7 +40,12 @@ fn assert_reported<R: Threads + Wait + Abort + Sync>(
 /// Each processor retires 311 instructions, reads at least its own sum and prints its `A`; the word has all adds.
 #[test]
 fn a_hundred_adds_each(rt: HostRuntime) -> Result<(), Fail> {
-    for (k, processors, sum) in [(0, 1u8, "00000064"), (1, 2, "000000c8"), (2, 4, "00000190")] {
+    for (k, processors, sum) in [
+        (0, 1u8, "00000064"),
+        (1, 2, "000000c8"),
+        (2, 4, "00000190"),
+        (6, 64, "00001900"),
+    ] {
         let report = report_of_hundred_adds(rt.alloc(), processors, sum)?;
         assert_reported(&rt, rt.alloc(), (HUNDRED_ADDS, k), report.as_str(), 0)?;
     }

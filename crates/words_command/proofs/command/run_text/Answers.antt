@@ -1,7 +1,7 @@
 use Rattle.std.proofs.Common.{◌≡◌, ℕ, List, Option, Ok, Err, refl, subst, ap, ◌∙◌}
 use Rattle.std.proofs.lemmas.Result.{err_from_is_err_and}
 use Rattle.flat_machine.specs.State.{FlatState}
-use Rattle.machine_runs.specs.Runs.{flat_state}
+use Rattle.machine_steps.specs.Runs.{flat_state}
 use Rattle.machine_log.specs.Logs.{Log}
 use Rattle.command_io.specs.Printing.{IsPartPrinted}
 use Rattle.words_command.specs.declared.print.PrintError.{PrintError}

@@ -1,4 +1,4 @@
-use Rattle.machine_runs.specs.Runs.{flat_state}
+use Rattle.machine_steps.specs.Runs.{flat_state}
 use Rattle.words_command.proofs.Loading.{words_are_placed, words_open}
 use Rattle.words_command.proofs.load.words_machine.Goals as goal
 

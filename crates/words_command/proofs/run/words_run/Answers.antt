@@ -1,6 +1,6 @@
 use Rattle.std.proofs.Common.{◌≢◌, ◌*◌, ◌≤◌, ◌∙◌, sym, ap, arith, length}
 use Rattle.flat_machine.specs.declared.config.Config.{Config}
-use Rattle.machine_runs.specs.Runs.{flat_state}
+use Rattle.machine_steps.specs.Runs.{flat_state}
 use Rattle.words_command.proofs.Instructions.{run_retired, run_stopped, one_stops}
 use Rattle.words_command.proofs.run.words_run.Goals as goal
 

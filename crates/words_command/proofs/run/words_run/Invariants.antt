@@ -1,6 +1,6 @@
 use Rattle.std.proofs.Common.{◌≡◌, ◌≤◌, ◌*◌, ◌-◌, length}
-use Rattle.machine_runs.specs.Machines.{IsIdle}
-use Rattle.machine_runs.specs.Runs.{flat_state}
+use Rattle.machine_steps.specs.Machines.{IsIdle}
+use Rattle.machine_steps.specs.Runs.{flat_state}
 use Rattle.words_command.specs.Running.{HasRunAlone}
 use Rattle.words_command.proofs.run.words_run.Given as goal
 

@@ -1,5 +1,5 @@
 use Rattle.std.proofs.Common.{sym, ap, ◌∙◌}
-use Rattle.message_cells.specs.Pools.{with_requests}
+use Rattle.combining_switch.specs.Pools.{with_requests}
 use Rattle.combining_switch.specs.Outputs.{accepted, accepted_as, output_in, output_with}
 use Rattle.combining_switch.proofs.output.Output.accept.Goals as goal
 

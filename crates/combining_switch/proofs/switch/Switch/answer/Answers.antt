@@ -2,7 +2,7 @@ use Rattle.std.proofs.Common.{◌≡◌, ℕ, Bool, true, false, List, refl, sym
 use Rattle.messages.specs.declared.message.Record.{Record}
 use Rattle.messages.specs.declared.message.Reply.{Reply}
 use Rattle.messages.specs.Queues.{answers, records_of}
-use Rattle.message_cells.specs.Pools.{PoolLists}
+use Rattle.combining_switch.specs.Pools.{PoolLists}
 use Rattle.combining_switch.specs.declared.answers.Answered.{Answered}
 use Rattle.combining_switch.specs.Switches.{SwitchState, answered, answered_for, has_room, put_replies, records_at}
 use Rattle.combining_switch.proofs.Answering.{answered_by, by_room}

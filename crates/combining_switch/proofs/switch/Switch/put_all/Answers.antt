@@ -1,13 +1,13 @@
-use Rattle.std.proofs.Common.{◌≡◌, ◌<◌, ◌+◌, ◌∷◌, ◌++◌, [], ℕ, List, length, take, drop, get_or, map, true, false, inl, refl, ap, ◌∙◌, sym, subst, arith}
+use Rattle.std.proofs.Common.{◌≡◌, ◌<◌, ◌+◌, ◌∷◌, ◌++◌, [], ℕ, List, length, take, drop, get_or, map}
+use Rattle.std.proofs.Common.{true, false, inl, refl, ap, ◌∙◌, sym, subst, arith, append-nil, eq-eqb}
 use Rattle.std.specs.Prelude.{◌==◌}
-use Rattle.std.proofs.Common.{append-nil, eq-eqb}
 use Rattle.std.proofs.lemmas.Bool.{ne_eqb}
 use Rattle.std.proofs.lemmas.List.{take_all}
 use Rattle.omega_wires.specs.Wires.{bit}
 use Rattle.messages.specs.declared.message.Record.{Record}
 use Rattle.messages.specs.declared.message.Reply.{Reply}
 use Rattle.messages.specs.Queues.{records_of, reply_of}
-use Rattle.message_cells.specs.Pools.{IsFree, PoolLists, replies_at}
+use Rattle.combining_switch.specs.Pools.{IsFree, PoolLists, replies_at}
 use Rattle.combining_switch.specs.Switches.{CanBeQueued, StandsIn, SwitchState, answered_for, input_for, put_replies, put_reply}
 use Rattle.combining_switch.proofs.Queueing.{queue_next, stands_still}
 use Rattle.messages.proofs.Lemmas.{left_less, taken_more}

@@ -1,6 +1,6 @@
 use Rattle.std.proofs.Common.{◌≡◌, ◌<◌, ◌∙◌, length, arith, rules}
 use Rattle.std.proofs.lemmas.List.{length-set}
-use Rattle.machine_runs.specs.Runs.{flat_state}
+use Rattle.machine_steps.specs.Runs.{flat_state}
 use Rattle.debug_replies.proofs.Faulted.{all_told, none_flagged, rest_more, told_more}
 use Rattle.debug_replies.specs.Stops.{is_faulted_at}
 use Rattle.debug_replies.proofs.faults.Faults.of.Goals as goal

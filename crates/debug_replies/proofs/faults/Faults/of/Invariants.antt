@@ -1,6 +1,6 @@
 use Rattle.std.proofs.Common.{◌≡◌, ◌<◌, ◌≤◌, ℕ, false, length}
 use Rattle.debug_replies.specs.Stops.{is_faulted_at, is_flagged}
-use Rattle.machine_runs.specs.Runs.{flat_state}
+use Rattle.machine_steps.specs.Runs.{flat_state}
 use Rattle.debug_replies.proofs.faults.Faults.of.Given as goal
 
 abbrev pub invariant-loop-processor : goal.invariant-loop-processor

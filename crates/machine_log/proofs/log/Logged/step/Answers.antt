@@ -1,8 +1,8 @@
 use Rattle.std.proofs.Common.{◌≡◌, ◌∙◌, subst}
 use Rattle.flat_machine.specs.declared.poke.Poke.{Poke}
 use Rattle.steps.specs.declared.step.Step.TheVariants as step
-use Rattle.machine_runs.specs.Machines.{IsIdle}
-use Rattle.machine_runs.specs.Whole.{IsPoked}
+use Rattle.machine_steps.specs.Machines.{IsIdle}
+use Rattle.machine_steps.specs.Whole.{IsPoked}
 use Rattle.machine_log.specs.Logs.{Log}
 use Rattle.machine_log.proofs.log.Logged.step.Goals as goal
 

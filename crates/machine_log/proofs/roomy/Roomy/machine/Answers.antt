@@ -1,6 +1,6 @@
 use Rattle.std.proofs.Common.{subst}
-use Rattle.machine_runs.specs.Runs.{IsSerialized}
-use Rattle.machine_runs.proofs.Lemmas.{serialized}
+use Rattle.machine_steps.specs.Runs.{IsSerialized}
+use Rattle.machine_steps.proofs.Lemmas.{serialized}
 use Rattle.machine_log.specs.Logs.{RoomyLog}
 use Rattle.machine_log.proofs.Taking.{kept_home}
 use Rattle.machine_log.proofs.roomy.Roomy.machine.Goals as goal

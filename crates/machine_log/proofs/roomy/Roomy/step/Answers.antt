@@ -1,10 +1,10 @@
 use Rattle.std.proofs.Common.{◌≡◌, ◌∙◌, sym, subst}
 use Rattle.flat_machine.specs.declared.poke.Poke.{Poke}
 use Rattle.steps.specs.declared.step.Step.TheVariants as step
-use Rattle.machine_runs.specs.Machines.{IsIdle}
-use Rattle.machine_runs.specs.Runs.{answer_after}
-use Rattle.machine_runs.specs.Whole.{IsPoked}
-use Rattle.machine_runs.proofs.Lemmas.{outcome_there}
+use Rattle.machine_steps.specs.Machines.{IsIdle}
+use Rattle.machine_steps.specs.Runs.{answer_after}
+use Rattle.machine_steps.specs.Whole.{IsPoked}
+use Rattle.machine_steps.proofs.Lemmas.{outcome_there}
 use Rattle.machine_log.specs.Logs.{RoomyLog}
 use Rattle.machine_log.proofs.Taking.{kept_home}
 use Rattle.machine_log.proofs.roomy.Roomy.step.Goals as goal

@@ -1,6 +1,6 @@
 use Rattle.std.proofs.Common.{◌%◌, ◌/◌, arith, rules}
 use Rattle.ring_network.proofs.Kept.{answer_stays, found_behind}
-use Rattle.ring_network.proofs.Replies.{answer_net}
+use Rattle.ring_network.proofs.NetworkReplies.{answer_net}
 use Rattle.ring_network.proofs.network.Network.answer.Goals as goal
 
 pub invariant_of-self : goal.invariant_of-self

@@ -1,5 +1,5 @@
 use Rattle.std.proofs.Common.{◌∙◌, ap}
-use Rattle.ring_switch.specs.Switches.{records_at}
+use Rattle.ring_network.specs.Switches.{records_at}
 use Rattle.ring_network.specs.Networks.{NetworkLists, records_behind}
 use Rattle.ring_network.proofs.Kept.{found_behind}
 use Rattle.ring_network.proofs.Requests.{at_place}

@@ -1,7 +1,7 @@
 use Rattle.std.proofs.Common.{◌≡◌, ◌<◌, ◌∙◌, ap, sym, arith}
 use Rattle.std.specs.Prelude.{slice_get}
 use Rattle.omega_wires.specs.Wires.{input_port, rotated_left}
-use Rattle.ring_switch.specs.Switches.{replies_at}
+use Rattle.ring_network.specs.Switches.{replies_at}
 use Rattle.ring_network.specs.Networks.{NetworkLists, replies_before}
 use Rattle.ring_network.proofs.Slots.{module_slot_first, reply_front_net}
 use Rattle.omega_network.proofs.Lemmas.{half_of_wire}

@@ -1,6 +1,6 @@
 use Rattle.std.proofs.Common.{◌≡◌, length, ◌∙◌, ap}
 use Rattle.omega_wires.specs.Wires.{input_port}
-use Rattle.ring_switch.specs.Switches.{replies_at}
+use Rattle.ring_network.specs.Switches.{replies_at}
 use Rattle.ring_network.specs.Networks.{NetworkLists}
 use Rattle.ring_network.proofs.Kept.{found_before}
 use Rattle.ring_network.proofs.Slots.{reply_front_net}

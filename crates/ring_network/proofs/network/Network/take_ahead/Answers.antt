@@ -1,9 +1,9 @@
 use Rattle.std.proofs.Common.{drop, set, ap, ◌∙◌}
 use Rattle.omega_wires.specs.Wires.{input_port, switch_of}
-use Rattle.ring_switch.specs.Switches.{replies_at, with_inputs}
+use Rattle.ring_network.specs.Switches.{replies_at, with_inputs}
 use Rattle.ring_network.specs.Networks.{NetworkLists}
 use Rattle.ring_network.proofs.Kept.{found_before, reply_take_stays}
-use Rattle.ring_network.proofs.Replies.{reply_take_net}
+use Rattle.ring_network.proofs.NetworkReplies.{reply_take_net}
 use Rattle.ring_network.proofs.network.Network.take_ahead.Goals as goal
 
 pub invariant_of-self : goal.invariant_of-self

@@ -1,5 +1,5 @@
 use Rattle.std.proofs.Common.{◌%◌, ◌/◌, drop, arith}
-use Rattle.ring_switch.specs.Switches.{requests_at}
+use Rattle.ring_network.specs.Switches.{requests_at}
 use Rattle.ring_network.proofs.Kept.{found_behind, take_stays}
 use Rattle.ring_network.proofs.Requests.{take_net}
 use Rattle.ring_network.proofs.network.Network.take_behind.Goals as goal

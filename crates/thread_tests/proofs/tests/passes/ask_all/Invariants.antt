@@ -1,4 +1,4 @@
-use Rattle.machine_passes.specs.Passes.{IsWhole}
+use Rattle.machine_lock.specs.Passes.{IsWhole}
 use Rattle.thread_tests.proofs.tests.passes.ask_all.Given as goal
 
 abbrev pub invariant-loop-place : goal.invariant-loop-place

@@ -1,6 +1,6 @@
 use Rattle.std.proofs.Common.{◌<◌, length, ap, ◌∙◌, arith}
-use Rattle.machine_passes.specs.Passes.{Held}
-use Rattle.machine_passes.proofs.Lemmas.{whole_set}
+use Rattle.machine_lock.specs.Passes.{Held}
+use Rattle.machine_lock.proofs.Lemmas.{whole_set}
 use Rattle.thread_tests.proofs.tests.passes.ask_as.Goals as goal
 
 pub returns : goal.returns

@@ -1,9 +1,0 @@
-pub mod Tallying
-pub mod TakenAgain
-pub mod Logging
-pub mod LogReports
-pub mod FlatReports
-pub mod OneReport
-pub mod OfTraces
-pub mod Hearing
-pub mod Lemmas

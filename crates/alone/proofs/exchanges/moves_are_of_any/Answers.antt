@@ -1,5 +1,0 @@
-use Rattle.alone.proofs.UpTo.{of_any}
-use Rattle.alone.proofs.exchanges.moves_are_of_any.Goals as goal
-
-pub returns : goal.returns
-returns c = record { any = of_any }

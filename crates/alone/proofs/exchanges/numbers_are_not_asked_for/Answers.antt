@@ -1,5 +1,0 @@
-use Rattle.alone.proofs.UpTo.{not_asked}
-use Rattle.alone.proofs.exchanges.numbers_are_not_asked_for.Goals as goal
-
-pub returns : goal.returns
-returns c = record { same = not_asked }

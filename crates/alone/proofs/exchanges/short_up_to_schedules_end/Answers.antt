@@ -1,5 +1,0 @@
-use Rattle.alone.proofs.UpTo.{short_up_to}
-use Rattle.alone.proofs.exchanges.short_up_to_schedules_end.Goals as goal
-
-pub returns : goal.returns
-returns c = record { ends = short_up_to }

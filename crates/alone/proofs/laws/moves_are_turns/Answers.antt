@@ -1,5 +1,0 @@
-use Rattle.alone.proofs.Reaching.{moves_are}
-use Rattle.alone.proofs.laws.moves_are_turns.Goals as goal
-
-pub returns : goal.returns
-returns c = record { turns = moves_are }

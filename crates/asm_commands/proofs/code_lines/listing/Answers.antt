@@ -1,0 +1,14 @@
+use Rattle.std.proofs.Common.{◌≡◌, ◌∙◌, ◌≤◌, ap, sym, arith}
+use Rattle.asm_commands.specs.CodeLines.{lines_of}
+use Rattle.asm_commands.proofs.code_lines.listing.Goals as goal
+
+pub returns : goal.returns
+returns c =
+    let all : c.loop-index.index ≡ c.word_count-index-end.result = omega (arith, c.loop-index.auto.index-end, c.loop-index-test.false) in
+    record {
+      count = c.word_count-index-end.result;
+      within = c.word_count-index-end.ensures.few;
+      behind = c.word_count-index-end.ensures.behind;
+      last = c.word_count-index-end.ensures.last;
+      lines = c.loop-index.invariant ∙ ap (lines_of c.args.code.now) all;
+    }

@@ -1,0 +1,23 @@
+-- What `ultra dis` does: from the bytes of an image to the lines of its code.
+use Rattle.std.specs.Prelude.{ℕ, List, Option}
+use Rattle.local_memory.specs.Accesses.{region_of_bytes}
+use Rattle.elf_image.specs.Files.{IsImageOf, IsImageRefusal}
+use Rattle.elf_image.specs.Images.{ImageContents}
+use Rattle.command_io.specs.declared.fault.Fault.{Fault}
+use Rattle.command_io.specs.declared.fault.Fault.TheVariants as fault
+use Rattle.command_io.specs.Printing.{IsPartPrinted}
+use Rattle.asm_commands.specs.CodeLines.{IsListing}
+
+-- The text lists the code that the file means for machines with so many shared words: a line for each word up to the last that
+-- is not zero.
+pub record IsDisassembly (shared_words : ℕ) (known : Option (List ℕ)) (text : List ℕ) : Type 0 where
+  pub image : ImageContents
+  pub read : IsImageOf shared_words known image
+  pub listing : IsListing (region_of_bytes image.layout.code) text
+
+-- Why no code is printed, or not all of it: the image is refused, or the lines cannot be written. Want of memory says nothing.
+abbrev pub IsNoDisassembly : (shared_words : ℕ) → (known old new : Option (List ℕ)) → Fault → Type 0
+IsNoDisassembly shared_words known old new (fault.Image e) = IsImageRefusal shared_words known e
+IsNoDisassembly shared_words known old new fault.Link = IsPartPrinted (IsDisassembly shared_words known) old new
+IsNoDisassembly shared_words known old new fault.Memory = Unit {0}
+IsNoDisassembly shared_words known old new other = ⊥

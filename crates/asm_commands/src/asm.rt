@@ -1,0 +1,78 @@
+//! `ultra asm`: from the bytes of a text to the bytes of an image.
+
+ghost use Rattle.std.specs.Prelude.{◌≡◌, ◌≢◌, ◌↔◌, true, false, is_err, IfOk, IfErr, IsErrOf, OnErr, OnOk};
+ghost use Rattle.std.specs.Io.KnownBytes.{Appends};
+ghost use Rattle.link.specs.Transfer.{AppendsPart};
+ghost use Rattle.elf_image.specs.Spellings.{spelling};
+ghost use Rattle.assembler.specs.Meaning.{IsMeaning};
+ghost use Rattle.command_io.specs.Printing.{IsPrinted, IsTold};
+ghost use Rattle.asm_commands.specs.Assembling.{IsAssembly, IsNoAssembly, IsTextRefusal};
+
+use crate::input::{read_text, text_of};
+use assembler::{Program, assemble};
+use command_io::{DONE, Fault, tell};
+use elf_image::{ImageError, write_image};
+use link::LinkWrite;
+use std::alloc::Global;
+use std::io::{Read, Write};
+
+/// Assembles the text that a file has, and writes the image of what it means. Answers the exit status: 0
+/// where the whole image is written, else that of the fault that is told on standard error. Nothing is
+/// written to the image before the whole text is assembled.
+pub fn asm_command<R: Read + Drop, W: LinkWrite, E: Write>(
+    alloc: Global,
+    file: R,
+    out: &mut W,
+    err: &mut E,
+) -> u8
+    requires works { W.has_failed out.old ≡ false }
+    ensures assembled { result ≡ 0 → IsPrinted (IsAssembly (R.remaining file)) (W.contents out.old) (W.contents out.new) }
+    ensures told { result ≢ 0 → IsTold W.has_failed (Fault.Image ImageError.Link) ⊥
+        (IsNoAssembly (R.remaining file) (W.contents out.old) (W.contents out.new)) out.old out.new result }
+    ensures failed { W.has_failed out.new ≡ true → result ≡ 3 }
+{
+    match carried_out(alloc, file, out) {
+        Ok(()) => DONE,
+        Err(fault) => tell(fault, err),
+    }
+}
+
+/// Carries the command out.
+fn carried_out<R: Read + Drop, W: LinkWrite>(
+    alloc: Global,
+    file: R,
+    out: &mut W,
+) -> Result<(), Fault>
+    requires works { W.has_failed out.old ≡ false }
+    ensures failed { IsErrOf result (Fault.Image ImageError.Link) ↔ (W.has_failed out.new ≡ true) }
+    ensures assembled { OnOk result (IsPrinted (IsAssembly (R.remaining file)) (W.contents out.old) (W.contents out.new)) }
+    ensures told { IfErr result (IsNoAssembly (R.remaining file) (W.contents out.old) (W.contents out.new)) }
+    ensures silent { OnErr result (W.has_failed out.new ≡ false → out.new ≡ out.old) }
+{
+    let bytes = read_text(alloc, file)?;
+    let program = program_of(alloc, bytes.as_slice())?;
+    write_program(&program, out)
+}
+
+/// The program that a text means.
+fn program_of(alloc: Global, bytes: &[u8]) -> Result<Program, Fault>
+    ensures meant { IfOk result (λ program. IsMeaning bytes.now program) }
+    ensures refused { IfErr result (IsTextRefusal bytes.now) }
+{
+    let text = text_of(bytes)?;
+    Ok(assemble(alloc, text)?)
+}
+
+/// Writes the image of a program.
+fn write_program<W: LinkWrite>(program: &Program, out: &mut W) -> Result<(), Fault>
+    requires works { W.has_failed out.old ≡ false }
+    ensures failed { W.has_failed out.new ≡ is_err result }
+    ensures written { OnOk result (Appends (W.contents out.old) (W.contents out.new) (spelling program.now)) }
+    ensures begun { IfErr result (λ fault. (fault ≡ Fault.Image ImageError.Link)
+        × AppendsPart (W.contents out.old) (W.contents out.new) (spelling program.now)) }
+{
+    match write_image(out, program.layout()) {
+        Ok(()) => Ok(()),
+        Err(_) => Err(Fault::Image(ImageError::Link)),
+    }
+}

@@ -1,0 +1,79 @@
+//! The lines of code.
+
+ghost use Rattle.std.specs.Prelude.{◌≡◌, ◌≢◌, ◌≤◌, ◌<◌, ◌-◌, ◌++◌, ◌^◌, ℕ, IfOk, OnOk, string_bytes};
+ghost use Rattle.asm_commands.specs.CodeLines.{IsListing, line_of, lines_of, text_of_word, word_at};
+
+use arrayvec::ArrayString;
+use assembler::disassemble;
+use command_io::push_word;
+use decode::decode;
+use flat_machine::{CODE_START, Size};
+use local_memory::Code;
+use std::alloc::{AllocError, Global};
+
+/// How many words code has.
+const CODE_WORDS: u32 = 0x4000;
+
+/// A line for each word of code up to the last that is not zero: its address and the word in eight hex
+/// digits each, and the text of the instruction that the word spells, or `-` where it spells none.
+pub fn listing(alloc: Global, code: &Code) -> Result<String, AllocError>
+    ensures { IfOk result (λ text. IsListing code.now (string_bytes text)) }
+{
+    let mut text = String::new(alloc);
+    for index in 0..word_count(code) {
+        push_line(
+            alloc,
+            &mut text,
+            CODE_START + 4 * index,
+            word_at(code, index),
+        )?;
+    }
+    Ok(text)
+}
+
+/// How many words of code there are up to the last that is not zero.
+fn word_count(code: &Code) -> u32
+    ensures few { result ≤ 2 ^ 14 }
+    ensures behind { (index : ℕ) → result ≤ index → index < 2 ^ 14 → word_at code.now index ≡ 0 }
+    ensures last { 0 < result → word_at code.now (result - 1) ≢ 0 }
+{
+    let mut count = CODE_WORDS;
+    while count > 0 && word_at(code, count - 1) == 0 {
+        count -= 1;
+    }
+    count
+}
+
+/// The word of code with this index.
+fn word_at(code: &Code, index: u32) -> u32
+    requires { index < 2 ^ 14 }
+    ensures { result ≡ word_at code.now index }
+{
+    code.number(4 * index, Size::Word)
+}
+
+/// Appends the line of a word at an address.
+fn push_line(alloc: Global, text: &mut String, address: u32, word: u32) -> Result<(), AllocError>
+    ensures { OnOk result (string_bytes text.new ≡ string_bytes text.old ++ line_of address word) }
+{
+    push_word(alloc, text, address)?;
+    text.push(' ')?;
+    push_word(alloc, text, word)?;
+    text.push(' ')?;
+    push_instruction(text, word)?;
+    text.push('\n')
+}
+
+/// Appends the text of the instruction that a word spells, or `-`.
+fn push_instruction(text: &mut String, word: u32) -> Result<(), AllocError>
+    ensures { OnOk result (string_bytes text.new ≡ string_bytes text.old ++ text_of_word word) }
+{
+    match decode(word) {
+        Some(insn) => {
+            let mut written = ArrayString::new();
+            disassemble(&insn, &mut written);
+            text.push_str(written.as_str())
+        }
+        None => text.push('-'),
+    }
+}

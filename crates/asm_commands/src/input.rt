@@ -1,0 +1,47 @@
+//! The text of a file.
+
+ghost use Rattle.std.specs.Prelude.{◌≡◌, IfOk, IfErr};
+ghost use Rattle.std.specs.Str.{IsUtf8};
+ghost use Rattle.command_io.specs.Files.{IsWhole};
+ghost use Rattle.asm_commands.specs.Assembling.{IsUnread};
+
+use command_io::Fault;
+use link::{Meter, ReadError, read_within};
+use std::alloc::Global;
+use std::io::Read;
+
+/// How many bytes a text may have. A text that fills every section of an image needs less than half of
+/// them; the limit is so that an input without an end does not take all memory.
+pub const MAX_TEXT_BYTES: usize = 16_777_216;
+
+/// The bytes of a file.
+///
+/// # Errors
+///
+/// [`Fault::Link`] where it cannot be read, and [`Fault::Memory`] where memory is short or the file has more than
+/// [`MAX_TEXT_BYTES`].
+pub fn read_text<R: Read + Drop>(alloc: Global, file: R) -> Result<Vec<u8>, Fault>
+    ensures read { IfOk result (λ text. IsWhole (R.remaining file) text.items) }
+    ensures unread { IfErr result IsUnread }
+{
+    match read_within(alloc, &mut Meter::new(file), MAX_TEXT_BYTES) {
+        Ok(text) => Ok(text),
+        Err(ReadError::Link) => Err(Fault::Link),
+        Err(ReadError::Memory | ReadError::TooLong) => Err(Fault::Memory),
+    }
+}
+
+/// The text that bytes are.
+///
+/// # Errors
+///
+/// [`Fault::NotUtf8`] where they are none.
+pub fn text_of(bytes: &[u8]) -> Result<&str, Fault>
+    ensures text { IfOk result (λ text. text.now ≡ bytes.now) }
+    ensures refused { IfErr result (λ fault. (fault ≡ Fault.NotUtf8) × (¬ (IsUtf8 bytes.now))) }
+{
+    match str::from_utf8(bytes) {
+        Ok(text) => Ok(text),
+        Err(_) => Err(Fault::NotUtf8),
+    }
+}

@@ -1,0 +1,36 @@
+//! `ultra asm`, `ultra check` and `ultra dis`.
+//!
+//! [`asm_command`] goes from the bytes of a text to the bytes of an image. [`dis_command`] goes from the bytes of an image to the
+//! lines of its code. [`check_command`] goes from the bytes of a text to a list of all its faults: for each line that has one its
+//! number, the word at fault with its column, the fault as `assemble` knows it, and what would be right.
+//!
+//! A line has one fault at most, as `specs/Meaning.antt` of `assembler` says. Each line is read at its place, after all lines
+//! before it, those that have a fault too, and labels have their values from the whole text. So a line that is not listed may
+//! have a fault once another line is mended, and the other way round. A line that cannot be read takes no bytes and has no label;
+//! any other line takes its bytes and has its label, whether it has a fault or not. Of a label that stands on two lines the later
+//! one counts. Where a section has too many bytes, no statement after that has room.
+//!
+//! `specs/Faults.antt` says what is listed ([`text_faults`]). Which word of the line is named, and what would be right, is no
+//! part of it.
+#![tactic(auto)]
+
+mod advice;
+mod asm;
+mod check;
+mod code_lines;
+mod dis;
+mod fault_lines;
+mod faults;
+mod input;
+mod laws;
+mod text_fault;
+mod words;
+
+pub use asm::asm_command;
+pub use check::check_command;
+pub use code_lines::listing;
+pub use dis::dis_command;
+pub use faults::text_faults;
+pub use input::{MAX_TEXT_BYTES, read_text, text_of};
+pub use laws::{listed_where_present, none_where_there_is_a_meaning};
+pub use text_fault::TextFault;

@@ -1,0 +1,183 @@
+//! Runs a program on all processors of a machine by the sweep, and tells how long a step takes.
+//!
+//! `bench steps K RUNS`: each processor of a machine of `K` stages adds 1 to one shared word a hundred
+//! times, writes a byte to the console and halts; that is done RUNS times, on a new machine each time.
+//! With no arguments it is done once, with two stages. Standard output has what the run came to, standard
+//! error the time of the steps that did something, which does not have that of making the machines.
+ghost use Rattle.std.specs.Prelude.{◌≡◌};
+
+use anyhow::bail;
+use assembler::assemble;
+use elf_image::{Image, read_image, write_image};
+use flat_machine::{Config, Status};
+use link::Meter;
+use machine_steps::{Machine, machine_is_sound};
+use schedules::{Downs, Row, Services, Turns, Ups};
+use std::alloc::Global;
+use std::time::{Duration, Instant};
+use steps::Outcome;
+use test_support::HUNDRED_ADDS;
+
+/// The most rounds of a run. It takes some thousands.
+const MAX_ROUNDS: u32 = 1_000_000;
+
+/// What the steps did.
+#[derive(Clone, Copy, Drop)]
+struct Counts {
+    /// Steps that did something.
+    moved: u64,
+    /// Instructions that retired.
+    retired: u64,
+}
+
+impl Counts {
+    fn add(&mut self, outcome: &Outcome) {
+        match outcome {
+            Outcome::Stalled => return,
+            Outcome::Retired(_) => self.retired = self.retired.wrapping_add(1),
+            _ => {}
+        }
+        self.moved = self.moved.wrapping_add(1);
+    }
+}
+
+/// The steps of a row that may do something.
+// A part of its caller, for each kind of row, as in the sweep.
+#[inline(always)]
+fn take_row<R: Row>(machine: &mut Machine, counts: &mut Counts, row: &R)
+    requires there { R.is_there row.now machine.old.config.k }
+    ensures config { machine.new.config ≡ machine.old.config }
+{
+    machine_is_sound(machine);
+    let mut wire = 0;
+    while let Some(next) = row.first(machine, wire) {
+        counts.add(&machine.apply(row.step(next)));
+        wire = next + 1;
+    }
+}
+
+/// One round of the sweep: each of its steps that may do something.
+fn take_round(machine: &mut Machine, counts: &mut Counts) {
+    take_row(machine, counts, &Turns);
+    take_ups(machine, counts);
+    take_row(machine, counts, &Services);
+    take_downs(machine, counts);
+}
+
+/// The requests move up, those before the last stage first.
+fn take_ups(machine: &mut Machine, counts: &mut Counts) {
+    let stages = machine.config().k;
+    for passed in 0..stages {
+        let row = Ups {
+            stage: stages - 1 - passed,
+        };
+        take_row(machine, counts, &row);
+    }
+}
+
+/// The replies move down, those after the first stage first.
+fn take_downs(machine: &mut Machine, counts: &mut Counts) {
+    for stage in 0..machine.config().k {
+        take_row(machine, counts, &Downs { stage });
+    }
+}
+
+/// Whether a processor of the machine still runs.
+fn is_running(machine: &Machine) -> bool {
+    (0..64u8).any(|p| machine.status(p) == Some(Status::Running))
+}
+
+/// Rounds of the sweep, until no processor runs.
+fn sweep(machine: &mut Machine, counts: &mut Counts) {
+    for _ in 0..MAX_ROUNDS {
+        if !is_running(machine) {
+            return;
+        }
+        take_round(machine, counts);
+    }
+}
+
+/// The image of the program.
+fn image(alloc: Global, config: &Config) -> anyhow::Result<Image> {
+    let program = assemble(alloc, HUNDRED_ADDS)?;
+    let mut writer = Meter::new(Vec::new(alloc));
+    write_image(&mut writer, program.layout())?;
+    let mut reader = Meter::new(writer.device.as_slice());
+    Ok(read_image(alloc, &mut reader, config)?)
+}
+
+/// How many stages the machines have, and how many are run.
+fn asked(arguments: &[String]) -> anyhow::Result<(u8, u32)> {
+    match arguments {
+        [] => Ok((2, 1)),
+        [k, runs] => Ok((k.parse()?, runs.parse()?)),
+        _ => bail!("usage: bench steps [K RUNS]"),
+    }
+}
+
+/// Tells what a run came to.
+fn tell_result(rt: &HostRuntime, machine: &Machine, counts: &Counts) -> anyhow::Result<()> {
+    let word = machine.word(0).unwrap_or(0);
+    println!(rt;
+        "k {}: {} instructions retire, and word 0 is {}",
+        machine.config().k,
+        counts.retired,
+        word
+    )?;
+    Ok(())
+}
+
+/// The time of a run of a machine. The first tells its result.
+fn time_of(
+    rt: &HostRuntime,
+    machine: &mut Machine,
+    counts: &mut Counts,
+    is_first: bool,
+) -> anyhow::Result<Duration> {
+    let start = Instant::now(rt)?;
+    sweep(machine, counts);
+    let time = start.elapsed(rt)?;
+    if is_first {
+        tell_result(rt, machine, counts)?;
+    }
+    Ok(time)
+}
+
+/// A machine that has not run.
+fn new_machine(alloc: Global, config: Config) -> anyhow::Result<Machine> {
+    Ok(Machine::new(alloc, image(alloc, &config)?, config)?)
+}
+
+/// Runs so many machines, and tells how long that took.
+fn measure(rt: &HostRuntime, config: Config, runs: u32) -> anyhow::Result<()> {
+    let mut counts = Counts {
+        moved: 0,
+        retired: 0,
+    };
+    let mut time = Duration::ZERO;
+    for run in 0..runs {
+        let mut machine = new_machine(rt.alloc(), config)?;
+        time = time.saturating_add(time_of(rt, &mut machine, &mut counts, run == 0)?);
+    }
+    eprintln!(rt;
+        "k {}: {} runs, {} steps that did something in {} microseconds",
+        config.k,
+        runs,
+        counts.moved,
+        time.as_micros()
+    )?;
+    Ok(())
+}
+
+/// Runs machines as these words ask for, and tells what that came to.
+pub fn run(rt: &HostRuntime, arguments: &[String]) -> anyhow::Result<()> {
+    let (k, runs) = asked(arguments)?;
+    let config = Config {
+        k,
+        c: 4,
+        b: 4,
+        r: 1,
+        shared_words: 1024,
+    };
+    measure(rt, config, runs)
+}

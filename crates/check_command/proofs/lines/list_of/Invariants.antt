@@ -1,6 +1,0 @@
-use Rattle.std.specs.Prelude.{string_bytes}
-use Rattle.check_command.proofs.Told.{ToldSoFar}
-use Rattle.check_command.proofs.lines.list_of.Given as goal
-
-abbrev pub invariant-loop-fault : goal.invariant-loop-fault
-invariant-loop-fault l = ToldSoFar l.faults l.fault-index (string_bytes l.text)

@@ -1,3 +1,0 @@
-//! Lists of faults are worked out by hand.
-
-mod listing;

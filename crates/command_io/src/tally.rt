@@ -1,0 +1,99 @@
+//! What the processors of a machine have shown.
+
+ghost use Rattle.std.specs.Prelude.{◌≡◌, ◌+◌, ◌<◌, ◌^◌, All, IfOk, OnOk, replicate, slice_get};
+ghost use Rattle.std.specs.Option.{option_copied};
+ghost use Rattle.command_io.specs.Tallies.{ShownBy, TallyState, nothing_shown, noted_after, retired_at};
+
+use crate::shown::Shown;
+use std::alloc::{AllocError, Global};
+use std::marker::Model;
+use steps::{Notes, Outcome, Step};
+
+/// What each processor of a machine has shown in the steps that are noted.
+#[derive(Debug, Drop)]
+pub struct Tally {
+    processors: Vec<Shown>,
+    /// How many steps are noted.
+    noted: u32,
+}
+
+impl Model for Tally {
+    ghost use Rattle.command_io.specs.Tallies.{TallyState, AreFew};
+
+    ghost Value = { TallyState };
+
+    ghost view = { λ t. record { shown = t.processors.items; noted = t.noted } };
+
+    ghost invariant = { λ t. AreFew (record { shown = t.processors.items; noted = t.noted }) };
+}
+
+impl Tally {
+    /// The tally of so many processors that have shown nothing.
+    ///
+    /// # Errors
+    ///
+    /// [`AllocError`] where there is no memory for it.
+    pub fn new(alloc: Global, processors: u8) -> Result<Self, AllocError>
+        ensures { IfOk result (λ t. t ≡ record { shown = replicate processors nothing_shown; noted = 0 }) }
+    {
+        let mut shown = Vec::new(alloc);
+        for _ in 0..processors {
+            shown.push(Shown::new(alloc))?;
+        }
+        Ok(Tally {
+            processors: shown,
+            noted: 0,
+        })
+    }
+
+    /// An instruction of the processor at this place has retired.
+    fn retire(&mut self, place: usize, out: Option<u8>) -> Result<(), AllocError>
+        requires small { self.old.noted < 2 ^ 32 }
+        requires few { All (λ (s : ShownBy). s.retired < self.old.noted) self.old.shown }
+        ensures shown { OnOk result (self.new ≡ record {
+          shown = retired_at self.old.shown place out (slice_get self.old.shown place);
+          noted = self.old.noted;
+        }) }
+    {
+        if place >= self.processors.len() {
+            return Ok(());
+        }
+        self.processors[place].retire(out)
+    }
+
+    /// What a processor has shown. None where there is no processor of this number.
+    pub fn of(&self, processor: u8) -> Option<&Shown>
+        ensures { option_copied result ≡ slice_get self.now.shown processor }
+    {
+        self.processors.get(usize::from(processor))
+    }
+}
+
+/// A tally counts up to 2^32 steps.
+impl Notes for Tally {
+    ghost use Rattle.std.specs.Prelude.{◌≡◌, ◌<◌, ◌+◌, ◌^◌};
+    ghost use Rattle.command_io.specs.Tallies.{noted_after};
+
+    type Refusal = AllocError;
+
+    ghost has_room = { λ t more. t.noted + more < 2 ^ 32 };
+
+    ghost noted = { λ old step outcome new. new ≡ noted_after old step outcome };
+
+    /// Notes what a step answered.
+    ///
+    /// # Errors
+    ///
+    /// [`AllocError`] where there is no memory for a byte of the console.
+    // Of what a step answers little is read.
+    #[inline(always)]
+    fn note(&mut self, step: Step, outcome: &Outcome) -> Result<(), AllocError> {
+        self.noted += 1;
+        match (step, *outcome) {
+            (Step::Turn(p), Outcome::Retired(retired)) => {
+                self.retire(usize::from(p), retired.out)
+            }
+            _ => Ok(()),
+        }
+    }
+}

@@ -1,0 +1,42 @@
+-- Which processors have retired an instruction, from step to step.
+use Rattle.std.proofs.Common.{◌≡◌, ℕ, ◌≤◌, ◌⊎◌, inl, inr, List, [], ◌∷◌, ◌++◌, length, refl, sym, ap, ◌∙◌, subst, append_assoc}
+use Rattle.steps.specs.declared.step.Step.{Step}
+use Rattle.steps.specs.declared.step.Step.TheVariants as step
+use Rattle.machine_steps.specs.Machines.{MachineLists}
+use Rattle.machine_steps.specs.Runs.{answer_after}
+use Rattle.debug_session.specs.Breaks.{HasRetired, IsRetirement, Retires}
+use Rattle.debug_session.proofs.Splits.{split_last}
+
+module _ (m : MachineLists) (start : ℕ) (done : List Step) where
+  pub retired_more : (s : Step) (p : ℕ) → HasRetired m start done p → HasRetired m start (done ++ s ∷ []) p
+  retired_more s p h = record {
+    before = h.before;
+    rest = h.rest ++ s ∷ [];
+    is = ap (λ xs. xs ++ s ∷ []) h.is ∙ append_assoc h.before (step.Turn p ∷ h.rest) (s ∷ []);
+    behind = h.behind;
+    retired = h.retired;
+  }
+
+  pub retired_now : (s : Step) (p : ℕ) → start ≤ length done → Retires s (answer_after m done s) p → HasRetired m start (done ++ s ∷ []) p
+  retired_now (step.Turn q) p behind (same, retired) = record {
+    before = done;
+    rest = [];
+    is = ap (λ n. done ++ step.Turn n ∷ []) same;
+    behind = behind;
+    retired = subst (λ n. IsRetirement (answer_after m done (step.Turn n))) same retired;
+  }
+  retired_now (step.Up s w) p behind r = absurd r
+  retired_now (step.Serve q) p behind r = absurd r
+  retired_now (step.Down s w) p behind r = absurd r
+  retired_now (step.Poke q) p behind r = absurd r
+
+  -- what has retired behind a step more has retired before, or in it
+  pub retired_either : (s : Step) (p : ℕ) → HasRetired m start (done ++ s ∷ []) p → HasRetired m start done p ⊎ Retires s (answer_after m done s) p
+  retired_either s p h = by (split_last done h.before h.rest s (step.Turn p) h.is)
+    where
+      by : ((h.rest ≡ []) × (done ≡ h.before) × (s ≡ step.Turn p)) ⊎ ((rest' : List Step) × (done ≡ h.before ++ step.Turn p ∷ rest')) →
+          HasRetired m start done p ⊎ Retires s (answer_after m done s) p
+      by (inl (none, alike, last)) =
+          inr (subst (λ t. Retires t (answer_after m done t) p) (sym last)
+          (refl, subst (λ xs. IsRetirement (answer_after m xs (step.Turn p))) (sym alike) h.retired))
+      by (inr (rest', is)) = inl (record { before = h.before; rest = rest'; is = is; behind = h.behind; retired = h.retired })

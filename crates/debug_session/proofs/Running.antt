@@ -1,0 +1,29 @@
+-- A sweep that was drained is a run of steps of the machine's own.
+use Rattle.std.proofs.Common.{ℕ, Bool, List, ◌++◌, ap, ◌∙◌, subst, append_assoc}
+use Rattle.steps.specs.declared.step.Step.{Step}
+use Rattle.machine_steps.specs.Draining.{drain_steps}
+use Rattle.machine_steps.specs.Laws.{ReplaysAreCut}
+use Rattle.machine_steps.specs.Machines.{MachineLists}
+use Rattle.machine_steps.specs.Runs.{IsReplay}
+use Rattle.machine_log.specs.Logs.{Log}
+use Rattle.schedules.specs.Own.{AreOwn}
+use Rattle.debug_session.specs.Runs.{HasDriven}
+use Rattle.debug_session.specs.Sweeps.{HasContinued}
+use Rattle.schedules.proofs.Lemmas.{own_both}
+
+pub has_run : ReplaysAreCut → ((m : MachineLists) → AreOwn (drain_steps m)) → (breaks : List Bool) (budget : ℕ) (old new : Log) →
+    HasContinued breaks budget old new → IsReplay old.opening old.steps old.machine →
+    IsReplay new.opening new.steps new.machine → HasDriven old new
+has_run cut own breaks budget old new c before after =
+    let drained : List Step = drain_steps c.middle.machine in
+    let steps = c.steps ∙ ap (λ xs. xs ++ drained) c.swept.steps ∙ append_assoc old.steps c.swept.more drained in
+    record {
+      opening = c.opening;
+      more = c.swept.more ++ drained;
+      steps = steps;
+      own = own_both c.swept.more drained c.swept.own (own c.middle.machine);
+      replay =
+          cut old.opening old.machine new.machine old.steps (c.swept.more ++ drained) before
+          (subst (λ xs. IsReplay old.opening xs new.machine) steps (subst (λ n. IsReplay n new.steps new.machine) c.opening after));
+      idle = c.idle;
+    }

@@ -1,0 +1,9 @@
+use Rattle.debug_session.proofs.Beginning.{session}
+use Rattle.debug_session.proofs.command.session.Goals as goal
+
+pub returns-clause-session : goal.returns-clause-session
+returns-clause-session g c =
+    session (g.C.Connect.gives c.args.door.now) g.C.Reader.Read.remaining g.C.Writer.Write.contents c.args.config (g.F.Read.remaining c.args.file)
+    c.in_ok-image.image c.in_ok-machine_of.field-0 c.new-log.result c.serve-end.new.log c.in-Ok.link c.serve-end.new.reader c.serve-end.new.writer
+    c.serve-end.result c.in_ok-image.ensures.image c.in_ok-machine_of.ensures.opening c.new-log.ensures c.in-Ok.ensures.gives c.serve-end.ensures.served
+    c.serve-end.ensures.refused

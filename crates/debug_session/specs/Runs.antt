@@ -1,0 +1,17 @@
+-- What a runner does to a log.
+use Rattle.std.specs.Prelude.{◌≡◌, List, ◌++◌}
+use Rattle.steps.specs.declared.step.Step.{Step}
+use Rattle.machine_steps.specs.Machines.{IsIdle}
+use Rattle.machine_steps.specs.Runs.{IsReplay}
+use Rattle.machine_log.specs.Logs.{Log}
+use Rattle.schedules.specs.Own.{AreOwn}
+
+-- Behind the steps that it had the log has more, none of which writes from outside. Its machine is the replay of the one that it
+-- was over just these, and no reference is open.
+pub record HasDriven (old new : Log) : Type 0 where
+  pub opening : new.opening ≡ old.opening
+  pub more : List Step
+  pub steps : new.steps ≡ old.steps ++ more
+  pub own : AreOwn more
+  pub replay : IsReplay old.machine more new.machine
+  pub idle : IsIdle new.machine

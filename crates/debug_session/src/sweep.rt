@@ -1,0 +1,184 @@
+//! Going on by the sweep, up to a break.
+
+ghost use Rattle.std.specs.Prelude.{◌≡◌, ◌≤◌, ◌<◌, ◌+◌, ◌↔◌, ◌⊎◌, ℕ, Err, OnErr, OnOk, IsTrue, length, true, false};
+ghost use Rattle.machine_steps.specs.Draining.{drain_bound};
+ghost use Rattle.machine_steps.specs.Machines.{IsIdle};
+ghost use Rattle.machine_steps.specs.Standing.{HasRunning};
+ghost use Rattle.machine_log.specs.Logs.{KeepsPlaces, Log};
+ghost use Rattle.schedules.specs.Sweeps.{IsFault};
+ghost use Rattle.debug_session.specs.Breaks.{IsAtBreak, MeetsBreak, Retires, is_noted};
+ghost use Rattle.debug_session.specs.Runs.{HasDriven};
+ghost use Rattle.debug_session.specs.Sweeps.{HasContinued, HasSwept, IsUnderWay};
+
+use crate::runner::Runner;
+use debug_replies::Breaks;
+use flat_machine::{Cause, Status};
+use machine_log::{LockRefusal, Logged, Roomy, roomy_is_kept};
+use machine_steps::{Machine, any_runs, machine_is_sound, replays_are_cut};
+use schedules::{Round, rounds_go_on, sweeps_write_nothing};
+use steps::{Outcome, Step};
+
+/// The most processors that a machine has.
+const MOST_PROCESSORS: usize = 64;
+
+/// The runner that follows the sweep, from the beginning of a round: each processor has its turns, and each
+/// message is moved. It ends before a turn of a processor that runs, has no reference open, has retired an
+/// instruction since the sweep began, and stands at a break; so one that begins at a break gets past it.
+#[derive(Clone, Copy, Debug, Drop)]
+pub struct Sweep;
+
+impl Runner for Sweep {
+    /// Follows the sweep until a fault stops a processor, a processor stands at a break, no processor runs,
+    /// or as many steps are entered as the budget has. Then takes steps until no reference is open. For all
+    /// these steps it makes room first.
+    ///
+    /// # Errors
+    ///
+    /// [`LockRefusal::Full`] where the log would pass [`steps::MAX_STEPS`] steps with as many, else
+    /// [`LockRefusal::Memory`] where there is no memory for them. Each leaves all as it was.
+    fn run(&mut self, log: &mut Logged, breaks: &Breaks, budget: u32) -> Result<(), LockRefusal>
+        requires idle { IsIdle log.old.machine }
+        ensures ran { OnOk result (HasDriven log.old log.new) }
+        ensures continued { OnOk result (HasContinued breaks.now budget log.old log.new) }
+        ensures full { (result ≡ Err LockRefusal.Full) ↔ (4194304 < length log.old.steps + (budget + drain_bound log.old.machine.config)) }
+        ensures named { result ≡ Err LockRefusal.Unnamed → ⊥ }
+        ensures not_free { result ≡ Err LockRefusal.NotFree → ⊥ }
+        ensures refused { OnErr result (log.new ≡ log.old) }
+    {
+        let room = budget.saturating_add(log.machine().drain_bound());
+        sweep_and_drain(log.room(room)?, breaks, budget);
+        Ok(())
+    }
+}
+
+/// Follows the sweep for so many steps at most, and then drains the machine. There is room for the steps.
+fn sweep_and_drain(log: &mut Roomy, breaks: &Breaks, budget: u32)
+    requires room { budget + drain_bound log.old.log.machine.config ≤ log.old.places }
+    ensures ran { HasDriven log.old.log log.new.log }
+    ensures continued { HasContinued breaks.now budget log.old.log log.new.log }
+{
+    replays_are_cut();
+    sweeps_write_nothing();
+    roomy_is_kept(log);
+    let limit = log.steps().len() + budget as usize;
+    follow(log, breaks, limit);
+    log.drain();
+    roomy_is_kept(log);
+}
+
+/// Follows the sweep until it ends, or the log has so many steps.
+fn follow(log: &mut Roomy, breaks: &Breaks, limit: usize)
+    requires few { length log.old.log.steps ≤ limit }
+    requires room { limit ≤ length log.old.log.steps + log.old.places }
+    ensures swept { HasSwept breaks.now limit log.old.log log.new.log }
+    ensures config { log.new.log.machine.config ≡ log.old.log.machine.config }
+    ensures places { KeepsPlaces log.old log.new }
+{
+    roomy_is_kept(log);
+    let mut retired = none_retired();
+    // While a processor runs, a round enters a step, or ends the sweep.
+    while log.steps().len() < limit {
+        if !any_runs(log.machine()) {
+            return;
+        }
+        if take_round(log, breaks, &mut retired, limit) {
+            return;
+        }
+    }
+}
+
+/// No processor has retired an instruction.
+fn none_retired() -> [bool; MOST_PROCESSORS]
+    ensures { (p : ℕ) → is_noted result p ≡ false }
+{
+    [false; MOST_PROCESSORS]
+}
+
+/// Takes a round of the sweep, up to where the sweep ends, or the step behind which the log has so many.
+/// Answers whether the sweep ends there.
+fn take_round(
+    log: &mut Roomy,
+    breaks: &Breaks,
+    retired: &mut [bool; MOST_PROCESSORS],
+    limit: usize,
+) -> bool
+    requires few { length log.old.log.steps < limit }
+    requires room { limit ≤ length log.old.log.steps + log.old.places }
+    requires running { HasRunning log.old.log.machine }
+    ensures goes_on { result ≡ false → (first : Log) → IsUnderWay breaks.now limit first retired.old log.old.log →
+        IsUnderWay breaks.now limit first retired.new log.new.log }
+    ensures some { result ≡ false → length log.old.log.steps < length log.new.log.steps }
+    ensures over { result ≡ true → (first : Log) → IsUnderWay breaks.now limit first retired.old log.old.log → HasSwept breaks.now limit first log.new.log }
+    ensures config { log.new.log.machine.config ≡ log.old.log.machine.config }
+    ensures places { KeepsPlaces log.old log.new }
+{
+    rounds_go_on();
+    sweeps_write_nothing();
+    let mut round = Round::new(log.machine().config().k);
+    while log.steps().len() < limit {
+        let Some(step) = round.next(log.machine()) else {
+            return false;
+        };
+        if meets_break(&step, log.machine(), breaks, retired) {
+            return true;
+        }
+        let outcome = log.step(step);
+        note(retired, &step, &outcome);
+        roomy_is_kept(log);
+        if is_fault(&outcome) {
+            return true;
+        }
+    }
+    false
+}
+
+/// Whether the step is a turn of a processor that stands at a break.
+fn meets_break(
+    step: &Step,
+    machine: &Machine,
+    breaks: &Breaks,
+    retired: &[bool; MOST_PROCESSORS],
+) -> bool
+    ensures { IsTrue result ↔ MeetsBreak machine.now breaks.now retired.now step.now }
+{
+    match *step {
+        Step::Turn(p) => is_at_break(p, machine, breaks, retired),
+        _ => false,
+    }
+}
+
+/// Whether a processor stands at a break, where these have retired an instruction.
+fn is_at_break(p: u8, machine: &Machine, breaks: &Breaks, retired: &[bool; MOST_PROCESSORS]) -> bool
+    ensures { IsTrue result ↔ IsAtBreak machine.now breaks.now retired.now p }
+{
+    machine_is_sound(machine);
+    let Some(pc) = machine.pc(p) else {
+        return false;
+    };
+    if !breaks.contains(pc) || !retired[usize::from(p)] {
+        return false;
+    }
+    let (Some(Status::Running), Some(false)) = (machine.status(p), machine.is_open(p)) else {
+        return false;
+    };
+    true
+}
+
+/// Notes whose instruction the step has retired.
+fn note(retired: &mut [bool; MOST_PROCESSORS], step: &Step, outcome: &Outcome)
+    ensures { (p : ℕ) → p < 64 → (is_noted retired.new p ≡ true) ↔ ((is_noted retired.old p ≡ true) ⊎ Retires step.now outcome.now p) }
+{
+    if let (Step::Turn(p), Outcome::Retired(_)) = (step, outcome) {
+        let place = usize::from(*p);
+        if place < MOST_PROCESSORS {
+            retired[place] = true;
+        }
+    }
+}
+
+/// Whether a fault stopped a processor in the step that answered this.
+fn is_fault(outcome: &Outcome) -> bool
+    ensures { IsTrue result ↔ IsFault outcome.now }
+{
+    matches!(outcome, Outcome::Stopped(Cause::Fault(_)))
+}

@@ -1,5 +1,0 @@
-use Rattle.debug_sweep.proofs.Few.{none_noted}
-use Rattle.debug_sweep.proofs.sweep.none_retired.Goals as goal
-
-pub returns : goal.returns
-returns c p = none_noted 64 p

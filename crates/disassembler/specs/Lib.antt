@@ -1,2 +1,0 @@
--- Words of lower crates, passed on to those above.
-pub use Rattle.asm_lines.specs as asm_lines

@@ -1,0 +1,50 @@
+-- Final results of the combining machine: what is left of one in which no processor runs any more.
+use Rattle.std.specs.Prelude.{◌≡◌, ℕ, ◌^◌, ◌<◌, false, List, [], ◌∷◌, map}
+use Rattle.std.specs.List.{range_with_len}
+use Rattle.flat_machine.specs.declared.config.Config.{Config}
+use Rattle.flat_machine.specs.declared.event.Event.{Event}
+use Rattle.flat_machine.specs.State.{is_running}
+use Rattle.machine_steps.specs.machine_theory.Theory as theory
+use Rattle.machine_steps.specs.steps.declared.step.Step.{Step}
+use Rattle.machine_steps.specs.steps.declared.step.Step.TheVariants as step
+use Rattle.machine_steps.specs.machine_theory.Processors.{Told}
+use Rattle.machine_steps.specs.Machines.{MachineLists, machine_of}
+use Rattle.machine_steps.specs.Runs.{all_after}
+use Rattle.local_reduction.specs.Stations.{printed_after}
+use Rattle.local_reduction.specs.Results.{FinalResult, result_with}
+
+-- the bytes that these events print, behind those before
+abbrev pub printed_by : List ℕ → List Event → List ℕ
+printed_by console [] = console
+printed_by console (shown ∷ events) = printed_by (printed_after console shown) events
+
+abbrev pub machine_result : Config → theory.Machine Told → FinalResult
+machine_result c M = record {
+  processors = map (λ k. result_with (M.core k).state (printed_by [] (M.core k).events)) (range_with_len 0 (2 ^ c.k));
+  words = map M.mem (range_with_len 0 c.shared_words);
+}
+
+-- No processor runs.
+abbrev pub NoneRuns : Config → theory.Machine Told → Type 0
+NoneRuns c M = (k : ℕ) → k < 2 ^ c.k → is_running (M.core k).state.status ≡ false
+
+abbrev pub IsOfTheMachine : Step → Type 0
+IsOfTheMachine (step.Turn p) = Unit {0}
+IsOfTheMachine (step.Up s w) = Unit {0}
+IsOfTheMachine (step.Serve at_module) = Unit {0}
+IsOfTheMachine (step.Down s w) = Unit {0}
+IsOfTheMachine (step.Poke poke) = ⊥
+
+-- None of the steps is a write from outside.
+abbrev pub AreOfTheMachine : List Step → Type 0
+AreOfTheMachine [] = Unit {0}
+AreOfTheMachine (s ∷ steps) = IsOfTheMachine s × AreOfTheMachine steps
+
+-- the machine after these steps, whose processors have shown nothing before
+abbrev pub stands_after : MachineLists → List Step → theory.Machine Told
+stands_after m steps = all_after m.config m.code (machine_of m (λ p. [])) steps
+
+-- some steps without writes from outside end in it
+abbrev pub IsMachineResult : MachineLists → FinalResult → Type 0
+IsMachineResult m r =
+    (steps : List Step) × AreOfTheMachine steps × NoneRuns m.config (stands_after m steps) × (r ≡ machine_result m.config (stands_after m steps))

@@ -1,7 +1,0 @@
-//! Tests of the search for every final result (`exploration`), on small programs whose results are counted by hand.
-//!
-//! They stand in a crate of their own, so that what stands on the search need not wait for them.
-#![tactic(auto)]
-
-#[cfg(test)]
-mod tests;

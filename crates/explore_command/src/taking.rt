@@ -1,0 +1,35 @@
+//! Steps that are taken once more, on a machine that has just opened.
+
+ghost use Rattle.std.specs.Prelude.{◌≡◌, ◌≤◌, length, IfErr, IfOk};
+ghost use Rattle.explore_command.specs.Refusals.{IsNotTaken};
+ghost use Rattle.explore_command.specs.Witnesses.{AreTaken};
+
+use crate::refused::Refused;
+use command_io::{Fault, Tally, opened};
+use elf_image::Image;
+use flat_machine::Config;
+use machine_steps::Machine;
+use std::alloc::Global;
+use steps::Step;
+use trace_commands::retaken;
+
+/// The machine behind these steps, which opened on a copy of the image, and what its processors have shown in them.
+#[tactic(auto, using(crate::proofs::Refusing::size_refuses))]
+pub(crate) fn taken(
+    alloc: Global,
+    image: &Image,
+    config: Config,
+    steps: &[Step],
+) -> Result<(Machine, Tally), Refused>
+    requires words { image.now.shared_words ≡ config.shared_words }
+    requires few { length steps.now ≤ 4194304 }
+    ensures taken { IfOk result (λ done. AreTaken config image.now steps.now done.0 done.1) }
+    ensures refused { IfErr result (IsNotTaken config) }
+{
+    let mut machine = opened(alloc, image, config)?;
+    match retaken(alloc, &mut machine, steps) {
+        Ok(tally) => Ok((machine, tally)),
+        Err(Fault::Memory) => Err(Refused::Fault(Fault::Memory)),
+        Err(_) => Err(Refused::Missed),
+    }
+}

@@ -1,0 +1,111 @@
+//! The log of a way: references of processors, one after another, each with what its processor does alone before it.
+
+ghost use Rattle.std.specs.Prelude.{◌≡◌, IfErr};
+ghost use Rattle.explore_command.specs.Refusals.{IsNotTaken, IsOfSteps};
+
+use crate::refused::Refused;
+use command_io::opened;
+use elf_image::Image;
+use flat_machine::Config;
+use machine_log::Logged;
+use std::alloc::Global;
+use steps::{Outcome, Step};
+
+/// How many turns a processor is given to come to its next reference, or to stop: as many as the search gives it.
+const MAX_TURNS: u32 = 1_000_000;
+
+/// The log of a way, on a machine of this size that opens on a copy of the image. Behind it no reference is open; and
+/// where it is to end in a result, each processor has taken turns until it stops.
+#[tactic(auto, using(crate::proofs::Refusing::size_refuses, crate::proofs::Refusing::steps_refuse))]
+pub(crate) fn log_of(
+    alloc: Global,
+    image: &Image,
+    config: Config,
+    way: &[u8],
+    is_to_end: bool,
+) -> Result<Logged, Refused>
+    requires words { image.now.shared_words ≡ config.shared_words }
+    ensures refused { IfErr result (IsNotTaken config) }
+{
+    let mut log = Logged::new(alloc, opened(alloc, image, config)?);
+    for p in way {
+        refer(&mut log, *p)?;
+    }
+    if is_to_end {
+        stop_all(&mut log)?;
+    }
+    Ok(log)
+}
+
+/// What a turn of a processor came to.
+#[derive(Clone, Copy, Debug, PartialEq, Eq, Drop)]
+enum Turned {
+    /// An instruction is done.
+    On,
+    /// A request is sent.
+    Sent,
+    /// The processor has stopped, or had before.
+    Stopped,
+}
+
+/// Takes a turn of a processor.
+#[tactic(auto, using(crate::proofs::Refusing::log_refuses))]
+fn turn(log: &mut Logged, p: u8) -> Result<Turned, Refused>
+    ensures refused { IfErr result IsOfSteps }
+{
+    match log.step(Step::Turn(p)) {
+        Ok(Outcome::Retired(_)) => Ok(Turned::On),
+        Ok(Outcome::Issued) => Ok(Turned::Sent),
+        Ok(_) => Ok(Turned::Stopped),
+        Err(refusal) => Err(Refused::from(refusal)),
+    }
+}
+
+/// Brings what is on its way to its end.
+#[tactic(auto, using(crate::proofs::Refusing::log_refuses))]
+fn bring_home(log: &mut Logged) -> Result<(), Refused>
+    ensures refused { IfErr result IsOfSteps }
+{
+    match log.drain() {
+        Ok(_) => Ok(()),
+        Err(refusal) => Err(Refused::from(refusal)),
+    }
+}
+
+/// Takes turns of a processor up to its next reference, which is brought to its end.
+fn refer(log: &mut Logged, p: u8) -> Result<(), Refused>
+    ensures refused { IfErr result IsOfSteps }
+{
+    for _turn in 0..MAX_TURNS {
+        match turn(log, p)? {
+            Turned::On => {}
+            Turned::Sent => return bring_home(log),
+            Turned::Stopped => return Err(Refused::Missed),
+        }
+    }
+    Err(Refused::Missed)
+}
+
+/// Takes turns of each processor until it stops.
+fn stop_all(log: &mut Logged) -> Result<(), Refused>
+    ensures refused { IfErr result IsOfSteps }
+{
+    for p in 0..log.machine().config().processors() {
+        stop(log, p)?;
+    }
+    Ok(())
+}
+
+/// Takes turns of a processor until it stops.
+fn stop(log: &mut Logged, p: u8) -> Result<(), Refused>
+    ensures refused { IfErr result IsOfSteps }
+{
+    for _turn in 0..MAX_TURNS {
+        match turn(log, p)? {
+            Turned::On => {}
+            Turned::Sent => return Err(Refused::Missed),
+            Turned::Stopped => return Ok(()),
+        }
+    }
+    Err(Refused::Missed)
+}

@@ -1,0 +1,152 @@
+//! Steps that lead to a result, or to where no end can be reached.
+
+ghost use Rattle.std.specs.Prelude.{◌≡◌, ◌≤◌, ◌↔◌, ◌^◌, length, IfErr, IfOk, IsTrue, OnOk};
+ghost use Rattle.exploration.specs.Results.{AreOfTheMachine, IsOfTheMachine};
+ghost use Rattle.machine_steps.specs.Machines.{AreHome};
+ghost use Rattle.explore_command.specs.Refusals.{HasWitness, IsNoWitness, IsNotTaken, IsOfSteps};
+ghost use Rattle.explore_command.specs.Witnesses.{IsEnd, IsStuck, IsWitness};
+
+use crate::left::left_by;
+use crate::refused::Refused;
+use crate::taking::taken;
+use crate::way::log_of;
+use command_io::{Fault, Tally};
+use elf_image::Image;
+use exploration::{Explored, FinalResult, Refusal, Schedules, Search, Unwatched, explore};
+use flat_machine::Config;
+use machine_log::Logged;
+use machine_steps::{Machine, any_runs};
+use std::alloc::Global;
+use steps::Step;
+use trace_file::is_trace;
+
+/// The log of a machine of this size that opens on a copy of the image, and ends in the result of this number, from 1;
+/// for 0, in a state from which no end can be reached, by another search of at most so many states. Its references are
+/// those of the way that was wanted as the machine was explored.
+///
+/// # Errors
+///
+/// [`Refused::Unknown`] where no result has the number, or, for 0, from each state that was found an end can be
+/// reached; [`Refused::Missed`] where the steps lead elsewhere, [`Fault::Full`] where there would be more than
+/// [`steps::MAX_STEPS`], [`Fault::Size`] where the size is out of its limits, and [`Fault::Memory`].
+#[tactic(auto, using(crate::proofs::Refusing::not_taken))]
+pub fn witness_of(
+    alloc: Global,
+    image: &Image,
+    config: Config,
+    explored: &Explored,
+    number: u32,
+    limit: u32,
+) -> Result<Logged, Refused>
+    requires words { image.now.shared_words ≡ config.shared_words }
+    ensures witness { IfOk result (λ log. IsWitness config image.now explored.now.results.items number log.steps) }
+    ensures refused { IfErr result (IsNoWitness config explored.now.results.items explored.now.schedules number) }
+{
+    let results = explored.results.as_slice();
+    if !has_witness(results, explored.schedules, number) {
+        return Err(Refused::Unknown);
+    }
+    let log = log_of(alloc, image, config, explored.way.as_slice(), number > 0)?;
+    check(alloc, image, config, results, number, limit, log.steps())?;
+    Ok(log)
+}
+
+/// Whether a result has the number; for 0, whether there is a state from which no end can be reached.
+fn has_witness(results: &[FinalResult], schedules: Schedules, number: u32) -> bool
+    ensures { IsTrue result ↔ HasWitness results.now schedules number }
+{
+    match number.checked_sub(1) {
+        Some(before) => (before as usize) < results.len(),
+        None => match schedules {
+            Schedules::MayBeStuck { .. } => true,
+            Schedules::End | Schedules::MayEnd => false,
+        },
+    }
+}
+
+/// Sees that steps are a witness.
+fn check(
+    alloc: Global,
+    image: &Image,
+    config: Config,
+    results: &[FinalResult],
+    number: u32,
+    limit: u32,
+    steps: &[Step],
+) -> Result<(), Refused>
+    requires words { image.now.shared_words ≡ config.shared_words }
+    requires room { length steps.now ≤ 4194304 }
+    ensures witness { OnOk result (IsWitness config image.now results.now number steps.now) }
+    ensures refused { IfErr result (IsNotTaken config) }
+{
+    if !is_trace(&config, steps) || !are_of_the_machine(steps) {
+        return Err(Refused::Missed);
+    }
+    let (machine, tally) = taken(alloc, image, config, steps)?;
+    match number.checked_sub(1) {
+        Some(before) => match results.get(before as usize) {
+            Some(last) => compare(alloc, &machine, &tally, last),
+            None => Err(Refused::Missed),
+        },
+        None => look_for_an_end(alloc, &machine, limit),
+    }
+}
+
+/// Whether none of the steps is a write from outside.
+#[tactic(auto, using(crate::proofs::Leading::all_own))]
+fn are_of_the_machine(steps: &[Step]) -> bool
+    ensures { IsTrue result → AreOfTheMachine steps.now }
+{
+    steps.iter().all(is_of_the_machine)
+}
+
+/// Whether a step is no write from outside.
+fn is_of_the_machine(step: &Step) -> bool
+    ensures { IsTrue result ↔ IsOfTheMachine step.now }
+{
+    match step {
+        Step::Turn(_) | Step::Up { .. } | Step::Serve(_) | Step::Down { .. } => true,
+        Step::Poke(_) => false,
+    }
+}
+
+/// Sees that a machine whose processors have shown this leaves the result.
+fn compare(
+    alloc: Global,
+    machine: &Machine,
+    tally: &Tally,
+    last: &FinalResult,
+) -> Result<(), Refused>
+    requires home { AreHome machine.now }
+    requires all { length tally.now.shown ≡ 2 ^ machine.now.config.k }
+    ensures same { OnOk result (IsEnd machine.now tally.now.shown last.now) }
+    ensures refused { IfErr result IsOfSteps }
+{
+    let left = left_by(alloc, machine, tally)?;
+    if !any_runs(machine) && left.is_same(last) {
+        Ok(())
+    } else {
+        Err(Refused::Missed)
+    }
+}
+
+/// Sees that from a machine no end can be reached.
+fn look_for_an_end(alloc: Global, machine: &Machine, limit: u32) -> Result<(), Refused>
+    requires home { AreHome machine.now }
+    ensures stuck { OnOk result (IsStuck machine.now) }
+    ensures refused { IfErr result IsOfSteps }
+{
+    if !machine.is_idle() {
+        return Err(Refused::Missed);
+    }
+    let search = Search {
+        limit,
+        exchanged: true,
+        wanted: None,
+    };
+    match explore(alloc, machine, search, &mut Unwatched) {
+        Ok(found) if found.results.as_slice().is_empty() => Ok(()),
+        Err(Refusal::Memory) => Err(Refused::Fault(Fault::Memory)),
+        _ => Err(Refused::Missed),
+    }
+}

@@ -1,0 +1,75 @@
+//! Small programs and their results. The numbers of results are worked out by hand.
+
+mod agreement;
+mod counts;
+mod ends;
+mod exchanges;
+mod hunting;
+mod order;
+mod random_schedules;
+mod texts;
+mod ways;
+
+use exploration::{Explored, FinalResult, Refusal, Search, Unwatched, explore};
+use flat_machine::Config;
+use std::alloc::Global;
+use std::fmt::{Debug, Write};
+use std::process::Abort;
+use std::test::Fail;
+use test_support::{machine_of, tight_size};
+
+/// Ends the test where the two differ, and tells them and the case that they are of ([`assert_same!`]).
+fn same<T: PartialEq + Debug, A: Debug>(rt: &impl Abort, found: &T, wanted: &T, at: &A) {
+    assert_eq!(rt; found, wanted, "{at:?}");
+}
+
+/// A search that lists each result by itself.
+const fn each(limit: u32) -> Search {
+    Search {
+        limit,
+        exchanged: false,
+        wanted: None,
+    }
+}
+
+/// A search up to exchanges of processors that stand alike.
+const fn exchanged(limit: u32) -> Search {
+    Search {
+        limit,
+        exchanged: true,
+        wanted: None,
+    }
+}
+
+/// What a search comes to, of a text on 2^k processors.
+fn explored(
+    alloc: Global,
+    text: &str,
+    k: u8,
+    search: Search,
+) -> Result<Result<Explored, Refusal>, Fail> {
+    let config = Config {
+        shared_words: 16,
+        ..tight_size(k)
+    };
+    let machine = machine_of(alloc, text, config)?;
+    Ok(explore(alloc, &machine, search, &mut Unwatched))
+}
+
+/// What a search finds, of a text on 2^k processors.
+fn found(alloc: Global, text: &str, k: u8, search: Search) -> Result<Explored, Fail> {
+    match explored(alloc, text, k, search)? {
+        Ok(found) => Ok(found),
+        Err(refusal) => Err(Fail::new(format_args!("{text} with k of {k}: {refusal:?}"))),
+    }
+}
+
+/// A line for each processor of a result: where it stands, how it stopped and what it printed.
+fn told(alloc: Global, last: &FinalResult) -> Result<String, Fail> {
+    let mut text = String::new(alloc);
+    for processor in last.processors.iter() {
+        let (pc, status, console) = (processor.pc, processor.status, processor.console.as_slice());
+        writeln!(text, "{pc:x} {status:?} {console:?}")?;
+    }
+    Ok(text)
+}

@@ -1,0 +1,65 @@
+//! Whether schedules end.
+
+use super::texts::{
+    DEADLOCK, DEADLY_EMBRACE, LEADER, LOST_SUM, MISSED, NEEDED_SUM, NEIGHBOURS, PRINTED, SIGNAL,
+    SUM,
+};
+use super::{each, exchanged, found};
+use exploration::{Schedules, Search};
+use std::alloc::Global;
+use std::test::Fail;
+use test_support::assert_same;
+
+/// What is told of the schedules of a text.
+fn schedules(alloc: Global, text: &str, k: u8, search: Search) -> Result<Schedules, Fail> {
+    let found = found(alloc, text, k, search)?;
+    Ok(found.schedules)
+}
+
+/// No end can be reached from so many states, of which this is the first.
+fn stuck(states: usize, first: u32) -> Schedules {
+    Schedules::MayBeStuck { states, first }
+}
+
+/// Straight programs end on every schedule. One that waits for another may go on for ever, but can always end where the
+/// other may still come; two that wait for each other, or one for nobody, cannot. Two that lose an addition wait for
+/// ever, from when both have loaded: one has stored then or the other, or both.
+#[test]
+fn schedules_are_told(rt: HostRuntime) -> Result<(), Fail> {
+    for (text, k, told) in [
+        (SUM, 1, Schedules::End),
+        (LOST_SUM, 1, Schedules::End),
+        (NEIGHBOURS, 1, Schedules::End),
+        (PRINTED, 0, Schedules::End),
+        (SIGNAL, 0, Schedules::End),
+        (SIGNAL, 1, Schedules::MayEnd),
+        (SIGNAL, 2, Schedules::MayEnd),
+        (DEADLOCK, 0, stuck(1, 0)),
+        (DEADLY_EMBRACE, 1, stuck(1, 0)),
+        (MISSED, 1, stuck(1, 3)),
+        (NEEDED_SUM, 1, stuck(4, 4)),
+    ] {
+        assert_same!(rt; schedules(rt.alloc(), text, k, each(1000))?, told, text);
+    }
+    Ok(())
+}
+
+/// The same up to exchanges. Which of two has stored that have lost an addition is no matter then.
+#[test]
+fn schedules_are_told_up_to_exchanges(rt: HostRuntime) -> Result<(), Fail> {
+    for (text, k, told) in [
+        (SUM, 6, Schedules::End),
+        (LOST_SUM, 1, Schedules::End),
+        (NEIGHBOURS, 1, Schedules::End),
+        (PRINTED, 6, Schedules::End),
+        (LEADER, 0, Schedules::End),
+        (LEADER, 1, Schedules::MayEnd),
+        (LEADER, 6, Schedules::MayEnd),
+        (DEADLOCK, 6, stuck(1, 0)),
+        (DEADLY_EMBRACE, 1, stuck(1, 0)),
+        (NEEDED_SUM, 1, stuck(3, 2)),
+    ] {
+        assert_same!(rt; schedules(rt.alloc(), text, k, exchanged(1000))?, told, text);
+    }
+    Ok(())
+}

@@ -1,5 +1,0 @@
-use Rattle.found_states.proofs.Resulting.{sound}
-use Rattle.found_states.proofs.all_stood_for_are_results.Goals as goal
-
-pub returns : goal.returns
-returns c = record { sound = sound c.each_exchange_is_reached.ensures.each }

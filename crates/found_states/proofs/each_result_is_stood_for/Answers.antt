@@ -1,5 +1,0 @@
-use Rattle.found_states.proofs.Resulting.{complete}
-use Rattle.found_states.proofs.each_result_is_stood_for.Goals as goal
-
-pub returns : goal.returns
-returns c = record { complete = complete c.sets_closed_up_to_have_all_ends.ensures.ends }

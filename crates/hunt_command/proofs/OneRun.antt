@@ -1,0 +1,85 @@
+-- The steps that a run enters are a function of the machine's size, the image, the run's number and the most steps and turns.
+use Rattle.std.proofs.Common.{◌≡◌, ℕ, ◌+◌, ◌≤◌, ◌⊎◌, inl, inr, List, [], ◌∷◌, ◌++◌, length, refl, sym, ap, ap₂, ◌∙◌, subst, arith}
+use Rattle.std.proofs.lemmas.List.{length-append}
+use Rattle.flat_machine.specs.declared.config.Config.{Config}
+use Rattle.elf_image.specs.Images.{ImageContents}
+use Rattle.steps.specs.declared.step.Step.{Step}
+use Rattle.machine_steps.specs.Machines.{MachineLists}
+use Rattle.machine_steps.specs.Runs.{IsReplay}
+use Rattle.machine_log.specs.Logs.{Log}
+use Rattle.schedules.specs.Own.{AreOwn}
+use Rattle.schedules.specs.declared.sweeping.SweepEnd.{SweepEnd}
+use Rattle.schedules.specs.declared.sweeping.SweepEnd.TheVariants.{Over, Budget}
+use Rattle.schedules.proofs.Lemmas.{GoesOnFrom, HasEnded, WasAskedFor, goes_on}
+use Rattle.hunt_command.specs.Runs.{EndsWith, IsRandomRun}
+use Rattle.hunt_command.specs.Schedules.{schedule}
+use Rattle.hunt_command.proofs.Plans.{own_schedule}
+use Rattle.hunt_command.proofs.Recorded.{own_first}
+
+-- ---- of two beginnings of one list one goes on where the other stops
+
+either_goes_on : (xs r ys s : List Step) → xs ++ r ≡ ys ++ s → GoesOnFrom xs ys ⊎ GoesOnFrom ys xs
+either_goes_on [] r ys s e = inl (ys, refl)
+either_goes_on (x ∷ xs) r [] s e = inr (x ∷ xs, refl)
+either_goes_on (x ∷ xs) r (y ∷ ys) s e = by (either_goes_on xs r ys s (let rest : xs ++ r ≡ ys ++ s = cc in rest))
+  where
+    head : x ≡ y
+    head = cc
+
+    by : GoesOnFrom xs ys ⊎ GoesOnFrom ys xs → GoesOnFrom (x ∷ xs) (y ∷ ys) ⊎ GoesOnFrom (y ∷ ys) (x ∷ xs)
+    by (inl (rest, is)) = inl (rest, ap₂ (λ z zs. z ∷ zs) (sym head) is)
+    by (inr (rest, is)) = inr (rest, ap₂ (λ z zs. z ∷ zs) head is)
+
+none_behind : (xs ys zs : List Step) → length (xs ++ ys ++ zs) ≤ length xs → ys ≡ []
+none_behind xs [] zs short = refl
+none_behind xs (y ∷ ys) zs short =
+    let one = length-append (xs ++ y ∷ ys) zs in let two = length-append xs (y ∷ ys) in absurd (omega (arith, one, two, short))
+
+-- ---- two runs
+
+module _ (c : Config) (image : ImageContents) (number most : ℕ) where
+  -- the schedule of a run, with the number of stages of the size
+  plan_is : (e : SweepEnd) (l : Log) (w : IsRandomRun c image number most e l) → schedule c.k number most ≡ w.ran.asked.asked ++ w.ran.asked.unasked
+  plan_is e l w = ap (λ (d : Config). schedule d.k number most) (sym w.opens.config) ∙ w.ran.asked.all
+
+  asked_for : (e : SweepEnd) (l : Log) (w : IsRandomRun c image number most e l) → WasAskedFor c image (0 + most) w.ran.asked.asked w.ran.middle l
+  asked_for e l w =
+      let f = w.ran.asked in
+      record {
+        opens = w.opens;
+        own = own_first f.asked f.unasked (subst AreOwn (plan_is e l w) (own_schedule c.k number most));
+        steps = f.steps;
+        replay = subst (λ m. IsReplay m w.ran.middle.steps w.ran.middle.machine) f.opening f.replay;
+        few = f.few;
+        first = f.first;
+        drained = w.ran.steps;
+      }
+
+  -- where the first was asked for all, so was the second
+  no_more : (e d : SweepEnd) (a b : Log) (one : IsRandomRun c image number most e a) (two : IsRandomRun c image number most d b) (rest : List Step) →
+      two.ran.asked.asked ≡ one.ran.asked.asked ++ rest → one.ran.asked.unasked ≡ [] → rest ≡ []
+  no_more e d a b one two rest is none =
+      let whole : length (schedule c.k number most) ≡ length (one.ran.asked.asked ++ []) =
+      ap length (plan_is e a one ∙ ap (λ xs. one.ran.asked.asked ++ xs) none) in
+      let all : length (schedule c.k number most) ≡ length (one.ran.asked.asked ++ rest ++ two.ran.asked.unasked) =
+      ap length (plan_is d b two ∙ ap (λ xs. xs ++ two.ran.asked.unasked) is) in
+      let plain = length-append one.ran.asked.asked [] in
+      none_behind one.ran.asked.asked rest two.ran.asked.unasked (omega (arith, whole, all, plain))
+
+has_ended : (m : MachineLists) (limit : ℕ) (steps unasked rest : List Step) (e : SweepEnd) → EndsWith m 0 limit steps unasked e →
+    (unasked ≡ [] → rest ≡ []) → HasEnded limit m steps rest
+has_ended m limit steps unasked rest Over over none = inl over
+has_ended m limit steps unasked rest Budget (inl used, under) none = inr (inl used)
+has_ended m limit steps unasked rest Budget (inr all, under) none = inr (inr (none all))
+
+-- two runs of one number enter the same steps
+pub one_run : (c : Config) (image : ImageContents) (number most : ℕ) (end other : SweepEnd) (a b : Log) → IsRandomRun c image number most end a →
+    IsRandomRun c image number most other b → a.steps ≡ b.steps
+one_run c image number most end other a b one two =
+    goes_on (asked_for c image number most end a one) (asked_for c image number most other b two)
+    (either_goes_on one.ran.asked.asked one.ran.asked.unasked two.ran.asked.asked two.ran.asked.unasked
+    (sym (plan_is c image number most end a one) ∙ plan_is c image number most other b two))
+    (λ rest is. has_ended a.opening (0 + most) one.ran.middle.steps one.ran.asked.unasked rest end one.ran.asked.ends
+    (no_more c image number most end other a b one two rest is))
+    (λ rest is. has_ended b.opening (0 + most) two.ran.middle.steps two.ran.asked.unasked rest other two.ran.asked.ends
+    (no_more c image number most other end b a two one rest is))

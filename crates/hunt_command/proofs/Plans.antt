@@ -1,0 +1,62 @@
+-- A schedule has steps left or none, and none of its steps writes anything from outside.
+use Rattle.std.proofs.Common.{◌≡◌, ℕ, zero, suc, ◌+◌, ◌-◌, ◌^◌, ◌≤◌, Bool, true, false, List, [], ◌∷◌, ◌++◌, drop, length, Some, refl, sym, ap, ap₂, ◌∙◌, arith}
+use Rattle.std.specs.Prelude.{◌/◌, ◌%◌, ◌==◌, slice_get, if◌then◌else◌}
+use Rattle.std.specs.List.{range_with_len}
+use Rattle.std.proofs.Math.Seq.{drop-cons}
+use Rattle.std.proofs.lemmas.List.{drop_all}
+use Rattle.std.proofs.lemmas.Option.{get_or_from_slice_get, slice_get_within}
+use Rattle.steps.specs.declared.step.Step.{Step}
+use Rattle.steps.specs.declared.step.Step.TheVariants.{Turn, Up, Serve, Down}
+use Rattle.schedules.specs.Own.{AreOwn, IsOwn}
+use Rattle.schedules.proofs.Lemmas.{own_both, own_each}
+use Rattle.schedules.specs.Choices.{by_stage, by_wire, choices, first_state, next_state}
+use Rattle.hunt_command.specs.Schedules.{favoured, moves_behind, schedule, turns_from}
+
+pub drop_at : (xs : List Step) (i : ℕ) (s : Step) → slice_get xs i ≡ Some s → drop i xs ≡ s ∷ drop (i + 1) xs
+drop_at xs i s there =
+    drop-cons xs i (Turn 0) (slice_get_within xs i s there)
+    ∙ ap₂ (λ y ys. y ∷ ys) (get_or_from_slice_get xs i s (Turn 0) there) (ap (λ j. drop j xs) (let same : suc i ≡ i + 1 = omega arith in same))
+
+-- behind the moves of the network comes the next turn
+pub turn_next : (k number x before turns place y p next : ℕ) → length (choices k) ≤ place → (turns ≡ 0 → ⊥) → y ≡ next_state x →
+    p ≡ favoured k number y before → next ≡ (if y / 2 ^ 8 % 2 == 0 then 0 else place) →
+    drop place (choices k) ++ turns_from k number x before turns ≡ Turn p ∷ (drop next (choices k) ++ turns_from k number y p (turns - 1))
+turn_next k number x before zero place y p next past some is chosen moved = absurd (some refl)
+turn_next k number x before (suc n) place y p next past some is chosen moved =
+    ap (λ xs. xs ++ turns_from k number x before (suc n)) (drop_all place (choices k) past)
+    ∙ ap (λ z. Turn (favoured k number z before) ∷ (moves_behind k z ++ turns_from k number z (favoured k number z before) n)) (sym is)
+    ∙ ap (λ q. Turn q ∷ (moves_behind k y ++ turns_from k number y q n)) (sym chosen)
+    ∙ ap₂ (λ xs m. Turn p ∷ (xs ++ turns_from k number y p m)) (sym (by (y / 2 ^ 8 % 2 == 0) moved)) (let same : n ≡ suc n - 1 = omega arith in same)
+  where
+    by : (b : Bool) → next ≡ (if b then 0 else place) → drop next (choices k) ≡ (if b then choices k else [])
+    by true e = ap (λ i. drop i (choices k)) e
+    by false e = ap (λ i. drop i (choices k)) e ∙ drop_all place (choices k) past
+
+own_stages : (k stages : ℕ) (f : ℕ → ℕ → Step) → ((s w : ℕ) → IsOwn (f s w)) → AreOwn (by_stage k stages f)
+own_stages k zero f own = tt
+own_stages k (suc n) f own =
+    own_both (by_stage k n f) (by_wire k (f n)) (own_stages k n f own) (own_each (f n) (own n) (range_with_len 0 (2 ^ k)))
+
+own_choices : (k : ℕ) → AreOwn (choices k)
+unfolding choices
+own_choices k =
+    own_both (by_stage k k Up ++ by_wire k Serve) (by_stage k k Down)
+    (own_both (by_stage k k Up) (by_wire k Serve) (own_stages k k Up (λ s w. tt)) (own_each Serve (λ w. tt) (range_with_len 0 (2 ^ k))))
+    (own_stages k k Down (λ s w. tt))
+
+own_moves : (k x : ℕ) → AreOwn (moves_behind k x)
+own_moves k x = by (x / 2 ^ 8 % 2 == 0)
+  where
+    by : (b : Bool) → AreOwn (if b then choices k else [])
+    by true = own_choices k
+    by false = tt
+
+own_turns : (k start x before turns : ℕ) → AreOwn (turns_from k start x before turns)
+own_turns k start x before zero = tt
+own_turns k start x before (suc n) =
+    let y = next_state x in
+    let p = favoured k start y before in (tt, own_both (moves_behind k y) (turns_from k start y p n) (own_moves k y) (own_turns k start y p n))
+
+pub own_schedule : (k number turns : ℕ) → AreOwn (schedule k number turns)
+unfolding schedule
+own_schedule k number turns = own_turns k number (first_state number 0) 0 turns

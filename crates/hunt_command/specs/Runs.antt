@@ -1,0 +1,46 @@
+-- What a machine's log enters by a schedule, and where a run ends.
+use Rattle.std.specs.Prelude.{◌≡◌, ◌⊎◌, ℕ, ◌+◌, ◌≤◌, ◌<◌, List, [], ◌++◌, length, take}
+use Rattle.flat_machine.specs.declared.config.Config.{Config}
+use Rattle.elf_image.specs.Images.{ImageContents}
+use Rattle.steps.specs.declared.step.Step.{Step}
+use Rattle.machine_steps.specs.Draining.{drain_steps}
+use Rattle.machine_steps.specs.Machines.{MachineLists, IsIdle}
+use Rattle.machine_steps.specs.Runs.{IsOpening, IsReplay}
+use Rattle.machine_log.specs.Logs.{Log}
+use Rattle.schedules.specs.Sweeps.{IsOver, entered_of, opened}
+use Rattle.schedules.specs.declared.sweeping.SweepEnd.{SweepEnd}
+use Rattle.schedules.specs.declared.sweeping.SweepEnd.TheVariants.{Over, Budget}
+use Rattle.hunt_command.specs.Schedules.{schedule}
+
+-- where a run has ended that leaves so many steps at most, and these of its schedule unasked
+abbrev pub EndsWith : (opening : MachineLists) → (start limit : ℕ) → (steps unasked : List Step) → SweepEnd → Type 0
+EndsWith m start limit steps unasked Over = IsOver m start steps
+EndsWith m start limit steps unasked Budget = ((length steps ≡ limit) ⊎ (unasked ≡ [])) × (IsOver m start steps → ⊥)
+
+-- A log was asked for the steps of a schedule, one after another, until a fault stopped a processor, none ran, it had so many steps,
+-- or all were asked for. It has entered each that did something.
+pub record WasAsked (plan : List Step) (limit : ℕ) (old : Log) (end : SweepEnd) (new : Log) : Type 0 where
+  pub opening : new.opening ≡ old.opening
+  pub replay : IsReplay new.opening new.steps new.machine
+  pub asked : List Step
+  pub unasked : List Step
+  pub all : plan ≡ asked ++ unasked
+  pub steps : new.steps ≡ entered_of old.opening old.steps asked
+  pub few : length new.steps ≤ limit
+  -- it was not over before
+  pub first : (place : ℕ) → length old.steps ≤ place → place < length new.steps → IsOver old.opening (length old.steps) (take place new.steps) → ⊥
+  pub ends : EndsWith old.opening (length old.steps) limit new.steps unasked end
+
+-- A log has run by the schedule of this number, for so many steps and turns at most, and was then drained.
+pub record HasRunAtRandom (number most : ℕ) (old : Log) (end : SweepEnd) (new : Log) : Type 0 where
+  pub middle : Log
+  pub asked : WasAsked (schedule old.machine.config.k number most) (length old.steps + most) old end middle
+  pub opening : new.opening ≡ old.opening
+  pub steps : new.steps ≡ middle.steps ++ drain_steps middle.machine
+  pub idle : IsIdle new.machine
+
+-- The log has run so from its machine's opening on an image.
+pub record IsRandomRun (c : Config) (image : ImageContents) (number most : ℕ) (end : SweepEnd) (log : Log) : Type 0 where
+  pub opens : IsOpening c image log.opening
+  pub replay : IsReplay log.opening log.steps log.machine
+  pub ran : HasRunAtRandom number most (opened log.opening) end log

@@ -1,0 +1,107 @@
+//! The schedule of a run: which step is asked for next.
+
+ghost use Rattle.std.specs.Prelude.{◌≡◌, ◌≤◌, ◌<◌, ◌+◌, ◌*◌, ◌/◌, ◌%◌, ◌^◌, ◌==◌, ◌∷◌, [], None, IfSome, if◌then◌else◌, length};
+ghost use Rattle.schedules.specs.Choices.{choices};
+ghost use Rattle.hunt_command.specs.Schedules.{favoured, schedule};
+
+use schedules::{choice_at, choices_are_of_the_network, first_state, next_state};
+use std::marker::Model;
+use steps::Step;
+
+/// The schedule of a run. Contracts see the steps that it has still to ask for.
+#[derive(Debug, Drop)]
+pub struct Schedule {
+    k: u8,
+    /// The number of the run.
+    number: u32,
+    /// The state of the generator.
+    state: u32,
+    /// The processor that is favoured.
+    favourite: u8,
+    /// How many turns are still to be asked for.
+    turns: u32,
+    /// The place in the list of choices of the network's next step, or how many there are.
+    place: u32,
+}
+
+impl Model for Schedule {
+    ghost use Rattle.std.specs.Prelude.{List, ◌++◌, ◌≤◌, ◌<◌, ◌^◌, drop, length};
+    ghost use Rattle.steps.specs.declared.step.Step.{Step};
+    ghost use Rattle.schedules.specs.Choices.{choices};
+    ghost use Rattle.hunt_command.specs.Schedules.{turns_from};
+
+    ghost Value = { List Step };
+
+    ghost view = { λ s. drop s.place (choices s.k) ++ turns_from s.k s.number s.state s.favourite s.turns };
+
+    ghost invariant = { λ s. (s.k ≤ 6) × (s.favourite < 2 ^ s.k) × (s.place ≤ length (choices s.k)) };
+}
+
+impl Schedule {
+    /// The schedule of the run of this number, on a machine of `k` stages, with so many turns.
+    pub fn new(k: u8, number: u32, turns: u32) -> Self
+        requires { k ≤ 6 }
+        ensures { result ≡ schedule k number turns }
+    {
+        Schedule {
+            k,
+            number,
+            state: first_state(number, 0),
+            favourite: 0,
+            turns,
+            place: places(k),
+        }
+    }
+
+    /// The next step. None where all were asked for.
+    pub fn next(&mut self) -> Option<Step>
+        ensures next { IfSome result (λ step. self.old ≡ step ∷ self.new) }
+        ensures over { result ≡ None → self.old ≡ [] }
+    {
+        let place = self.place;
+        if place < places(self.k) {
+            self.place += 1;
+            return Some(choice_at(self.k, place));
+        }
+        if self.turns == 0 {
+            return None;
+        }
+        self.turns -= 1;
+        self.state = next_state(self.state);
+        self.favourite = favoured(self.k, self.number, self.state, self.favourite);
+        self.place = place_behind(self.state, place);
+        Some(Step::Turn(self.favourite))
+    }
+}
+
+/// How many choices there are.
+fn places(k: u8) -> u32
+    requires { k ≤ 6 }
+    ensures count { result ≡ 2 * k * 2 ^ k + 2 ^ k }
+    ensures all { result ≡ length (choices k) }
+{
+    choices_are_of_the_network();
+    let wires = 1_u32 << k;
+    2 * u32::from(k) * wires + wires
+}
+
+/// The place in the list of choices behind a turn that left this state: its beginning, or its end, where the place is.
+fn place_behind(state: u32, end: u32) -> u32
+    ensures { result ≡ (if state / 2 ^ 8 % 2 == 0 then 0 else end) }
+{
+    if state / 256 % 2 == 0 { 0 } else { end }
+}
+
+/// Which processor is favoured behind a state of the generator.
+fn favoured(k: u8, number: u32, state: u32, before: u8) -> u8
+    requires stages { k ≤ 6 }
+    requires there { before < 2 ^ k }
+    ensures favoured { result ≡ favoured k number state before }
+    ensures there { result < 2 ^ k }
+{
+    if state / 65_536 % (1 << (number % 6)) == 0 {
+        (state % (1 << k)) as u8
+    } else {
+        before
+    }
+}

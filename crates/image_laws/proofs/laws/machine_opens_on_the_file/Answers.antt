@@ -1,5 +1,0 @@
-use Rattle.image_laws.proofs.Opened.{opens_on_the_file}
-use Rattle.image_laws.proofs.laws.machine_opens_on_the_file.Goals as goal
-
-pub returns : goal.returns
-returns c = opens_on_the_file

@@ -1,5 +1,0 @@
-use Rattle.image_laws.proofs.Acceptance.{accepted_is_not_refused}
-use Rattle.image_laws.proofs.laws.not_refused_is_accepted.Goals as goal
-
-pub returns : goal.returns
-returns c = λ w file. (c.loading_gives_the_meaning.ensures.accepted w file, accepted_is_not_refused w file)

@@ -1,5 +1,0 @@
-use Rattle.image_laws.proofs.SpelledMeant.{spelling_means}
-use Rattle.image_laws.proofs.laws.spelling_means_its_layout.Goals as goal
-
-pub returns : goal.returns
-returns c = spelling_means c.loading_gives_the_meaning.ensures.accepted c.loading_gives_the_meaning.ensures.meant

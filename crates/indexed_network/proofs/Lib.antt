@@ -1,4 +1,0 @@
-mod Elsewhere
-mod Indexing
-pub mod Lemmas
-mod Looking

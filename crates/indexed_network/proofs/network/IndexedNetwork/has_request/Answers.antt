@@ -1,5 +1,0 @@
-use Rattle.indexed_network.proofs.Looking.{few_wires}
-use Rattle.indexed_network.proofs.network.IndexedNetwork.has_request.Goals as goal
-
-pub contains-requires : goal.contains-requires
-contains-requires c = few_wires _ c.args.wire c.request_wires.ensures.stages c.requires.wire

@@ -1,5 +1,0 @@
-use Rattle.indexed_network.proofs.Looking.{few_wires}
-use Rattle.indexed_network.proofs.network.look_for_reply.Goals as goal
-
-pub note-requires-clause-wire : goal.note-requires-clause-wire
-note-requires-clause-wire c = few_wires _ c.args.wire c.requires.stages c.requires.wire

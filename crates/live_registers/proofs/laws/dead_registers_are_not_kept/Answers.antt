@@ -1,5 +1,0 @@
-use Rattle.live_registers.proofs.Forgetting.{dead_not_kept}
-use Rattle.live_registers.proofs.laws.dead_registers_are_not_kept.Goals as goal
-
-pub returns : goal.returns
-returns c = record { not_kept = dead_not_kept }

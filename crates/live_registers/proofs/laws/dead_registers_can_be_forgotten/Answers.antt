@@ -1,5 +1,0 @@
-use Rattle.live_registers.proofs.Forgetting.{dead_forgotten}
-use Rattle.live_registers.proofs.laws.dead_registers_can_be_forgotten.Goals as goal
-
-pub returns : goal.returns
-returns c = record { forgotten = dead_forgotten c.stopped_processors_can_be_forgotten.ensures.forgotten }

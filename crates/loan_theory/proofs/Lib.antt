@@ -1,3 +1,0 @@
-mod Noticing
-mod CatchingUp
-mod Lending

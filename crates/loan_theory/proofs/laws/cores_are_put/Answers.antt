@@ -1,6 +1,0 @@
-use Rattle.machine_program.specs.Processors.{program, sizes_of}
-use Rattle.machine_program.proofs.Lemmas.{last_counts, stays_put, steady_with}
-use Rattle.loan_theory.proofs.laws.cores_are_put.Goals as goal
-
-pub returns : goal.returns
-returns c = record { last = last_counts; same = stays_put; steady = λ c code. steady_with (sizes_of c) (program c code) }

@@ -1,5 +1,0 @@
-use Rattle.loan_theory.proofs.CatchingUp.{rests}
-use Rattle.loan_theory.proofs.laws.cores_that_are_away_rest.Goals as goal
-
-pub returns : goal.returns
-returns c = record { rests = λ c code M p. rests c code p M }

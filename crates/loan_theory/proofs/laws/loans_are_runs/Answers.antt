@@ -1,5 +1,0 @@
-use Rattle.loan_theory.proofs.Lending.{loans}
-use Rattle.loan_theory.proofs.laws.loans_are_runs.Goals as goal
-
-pub returns : goal.returns
-returns c = record { loans = λ c code M p. loans c code p M }

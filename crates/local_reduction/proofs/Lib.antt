@@ -1,0 +1,14 @@
+pub mod Settling
+pub mod Covering
+pub mod Reaching
+pub mod Stopping
+pub mod Bounding
+pub mod Moving
+pub mod Numbers
+pub mod Exchanging
+pub mod UpTo
+pub mod Results
+pub mod Registers
+pub mod Forgetting
+pub mod Tables
+pub mod Lemmas

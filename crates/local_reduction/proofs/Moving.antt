@@ -1,0 +1,44 @@
+-- A station makes the moves of what is kept of it.
+use Rattle.std.proofs.Common.{◌≡◌, ℕ, true, List, Some, refl, sym, ap, subst, ◌∙◌}
+use Rattle.std.specs.Prelude.{slice_get, slice_index}
+use Rattle.flat_machine.specs.declared.setting.Setting.{Setting}
+use Rattle.flat_machine.specs.declared.event.Retired.{Retired}
+use Rattle.flat_machine.specs.State.{Processor, is_running}
+use Rattle.flat_machine.specs.Turns.{Turn, Retires, Reaches, Stops, turn_of}
+use Rattle.local_reduction.specs.Stations.{Station, behind, alone, IsSettled}
+use Rattle.local_reduction.specs.Closing.{IsAlike, IsForgetful, Standing, gone, IsMove}
+use Rattle.local_reduction.proofs.Settling.{alone_alike, settled_alike}
+
+pub moved : (at : ℕ → Setting) (code : List ℕ) (kept : Station → Station) (s : Standing) (k : ℕ) (a : Station) (word : ℕ) (change : ℕ → ℕ)
+    (after : ℕ → Processor × Retired) (count : ℕ) → IsForgetful at code kept → slice_get s.stations k ≡ Some (kept a) →
+    is_running a.processor.status ≡ true → turn_of (at k) code a.processor ≡ Reaches word change after →
+    IsSettled (at k) code (alone count (at k) code (behind a (after (slice_index s.shared word)))).processor →
+    IsMove at code kept s k
+    (gone s k (kept (alone count (at k) code (behind a (after (slice_index s.shared word))))) word (change (slice_index s.shared word)))
+moved at code kept s k a word change after count f there runs e settled =
+    by (turn_of (at k) code (kept a).processor) refl
+    (subst (IsAlike kept (kept a) a (turn_of (at k) code (kept a).processor)) e (f.turn k a runs))
+  where
+    by : (x : Turn) → turn_of (at k) code (kept a).processor ≡ x → IsAlike kept (kept a) a x (Reaches word change after) →
+        IsMove at code kept s k
+        (gone s k (kept (alone count (at k) code (behind a (after (slice_index s.shared word))))) word (change (slice_index s.shared word)))
+    by (Retires p r) is alike = absurd alike
+    by (Stops c) is alike = absurd alike
+    by (Reaches v c g) is alike =
+        let same : kept (alone count (at k) code (behind a (after (slice_index s.shared word))))
+        ≡ kept (alone count (at k) code (behind (kept a) (g (slice_index s.shared word)))) =
+        sym (alone_alike at code kept f count k (behind (kept a) (g (slice_index s.shared word))) (behind a (after (slice_index s.shared word)))
+        (alike.2 (slice_index s.shared word))) in
+        record {
+          station = kept a;
+          there = there;
+          runs = f.running a ∙ runs;
+          word = word;
+          change = change;
+          after = g;
+          turn = is ∙ (λ i. Reaches (alike.0 i) (alike.1 i) g);
+          count = count;
+          settled = settled_alike at code kept f k (alone count (at k) code (behind a (after (slice_index s.shared word))))
+              (alone count (at k) code (behind (kept a) (g (slice_index s.shared word)))) same settled;
+          leaves = ap (λ z. gone s k z word (change (slice_index s.shared word))) same;
+        }

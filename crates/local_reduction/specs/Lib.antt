@@ -1,0 +1,10 @@
+pub mod Stations
+pub mod Closing
+pub mod Schedules
+pub mod Exchanging
+pub mod Results
+pub mod Laws
+pub mod Live
+pub mod Forgetting
+-- Words of lower crates, passed on to those above.
+pub use Rattle.flat_machine.specs as flat_machine

@@ -1,9 +1,0 @@
-//! The law of local runs: the contract of a function that does nothing.
-
-ghost use Rattle.local_runs.specs.LocalRuns.{LocalRunsAreTurns};
-
-/// Local instructions that a processor takes by itself are its next turns on the flat machine, which
-/// change nothing else and show what retired.
-pub fn local_runs_are_turns()
-    ensures turns { LocalRunsAreTurns }
-{}

@@ -1,6 +1,0 @@
-use Rattle.std.proofs.Common.{◌∙◌, sym}
-use Rattle.machine.proofs.service.execute.Goals as goal
-
--- it is the request that has been found there
-pub serve-requires-clause-leader : goal.serve-requires-clause-leader
-serve-requires-clause-leader c = c.requires.leader c.in-Some.request (sym c.module_front.ensures ∙ c.in-Some.is)

@@ -1,0 +1,6 @@
+-- The lemmas that crates above may cite: they name no other file of these proofs.
+
+-- What threads share crosses them.
+pub use Rattle.machine_lock.proofs.Crosses.{Shared-sync}
+-- Passes stay those of all processors, in order, where one becomes another one of the same processor.
+pub use Rattle.machine_lock.proofs.Fitting.{whole_set}

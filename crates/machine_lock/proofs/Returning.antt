@@ -1,0 +1,138 @@
+-- The rows fit the steps, where a core is lent or comes back.
+use Rattle.std.proofs.Common.{◌≡◌, ℕ, zero, suc, ◌<◌, true, false, List, [], ◌∷◌, ◌++◌, length, Option, Some, None}
+use Rattle.std.proofs.Common.{refl, sym, ap, ◌∙◌, subst, arith, length-append, append_assoc, eqb-true, ne_eqb}
+use Rattle.std.specs.Prelude.{slice_get, slice_set}
+use Rattle.std.proofs.lemmas.List.{append-nil, set-get_or, set-set}
+use Rattle.std.proofs.lemmas.Option.{slice_get_within}
+use Rattle.flat_machine.specs.declared.event.Retired.{Retired}
+use Rattle.steps.specs.declared.step.Step.{Step}
+use Rattle.steps.specs.declared.step.Step.TheVariants as step
+use Rattle.steps.specs.declared.step.Outcome.TheVariants as outcome
+use Rattle.machine_steps.specs.Machines.{MachineLists}
+use Rattle.machine_log.specs.Logs.{is_named}
+use Rattle.machine_log.specs.Lendings.{AreAnswered, LendingLog, OfOthers, lent_at}
+use Rattle.machine_log.specs.declared.lent.Lent.{Lent}
+use Rattle.machine_lock.specs.Lists.{is_of_network, is_turn_of}
+use Rattle.machine_lock.specs.Passes.{most_of}
+use Rattle.machine_steps.specs.machine_theory.Loans.{IsOfOthers, turns_of}
+use Rattle.machine_lock.specs.declared.row.Row.{Row}
+use Rattle.machine_lock.specs.Rows.{Fits, RowFits, told, told_all, with_loan}
+use Rattle.machine_lock.proofs.Fitting.{answered, steps_of-set}
+use Rattle.machine_lock.proofs.Lists.{each-set, length-slice_set, set-same}
+
+get_set_here : (rows : List Row) (p : ℕ) (x : Row) → p < length rows → slice_get (slice_set rows p x) p ≡ Some x
+get_set_here [] p x inside = absurd (omega arith)
+get_set_here (y ∷ ys) zero x inside = refl
+get_set_here (y ∷ ys) (suc p) x inside = get_set_here ys p x (omega arith)
+
+module _ (opening : MachineLists) (first : List Step) (count : ℕ) where
+  -- where a row says something else of loans
+  pub loan_fits : (steps : List Step) (rows : List Row) (p : ℕ) (r : Row) (lent : Option ℕ) → Fits opening first count steps rows → slice_get rows p ≡ Some r →
+      Fits opening first count steps (slice_set rows p (with_loan r lent))
+  loan_fits steps rows p r lent h at =
+      let sum = steps_of-set rows p r (with_loan r lent) at in
+      let total = h.total in
+      record {
+        begins = h.begins;
+        no_pokes = h.no_pokes;
+        turns = h.turns;
+        named = h.named;
+        many = length-slice_set rows p (with_loan r lent) ∙ h.many;
+        each = each-set (RowFits opening first steps) rows p (with_loan r lent)
+            (let old = h.each p r at in record { notices = old.notices; last = old.last }) (λ q x other e. h.each q x e);
+        total = omega (arith, sum, total);
+      }
+
+  -- where turns of p retire these instructions, one after another
+  pub told_fits : (steps : List Step) (rows : List Row) (p : ℕ) (r : Row) (taken : List Retired) → Fits opening first count steps rows →
+      slice_get rows p ≡ Some r → is_named opening.config (step.Turn p) ≡ true → AreAnswered opening steps p taken →
+      Fits opening first count (steps ++ turns_of p (length taken)) (slice_set rows p (told_all p r (length steps) taken))
+  told_fits steps rows p r [] h at named answers =
+      subst (λ (x : List Step × List Row). Fits opening first count x.0 x.1) (λ i. (sym (append-nil steps) i, sym (set-same rows p r at) i)) h
+  told_fits steps rows p r (retired ∷ later) h at named answers =
+      let once = told p r (step.Turn p) (outcome.Retired retired) (length steps) in
+      let one = answered opening first count steps rows p r (step.Turn p) (outcome.Retired retired) h at refl named (λ q own. sym (eqb-true p q own))
+      (sym answers.0) in
+      let inside = slice_get_within rows p r at in
+      let more = told_fits (steps ++ step.Turn p ∷ []) (slice_set rows p once) p once later one (get_set_here rows p once inside) named answers.1 in
+      let place : length (steps ++ step.Turn p ∷ []) ≡ suc (length steps) = length-append steps (step.Turn p ∷ []) ∙ omega arith in
+      subst (λ (x : List Step × List Row). Fits opening first count x.0 x.1)
+      (λ i. (
+        append_assoc steps (step.Turn p ∷ []) (turns_of p (length later)) i,
+        (set-set rows p once (told_all p once (length (steps ++ step.Turn p ∷ [])) later)
+            ∙ ap (λ n. slice_set rows p (told_all p once n later)) place) i,
+      )) more
+
+  -- where a core comes back, and turns of p have retired these instructions
+  pub back_fits : (steps : List Step) (rows : List Row) (p : ℕ) (r : Row) (taken : List Retired) → Fits opening first count steps rows →
+      slice_get rows p ≡ Some r → is_named opening.config (step.Turn p) ≡ true → AreAnswered opening steps p taken →
+      Fits opening first count (steps ++ turns_of p (length taken)) (slice_set rows p (with_loan (told_all p r (length steps) taken) None))
+  back_fits steps rows p r taken h at named answers =
+      let t = told_all p r (length steps) taken in
+      let inside = slice_get_within rows p r at in
+      subst (λ rows. Fits opening first count (steps ++ turns_of p (length taken)) rows) (set-set rows p t (with_loan t None))
+      (loan_fits (steps ++ turns_of p (length taken)) (slice_set rows p t) p t None (told_fits steps rows p r taken h at named answers)
+      (get_set_here rows p t inside))
+
+-- ---- loans
+
+-- what the rows say of loans is what is known of them
+abbrev pub SayLoans : List Row → List (Option Lent) → Type 0
+SayLoans rows lent = (p : ℕ) (r : Row) → slice_get rows p ≡ Some r → r.lent ≡ most_of (lent_at lent p)
+
+pub say_set : (rows : List Row) (lent lent' : List (Option Lent)) (p : ℕ) (new : Row) → SayLoans rows lent → (
+    (q : ℕ) → (q ≡ p → ⊥) → lent_at lent' q ≡ lent_at lent q) → new.lent ≡ most_of (lent_at lent' p) → SayLoans (slice_set rows p new) lent'
+say_set rows lent lent' p new say others here = each-set (λ q r. r.lent ≡ most_of (lent_at lent' q)) rows p new here
+    (λ q r other e. say q r e ∙ ap most_of (sym (others q other)))
+
+-- a turn of a processor whose core is not lent is of none whose core is
+pub turn_others : (lent : List (Option Lent)) (p : ℕ) → None ≡ most_of (lent_at lent p) → OfOthers lent (step.Turn p)
+turn_others lent p none q l e same = absurd (no (lent_at lent p) (ap (lent_at lent) same ∙ e) none)
+  where
+    no : (k : Option Lent) → k ≡ Some l → None ≡ most_of k → ⊥
+    no None f g = cc
+    no (Some k) f g = cc
+
+-- and so is each step of the network
+pub net_others : (lent : List (Option Lent)) (s : Step) → is_of_network s ≡ true → OfOthers lent s
+net_others lent (step.Turn p) net q l e = absurd (cc)
+net_others lent (step.Up s w) net q l e = tt
+net_others lent (step.Serve m) net q l e = tt
+net_others lent (step.Down s w) net q l e = tt
+net_others lent (step.Poke poke) net q l e = absurd (cc)
+
+-- told rows say the same of loans
+pub told_lent : (p : ℕ) (r : Row) (place : ℕ) (taken : List Retired) → (told_all p r place taken).lent ≡ r.lent
+told_lent p r place [] = refl
+told_lent p r place (retired ∷ later) = told_lent p (told p r (step.Turn p) (outcome.Retired retired) place) (suc place) later
+
+-- what others do gives nothing to a processor whose core is lent
+pub lent_quiet : (lent : List (Option Lent)) (s : Step) (p most : ℕ) → OfOthers lent s → Some most ≡ most_of (lent_at lent p) → is_turn_of p s ≡ false
+lent_quiet lent s p most others e = at (lent_at lent p) refl e
+  where
+    apart : (s : Step) → IsOfOthers p s → is_turn_of p s ≡ false
+    apart (step.Turn q) other = ne_eqb q p other
+    apart (step.Up t w) other = refl
+    apart (step.Serve m) other = refl
+    apart (step.Down t w) other = refl
+    apart (step.Poke poke) other = absurd other
+
+    at : (l : Option Lent) → lent_at lent p ≡ l → Some most ≡ most_of l → is_turn_of p s ≡ false
+    at None f g = absurd (cc)
+    at (Some l) f g = apart s (others p l f)
+
+-- ---- what is known of loans, where one is made and comes back
+
+pub none_here : (lent : List (Option Lent)) (p : ℕ) → lent_at (slice_set lent p None) p ≡ None
+none_here [] zero = refl
+none_here [] (suc p) = refl
+none_here (l ∷ lent) zero = refl
+none_here (l ∷ lent) (suc p) = none_here lent p
+
+-- A core that is lent, and brought back at once, leaves all as it was.
+pub brought_back : (old lent back : LendingLog) (p : ℕ) (l : Lent) → lent ≡ record old { lent = slice_set old.lent p (Some l) } → lent_at old.lent p ≡ None →
+    back ≡ record lent { lent = slice_set lent.lent p None } → back ≡ old
+brought_back old lent back p l one none two =
+    let put = λ (x : LendingLog) (ls : List (Option Lent)). let y : LendingLog = record x { lent = ls } in y in
+    two ∙ ap (λ x. put x (slice_set x.lent p None)) one
+    ∙ ap (put old) (set-set old.lent p (Some l) None ∙ ap (slice_set old.lent p) (sym none) ∙ set-get_or old.lent p None)

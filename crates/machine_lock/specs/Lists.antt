@@ -1,0 +1,125 @@
+-- What the outcomes of steps give each processor: its retirements and its stop, each with its place among the steps.
+use Rattle.std.specs.Prelude.{◌≡◌, ℕ, suc, ◌≤◌, ◌==◌, nat_lt, Bool, true, false, not, List, [], ◌∷◌, ◌++◌, map, if◌then◌else◌}
+use Rattle.std.specs.List.{list_all}
+use Rattle.flat_machine.specs.declared.config.Config.{Config}
+use Rattle.flat_machine.specs.declared.event.Event.TheVariants as event
+use Rattle.machine_steps.specs.machine_theory.Theory as theory
+use Rattle.machine_steps.specs.machine_theory.Processors.{Told}
+use Rattle.machine_steps.specs.machine_theory.Steps.{outcome_of, after}
+use Rattle.steps.specs.declared.step.Step.{Step}
+use Rattle.steps.specs.declared.step.Step.TheVariants as step
+use Rattle.steps.specs.declared.step.Outcome.{Outcome}
+use Rattle.steps.specs.declared.step.Outcome.TheVariants.{Retired, Issued, Stopped, Moved, Combined, Served, Answered, Poked, Stalled}
+use Rattle.machine_steps.specs.Machines.{MachineLists, machine_of}
+use Rattle.machine_log.specs.Logs.{is_named}
+use Rattle.machine_lock.specs.declared.row.Notice.{Notice}
+
+-- ---- kinds of steps
+
+abbrev pub is_turn_of : ℕ → Step → Bool
+is_turn_of p (step.Turn q) = q == p
+is_turn_of p (step.Up s w) = false
+is_turn_of p (step.Serve m) = false
+is_turn_of p (step.Down s w) = false
+is_turn_of p (step.Poke poke) = false
+
+abbrev pub is_poke : Step → Bool
+is_poke (step.Turn p) = false
+is_poke (step.Up s w) = false
+is_poke (step.Serve m) = false
+is_poke (step.Down s w) = false
+is_poke (step.Poke poke) = true
+
+-- a move of the network, or a service by a module
+abbrev pub is_of_network : Step → Bool
+is_of_network (step.Turn p) = false
+is_of_network (step.Up s w) = true
+is_of_network (step.Serve m) = true
+is_of_network (step.Down s w) = true
+is_of_network (step.Poke poke) = false
+
+-- one that the machine has
+abbrev pub is_net : Config → Step → Bool
+is_net c s = if is_of_network s then is_named c s else false
+
+-- The step would stall now.
+abbrev pub Stalls : MachineLists → Step → Type 0
+Stalls m s = outcome_of m.config m.code (machine_of m (λ p. [])) s ≡ Stalled
+
+-- a step of the network that the machine has and that would stall
+abbrev pub IsQuietMove : MachineLists → Step → Type 0
+IsQuietMove m s = (is_net m.config s ≡ true) × Stalls m s
+
+-- a turn of one of so many processors, or no turn
+abbrev pub is_turn_below : ℕ → Step → Bool
+is_turn_below count (step.Turn p) = nat_lt p count
+is_turn_below count (step.Up s w) = true
+is_turn_below count (step.Serve m) = true
+is_turn_below count (step.Down s w) = true
+is_turn_below count (step.Poke poke) = true
+
+abbrev pub no_poke : List Step → Bool
+no_poke steps = list_all (λ s. not (is_poke s)) steps
+
+abbrev pub no_turn : ℕ → List Step → Bool
+no_turn p steps = list_all (λ s. not (is_turn_of p s)) steps
+
+abbrev pub turns_below : ℕ → List Step → Bool
+turns_below count steps = list_all (is_turn_below count) steps
+
+-- steps that a machine of this size has
+abbrev pub all_named : Config → List Step → Bool
+all_named c steps = list_all (is_named c) steps
+
+-- a turn that stops its processor
+abbrev pub is_stop : Outcome → Bool
+is_stop (Stopped cause) = true
+is_stop (Retired retired) = false
+is_stop Issued = false
+is_stop Moved = false
+is_stop (Combined first second) = false
+is_stop (Served leader) = false
+is_stop (Answered to) = false
+is_stop Poked = false
+is_stop Stalled = false
+
+-- ---- what a turn gives
+
+-- the retirement or the stop that a turn at this place answered, if it answered one
+abbrev pub shown_at : (place : ℕ) → Outcome → List Notice
+shown_at place (Retired retired) = record { event = event.Retired retired; place = place } ∷ []
+shown_at place (Stopped cause) = record { event = event.Stopped cause; place = place } ∷ []
+shown_at place Issued = []
+shown_at place Moved = []
+shown_at place (Combined first second) = []
+shown_at place (Served leader) = []
+shown_at place (Answered to) = []
+shown_at place Poked = []
+shown_at place Stalled = []
+
+-- what a step at this place gives the processor p
+abbrev pub given_to : (p place : ℕ) → Step → Outcome → List Notice
+given_to p place s o = if is_turn_of p s then shown_at place o else []
+
+-- what it gives, with the processor that it gives it
+abbrev pub given : (place : ℕ) → Step → Outcome → List (ℕ × Notice)
+given place (step.Turn p) o = map (λ n. (p, n)) (shown_at place o)
+given place (step.Up s w) o = []
+given place (step.Serve m) o = []
+given place (step.Down s w) o = []
+given place (step.Poke poke) o = []
+
+-- what the steps give p, the first of which is at this place and is taken by the machine M
+abbrev pub notices_of : Config → (code : List ℕ) → (p place : ℕ) → theory.Machine Told → List Step → List Notice
+notices_of c code p place M [] = []
+notices_of c code p place M (s ∷ ss) = given_to p place s (outcome_of c code M s) ++ notices_of c code p (suc place) (after c code M s) ss
+
+-- what they give all processors
+abbrev pub all_notices : Config → (code : List ℕ) → (place : ℕ) → theory.Machine Told → List Step → List (ℕ × Notice)
+all_notices c code place M [] = []
+all_notices c code place M (s ∷ ss) = given place s (outcome_of c code M s) ++ all_notices c code (suc place) (after c code M s) ss
+
+-- Each place is above the one before it, and the first is not below this one.
+abbrev pub IsRising : (low : ℕ) → List Notice → Type 0
+IsRising low [] = Unit {0}
+IsRising low (n ∷ ns) = (low ≤ n.place) × IsRising (suc n.place) ns

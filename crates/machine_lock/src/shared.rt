@@ -1,0 +1,268 @@
+//! The lock, and the calls of threads.
+
+ghost use Rattle.std.specs.Prelude.{◌≡◌, ◌≤◌, ◌^◌, ◌↔◌, length, is_some, true, false, None, Ok, Err, IfOk, IfErr, OnOk, OnErr};
+ghost use Rattle.machine_lock.specs.Lists.{is_net};
+ghost use Rattle.machine_lock.specs.Rows.{Fits};
+ghost use Rattle.machine_lock.specs.Passes.{HasEnded, HaveGone, IsLentOn, IsLoanOf, IsReturned, IsTold, IsTurned, IsWhole, TotalsAgree, new_passes, rows_of};
+
+use crate::desk::{Desk, Rounds};
+use crate::loan::Loan;
+use crate::pass::Pass;
+use crate::row::Row;
+use crate::run::Run;
+use crate::stored::Stored;
+use ghost_map::{Keeper, Room};
+use hart::Retirements;
+use machine_log::{Lending, LockRefusal, Logged};
+use std::alloc::Global;
+use std::hint::spin_loop;
+use std::marker::Brand;
+use std::sync::{Mutex, MutexGuard, Wait};
+use std::thread::yield_now;
+use steps::{Outcome, Step};
+
+/// How often a thread looks for the lock, before it lets other threads run. Between two looks it waits, and each time twice as long.
+const LOOKS: u32 = 4;
+
+/// How long it waits behind its first look, in turns of a loop that does nothing: one to ten microseconds, by the processor. The machine's memory takes
+/// longer to come from one processor of the host to another than a round does, so it is better that who has it goes through many.
+const WAIT: u32 = 256;
+
+/// How often it then lets others run, before it sleeps until it is called.
+const YIELDS: u32 = 16;
+
+/// A logged machine that threads share. A call waits for the lock, and then takes one step or goes through rounds, or lends a core or takes
+/// one back.
+#[derive(Drop)]
+pub struct Shared<N: Run> {
+    desk: Mutex<Desk<N>>,
+}
+
+impl<N: Run> Shared<N> {
+    /// Puts a logged machine under a lock, with a pass for each processor, in order. The room is for the table of rows, which
+    /// proofs speak of.
+    ///
+    /// # Errors
+    ///
+    /// [`LockRefusal::Memory`] where there is no memory for the passes; the logged machine is handed back as it was.
+    pub fn new(
+        alloc: Global,
+        room: Room<Row>,
+        logged: Logged,
+    ) -> Result<(Shared<N>, Vec<Pass<N>>), (Logged, LockRefusal)>
+        requires room { room ≡ N.table }
+        requires opening { logged.opening ≡ N.opening }
+        requires first { logged.steps ≡ N.first }
+        requires count { N.count ≡ 2 ^ N.opening.config.k }
+        ensures passes { IfOk result (λ r. r.1.items ≡ new_passes N.count) }
+        ensures whole { IfOk result (λ r. IsWhole N.count r.1.items) }
+        ensures err { IfErr result (λ e. (e.0 ≡ logged) × (e.1 ≡ LockRefusal.Memory)) }
+    {
+        let count = logged.machine().config().processors();
+        let mut keeper: Keeper<Row, N> = Keeper::open(room);
+        let mut passes = Vec::new(alloc);
+        if passes.reserve(count as usize).is_err() {
+            return Err((logged, LockRefusal::Memory));
+        }
+        let lending = match Lending::new(alloc, logged) {
+            Ok(lending) => lending,
+            Err(logged) => return Err((logged, LockRefusal::Memory)),
+        };
+        for p in 0..count {
+            let claim = keeper.hire::<Brand>();
+            passes.push_reserved(Pass {
+                processor: p,
+                stored: Stored {
+                    notices: Vec::new(alloc),
+                    steps: 0,
+                    last: None,
+                    lent: None,
+                },
+                claim,
+            });
+        }
+        let desk = Mutex::new(Desk { lending, keeper });
+        Ok((Shared { desk }, passes))
+    }
+
+    /// Takes one turn of the pass's processor, and enters it in the log unless it stalled. The answer is told to the pass. While the
+    /// core is lent, it stalls, and the pass is not told.
+    ///
+    /// # Errors
+    ///
+    /// [`LockRefusal::Full`] where the log has [`steps::MAX_STEPS`] steps with those that are promised, else [`LockRefusal::Memory`]
+    /// where there is no memory for a place in the pass or in the log. Each leaves all as it was.
+    pub fn turn<R: Wait>(&self, rt: &R, pass: &mut Pass<N>) -> Result<Outcome, LockRefusal>
+        ensures told { IfOk result (λ o. IsTurned pass.old.row.lent (length N.first) pass.old o pass.new) }
+        ensures named { result ≡ Err LockRefusal.Unnamed → ⊥ }
+        ensures not_free { result ≡ Err LockRefusal.NotFree → ⊥ }
+        ensures lent { is_some pass.old.row.lent ≡ true → result ≡ Ok Outcome.Stalled }
+        ensures err { OnErr result (pass.new ≡ pass.old) }
+        ensures processor { pass.new.processor ≡ pass.old.processor }
+    {
+        pass.make_room(1);
+        self.take(rt).turn(pass)
+    }
+
+    /// Lends the core of the pass's processor: it can take so many local instructions at most, without the lock. As many places are
+    /// promised in the log.
+    ///
+    /// # Errors
+    ///
+    /// [`LockRefusal::NotFree`] where the processor has a reference open, does not run, or its core is lent; else
+    /// [`LockRefusal::Full`] where the log would pass [`steps::MAX_STEPS`] steps with all that are promised; else
+    /// [`LockRefusal::Memory`]. Each leaves all as it was.
+    #[inline(always)]
+    pub fn lend<R: Wait>(
+        &self,
+        rt: &R,
+        alloc: Global,
+        pass: &mut Pass<N>,
+        most: u32,
+    ) -> Result<Loan<N>, LockRefusal>
+        requires some { 1 ≤ most }
+        requires few { most ≤ 1024 }
+        ensures lent { IfOk result (λ loan. IsLentOn pass.old most loan pass.new) }
+        ensures away { is_some pass.old.row.lent ≡ true → result ≡ Err LockRefusal.NotFree }
+        ensures named { result ≡ Err LockRefusal.Unnamed → ⊥ }
+        ensures err { OnErr result (pass.new ≡ pass.old) }
+        ensures processor { pass.new.processor ≡ pass.old.processor }
+    {
+        let list = Retirements::new(alloc, most).ok();
+        // (a turn of the same round has room then, too)
+        pass.make_warm_room(most as usize + 1);
+        self.take(rt).lend(pass, most, list)
+    }
+
+    /// Takes a loan back that was lent on the pass: a turn of the processor is entered for each instruction that it has retired, and told
+    /// to the pass. The places that were promised beyond these are free again. No memory is taken.
+    ///
+    /// # Errors
+    ///
+    /// The loan, where the core was not lent as its record says. Then nothing is changed.
+    #[inline(always)]
+    pub fn give_back<R: Wait>(
+        &self,
+        rt: &R,
+        pass: &mut Pass<N>,
+        loan: Loan<N>,
+    ) -> Result<(), Loan<N>>
+        requires { IsLoanOf pass.old loan }
+        ensures back { OnOk result (IsReturned (length N.first) pass.old loan.retired pass.new) }
+        ensures handed { IfErr result (λ handed. handed ≡ loan) }
+        ensures err { OnErr result (pass.new ≡ pass.old) }
+        ensures processor { pass.new.processor ≡ pass.old.processor }
+    {
+        self.take(rt).give_back(pass, loan)
+    }
+
+    /// Takes one move of the network, or one service by a module, and enters it in the log unless it stalled. The answer is
+    /// told to the pass.
+    ///
+    /// # Errors
+    ///
+    /// [`LockRefusal::Unnamed`] where the step is a turn or a poke, or the machine has not each place that it names, else
+    /// [`LockRefusal::Full`] where the log has [`steps::MAX_STEPS`] steps, else [`LockRefusal::Memory`] where there is no memory
+    /// for a place in the log. Each leaves all as it was.
+    pub fn net<R: Wait>(
+        &self,
+        rt: &R,
+        pass: &mut Pass<N>,
+        step: Step,
+    ) -> Result<Outcome, LockRefusal>
+        ensures told { IfOk result (λ o. IsTold (length N.first) pass.old step o pass.new) }
+        ensures unnamed { (result ≡ Err LockRefusal.Unnamed) ↔ (is_net N.opening.config step ≡ false) }
+        ensures not_free { result ≡ Err LockRefusal.NotFree → ⊥ }
+        ensures err { OnErr result (pass.new ≡ pass.old) }
+        ensures processor { pass.new.processor ≡ pass.old.processor }
+    {
+        self.take(rt).net(pass, step)
+    }
+
+    /// Goes through rounds, with no other thread's step between them. A round takes a turn of the pass's processor, as [`Shared::turn`] does and
+    /// then, unless that has stopped the processor, the next of these steps, as [`Shared::net`] does. They end with one that does not leave the
+    /// processor waiting, since its turn has retired an instruction or stopped it, or something was refused, and where no step is left.
+    #[inline(always)]
+    pub fn rounds<R: Wait>(&self, rt: &R, pass: &mut Pass<N>, steps: &[Step]) -> Rounds
+        requires some { 1 ≤ length steps.now }
+        ensures told { HaveGone (length N.first) N.opening.config pass.old steps.now result.gone result.answer pass.new }
+        ensures named { result.answer ≡ Err LockRefusal.Unnamed → ⊥ }
+        ensures not_free { result.answer ≡ Err LockRefusal.NotFree → ⊥ }
+        ensures processor { pass.new.processor ≡ pass.old.processor }
+    {
+        pass.make_room(1);
+        self.take(rt).rounds(pass, steps)
+    }
+
+    /// Takes a loan back, as [`Shared::give_back`] does, and then goes through rounds, as [`Shared::rounds`] does, with no other thread's step
+    /// between them.
+    ///
+    /// # Errors
+    ///
+    /// The loan, where the core was not lent as its record says. Then nothing is changed, and no turn is asked for.
+    #[inline(always)]
+    pub fn end_loan<R: Wait>(
+        &self,
+        rt: &R,
+        pass: &mut Pass<N>,
+        loan: Loan<N>,
+        steps: &[Step],
+    ) -> Result<Rounds, Loan<N>>
+        requires loan { IsLoanOf pass.old loan }
+        requires some { 1 ≤ length steps.now }
+        ensures told { IfOk result (λ r. HasEnded (length N.first) N.opening.config pass.old loan.retired steps.now r.gone r.answer pass.new) }
+        ensures handed { IfErr result (λ handed. handed ≡ loan) }
+        ensures err { OnErr result (pass.new ≡ pass.old) }
+        ensures processor { pass.new.processor ≡ pass.old.processor }
+    {
+        let mut desk = self.take(rt);
+        desk.give_back(pass, loan)?;
+        Ok(desk.rounds(pass, steps))
+    }
+
+    /// The desk, once no other thread has it.
+    #[inline(always)]
+    fn take<R: Wait>(&self, rt: &R) -> MutexGuard<'_, Desk<N>> {
+        match self.desk.try_lock() {
+            Some(desk) => desk,
+            None => self.wait(rt),
+        }
+    }
+
+    /// The desk, which another thread has. It is soon given back, so a thread looks again before it sleeps: to be called costs more than a
+    /// step.
+    #[inline(never)]
+    fn wait<R: Wait>(&self, rt: &R) -> MutexGuard<'_, Desk<N>> {
+        for look in 0..LOOKS {
+            for _ in 0..WAIT << look {
+                spin_loop();
+            }
+            if let Some(desk) = self.desk.try_lock() {
+                return desk;
+            }
+        }
+        for _ in 0..YIELDS {
+            yield_now();
+            if let Some(desk) = self.desk.try_lock() {
+                return desk;
+            }
+        }
+        self.desk.lock(rt)
+    }
+
+    /// The logged machine, once all passes are back, in their order. A core that is still lent is put back as it was lent.
+    pub fn gather(self, mut passes: Vec<Pass<N>>) -> (Logged, Vec<Pass<N>>)
+        requires { IsWhole N.count passes.items }
+        ensures passes { result.1.items ≡ passes.items }
+        ensures opening { result.0.opening ≡ N.opening }
+        ensures fits { Fits N.opening N.first N.count result.0.steps (rows_of passes.items) }
+        ensures totals { TotalsAgree N.opening N.first result.0.steps passes.items }
+    {
+        let Shared { desk } = self;
+        let mut desk = desk.into_inner();
+        for pass in passes.iter_mut() {
+            desk.meet(pass);
+        }
+        (desk.into_logged(), passes)
+    }
+}

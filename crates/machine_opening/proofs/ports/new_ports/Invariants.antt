@@ -1,9 +1,0 @@
-use Rattle.std.proofs.Common.{◌≡◌, ◌^◌, ◌≤◌, vec_len}
-use Rattle.machine_opening.specs.Openings.{opening_ports}
-use Rattle.machine_opening.proofs.ports.new_ports.Given as goal
-
-abbrev pub invariant-loop-number : goal.invariant-loop-number
-invariant-loop-number l = record {
-  ports : l.ports.items ≡ opening_ports l.config l.layout l.number;
-  within : l.number ≤ 2 ^ l.config.k;
-}

@@ -1,6 +1,0 @@
--- The lemmas that crates above may cite: they name no other file of these proofs.
-
--- What threads share crosses them.
-pub use Rattle.machine_passes.proofs.Crosses.{Shared-sync}
--- Passes stay those of all processors, in order, where one becomes another one of the same processor.
-pub use Rattle.machine_passes.proofs.Fitting.{whole_set}

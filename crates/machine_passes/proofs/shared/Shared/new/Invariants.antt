@@ -1,8 +1,0 @@
-use Rattle.std.proofs.Common.{◌≡◌, ◌≤◌, vec_len}
-use Rattle.std.specs.Prelude.{vec_capacity}
-use Rattle.machine_passes.specs.Passes.{rows_of, new_passes}
-use Rattle.machine_passes.proofs.shared.Shared.new.Given as goal
-
-abbrev pub invariant-loop-p : goal.invariant-loop-p
-invariant-loop-p g l =
-    (l.keeper ≡ rows_of (new_passes l.p)) × (l.passes.items ≡ new_passes l.p) × (vec_len l.passes ≡ l.p) × (l.count ≤ vec_capacity l.passes)

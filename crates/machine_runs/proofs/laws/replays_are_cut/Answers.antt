@@ -1,5 +1,0 @@
-use Rattle.machine_runs.proofs.Cutting.{cut_at}
-use Rattle.machine_runs.proofs.laws.replays_are_cut.Goals as goal
-
-pub returns : goal.returns
-returns c = record { cut = cut_at }

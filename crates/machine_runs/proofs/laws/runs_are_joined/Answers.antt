@@ -1,8 +1,0 @@
-use Rattle.machine_runs.proofs.Cutting.{run_joined, replay_joined}
-use Rattle.machine_runs.proofs.laws.runs_are_joined.Goals as goal
-
-pub returns-clause-runs : goal.returns-clause-runs
-returns-clause-runs c = run_joined
-
-pub returns-clause-replays : goal.returns-clause-replays
-returns-clause-replays c = replay_joined

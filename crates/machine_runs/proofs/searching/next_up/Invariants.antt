@@ -1,9 +1,0 @@
-use Rattle.std.proofs.Common.{◌≡◌, ◌-◌}
-use Rattle.indexed_network.specs.omega_network.Networks.{net_of, sizes_of}
-use Rattle.machine_theorem.specs.abstract_machine.Draining.{greatest}
-use Rattle.machine_runs.proofs.Draining.{up_at}
-use Rattle.machine_runs.proofs.searching.next_up.Given as goal
-
-abbrev pub invariant-loop-passed : goal.invariant-loop-passed
-invariant-loop-passed l =
-    greatest (up_at (sizes_of l.network) (net_of l.network)) l.network.k ≡ greatest (up_at (sizes_of l.network) (net_of l.network)) (l.k - l.passed)

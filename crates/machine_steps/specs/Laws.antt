@@ -1,0 +1,112 @@
+-- What holds of all runs, stated of machines. Each value of `Machine` is one (`IsMachine`).
+use Rattle.std.specs.Prelude.{◌≡◌, ℕ, ◌^◌, ◌<◌, ◌≤◌, false, List, [], ◌∷◌, ◌++◌, length, Some, None, slice_get, slice_index}
+use Rattle.flat_machine.specs.declared.config.Config.{Config}
+use Rattle.flat_machine.specs.declared.event.Event.{Event}
+use Rattle.flat_machine.specs.Flat.{flat_events}
+use Rattle.machine_theory.specs.Theory as theory
+use Rattle.steps.specs.declared.step.Step.{Step}
+use Rattle.steps.specs.declared.step.Outcome.{Outcome}
+use Rattle.steps.specs.declared.step.Outcome.TheVariants.{Stalled}
+use Rattle.machine_theory.specs.Processors.{Told, port_at, open_at, word_at}
+use Rattle.machine_theory.specs.Flatness.{with_events}
+use Rattle.machine_theory.specs.Steps.{outcome_of, after, with_shown}
+use Rattle.machine_steps.specs.Machines.{MachineLists, away_at, machine_of, AreHome, IsIdle, IsMachine, IsStep}
+use Rattle.machine_steps.specs.Openings.{flat_state}
+use Rattle.machine_steps.specs.Runs.{answer_after, IsRun, IsReplay, IsSerialized, passed}
+
+-- ---- runs go on, and are joined and cut
+
+-- A machine is the replay of itself over no step.
+abbrev pub ReplaysBegin : Type 0
+ReplaysBegin = (opening : MachineLists) → IsReplay opening [] opening
+
+-- What a step does that is taken next stands at the end of the replay,
+abbrev pub StepsAreEntered : Type 0
+StepsAreEntered = (opening mid new : MachineLists) (steps : List Step) (s : Step) (o : Outcome) →
+    IsReplay opening steps mid → IsStep mid s o new → (o ≡ Stalled → ⊥) → IsReplay opening (steps ++ s ∷ []) new
+
+-- and one that stalls leaves it as it was.
+abbrev pub StallsAreNotEntered : Type 0
+StallsAreNotEntered = (opening mid new : MachineLists) (steps : List Step) (s : Step) →
+    IsMachine mid → IsReplay opening steps mid → IsStep mid s Stalled new → IsReplay opening steps new
+
+-- One run after another is a run over all of their steps,
+abbrev pub RunsAreJoined : Type 0
+RunsAreJoined = (opening mid new : MachineLists) (steps more : List Step) →
+    IsRun opening steps mid → IsRun mid more new → IsRun opening (steps ++ more) new
+
+-- and one replay after another a replay.
+abbrev pub ReplaysAreJoined : Type 0
+ReplaysAreJoined = (opening mid new : MachineLists) (steps more : List Step) →
+    IsReplay opening steps mid → IsReplay mid more new → IsReplay opening (steps ++ more) new
+
+-- The other way round: what was taken since a machine came to stand in between is a replay from there.
+abbrev pub ReplaysAreCut : Type 0
+ReplaysAreCut = (opening mid new : MachineLists) (steps more : List Step) →
+    IsReplay opening steps mid → IsReplay opening (steps ++ more) new → IsReplay mid more new
+
+-- ---- answers
+
+-- What a step answers does not depend on what processors have shown before,
+abbrev pub AnswersForgetEvents : Type 0
+AnswersForgetEvents = (m : MachineLists) (shown : ℕ → List Event) (s : Step) →
+    outcome_of m.config m.code (machine_of m shown) s ≡ outcome_of m.config m.code (machine_of m (λ p. [])) s
+
+-- and a machine that stands after some steps answers what these steps say.
+abbrev pub AnswersAreOfTheSteps : Type 0
+AnswersAreOfTheSteps = (opening machine : MachineLists) (steps : List Step) → IsRun opening steps machine → (s : Step) →
+    outcome_of machine.config machine.code (machine_of machine (λ p. [])) s ≡ answer_after opening steps s
+
+-- ---- cores that are away
+
+-- Whatever steps a machine takes, the same cores are away:
+abbrev pub CoresStay : Type 0
+CoresStay = (opening machine : MachineLists) (steps : List Step) → IsRun opening steps machine → (p : ℕ) → away_at machine p ≡ away_at opening p
+
+-- if none was before, then none is after them.
+abbrev pub CoresStayHome : Type 0
+CoresStayHome = (opening machine : MachineLists) (steps : List Step) → IsRun opening steps machine → AreHome opening → AreHome machine
+
+-- ---- serialization
+
+-- Whatever steps a machine takes in which no reference is open, one serial order of whole instructions explains them.
+abbrev pub RunsAreSerialized : Type 0
+RunsAreSerialized = (opening : MachineLists) (steps : List Step) (machine : MachineLists) →
+    IsMachine opening → IsIdle opening → IsMachine machine → IsRun opening steps machine → IsSerialized opening steps machine
+
+-- the events that processors have shown, with those that the outcomes of these steps tell of
+unfoldable pub told_after : Config → (code : List ℕ) → theory.Machine Told → List Step → (shown : ℕ → List Event) → ℕ → List Event
+told_after c code M [] shown = shown
+told_after c code M (s ∷ ss) shown = told_after c code (after c code M s) ss (with_shown shown s (outcome_of c code M s))
+
+-- the events that the outcomes of a machine's steps tell of, by processor
+abbrev pub told_of_steps : MachineLists → List Step → ℕ → List Event
+told_of_steps m steps = told_after m.config m.code (machine_of m (λ p. [])) steps (λ p. [])
+
+-- the events that the flat machine shows by the serial order, by processor
+abbrev pub shown_in_order : MachineLists → List Step → ℕ → List Event
+shown_in_order m steps = with_events (λ p. []) (flat_events (flat_state m) (passed m steps).order)
+
+-- The outcomes of steps tell of the events that the flat machine shows.
+pub record AreTold (opening : MachineLists) (steps : List Step) (machine : MachineLists) : Type 0 where
+  -- of a processor that has no reference open they tell all of them, in their order
+  pub shut : (p : ℕ) → open_at machine.ports p ≡ false → told_of_steps opening steps p ≡ shown_in_order opening steps p
+  -- and of every processor all, or all but the last
+  pub any : (p : ℕ) → (later : List Event) × (shown_in_order opening steps p ≡ told_of_steps opening steps p ++ later) × (length later ≤ 1)
+
+abbrev pub EventsAreTold : Type 0
+EventsAreTold = (opening : MachineLists) (steps : List Step) (machine : MachineLists) →
+    IsMachine opening → IsIdle opening → IsRun opening steps machine → AreTold opening steps machine
+
+-- ---- the flat machine that a machine's parts make
+
+-- its processors are those at the ports
+abbrev pub FlatProcessorsAreRead : Type 0
+FlatProcessorsAreRead = (m : MachineLists) → IsMachine m → (length (flat_state m).processors ≡ 2 ^ m.config.k)
+    × ((p : ℕ) → p < 2 ^ m.config.k → slice_get (flat_state m).processors p ≡ Some (port_at m.ports p).core.state)
+    × ((p : ℕ) → 2 ^ m.config.k ≤ p → slice_get (flat_state m).processors p ≡ None)
+
+-- and its shared words those in the modules
+abbrev pub FlatWordsAreRead : Type 0
+FlatWordsAreRead = (m : MachineLists) → IsMachine m → (length (flat_state m).shared ≡ m.config.shared_words)
+    × ((i : ℕ) → slice_index (flat_state m).shared i ≡ word_at m.config.k m.modules i)

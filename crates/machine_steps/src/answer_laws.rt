@@ -1,0 +1,11 @@
+//! Laws of answers: contracts of functions that do nothing.
+
+ghost use Rattle.machine_steps.specs.Answers.{AnswersAreCounted, AnswersBegin, AnswersGoOn};
+
+/// A machine that has taken no step has answered nothing, and a step that is taken next stands with its outcome behind all others.
+/// There is one for each step.
+pub fn answers_go_on()
+    ensures begin { AnswersBegin }
+    ensures go_on { AnswersGoOn }
+    ensures count { AnswersAreCounted }
+{}

@@ -1,0 +1,92 @@
+//! The flat machine that a machine stands for, as its readers show it. None of its cores is away.
+
+ghost use Rattle.std.specs.Prelude.{◌≡◌, ◌≤◌, ◌<◌, length, slice_get, slice_index, IfSome, IfNone};
+ghost use Rattle.std.specs.Option.{option_copied, option_map};
+ghost use Rattle.machine_steps.specs.Machines.{AreHome};
+ghost use Rattle.machine_steps.specs.Openings.{flat_state};
+ghost use Rattle.machine_steps.specs.Seeing.{byte_seen};
+
+use crate::laws::flat_states_are_read;
+use crate::machine::{Machine, machine_is_sound};
+use flat_machine::Status;
+
+/// How many processors there are.
+pub fn flat_processors(machine: &Machine) -> u32
+    ensures count { result ≡ length (flat_state machine.now).processors }
+    ensures few { result ≤ 64 }
+{
+    machine_is_sound(machine);
+    flat_states_are_read();
+    u32::from(machine.config().processors())
+}
+
+/// How many shared words there are.
+pub fn flat_shared_words(machine: &Machine) -> u32
+    ensures count { result ≡ length (flat_state machine.now).shared }
+    ensures few { result ≤ 262144 }
+{
+    machine_is_sound(machine);
+    flat_states_are_read();
+    machine.config().shared_words
+}
+
+/// What a processor is doing, if it is there.
+pub fn flat_status(machine: &Machine, processor: u32) -> Option<Status>
+    requires home { AreHome machine.now }
+    ensures { result ≡ option_map (λ p. p.status) (slice_get (flat_state machine.now).processors processor) }
+{
+    machine_is_sound(machine);
+    flat_states_are_read();
+    machine.status(number(machine, processor)?)
+}
+
+/// Where a processor stands, if it is there.
+pub fn flat_pc(machine: &Machine, processor: u32) -> Option<u32>
+    requires home { AreHome machine.now }
+    ensures { result ≡ option_map (λ p. p.pc) (slice_get (flat_state machine.now).processors processor) }
+{
+    machine_is_sound(machine);
+    flat_states_are_read();
+    machine.pc(number(machine, processor)?)
+}
+
+/// A processor's registers 0 to 31, if it is there.
+pub fn flat_registers(machine: &Machine, processor: u32) -> Option<&[u32; 32]>
+    requires home { AreHome machine.now }
+    ensures { option_copied result ≡ option_map (λ p. p.registers) (slice_get (flat_state machine.now).processors processor) }
+{
+    machine_is_sound(machine);
+    flat_states_are_read();
+    machine.registers(number(machine, processor)?)
+}
+
+/// The value of a shared word, and 0 where there is none of this number.
+pub fn flat_word(machine: &Machine, word: u32) -> u32
+    ensures { result ≡ slice_index (flat_state machine.now).shared word }
+{
+    machine_is_sound(machine);
+    flat_states_are_read();
+    machine.word(word).unwrap_or(0)
+}
+
+/// The byte that a processor sees at an address, if it is there and there is one.
+pub fn flat_byte(machine: &Machine, processor: u32, address: u32) -> Option<u8>
+    requires home { AreHome machine.now }
+    ensures { result ≡ byte_seen (flat_state machine.now) processor address }
+{
+    machine_is_sound(machine);
+    flat_states_are_read();
+    machine.seen(number(machine, processor)?, address)
+}
+
+/// The number of a processor that is there.
+fn number(machine: &Machine, processor: u32) -> Option<u8>
+    ensures there { IfSome result (λ p. (p ≡ processor) × (p < length (flat_state machine.now).processors)) }
+    ensures none { IfNone result (length (flat_state machine.now).processors ≤ processor) }
+{
+    if processor < flat_processors(machine) {
+        Some(processor as u8)
+    } else {
+        None
+    }
+}

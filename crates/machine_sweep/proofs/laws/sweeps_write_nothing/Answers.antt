@@ -1,8 +1,0 @@
-use Rattle.machine_sweep.proofs.Own.{drain_steps_are_own, step_of_round}
-use Rattle.machine_sweep.proofs.laws.sweeps_write_nothing.Goals as goal
-
-pub returns-clause-rounds : goal.returns-clause-rounds
-returns-clause-rounds c = step_of_round
-
-pub returns-clause-drains : goal.returns-clause-drains
-returns-clause-drains c = drain_steps_are_own

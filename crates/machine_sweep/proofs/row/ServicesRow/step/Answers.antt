@@ -1,5 +1,0 @@
-use Rattle.machine_sweep.proofs.OfKinds.{serve_there}
-use Rattle.machine_sweep.proofs.row.ServicesRow.step.Goals as goal
-
-pub returns : goal.returns
-returns c k few there within = serve_there k c.args.wire few within

@@ -1,5 +1,0 @@
-use Rattle.machine_sweep.proofs.OfKinds.{turn_there}
-use Rattle.machine_sweep.proofs.row.TurnsRow.step.Goals as goal
-
-pub returns : goal.returns
-returns c k few there within = turn_there k c.args.wire few within

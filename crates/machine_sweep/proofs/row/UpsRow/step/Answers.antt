@@ -1,5 +1,0 @@
-use Rattle.machine_sweep.proofs.OfKinds.{up_there}
-use Rattle.machine_sweep.proofs.row.UpsRow.step.Goals as goal
-
-pub returns : goal.returns
-returns c k few there within = up_there k c.args.wire few within c.args.self.now.stage there

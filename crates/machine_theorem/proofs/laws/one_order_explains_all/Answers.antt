@@ -1,5 +1,0 @@
-use Rattle.machine_theorem.proofs.Explaining.{runs_are_explained}
-use Rattle.machine_theorem.proofs.laws.one_order_explains_all.Goals as goal
-
-pub returns : goal.returns
-returns c = runs_are_explained

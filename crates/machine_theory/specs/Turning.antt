@@ -1,0 +1,50 @@
+-- What a port does in a turn, with the network, and what moves answer.
+use Rattle.std.specs.Prelude.{◌≡◌, ℕ, ◌<◌, ◌^◌, false, List, Option, Some, None}
+use Rattle.machine_ports.specs.flat_machine.declared.event.Retired as retirement
+use Rattle.machine_ports.specs.flat_machine.State.{Processor}
+use Rattle.machine_ports.specs.flat_machine.Turns.{Turn, Retires, Reaches, Stops}
+use Rattle.machine_ports.specs.hart.Deciding.{after_reply}
+use Rattle.machine_ports.specs.Ports.{PortState, reference_phi}
+use Rattle.serialization.specs.messages.declared.message.Reply.{Reply}
+use Rattle.serialization.specs.messages.declared.moves.UpMove.{UpMove}
+use Rattle.serialization.specs.messages.declared.moves.UpMove.TheVariants as up
+use Rattle.serialization.specs.messages.declared.moves.DownMove.{DownMove}
+use Rattle.serialization.specs.messages.declared.moves.DownMove.TheVariants as down
+use Rattle.serialization.specs.messages.Network.{Net}
+use Rattle.serialization.specs.messages.Moves.{injected, port_taken}
+use Rattle.steps.specs.declared.step.Outcome.{Outcome}
+use Rattle.steps.specs.declared.step.Outcome.TheVariants.{Retired, Issued, Stopped, Moved, Combined, Answered, Stalled}
+
+-- A turn that a port begins: what is answered, and the network then.
+abbrev pub IsBegun : ℕ → PortState → (code : List ℕ) → Turn → Net → Outcome → Net → Type 0
+IsBegun p port code (Retires after retired) net o net' = (o ≡ Retired retired) × (net' ≡ net)
+IsBegun p port code (Stops cause) net o net' = (o ≡ Stopped cause) × (net' ≡ net)
+IsBegun p port code (Reaches word change after) net o net' =
+    (o ≡ Issued) × (net' ≡ injected net (record { leader = p; word = word; phi = reference_phi port.core.setting code port.core.state; marks = 0 }))
+
+-- A turn that a port finishes with a reply: what the processor becomes by it.
+pub record IsFinished (p : ℕ) (turn : Turn) (old : PortState) (net : Net) (reply : Reply) (o : Outcome) (new : PortState) (net' : Net) : Type 0 where
+  pub done : Processor × retirement.Retired
+  pub by : after_reply turn reply.value ≡ Some done
+  pub outcome : o ≡ Retired done.1
+  pub port : new ≡ record { core = record { setting = old.core.setting; state = done.0 }; is_open = false }
+  pub network : net' ≡ port_taken net p
+  pub word : reply.value < 2 ^ 32
+
+-- Without a reply nothing changes.
+abbrev pub IsFinishedBy : ℕ → Turn → PortState → Net → Option Reply → Outcome → PortState → Net → Type 0
+IsFinishedBy p turn old net None o new net' = (o ≡ Stalled) × (new ≡ old) × (net' ≡ net)
+IsFinishedBy p turn old net (Some reply) o new net' = IsFinished p turn old net reply o new net'
+
+-- ---- moves
+
+-- What a move answers is what its step does.
+abbrev pub told_of_up : UpMove → Outcome
+told_of_up up.Moved = Moved
+told_of_up (up.Combined first second) = Combined first second
+told_of_up up.Stalled = Stalled
+
+abbrev pub told_of_down : DownMove → Outcome
+told_of_down down.Moved = Moved
+told_of_down (down.Answered to) = Answered to
+told_of_down down.Stalled = Stalled

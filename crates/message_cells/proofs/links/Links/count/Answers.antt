@@ -1,6 +1,0 @@
-use Rattle.message_cells.proofs.Linking.{count_is}
-use Rattle.message_cells.proofs.links.Links.count.Goals as goal
-
-pub returns : goal.returns
-returns c = count_is c.self.inside.next.items c.self.inside.queues.items c.args.self.now c.args.queue c.index.result.now c.self.view_is c.requires
-    c.index.ensures

@@ -1,4 +1,0 @@
-pub mod Links
-pub mod Walks
-pub mod Pools
-pub mod Cells

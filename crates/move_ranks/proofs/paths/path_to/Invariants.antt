@@ -1,9 +1,0 @@
-use Rattle.std.proofs.Common.{reverse}
-use Rattle.move_ranks.specs.Paths.{IsPath}
-use Rattle.move_ranks.proofs.paths.path_to.Given as goal
-
-abbrev pub invariant-loop-before : goal.invariant-loop-before
-invariant-loop-before l = IsPath l.moves l.at (reverse l.path.items) l.place
-
-abbrev pub decreases-loop-before : goal.decreases-loop-before
-decreases-loop-before l = l.at

@@ -1,8 +1,0 @@
-use Rattle.move_ranks.specs.Ranks.{AreRanksSoFar, unranked}
-use Rattle.move_ranks.proofs.ranks.ranks_of.Given as goal
-
-abbrev pub invariant-loop-rule : goal.invariant-loop-rule
-invariant-loop-rule l = AreRanksSoFar l.rule l.moves l.ranks.items l.next
-
-abbrev pub decreases-loop-rule : goal.decreases-loop-rule
-decreases-loop-rule l = unranked l.ranks.items

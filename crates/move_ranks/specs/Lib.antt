@@ -1,4 +1,0 @@
-pub mod Cutting
-pub mod Paths
-pub mod Ranks
-pub mod Schedules

@@ -1,7 +1,0 @@
-//! Long random runs of the network: beside a plain one, and beside one whose switches have rings.
-//!
-//! They stand in a crate of their own, so that what stands on the network need not wait for them.
-#![tactic(auto)]
-
-#[cfg(test)]
-mod tests;

@@ -1,4 +1,0 @@
-pub mod Answering
-pub mod Words
-pub mod Telling
-pub mod Orders

@@ -1,7 +1,0 @@
-use Rattle.std.proofs.Common.{take}
-use Rattle.std.specs.Prelude.{string_bytes}
-use Rattle.order_command.proofs.Telling.{AreTold}
-use Rattle.order_command.proofs.lines.order_text.Given as goal
-
-abbrev pub invariant-loop-number : goal.invariant-loop-number
-invariant-loop-number l = AreTold l.choice l.initial.before (take l.number l.entries) (string_bytes l.text) l.before l.after

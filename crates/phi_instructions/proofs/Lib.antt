@@ -1,4 +1,0 @@
-pub mod Parts
-pub mod Meanings
-pub mod Bytes
-pub mod Lemmas

@@ -1,8 +1,0 @@
-use Rattle.phi_instructions.proofs.Bytes.{all_written, read}
-use Rattle.phi_instructions.proofs.laws.parts_are_bytes.Goals as goal
-
-pub returns-clause-read : goal.returns-clause-read
-returns-clause-read c = read
-
-pub returns-clause-written : goal.returns-clause-written
-returns-clause-written c = all_written

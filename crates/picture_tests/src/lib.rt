@@ -1,5 +1,0 @@
-//! Tests of pictures of machines.
-#![tactic(auto)]
-
-#[cfg(test)]
-mod tests;

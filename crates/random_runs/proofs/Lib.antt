@@ -1,4 +1,0 @@
-pub mod Plans
-pub mod Asking
-pub mod Recorded
-pub mod OneRun

@@ -1,4 +1,0 @@
-pub mod Ending
-pub mod Forwards
-pub mod Shifting
-pub mod Backwards

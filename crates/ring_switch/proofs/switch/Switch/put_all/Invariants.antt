@@ -1,7 +1,0 @@
-use Rattle.std.proofs.Common.{◌≡◌, take}
-use Rattle.ring_switch.specs.Switches.{put_replies, with_inputs}
-use Rattle.ring_switch.proofs.switch.Switch.put_all.Given as goal
-
--- the replies so far are put
-abbrev pub invariant-loop-reply : goal.invariant-loop-reply
-invariant-loop-reply l = l.self ≡ with_inputs l.initial.self (put_replies l.initial.self.its_bit (take l.reply-index l.replies) l.initial.self.inputs)

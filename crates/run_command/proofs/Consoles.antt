@@ -1,0 +1,157 @@
+-- The passes of a run on threads tell what its processors have shown: each has stopped, none has a reference open, and what was sent to
+-- the consoles is what the processors gave to them.
+use Rattle.std.proofs.Common.{◌≡◌, inl, inr, ℕ, ◌^◌, ◌<◌, false, List, [], ◌∷◌, ◌++◌, length, map, append_assoc, refl, sym, ap, ◌∙◌, subst, arith}
+use Rattle.std.specs.Prelude.{Option, Some, None, slice_get, slice_index_or}
+use Rattle.std.proofs.lemmas.List.{append-nil, length-map}
+use Rattle.std.specs.Option.{option_map}
+use Rattle.std.proofs.lemmas.Option.{get_or_from_slice_get, none-some, slice_get-get_or, slice_get-map}
+use Rattle.flat_machine.specs.declared.config.Config.{Config}
+use Rattle.flat_machine.specs.declared.event.Event.{Event}
+use Rattle.flat_machine.specs.declared.event.Event.TheVariants as event
+use Rattle.machine_log.specs.machine_theory.Theory as theory
+use Rattle.machine_log.specs.machine_theory.Processors.{Told, open_at}
+use Rattle.machine_log.specs.machine_theory.Steps.{machine_of_parts}
+use Rattle.machine_steps.specs.serialization.Order.{from_machine}
+use Rattle.machine_steps.specs.steps.declared.step.Step.{Step}
+use Rattle.machine_steps.specs.Machines.{MachineLists, machine_of, IsIdle}
+use Rattle.machine_steps.specs.Runs.{all_after, events_of}
+use Rattle.machine_steps.specs.Laws.{EventsAreTold, RunsAreSerialized}
+use Rattle.machine_steps.proofs.Lemmas.{passes_machine}
+use Rattle.machine_log.specs.Logs.{Log, IsKept}
+use Rattle.machine_lock.specs.Laws.{EventsAreListed, StoppedAreShut}
+use Rattle.machine_lock.specs.Lists.{notices_of}
+use Rattle.machine_lock.specs.Passes.{Held, IsWhole, rows_of}
+use Rattle.machine_lock.specs.Rows.{Fits}
+use Rattle.machine_lock.specs.declared.row.Notice.{Notice}
+use Rattle.processor_threads.specs.console_monitor.Ends.{held_of}
+use Rattle.processor_threads.specs.Consoles.{console_bytes, console_of}
+use Rattle.processor_threads.specs.Endings.{EndsWithStop, IsOfMemory, WereMade}
+use Rattle.processor_threads.specs.declared.fault.RunFault.{RunFault}
+use Rattle.processor_threads.specs.declared.fault.RunFault.TheVariants as run
+use Rattle.command_io.specs.Events.{shown_by, shown_from, with_event}
+use Rattle.command_io.specs.Tallies.{ShownBy, nothing_shown, with_byte}
+use Rattle.trace_commands.specs.Retaking.{AreConsoles, events_in}
+use Rattle.run_command.specs.ThreadRuns.{EndInStop, HasEnded}
+
+-- ---- what events give the console
+
+one_byte : (console : List ℕ) (out : Option ℕ) → with_byte console out ≡ console ++ held_of out
+one_byte console None = sym (append-nil console)
+one_byte console (Some byte) = refl
+
+shown_behind : (s : ShownBy) (events : List Event) → (shown_from s events).console ≡ s.console ++ console_bytes events
+shown_behind s [] = sym (append-nil s.console)
+shown_behind s (event.Retired retired ∷ events) =
+    shown_behind (with_event s (event.Retired retired)) events
+    ∙ ap (λ bytes. bytes ++ console_bytes events) (one_byte s.console retired.out)
+    ∙ append_assoc s.console (held_of retired.out) (console_bytes events)
+shown_behind s (event.Stopped cause ∷ events) = shown_behind s events
+
+-- what is counted of the console is what the events give to it
+shown_console : (events : List Event) → (shown_by events).console ≡ console_bytes events
+shown_console events = shown_behind nothing_shown events
+
+-- ---- the passes
+
+abbrev event_of : Notice → Event
+event_of n = n.event
+
+map_last : (ns : List Notice) (n : Notice) → map event_of (ns ++ n ∷ []) ≡ map event_of ns ++ n.event ∷ []
+map_last [] n = refl
+map_last (m ∷ ns) n = ap (λ es. m.event ∷ es) (map_last ns n)
+
+module _ (listed : EventsAreListed) (shut : StoppedAreShut) (serialized : RunsAreSerialized) (told : EventsAreTold) (log : Log) (kept : IsKept log)
+    (hs : List Held) (whole : IsWhole (2 ^ log.opening.config.k) hs) (fits : Fits log.opening [] (2 ^ log.opening.config.k) log.steps (rows_of hs))
+    (stopped : (p : ℕ) (h : Held) → slice_get hs p ≡ Some h → EndsWithStop h) where
+  abbrev m : MachineLists
+  m = log.opening
+
+  abbrev M : theory.Machine Told
+  M = machine_of m (λ p. [])
+
+  -- what the steps give a processor
+  abbrev given : ℕ → List Notice
+  given p = notices_of m.config m.code p 0 M log.steps
+
+  pass_is : (p : ℕ) (h : Held) → slice_get hs p ≡ Some h → h.row.notices ≡ given p
+  unfolding all_after
+  pass_is p h at = (fits.each p h.row (slice_get-map (λ (g : Held). g.row) hs p ∙ ap (λ (o : Option Held). option_map (λ (g : Held). g.row) o) at)).notices
+
+  there : (p : ℕ) → p < 2 ^ m.config.k → (h : Held) × (slice_get hs p ≡ Some h)
+  there p within = by hs (subst (λ n. p < n) (sym whole.many) within)
+    where
+      by : (hs : List Held) → p < length hs → (h : Held) × (slice_get hs p ≡ Some h)
+      by [] inside = absurd (omega (arith, inside))
+      by (g ∷ gs) inside = (slice_index_or (g ∷ gs) p g, slice_get-get_or (g ∷ gs) p g inside)
+
+  shut_is : (p : ℕ) → p < 2 ^ m.config.k → open_at log.machine.ports p ≡ false
+  unfolding machine_of_parts
+  shut_is p within =
+      let h = there p within in
+      let s = stopped p h.0 h.1 in
+      ap (λ (N : theory.Machine Told). N.is_open p) (kept.replay.run.after (λ q. []))
+      ∙ shut m.config m.code p 0 M log.steps s.before s.place s.cause fits.no_pokes (sym (pass_is p h.0 h.1) ∙ s.is)
+
+  pub idle_is : IsIdle log.machine
+  idle_is p within = shut_is p (subst (λ (c : Config). p < 2 ^ c.k) kept.replay.run.config within)
+
+  -- its pass has the events that it has shown
+  events_are : (p : ℕ) → p < 2 ^ m.config.k → (h : Held) → slice_get hs p ≡ Some h → map event_of h.row.notices ≡ events_in m log.steps p
+  events_are p within h at =
+      ap (map event_of) (pass_is p h at)
+      ∙ listed m.config m.code p 0 M log.steps
+      ∙ (told m log.steps log.machine kept.opens kept.idle kept.replay.run).shut p (shut_is p within)
+      ∙ sym ((serialized m log.steps log.machine kept.opens kept.idle kept.sound kept.replay.run).shown idle_is p)
+      ∙ ap (λ (N : theory.Machine Told). events_of N p) (passes_machine m.config m.code log.steps (from_machine M))
+
+  stop_is : (p : ℕ) → p < 2 ^ m.config.k → EndInStop (events_in m log.steps p)
+  stop_is p within =
+      let h = there p within in
+      let s = stopped p h.0 h.1 in
+      record {
+        before = map event_of s.before;
+        cause = s.cause;
+        is = sym (events_are p within h.0 h.1) ∙ ap (map event_of) s.is ∙ map_last s.before (record { event = event.Stopped s.cause; place = s.place });
+      }
+
+  console_is : (p : ℕ) → p < 2 ^ m.config.k → slice_index_or (map console_of hs) p [] ≡ (shown_by (events_in m log.steps p)).console
+  console_is p within =
+      let h = there p within in
+      get_or_from_slice_get (map console_of hs) p (console_of h.0) []
+      (slice_get-map console_of hs p ∙ ap (λ (o : Option Held). option_map console_of o) h.1)
+      ∙ ap console_bytes (events_are p within h.0 h.1)
+      ∙ sym (shown_console (events_in m log.steps p))
+
+  consoles_are : (consoles : List (List ℕ)) → consoles ≡ map console_of hs → AreConsoles m log.steps consoles
+  consoles_are consoles sent = record {
+    all = ap length sent ∙ length-map hs console_of ∙ whole.many;
+    each = λ p within. ap (λ (cs : List (List ℕ)). slice_index_or cs p []) sent ∙ console_is p within;
+  }
+
+-- a run that began behind no step, with as many passes as there are processors
+pub has_ended : EventsAreListed → StoppedAreShut → RunsAreSerialized → EventsAreTold → (opening : MachineLists) (first : List Step) (count : ℕ) →
+    first ≡ [] → count ≡ 2 ^ opening.config.k → (log : Log) → log.opening ≡ opening → IsKept log → (hs : List Held) → IsWhole count hs →
+    Fits opening first count log.steps (rows_of hs) → ((p : ℕ) (h : Held) → slice_get hs p ≡ Some h → EndsWithStop h) →
+    (consoles : List (List ℕ)) → consoles ≡ map console_of hs → HasEnded opening log consoles
+has_ended listed shut serialized told opening first count none all log is kept hs whole fits stopped consoles sent =
+    let n : count ≡ 2 ^ log.opening.config.k = all ∙ ap (λ (m : MachineLists). 2 ^ m.config.k) (sym is) in
+    let every : IsWhole (2 ^ log.opening.config.k) hs = subst (λ i. IsWhole i hs) n whole in
+    let fit : Fits log.opening [] (2 ^ log.opening.config.k) log.steps (rows_of hs) =
+    subst (λ (x : MachineLists × List Step × ℕ). Fits x.0 x.1 x.2 log.steps (rows_of hs)) (λ i. (sym is i, none i, n i)) fits in
+    record {
+      opening_is = is;
+      kept = kept;
+      no_pokes = fit.no_pokes;
+      named = fit.named;
+      stopped = stop_is listed shut serialized told log kept hs every fit stopped;
+      idle = idle_is listed shut serialized told log kept hs every fit stopped;
+      heard = consoles_are listed shut serialized told log kept hs every fit stopped consoles sent;
+    }
+
+-- a run without a fault had its passes made
+pub were_made : (fault : Option RunFault) (hs : List Held) → fault ≡ None → (hs ≡ [] → IsOfMemory fault) → WereMade hs
+were_made fault hs none refused nothing = by (refused nothing)
+  where
+    by : IsOfMemory fault → ⊥
+    by (inl memory) = none-some run.Memory (sym none ∙ memory)
+    by (inr console) = none-some run.Console (sym none ∙ console)

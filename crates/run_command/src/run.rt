@@ -1,0 +1,109 @@
+//! A run of an image on threads.
+
+ghost use Rattle.std.specs.Prelude.{◌≡◌, ◌^◌, [], IfErr, IfOk, map, vec_len};
+ghost use Rattle.processor_threads.specs.Consoles.{bytes_of};
+ghost use Rattle.run_command.specs.Faults.{IsOfRun, fault_of};
+ghost use Rattle.run_command.specs.ThreadRuns.{HasEnded, IsNotThreaded, IsSomeThreaded};
+
+use command_io::{Fault, image_of, machine_of};
+use flat_machine::Config;
+use ghost_map::Room;
+use machine_lock::{Row, Run, events_are_listed, stopped_are_shut};
+use machine_log::{Logged, log_is_kept};
+use machine_steps::runs_are_serialized;
+use processor_threads::{Gate, RunFault, run_threads};
+use schedules::Shuffled;
+use std::alloc::{AllocError, Global};
+use std::io::Read;
+use std::marker::Brand;
+use std::sync::Wait;
+use std::thread::Threads;
+
+/// A run in which each processor has stopped.
+#[derive(Drop)]
+pub(crate) struct Finished {
+    pub(crate) log: Logged,
+    /// The bytes that each processor has sent to the console.
+    pub(crate) consoles: Vec<Vec<u8>>,
+}
+
+/// Runs the image that a file is on a machine of this size, on threads, so many rounds each at most. They pass the gate.
+///
+/// # Errors
+///
+/// [`Fault::Image`] where the file is refused or cannot be read, [`Fault::Size`] where the size is out of its limits, what the run ends
+/// with, and [`Fault::Memory`].
+pub(crate) fn ran<F: Read + Drop, G: Gate + Sync, R: Threads + Wait + Sync>(
+    rt: &R,
+    alloc: Global,
+    file: F,
+    config: Config,
+    start: u32,
+    gate: &G,
+    budget: u32,
+) -> Result<Finished, Fault>
+    ensures ran { IfOk result (λ f. IsSomeThreaded config (F.remaining file) f.log (map bytes_of f.consoles.items)) }
+    ensures refused { IfErr result (IsNotThreaded config (F.remaining file)) }
+{
+    let image = image_of(alloc, file, &config)?;
+    let log = Logged::new(alloc, machine_of(alloc, image, config)?);
+    let room = Room::new(alloc)?;
+    let arbiters = arbiters(alloc, start, log.machine().config().processors())?;
+    threaded::<Brand, G, R>(rt, alloc, room, log, arbiters, gate, budget)
+}
+
+/// The arbiters of so many processors, in a run that begins with this number.
+fn arbiters(alloc: Global, start: u32, processors: u8) -> Result<Vec<Shuffled>, AllocError>
+    ensures { IfOk result (λ arbiters. vec_len arbiters ≡ processors) }
+{
+    let mut arbiters = Vec::new(alloc);
+    for p in 0..processors {
+        arbiters.push(Shuffled::new(start, p))?;
+    }
+    Ok(arbiters)
+}
+
+/// Runs a log that has no steps on threads, which pass the gate.
+fn threaded<N: Run + Send + Sync, G: Gate + Sync, R: Threads + Wait + Sync>(
+    rt: &R,
+    alloc: Global,
+    room: Room<Row>,
+    log: Logged,
+    arbiters: Vec<Shuffled>,
+    gate: &G,
+    budget: u32,
+) -> Result<Finished, Fault>
+    requires room { room ≡ N.table }
+    requires opening { log.opening ≡ N.opening }
+    requires first { (log.steps ≡ []) × (N.first ≡ []) }
+    requires count { N.count ≡ 2 ^ N.opening.config.k }
+    requires arbiters { vec_len arbiters ≡ N.count }
+    ensures ended { IfOk result (λ f. HasEnded N.opening f.log (map bytes_of f.consoles.items)) }
+    ensures fault { IfErr result IsOfRun }
+{
+    let ended = run_threads::<N, Shuffled, G, R>(rt, alloc, room, log, arbiters, gate, budget);
+    log_is_kept(&ended.logged);
+    runs_are_serialized();
+    events_are_listed();
+    stopped_are_shut();
+    match ended.fault {
+        None => Ok(Finished {
+            log: ended.logged,
+            consoles: ended.consoles,
+        }),
+        Some(fault) => Err(fault_of(fault)),
+    }
+}
+
+/// How the fault of a run is told.
+fn fault_of(fault: RunFault) -> Fault
+    ensures { result ≡ fault_of fault }
+{
+    match fault {
+        RunFault::Memory | RunFault::Console => Fault::Memory,
+        RunFault::Full => Fault::Full,
+        RunFault::Loan => Fault::Loan,
+        RunFault::Budget => Fault::Budget,
+        RunFault::Start => Fault::Start,
+    }
+}

@@ -1,7 +1,0 @@
-use Rattle.std.proofs.Common.{◌≡◌}
-use Rattle.std.specs.Prelude.{replicate}
-use Rattle.run_report.specs.Tallies.{nothing_shown}
-use Rattle.run_report.proofs.tally.Tally.new.Given as goal
-
-abbrev pub invariant-loop : goal.invariant-loop
-invariant-loop l = l.shown.items ≡ replicate l.counter nothing_shown

@@ -1,0 +1,80 @@
+-- A trace has a record of each step of a sweep and of its drain.
+use Rattle.std.proofs.Common.{◌≡◌, ℕ, ◌^◌, ◌<◌, true, List, [], ◌∷◌, ◌++◌, take, sym, ap, ap₂, ◌∙◌, subst, append_assoc}
+use Rattle.std.specs.Prelude.{◌&&◌, nat_lt}
+use Rattle.std.proofs.lemmas.Bool.{lt-ltb}
+use Rattle.std.proofs.lemmas.List.Elements.{All-append, All-cons, All-nil}
+use Rattle.flat_machine.specs.declared.config.Config.{Config}
+use Rattle.machine_steps.specs.machine_theory.Theory as theory
+use Rattle.steps.specs.declared.step.Step.{Step}
+use Rattle.steps.specs.declared.step.Step.TheVariants as step
+use Rattle.trace_file.specs.Records.{HasRecord}
+use Rattle.trace_file.specs.Traces.{HaveRecords}
+use Rattle.machine_steps.specs.machine_theory.Processors.{Told}
+use Rattle.machine_steps.specs.machine_theory.Steps.{after}
+use Rattle.machine_steps.specs.Draining.{drain_steps}
+use Rattle.machine_steps.specs.Machines.{machine_of}
+use Rattle.machine_steps.specs.Runs.{IsReplay, NoneStalls, all_after}
+use Rattle.machine_log.specs.Logs.{Log}
+use Rattle.schedules.specs.Rounds.{round}
+use Rattle.schedules.specs.Sweeps.{IsSwept, entered_of, rounds}
+use Rattle.schedules.specs.declared.sweeping.SweepEnd.{SweepEnd}
+use Rattle.schedules.proofs.Own.{AreOwn, drain_steps_are_own, own_asked, own_both, own_entered}
+use Rattle.schedules.proofs.Progress.{IsOfRound, of_round}
+
+both : (a b : ℕ) (n m : ℕ) → a < n → b < m → (nat_lt a n && nat_lt b m) ≡ true
+both a b n m first second = ap₂ (λ x y. x && y) (lt-ltb a n first) (lt-ltb b m second)
+
+of_round_has_record : (k : ℕ) (s : Step) → IsOfRound k s → HasRecord k s
+of_round_has_record k (step.Turn p) within = lt-ltb p (2 ^ k) within
+of_round_has_record k (step.Up s w) within = both s w k (2 ^ k) within.0 within.1
+of_round_has_record k (step.Serve m) within = lt-ltb m (2 ^ k) within
+of_round_has_record k (step.Down s w) within = both s w k (2 ^ k) within.0 within.1
+of_round_has_record k (step.Poke q) within = absurd within
+
+-- steps that all do something, and write nothing from outside
+pub moves_have_records : (c : Config) (code : List ℕ) (M : theory.Machine Told) (steps : List Step) → AreOwn steps → NoneStalls c code M steps →
+    HaveRecords c.k steps
+moves_have_records c code M [] own moves = All-nil (HasRecord c.k)
+moves_have_records c code M (s ∷ ss) own moves =
+    All-cons (HasRecord c.k) s ss (of_round_has_record c.k s (of_round c code M s own.0 moves.0))
+    (moves_have_records c code (after c code M s) ss own.1 moves.1)
+
+pub later_moves : (c : Config) (code : List ℕ) (M : theory.Machine Told) (xs ys : List Step) → NoneStalls c code M (xs ++ ys) →
+    NoneStalls c code (all_after c code M xs) ys
+unfolding all_after
+later_moves c code M [] ys moves = moves
+later_moves c code M (x ∷ xs) ys moves = later_moves c code (after c code M x) xs ys moves.1
+
+-- a log that was asked for steps that write nothing from outside, and was drained then
+module _ (old middle new : Log) (asked : List Step) (asked_are_own : AreOwn asked) (entered : middle.steps ≡ entered_of old.opening old.steps asked)
+    (opening : new.opening ≡ old.opening) (drained : new.steps ≡ middle.steps ++ drain_steps middle.machine)
+    (replay : IsReplay new.opening new.steps new.machine) (size : old.machine.config ≡ old.opening.config) where
+  -- what the log has more
+  more : (rest : List Step) × AreOwn rest × (new.steps ≡ old.steps ++ rest)
+  more =
+      let e = own_entered old.opening old.steps asked asked_are_own in (
+        e.0 ++ drain_steps middle.machine,
+        own_both e.0 (drain_steps middle.machine) e.1 (drain_steps_are_own middle.machine),
+        drained ∙ ap (λ xs. xs ++ drain_steps middle.machine) (entered ∙ e.2) ∙ append_assoc old.steps e.0 (drain_steps middle.machine),
+      )
+
+  config_is : new.machine.config ≡ old.machine.config
+  config_is = replay.run.config ∙ ap (λ m. m.config) opening ∙ sym size
+
+  pub drained_has_records : HaveRecords old.machine.config.k old.steps → HaveRecords new.machine.config.k new.steps
+  drained_has_records before =
+      let moves = subst (NoneStalls new.opening.config new.opening.code (machine_of new.opening (λ p. []))) more.2 replay.moved in
+      let later = moves_have_records new.opening.config new.opening.code
+      (all_after new.opening.config new.opening.code (machine_of new.opening (λ p. [])) old.steps) more.0 more.1
+      (later_moves new.opening.config new.opening.code (machine_of new.opening (λ p. [])) old.steps more.0 moves) in
+      let here = subst (λ (c : Config). HaveRecords c.k more.0) (ap (λ m. m.config) opening ∙ sym size) later in
+      subst (λ (c : Config). HaveRecords c.k new.steps) (sym config_is)
+      (subst (HaveRecords old.machine.config.k) (sym more.2) (All-append (HasRecord old.machine.config.k) old.steps more.0 before here))
+
+pub swept_has_records : (most : ℕ) (old : Log) (end : SweepEnd) (new : Log) → IsSwept most old end new → IsReplay new.opening new.steps new.machine →
+    old.machine.config ≡ old.opening.config → HaveRecords old.machine.config.k old.steps → HaveRecords new.machine.config.k new.steps
+swept_has_records most old end new swept replay size =
+    let k = old.machine.config.k in
+    let followed = swept.followed in
+    drained_has_records old swept.middle new (rounds k followed.whole ++ take followed.part (round k)) (own_asked k followed.whole followed.part)
+    followed.steps swept.opening swept.steps replay size

@@ -1,0 +1,7 @@
+pub mod Rounds
+pub mod Skips
+pub mod Own
+pub mod Sweeps
+pub mod Choices
+-- Words of lower crates, passed on to those above.
+pub use Rattle.trace_file.specs as trace_file

@@ -1,0 +1,33 @@
+//! What holds of sweeps and their runs. Each law is the contract of a function that does nothing.
+
+ghost use Rattle.std.specs.Prelude.{◌≡◌, ℕ, Some, length, slice_get};
+ghost use Rattle.flat_machine.specs.declared.config.Config.{Config};
+ghost use Rattle.machine_steps.specs.elf_image.Images.{ImageContents};
+ghost use Rattle.steps.specs.declared.step.Step.{Step};
+ghost use Rattle.machine_steps.specs.Draining.{drain_steps};
+ghost use Rattle.machine_steps.specs.Machines.{IsMachine, MachineLists};
+ghost use Rattle.machine_log.specs.Logs.{Log};
+ghost use Rattle.schedules.specs.Own.{AreOwn, IsOwn};
+ghost use Rattle.schedules.specs.Rounds.{round};
+ghost use Rattle.schedules.specs.Skips.{AreQuiet};
+ghost use Rattle.machine_steps.specs.Standing.{HasRunning};
+ghost use Rattle.schedules.specs.Sweeps.{IsWholeRun};
+ghost use Rattle.schedules.specs.declared.sweeping.SweepEnd.{SweepEnd};
+
+/// The steps that a run enters are a function of the machine's size, the image and how many steps it
+/// enters at most: the same run comes out each time.
+pub fn runs_have_one_log()
+    ensures { (c : Config) (image : ImageContents) (most : ℕ) (end other : SweepEnd) (first second : Log) → IsWholeRun c image most end first →
+        IsWholeRun c image most other second → first.steps ≡ second.steps }
+{}
+
+/// While a processor runs, some step of a round does something.
+pub fn rounds_go_on()
+    ensures { (m : MachineLists) → IsMachine m → HasRunning m → AreQuiet m 0 (length (round m.config.k)) → ⊥ }
+{}
+
+/// No step of a round, and none of a drain, writes from outside.
+pub fn sweeps_write_nothing()
+    ensures rounds { (k place : ℕ) (s : Step) → slice_get (round k) place ≡ Some s → IsOwn s }
+    ensures drains { (m : MachineLists) → AreOwn (drain_steps m) }
+{}

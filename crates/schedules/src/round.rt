@@ -1,0 +1,84 @@
+//! A round of the sweep, from step to step that may do something.
+
+ghost use Rattle.std.specs.Prelude.{◌≡◌, ◌≤◌, ◌<◌, ◌+◌, ◌*◌, ◌^◌, None, IfSome, length};
+ghost use Rattle.schedules.specs.Rounds.{round};
+ghost use Rattle.schedules.specs.Skips.{AreQuiet, IsNext};
+
+use crate::row::{Downs, Row, Services, Turns, Ups};
+use crate::schedule::step_at;
+use machine_steps::Machine;
+use std::marker::Model;
+use steps::Step;
+
+/// How far a machine has come in a round of the sweep.
+#[derive(Debug, Drop)]
+pub struct Round {
+    k: u8,
+    row: u8,
+    /// The next wire of the row, or how many there are.
+    wire: u8,
+}
+
+impl Model for Round {
+    ghost use Rattle.std.specs.Prelude.{◌≤◌, ◌*◌, ◌+◌, ◌^◌};
+    ghost use Rattle.schedules.specs.Rounds.{Sweeping};
+
+    ghost Value = { Sweeping };
+
+    ghost view = { λ r. record { k = r.k; place = r.row * 2 ^ r.k + r.wire } };
+
+    ghost invariant = { λ r. (r.k ≤ 6) × (r.row ≤ 2 * r.k + 2) × (r.wire ≤ 2 ^ r.k) };
+}
+
+impl Round {
+    /// The beginning of a round of a machine of `k` stages.
+    pub fn new(k: u8) -> Self
+        requires { k ≤ 6 }
+        ensures { result ≡ record { k = k; place = 0 } }
+    {
+        Round { k, row: 0, wire: 0 }
+    }
+
+    /// The next step of the round that may do something on a machine: a turn, or a move or a service of a
+    /// message that stands there. Each step that it leaves out would stall. None where no step is left.
+    pub fn next(&mut self, machine: &Machine) -> Option<Step>
+        requires { machine.now.config.k ≡ self.old.k }
+        ensures size { self.new.k ≡ self.old.k }
+        ensures next { IfSome result (λ step. IsNext machine.now self.old.place step self.new.place) }
+        ensures on { IfSome result (λ step. (self.old.place < self.new.place) × (self.new.place ≤ length (round self.old.k))) }
+        ensures over { result ≡ None → AreQuiet machine.now self.old.place (length (round self.old.k)) }
+    {
+        while self.row < 2 * self.k + 2 {
+            if let Some(wire) = first_from(machine, self.row, self.wire) {
+                self.wire = wire + 1;
+                return Some(step_at(self.k, self.row, wire));
+            }
+            self.row += 1;
+            self.wire = 0;
+        }
+        None
+    }
+}
+
+/// The first wire of a row, this one or one behind it, whose step may do something.
+fn first_from(machine: &Machine, row: u8, wire: u8) -> Option<u8>
+    requires stages { machine.now.config.k ≤ 6 }
+    requires row { row < 2 * machine.now.config.k + 2 }
+    ensures first { IfSome result (λ w. (wire ≤ w) × (w < 2 ^ machine.now.config.k)
+        × AreQuiet machine.now (row * 2 ^ machine.now.config.k + wire) (row * 2 ^ machine.now.config.k + w)) }
+    ensures none { result ≡ None → AreQuiet machine.now (row * 2 ^ machine.now.config.k + wire) ((row + 1) * 2 ^ machine.now.config.k) }
+{
+    let k = machine.config().k;
+    if row == 0 {
+        Turns.first(machine, wire)
+    } else if row <= k {
+        Ups { stage: k - row }.first(machine, wire)
+    } else if row == k + 1 {
+        Services.first(machine, wire)
+    } else {
+        Downs {
+            stage: row - (k + 2),
+        }
+        .first(machine, wire)
+    }
+}

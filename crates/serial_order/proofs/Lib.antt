@@ -1,2 +1,0 @@
-mod Grouping
-mod Ordering

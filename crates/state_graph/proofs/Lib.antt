@@ -1,0 +1,4 @@
+pub mod Cutting
+pub mod Ranking
+pub mod Scheduling
+pub mod Resulting

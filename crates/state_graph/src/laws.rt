@@ -1,0 +1,32 @@
+//! Laws of the states that a search has found: each is the contract of a function that does nothing.
+
+ghost use Rattle.state_graph.specs.Laws.{AllStoodForAreResults, EachResultIsStoodFor, SuccessorsTellOfSchedules};
+
+use local_reduction::{
+    each_exchange_is_reached, moves_up_to_are_turns, sets_closed_up_to_are_not_left,
+    sets_closed_up_to_have_all_ends, short_up_to_schedules_end,
+};
+
+/// What is told of schedules from the successors of states is so.
+pub fn successors_tell_of_schedules()
+    ensures told { SuccessorsTellOfSchedules }
+{
+    sets_closed_up_to_have_all_ends();
+    sets_closed_up_to_are_not_left();
+    moves_up_to_are_turns();
+    short_up_to_schedules_end();
+}
+
+/// The result of some state stands for each result of the flat machine.
+pub fn each_result_is_stood_for()
+    ensures complete { EachResultIsStoodFor }
+{
+    sets_closed_up_to_have_all_ends();
+}
+
+/// All that the result of a state stands for are results of the flat machine.
+pub fn all_stood_for_are_results()
+    ensures sound { AllStoodForAreResults }
+{
+    each_exchange_is_reached();
+}

@@ -1,0 +1,44 @@
+//! Paths from the first state to another.
+
+ghost use Rattle.std.specs.Prelude.{◌↔◌, ◌<◌, ℕ, Contains, IfOk, IsTrue, MatchOption};
+ghost use Rattle.state_graph.specs.Paths.{HasNoneBefore, IsPath};
+ghost use Rattle.state_graph.specs.Ranks.{successors_at};
+
+use crate::successors::Successors;
+use std::alloc::{AllocError, Global};
+
+/// The states on a path from the first to the one at a place, in their order, without the first and with that one.
+///
+/// Each is a successor of the first state that leads to it. If the states were found breadth first, no path is shorter.
+///
+/// # Errors
+///
+/// [`AllocError`] if there is no memory for them.
+pub fn path_to(alloc: Global, moves: &Successors, place: u32) -> Result<Vec<u32>, AllocError>
+    ensures { IfOk result (λ path.
+        (first : ℕ) × HasNoneBefore moves.now first × IsPath moves.now first path.items place) }
+{
+    let mut path = Vec::new(alloc);
+    let mut at = place;
+    while let Some(before) = found_from(moves, at) {
+        path.push(at)?;
+        at = before;
+    }
+    path.reverse();
+    Ok(path)
+}
+
+/// The first state before this one that has it among its successors.
+fn found_from(moves: &Successors, place: u32) -> Option<u32>
+    ensures { MatchOption result (HasNoneBefore moves.now place)
+        (λ before. (before < place) × Contains (successors_at moves.now before) place) }
+{
+    (0..place).find(|before| leads_to(moves, *before, place))
+}
+
+/// Whether a state has another among its successors.
+fn leads_to(moves: &Successors, from: u32, to: u32) -> bool
+    ensures { IsTrue result ↔ Contains (successors_at moves.now from) to }
+{
+    moves.of(from as usize).contains(&to)
+}

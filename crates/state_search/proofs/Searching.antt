@@ -1,0 +1,332 @@
+-- What is found stays found as tables and rows grow, and the move of the last processor completes a state.
+use Rattle.std.proofs.Common.{◌≡◌, ◌⊎◌, inl, inr, ℕ, ◌+◌, ◌<◌, ◌≤◌, zero, suc, Bool, true, false, cond, List}
+use Rattle.std.proofs.Common.{[], ◌∷◌, ◌++◌, Some, length, refl, sym, ap, subst, ◌∙◌, arith, length-append}
+use Rattle.std.specs.Prelude.{slice_get, slice_index, slice_index_or, Contains}
+use Rattle.std.specs.List.{list_any}
+use Rattle.std.proofs.lemmas.Bool.{cases_lt}
+use Rattle.std.proofs.lemmas.List.{get_or_append_left}
+use Rattle.std.proofs.lemmas.List.Elements.{Contains-append_left, Contains-push, Contains-push_cases}
+use Rattle.indexmap.specs.IndexSet.{insert_key}
+use Rattle.local_reduction.specs.Closing.{Standing}
+use Rattle.local_reduction.specs.Exchanging.{AreAlike}
+use Rattle.local_reduction.specs.Stations.{IsReference}
+use Rattle.local_reduction.proofs.Lemmas.{reference_same}
+use Rattle.local_reduction.specs.Forgetting.{kept_by}
+use Rattle.state_graph.specs.Ranks.{successors_at}
+use Rattle.state_search.specs.declared.tables.Extent.{Extent}
+use Rattle.state_search.specs.Tables.{TableLists, HasGrown, placed_at, setting_at, means, IsRow}
+use Rattle.state_search.specs.Search.{state_at, IsPlaced, CanMove, Moves, IsReached, IsNextUpTo, IsSuccessor, HasSuccessor, Searched, Expanded}
+use Rattle.state_search.proofs.Lemmas.{found_at, listed_there, way_on, up_to}
+use Rattle.state_search.proofs.Growing.{row_kept, means_kept}
+
+-- ---- a list with a row inserted
+
+record IsLonger (rows : List (List ℕ)) (row : List ℕ) (new : List (List ℕ)) : Type 0 where
+  longer : length rows ≤ length new
+  same : (i : ℕ) → i < length rows → slice_index_or new i [] ≡ slice_index_or rows i []
+  others : (i : ℕ) → i < length new → (i < length rows) ⊎ (slice_index_or new i [] ≡ row)
+
+last : (rows : List (List ℕ)) (row : List ℕ) → slice_index_or (rows ++ row ∷ []) (length rows) [] ≡ row
+last [] row = refl
+last (r ∷ rows) row = last rows row
+
+appended : (rows : List (List ℕ)) (row : List ℕ) → IsLonger rows row (rows ++ row ∷ [])
+appended rows row = record {
+  longer = omega (arith, length-append rows (row ∷ []));
+  same = λ i l. get_or_append_left rows (row ∷ []) [] i l;
+  others = λ i l. by i l (cases_lt i (length rows));
+}
+  where
+    by : (i : ℕ) → i < length (rows ++ row ∷ []) → (i < length rows) ⊎ (length rows ≤ i) → (i < length rows) ⊎ (slice_index_or (rows ++ row ∷ []) i [] ≡ row)
+    by i l (inl below) = inl below
+    by i l (inr past) =
+        let here : i ≡ length rows = omega (arith, l, past, length-append rows (row ∷ [])) in
+        inr (ap (λ j. slice_index_or (rows ++ row ∷ []) j []) here ∙ last rows row)
+
+module _ (eq : List ℕ → List ℕ → Bool) (exact : (x y : List ℕ) → eq x y ≡ true → x ≡ y) where
+  inserted : (rows : List (List ℕ)) (row : List ℕ) → IsLonger rows row (insert_key eq rows row)
+  inserted rows row = by (list_any (eq row) rows)
+    where
+      by : (b : Bool) → IsLonger rows row (cond b rows (rows ++ row ∷ []))
+      by true = record { longer = omega arith; same = λ i l. refl; others = λ i l. inl l }
+      by false = appended rows row
+
+  -- where a row has a place in what a list becomes with it
+  pub placed : (rows : List (List ℕ)) (row : List ℕ) (new : List (List ℕ)) (place : ℕ) → new ≡ insert_key eq rows row →
+      (k : List ℕ) × (slice_get new place ≡ Some k) × (eq row k ≡ true) → IsPlaced rows row new place
+  placed rows row new place is stored =
+      let more : IsLonger rows row new = subst (IsLonger rows row) (sym is) (inserted rows row) in
+      let here = found_at new place stored.0 [] stored.1 in
+      record {
+        longer = more.longer;
+        same = more.same;
+        others = more.others;
+        within = here.0;
+        is = here.1 ∙ sym (exact row stored.0 stored.2);
+      }
+
+-- ---- processors with equal numbers
+
+stations_same : (e : Extent) (t : TableLists) (row : List ℕ) (q p : ℕ) → q < e.processors → p < e.processors → slice_index row q ≡ slice_index row p →
+    slice_get (means e t row).stations q ≡ slice_get (means e t row).stations p
+stations_same e t row q p fq fp same =
+    listed_there (λ i. kept_by t.live (placed_at t (slice_index row i)).station) e.processors q fq
+    ∙ (ap (λ i. Some (kept_by t.live (placed_at t i).station)) same
+    ∙ sym (listed_there (λ i. kept_by t.live (placed_at t (slice_index row i)).station) e.processors p fp))
+
+-- ---- ways
+
+module _ (e : Extent) (code : List ℕ) (classes : List ℕ) where
+  pub reached_on : (live : List (List Bool)) (s u t : Standing) (k : ℕ) → IsReached e code classes live s u →
+      Moves e code classes live u k t → IsReached e code classes live s t
+  reached_on live s u t k r m =
+      (r.0 ++ (k, t) ∷ [], way_on (setting_at e) code (kept_by live) classes r.0 s u t k r.1 m)
+
+  -- ---- rows whose states stay: tables grow, or rows come behind
+
+  -- Each of the first so many rows of the old means in the new tables what it meant.
+  module _ (t u : TableLists) (rows new : List (List ℕ)) (longer : length rows ≤ length new) (live : u.live ≡ t.live)
+      (same : (i : ℕ) → i < length rows → state_at e t rows i ≡ state_at e u new i) where
+    moves_stay : (s v : Standing) (k : ℕ) (s' v' : Standing) → s ≡ s' → v ≡ v' → Moves e code classes t.live s k v →
+        Moves e code classes u.live s' k v'
+    moves_stay s v k s' v' es ev m =
+        subst (λ (z : List (List Bool) × Standing × Standing). Moves e code classes z.0 z.1 k z.2)
+        (λ j. (sym live j, es j, ev j)) m
+
+    pub successor_stays : (i v : ℕ) → i < length rows → IsSuccessor e code classes t rows (state_at e t rows i) v →
+        IsSuccessor e code classes u new (state_at e u new i) v
+    successor_stays i v l x =
+        let below = x.0 in
+        (omega (arith, below, longer), x.1, moves_stay _ _ x.1 _ _ (same i l) (same v below) x.2)
+
+    pub has_stays : (i k : ℕ) (successors : List ℕ) → i < length rows →
+        HasSuccessor e code classes t rows (state_at e t rows i) successors k →
+        HasSuccessor e code classes u new (state_at e u new i) successors k
+    has_stays i k successors l h may =
+        let x = h (subst (λ s. CanMove e code s k) (sym (same i l)) may) in
+        let below = x.2 in
+        (x.0, x.1, omega (arith, below, longer), moves_stay _ _ k _ _ (same i l) (same x.0 below) x.3)
+
+    pub searched_stays : (moves : List (List ℕ)) (first : Standing) (done : ℕ) → Searched e code classes t rows moves first done →
+        ((i : ℕ) → i < length new → IsRow e u (slice_index_or new i [])) →
+        ((i : ℕ) → i < length new → IsReached e code classes u.live first (state_at e u new i)) →
+        Searched e code classes u new moves first done
+    searched_stays moves first done h are reached = record {
+      are_rows = are;
+      reached = reached;
+      filled = omega (arith, h.filled, longer);
+      begins = sym (same 0 h.filled) ∙ h.begins;
+      within = omega (arith, h.within, longer);
+      noted = h.noted;
+      sound = λ i v below x. successor_stays i v (omega (arith, below, h.within)) (h.sound i v below x);
+      complete = λ i k below few.
+          has_stays i k (successors_at moves i) (omega (arith, below, h.within)) (h.complete i k below few);
+    }
+
+  -- ---- tables that grow
+
+  module _ (t u : TableLists) (kept : HasGrown t u) (rows moves : List (List ℕ)) (first : Standing) (done : ℕ) where
+    abbrev stay : Searched e code classes t rows moves first done → (i : ℕ) → i < length rows →
+        state_at e t rows i ≡ state_at e u rows i
+    stay h i l = means_kept e t u (slice_index_or rows i []) kept (h.are_rows i l)
+
+    pub searched_kept : Searched e code classes t rows moves first done → Searched e code classes u rows moves first done
+    searched_kept h =
+        searched_stays t u rows rows (omega arith) kept.live (stay h) moves first done h
+        (λ i l. row_kept e t u (slice_index_or rows i []) kept (h.are_rows i l))
+        (λ i l. subst (λ (z : List (List Bool) × Standing). IsReached e code classes z.0 first z.1)
+        (λ j. (sym kept.live j, stay h i l j)) (h.reached i l))
+
+    pub expanded_kept : (successors : List ℕ) (processors : ℕ) →
+        Expanded e code classes t rows moves first successors done processors →
+        Expanded e code classes u rows moves first successors done processors
+    expanded_kept successors processors h = record {
+      searched = searched_kept h.searched;
+      more = h.more;
+      sound = λ v x. successor_stays t u rows rows (omega arith) kept.live (stay h.searched) done v h.more (h.sound v x);
+      complete = λ k below.
+          has_stays t u rows rows (omega arith) kept.live (stay h.searched) done k successors h.more (h.complete k below);
+    }
+
+  -- ---- one row more
+
+  module _ (t : TableLists) (rows : List (List ℕ)) (row : List ℕ) (new : List (List ℕ)) (place : ℕ) (ins : IsPlaced rows row new place)
+      (moves : List (List ℕ)) (first : Standing) (done : ℕ) where
+    abbrev stays : (i : ℕ) → i < length rows → state_at e t rows i ≡ state_at e t new i
+    stays i l = ap (means e t) (sym (ins.same i l))
+
+    pub searched_more : Searched e code classes t rows moves first done → IsRow e t row →
+        IsReached e code classes t.live first (means e t row) → Searched e code classes t new moves first done
+    searched_more h is_row reached =
+        searched_stays t t rows new ins.longer refl stays moves first done h (λ i l. row_at i (ins.others i l))
+        (λ i l. reached_at i (ins.others i l))
+      where
+        row_at : (i : ℕ) → (i < length rows) ⊎ (slice_index_or new i [] ≡ row) → IsRow e t (slice_index_or new i [])
+        row_at i (inl l) = subst (IsRow e t) (sym (ins.same i l)) (h.are_rows i l)
+        row_at i (inr is) = subst (IsRow e t) (sym is) is_row
+
+        reached_at : (i : ℕ) → (i < length rows) ⊎ (slice_index_or new i [] ≡ row) →
+            IsReached e code classes t.live first (state_at e t new i)
+        reached_at i (inl l) = subst (IsReached e code classes t.live first) (stays i l) (h.reached i l)
+        reached_at i (inr is) = subst (λ r. IsReached e code classes t.live first (means e t r)) (sym is) reached
+
+  -- ---- one processor more
+
+  module _ (t u : TableLists) (kept : HasGrown t u) (rows moves : List (List ℕ)) (first : Standing) (successors : List ℕ)
+      (done p : ℕ) (row : List ℕ) (h : Expanded e code classes t rows moves first successors done p)
+      (is : slice_index_or rows done [] ≡ row) where
+    k : Expanded e code classes u rows moves first successors done p
+    k = expanded_kept t u kept rows moves first done successors p h
+
+    state_is : means e t row ≡ state_at e u rows done
+    state_is = ap (means e t) (sym is) ∙ means_kept e t u (slice_index_or rows done []) kept (h.searched.are_rows done h.more)
+
+    -- no successor more
+    with_none : HasSuccessor e code classes u rows (state_at e u rows done) successors p →
+        Expanded e code classes u rows moves first successors done (p + 1)
+    with_none last = record { searched = k.searched; more = h.more; sound = k.sound; complete = λ q below. by q (up_to q p below) }
+      where
+        by : (q : ℕ) → (q < p) ⊎ (q ≡ p) → HasSuccessor e code classes u rows (state_at e u rows done) successors q
+        by q (inl below) = k.complete q below
+        by q (inr same) = subst (HasSuccessor e code classes u rows (state_at e u rows done) successors) (sym same) last
+
+    -- A processor that has no move adds no successor,
+    pub stood : (CanMove e code (means e t row) p → ⊥) → Expanded e code classes u rows moves first successors done (p + 1)
+    stood none = with_none (λ may. absurd (none (subst (λ s. CanMove e code s p) (sym state_is) may)))
+
+    -- nor does one that stands as another of its class before it,
+    pub copied_on : (q : ℕ) → q < p → AreAlike classes q p → slice_index row q ≡ slice_index row p → p < e.processors →
+        Expanded e code classes u rows moves first successors done (p + 1)
+    copied_on q below alike same few = with_none stand_in
+      where
+        here : slice_get (state_at e u rows done).stations q ≡ slice_get (state_at e u rows done).stations p
+        here = subst (λ (s : Standing). slice_get s.stations q ≡ slice_get s.stations p) state_is
+            (stations_same e t row q p (omega (arith, below, few)) few same)
+
+        stand_in : HasSuccessor e code classes u rows (state_at e u rows done) successors p
+        stand_in may =
+            let x = k.complete q below (record {
+              station = may.station;
+              there = here ∙ may.there;
+              runs = may.runs;
+              refers =
+                  subst IsReference (reference_same (setting_at e p) (setting_at e q)
+                  (record { processors = refl; shared_words = refl }) code may.station.processor may.refers) may.refers;
+            }) in (
+              x.0,
+              x.1,
+              x.2,
+              record {
+                mover = x.3.mover;
+                alike = x.3.alike ∙ alike;
+                same = x.3.same ∙ here;
+                left = x.3.left;
+                move = x.3.move;
+                exchange = x.3.exchange;
+              },
+            )
+
+    -- and one that has a move adds the place of the row to which it leads.
+    pub went : (next : List ℕ) (new : List (List ℕ)) (target : ℕ) → IsNextUpTo e code classes u (means e t row) p (Some next) →
+        IsPlaced rows next new target → Expanded e code classes u new moves first (successors ++ target ∷ []) done (p + 1)
+    went next new target moved ins = record {
+      searched = searched_more u rows next new target ins moves first done k.searched moved.0
+          (reached_on u.live first (state_at e u rows done) (means e u next) p (k.searched.reached done h.more) move);
+      more = omega (arith, h.more, ins.longer);
+      sound = λ v x. sound v (Contains-push_cases successors target v x);
+      complete = λ q below. by q (up_to q p below);
+    }
+      where
+        move : Moves e code classes u.live (state_at e u rows done) p (means e u next)
+        move = subst (λ s. Moves e code classes u.live s p (means e u next)) state_is moved.1
+
+        stays_here : (i : ℕ) → i < length rows → state_at e u rows i ≡ state_at e u new i
+        stays_here i l = ap (means e u) (sym (ins.same i l))
+
+        there : Moves e code classes u.live (state_at e u new done) p (state_at e u new target)
+        there = subst (λ (z : Standing × Standing). Moves e code classes u.live z.0 p z.1)
+            (λ j. (stays_here done h.more j, ap (means e u) (sym ins.is) j)) move
+
+        sound : (v : ℕ) → Contains successors v ⊎ (target ≡ v) → IsSuccessor e code classes u new (state_at e u new done) v
+        sound v (inl x) = successor_stays u u rows new ins.longer refl stays_here done v h.more (k.sound v x)
+        sound v (inr x) =
+            subst (IsSuccessor e code classes u new (state_at e u new done)) x (ins.within, p, there)
+
+        by : (q : ℕ) → (q < p) ⊎ (q ≡ p) →
+            HasSuccessor e code classes u new (state_at e u new done) (successors ++ target ∷ []) q
+        by q (inl below) may =
+            let x = has_stays u u rows new ins.longer refl stays_here done q successors h.more (k.complete q below) may in
+            (x.0, Contains-append_left successors (target ∷ []) x.0 x.1, x.2, x.3)
+        by q (inr same) may = (
+          target,
+          Contains-push successors target,
+          ins.within,
+          subst (λ i. Moves e code classes u.live (state_at e u new done) i (state_at e u new target)) (sym same) there,
+        )
+
+  -- ---- the beginning, and a state whose moves are all found
+
+  pub begun : (t : TableLists) (row : List ℕ) → IsRow e t row → Searched e code classes t (row ∷ []) [] (means e t row) 0
+  begun t row h = record {
+    are_rows = λ i l. row_at i l;
+    reached = λ i l. reached_at i l;
+    filled = omega arith;
+    begins = refl;
+    within = omega arith;
+    noted = refl;
+    sound = λ i v below. absurd (omega (arith, below));
+    complete = λ i k below. absurd (omega (arith, below));
+  }
+    where
+      row_at : (i : ℕ) → i < 1 → IsRow e t (slice_index_or (row ∷ []) i [])
+      row_at zero l = h
+      row_at (suc i) l = absurd (omega (arith, l))
+
+      reached_at : (i : ℕ) → i < 1 → IsReached e code classes t.live (means e t row) (state_at e t (row ∷ []) i)
+      reached_at zero l = ([], refl)
+      reached_at (suc i) l = absurd (omega (arith, l))
+
+  pub completed : (t : TableLists) (rows moves : List (List ℕ)) (first : Standing) (successors : List ℕ) (done : ℕ) →
+      Expanded e code classes t rows moves first successors done e.processors →
+      Searched e code classes t rows (moves ++ successors ∷ []) first (done + 1)
+  completed t rows moves first successors done h = record {
+    are_rows = h.searched.are_rows;
+    reached = h.searched.reached;
+    filled = h.searched.filled;
+    begins = h.searched.begins;
+    within = omega (arith, h.more);
+    noted = omega (arith, length-append moves (successors ∷ []), h.searched.noted);
+    sound = λ i v below. sound i v (up_to i done below);
+    complete = λ i k below few. complete i k few (up_to i done below);
+  }
+    where
+      before : (i : ℕ) → i < done → successors_at (moves ++ successors ∷ []) i ≡ successors_at moves i
+      before i below = get_or_append_left moves (successors ∷ []) [] i (omega (arith, below, h.searched.noted))
+
+      here : (i : ℕ) → i ≡ done → successors_at (moves ++ successors ∷ []) i ≡ successors
+      here i same = ap (successors_at (moves ++ successors ∷ [])) (same ∙ sym h.searched.noted) ∙ last moves successors
+
+      sound : (i v : ℕ) → (i < done) ⊎ (i ≡ done) → Contains (successors_at (moves ++ successors ∷ []) i) v →
+          IsSuccessor e code classes t rows (state_at e t rows i) v
+      sound i v (inl below) x = h.searched.sound i v below (subst (λ vs. Contains vs v) (before i below) x)
+      sound i v (inr same) x =
+          subst (λ j. IsSuccessor e code classes t rows (state_at e t rows j) v) (sym same)
+          (h.sound v (subst (λ vs. Contains vs v) (here i same) x))
+
+      complete : (i k : ℕ) → k < e.processors → (i < done) ⊎ (i ≡ done) →
+          HasSuccessor e code classes t rows (state_at e t rows i) (successors_at (moves ++ successors ∷ []) i) k
+      complete i k few (inl below) =
+          subst (λ vs. HasSuccessor e code classes t rows (state_at e t rows i) vs k) (sym (before i below))
+          (h.searched.complete i k below few)
+      complete i k few (inr same) =
+          subst (λ (z : ℕ × List ℕ). HasSuccessor e code classes t rows (state_at e t rows z.0) z.1 k)
+          (λ j. (sym same j, sym (here i same) j)) (h.complete k few)
+
+  pub expanding : (t : TableLists) (rows moves : List (List ℕ)) (first : Standing) (done : ℕ) →
+      Searched e code classes t rows moves first done → done < length rows → Expanded e code classes t rows moves first [] done 0
+  expanding t rows moves first done h more = record {
+    searched = h;
+    more = more;
+    sound = λ v x. let none = x.1 in absurd (omega (arith, none));
+    complete = λ k below. absurd (omega (arith, below));
+  }

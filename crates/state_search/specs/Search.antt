@@ -1,0 +1,99 @@
+-- How far a search has come.
+use Rattle.std.specs.Prelude.{◌≡◌, ◌⊎◌, ℕ, ◌<◌, ◌≤◌, Bool, false, List, [], Option, Some, None, Contains, length, slice_index, slice_index_or}
+use Rattle.local_reduction.specs.Closing.{Standing, MayMove}
+use Rattle.local_reduction.specs.Exchanging.{AreAlike, IsMoveOfAny, IsMoveUpTo, IsWayUpTo}
+use Rattle.local_reduction.specs.Forgetting.{kept_by}
+use Rattle.state_graph.specs.Ranks.{successors_at}
+use Rattle.state_search.specs.declared.tables.Extent.{Extent}
+use Rattle.state_search.specs.Tables.{TableLists, setting_at, means, IsRow}
+
+-- the state of the row at a place
+abbrev pub state_at : Extent → TableLists → (rows : List (List ℕ)) → ℕ → Standing
+state_at e t rows i = means e t (slice_index_or rows i [])
+
+-- The row has this place in the list, to whose end it was added if it was not there.
+pub record IsPlaced (old : List (List ℕ)) (row : List ℕ) (new : List (List ℕ)) (place : ℕ) : Type 0 where
+  pub longer : length old ≤ length new
+  pub same : (i : ℕ) → i < length old → slice_index_or new i [] ≡ slice_index_or old i []
+  pub others : (i : ℕ) → i < length new → (i < length old) ⊎ (slice_index_or new i [] ≡ row)
+  pub within : place < length new
+  pub is : slice_index_or new place [] ≡ row
+
+-- ---- classes
+
+-- The classes of the processors: if they are not exchanged, each has one of its own.
+pub record AreClasses (e : Extent) (classes : List ℕ) : Type 0 where
+  pub all : length classes ≡ e.processors
+  pub own : e.exchanged ≡ false → (j k : ℕ) → k < e.processors → AreAlike classes j k → j ≡ k
+
+-- Processors of one class have equal numbers in the row.
+abbrev pub AreClassesOf : Extent → (classes row : List ℕ) → Type 0
+AreClassesOf e classes row =
+    (j k : ℕ) → j < e.processors → k < e.processors → slice_index classes j ≡ slice_index classes k →
+    slice_index row j ≡ slice_index row k
+
+-- Another processor of the class, before this one, has the same number.
+pub record IsLike (row classes : List ℕ) (p q : ℕ) : Type 0 where
+  pub before : q < p
+  pub alike : AreAlike classes q p
+  pub same : slice_index row q ≡ slice_index row p
+
+-- ---- moves
+
+-- The processor runs, and is about to refer to a word.
+abbrev pub CanMove : Extent → (code : List ℕ) → Standing → (processor : ℕ) → Type 0
+CanMove e code s k = MayMove (setting_at e) code s k
+
+module _ (e : Extent) (code : List ℕ) (classes : List ℕ) where
+  -- One reference of a processor, or of one like it, and what it does alone after it, lead from a state to an exchange
+  -- of another.
+  abbrev pub Moves : (live : List (List Bool)) → Standing → (processor : ℕ) → Standing → Type 0
+  Moves live s k t = IsMoveUpTo (setting_at e) code (kept_by live) classes s k t
+
+  -- such moves lead from one state to another
+  abbrev pub IsReached : (live : List (List Bool)) → Standing → Standing → Type 0
+  IsReached live s t = (way : List (ℕ × Standing)) × IsWayUpTo (setting_at e) code (kept_by live) classes s way t
+
+  -- what a look for a move gives: the row that it leads to, or none if there is no move
+  abbrev pub IsNext : TableLists → Standing → (processor : ℕ) → Option (List ℕ) → Type 0
+  IsNext t s k None = CanMove e code s k → ⊥
+  IsNext t s k (Some row) =
+      IsRow e t row × IsMoveOfAny (setting_at e) code (kept_by t.live) classes s k (means e t row)
+
+  -- the same up to exchanges
+  abbrev pub IsNextUpTo : TableLists → Standing → (processor : ℕ) → Option (List ℕ) → Type 0
+  IsNextUpTo t s k None = CanMove e code s k → ⊥
+  IsNextUpTo t s k (Some row) = IsRow e t row × Moves t.live s k (means e t row)
+
+  -- ---- successors
+
+  module _ (t : TableLists) (rows : List (List ℕ)) where
+    -- A row is a successor of a state: some move leads to it.
+    abbrev pub IsSuccessor : Standing → (place : ℕ) → Type 0
+    IsSuccessor s v = (v < length rows) × (k : ℕ) × Moves t.live s k (state_at e t rows v)
+
+    -- One of the places is that of a row to which the move of the processor leads, if it has one.
+    abbrev pub HasSuccessor : Standing → (successors : List ℕ) → (processor : ℕ) → Type 0
+    HasSuccessor s successors k =
+        CanMove e code s k →
+        (v : ℕ) × Contains successors v × (v < length rows) × Moves t.live s k (state_at e t rows v)
+
+    -- All that is found is reached from the first, and the successors of the first so many states are noted.
+    pub record Searched (moves : List (List ℕ)) (first : Standing) (done : ℕ) : Type 0 where
+      pub are_rows : (i : ℕ) → i < length rows → IsRow e t (slice_index_or rows i [])
+      pub reached : (i : ℕ) → i < length rows → IsReached t.live first (state_at e t rows i)
+      pub filled : 0 < length rows
+      pub begins : state_at e t rows 0 ≡ first
+      pub within : done ≤ length rows
+      pub noted : length moves ≡ done
+      pub sound : (i v : ℕ) → i < done → Contains (successors_at moves i) v → IsSuccessor (state_at e t rows i) v
+      pub complete : (i k : ℕ) → i < done → k < e.processors →
+          HasSuccessor (state_at e t rows i) (successors_at moves i) k
+
+    -- Besides, these are the successors of the next state by moves of the first so many processors.
+    pub record Expanded (moves : List (List ℕ)) (first : Standing) (successors : List ℕ)
+        (done processors : ℕ) : Type 0 where
+      pub searched : Searched moves first done
+      pub more : done < length rows
+      pub sound : (v : ℕ) → Contains successors v → IsSuccessor (state_at e t rows done) v
+      pub complete : (k : ℕ) → k < processors → HasSuccessor (state_at e t rows done) successors k

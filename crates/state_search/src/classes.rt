@@ -1,0 +1,44 @@
+//! The classes of processors that are exchanged.
+
+ghost use Rattle.std.specs.Prelude.{◌≡◌, ◌<◌, ◌≤◌, false, slice_index, IfOk};
+ghost use Rattle.state_search.specs.Search.{AreClasses, AreClassesOf};
+
+use crate::tables::{Extent, Row};
+use std::alloc::{AllocError, Global};
+
+/// The class of each processor, named by the first that is in it: where processors are exchanged, those that stand
+/// alike in the first row are of one, and else each is of its own.
+pub fn classes_of<const N: usize>(
+    alloc: Global,
+    extent: Extent,
+    first: &Row<N>,
+) -> Result<Vec<u8>, AllocError>
+    requires room { extent.processors < N }
+    requires narrow { N ≤ 65 }
+    ensures classes { IfOk result (λ classes. AreClasses extent classes.items) }
+    ensures alike { IfOk result (λ classes. AreClassesOf extent classes.items first.now) }
+{
+    let mut classes = Vec::new(alloc);
+    for p in 0..extent.processors {
+        let class = class_of(extent, first, p);
+        classes.push(class)?;
+    }
+    Ok(classes)
+}
+
+/// The first processor that stands as this one does.
+fn class_of<const N: usize>(extent: Extent, first: &Row<N>, p: u8) -> u8
+    requires there { p < N }
+    requires narrow { N ≤ 65 }
+    ensures alike { slice_index first.now result ≡ slice_index first.now p }
+    ensures own { extent.exchanged ≡ false → result ≡ p }
+{
+    if extent.exchanged {
+        for q in 0..p {
+            if first[usize::from(q)] == first[usize::from(p)] {
+                return q;
+            }
+        }
+    }
+    p
+}

@@ -1,5 +1,0 @@
-use Rattle.station_search.proofs.Classing.{AreNamed}
-use Rattle.station_search.proofs.classes.classes_of.Given as goal
-
-abbrev pub invariant-loop-p : goal.invariant-loop-p
-invariant-loop-p g l = AreNamed l.extent l.first l.classes.items l.p

@@ -1,5 +1,0 @@
-use Rattle.station_search.proofs.Trading.{as_it_was}
-use Rattle.station_search.proofs.finding.ordered_from.Goals as goal
-
-pub returns-else-extent : goal.returns-else-extent
-returns-else-extent g c = as_it_was c.args.classes.now c.args.row.now

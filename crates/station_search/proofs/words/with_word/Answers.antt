@@ -1,6 +1,0 @@
-use Rattle.std.proofs.Common.{rules}
-use Rattle.station_search.proofs.WordLists.{written_on}
-use Rattle.station_search.proofs.words.with_word.Goals as goal
-
-pub returns : goal.returns
-returns c = written_on _ _ _ _ _ _ c.in_ok-written.ensures.same (search rules) c.write.ensures c.trim.ensures

@@ -1,6 +1,0 @@
-use Rattle.std.proofs.Common.{take}
-use Rattle.stats_command.proofs.Steps.{AreCounted}
-use Rattle.stats_command.proofs.counting.counted.Given as goal
-
-abbrev pub invariant-loop-step : goal.invariant-loop-step
-invariant-loop-step l = AreCounted l.initial.machine (take l.step-index l.steps) l.machine l.counts l.groups l.longest

@@ -1,9 +1,0 @@
-//! Laws of stories: contracts of functions that do nothing.
-
-ghost use Rattle.story_lines.specs.Lines.{StoriesGoOn};
-
-/// The story of a run with one step more is the run's, and then the line of the step, with the groups behind the run.
-#[tactic(auto, using(crate::proofs::Going::stories_more))]
-pub fn stories_go_on()
-    ensures { StoriesGoOn }
-{}

@@ -1,3 +1,0 @@
-pub mod Consoles
-pub mod Records
-pub mod Logging

@@ -1,9 +1,0 @@
-//! Laws of groups: contracts of functions that do nothing.
-
-ghost use Rattle.told_steps.specs.Groups.{GroupsGoOn};
-
-/// Behind no step there are no groups, and they go on with each.
-#[tactic(auto, using(crate::proofs::Going::groups_more))]
-pub fn groups_go_on()
-    ensures { GroupsGoOn }
-{}

@@ -1,0 +1,72 @@
+-- The log of a run can be reported, and its report is that of the run.
+use Rattle.std.proofs.Common.{◌≡◌, ℕ, List, Option, ◌∙◌, ap, refl, sym, subst}
+use Rattle.flat_machine.specs.declared.config.Config.{Config}
+use Rattle.elf_image.specs.Images.{ImageContents}
+use Rattle.trace_file.specs.Traces.{IsTrace, trace_bytes, trace_of}
+use Rattle.machine_steps.specs.Machines.{IsIdle}
+use Rattle.machine_steps.specs.Runs.{IsOpening, IsReplay}
+use Rattle.machine_log.specs.Logs.{Log}
+use Rattle.command_io.specs.declared.fault.Fault.{Fault}
+use Rattle.command_io.specs.declared.fault.Fault.TheVariants as fault
+use Rattle.command_io.specs.Printing.{IsPrinted}
+use Rattle.trace_commands.specs.Causes.{IsNoLogReport, IsNoRun}
+use Rattle.trace_commands.specs.Accounts.{CanBeReported, IsLogReport, IsPartSaved, IsReportOf, IsRunReport, IsSaved, Running}
+
+module _ (c : Config) (image : ImageContents) (log : Log) (opens : IsOpening c image log.opening) (replay : IsReplay log.opening log.steps log.machine) where
+  config_is : log.machine.config ≡ c
+  config_is = replay.run.config ∙ opens.config
+
+  image_is : log.machine.image ≡ image
+  image_is = replay.run.image ∙ opens.image_is
+
+  pub can_be_reported : image.shared_words ≡ c.shared_words → IsIdle log.machine → IsTrace (trace_of c log.steps) → CanBeReported log
+  can_be_reported words idle trace = record {
+    opens = subst (λ (x : Config × ImageContents). IsOpening x.0 x.1 log.opening) (λ i. (sym config_is i, sym image_is i)) opens;
+    words = ap (λ (i : ImageContents). i.shared_words) image_is ∙ words ∙ sym (ap (λ (d : Config). d.shared_words) config_is);
+    idle = idle;
+    trace = subst (λ (d : Config). IsTrace (trace_of d log.steps)) (sym config_is) trace;
+  }
+
+  module _ {T : Type 0} (contents : T → Option (List ℕ)) (is_run : Running) (run : is_run image log) (old new : Option T) (out out' : Option (List ℕ)) where
+    reported : (status : ℕ) (text : List ℕ) → IsLogReport contents log old new status text → IsRunReport contents is_run c old new status text
+    reported status text r = record {
+      steps = log.steps;
+      run = record {
+        image = image;
+        log = log;
+        run = run;
+        entered = refl;
+        report = subst (λ (x : Config × ImageContents). IsReportOf x.0 x.1 log.steps text status) (λ i. (config_is i, image_is i)) r.report;
+      };
+      saved = subst (λ (d : Config). IsSaved contents old new (trace_bytes (trace_of d log.steps))) config_is r.saved;
+    }
+
+    pub run_printed : (status : ℕ) → IsPrinted (IsLogReport contents log old new status) out out' →
+        IsPrinted (IsRunReport contents is_run c old new status) out out'
+    run_printed status p = record { text = p.text; meant = reported status p.text p.meant; printed = p.printed }
+
+    pub no_run : (is_not_run : Fault → Type 0) → is_not_run fault.Memory → (f : Fault) → IsNoLogReport contents log old new out out' f →
+        IsNoRun contents is_run is_not_run c old new out out' f
+    no_run is_not_run none (fault.Trace e) p = (
+      p.0,
+      record {
+        image = image;
+        log = log;
+        run = run;
+        part = subst (λ (d : Config). IsPartSaved contents old new (trace_bytes (trace_of d log.steps))) config_is p.1;
+      },
+    )
+    no_run is_not_run none fault.Link p = record { text = p.text; meant = (p.meant.0, reported p.meant.0 p.text p.meant.1); part = p.part }
+    no_run is_not_run none fault.Memory p = (none, p)
+    no_run is_not_run none fault.Size p = absurd p
+    no_run is_not_run none (fault.Stalled place) p = absurd p
+    no_run is_not_run none fault.Budget p = absurd p
+    no_run is_not_run none fault.Full p = absurd p
+    no_run is_not_run none fault.Loan p = absurd p
+    no_run is_not_run none fault.Start p = absurd p
+    no_run is_not_run none fault.States p = absurd p
+    no_run is_not_run none fault.Alone p = absurd p
+    no_run is_not_run none fault.NotUtf8 p = absurd p
+    no_run is_not_run none (fault.Line number) p = absurd p
+    no_run is_not_run none (fault.Text e) p = absurd p
+    no_run is_not_run none (fault.Image e) p = absurd p

@@ -1,0 +1,11 @@
+pub mod Retaking
+pub mod Reports
+pub mod Accounts
+pub mod Explained
+pub mod Causes
+pub mod Taking
+pub mod Orders
+pub mod Stories
+pub mod Longest
+pub mod Stats
+pub mod Pictures

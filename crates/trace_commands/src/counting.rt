@@ -1,0 +1,58 @@
+//! Counts of steps that a machine takes, and the longest queues that it passes.
+
+ghost use Rattle.std.specs.Prelude.{◌≡◌, IfOk, OnOk};
+ghost use Rattle.machine_steps.specs.Runs.{IsRun};
+ghost use Rattle.run_counts.specs.Counting.{noted_of, size_of};
+ghost use Rattle.run_counts.specs.Counts.{AreCounts};
+ghost use Rattle.machine_steps.specs.messages.Network.{IsEmptyNet};
+ghost use Rattle.omega_network.specs.Networks.{net_of};
+ghost use Rattle.machine_steps.specs.Answers.{answers_of};
+ghost use Rattle.trace_commands.specs.Longest.{AreLongest};
+
+use crate::longest::look;
+use machine_steps::{Machine, answers_go_on, machine_is_sound};
+use run_counts::{Counts, Longest, counts_go_on};
+use std::alloc::{AllocError, Global};
+use steps::{Groups, Outcome, Step, groups_go_on};
+
+/// Takes these steps, and counts what they do. Finds the longest queues and wait buffers of the networks that the machine
+/// passes, where it begins with an empty one.
+///
+/// # Errors
+///
+/// [`AllocError`] where there is no memory for the counts.
+pub fn counted(
+    alloc: Global,
+    machine: &mut Machine,
+    steps: &[Step],
+) -> Result<(Counts, Longest), AllocError>
+    ensures counts { IfOk result (λ found. AreCounts (noted_of (answers_of machine.old steps.now)) found.0) }
+    ensures longest { IfOk result (λ found. IsEmptyNet (net_of machine.old.network) → AreLongest machine.old steps.now found.1) }
+    ensures run { OnOk result (IsRun machine.old steps.now machine.new) }
+{
+    machine_is_sound(machine);
+    answers_go_on();
+    groups_go_on();
+    counts_go_on();
+    let mut groups = Groups::new(alloc)?;
+    let mut counts = Counts::new(alloc)?;
+    let mut longest = Longest::none();
+    for step in steps {
+        let outcome = machine.apply(*step);
+        let size = size_of(&groups, &outcome);
+        counts.note(step, &outcome, size);
+        groups.note(alloc, step, &outcome)?;
+        look(&mut longest, machine, step);
+    }
+    Ok((counts, longest))
+}
+
+/// For how many processors a module has served.
+fn size_of(groups: &Groups, outcome: &Outcome) -> usize
+    ensures { result ≡ size_of groups.now outcome.now }
+{
+    match *outcome {
+        Outcome::Served { leader } => groups.of(leader).len(),
+        _ => 0,
+    }
+}

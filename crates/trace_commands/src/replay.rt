@@ -1,0 +1,69 @@
+//! `ultra replay`: from the bytes of a trace and of an image to the report of the machine.
+
+ghost use Rattle.std.specs.Prelude.{◌≡◌, ◌≤◌, true, false, IsErr};
+ghost use Rattle.trace_commands.specs.Causes.{IsNoReplay};
+ghost use Rattle.trace_commands.specs.Accounts.{IsReplayReport, known_of};
+ghost use Rattle.command_io.specs.Printing.{IsPrinted, IsTold};
+
+use crate::account::{Account, account_command};
+use crate::reporting::report_with_status;
+use crate::taking::{drained, retaken};
+use command_io::{Fault, opened};
+use elf_image::Image;
+use flat_machine::Config;
+use link::LinkWrite;
+use machine_steps::machine_is_sound;
+use std::alloc::Global;
+use std::io;
+use std::io::{Read, Write};
+use steps::Step;
+
+/// Takes the steps of the trace that a file is, on the machine of the trace's size, and of so many shared
+/// words, that opens on the image that another file is; then takes steps until no reference is open, and
+/// prints the report. What processors show in these last steps counts too. That the image's file cannot be
+/// opened is told where the trace has no fault.
+///
+/// Answers the exit status: 0 where the report is printed, 1 where it is and a processor is faulted, else
+/// that of the fault that is told on standard error. A fault is told in this order: of the trace, of the
+/// image, of the machine's size, of a step that stalls, of the report.
+pub fn replay_command<T: Read + Drop, R: Read + Drop, W: LinkWrite, E: Write>(
+    alloc: Global,
+    trace: T,
+    file: io::Result<R>,
+    shared_words: u32,
+    out: &mut W,
+    err: &mut E,
+) -> u8
+    requires { W.has_failed out.old ≡ false }
+    ensures replayed { result ≤ 1 → IsPrinted (IsReplayReport shared_words (T.remaining trace) (known_of R.remaining file) result) (W.contents out.old)
+        (W.contents out.new) }
+    ensures told { 2 ≤ result → IsTold W.has_failed Fault.Link (IsErr file)
+        (IsNoReplay shared_words (T.remaining trace) (known_of R.remaining file) (W.contents out.old) (W.contents out.new)) out.old out.new result }
+    ensures failed { W.has_failed out.new ≡ true → result ≡ 3 }
+{
+    account_command(alloc, trace, file, shared_words, &Report, out, err)
+}
+
+/// The report of the machine after the steps of a trace and a drain: what [`replay_command`] tells.
+#[derive(Clone, Copy, Debug, Drop)]
+pub struct Report;
+
+impl Account for Report {
+    ghost use Rattle.trace_commands.specs.Accounts.{IsDrainedReport};
+
+    ghost tells = { λ report. IsDrainedReport };
+
+    fn text(
+        &self,
+        alloc: Global,
+        image: &Image,
+        config: Config,
+        steps: &[Step],
+    ) -> Result<(String, u8), Fault> {
+        let mut machine = opened(alloc, image, config)?;
+        machine_is_sound(&machine);
+        let mut tally = retaken(alloc, &mut machine, steps)?;
+        drained(&mut machine, &mut tally)?;
+        Ok(report_with_status(alloc, &machine, &tally, None)?)
+    }
+}

@@ -1,3 +1,0 @@
-pub mod Stopping
-pub mod OneOpening
-pub mod Lemmas

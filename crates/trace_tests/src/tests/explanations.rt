@@ -1,0 +1,220 @@
+//! `ultra explain`: what no clause says of it.
+
+use explain_command::{Topic, all_topics, explain_command};
+use link::{Link, Meter};
+use std::alloc::{AllocError, Global};
+use std::process::Abort;
+use std::test::Fail;
+use test_support::{Full, Sink, assert_same};
+
+/// What asking for a word comes to.
+#[derive(Drop)]
+struct Ran {
+    status: u8,
+    out: Vec<u8>,
+    err: Vec<u8>,
+}
+
+fn run(alloc: Global, word: Option<&str>) -> Ran {
+    let mut out = Meter::new(Vec::new(alloc));
+    let mut err = Vec::new(alloc);
+    let status = explain_command(alloc, &all_topics(), word, &mut out, &mut err);
+    Ran {
+        status,
+        out: out.device,
+        err,
+    }
+}
+
+/// What is to be explained, in the order of the list: all that commands and libraries tell, the faults of a processor, the
+/// errors of the debugger, the pages.
+static NAMES: [&str; 50] = [
+    "V1",
+    "A1",
+    "A2",
+    "A3",
+    "A4",
+    "A5",
+    "A6",
+    "A7",
+    "I1",
+    "I2",
+    "I3",
+    "I4",
+    "I5",
+    "I6",
+    "I7",
+    "I8",
+    "I9",
+    "I10",
+    "K1",
+    "X1",
+    "X2",
+    "X3",
+    "X4",
+    "X5",
+    "X6",
+    "X7",
+    "link",
+    "budget",
+    "states",
+    "alone",
+    "L2",
+    "L4",
+    "Start",
+    "memory",
+    "1",
+    "2",
+    "3",
+    "4",
+    "5",
+    "6",
+    "7",
+    "8",
+    "E01",
+    "E02",
+    "E03",
+    "E04",
+    "E05",
+    "E06",
+    "calls",
+    "memory-map",
+];
+
+/// The name of a topic, in letters of both cases.
+fn words_of(alloc: Global, name: &str) -> Result<[String; 2], AllocError> {
+    let mut words = [String::new(alloc), String::new(alloc)];
+    for letter in name.chars() {
+        words[0].push(letter.to_ascii_lowercase())?;
+        words[1].push(letter.to_ascii_uppercase())?;
+    }
+    Ok(words)
+}
+
+/// Each name is explained in both cases, by a text that begins with its line.
+#[test]
+fn explains_each_name(rt: HostRuntime) -> Result<(), Fail> {
+    for name in &NAMES {
+        for word in &words_of(rt.alloc(), name)? {
+            let ran = run(rt.alloc(), Some(word.as_str()));
+            let beginning = format!(in rt.alloc(); "{name}: ")?;
+            assert!(rt; ran.out.starts_with(beginning.as_bytes()), "{word}");
+            assert!(rt; ran.out.ends_with(b"\n"), "{word}");
+            assert_same!(rt; ran.err.len(), 0, word);
+            assert_same!(rt; ran.status, 0, word);
+        }
+    }
+    Ok(())
+}
+
+/// The lines of the list that are neither empty nor above others, up to their colon.
+#[test]
+fn lists_each_name(rt: HostRuntime) -> Result<(), Fail> {
+    let ran = run(rt.alloc(), None);
+    assert_same!(rt; ran.status, 0);
+    assert_same!(rt; ran.err.len(), 0);
+    let text = str::from_utf8(ran.out.as_slice())?;
+    let mut names = NAMES.iter();
+    for line in text.lines() {
+        if let Some((name, _)) = line.split_once(": ") {
+            assert_same!(rt; Some(&name), names.next(), line);
+        }
+    }
+    assert!(rt; names.next().is_none());
+    Ok(())
+}
+
+/// The meaning is one line, and the advice whole lines that a terminal of 100 columns shows.
+fn is_laid_out(topic: &Topic) -> bool {
+    topic.name.len() + topic.meaning.len() < 100
+        && !topic.meaning.contains('\n')
+        && topic.advice.ends_with('\n')
+        && topic.advice.lines().all(|line| line.len() <= 102)
+}
+
+#[test]
+fn texts_are_laid_out(rt: HostRuntime) {
+    let all = all_topics();
+    assert_laid_out(&rt, all.codes);
+    assert_laid_out(&rt, all.ends);
+    assert_laid_out(&rt, all.faults);
+    assert_laid_out(&rt, all.replies);
+    assert_laid_out(&rt, all.pages);
+}
+
+fn assert_laid_out(rt: &impl Abort, topics: &[Topic]) {
+    for topic in topics {
+        assert!(rt; is_laid_out(topic), "{}", topic.name);
+    }
+}
+
+/// What a word that names nothing is answered.
+fn refusal_of(alloc: Global, word: &str) -> Result<String, AllocError> {
+    format!(in alloc; "error: unrecognized code '{word}'\n\n`ultra explain` lists what there is.\n")
+}
+
+/// Words that name nothing, though a part of them, or of what they are cut from, does.
+#[test]
+fn refuses_an_unknown_word(rt: HostRuntime) -> Result<(), Fail> {
+    for word in [
+        "",
+        "A",
+        "A33",
+        "A3 ",
+        "A3 line 2",
+        "ultra: A3",
+        "0",
+        "9",
+        "04",
+        "fault",
+        "memory map",
+        "\u{391}1",
+    ] {
+        assert!(rt; all_topics().named(word).is_none(), "{word}");
+        let ran = run(rt.alloc(), Some(word));
+        let told = refusal_of(rt.alloc(), word)?;
+        assert_same!(rt; ran.err.as_slice(), told.as_bytes());
+        assert_same!(rt; ran.out.len(), 0, word);
+        assert_same!(rt; ran.status, 2, word);
+    }
+    Ok(())
+}
+
+/// Where standard output fails, a beginning of the text is printed.
+#[test]
+fn tells_that_it_cannot_print(rt: HostRuntime) {
+    let alloc = rt.alloc();
+    for word in [None, Some("A3")] {
+        let whole = run(alloc, word);
+        for room in [0, 1, 7] {
+            let mut out = Meter::new(Sink::new(Vec::new(alloc), room + 1));
+            let mut err = Vec::new(alloc);
+            assert_same!(rt; explain_command(alloc, &all_topics(), word, &mut out, &mut err), 3);
+            assert_same!(rt; out.device.bytes.len(), room);
+            assert!(rt; whole.out.starts_with(out.device.bytes.as_slice()));
+            assert_same!(rt; err.as_slice(), b"ultra: link\n".as_slice());
+        }
+    }
+    let mut out = Meter::new(Full);
+    assert_same!(rt; explain_command(alloc, &all_topics(), Some("none"), &mut out, &mut Full), 2);
+    assert!(rt; !out.failed());
+}
+
+/// Each allocation of this test is to be refused in turn. Then the answer is that of ample memory, or that there is none.
+#[test]
+fn is_short_of_memory(rt: HostRuntime) -> Result<(), Fail> {
+    let alloc = rt.alloc();
+    for word in [None, Some("a3")] {
+        let mut out = Meter::new(Sink::new(Vec::with_capacity(alloc, 8192)?, 0));
+        let mut err = Vec::with_capacity(alloc, 64)?;
+        match explain_command(alloc, &all_topics(), word, &mut out, &mut err) {
+            0 => assert!(rt; 0 < out.device.bytes.len()),
+            status => {
+                assert_same!(rt; status, 4);
+                assert_same!(rt; err.as_slice(), b"ultra: memory\n".as_slice());
+                assert_same!(rt; out.device.bytes.len(), 0);
+            }
+        }
+    }
+    Ok(())
+}

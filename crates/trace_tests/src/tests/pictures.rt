@@ -1,0 +1,46 @@
+//! Pictures of small traces: which messages stand where is worked out by hand from the wires of the network, and what is told
+//! where there is no picture.
+
+mod ends;
+mod travelling;
+
+use super::same;
+use link::Meter;
+use std::alloc::Global;
+use std::io;
+use trace_commands::{Picture, account_command};
+
+/// What the command comes to.
+#[derive(Drop)]
+struct Ran {
+    status: u8,
+    out: Vec<u8>,
+    err: Vec<u8>,
+}
+
+/// The picture of a trace on an image, with so many shared words, behind so many steps.
+fn run(
+    alloc: Global,
+    trace: &[u8],
+    file: io::Result<&[u8]>,
+    shared_words: u32,
+    step: Option<u32>,
+) -> Ran {
+    let mut out = Meter::new(Vec::new(alloc));
+    let mut err = Vec::new(alloc);
+    let picture = Picture { step };
+    let status = account_command(
+        alloc,
+        trace,
+        file,
+        shared_words,
+        &picture,
+        &mut out,
+        &mut err,
+    );
+    Ran {
+        status,
+        out: out.device,
+        err,
+    }
+}

@@ -1,7 +1,0 @@
-use Rattle.std.proofs.Common.{◌∙◌, ap}
-use Rattle.wire_sets.specs.Members.{members}
-use Rattle.wire_sets.proofs.Changes.{bit_is_member}
-use Rattle.wire_sets.proofs.wire_set.WireSet.contains.Goals as goal
-
-pub returns : goal.returns
-returns c = bit_is_member c.self.inside.bits c.args.wire ∙ ap (λ s. members s c.args.wire) c.self.view_is
