@@ -1,0 +1,73 @@
+//! Bytes through the queue of one sender.
+
+ghost use Rattle.std.specs.Prelude.{◌≡◌, map, IfOk};
+ghost use Rattle.console_monitor.specs.Ends.{sender_queue};
+ghost use Rattle.processor_threads.specs.Consoles.{end_queue};
+
+use console_monitor::{CAPACITY, ConsoleRefusal, End, Monitor, Sender, console};
+use std::alloc::{AllocError, Global};
+use std::process::Abort;
+use std::sync::Wait;
+use std::test::Fail;
+use test_support::assert_same;
+
+/// Bytes are taken in the order in which they were put. A full queue gives the byte back.
+#[test]
+fn bytes_go_through(rt: HostRuntime) -> Result<(), Fail> {
+    let (mut senders, mut monitor): (Vec<Sender>, Monitor) = console(rt.alloc(), 1)?;
+    let Some(mut sender) = senders.pop() else {
+        return Err(Fail::new("no sender"));
+    };
+    assert_same!(rt; monitor.take(0), None);
+    for _ in 0..CAPACITY {
+        assert_same!(rt; sender.put(&rt, b'a'), Ok(()));
+    }
+    assert_same!(rt; sender.put(&rt, b'b'), Err(b'b'));
+    assert_same!(rt; monitor.take(0), Some(b'a'));
+    assert_same!(rt; sender.put(&rt, b'b'), Ok(()));
+    Ok(())
+}
+
+/// A sender puts one byte, and ends with another in its hand.
+fn end_of<R: Wait + Abort>(rt: &R, mut sender: Sender) -> End
+    ensures { end_queue result ≡ sender_queue sender }
+{
+    assert_same!(rt; sender.put(rt, b'a'), Ok(()));
+    End {
+        sender,
+        held: Some(b'b'),
+    }
+}
+
+/// Each sender does so.
+fn ended<R: Wait + Abort>(
+    rt: &R,
+    alloc: Global,
+    senders: Vec<Sender>,
+) -> Result<Vec<End>, AllocError>
+    ensures { IfOk result (λ ends. map end_queue ends.items ≡ map sender_queue senders.items) }
+{
+    let mut ends = Vec::new(alloc);
+    for sender in senders {
+        ends.push(end_of(rt, sender))?;
+    }
+    Ok(ends)
+}
+
+/// What is left of two senders.
+fn left<R: Wait + Abort>(rt: &R, alloc: Global) -> Result<Vec<Vec<u8>>, ConsoleRefusal> {
+    let (senders, monitor) = console(alloc, 2)?;
+    let ends = ended(rt, alloc, senders)?;
+    monitor.finish(rt, alloc, ends)
+}
+
+/// What nobody has taken comes at the end, and behind it what each sender still had.
+#[test]
+fn bytes_are_left(rt: HostRuntime) -> Result<(), Fail> {
+    let left = left(&rt, rt.alloc())?;
+    assert_same!(rt; left.len(), 2);
+    for bytes in &left {
+        assert_same!(rt; bytes.as_slice(), b"ab".as_slice());
+    }
+    Ok(())
+}

@@ -1,0 +1,81 @@
+//! Images, there and back, on devices that work and on devices that fail.
+
+ghost use Rattle.std.specs.Prelude.{◌≡◌, true};
+ghost use Rattle.elf_image.specs.Spellings.{FitsRegions};
+
+use super::size;
+use elf_image::{Config, Image, ImageError, Layout, Link, Meter, read_image, write_image};
+use std::alloc::Global;
+use std::process::Abort;
+use std::test::Fail;
+use test_support::{EBREAK, Sink, Source, assert_same};
+
+/// Whether a layout fits its regions.
+fn fits(layout: &Layout) -> bool
+    ensures { result ≡ true → FitsRegions layout.now }
+{
+    layout.code.len() <= 0x0001_0000
+        && layout.local.len() <= 0x0001_0000
+        && layout.shared.len() <= 0x0010_0000
+}
+
+/// A copy of the image of `ebreak`.
+fn copy_of_ebreak(alloc: Global) -> Result<Image, ImageError> {
+    let config: Config = size(0);
+    let image = read_image(alloc, &mut Meter::new(EBREAK.as_slice()), &config)?;
+    image.copy(alloc)
+}
+
+/// What is written of a layout on a device that fails at this call, how it ended, and whether the device has failed.
+fn written(
+    rt: &impl Abort,
+    alloc: Global,
+    layout: &Layout,
+    fails_at: usize,
+) -> (Vec<u8>, Result<(), ImageError>, bool) {
+    assert!(rt; fits(layout));
+    let mut writer = Meter::new(Sink::new(Vec::new(alloc), fails_at));
+    let ended = write_image(&mut writer, layout);
+    let has_failed = writer.failed();
+    (writer.device.bytes, ended, has_failed)
+}
+
+#[test]
+fn an_image_has_its_layout(rt: HostRuntime) -> Result<(), Fail> {
+    let image = copy_of_ebreak(rt.alloc())?;
+    let layout = image.layout();
+    assert_same!(rt; layout.entry, 0x0001_0000);
+    assert_same!(rt; layout.code.as_slice(), [0x73, 0, 0x10, 0].as_slice());
+    assert!(rt; layout.local.is_empty() && layout.shared.is_empty());
+    Ok(())
+}
+
+/// A writer takes a byte at each call, and has those before the call that fails.
+#[test]
+fn an_image_is_written(rt: HostRuntime) -> Result<(), Fail> {
+    let image = copy_of_ebreak(rt.alloc())?;
+    for (fails_at, count, ended) in [(0, 88, Ok(())), (5, 4, Err(ImageError::Link))] {
+        let (bytes, found, has_failed) = written(&rt, rt.alloc(), image.layout(), fails_at);
+        assert_same!(rt; bytes.as_slice(), &EBREAK[..count]);
+        assert_same!(rt; (found, has_failed), (ended, ended.is_err()));
+    }
+    Ok(())
+}
+
+/// Why these bytes are refused, of which a read fails, and whether the reader has failed.
+fn refusal(alloc: Global, bytes: &[u8], fails_at: usize) -> (Option<ImageError>, bool) {
+    let mut reader = Meter::new(Source::new(bytes, fails_at));
+    let refused = read_image(alloc, &mut reader, &size(0)).err();
+    (refused, reader.failed())
+}
+
+#[test]
+fn images_are_refused(rt: HostRuntime) {
+    for (count, fails_at, wanted) in [
+        (88, 0, (None, false)),
+        (51, 0, (Some(ImageError::Truncated), false)),
+        (88, 3, (Some(ImageError::Link), true)),
+    ] {
+        assert_same!(rt; refusal(rt.alloc(), &EBREAK[..count], fails_at), wanted, count);
+    }
+}

@@ -1,0 +1,190 @@
+//! Wires, the records of an output, one switch, and a network of one stage.
+
+ghost use Rattle.std.specs.Prelude.{◌≡◌};
+
+use combining_switch::{Accepted, Answered, Pool, Switch};
+use omega_network::{DownMove, Network, Record, Reply, Request, Seconds, UpMove};
+use omega_wires::{
+    WireSet, bit, input_port, module_of, path, rotate_left, rotate_right, switch_of, wire_after,
+    wire_before,
+};
+use phi_algebra::Phi;
+use std::test::Fail;
+use test_support::assert_same;
+use wait_buffers::WaitBuffer;
+
+/// From processor 101 to module 011: shuffled 011, it leaves by port 0, on wire 010.
+#[test]
+fn wires_of_a_path(rt: HostRuntime) {
+    assert_same!(rt; (rotate_left(3, 5), rotate_right(3, 3)), (3, 5));
+    assert_same!(rt; (switch_of(3, 5), input_port(3, 5)), (1, 1));
+    assert_same!(rt; (wire_after(3, 0, 5, 3), wire_before(3, 0, 2, 5)), (2, 5));
+    assert_same!(rt; (path(3, 5, 3, 1), path(3, 5, 3, 3)), (2, 3));
+    assert_same!(rt; (module_of(11, 2), bit(2, 0b100)), (3, 1));
+    let mut set = WireSet::new();
+    set.insert(17);
+    assert!(rt; set.contains(17));
+    assert_same!(rt; set.first_from(0), Some(17));
+    set.remove(17);
+    assert_same!(rt; set.first_from(0), None);
+}
+
+/// A request as it comes from a processor: it adds to word 0.
+fn request(leader: u8, addend: u32) -> Request
+    ensures { result.leader ≡ leader }
+{
+    Request {
+        leader,
+        word: 0,
+        phi: Phi::Add(addend),
+        marks: 0,
+    }
+}
+
+/// Two such requests, of which the first is of processor 3, once they are combined.
+const JOINT: Request = Request {
+    leader: 3,
+    word: 0,
+    phi: Phi::Add(3),
+    marks: 1,
+};
+
+#[test]
+fn records_wait(rt: HostRuntime) {
+    let mut buffer = WaitBuffer::new(1);
+    assert!(rt; buffer.has_room());
+    buffer.push(Record {
+        leader: 3,
+        phi: Phi::Add(1),
+        second: 2,
+    });
+    assert!(rt; !buffer.has_room());
+    assert_same!(rt; buffer.records().len(), 1);
+    buffer.forget(3);
+    assert!(rt; buffer.records().is_empty());
+}
+
+/// Two requests come to output 1 of a switch, and go on as one.
+#[test]
+fn a_switch_combines(rt: HostRuntime) -> Result<(), Fail> {
+    let mut pool = Pool::new(rt.alloc(), 8, 2, 2)?;
+    let mut switch = Switch::new(2, 1, 1, 0, (0, 1), (0, 1));
+    assert!(rt; pool.is_free(3));
+    assert_same!(rt; switch.accept(&mut pool, 1, request(3, 1)), Accepted::Queued);
+    assert!(rt; pool.is_free(2));
+    assert_same!(rt; switch.accept(&mut pool, 1, request(2, 2)), Accepted::Combined { first: 3 });
+    assert_same!(rt; (switch.front(&pool, 0), switch.front(&pool, 1)), (None, Some(JOINT)));
+    assert_same!(rt; switch.take(&mut pool, 1), Some(JOINT));
+    assert_same!(rt; switch.front(&pool, 1), None);
+    Ok(())
+}
+
+/// Without records nothing is combined, and a queue of two takes no third request.
+#[test]
+fn a_switch_is_full(rt: HostRuntime) -> Result<(), Fail> {
+    let mut pool = Pool::new(rt.alloc(), 8, 2, 2)?;
+    let mut switch = Switch::new(2, 0, 1, 0, (0, 1), (0, 1));
+    assert!(rt; pool.is_free(3));
+    assert_same!(rt; switch.accept(&mut pool, 1, request(3, 1)), Accepted::Queued);
+    assert!(rt; pool.is_free(2));
+    assert_same!(rt; switch.accept(&mut pool, 1, request(2, 2)), Accepted::Queued);
+    assert!(rt; pool.is_free(1));
+    assert_same!(rt; switch.accept(&mut pool, 1, request(1, 3)), Accepted::Full);
+    Ok(())
+}
+
+/// The reply of a request that was not combined.
+#[test]
+fn a_switch_answers(rt: HostRuntime) -> Result<(), Fail> {
+    let mut pool = Pool::new(rt.alloc(), 8, 2, 2)?;
+    let mut switch = Switch::new(2, 1, 1, 0, (0, 1), (0, 1));
+    let reply = Reply {
+        leader: 3,
+        value: 9,
+    };
+    assert!(rt; pool.is_free(3));
+    pool.push_reply(1, reply);
+    assert_same!(rt; (switch.reply_front(&pool, 0), switch.reply_front(&pool, 1)), (None, Some(reply)));
+    assert_same!(rt; switch.reply_take(&mut pool, 1), Some(reply));
+    assert!(rt; switch.records(1).is_empty());
+    assert!(rt; pool.is_free(3));
+    match switch.answer(&mut pool, 1, reply) {
+        Answered::One => Ok(()),
+        Answered::Many { seconds } => Err(Fail::new(format_args!("also {seconds:?}"))),
+        Answered::NoRoom => Err(Fail::new("no room")),
+    }
+}
+
+/// Whether a processor can put a request into its slot.
+fn puts(network: &mut Network, p: u8, addend: u32) -> bool {
+    let fits = p < network.wires() && network.slot_is_free(p) && !network.names(p);
+    if fits {
+        network.inject(p, request(p, addend));
+    }
+    fits
+}
+
+/// Moves a request; it stalls where there is no such place.
+fn up(network: &mut Network, stage: u8, wire: u8) -> UpMove {
+    if stage < network.stages() && wire < network.wires() {
+        network.up(stage, wire)
+    } else {
+        UpMove::Stalled
+    }
+}
+
+/// Moves a reply; it stalls where there is no such place.
+fn down(network: &mut Network, stage: u8, wire: u8) -> DownMove {
+    if stage < network.stages() && wire < network.wires() {
+        network.down(stage, wire)
+    } else {
+        DownMove::Stalled
+    }
+}
+
+/// Takes the request at module 0, and replies with a value: what it adds.
+fn serve(network: &mut Network, value: u32) -> Option<Phi> {
+    let shown = network.module_front(0)?;
+    network.module_take(0);
+    let leader = shown.leader;
+    if !network.module_is_free(0) || leader >= network.wires() || !network.may_reply(leader) {
+        return None;
+    }
+    network.module_reply(0, Reply { leader, value });
+    Some(shown.phi)
+}
+
+/// What a processor takes, where that is what it was shown.
+fn take(network: &mut Network, p: u8) -> Option<u32> {
+    if p >= network.wires() {
+        return None;
+    }
+    let shown = network.port_reply(p)?;
+    match network.port_take(p) {
+        Some(reply) if reply == shown => Some(reply.value),
+        _ => None,
+    }
+}
+
+/// Two processors add 1 and 2 to a word of 10. Their requests combine at the one stage, and their replies part there.
+#[test]
+fn a_network_combines(rt: HostRuntime) -> Result<(), Fail> {
+    let mut network = Network::new(rt.alloc(), 1, 2, 1, 1)?;
+    assert!(rt; network.is_empty());
+    assert!(rt; puts(&mut network, 0, 1) && puts(&mut network, 1, 2));
+    assert!(rt; !network.is_empty());
+    assert_same!(rt; up(&mut network, 0, 0), UpMove::Moved);
+    let combined = UpMove::Combined {
+        first: 0,
+        second: 1,
+    };
+    assert_same!(rt; up(&mut network, 0, 1), combined);
+    assert_same!(rt; serve(&mut network, 10), Some(Phi::Add(3)));
+    let answered = DownMove::Answered {
+        to: Seconds::One(1),
+    };
+    assert_same!(rt; down(&mut network, 0, 0), answered);
+    assert_same!(rt; (take(&mut network, 0), take(&mut network, 1)), (Some(10), Some(11)));
+    assert!(rt; network.is_empty());
+    Ok(())
+}

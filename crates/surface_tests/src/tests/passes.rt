@@ -1,0 +1,146 @@
+//! A machine of one processor under its lock, the pass of that processor, and its core on loan.
+
+ghost use Rattle.std.specs.Prelude.{◌≡◌, ◌^◌};
+ghost use Rattle.machine_lock.specs.Passes.{IsWhole};
+
+use super::{log_of, size};
+use machine_lock::{Event, Loan, LocalEnd, LockRefusal, Logged, Pass, Room, Row, Run, Shared};
+use machine_steps::{Outcome, Step};
+use std::alloc::Global;
+use std::marker::Brand;
+use std::process::Abort;
+use std::sync::Wait;
+use std::test::Fail;
+use test_support::{assert_same, lend};
+
+/// Two instructions that refer to none, and one that adds 5 to shared word 0.
+const TEXT: &str = "lui x12, 0x80000\naddi x11, x0, 5\namoadd.w x10, x11, (x12)";
+
+/// Takes local instructions with the core on loan, as many as there are.
+fn take_local<N: Run, R: Wait + Abort>(
+    rt: &R,
+    alloc: Global,
+    shared: &Shared<N>,
+    pass: &mut Pass<N>,
+) -> Result<(), LockRefusal>
+    ensures { pass.new.processor ≡ pass.old.processor }
+{
+    let mut loan: Loan<N> = match shared.lend(rt, alloc, pass, 64) {
+        Ok(loan) => loan,
+        Err(refusal) => return Err(refusal),
+    };
+    assert_same!(rt; loan.run_local(), LocalEnd::Other);
+    assert!(rt; shared.give_back(rt, pass, loan).is_ok());
+    Ok(())
+}
+
+/// Takes a reference: its turn, its service, and the turn that takes the reply.
+fn refer<N: Run, R: Wait + Abort>(
+    rt: &R,
+    shared: &Shared<N>,
+    pass: &mut Pass<N>,
+) -> Result<(), LockRefusal>
+    ensures { pass.new.processor ≡ pass.old.processor }
+{
+    assert_same!(rt; shared.turn(rt, pass)?, Outcome::Issued);
+    let served = Outcome::Served { leader: 0 };
+    assert_same!(rt; shared.net(rt, pass, Step::Serve(0))?, served);
+    assert_same!(rt; shared.net(rt, pass, Step::Turn(0)), Err(LockRefusal::Unnamed));
+    assert!(rt; matches!(shared.turn(rt, pass)?, Outcome::Retired(_)));
+    Ok(())
+}
+
+/// Takes both local instructions and the reference.
+fn take_all<N: Run, R: Wait + Abort>(
+    rt: &R,
+    alloc: Global,
+    shared: &Shared<N>,
+    pass: &mut Pass<N>,
+) -> Result<(), Fail>
+    ensures { pass.new.processor ≡ pass.old.processor }
+{
+    take_local(rt, alloc, shared, pass)?;
+    refer(rt, shared, pass)?;
+    Ok(())
+}
+
+/// The same by the first of the passes.
+fn take_all_first<N: Run, R: Wait + Abort>(
+    rt: &R,
+    alloc: Global,
+    shared: &Shared<N>,
+    passes: &mut Vec<Pass<N>>,
+) -> Result<(), Fail>
+    requires whole { IsWhole N.count passes.old.items }
+    ensures whole { IsWhole N.count passes.new.items }
+{
+    if passes.len() == 0 {
+        return Err(Fail::new("no pass"));
+    }
+    take_all(rt, alloc, shared, &mut passes[0])
+}
+
+/// A pass has three retirements, at places 0, 1 and 4, and was told last of the turn at place 4.
+fn has_retired<N: Run>(rt: &impl Abort, pass: &Pass<N>) {
+    assert_same!(rt; (pass.processor(), pass.steps(), pass.is_lent()), (0, 5, false));
+    assert_same!(rt; pass.notices().len(), 3);
+    for (notice, place) in pass.notices().iter().zip([0, 1, 4]) {
+        assert_same!(rt; notice.place, place);
+        assert!(rt; matches!(notice.event, Event::Retired(_)), "{place}");
+    }
+    let last = pass.last().map(|answer| (answer.step, answer.place));
+    assert_same!(rt; last, Some((Step::Turn(0), 4)));
+}
+
+/// Takes all, and brings the pass and the log together.
+fn by_passes<N: Run, R: Wait + Abort>(
+    rt: &R,
+    alloc: Global,
+    shared: Shared<N>,
+    mut passes: Vec<Pass<N>>,
+) -> Result<(), Fail>
+    requires { IsWhole N.count passes.items }
+{
+    let taken = take_all_first(rt, alloc, &shared, &mut passes);
+    lend(shared.gather(passes), |(logged, passes)| {
+        assert_same!(rt; logged.machine().word(0), Some(5));
+        assert_same!(rt; logged.steps().len(), 5);
+        assert_same!(rt; passes.len(), 1);
+        for pass in passes.iter() {
+            has_retired(rt, pass);
+        }
+    });
+    taken
+}
+
+/// Puts a log under a lock.
+fn go<N: Run, R: Wait + Abort>(
+    rt: &R,
+    alloc: Global,
+    room: Room<Row>,
+    logged: Logged,
+) -> Result<(), Fail>
+    requires room { room ≡ N.table }
+    requires opening { logged.opening ≡ N.opening }
+    requires first { logged.steps ≡ N.first }
+    requires count { N.count ≡ 2 ^ N.opening.config.k }
+{
+    match Shared::<N>::new(alloc, room, logged) {
+        Ok((shared, passes)) => by_passes(rt, alloc, shared, passes),
+        Err((_, refusal)) => Err(Fail::from(refusal)),
+    }
+}
+
+/// The same for a log that is just made.
+fn attempt<R: Wait + Abort>(rt: &R, alloc: Global, logged: Logged) -> Result<(), Fail> {
+    match Room::new(alloc) {
+        Ok(room) => go::<Brand, R>(rt, alloc, room, logged),
+        Err(error) => Err(Fail::from(error)),
+    }
+}
+
+#[test]
+fn a_pass_takes_turns(rt: HostRuntime) -> Result<(), Fail> {
+    let logged = log_of(rt.alloc(), TEXT, size(0))?;
+    attempt(&rt, rt.alloc(), logged)
+}

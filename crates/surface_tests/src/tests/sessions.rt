@@ -1,0 +1,129 @@
+//! Replies, sweeps and sessions of small machines.
+
+use super::{log_of, machine_of, size};
+use arrayvec::ArrayVec;
+use debug_lines::Command;
+use debug_replies::{Error, Faults, error_of, is_running, named_stop, show, show_stop};
+use debug_session::{Breaks, Runner, SessionEnd, Sweep, debug_end, serve};
+use elf_image::Meter;
+use machine_lock::{LockRefusal, Logged};
+use machine_steps::{Machine, Status};
+use std::alloc::Global;
+use std::process::Abort;
+use std::sync::Wait;
+use std::test::Fail;
+use test_support::{assert_same, lend};
+
+/// Refers to the shared word at `a2`, at which there is no memory where that is 0.
+const TEXT: &str = "amoadd.w a0, a1, (a2)";
+
+/// What a command shows of a machine.
+fn shown(rt: &impl Abort, machine: &Machine, line: &[u8]) -> ArrayVec<u8, 1024> {
+    let mut text = ArrayVec::new();
+    assert!(rt; machine.are_home());
+    show(machine, &Command::read(line), &mut text);
+    text
+}
+
+/// What is told of a machine in which nothing has stopped since it opened: no processor is named.
+fn stop_of(rt: &impl Abort, machine: &Machine) -> ArrayVec<u8, 1024> {
+    let mut text = ArrayVec::new();
+    assert!(rt; machine.are_home());
+    let before = Faults::of(machine);
+    show_stop(
+        machine,
+        named_stop(machine, &Breaks::new(), &before),
+        &mut text,
+    );
+    text
+}
+
+/// Whether a processor runs.
+fn runs(rt: &impl Abort, machine: &Machine, processor: u32) -> bool {
+    assert!(rt; machine.are_home());
+    is_running(machine, processor)
+}
+
+#[test]
+fn replies_over_a_machine(rt: HostRuntime) -> Result<(), Fail> {
+    lend(machine_of(rt.alloc(), TEXT, size(2))?, |machine| {
+        assert_same!(rt; error_of(machine, &Command::read(b"state 4")), Some(Error::Processor));
+        assert_same!(rt; error_of(machine, &Command::read(b"state 3")), None);
+        assert_same!(rt; shown(&rt, machine, b"mem 0 10000 4").as_slice(), b"2f25b600".as_slice());
+        assert_same!(rt; stop_of(&rt, machine).as_slice(), b"at -".as_slice());
+        assert!(rt; runs(&rt, machine, 3) && !runs(&rt, machine, 4));
+    });
+    Ok(())
+}
+
+/// Goes on, up to a break or a stop.
+fn go_on(rt: &impl Abort, log: &mut Logged, breaks: &Breaks) -> Result<(), LockRefusal> {
+    assert!(rt; log.machine().is_idle());
+    Sweep.run(log, breaks, 100)
+}
+
+/// A break is met before its instruction. Once it is cleared, the processor halts.
+#[test]
+fn sweeps_meet_breaks(rt: HostRuntime) -> Result<(), Fail> {
+    let mut breaks = Breaks::new();
+    assert!(rt; breaks.set(0x0001_0004) && !breaks.set(0x0001_0002));
+    assert!(rt; breaks.contains(0x0001_0004));
+    lend(
+        log_of(rt.alloc(), "addi x1, x0, 1\naddi x1, x1, 1\necall", size(0))?,
+        |log| {
+            assert_same!(rt; go_on(&rt, log, &breaks), Ok(()));
+            assert_same!(rt; (log.machine().pc(0), log.steps().len()), (Some(0x0001_0004), 1));
+            assert!(rt; breaks.clear(0x0001_0004));
+            assert_same!(rt; go_on(&rt, log, &breaks), Ok(()));
+            assert_same!(rt; log.machine().status(0), Some(Status::Halted(0)));
+        },
+    );
+    Ok(())
+}
+
+/// A session of these lines on a new machine of four: how it ends, what it writes, and the exit status.
+fn session(rt: &impl Wait, alloc: Global, input: &[u8]) -> Result<(SessionEnd, Vec<u8>, u8), Fail> {
+    let mut log = log_of(alloc, TEXT, size(2))?;
+    let mut writer = Meter::new(Vec::new(alloc));
+    let end = serve(
+        rt,
+        &mut Meter::new(input),
+        &mut writer,
+        &mut log,
+        &mut Sweep,
+        1000,
+    );
+    let status = debug_end(end, log.machine(), &mut Vec::new(alloc));
+    Ok((end, writer.device, status))
+}
+
+/// A session that ends well leaves the status to the machine; any other end has its own.
+#[test]
+fn sessions_have_their_status(rt: HostRuntime) -> Result<(), Fail> {
+    lend(machine_of(rt.alloc(), TEXT, size(0))?, |machine| {
+        for (end, wanted) in [
+            (SessionEnd::Quit, 0),
+            (SessionEnd::EndOfInput, 0),
+            (SessionEnd::ReadFailed, 3),
+            (SessionEnd::WriteFailed, 3),
+            (SessionEnd::Memory, 4),
+            (SessionEnd::TraceFull, 4),
+        ] {
+            let status = debug_end(end, machine, &mut Vec::new(rt.alloc()));
+            assert_same!(rt; status, wanted, end);
+        }
+    });
+    Ok(())
+}
+
+#[test]
+fn sessions_are_served(rt: HostRuntime) -> Result<(), Fail> {
+    let input = b"step 0\nstate 0\nstate 3\nstate 4\nquit\n";
+    let (end, output, status) = session(&rt, rt.alloc(), input)?;
+    assert_same!(rt; output.as_slice(), b"at 0\nfault 5\nrun\nE03\nok\n".as_slice());
+    assert_same!(rt; (end, status), (SessionEnd::Quit, 1));
+    let (end, output, status) = session(&rt, rt.alloc(), b"state 0")?;
+    assert_same!(rt; output.len(), 0);
+    assert_same!(rt; (end, status), (SessionEnd::EndOfInput, 0));
+    Ok(())
+}

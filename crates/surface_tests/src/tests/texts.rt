@@ -1,0 +1,61 @@
+//! Lines and texts of the assembler, there and back.
+
+use arrayvec::ArrayString;
+use asm_lines::{Instruction, LineError, LineFault, Statement, read_line};
+use assembler::{AsmError, AsmFault, Program, assemble, disassemble};
+use decode::{decode, encode};
+use std::alloc::Global;
+use std::test::Fail;
+use test_support::{EBREAK, assert_same};
+
+#[test]
+fn a_line_is_read(rt: HostRuntime) -> Result<(), Fail> {
+    match read_line(rt.alloc(), b"loop: addi.x # none") {
+        Ok(_) => return Err(Fail::from("no such instruction")),
+        Err(error) => assert_same!(rt; error, LineError::Fault(LineFault::Unknown)),
+    }
+    match read_line(rt.alloc(), b"loop: add x1, x5, x27 # sum") {
+        Ok(line) => {
+            let Some(Statement::Instruction(Instruction::Whole(insn))) = &line.statement else {
+                return Err(Fail::from("no instruction"));
+            };
+            assert_same!(rt; encode(insn), 0x01B2_80B3);
+            assert!(rt; line.label == Some(b"loop".as_slice()));
+        }
+        Err(_) => return Err(Fail::from("a fault")),
+    }
+    Ok(())
+}
+
+/// The image of a text.
+fn elf_of(alloc: Global, text: &str) -> Result<Vec<u8>, AsmError> {
+    let program: Program = assemble(alloc, text)?;
+    program.to_elf(alloc)
+}
+
+#[test]
+fn texts_are_assembled(rt: HostRuntime) -> Result<(), Fail> {
+    assert_same!(rt; elf_of(rt.alloc(), "ebreak")?.as_slice(), EBREAK.as_slice());
+    let refusal = AsmError {
+        line: 1,
+        fault: AsmFault::Range,
+    };
+    assert_same!(rt; elf_of(rt.alloc(), "addi x1, x0, 2048").err(), Some(refusal));
+    Ok(())
+}
+
+/// A text replaces the one before it.
+#[test]
+fn instructions_are_disassembled(rt: HostRuntime) -> Result<(), Fail> {
+    let mut text = ArrayString::new();
+    for (word, written) in [
+        (0x0010_0093, "addi x1, x0, 1"),
+        (0x00B6_252F, "amoadd.w x10, x11, (x12)"),
+        (0x0020_00EF, "jal x1, 2"),
+    ] {
+        let insn = decode(word).ok_or("spells nothing")?;
+        disassemble(&insn, &mut text);
+        assert_same!(rt; text.as_str(), written);
+    }
+    Ok(())
+}

@@ -1,0 +1,49 @@
+//! The trace of a program that halts at its first instruction: on a device, and taken again.
+
+use super::{machine_of, size};
+use elf_image::{Config, Meter};
+use machine_log::{StalledStep, replay};
+use machine_steps::{Status, Step};
+use std::alloc::Global;
+use std::process::Abort;
+use std::test::Fail;
+use test_support::{assert_same, lend};
+use trace_file::{TraceError, is_trace, read_trace, write_trace};
+
+/// The header of a machine of one processor, and one turn.
+static TRACE: [u8; 24] = [
+    0x55, 0x4C, 0x54, 0x52, 1, 0, 4, 4, 1, 0, 0, 0, // the header
+    1, 0, 0, 0, 0, 0, 0, 0, 0, 0, 0, 0, // the record
+];
+
+/// What is written of steps that have a trace.
+fn written(rt: &impl Abort, alloc: Global, config: &Config, steps: &[Step]) -> Vec<u8> {
+    assert!(rt; is_trace(config, steps));
+    let mut writer = Meter::new(Vec::new(alloc));
+    assert_same!(rt; write_trace(&mut writer, config, steps), Ok(()));
+    writer.device
+}
+
+#[test]
+fn a_trace_is_written_and_read(rt: HostRuntime) -> Result<(), Fail> {
+    let bytes = written(&rt, rt.alloc(), &size(0), &[Step::Turn(0)]);
+    assert_same!(rt; bytes.as_slice(), TRACE.as_slice());
+    let trace = read_trace(rt.alloc(), &mut Meter::new(TRACE.as_slice()))?;
+    assert_same!(rt; trace.steps(), [Step::Turn(0)].as_slice());
+    assert_same!(rt; trace.config(1024), size(0));
+    let short = read_trace(rt.alloc(), &mut Meter::new(&TRACE[..23]));
+    assert_same!(rt; short.err(), Some(TraceError::Truncated));
+    Ok(())
+}
+
+/// A processor that has halted takes no second turn.
+#[test]
+fn a_trace_is_replayed(rt: HostRuntime) -> Result<(), Fail> {
+    lend(machine_of(rt.alloc(), "ecall", size(0))?, |machine| {
+        let twice = [Step::Turn(0), Step::Turn(0)];
+        assert_same!(rt; replay(machine, &twice), Err(StalledStep { place: 1 }));
+        assert_same!(rt; machine.status(0), Some(Status::Halted(0)));
+        assert_same!(rt; replay(machine, &[]), Ok(()));
+    });
+    Ok(())
+}
