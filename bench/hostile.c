@@ -1,17 +1,17 @@
 // hostile PROGRAM SEED TRIES SECONDS FOLDER FILE..: gives the program inputs that nobody would write, and looks at what it answers.
-// It stops after so many tries, or so many seconds where TRIES is 0.
+// It stops after TRIES tries, or after SECONDS seconds if TRIES is 0.
 //
-// An input is one of the files with a few bytes changed, cut out, doubled or taken from another file; or bytes by chance; or lines of
-// words by chance, for the assembler and the reader of hex words. It goes to each command of the program that reads a file, or a
-// trace and an image. To `debug` go the lines of a debugger, some of them right ones, cut into pieces by chance; in one session of
-// eight the connection is closed in their midst.
+// An input is one of the files with a few bytes changed, cut out, doubled or taken from another file; or random bytes; or lines of
+// random words, for the assembler and the reader of hex words. It goes to one of the commands that read a file, or a trace and an
+// image. `debug` gets lines of a debugger, some of them right, cut into random pieces; in one of eight sessions the connection is
+// closed in the middle.
 //
 // The program has to end by itself within 20 seconds of its own time and 60 on the clock, in bounded memory, with a status from 0 to
-// 4. Where that is 0 or 1 it says nothing on standard error; else it says one fault there that has a code, and prints nothing. If sizes
-// are not explored, `explore --every` prints a line of each size, and says a fault for each that is not. Each line of a debugger has
-// one reply, up to the first `quit` and where the connection holds, and no reply is other than documented.
+// 4. If that is 0 or 1, it prints nothing on standard error. Otherwise it prints one fault there that has a code, and no output. If sizes
+// are not explored, `explore --every` prints a line for each size, and a fault for each that is not. Each line of a debugger has one
+// reply, up to the first `quit` and while the connection holds, and every reply is of a documented form.
 //
-// What breaks that is saved in FOLDER, with a line on standard output. The last line is how many tries ended with which status.
+// Inputs that break this are saved in FOLDER, each with a line on standard output. The last line counts the tries by status.
 #define _GNU_SOURCE
 #include <errno.h>
 #include <fcntl.h>
@@ -35,7 +35,7 @@
 
 enum { MOST_BYTES = 1 << 15, MOST_FILES = 256, STATUSES = 5 };
 
-// What a command takes behind its options.
+// What a command takes after its options.
 enum takes { A_FILE, A_FILE_AND_NOWHERE, A_TRACE_AND_AN_IMAGE, AN_IMAGE_OF_EVERY_SIZE, LINES };
 
 // A command, its options, and the most memory that it may take, in KiB: a log of a million instructions for `words`.
@@ -259,7 +259,7 @@ static struct ended end_of(pid_t child) {
     return ended;
 }
 
-// A connection to the port, once the child listens there; or -1, where it has ended.
+// A connection to the port, once the child listens there, or -1 if the child has ended.
 static int connection_to(int port, pid_t child) {
     struct sockaddr_in address = { .sin_family = AF_INET, .sin_port = htons(port), .sin_addr = { htonl(INADDR_LOOPBACK) } };
     for (int tries = 0; tries < 20000; tries++) {
@@ -267,7 +267,7 @@ static int connection_to(int port, pid_t child) {
         int connection = socket(AF_INET, SOCK_STREAM | SOCK_NONBLOCK, 0);
         if (connection < 0)
             fail("socket");
-        // To a port of the same machine a connection stands at once, or not at all.
+        // To a port of the same machine a connection is made at once, or not at all.
         if (connect(connection, (struct sockaddr *)&address, sizeof address) == 0 || errno == EINPROGRESS) {
             struct pollfd stands = { connection, POLLOUT, 0 };
             if (poll(&stands, 1, 1000) == 1 && !(stands.revents & (POLLERR | POLLHUP)))
@@ -281,7 +281,7 @@ static int connection_to(int port, pid_t child) {
     return -1;
 }
 
-// Sends the lines in pieces, and gives what is answered. Where `is_cut`, the connection is closed behind so many bytes.
+// Sends the lines in pieces, and collects the replies. If `is_cut`, the connection is closed after a random number of bytes.
 static void converse(int connection, const struct bytes *lines, bool is_cut, struct bytes *replies) {
     size_t sent = 0, most = is_cut ? number_below(lines->count + 1) : lines->count;
     bool is_sending = true;
@@ -315,7 +315,7 @@ static void converse(int connection, const struct bytes *lines, bool is_cut, str
     close(connection);
 }
 
-// How many lines there are, up to the first that is `quit`, and whether something stands behind that one.
+// How many lines there are, up to the first that is `quit`, and whether anything follows that one.
 static size_t lines_of(const struct bytes *lines, bool *is_more) {
     size_t count = 0, from = 0;
     *is_more = false;
@@ -345,14 +345,14 @@ static const char *wrong_replies(const struct ended *ended, const struct bytes *
     // What MOST_BYTES cut off is not looked at.
     if (is_cut || replies->count == MOST_BYTES || ended->status > 1)
         return NULL;
-    // A connection that is closed with bytes that nobody has read, those behind `quit`, may lose replies on their way.
+    // A connection that is closed with bytes that nobody has read, those after `quit`, may lose replies on their way.
     bool is_more;
     size_t most = lines_of(lines, &is_more);
     bool is_right = count <= most && (is_more || (count == most && from == replies->count));
     return is_right ? NULL : "how many replies there are";
 }
 
-// The faults that are told, and the lines of every size.
+// The faults that are printed, each with the line that names its file, and the lines of every size.
 static regex_t fault, faults, sizes;
 
 // Whether this is a line of each size, beside faults of some of them.
@@ -410,7 +410,7 @@ int main(int argc, char **argv) {
     regex_t reply;
     if (regcomp(&reply, "^(ok|E0[1-6]|halted|at (-|[0-9a-f]{1,2})|run|halt [0-9a-f]{2}|fault [1-8]|([0-9a-f]{2})+)$", REG_EXTENDED | REG_NOSUB))
         fail("regcomp");
-    if (regcomp(&fault, "^ultra: ([A-Z][0-9]+|Start|alone|budget|link|memory|states)( line [0-9]+| step [0-9]+)?\n$", REG_EXTENDED | REG_NOSUB))
+    if (regcomp(&fault, "^ultra: ([A-Z][0-9]+|Start|alone|budget|link|memory|states)( line [0-9]+| step [0-9]+)?\n(  [^\n]+\n)?$", REG_EXTENDED | REG_NOSUB))
         fail("regcomp");
     if (regcomp(&faults, "^(ultra: (alone|memory|states)\n){1,7}$", REG_EXTENDED | REG_NOSUB) ||
         regcomp(&sizes, "^(k [0-6]: [0-9]+ processors?, [^\n]+\n){7}$", REG_EXTENDED | REG_NOSUB))
@@ -433,7 +433,7 @@ int main(int argc, char **argv) {
         for (int i = 0; i < 6 && command->options[i]; i++)
             words[count++] = command->options[i];
         make(&input);
-        // Most sessions want an image that stands.
+        // Most sessions get a good image.
         if (is_session && number_below(8))
             input = files[0];
         make(&second);

@@ -3,9 +3,9 @@
 
     debug_client.py PORT [LINE ..]
 
-Each argument behind the port is a line; with none, the lines are those of standard input. A line is sent once the reply to
-the one before has come. The exit status is 0, 1 where the session ended before a reply came or there is none at this
-port, and 2 where the port is no number.
+Each argument after the port is a line; without any, the lines come from standard input. A line is sent after the reply to
+the one before it has come. The exit status is 0; or 1 if the session ends before a reply comes, or there is none at this
+port; or 2 if the port is not a number.
 """
 
 import socket
@@ -22,7 +22,7 @@ def lines_of(arguments):
 
 
 def talk(port, lines):
-    """Sends each line and prints its reply; false where the session has ended before."""
+    """Sends each line and prints its reply; false if the session ends before a reply."""
     with socket.create_connection(("127.0.0.1", port)) as link, link.makefile("rb") as replies:
         for line in lines:
             link.sendall(line.encode() + b"\n")

@@ -1,5 +1,5 @@
-# Each processor adds 1 to shared word 0, a hundred times, by an indivisible amoadd.w. However many take part, none of the
-# additions is lost: then each reads at least its own hundred, says A on the console and halts. Else it stops at the ebreak.
+# Each processor adds 1 to shared word 0 a hundred times, by an indivisible amoadd.w. No addition is lost, however many processors
+# take part: each then reads at least its own hundred, writes A to the console and halts. Otherwise it stops at the ebreak.
 start: lui x5, 0x80000          # the address of shared word 0
  addi x6, x0, 100               # how many additions are left
  addi x7, x0, 1
@@ -9,7 +9,7 @@ loop: amoadd.w x8, x7, (x5)     # x8 = the word before
  lw x9, 0(x5)
  addi x11, x0, 100
  bltu x9, x11, bad
- addi x17, x0, 1                # call 1: the low byte of x10 to the console
+ addi x17, x0, 1                # call 1: send the low byte of x10 to the console
  addi x10, x0, 65
  ecall
  addi x17, x0, 0                # call 0: halt with the low byte of x10

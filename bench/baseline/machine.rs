@@ -4,8 +4,8 @@
 //! `machine [--k K] [--c C] [--b B] [--words N] [--budget N] [--trace OUT] FILE` prints the report, and how many steps the log has
 //! on standard error.
 //!
-//! `machine [--k K] .. --runs RUNS FILE` only sweeps, and does that RUNS times, on a new machine each time, with no log. It prints
-//! what the first run came to, and how many steps did something, and in which time, as `bench steps` of `crates/bench` prints it.
+//! `machine [--k K] .. --runs RUNS FILE` only sweeps, RUNS times, on a new machine each time, with no log. It prints the result of
+//! the first run, the number of steps that did something, and their time, as `bench steps` of `crates/bench` does.
 
 mod instructions;
 
@@ -216,7 +216,7 @@ struct Machine {
     records: Vec<Vec<Record>>,
     replies: Vec<VecDeque<Reply>>,
     module_replies: Vec<Option<Reply>>,
-    /// For each depth the wires on which a request stands, and those on which a reply does, a bit each.
+    /// For each depth, a bit for each wire that holds a request, and for each that holds a reply.
     asking: [u64; 7],
     told: [u64; 7],
     running: u32,
@@ -629,7 +629,7 @@ impl Machine {
         Ok(Outcome::Retired(out))
     }
 
-    /// The next step of a drain; none where no reference is open.
+    /// The next step of a drain; none if no reference is open.
     fn drain_step(&self) -> Option<Step> {
         if self.open == 0 {
             return None;
@@ -692,7 +692,7 @@ impl Sweep<'_> {
         }
     }
 
-    /// The steps of a row, for the wires on which a message stands once their turn comes.
+    /// The steps of a row, for the wires that hold a message when their turn comes.
     fn row(&mut self, set: impl Fn(&Machine) -> u64, step: impl Fn(u8) -> Step) -> Result<(), End> {
         let mut from = 0;
         while from < 64 {
@@ -839,7 +839,7 @@ impl Count {
         self.moved += 1;
     }
 
-    /// The steps of a row, for the wires on which a message stands once their turn comes.
+    /// The steps of a row, for the wires that hold a message when their turn comes.
     fn row(&mut self, set: impl Fn(&Machine) -> u64, step: impl Fn(u8) -> Step) {
         let mut from = 0;
         while from < 64 {
@@ -871,7 +871,7 @@ impl Count {
     }
 }
 
-/// Sweeps so many times, and prints what that came to.
+/// Sweeps `runs` times, and prints the result.
 fn time_sweeps(config: Config, layout: &Layout, runs: u32) {
     let (mut moved, mut time) = (0, Duration::ZERO);
     for run in 0..runs {

@@ -254,7 +254,7 @@ impl Machine {
         Ok(())
     }
 
-    /// Runs until the processor stops, and answers how many instructions retired and why it stopped; nothing where too many
+    /// Runs until the processor stops, and answers how many instructions retired and why it stopped; nothing if too many
     /// retire.
     fn run(&mut self) -> Option<(u32, Stop)> {
         for retired in 0..BUDGET {

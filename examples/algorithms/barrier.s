@@ -1,8 +1,8 @@
 # A barrier that is used again and again: no processor goes on before all have come.
 #
-# Word 0 counts those who have come, and word 1 how often all were there. Who comes last learns it from its fetch-and-add: it
-# sets the count back, and only then lets the others go, who wait for word 1 to change. Ten times each processor adds 1 to
-# word 2 between two barriers, and sees the additions of all: it stops at the ebreak where it does not.
+# Word 0 counts the processors that have come, and word 1 how often all have come. By its fetch-and-add the last to come knows that
+# it is the last. It sets the count back, and only then lets the others go, which wait for word 1 to change. Ten times each
+# processor adds 1 to word 2 between two barriers, and sees the additions of all. If it does not, it stops at the ebreak.
 start: addi a7, x0, 2           # call 2: the processor's own number
  ecall
  addi s0, a0, 0

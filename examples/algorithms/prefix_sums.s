@@ -1,8 +1,8 @@
-# Prefix sums by doubling: processor p has p + 1, and gets the sum of all numbers up to its own.
+# Prefix sums by doubling: processor p starts with p + 1, and ends with the sum of all numbers up to its own.
 #
-# Number p stands in word 16 + p. In each round a processor reads the number that stands `distance` places before its own, and
-# adds it behind a barrier, so that no one reads what was added in the same round; then the distance doubles. Words 0 and 1
-# are the barrier's.
+# Number p is in word 16 + p. In each round a processor reads the number `distance` places before its own, and adds it after a
+# barrier, so that nobody reads what was added in the same round. Then the distance doubles. Words 0 and 1 belong to the
+# barrier.
 start: addi a7, x0, 2           # call 2: the processor's own number
  ecall
  addi s0, a0, 0
@@ -12,14 +12,14 @@ start: addi a7, x0, 2           # call 2: the processor's own number
  lui s2, 0x80000                # the address of shared word 0
  addi s5, x0, 1
  slli s3, s0, 2
- add s3, s3, s2                 # its number stands 64 bytes from here
+ add s3, s3, s2                 # its number is 64 bytes from here
  addi t0, s0, 1
  sw t0, 64(s3)
  addi s4, x0, 1                 # the distance
  jal ra, barrier
 double: bgeu s4, s1, done
  addi s6, x0, 0
- bltu s0, s4, first             # no number stands so far before
+ bltu s0, s4, first             # there is no number so far back
  slli t0, s4, 2
  sub t0, s3, t0
  lw s6, 64(t0)

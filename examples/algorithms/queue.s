@@ -1,13 +1,13 @@
-# A queue by fetch-and-add: many put in and take out at once, nothing is lost, and nothing comes twice.
+# A queue by fetch-and-add: many processors put in and take out at once, nothing is lost, and nothing comes out twice.
 #
-# The queue has 8 cells. Word 0 counts the cells that are taken or are about to be, and word 1 the items that are there and are
-# not about to be taken out; each is tested, changed by a fetch-and-add, tested again by what the fetch-and-add gave, and changed
-# back where that fails. So nothing goes into a full queue, and nothing comes out of an empty one, and no processor waits for a
+# The queue has 8 cells. Word 0 counts the cells that are taken or about to be, and word 1 the items that are there and not about
+# to be taken out. A processor tests such a word, changes it by a fetch-and-add, tests the value that this gave, and changes the
+# word back if the second test fails. So nothing goes into a full queue, nothing comes out of an empty one, and nobody waits for a
 # lock. Words 2 and 3 number the insertions and the deletions; number i uses cell i mod 8. A cell has two words, from word 8 on:
-# how often it was filled and emptied, for which each waits its turn, and the item.
+# how often it was filled and emptied, from which a processor sees whether it is its turn, and the item.
 #
 # Each processor puts in 16 items, 16 * p to 16 * p + 15, and takes as many out. It sets the bit of each item that it gets, in
-# the words from word 32 on, and stops at the ebreak where the bit was set before.
+# the words from word 32 on, and stops at the ebreak if the bit was set before.
 start: addi a7, x0, 2           # call 2: the processor's own number
  ecall
  slli s0, a0, 4                 # its first item
@@ -47,14 +47,14 @@ put: addi t2, s2, 8
  slli t3, t3, 3
  add t3, t3, s2                 # its cell, 32 bytes from here
  srli t2, t2, 3
- slli t2, t2, 1                 # so often the cell was filled and emptied by then
+ slli t2, t2, 1                 # how often the cell was filled and emptied by then
 fill: lw t4, 32(t3)
  bne t4, t2, fill
  sw a1, 36(t3)
  addi t2, t2, 1
  sw t2, 32(t3)
  addi t4, s2, 4
- amoadd.w x0, s5, (t4)          # one item more is there
+ amoadd.w x0, s5, (t4)          # one more item is there
  jalr x0, 0(ra)
 
 delete: addi t1, s2, 4          # takes a1 out

@@ -1,9 +1,9 @@
 # Readers and writers: readers read side by side, and a writer writes alone.
 #
-# Word 0 counts the readers, and word 1 is 1 while there is a writer. A reader counts itself where it sees no writer, and looks
-# a second time: a writer may have come in between. A writer comes by a swap, and waits until the readers have left. Words 2
-# and 3 are what is protected: a writer adds 1 to both, and a reader that sees them differ stops at the ebreak. Each processor
-# reads five times, and those of even number write in their first three rounds.
+# Word 0 counts the readers, and word 1 is 1 while there is a writer. A reader that sees no writer counts itself, and looks
+# again: a writer may have come in between. A writer swaps a 1 into word 1, and waits until the readers have left. Words 2 and 3
+# are protected: a writer adds 1 to both, and a reader that sees them differ stops at the ebreak. Each processor reads five
+# times, and those with an even number also write in their first three rounds.
 start: addi a7, x0, 2           # call 2: the processor's own number
  ecall
  andi s0, a0, 1                 # 0: it writes
@@ -24,7 +24,7 @@ next: addi s3, s3, -1
 
 read: lw t0, 4(s2)
  bne t0, x0, read
- amoadd.w x0, s5, (s2)          # one reader more
+ amoadd.w x0, s5, (s2)          # one more reader
  lw t0, 4(s2)                   # the second look
  beq t0, x0, reading
  amoadd.w x0, s6, (s2)

@@ -1,8 +1,8 @@
-# A self-scheduled loop: the processors share the numbers 0 to 99, each of which is worked on once.
+# A self-scheduled loop: the processors share the numbers 0 to 99, and work on each number once.
 #
-# A fetch-and-add on word 0 hands the next number out. However many processors ask at once, no two get the same, and who is
-# slow asks less often. Work on a number i adds i * i to word 1, and sets bit i of the words from word 2 on; where the bit was
-# set before, the processor stops at the ebreak.
+# A fetch-and-add on word 0 hands out the next number. However many processors ask at once, no two get the same number, and a
+# slow one asks less often. Work on number i adds i * i to word 1, and sets bit i of the words from word 2 on. If the bit was set
+# before, the processor stops at the ebreak.
 start: lui s2, 0x80000          # the address of shared word 0
  addi s3, x0, 100
  addi s5, x0, 1

@@ -1,7 +1,7 @@
-# A lock by tickets: who asks first is served first.
+# A ticket lock: first come, first served.
 #
 # A fetch-and-add on word 0 gives the next ticket, and word 1 is the ticket that is served. Ten times each processor takes the
-# lock, adds 1 to word 2 by a load and a store, of which none is indivisible, and serves the next ticket.
+# lock, adds 1 to word 2 by a load and a store, which together are not indivisible, and serves the next ticket.
 start: lui s2, 0x80000          # the address of shared word 0
  addi s3, x0, 10                # times that are left
  addi s5, x0, 1

@@ -1,22 +1,12 @@
-// Processors share the numbers below 1,000 among themselves. Each finds the primes of its own by `%` and `*`, writes how many
-// there are to its console, in decimal digits by `/` and `%`, and adds their number and their sum to two words that all share.
+// Processors share the numbers below 1,000. Each finds the primes among its own by `%` and `*`, writes how many there are to its
+// console, in decimal digits by `/` and `%`, and adds their number and their sum to two words that all share.
 
 #include "ultra.h"
 
 #define LIMIT 1000
 
 // How many primes, and their sum: one pair for all processors.
-static SHARED int totals[2];
-
-static void put_number(unsigned number) {
-    unsigned power = 1;
-    while (number / power >= 10) {
-        power *= 10;
-    }
-    for (; power > 0; power /= 10) {
-        put('0' + number / power % 10);
-    }
-}
+static SHARED(int[2]) totals;
 
 static int is_prime(unsigned number) {
     for (unsigned divisor = 2; divisor * divisor <= number; divisor++) {
@@ -35,7 +25,7 @@ int main(int number, int processors) {
             sum += candidate;
         }
     }
-    put_number(primes);
+    put_int(primes);
     fetch_and_add(&totals[0], primes);
     fetch_and_add(&totals[1], sum);
     return 0;

@@ -1,5 +1,5 @@
-# A barrier that is used twice. Word 0 counts those who have come, word 1 the additions, and word 2 how often all were there. Who
-# comes last sets the count back, and only then lets the others go. A processor stops at the ebreak where an addition is not there
+# A barrier that is used twice. Word 0 counts the processors that have come, word 1 the additions, and word 2 how often all have come.
+# The last to come sets the count back, and only then lets the others go. A processor stops at the ebreak if it misses an addition
 # that was made before the barrier.
  addi a7, x0, 3                 # call 3: how many processors there are
  ecall
@@ -12,7 +12,7 @@
  addi s7, s2, 8
 round: amoadd.w x0, s5, (s6)
  add s4, s4, s1
- lw t0, 0(s7)                   # how often all were there, before the processor is counted
+ lw t0, 0(s7)                   # how often all have come, before this processor is counted
  amoadd.w t1, s5, (s2)
  addi t1, t1, 1
  bne t1, s1, wait

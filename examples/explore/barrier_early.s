@@ -1,11 +1,11 @@
-# A wrong barrier, used once: a processor waits for all but one. Word 0 counts those who have come, word 1 the additions. A processor
-# stops at the ebreak if an addition is not there that was made before the barrier.
+# A wrong barrier, used once: a processor waits for all but one. Word 0 counts the processors that have come, word 1 the additions.
+# A processor stops at the ebreak if it misses an addition that was made before the barrier.
 # Question: how many processors can go on too early? On 64 processors there are 64 results: in them 0 to 63 processors stop by fault 8,
 # and the others halt with 00. Words 0 and 1 are 64 (00000040) in each. So all but one can, the last to come.
  addi a7, x0, 3                 # call 3: how many processors there are
  ecall
  addi s1, a0, 0
- addi s3, a0, -1                # wrong: one is not waited for
+ addi s3, a0, -1                # wrong: it does not wait for one of them
  lui s2, 0x80000                # the address of shared word 0
  addi s5, x0, 1
  addi s6, s2, 4

@@ -1,5 +1,5 @@
-# A wrong barrier, used once: a processor looks how often all were there only after it is counted. Who comes last may let the others go
-# before one of them looks, and that one waits for the next time. Word 0 counts those who have come, and word 1 how often all were there.
+# A wrong barrier, used once: a processor looks how often all have come only after it is counted. The last to come may let the others go
+# before one of them looks, and that one waits for the next time. Word 0 counts the processors that have come, word 1 how often all have.
 # Question: can a processor wait for ever? On 64 processors there is one result: all halt with 00, and word 1 is 1. But no end can be
 # reached from a state in which the last has let the others go, and one of them has not looked before. So it can.
  addi a7, x0, 3                 # call 3: how many processors there are

@@ -1,5 +1,5 @@
-# A wrong barrier: the count is never set back, so whoever comes a second time finds all there, and does not wait. Word 0 counts those
-# who have come, word 1 the additions. A processor stops at the ebreak where an addition is not there that was made before the
+# A wrong barrier: the count is never set back, so whoever comes a second time finds all there, and does not wait. Word 0 counts the
+# processors that have come, word 1 the additions. A processor stops at the ebreak if it misses an addition that was made before the
 # barrier.
  addi a7, x0, 3                 # call 3: how many processors there are
  ecall

@@ -1,4 +1,4 @@
-# Each processor writes 1 to its own word, and halts with its neighbour's: not all of them can see 0.
+# Each processor writes 1 to its own word, and halts with what it reads in its neighbour's. Not all of them can read 0.
  addi a7, x0, 3                 # call 3: how many processors there are
  ecall
  addi t0, a0, -1
@@ -13,6 +13,6 @@
  and t3, t3, t0
  slli t3, t3, 2
  add t3, t3, s2
- lw a0, 0(t3)                   # that of the next, and of the first behind the last
+ lw a0, 0(t3)                   # the next one's; for the last processor the first one's
  addi a7, x0, 0                 # call 0: halt
  ecall

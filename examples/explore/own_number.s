@@ -1,7 +1,7 @@
 # Each processor adds 1 to word 0, and halts with its own number. It asks for that number after a reference, so processors are not
 # exchanged. own_ticket.s does the same with a ticket in place of the number, and there they are.
-# Question: does each processor halt with another number? There is one result: processor P halts with P, and word 0 is the number of
-# processors. But each of n processors has added or has not, which makes 2^n states: 65,536 of 16 processors. The search of 64 is given up.
+# Question: do all processors halt with different numbers? There is one result: processor P halts with P, and word 0 is the number of
+# processors. But each of n processors has added or has not, which makes 2^n states: 65,536 for 16 processors. For 64 the search gives up.
  lui s2, 0x80000                # the address of shared word 0
  addi s5, x0, 1
  amoadd.w x0, s5, (s2)

@@ -1,15 +1,15 @@
-# Peterson's lock the wrong way round: each says that it is to wait before it says that it wants the lock. Words 0 and 1 say who wants it,
-# and word 2 has the number of who goes first. Inside each adds 1 to word 3 by a load and a store.
+# Peterson's lock the wrong way round: each lets the other go first before it says that it wants the lock. Words 0 and 1 say who wants it,
+# and word 2 who goes first. Inside, each adds 1 to word 3 by a load and a store.
  addi a7, x0, 2                 # call 2: the processor's own number
  ecall
  lui s2, 0x80000                # the address of shared word 0
  slli t0, a0, 2
- add s3, s2, t0                 # the own word
+ add s3, s2, t0                 # its own word
  xori t0, t0, 4
  add s4, s2, t0                 # the other's
  xori s6, a0, 1                 # the other's number
  addi s5, x0, 1
- sw s6, 8(s2)                  # wrong: the other may come in between, and see no one who wants the lock
+ sw s6, 8(s2)                  # wrong: the other may come in between, and see that nobody wants the lock
  sw s5, 0(s3)
 wait: lw t1, 0(s4)
  beq t1, x0, inside             # the other does not want it

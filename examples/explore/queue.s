@@ -1,5 +1,5 @@
-# A queue. Word 0 counts the items that were put in, and word 1 those that were taken out; the items stand from word 2 on. Each processor
-# puts in its own number, plus 1, takes out an item, and halts with it.
+# A queue. Word 0 counts the items that were put in, and word 1 those that were taken out; the items are in the words from 2 on. Each
+# processor puts in its own number plus 1, takes out an item, and halts with it.
  addi a7, x0, 2                 # call 2: the processor's own number
  ecall
  lui s2, 0x80000                # the address of shared word 0

@@ -1,6 +1,6 @@
-# Processor 0 writes words 2 and 3, once, and the others read both, once. Word 0 counts the readers, and word 1 is 1 while there is a
-# writer. A reader counts itself where it sees no writer, and looks a second time: the writer may have come in between. One that sees
-# the two words differ stops at the ebreak.
+# Processor 0 writes words 2 and 3 once, and the others read both once. Word 0 counts the readers, and word 1 is 1 while there is a
+# writer. A reader that sees no writer counts itself, and looks again: the writer may have come in between. A reader that sees the
+# two words differ stops at the ebreak.
  addi a7, x0, 2                 # call 2: the processor's own number
  ecall
  lui s2, 0x80000                # the address of shared word 0
@@ -10,7 +10,7 @@
  beq a0, x0, write
 read: lw t0, 4(s2)
  bne t0, x0, read
- amoadd.w x0, s5, (s2)          # one reader more
+ amoadd.w x0, s5, (s2)          # one more reader
  lw t0, 4(s2)                   # the second look
  beq t0, x0, reading
  amoadd.w x0, s6, (s2)

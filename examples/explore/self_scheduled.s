@@ -1,4 +1,4 @@
-# A self-scheduled loop over the numbers 0 to 5: a fetch-and-add on word 0 hands the next one out. Each number is added to word 1.
+# A self-scheduled loop over the numbers 0 to 5: a fetch-and-add on word 0 hands out the next. Each number is added to word 1.
 # On 64 processors there is one result: all halt with 00, word 0 is 70 (00000046), and word 1 is the sum, 15.
  lui s2, 0x80000                # the address of shared word 0
  addi s3, x0, 6

@@ -1,5 +1,5 @@
-# A self-scheduled loop over the numbers 0 to 5: a fetch-and-add on word 0 hands the next one out, and each processor prints those that
-# it gets. On 64 processors there are 203 results, one for each way to divide six numbers into shares, whoever gets which.
+# A self-scheduled loop over the numbers 0 to 5: a fetch-and-add on word 0 hands out the next, and each processor prints those that it
+# gets. On 64 processors there are 203 results, one for each way to divide six numbers into shares, whoever gets which.
  lui s2, 0x80000                # the address of shared word 0
  addi s3, x0, 6
  addi s5, x0, 1

@@ -1,4 +1,4 @@
-# A lock by tickets. A fetch-and-add on word 0 gives the next ticket, and word 1 is the ticket that is served. Each processor takes the
+# A ticket lock. A fetch-and-add on word 0 gives the next ticket, and word 1 is the ticket that is served. Each processor takes the
 # lock once, adds 1 to word 2 by a load and a store, and serves the next ticket. On 64 processors there is one result: all halt with 00, and
 # words 0 to 2 are 64 (00000040).
  lui s2, 0x80000                # the address of shared word 0

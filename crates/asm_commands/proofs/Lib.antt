@@ -1,3 +1,3 @@
-pub mod Told
+pub mod ObservedCore
 pub mod Found
 pub mod Present

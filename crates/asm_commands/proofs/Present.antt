@@ -1,6 +1,6 @@
 -- What is listed is what is present.
-use Rattle.std.proofs.Common.{◌≡◌, ◌<◌, ◌≤◌, ℕ, zero, suc, ◌+◌, ◌-◌, List, [], ◌∷◌, ◌++◌, length, Option}
-use Rattle.std.proofs.Common.{Some, None, Result, Ok, Err, refl, sym, ap, subst, ◌∙◌, arith}
+use Rattle.std.proofs.Common.{◌≡◌, ◌<◌, ◌≤◌, ℕ, zero, suc, ◌+◌, ◌-◌, List, [], ◌∷◌, length, Option}
+use Rattle.std.proofs.Common.{Some, Result, Ok, Err, refl, sym, ap, ◌∙◌, arith}
 use Rattle.std.specs.Prelude.{All, Contains, slice_get, slice_index_or, IsOk}
 use Rattle.std.proofs.lemmas.List.Elements.{All-nil, All-cons}
 use Rattle.assembler.specs.declared.fault.AsmFault.{AsmFault}
@@ -40,12 +40,13 @@ listed_present n (Err f ∷ ps) e (suc k) lt is_e =
     let h = listed_present (n + 1) ps e k (omega (arith, lt)) is_e in
     let one : e.line - n ≡ suc (e.line - (n + 1)) = omega (arith, h.0) in (omega (arith, h.0), rw one h.1)
 
--- no fault is listed exactly where each line places something
+-- no fault is listed exactly if each line places something
 pub none_listed : (n : ℕ) (pieces : List (Result Piece AsmFault)) → All IsOk pieces → errors_from n pieces ≡ []
 none_listed n [] each = refl
 none_listed n (Ok x ∷ ps) each = none_listed (n + 1) ps (λ k d lt. each (suc k) d (omega (arith, lt)))
 none_listed n (Err f ∷ ps) each = cc (each 0 (Err f) (omega arith))
 
+-- If no fault is listed, each line places something.
 pub all_ok : (n : ℕ) (pieces : List (Result Piece AsmFault)) → errors_from n pieces ≡ [] → All IsOk pieces
 all_ok n [] none = All-nil IsOk
 all_ok n (Ok x ∷ ps) none = All-cons IsOk (Ok x) ps refl (all_ok (n + 1) ps none)

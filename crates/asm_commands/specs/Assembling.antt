@@ -1,7 +1,6 @@
 -- What `ultra asm` does: from the bytes of a text to the bytes of an image.
 use Rattle.std.specs.Prelude.{◌≡◌, ◌≢◌, ℕ, List, Option}
 use Rattle.std.specs.Str.{IsUtf8}
-use Rattle.elf_image.specs.declared.error.ImageError.{ImageError}
 use Rattle.elf_image.specs.declared.error.ImageError.TheVariants as of_image
 use Rattle.elf_image.specs.declared.layout.Layout.{Layout}
 use Rattle.elf_image.specs.Spellings.{spelling}
@@ -10,7 +9,7 @@ use Rattle.assembler.specs.Meaning.{IsMeaning, IsPresent}
 use Rattle.command_io.specs.declared.fault.Fault.{Fault}
 use Rattle.command_io.specs.declared.fault.Fault.TheVariants as fault
 use Rattle.command_io.specs.Files.{IsWhole}
-use Rattle.command_io.specs.Printing.{IsPartPrinted}
+use Rattle.command_io.specs.Printing.{PrintsPrefix}
 
 -- The bytes are the image, in its one spelling, of what the file's text means.
 pub record IsAssembly (known : Option (List ℕ)) (bytes : List ℕ) : Type 0 where
@@ -33,11 +32,12 @@ IsUnread fault.Link = Unit {0}
 IsUnread fault.Memory = Unit {0}
 IsUnread other = ⊥
 
--- Why no image is written, or not all of it, and what is written then. A failed read and want of memory say nothing of the file.
-abbrev pub IsNoAssembly : (known old new : Option (List ℕ)) → Fault → Type 0
-IsNoAssembly known old new (fault.Text e) = (text : List ℕ) × IsWhole known text × IsTextRefusal text (fault.Text e)
-IsNoAssembly known old new fault.NotUtf8 = (text : List ℕ) × IsWhole known text × IsTextRefusal text fault.NotUtf8
-IsNoAssembly known old new fault.Link = Unit {0}
-IsNoAssembly known old new (fault.Image e) = (e ≡ of_image.Link) × IsPartPrinted (IsAssembly known) old new
-IsNoAssembly known old new fault.Memory = Unit {0}
-IsNoAssembly known old new other = ⊥
+-- Why no image is written, or not all of it, and what is written then. A failed read and out of memory say nothing of
+-- the file.
+abbrev pub AssemblyFails : (known old new : Option (List ℕ)) → Fault → Type 0
+AssemblyFails known old new (fault.Text e) = (text : List ℕ) × IsWhole known text × IsTextRefusal text (fault.Text e)
+AssemblyFails known old new fault.NotUtf8 = (text : List ℕ) × IsWhole known text × IsTextRefusal text fault.NotUtf8
+AssemblyFails known old new fault.Link = Unit {0}
+AssemblyFails known old new (fault.Image e) = (e ≡ of_image.Link) × PrintsPrefix (IsAssembly known) old new
+AssemblyFails known old new fault.Memory = Unit {0}
+AssemblyFails known old new other = ⊥

@@ -4,7 +4,7 @@ use Rattle.std.specs.Str.{IsUtf8}
 use Rattle.command_io.specs.declared.fault.Fault.{Fault}
 use Rattle.command_io.specs.declared.fault.Fault.TheVariants as fault
 use Rattle.command_io.specs.Files.{IsWhole}
-use Rattle.command_io.specs.Printing.{IsPartPrinted}
+use Rattle.command_io.specs.Printing.{PrintsPrefix}
 use Rattle.asm_commands.specs.declared.text_fault.TextFault.{TextFault}
 use Rattle.asm_commands.specs.Faults.{AreTheFaults}
 use Rattle.asm_commands.specs.Lines.{IsList}
@@ -14,12 +14,12 @@ abbrev pub status_of : List TextFault → ℕ
 status_of [] = 0
 status_of (t ∷ ts) = 1
 
--- The printed bytes list all faults of a text, and the status tells whether there is one.
+-- The printed bytes list all faults of a text, and the status says whether there is one.
 pub record IsCheckOf (text : List ℕ) (status : ℕ) (printed : List ℕ) : Type 0 where
   pub faults : List TextFault
   pub all : AreTheFaults text faults
   pub list : IsList faults printed
-  pub told : status ≡ status_of faults
+  pub fact : status ≡ status_of faults
 
 -- So of the text that a file has.
 pub record IsCheck (known : Option (List ℕ)) (status : ℕ) (printed : List ℕ) : Type 0 where
@@ -32,15 +32,16 @@ pub record IsSomeCheckOf (text printed : List ℕ) : Type 0 where
   pub status : ℕ
   pub check : IsCheckOf text status printed
 
--- why the faults of a text are not printed, or not all: the list cannot be written. Want of memory says nothing.
-abbrev pub IsNoCheckOf : (text : List ℕ) → (old new : Option (List ℕ)) → Fault → Type 0
-IsNoCheckOf text old new fault.Link = IsPartPrinted (IsSomeCheckOf text) old new
-IsNoCheckOf text old new fault.Memory = Unit {0}
-IsNoCheckOf text old new other = ⊥
+-- why the faults of a text are not printed, or not all: the list cannot be written. out of memory says nothing.
+abbrev pub CheckOfTextFails : (text : List ℕ) → (old new : Option (List ℕ)) → Fault → Type 0
+CheckOfTextFails text old new fault.Link = PrintsPrefix (IsSomeCheckOf text) old new
+CheckOfTextFails text old new fault.Memory = Unit {0}
+CheckOfTextFails text old new other = ⊥
 
 -- so of a file, which may also be no UTF-8, or fail to be read
-abbrev pub IsNoCheck : (known old new : Option (List ℕ)) → Fault → Type 0
-IsNoCheck known old new fault.Link = (new ≡ old) ⊎ ((text : List ℕ) × IsWhole known text × IsNoCheckOf text old new fault.Link)
-IsNoCheck known old new fault.NotUtf8 = (text : List ℕ) × IsWhole known text × (¬ (IsUtf8 text))
-IsNoCheck known old new fault.Memory = Unit {0}
-IsNoCheck known old new other = ⊥
+abbrev pub CheckFails : (known old new : Option (List ℕ)) → Fault → Type 0
+CheckFails known old new fault.Link = (new ≡ old)
+    ⊎ ((text : List ℕ) × IsWhole known text × CheckOfTextFails text old new fault.Link)
+CheckFails known old new fault.NotUtf8 = (text : List ℕ) × IsWhole known text × (¬ (IsUtf8 text))
+CheckFails known old new fault.Memory = Unit {0}
+CheckFails known old new other = ⊥

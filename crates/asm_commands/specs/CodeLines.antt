@@ -18,7 +18,7 @@ text_of_word word = option_map_or text_of (insn_of word) (codes "-")
 abbrev pub line_of : (address word : ℕ) → List ℕ
 line_of address word = hex_of_word address ++ codes " " ++ hex_of_word word ++ codes " " ++ text_of_word word ++ 10 ∷ []
 
--- the lines of so many words of code, the first of which stands at 0x00010000
+-- the lines of this many words of code, the first of which stands at 0x00010000
 abbrev pub lines_of : (code : List ℕ) → (count : ℕ) → List ℕ
 lines_of code zero = []
 lines_of code (suc index) = lines_of code index ++ line_of (0x0001_0000 + 4 * index) (word_at code index)

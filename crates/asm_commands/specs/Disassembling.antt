@@ -5,19 +5,20 @@ use Rattle.elf_image.specs.Files.{IsImageOf, IsImageRefusal}
 use Rattle.elf_image.specs.Images.{ImageContents}
 use Rattle.command_io.specs.declared.fault.Fault.{Fault}
 use Rattle.command_io.specs.declared.fault.Fault.TheVariants as fault
-use Rattle.command_io.specs.Printing.{IsPartPrinted}
+use Rattle.command_io.specs.Printing.{PrintsPrefix}
 use Rattle.asm_commands.specs.CodeLines.{IsListing}
 
--- The text lists the code that the file means for machines with so many shared words: a line for each word up to the last that
--- is not zero.
+-- The text lists the code that the file means for machines with this many shared words: a line for each word up to the
+-- last that is not zero.
 pub record IsDisassembly (shared_words : ℕ) (known : Option (List ℕ)) (text : List ℕ) : Type 0 where
   pub image : ImageContents
   pub read : IsImageOf shared_words known image
   pub listing : IsListing (region_of_bytes image.layout.code) text
 
--- Why no code is printed, or not all of it: the image is refused, or the lines cannot be written. Want of memory says nothing.
-abbrev pub IsNoDisassembly : (shared_words : ℕ) → (known old new : Option (List ℕ)) → Fault → Type 0
-IsNoDisassembly shared_words known old new (fault.Image e) = IsImageRefusal shared_words known e
-IsNoDisassembly shared_words known old new fault.Link = IsPartPrinted (IsDisassembly shared_words known) old new
-IsNoDisassembly shared_words known old new fault.Memory = Unit {0}
-IsNoDisassembly shared_words known old new other = ⊥
+-- Why no code is printed, or not all of it: the image is refused, or the lines cannot be written. out of memory says
+-- nothing.
+abbrev pub DisassemblyFails : (shared_words : ℕ) → (known old new : Option (List ℕ)) → Fault → Type 0
+DisassemblyFails shared_words known old new (fault.Image e) = IsImageRefusal shared_words known e
+DisassemblyFails shared_words known old new fault.Link = PrintsPrefix (IsDisassembly shared_words known) old new
+DisassemblyFails shared_words known old new fault.Memory = Unit {0}
+DisassemblyFails shared_words known old new other = ⊥

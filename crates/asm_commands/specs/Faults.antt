@@ -1,10 +1,14 @@
 -- What is listed of a text.
-use Rattle.std.specs.Prelude.{◌≡◌, ◌<◌, ◌≤◌, ℕ, ◌+◌, ◌-◌, List, [], ◌∷◌, length, map, Option, Some, None, Result, Ok, Err, All, slice_get, slice_range}
+use Rattle.std.specs.Prelude.{◌≡◌, ◌<◌, ◌≤◌, ℕ, ◌+◌, ◌-◌, List, [], ◌∷◌, length, map, fold, take, Option, Some}
+use Rattle.std.specs.Prelude.{Result, Ok, Err, All, slice_get, slice_range}
 use Rattle.std.specs.Option.{option_map}
 use Rattle.assembler.specs.declared.fault.AsmFault.{AsmFault}
 use Rattle.assembler.specs.declared.fault.AsmError.{AsmError}
-use Rattle.assembler.specs.Meaning.{Piece, lines_of, pieces_of}
+use Rattle.assembler.specs.Meaning.{Labels, Place, Piece, start, address, after, lines_of, labels_of, pieces_of}
 use Rattle.line_faults.specs.Faults.{fault_in}
+use Rattle.line_faults.specs.Advice.{advice_of}
+use Rattle.line_faults.specs.AdviceAtFault.{IsAdvised}
+use Rattle.line_faults.specs.WordAtFault.{word_at_fault}
 use Rattle.asm_commands.specs.declared.text_fault.TextFault.{TextFault}
 
 -- the line and the fault of what is listed
@@ -17,11 +21,23 @@ pub record IsAt (line : List ℕ) (column : ℕ) (word : List ℕ) : Type 0 wher
   pub within : column - 1 + length word ≤ length line
   pub reads : word ≡ slice_range line (column - 1) (column - 1 + length word)
 
--- The word stands in the line with its number.
-pub record IsInPlace (lines : List (List ℕ)) (t : TextFault) : Type 0 where
+-- The column and the word are those at which this fault of the line lies, at its place, and what is advised is right
+-- there.
+pub record IsNamed (labels : Labels) (at : Place) (line : List ℕ) (t : TextFault) : Type 0 where
+  pub column : t.column ≡ (word_at_fault labels (address at) line t.fault).start + 1
+  pub word : t.word.now ≡ (word_at_fault labels (address at) line t.fault).bytes
+  pub advised : IsAdvised labels at line t.fault (advice_of t.hint)
+
+-- the place after this many lines
+abbrev pub place_behind : List (List ℕ) → ℕ → Place
+place_behind lines count = fold after start (take count lines)
+
+-- The word stands in the line with its number, and is the word at fault there.
+pub record IsInPlace (labels : Labels) (lines : List (List ℕ)) (t : TextFault) : Type 0 where
   pub line : List ℕ
   pub stands : slice_get lines (t.line - 1) ≡ Some line
   pub at : IsAt line t.column t.word.now
+  pub named : IsNamed labels (place_behind lines (t.line - 1)) line t
 
 -- ---- line by line
 
@@ -39,12 +55,13 @@ errors_from number (Err f ∷ pieces) = record { line = number; fault = f } ∷ 
 abbrev pub errors_of : (text : List ℕ) → List AsmError
 errors_of text = errors_from 1 (pieces_of (lines_of text))
 
--- These are all faults of a text, one for each line that has one, and their words stand where they are said to.
+-- These are all faults of a text, one for each line that has one, and each names the word at which it lies.
 pub record AreTheFaults (text : List ℕ) (faults : List TextFault) : Type 0 where
   pub errors : map error_of faults ≡ errors_of text
-  pub placed : All (IsInPlace (lines_of text)) faults
+  pub placed : All (IsInPlace (labels_of (lines_of text)) (lines_of text)) faults
 
--- The same of lines that place these pieces.
-pub record AreFaultsOf (pieces : List (Result Piece AsmFault)) (lines : List (List ℕ)) (faults : List TextFault) : Type 0 where
+-- The same of lines that place these pieces, with these labels.
+pub record AreFaultsOf (labels : Labels) (pieces : List (Result Piece AsmFault)) (lines : List (List ℕ))
+    (faults : List TextFault) : Type 0 where
   pub errors : map error_of faults ≡ errors_from 1 pieces
-  pub placed : All (IsInPlace lines) faults
+  pub placed : All (IsInPlace labels lines) faults

@@ -1,4 +1,6 @@
 pub mod Assembling
+pub mod Words
+pub mod Advice
 pub mod Lines
 pub mod Checking
 pub mod CodeLines

@@ -1,5 +1,13 @@
 //! What would be right, in words.
 
+ghost use Rattle.std.specs.Prelude.{◌≡◌, ◌++◌, IfOk, OnOk, codes, string_bytes};
+ghost use Rattle.std.specs.Fmt.{decimal, signed_decimal};
+ghost use Rattle.line_faults.specs.declared.hint.Hint.TheVariants.{UpperBits, Far, StandsOn, Full};
+ghost use Rattle.line_faults.specs.Wants.{range_of};
+ghost use Rattle.asm_commands.specs.Advice.{advice_text, place_text, label_text, from_to, wanted_text, unaligned_text};
+ghost use Rattle.asm_commands.specs.Advice.{upper_front, section_name};
+ghost use Rattle.asm_commands.specs.Words.{shown};
+
 use crate::words::push_word;
 use asm_lines::Section;
 use command_io::push_word as push_address;
@@ -8,107 +16,300 @@ use std::alloc::{AllocError, Global};
 use std::fmt::Write;
 
 /// What would be right in place of a word at fault.
-pub fn advice_of(alloc: Global, hint: &Hint<'_>) -> Result<String, AllocError> {
+pub fn advice_of(alloc: Global, hint: &Hint<'_>) -> Result<String, AllocError>
+    ensures { IfOk result (λ text. string_bytes text ≡ advice_text hint.now) }
+{
     let mut text = String::new(alloc);
-    match *hint {
-        Hint::NoWord => text.push_str("there is no such instruction or directive")?,
-        Hint::NearWord(name) => {
-            write!(
-                text,
-                "there is no such instruction or directive; there is {name}"
-            )?;
-        }
-        Hint::Instead(same) => write!(text, "there is no such word here; {same} does the same")?,
-        Hint::LabelName => {
-            text.push_str("a label's name is a letter or _, and then letters, digits and _")?;
-        }
-        Hint::Colon => text.push_str("there is no such instruction; a label ends with a colon")?,
-        Hint::Operands(form) => write!(text, "the operands are {form}")?,
-        Hint::Comma(form) => write!(text, "a comma is missing; the operands are {form}")?,
-        Hint::NoOperand => text.push_str("no operand stands here")?,
-        Hint::Wants(wanted) => push_wanted(&mut text, wanted)?,
-        Hint::Bracket => text.push_str("a bracket is missing; an address is i(rs1) or (rs1)")?,
-        Hint::OutOfRange(wanted) => {
-            let (least, most) = wanted.range();
-            write!(text, "the number is not from {least} to {most}")?;
-        }
-        Hint::UpperBits(upper) => write!(
-            text,
-            "20 bits stand here, 0 to 1048575; the upper ones of this word are {upper}"
-        )?,
-        _ => push_place(alloc, &mut text, hint)?,
-    }
+    push_advice(alloc, &mut text, hint)?;
     Ok(text)
 }
 
-/// Appends what stands in place of an operand.
-fn push_wanted(text: &mut String, wanted: Wanted) -> Result<(), AllocError> {
-    let (least, most) = wanted.range();
-    match wanted {
-        Wanted::Register => text.push_str(
-            "there is no such register; registers are x0 to x31 and names such as a0",
-        ),
-        Wanted::Lower => write!(
+/// Appends what would be right.
+fn push_advice(alloc: Global, text: &mut String, hint: &Hint<'_>) -> Result<(), AllocError>
+    ensures { OnOk result (string_bytes text.new ≡ string_bytes text.old ++ advice_text hint.now) }
+{
+    match *hint {
+        Hint::NoWord => text.push_str("there is no such instruction or directive"),
+        Hint::NearWord(name) => write!(
             text,
-            "a number from {least} to {most} or %lo(label) stands here"
+            "there is no such instruction or directive; there is {name}"
         ),
-        Wanted::Upper => write!(
+        Hint::Instead(same) => write!(text, "there is no such word here; {same} does the same"),
+        Hint::NotNeeded(why) => write!(
             text,
-            "a number from {least} to {most} or %hi(label) stands here"
+            "there is no such word here, and nothing is needed: {why}"
         ),
-        Wanted::Address => text.push_str("an address stands here, i(rs1)"),
-        Wanted::Base => text.push_str("a register in brackets stands here, (rs1)"),
-        Wanted::Branch | Wanted::Jump | Wanted::Word => {
-            write!(
-                text,
-                "a label or a number from {least} to {most} stands here"
-            )
+        Hint::LabelName => {
+            text.push_str("a label's name is a letter or _, and then letters, digits and _")
         }
-        Wanted::Shift | Wanted::Fence | Wanted::Byte | Wanted::Count => {
-            write!(text, "a number from {least} to {most} stands here")
-        }
+        Hint::Colon => text.push_str("there is no such instruction; a label ends with a colon"),
+        Hint::Operands(form) => write!(text, "the operands are {form}"),
+        Hint::Comma(form) => write!(text, "a comma is missing; the operands are {form}"),
+        Hint::NoOperand => text.push_str("no operand stands here"),
+        Hint::Wants(wanted) => push_wanted(text, wanted),
+        Hint::Bracket => text.push_str("a bracket is missing; an address is i(rs1) or (rs1)"),
+        Hint::OutOfRange(wanted) => push_out_of_range(text, wanted),
+        _ => push_place(alloc, text, hint),
     }
 }
 
-/// Appends what is wrong with a statement's place, or with a label.
-fn push_place(alloc: Global, text: &mut String, hint: &Hint<'_>) -> Result<(), AllocError> {
+/// Appends what is wrong with a word's upper bits, or with a statement's place.
+fn push_place(alloc: Global, text: &mut String, hint: &Hint<'_>) -> Result<(), AllocError>
+    ensures { OnOk result (string_bytes text.new ≡ string_bytes text.old ++ place_text hint.now) }
+{
     match *hint {
+        Hint::UpperBits(upper) => push_upper(text, upper),
         Hint::OutsideCode => text.push_str("instructions stand in .code alone"),
-        Hint::Unaligned(address) => {
-            text.push_str("its address ")?;
-            push_address(alloc, text, (address % 0x1_0000_0000) as u32)?;
-            text.push_str(" is not divisible by 4")
-        }
+        Hint::Unaligned(address) => push_unaligned(alloc, text, address),
         Hint::Odd => text.push_str("the distance of a target is even"),
-        Hint::Far(distance, wanted) => {
-            let (least, most) = wanted.range();
-            write!(
-                text,
-                "the label is {distance} bytes away, and from {least} to {most} can be reached"
-            )
-        }
-        Hint::StandsOn(line) => write!(text, "the label stands on line {line} already"),
-        Hint::NearLabel(name) => {
-            text.push_str("there is no such label; there is ")?;
-            push_word(alloc, text, name)
-        }
+        _ => push_label(alloc, text, hint),
+    }
+}
+
+/// Appends what is wrong with a label, or with the room of a section.
+fn push_label(alloc: Global, text: &mut String, hint: &Hint<'_>) -> Result<(), AllocError>
+    ensures { OnOk result (string_bytes text.new ≡ string_bytes text.old ++ label_text hint.now) }
+{
+    match *hint {
+        Hint::Far(distance, wanted) => push_distance(text, distance, wanted),
+        Hint::StandsOn(line) => push_line_of(text, line),
+        Hint::NearLabel(name) => push_near(alloc, text, name),
         Hint::Full {
             section,
             room,
             taken,
-        } => {
-            let name = name_of(section);
-            write!(
-                text,
-                "{name} has room for {room} bytes, and {taken} stand there before"
-            )
-        }
+        } => push_room(text, section, room, taken),
         _ => text.push_str("there is no such label"),
     }
 }
 
+/// Appends the upper bits of a word that stands in place of these.
+fn push_upper(text: &mut String, upper: u64) -> Result<(), AllocError>
+    ensures { OnOk result (string_bytes text.new ≡ string_bytes text.old ++ place_text (UpperBits upper)) }
+{
+    push_behind(text, upper_front(), upper)
+}
+
+/// What stands before these bits.
+#[tactic(auto, unfolding(crate::specs::Advice::upper_front))]
+fn upper_front() -> &'static str
+    ensures { result.now ≡ upper_front }
+{
+    "20 bits stand here, 0 to 1048575; the upper ones of this word are "
+}
+
+/// Appends how far away a label is.
+fn push_distance(text: &mut String, distance: u64, wanted: Wanted) -> Result<(), AllocError>
+    ensures { OnOk result (string_bytes text.new ≡ string_bytes text.old ++ label_text (Far distance wanted)) }
+{
+    push_far(
+        text,
+        "the label is ",
+        distance,
+        " bytes away, and",
+        wanted,
+        " can be reached",
+    )
+}
+
+/// Appends on which line a label stands.
+fn push_line_of(text: &mut String, line: usize) -> Result<(), AllocError>
+    ensures { OnOk result (string_bytes text.new ≡ string_bytes text.old ++ label_text (StandsOn line)) }
+{
+    push_count_between(text, "the label stands on line ", line, " already")
+}
+
+/// Appends a label that is near.
+fn push_near(alloc: Global, text: &mut String, name: &[u8]) -> Result<(), AllocError>
+    ensures { OnOk result (string_bytes text.new ≡ string_bytes text.old
+        ++ (codes "there is no such label; there is " ++ shown name.now)) }
+{
+    push_name(alloc, text, "there is no such label; there is ", name)
+}
+
+/// Appends how much room a section has.
+fn push_room(text: &mut String, section: Section, room: u32, taken: u64) -> Result<(), AllocError>
+    ensures { OnOk result (string_bytes text.new ≡ string_bytes text.old ++ label_text (Full section room taken)) }
+{
+    push_full(
+        text,
+        section,
+        " has room for ",
+        room,
+        " bytes, and ",
+        taken,
+        " stand there before",
+    )
+}
+
+/// Appends a count between two texts.
+fn push_count_between(
+    text: &mut String,
+    front: &str,
+    count: usize,
+    behind: &str,
+) -> Result<(), AllocError>
+    ensures { OnOk result (string_bytes text.new ≡ string_bytes text.old
+        ++ (front.now ++ decimal count ++ behind.now)) }
+{
+    text.push_str(front)?;
+    push_count(text, count)?;
+    text.push_str(behind)
+}
+
+/// Appends a count.
+fn push_count(text: &mut String, count: usize) -> Result<(), AllocError>
+    ensures { OnOk result (string_bytes text.new ≡ string_bytes text.old ++ decimal count) }
+{
+    write!(text, "{count}")
+}
+
+/// Appends what stands in place of an operand.
+fn push_wanted(text: &mut String, wanted: Wanted) -> Result<(), AllocError>
+    ensures { OnOk result (string_bytes text.new ≡ string_bytes text.old ++ wanted_text wanted) }
+{
+    match wanted {
+        Wanted::Register => text.push_str(
+            "there is no such register; registers are x0 to x31 and names such as a0",
+        ),
+        Wanted::Lower => push_range(text, "a number", wanted, " or %lo(label) stands here"),
+        Wanted::Upper => push_range(text, "a number", wanted, " or %hi(label) stands here"),
+        Wanted::Address => text.push_str("an address stands here, i(rs1)"),
+        Wanted::Base => text.push_str("a register in brackets stands here, (rs1)"),
+        Wanted::Branch => push_range(text, "a label or a number", wanted, " stands here"),
+        Wanted::Jump => push_range(text, "a label or a number", wanted, " stands here"),
+        Wanted::Word => push_range(text, "a label or a number", wanted, " stands here"),
+        Wanted::Shift => push_range(text, "a number", wanted, " stands here"),
+        Wanted::Fence => push_range(text, "a number", wanted, " stands here"),
+        Wanted::Byte => push_range(text, "a number", wanted, " stands here"),
+        Wanted::Count => push_range(text, "a number", wanted, " stands here"),
+    }
+}
+
+/// Appends the least and the most that a number may be, between two texts.
+fn push_range(
+    text: &mut String,
+    front: &str,
+    wanted: Wanted,
+    behind: &str,
+) -> Result<(), AllocError>
+    ensures { OnOk result (string_bytes text.new ≡ string_bytes text.old
+        ++ (front.now ++ from_to (range_of wanted) ++ behind.now)) }
+{
+    text.push_str(front)?;
+    push_from_to(text, wanted)?;
+    text.push_str(behind)
+}
+
+/// Appends the least and the most that a number may be.
+fn push_from_to(text: &mut String, wanted: Wanted) -> Result<(), AllocError>
+    ensures { OnOk result (string_bytes text.new ≡ string_bytes text.old ++ from_to (range_of wanted)) }
+{
+    let (least, most) = wanted.range();
+    text.push_str(" from ")?;
+    push_signed(text, least)?;
+    text.push_str(" to ")?;
+    push_signed(text, most)
+}
+
+/// Appends that a number is out of range.
+fn push_out_of_range(text: &mut String, wanted: Wanted) -> Result<(), AllocError>
+    ensures { OnOk result (string_bytes text.new ≡ string_bytes text.old
+        ++ (codes "the number is not" ++ from_to (range_of wanted))) }
+{
+    text.push_str("the number is not")?;
+    push_from_to(text, wanted)
+}
+
+/// Appends a number.
+fn push_signed(text: &mut String, number: i64) -> Result<(), AllocError>
+    ensures { OnOk result (string_bytes text.new ≡ string_bytes text.old ++ signed_decimal number) }
+{
+    write!(text, "{number}")
+}
+
+/// Appends a number.
+fn push_decimal(text: &mut String, number: u64) -> Result<(), AllocError>
+    ensures { OnOk result (string_bytes text.new ≡ string_bytes text.old ++ decimal number) }
+{
+    write!(text, "{number}")
+}
+
+/// Appends that an address is not divisible by 4.
+fn push_unaligned(alloc: Global, text: &mut String, address: u64) -> Result<(), AllocError>
+    ensures { OnOk result (string_bytes text.new ≡ string_bytes text.old ++ unaligned_text address) }
+{
+    text.push_str("its address ")?;
+    push_address(alloc, text, (address % 0x1_0000_0000) as u32)?;
+    text.push_str(" is not divisible by 4")
+}
+
+/// Appends a number after a text.
+fn push_behind(text: &mut String, front: &str, number: u64) -> Result<(), AllocError>
+    ensures { OnOk result (string_bytes text.new ≡ string_bytes text.old ++ (front.now ++ decimal number)) }
+{
+    text.push_str(front)?;
+    push_decimal(text, number)
+}
+
+/// Appends a number between two texts.
+fn push_between(text: &mut String, front: &str, number: u64, behind: &str) -> Result<(), AllocError>
+    ensures { OnOk result (string_bytes text.new ≡ string_bytes text.old
+        ++ (front.now ++ decimal number ++ behind.now)) }
+{
+    text.push_str(front)?;
+    push_decimal(text, number)?;
+    text.push_str(behind)
+}
+
+/// Appends a distance, and the least and the most that it may be, between three texts.
+fn push_far(
+    text: &mut String,
+    front: &str,
+    distance: u64,
+    between: &str,
+    wanted: Wanted,
+    behind: &str,
+) -> Result<(), AllocError>
+    ensures { OnOk result (string_bytes text.new ≡ string_bytes text.old
+        ++ (front.now ++ decimal distance ++ between.now ++ from_to (range_of wanted) ++ behind.now)) }
+{
+    text.push_str(front)?;
+    push_decimal(text, distance)?;
+    push_range(text, between, wanted, behind)
+}
+
+/// Appends a name after a text.
+fn push_name(alloc: Global, text: &mut String, front: &str, name: &[u8]) -> Result<(), AllocError>
+    ensures { OnOk result (string_bytes text.new ≡ string_bytes text.old ++ (front.now ++ shown name.now)) }
+{
+    text.push_str(front)?;
+    push_word(alloc, text, name)
+}
+
+/// Appends how much room a section has, between three texts.
+fn push_full(
+    text: &mut String,
+    section: Section,
+    front: &str,
+    room: u32,
+    between: &str,
+    taken: u64,
+    behind: &str,
+) -> Result<(), AllocError>
+    ensures { OnOk result (string_bytes text.new ≡ string_bytes text.old
+        ++ (section_name section ++ front.now ++ decimal room ++ between.now ++ decimal taken ++ behind.now)) }
+{
+    text.push_str(name_of(section))?;
+    push_between(text, front, u64::from(room), between)?;
+    push_decimal(text, taken)?;
+    text.push_str(behind)
+}
+
 /// The directive of a section.
-fn name_of(section: Section) -> &'static str {
+fn name_of(section: Section) -> &'static str
+    ensures { result.now ≡ section_name section }
+{
     match section {
         Section::Code => ".code",
         Section::Local => ".local",

@@ -5,48 +5,54 @@ ghost use Rattle.std.specs.Io.KnownBytes.{Appends};
 ghost use Rattle.link.specs.Transfer.{AppendsPart};
 ghost use Rattle.elf_image.specs.Spellings.{spelling};
 ghost use Rattle.assembler.specs.Meaning.{IsMeaning};
-ghost use Rattle.command_io.specs.Printing.{IsPrinted, IsTold};
-ghost use Rattle.asm_commands.specs.Assembling.{IsAssembly, IsNoAssembly, IsTextRefusal};
+ghost use Rattle.command_io.specs.FaultTexts.{IsReported};
+ghost use Rattle.command_io.specs.Printing.{IsCauseOrUnread, Prints, ReportsFault};
+ghost use Rattle.asm_commands.specs.Assembling.{IsAssembly, AssemblyFails, IsTextRefusal};
 
 use crate::input::{read_text, text_of};
 use assembler::{Program, assemble};
-use command_io::{DONE, Fault, tell};
+use command_io::{DONE, Fault, report_fault};
 use elf_image::{ImageError, write_image};
-use link::LinkWrite;
+use link::{LinkRead, LinkWrite};
 use std::alloc::Global;
-use std::io::{Read, Write};
+use std::io::Write;
 
 /// Assembles the text that a file has, and writes the image of what it means. Answers the exit status: 0
-/// where the whole image is written, else that of the fault that is told on standard error. Nothing is
+/// where the whole image is written, else that of the fault that is reported on standard error. Nothing is
 /// written to the image before the whole text is assembled.
-pub fn asm_command<R: Read + Drop, W: LinkWrite, E: Write>(
+pub fn asm_command<R: LinkRead, W: LinkWrite, E: Write>(
     alloc: Global,
-    file: R,
+    file: &mut R,
     out: &mut W,
     err: &mut E,
 ) -> u8
+    requires reads { R.has_failed file.old ≡ false }
     requires works { W.has_failed out.old ≡ false }
-    ensures assembled { result ≡ 0 → IsPrinted (IsAssembly (R.remaining file)) (W.contents out.old) (W.contents out.new) }
-    ensures told { result ≢ 0 → IsTold W.has_failed (Fault.Image ImageError.Link) ⊥
-        (IsNoAssembly (R.remaining file) (W.contents out.old) (W.contents out.new)) out.old out.new result }
+    ensures assembled { result ≡ 0 →
+        Prints (IsAssembly (R.remaining file.old)) (W.contents out.old) (W.contents out.new) }
+    ensures fault { result ≢ 0 → ReportsFault W.has_failed (Fault.Image ImageError.Link) ⊥
+        (IsCauseOrUnread (AssemblyFails (R.remaining file.old) (W.contents out.old) (W.contents out.new)) Fault.Link
+        (R.has_failed file.new))
+        (IsReported (E.contents err.old) (E.contents err.new)) out.old out.new result }
     ensures failed { W.has_failed out.new ≡ true → result ≡ 3 }
+    ensures unread { R.has_failed file.new ≡ true → result ≡ 3 }
+    ensures quiet { result ≡ 0 → err.new ≡ err.old }
 {
-    match carried_out(alloc, file, out) {
+    match execute(alloc, file, out) {
         Ok(()) => DONE,
-        Err(fault) => tell(fault, err),
+        Err(fault) => report_fault(fault, err),
     }
 }
 
 /// Carries the command out.
-fn carried_out<R: Read + Drop, W: LinkWrite>(
-    alloc: Global,
-    file: R,
-    out: &mut W,
-) -> Result<(), Fault>
+fn execute<R: LinkRead, W: LinkWrite>(alloc: Global, file: &mut R, out: &mut W) -> Result<(), Fault>
+    requires reads { R.has_failed file.old ≡ false }
     requires works { W.has_failed out.old ≡ false }
+    ensures unread { IsErrOf result Fault.Link ↔ (R.has_failed file.new ≡ true) }
     ensures failed { IsErrOf result (Fault.Image ImageError.Link) ↔ (W.has_failed out.new ≡ true) }
-    ensures assembled { OnOk result (IsPrinted (IsAssembly (R.remaining file)) (W.contents out.old) (W.contents out.new)) }
-    ensures told { IfErr result (IsNoAssembly (R.remaining file) (W.contents out.old) (W.contents out.new)) }
+    ensures assembled { OnOk result (Prints (IsAssembly (R.remaining file.old)) (W.contents out.old)
+        (W.contents out.new)) }
+    ensures fault { IfErr result (AssemblyFails (R.remaining file.old) (W.contents out.old) (W.contents out.new)) }
     ensures silent { OnErr result (W.has_failed out.new ≡ false → out.new ≡ out.old) }
 {
     let bytes = read_text(alloc, file)?;

@@ -2,52 +2,64 @@
 
 ghost use Rattle.std.specs.Prelude.{◌≡◌, ◌≢◌, ◌↔◌, true, false, IfOk, IfErr, IsErrOf, OnErr, OnOk, string_bytes};
 ghost use Rattle.local_memory.specs.Accesses.{region_of_bytes};
-ghost use Rattle.command_io.specs.Printing.{IsPrinted, IsTold};
+ghost use Rattle.command_io.specs.FaultTexts.{IsReported};
+ghost use Rattle.command_io.specs.Printing.{IsCauseOrUnread, Prints, ReportsFault};
 ghost use Rattle.asm_commands.specs.CodeLines.{IsListing};
-ghost use Rattle.asm_commands.specs.Disassembling.{IsDisassembly, IsNoDisassembly};
+ghost use Rattle.asm_commands.specs.Disassembling.{IsDisassembly, DisassemblyFails};
 
 use crate::code_lines::listing;
-use command_io::{DONE, Fault, image_of, print, tell};
-use elf_image::Image;
+use command_io::{DONE, Fault, image_of, print, report_fault};
+use elf_image::{Image, ImageError};
 use flat_machine::{Config, MIN_QUEUE_CAPACITY};
-use link::LinkWrite;
+use link::{LinkRead, LinkWrite};
 use local_memory::Code;
 use std::alloc::{AllocError, Global};
-use std::io::{Read, Write};
+use std::io::Write;
 
-/// Reads an image for machines with so many shared words, and prints its code: a line for each word up to
+/// Reads an image for machines with this many shared words, and prints its code: a line for each word up to
 /// the last that is not zero. Answers the exit status: 0 where all lines are printed, else that of the fault
-/// that is told on standard error. The lines are made whole before the first is printed.
-pub fn dis_command<R: Read + Drop, W: LinkWrite, E: Write>(
+/// that is reported on standard error. The lines are made whole before the first is printed.
+pub fn dis_command<R: LinkRead, W: LinkWrite, E: Write>(
     alloc: Global,
-    file: R,
+    file: &mut R,
     shared_words: u32,
     out: &mut W,
     err: &mut E,
 ) -> u8
+    requires reads { R.has_failed file.old ≡ false }
     requires works { W.has_failed out.old ≡ false }
-    ensures listed { result ≡ 0 → IsPrinted (IsDisassembly shared_words (R.remaining file)) (W.contents out.old) (W.contents out.new) }
-    ensures told { result ≢ 0 → IsTold W.has_failed Fault.Link ⊥
-        (IsNoDisassembly shared_words (R.remaining file) (W.contents out.old) (W.contents out.new)) out.old out.new result }
+    ensures listed { result ≡ 0 →
+        Prints (IsDisassembly shared_words (R.remaining file.old)) (W.contents out.old) (W.contents out.new) }
+    ensures fault { result ≢ 0 → ReportsFault W.has_failed Fault.Link ⊥
+        (IsCauseOrUnread (DisassemblyFails shared_words (R.remaining file.old) (W.contents out.old) (W.contents
+        out.new))
+        (Fault.Image ImageError.Link) (R.has_failed file.new))
+        (IsReported (E.contents err.old) (E.contents err.new)) out.old out.new result }
     ensures failed { W.has_failed out.new ≡ true → result ≡ 3 }
+    ensures unread { R.has_failed file.new ≡ true → result ≡ 3 }
+    ensures quiet { result ≡ 0 → err.new ≡ err.old }
 {
-    match carried_out(alloc, file, shared_words, out) {
+    match execute(alloc, file, shared_words, out) {
         Ok(()) => DONE,
-        Err(fault) => tell(fault, err),
+        Err(fault) => report_fault(fault, err),
     }
 }
 
 /// Carries the command out.
-fn carried_out<R: Read + Drop, W: LinkWrite>(
+fn execute<R: LinkRead, W: LinkWrite>(
     alloc: Global,
-    file: R,
+    file: &mut R,
     shared_words: u32,
     out: &mut W,
 ) -> Result<(), Fault>
+    requires reads { R.has_failed file.old ≡ false }
     requires works { W.has_failed out.old ≡ false }
+    ensures unread { IsErrOf result (Fault.Image ImageError.Link) ↔ (R.has_failed file.new ≡ true) }
     ensures failed { IsErrOf result Fault.Link ↔ (W.has_failed out.new ≡ true) }
-    ensures listed { OnOk result (IsPrinted (IsDisassembly shared_words (R.remaining file)) (W.contents out.old) (W.contents out.new)) }
-    ensures told { IfErr result (IsNoDisassembly shared_words (R.remaining file) (W.contents out.old) (W.contents out.new)) }
+    ensures listed { OnOk result (Prints (IsDisassembly shared_words (R.remaining file.old)) (W.contents out.old)
+        (W.contents out.new)) }
+    ensures fault { IfErr result (DisassemblyFails shared_words (R.remaining file.old) (W.contents out.old)
+        (W.contents out.new)) }
     ensures silent { OnErr result (W.has_failed out.new ≡ false → out.new ≡ out.old) }
 {
     // What an image means does not depend on the network's size.

@@ -1,7 +1,7 @@
 //! The lines of the list of faults.
 
 ghost use Rattle.std.specs.Prelude.{◌≡◌, ◌++◌, IfOk, OnOk, string_bytes};
-ghost use Rattle.asm_commands.specs.Lines.{IsList, IsLineBehind, code_of, count_line, line_of};
+ghost use Rattle.asm_commands.specs.Lines.{IsList, code_of, count_line, fault_line, line_of};
 
 use crate::advice::advice_of;
 use crate::text_fault::TextFault;
@@ -24,7 +24,7 @@ pub fn list_of(alloc: Global, faults: &[TextFault<'_>]) -> Result<String, AllocE
 
 /// Appends the line of a fault.
 fn push_line(alloc: Global, text: &mut String, fault: &TextFault<'_>) -> Result<(), AllocError>
-    ensures { OnOk result (IsLineBehind fault.now (string_bytes text.old) (string_bytes text.new)) }
+    ensures { OnOk result (string_bytes text.new ≡ string_bytes text.old ++ fault_line fault.now) }
 {
     let advice = advice_of(alloc, &fault.hint)?;
     push_with(alloc, text, fault, advice.as_str())?;

@@ -1,11 +1,12 @@
 //! The list of faults.
 
-ghost use Rattle.std.specs.Prelude.{◌≡◌, ◌++◌, IfOk, IfSome, OnOk, option_to_list};
+ghost use Rattle.std.specs.Prelude.{◌≡◌, ◌+◌, ◌++◌, IfOk, IfSome, OnOk, option_to_list};
 ghost use Rattle.std.specs.Option.{option_map};
 ghost use Rattle.assembler.specs.Meaning.{start, after, labels_of, line_piece, pieces_from};
 ghost use Rattle.assembler.specs.Passes.{nows};
-ghost use Rattle.asm_commands.specs.Faults.{AreTheFaults, AreFaultsOf, IsAt, error_of, error_at};
+ghost use Rattle.asm_commands.specs.Faults.{AreTheFaults, AreFaultsOf, IsAt, IsNamed, error_of, error_at};
 ghost use Rattle.line_faults.specs.Places.{label_values, place_of};
+ghost use Rattle.line_faults.specs.Views.{spot_span};
 
 use crate::text_fault::TextFault;
 use asm_lines::{LineError, parts_at, read_line};
@@ -14,8 +15,9 @@ use line_faults::{Around, Cursor, Label, Piece, Search, Spot, spot_of};
 use std::alloc::{AllocError, Global};
 use std::collections::BTreeMap;
 
-/// All faults of a text, in the order of its lines: each line that has one, with its fault, and no other. So the list is
-/// empty exactly where the text has a meaning ([`none_where_there_is_a_meaning`](crate::none_where_there_is_a_meaning)).
+/// All faults of a text, in the order of its lines: each line that has one, with its fault, and no other. So the list
+/// is empty exactly if the text has a meaning
+/// ([`none_where_there_is_a_meaning`](crate::none_where_there_is_a_meaning)).
 ///
 /// # Errors
 ///
@@ -39,7 +41,7 @@ fn labels_of<'a>(alloc: Global, lines: &[&'a [u8]]) -> Result<BTreeMap<&'a [u8],
     Ok(cursor.labels)
 }
 
-/// Goes behind a line, which has this number.
+/// Goes after a line, which has this number.
 fn pass_line<'a>(
     alloc: Global,
     cursor: &mut Cursor<'a>,
@@ -61,7 +63,9 @@ fn faults_of<'a>(
     labels: &BTreeMap<&'a [u8], Label>,
     lines: &[&'a [u8]],
 ) -> Result<Vec<TextFault<'a>>, AllocError>
-    ensures { IfOk result (λ faults. AreFaultsOf (pieces_from (label_values labels.now) start (nows lines.now)) (nows lines.now) faults.items) }
+    ensures { IfOk result (λ faults. AreFaultsOf (label_values labels.now)
+        (pieces_from (label_values labels.now) start (nows lines.now)) (nows lines.now)
+        faults.items) }
 {
     let mut cursor = Cursor::new(alloc);
     let mut search = Search::new();
@@ -73,7 +77,7 @@ fn faults_of<'a>(
     Ok(faults)
 }
 
-/// Puts a fault behind the others, if there is one.
+/// Puts a fault after the others, if there is one.
 fn keep<'a>(faults: &mut Vec<TextFault<'a>>, found: Option<TextFault<'a>>) -> Result<(), AllocError>
     ensures { OnOk result (faults.new.items ≡ faults.old.items ++ option_to_list found.entry) }
 {
@@ -83,7 +87,7 @@ fn keep<'a>(faults: &mut Vec<TextFault<'a>>, found: Option<TextFault<'a>>) -> Re
     Ok(())
 }
 
-/// The fault of the next line, which has this number; then goes behind it.
+/// The fault of the next line, which has this number; then goes after it.
 fn take_line<'a>(
     alloc: Global,
     labels: &BTreeMap<&'a [u8], Label>,
@@ -94,7 +98,8 @@ fn take_line<'a>(
 ) -> Result<Option<TextFault<'a>>, AllocError>
     ensures fault { IfOk result (λ found. option_map error_of found
         ≡ error_at number (line_piece (label_values labels.now) (place_of cursor.old) line.now)) }
-    ensures placed { IfOk result (λ found. IfSome found (λ t. (t.line ≡ number) × IsAt line.now t.column t.word.now)) }
+    ensures placed { IfOk result (λ found. IfSome found (λ t. (t.line ≡ number) × IsAt line.now t.column t.word.now
+        × IsNamed (label_values labels.now) (place_of cursor.old) line.now t)) }
     ensures place { OnOk result (place_of cursor.new ≡ after (place_of cursor.old) line.now) }
 {
     let (said, fault) = match read_line(alloc, line) {
@@ -109,8 +114,7 @@ fn take_line<'a>(
         None => None,
         Some(fault) => {
             let around = Around { cursor, labels };
-            let spot = spot_of(alloc, &around, search, line, fault)?;
-            Some(fault_at(line, number, fault, &spot))
+            Some(found_at(alloc, &around, search, line, number, fault)?)
         }
     };
     if let Some(said) = &said {
@@ -119,22 +123,44 @@ fn take_line<'a>(
     Ok(found)
 }
 
-/// The fault of the line with this number. Its word is the spot's; the whole line, where the spot is none of the line.
-fn fault_at<'a>(line: &'a [u8], number: usize, fault: AsmFault, spot: &Spot<'a>) -> TextFault<'a>
+/// The fault of the line with this number, with the word at which it lies.
+fn found_at<'a>(
+    alloc: Global,
+    around: &Around<'_, 'a>,
+    search: &mut Search,
+    line: &'a [u8],
+    number: usize,
+    fault: AsmFault,
+) -> Result<TextFault<'a>, AllocError>
+    ensures error { IfOk result (λ t. (t.line ≡ number) × (t.fault ≡ fault)) }
+    ensures at { IfOk result (λ t. IsAt line.now t.column t.word.now) }
+    ensures named { IfOk result (λ t. IsNamed (label_values around.now.labels.now)
+        (place_of around.now.cursor.now) line.now t) }
+{
+    let spot = spot_of(alloc, around, search, line, fault)?;
+    Ok(fault_at(number, fault, &spot))
+}
+
+/// The fault of the line with this number at this spot.
+fn fault_at<'a>(number: usize, fault: AsmFault, spot: &Spot<'a>) -> TextFault<'a>
     ensures line { result.line ≡ number }
     ensures fault { result.fault ≡ fault }
-    ensures word { IsAt line.now result.column result.word.now }
+    ensures column { result.column ≡ (spot_span spot.now).start + 1 }
+    ensures word { result.word.now ≡ (spot_span spot.now).bytes }
+    ensures hint { result.hint ≡ spot.now.hint }
 {
-    let Piece { start, bytes } = spot.piece;
-    let (start, word) = match line.get(start..start.saturating_add(bytes.len())) {
-        Some(word) => (start, word),
-        None => (0, line),
-    };
     TextFault {
         line: number,
-        column: start.saturating_add(1),
-        word,
+        column: column_of(spot.piece),
+        word: spot.piece.bytes,
         fault,
         hint: spot.hint,
     }
+}
+
+/// Where a piece begins in its line, counted in bytes from 1.
+fn column_of(piece: Piece<'_>) -> usize
+    ensures { result ≡ piece.entry.start + 1 }
+{
+    piece.start + 1
 }

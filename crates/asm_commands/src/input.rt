@@ -1,14 +1,13 @@
 //! The text of a file.
 
-ghost use Rattle.std.specs.Prelude.{◌≡◌, IfOk, IfErr};
+ghost use Rattle.std.specs.Prelude.{◌≡◌, ◌↔◌, true, false, IfOk, IfErr, IsErrOf};
 ghost use Rattle.std.specs.Str.{IsUtf8};
 ghost use Rattle.command_io.specs.Files.{IsWhole};
 ghost use Rattle.asm_commands.specs.Assembling.{IsUnread};
 
 use command_io::Fault;
-use link::{Meter, ReadError, read_within};
+use link::{LinkRead, ReadError, read_within};
 use std::alloc::Global;
-use std::io::Read;
 
 /// How many bytes a text may have. A text that fills every section of an image needs less than half of
 /// them; the limit is so that an input without an end does not take all memory.
@@ -18,13 +17,15 @@ pub const MAX_TEXT_BYTES: usize = 16_777_216;
 ///
 /// # Errors
 ///
-/// [`Fault::Link`] where it cannot be read, and [`Fault::Memory`] where memory is short or the file has more than
+/// [`Fault::Link`] exactly if a read fails, and [`Fault::Memory`] where memory is short or the file has more than
 /// [`MAX_TEXT_BYTES`].
-pub fn read_text<R: Read + Drop>(alloc: Global, file: R) -> Result<Vec<u8>, Fault>
-    ensures read { IfOk result (λ text. IsWhole (R.remaining file) text.items) }
+pub fn read_text<R: LinkRead>(alloc: Global, file: &mut R) -> Result<Vec<u8>, Fault>
+    requires works { R.has_failed file.old ≡ false }
+    ensures read { IfOk result (λ text. IsWhole (R.remaining file.old) text.items) }
     ensures unread { IfErr result IsUnread }
+    ensures link { IsErrOf result Fault.Link ↔ (R.has_failed file.new ≡ true) }
 {
-    match read_within(alloc, &mut Meter::new(file), MAX_TEXT_BYTES) {
+    match read_within(alloc, file, MAX_TEXT_BYTES) {
         Ok(text) => Ok(text),
         Err(ReadError::Link) => Err(Fault::Link),
         Err(ReadError::Memory | ReadError::TooLong) => Err(Fault::Memory),

@@ -6,8 +6,8 @@ ghost use Rattle.assembler.specs.declared.fault.AsmError.{AsmError};
 ghost use Rattle.assembler.specs.Meaning.{IsMeaning, IsPresent};
 ghost use Rattle.asm_commands.specs.Faults.{errors_of};
 
-/// The faults of a text are those that are present in the sense of `assemble`, and all of them: so what `assemble` refuses a
-/// text for is among them.
+/// The faults of a text are those that are present in the sense of `assemble`, and all of them: so what `assemble`
+/// refuses a text for is among them.
 pub fn listed_where_present()
     ensures sound { (text : List ℕ) (e : AsmError) → Contains (errors_of text) e → IsPresent text e }
     ensures complete { (text : List ℕ) (e : AsmError) → IsPresent text e → Contains (errors_of text) e }

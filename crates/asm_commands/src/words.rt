@@ -2,7 +2,7 @@
 
 ghost use Rattle.std.specs.Prelude.{◌≡◌, ◌++◌, OnOk, string_bytes};
 ghost use Rattle.std.specs.List.{flat_map};
-ghost use Rattle.asm_commands.specs.Lines.{behind_code, shown_byte, shown};
+ghost use Rattle.asm_commands.specs.Words.{behind_code, shown_byte, shown};
 
 use command_io::push_bytes;
 use std::alloc::{AllocError, Global};

@@ -12,7 +12,7 @@ use Rattle.asm_lines.specs.declared.fault.LineFault.TheVariants.{Form}
 use Rattle.asm_lines.specs.Text.{is_blank}
 use Rattle.asm_lines.specs.Number.{digit_in, digits_after, digits_in, number_of, number_within, natural_within}
 use Rattle.asm_lines.specs.Names.{x_name, use_name, numbers, register_of}
-use Rattle.asm_lines.specs.Statements.{is_letter, is_name, register_in, value_in, bracketed, part_in, upper_in, lower_in, byte_in, nothing_in}
+use Rattle.asm_lines.specs.Statements.{is_letter, is_name, register_in, value_in, bracket_parts, part_in, upper_in, lower_in, byte_in, nothing_in}
 use Rattle.asm_lines.specs.Alike.{IsHexOf, IsNumeralOf, AreReadAlike}
 use Rattle.asm_lines.proofs.Numerals.{digit_passes, digits_pass, plain_digits}
 use Rattle.asm_lines.proofs.PlainWords.{weaker, bracketed_none}
@@ -59,6 +59,7 @@ unfolding number_of digits_in
 hex_number n bytes ([], is, numeral, value) = let none : 0 < 0 = numeral.0 in absurd (omega arith)
 hex_number n bytes (b ∷ bs, is, numeral, value) = rw (is, hex_digits 0 (b ∷ bs) numeral.1) (ap (λ (v : ℕ). Some (pos v)) value)
 
+-- A numeral of a number is read as that number.
 pub numeral_number : (n : ℕ) (bytes : List ℕ) → IsNumeralOf n bytes → number_of bytes ≡ Some (pos n)
 numeral_number n bytes (inl decimal) = plain_digits bytes decimal.0 ∙ ap (λ (v : ℕ). Some (pos v)) decimal.1
 numeral_number n bytes (inr hex) = hex_number n bytes hex
@@ -67,13 +68,20 @@ numeral_number n bytes (inr hex) = hex_number n bytes hex
 
 -- a numeral begins with a digit, and has no blank and no closing bracket
 pub record LooksLikeNumber (bytes : List ℕ) : Type 0 where
+  -- the first byte
   pub first : ℕ
+  -- the bytes after it
   pub rest : List ℕ
+  -- these are all bytes of the numeral
   pub is : bytes ≡ first ∷ rest
+  -- the first byte is a decimal digit
   pub digit : digit_value first < 10
+  -- no byte is a blank
   pub solid : list_all (λ b. not (is_blank b)) bytes ≡ true
+  -- no byte is a closing bracket
   pub unclosed : list_all (λ b. not (eqb b 41)) bytes ≡ true
 
+-- Each numeral begins with a digit, and has no blank and no closing bracket.
 pub looks : (n : ℕ) (bytes : List ℕ) → IsNumeralOf n bytes → LooksLikeNumber bytes
 looks n [] (inl decimal) = let none : 0 < 0 = decimal.0.0 in absurd (omega arith)
 looks n (b ∷ bs) (inl decimal) = record {
@@ -102,6 +110,7 @@ other_name : (name : List ℕ) (b : ℕ) (bs : List ℕ) → eqb (slice_index na
 other_name [] b bs h = refl
 other_name (c ∷ cs) b bs h = and_left (eqb c b) _ h
 
+-- If no element of a list passes a test, none is found.
 pub find_nothing : (p : ℕ → Bool) (xs : List ℕ) → list_all (λ x. not (p x)) xs ≡ true → find p xs ≡ None
 find_nothing p [] h = refl
 find_nothing p (x ∷ xs) h =
@@ -120,7 +129,7 @@ no_register b bs h = find_nothing (λ r. bytes_eq (x_name r) (b ∷ bs) || bytes
 -- ---- what each reader makes of a numeral
 
 module _ (n : ℕ) (bytes : List ℕ) (is : IsNumeralOf n bytes) where
-  no_brackets : bracketed bytes ≡ None
+  no_brackets : bracket_parts bytes ≡ None
   no_brackets = let l = looks n bytes is in bracketed_none bytes (rw l.is (omega arith)) l.unclosed
 
   register_fails : register_of bytes ≡ None
@@ -142,6 +151,7 @@ module _ (n : ℕ) (one other : List ℕ) (is : IsNumeralOf n one) (is' : IsNume
   unfolding number_within
   within_alike least most = rw same_number refl
 
+  -- Two numerals of the same number are read alike.
   pub numerals_alike : AreReadAlike one other
   unfolding register_in value_in upper_in lower_in part_in natural_within byte_in
   numerals_alike = record {

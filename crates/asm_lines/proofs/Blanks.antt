@@ -7,7 +7,7 @@ use Rattle.std.proofs.lemmas.Bool.{and_from, not_from_false, eqb-true}
 use Rattle.asm_lines.specs.declared.fault.LineFault.{LineFault}
 use Rattle.asm_lines.specs.Steps.{◌>>=◌}
 use Rattle.asm_lines.specs.Text.{is_blank, trimmed, cut_at, operands_of}
-use Rattle.asm_lines.specs.Statements.{Said, is_name, bracketed, rest_of_line, before_comment, label_parts, label_in, said_in, line_of}
+use Rattle.asm_lines.specs.Statements.{Said, is_name, bracket_parts, rest_of_line, before_comment, label_parts, label_in, said_in, line_of}
 use Rattle.asm_lines.specs.Alike.{AreBracketedAlike, AreReadAlike, Pairwise, none, more, AreBlanks, IsQuiet, IsMark, IsFirstWord, IsLead, statement_line}
 use Rattle.asm_lines.proofs.PlainWords.{weaker, joined_all, cut_at_none, cut_at_mid, split_mid, split_none}
 use Rattle.asm_lines.proofs.Comments.{Cut, uncut, cut, cut_of, is_mark}
@@ -49,6 +49,7 @@ comma_gap front gap gap' back h h' =
 
 -- ---- brackets
 
+-- An operand is read like itself.
 pub alike_itself : (one : List ℕ) → AreReadAlike one one
 alike_itself one = record {
   register = refl;
@@ -58,7 +59,7 @@ alike_itself one = record {
   natural = λ most. refl;
   byte = refl;
   brackets =
-      go (bracketed one);
+      go (bracket_parts one);
   nothing = refl;
 }
   where
@@ -142,6 +143,8 @@ quiet_blanks gap h = weaker is_blank (λ b. not (eqb b 58 || eqb b 35)) (λ b e.
     go b e true f t g = let differ : false ≡ true = sym (ap is_blank (eqb-true b 58 f)) ∙ e in absurd cc
     go b e false f true g = let differ : false ≡ true = sym (ap is_blank (eqb-true b 35 g)) ∙ e in absurd cc
 
+-- Blanks round a comma or a bracket of the operands do not change what a line says, if the operands
+-- have no colon and no mark of a comment.
 pub marks_change_nothing : (lead word front gap gap' back : List ℕ) (m : ℕ) → IsLead lead → IsFirstWord word → IsQuiet front → IsQuiet back
     → AreBlanks gap → AreBlanks gap' → IsMark m
     → line_of (statement_line lead word (front ++ (gap ++ m ∷ (gap' ++ back)))) ≡ line_of (statement_line lead word (front ++ m ∷ back))
@@ -212,6 +215,7 @@ kept_behind text rest h = go (cut_of is_mark rest)
         ap kept (ap (λ l. text ++ l) is ∙ sym (append_assoc text front (c ∷ behind))) ∙ kept_cut (text ++ front) c behind (lacks_both 35 text front h f) e
         ∙ ap (λ l. text ++ l) (sym (ap kept is ∙ kept_cut front c behind f e))
 
+-- Blanks at the ends of a line do not change what it says.
 pub ends_change_nothing : (before line after : List ℕ) → AreBlanks before → AreBlanks after → line_of (before ++ (line ++ after)) ≡ line_of line
 unfolding line_of
 ends_change_nothing before line after b a = ap said_in (kept_behind before (line ++ after) (no_such is_blank 35 refl before b)) ∙ go (cut_of is_mark line)
@@ -225,6 +229,7 @@ ends_change_nothing before line after b a = ap said_in (kept_behind before (line
         ∙ kept_cut front c (behind ++ after) h e ∙ sym (append-nil front))
         ∙ said_ends before front [] b refl ∙ ap said_in (sym (ap kept is ∙ kept_cut front c behind h e))
 
+-- Blanks round the colon of a label do not change what a line says.
 pub colon_changes_nothing : (name gap gap' rest : List ℕ) → is_name name ≡ true → AreBlanks gap → AreBlanks gap'
     → line_of (name ++ (gap ++ 58 ∷ (gap' ++ rest))) ≡ line_of (name ++ 58 ∷ rest)
 unfolding line_of said_in

@@ -11,6 +11,7 @@ pub data Cut (p : ℕ → Bool) (xs : List ℕ) : Type 0 where
   uncut : list_all (λ b. not (p b)) xs ≡ true → Cut p xs
   cut : (front : List ℕ) (c : ℕ) (behind : List ℕ) → xs ≡ front ++ c ∷ behind → list_all (λ b. not (p b)) front ≡ true → p c ≡ true → Cut p xs
 
+-- No byte of a text passes, or the text is cut at the first one that does.
 pub cut_of : (p : ℕ → Bool) (xs : List ℕ) → Cut p xs
 cut_of p [] = uncut refl
 cut_of p (x ∷ xs) = go (p x) refl (cut_of p xs)
@@ -25,6 +26,7 @@ cut_of p (x ∷ xs) = go (p x) refl (cut_of p xs)
 abbrev pub is_mark : ℕ → Bool
 is_mark b = eqb b 35
 
+-- A comment does not change what a line says.
 pub comment_left_out : (line comment : List ℕ) → line_of (line ++ 35 ∷ comment) ≡ line_of line
 unfolding line_of
 comment_left_out line comment = ap said_in (go (cut_of is_mark line))

@@ -8,7 +8,7 @@ use Rattle.std.proofs.lemmas.List.{length-append, length-reverse, take_at}
 use Rattle.std.proofs.Math.Seq.{get_or-append_seam}
 use Rattle.asm_lines.specs.Text.{trimmed, cut_last_at}
 use Rattle.asm_lines.specs.Number.{natural_within}
-use Rattle.asm_lines.specs.Statements.{value_in, bracketed, label_of_part, part_in, or_number, upper_in, lower_in, byte_in}
+use Rattle.asm_lines.specs.Statements.{value_in, bracket_parts, label_of_part, part_in, or_number, upper_in, lower_in, byte_in}
 use Rattle.asm_lines.specs.Alike.{AreBracketedAlike, AreReadAlike}
 use Rattle.asm_lines.proofs.Trims.{lacks, all_reversed}
 use Rattle.asm_lines.proofs.WithBracket.{IsBracket, register_fails, no_name, number_fails, some_operand}
@@ -19,6 +19,7 @@ pub data LastCut (xs : List ℕ) : Type 0 where
   without : lacks 40 xs ≡ true → LastCut xs
   last : (front inside : List ℕ) → xs ≡ front ++ 40 ∷ inside → lacks 40 inside ≡ true → LastCut xs
 
+-- Each text has no opening bracket, or is cut at its last one.
 pub last_cut : (xs : List ℕ) → LastCut xs
 last_cut [] = without refl
 last_cut (x ∷ xs) = go (last_cut xs)
@@ -38,6 +39,7 @@ all_kept q xs h = go (reverse xs) (all_reversed q xs h) ∙ length-reverse xs
     go [] e = refl
     go (y ∷ ys) e = let a = and_parts (q y) (list_all q ys) e in rw (a.0, go ys a.1) (omega arith)
 
+-- A text without an opening bracket is not cut at one.
 pub cut_last_none : (xs : List ℕ) → lacks 40 xs ≡ true → cut_last_at 40 xs ≡ None
 unfolding cut_last_at
 cut_last_none xs h = let past : nat_lt (length xs) (length xs) ≡ false = le-ltb _ _ (omega arith) in rw (all_kept (λ b. not (eqb b 40)) xs h, past) refl
@@ -53,18 +55,22 @@ parts_trimmed o = option_map (λ parts. (trimmed parts.0, trimmed parts.1)) o
 abbrev pub cut_trimmed : List ℕ → Parts
 cut_trimmed xs = parts_trimmed (cut_last_at 40 xs)
 
-pub bracketed_snoc : (xs : List ℕ) (c : ℕ) → bracketed (xs ++ c ∷ []) ≡ (if eqb c 41 then cut_trimmed xs else None)
-unfolding bracketed
+-- A text that ends with a closing bracket has the parts of the last cut before it, trimmed; another has none.
+pub bracketed_snoc : (xs : List ℕ) (c : ℕ) → bracket_parts (xs ++ c ∷ []) ≡ (if eqb c 41 then cut_trimmed xs else None)
+unfolding bracket_parts
 bracketed_snoc xs c =
     let count : length (xs ++ c ∷ []) - 1 ≡ length xs = simp length-append (omega arith) in
     rw (count, get_or-append_seam xs c [] 0, take_at xs (c ∷ []) (length xs) refl) refl
 
--- Two cuts into what stands before an opening bracket and in it: both are read alike, and name the same label behind a modifier.
+-- Two cuts into what stands before an opening bracket and in it: both are read alike, and name the same label after a modifier.
 pub record SameCut (one other : Parts) : Type 0 where
+  -- both are read alike
   pub brackets : AreBracketedAlike one other
+  -- after a modifier that begins with % and has no bracket, both name the same label, or none
   pub named : (modifier : List ℕ) → slice_index modifier 0 ≡ 37 → lacks 40 modifier ≡ true → lacks 41 modifier ≡ true
       → label_of_part modifier one ≡ label_of_part modifier other
 
+-- Two cuts that are equal are read alike.
 pub same_cut : (one other : Parts) → one ≡ other → SameCut one other
 same_cut one other e = subst (SameCut one) e (record { brackets = itself one; named = λ modifier percent h i. refl })
   where
@@ -76,7 +82,7 @@ same_cut one other e = subst (SameCut one) e (record { brackets = itself one; na
 
 module _ (m : ℕ) (is : IsBracket m) where
   -- Where the cuts are the same, all readers agree: a text with a bracket is nothing but %hi, %lo or an address.
-  pub from_cuts : (P Q P' Q' : List ℕ) → SameCut (bracketed (P ++ m ∷ Q)) (bracketed (P' ++ m ∷ Q')) → AreReadAlike (P ++ m ∷ Q) (P' ++ m ∷ Q')
+  pub from_cuts : (P Q P' Q' : List ℕ) → SameCut (bracket_parts (P ++ m ∷ Q)) (bracket_parts (P' ++ m ∷ Q')) → AreReadAlike (P ++ m ∷ Q) (P' ++ m ∷ Q')
   unfolding value_in upper_in lower_in part_in natural_within byte_in
   from_cuts P Q P' Q' same = record {
     register = register_fails m is P Q ∙ sym (register_fails m is P' Q');
@@ -93,7 +99,8 @@ module _ (m : ℕ) (is : IsBracket m) where
       or_fails least most (Some name) = refl
       or_fails least most None = rw (number_fails m is least most P Q, number_fails m is least most P' Q') refl
 
-      numbered : (least most : ℤ) (modifier : List ℕ) → label_of_part modifier (bracketed (P ++ m ∷ Q)) ≡ label_of_part modifier (bracketed (P' ++ m ∷ Q'))
-          → or_number least most (P ++ m ∷ Q) (label_of_part modifier (bracketed (P ++ m ∷ Q)))
-          ≡ or_number least most (P' ++ m ∷ Q') (label_of_part modifier (bracketed (P' ++ m ∷ Q')))
-      numbered least most modifier e = ap (or_number least most (P ++ m ∷ Q)) e ∙ or_fails least most (label_of_part modifier (bracketed (P' ++ m ∷ Q')))
+      numbered : (least most : ℤ) (modifier : List ℕ) →
+          label_of_part modifier (bracket_parts (P ++ m ∷ Q)) ≡ label_of_part modifier (bracket_parts (P' ++ m ∷ Q'))
+          → or_number least most (P ++ m ∷ Q) (label_of_part modifier (bracket_parts (P ++ m ∷ Q)))
+          ≡ or_number least most (P' ++ m ∷ Q') (label_of_part modifier (bracket_parts (P' ++ m ∷ Q')))
+      numbered least most modifier e = ap (or_number least most (P ++ m ∷ Q)) e ∙ or_fails least most (label_of_part modifier (bracket_parts (P' ++ m ∷ Q')))

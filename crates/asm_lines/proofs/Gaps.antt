@@ -6,7 +6,7 @@ use Rattle.std.specs.Str.{bytes_eq}
 use Rattle.std.proofs.lemmas.Bool.{and_right, ne_eqb}
 use Rattle.std.proofs.lemmas.List.{reverse-append, reverse-reverse, length-append}
 use Rattle.asm_lines.specs.Text.{is_blank, front_trimmed, trimmed}
-use Rattle.asm_lines.specs.Statements.{is_name, register_in, bracketed}
+use Rattle.asm_lines.specs.Statements.{is_name, register_in, bracket_parts}
 use Rattle.asm_lines.specs.Alike.{AreBlanks, AreReadAlike}
 use Rattle.asm_lines.proofs.PlainWords.{joined_all, cut_last_mid}
 use Rattle.asm_lines.proofs.Trims.{lacks, lacks_both, no_such, Ends, blank, solid, ends_of, trimmed_behind, trimmed_before, front_before, Kept, kept_of}
@@ -95,7 +95,7 @@ normal m A gap gap' B n h h' = go (kept_of A gap h) (ends_of B)
 -- ---- in an operand
 
 module _ (m : ℕ) (is : IsBracket m) where
-  -- for texts with fewer than n bytes behind the bracket
+  -- for texts with fewer than n bytes after the bracket
   abbrev AlikeWithin : ℕ → Type 0
   AlikeWithin n = (A gap gap' B : List ℕ) → AreBlanks gap → AreBlanks gap' → length B < n
       → AreReadAlike (trimmed (A ++ (gap ++ m ∷ (gap' ++ B)))) (trimmed (A ++ m ∷ B))
@@ -104,7 +104,7 @@ module _ (m : ℕ) (is : IsBracket m) where
   some_marked P Q = ne_eqb _ _ (λ e. absurd (omega (arith, e, length-append P (m ∷ Q))))
 
   module _ (n : ℕ) (within : AlikeWithin n) (P g g' : List ℕ) (blanks : AreBlanks g) (blanks' : AreBlanks g') where
-    -- The last opening bracket stands behind the gap: what stands before it has the gap in turn.
+    -- The last opening bracket stands after the gap: what stands before it has the gap in turn.
     cut_behind : (front inside : List ℕ) → lacks 40 inside ≡ true → length front < n
         → SameCut (cut_trimmed (P ++ (g ++ m ∷ (g' ++ (front ++ 40 ∷ inside))))) (cut_trimmed (P ++ m ∷ (front ++ 40 ∷ inside)))
     cut_behind front inside h less =
@@ -146,7 +146,7 @@ module _ (m : ℕ) (is : IsBracket m) where
         ∙ ap parts_trimmed (sym (cut_last_mid P inside h))
         ∙ ap (λ b. cut_trimmed (P ++ b ∷ inside)) (sym e))
 
-    -- a closing bracket stands behind it, so no register does
+    -- a closing bracket stands after it, so no register does
     cut_before : (Q : List ℕ) → m ≡ 41 → lacks 40 Q ≡ true → SameCut (cut_trimmed (P ++ (g ++ m ∷ (g' ++ Q)))) (cut_trimmed (P ++ m ∷ Q))
     cut_before Q e h = go (last_cut P)
       where
@@ -231,13 +231,13 @@ module _ (m : ℕ) (is : IsBracket m) where
             (omega (arith, less, norm.shorter, ap length e.2 ∙ length-append e.0 (e.1 ∷ [])))
       ])))
     where
-      at_end : (P g Q g' : List ℕ) → AreBlanks g → Q ≡ [] → g' ≡ [] → SameCut (bracketed ((P ++ g) ++ m ∷ (g' ++ Q))) (bracketed (P ++ m ∷ Q))
+      at_end : (P g Q g' : List ℕ) → AreBlanks g → Q ≡ [] → g' ≡ [] → SameCut (bracket_parts ((P ++ g) ++ m ∷ (g' ++ Q))) (bracket_parts (P ++ m ∷ Q))
       at_end P g Q g' b e e' =
           rw (e, e', bracketed_snoc (P ++ g) m, bracketed_snoc P m)
           (closed (eqb m 41) _ _ (cut_at_end zero (λ _ _ _ _ _ _ less. absurd (omega (arith, less))) P g [] b refl))
 
       before_end : (P g Q g' : List ℕ) → AreBlanks g → AreBlanks g' → (front : List ℕ) (c : ℕ) → Q ≡ front ++ c ∷ [] → AlikeWithin n → length front < n
-          → SameCut (bracketed ((P ++ g) ++ m ∷ (g' ++ Q))) (bracketed (P ++ m ∷ Q))
+          → SameCut (bracket_parts ((P ++ g) ++ m ∷ (g' ++ Q))) (bracket_parts (P ++ m ∷ Q))
       before_end P g Q g' b b' front c e within fits =
           let left : (P ++ g) ++ m ∷ (g' ++ Q) ≡ (P ++ (g ++ m ∷ (g' ++ front))) ++ c ∷ []
           = append_assoc P g (m ∷ (g' ++ Q)) ∙ ap (λ q. P ++ (g ++ m ∷ (g' ++ q))) e ∙ ap (λ l. P ++ (g ++ m ∷ l)) (sym (append_assoc g' front (c ∷ [])))

@@ -5,7 +5,7 @@ use Rattle.std.specs.Char.{digit_value}
 use Rattle.std.specs.Str.{bytes_eq}
 use Rattle.std.proofs.lemmas.Bool.{and_left, not-true}
 use Rattle.asm_lines.specs.Text.{trimmed, operands_of}
-use Rattle.asm_lines.specs.Statements.{is_name, bracketed, line_of}
+use Rattle.asm_lines.specs.Statements.{is_name, bracket_parts, line_of}
 use Rattle.asm_lines.specs.Written.{in_brackets}
 use Rattle.asm_lines.specs.Alike.{IsNumeralOf, AreReadAlike, Pairwise, none, more, SayTheSame, same}
 use Rattle.asm_lines.specs.Alike.{numerals, offsets, IsQuiet, IsFirstWord, IsLead, statement_line}
@@ -18,9 +18,9 @@ use Rattle.asm_lines.proofs.Cuts.{parts_trimmed, bracketed_snoc, SameCut, from_c
 use Rattle.asm_lines.proofs.Blanks.{alike_itself}
 use Rattle.asm_lines.proofs.StatementLines.{not_empty, lines_alike}
 
-cut_base : (front base : List ℕ) → lacks 40 base ≡ true → bracketed (in_brackets front base) ≡ Some (trimmed front, trimmed base)
+cut_base : (front base : List ℕ) → lacks 40 base ≡ true → bracket_parts (in_brackets front base) ≡ Some (trimmed front, trimmed base)
 cut_base front base h =
-    ap bracketed (sym (append_assoc front (40 ∷ base) (41 ∷ [])))
+    ap bracket_parts (sym (append_assoc front (40 ∷ base) (41 ∷ [])))
     ∙ bracketed_snoc (front ++ 40 ∷ base) 41
     ∙ ap parts_trimmed (cut_last_mid front base h)
 
@@ -43,7 +43,7 @@ offsets_alike : (n : ℕ) (one other base : List ℕ) → IsNumeralOf n one → 
     → AreReadAlike (in_brackets one base) (in_brackets other base)
 offsets_alike n one other base is is' h = from_cuts 40 (bracket 40 (inl refl)) one (base ++ 41 ∷ []) other (base ++ 41 ∷ []) cuts
   where
-    cuts : SameCut (bracketed (in_brackets one base)) (bracketed (in_brackets other base))
+    cuts : SameCut (bracket_parts (in_brackets one base)) (bracket_parts (in_brackets other base))
     cuts = rw (cut_base one base h, cut_base other base h, numeral_trimmed n one is, numeral_trimmed n other is') (record {
       brackets = ((numerals_alike n one other is is').lower, refl, not_empty one (some_byte n one is) ∙ sym (not_empty other (some_byte n other is')));
       named = λ modifier percent no_open no_close.
@@ -60,6 +60,8 @@ all_alike_of : {ones others : List (List ℕ)} → Pairwise SayTheSame ones othe
 all_alike_of none = none
 all_alike_of (more h rest) = more (alike_of h) (all_alike_of rest)
 
+-- Lines with the same label and first word say the same if their operands do, pair by pair, and have no colon
+-- and no mark of a comment.
 pub numeral_lines : (lead word rest rest' : List ℕ) → IsLead lead → IsFirstWord word → IsQuiet rest → IsQuiet rest'
     → Pairwise SayTheSame (operands_of rest) (operands_of rest')
     → line_of (statement_line lead word rest) ≡ line_of (statement_line lead word rest')

@@ -40,6 +40,7 @@ digit_passes q table b h =
       | inr passes ↦ passes
     ]
 
+-- If each byte from 48 to 57 passes a test, so does each decimal digit of a text.
 pub digits_pass : (q : ℕ → Bool) → agree_below (λ b. nat_lt b 48 || q b) (λ _. true) 58 ≡ true → (bs : List ℕ) → AllDigits 10 bs → list_all q bs ≡ true
 digits_pass q table [] h = refl
 digits_pass q table (b ∷ bs) h = and_from (q b) (list_all q bs) (digit_passes q table b h.0) (digits_pass q table bs h.1)
@@ -50,6 +51,7 @@ second_digit : (bs : List ℕ) → AllDigits 10 bs → (slice_index bs 0 == 120)
 second_digit [] h = refl
 second_digit (b ∷ bs) h = not-true _ (digit_passes (λ b. not (eqb b 120)) refl b h.0)
 
+-- A decimal numeral is read as its value.
 pub plain_digits : (bs : List ℕ) → IsNumeral 10 bs → number_of bs ≡ Some (pos (digits_value 10 bs))
 unfolding number_of digits_in
 plain_digits [] h = let none : 0 < 0 = h.0 in absurd (omega arith)
@@ -75,11 +77,13 @@ signed_read (pos n) small = decimal_read n small
 signed_read (negsuc n) small = let d = decimal_is_IsNumeral (suc n) (omega arith) in
     minus_digits (decimal (suc n)) d.0 ∙ ap (λ (v : ℕ). Some (minus v)) d.1 ∙ ap (λ (z : ℤ). Some z) (minus_suc n)
 
+-- A number within its bounds is read again from its signed decimal text, if it is below 2^32 in absolute value.
 pub within_again : (least most z : ℤ) → unsigned_abs z < 2 ^ 32 → int_le least z ≡ true → int_le z most ≡ true →
     number_within least most (signed_decimal z) ≡ Ok z
 unfolding number_within
 within_again least most z small low high = rw (signed_read z small, low, high) refl
 
+-- A natural number up to a bound below 2^32 is read again from its decimal text.
 pub natural_again : (most n : ℕ) → n ≤ most → most < 2 ^ 32 → natural_within most (decimal n) ≡ Ok n
 unfolding natural_within number_within
 natural_again most n le small = rw (decimal_read n (omega arith), le-leb 0 n (omega arith), le-leb n most le) refl
@@ -96,8 +100,10 @@ signed_some : (z : ℤ) → unsigned_abs z < 2 ^ 32 → 0 < length (signed_decim
 signed_some (pos n) small = (decimal_is_IsNumeral n (omega arith)).0.0
 signed_some (negsuc n) small = omega arith
 
+-- The signed decimal text of a number below 2^32 in absolute value is a word.
 pub signed_word : (z : ℤ) → unsigned_abs z < 2 ^ 32 → Word (signed_decimal z)
 signed_word z small = record { plain = signed_pass is_plain refl refl z small; nonempty = signed_some z small }
 
+-- The decimal text of a natural number below 2^32 is a word.
 pub decimal_word : (n : ℕ) → n < 2 ^ 32 → Word (decimal n)
 decimal_word n small = signed_word (pos n) small

@@ -10,7 +10,7 @@ use Rattle.asm_lines.specs.declared.mnemonic.Mnemonic.{Mnemonic}
 use Rattle.asm_lines.specs.declared.mnemonic.Mnemonic.TheVariants.{Op, OpImm, Shift, Load, Store, Branch, Upper, Jal, Jalr, Fence, Ecall, Ebreak, Amo}
 use Rattle.asm_lines.specs.declared.mnemonic.Order.{Order}
 use Rattle.asm_lines.specs.Steps.{◌>>=◌}
-use Rattle.asm_lines.specs.Statements.{Val, register_in, lower_in, bracketed, base_in, nothing_in, op_in, op_imm_in}
+use Rattle.asm_lines.specs.Statements.{Val, register_in, lower_in, bracket_parts, base_in, nothing_in, op_in, op_imm_in}
 use Rattle.asm_lines.specs.Statements.{shift_in, addressed_in, branch_in, upper_insn_in, jal_in, fence_in, amo_in}
 use Rattle.asm_lines.specs.Statements.{instruction_in, each, word_in, byte_in, count_in, directive_in, chosen}
 use Rattle.asm_lines.specs.Alike.{AreBracketedAlike, AreReadAlike, Pairwise, none, more}
@@ -31,7 +31,7 @@ address_alike k (Some p) None h = absurd h
 
 base_alike : (one other : List ℕ) → AreReadAlike one other → base_in one ≡ base_in other
 unfolding base_in
-base_alike one other h = go (bracketed one) (bracketed other) h.brackets
+base_alike one other h = go (bracket_parts one) (bracket_parts other) h.brackets
   where
     go : (o o' : Option (List ℕ × List ℕ)) → AreBracketedAlike o o'
         → (ok_or o Form >>= λ parts. if length parts.0 == 0 then register_in parts.1 else Err Form)
@@ -121,6 +121,7 @@ directive_alike directives.Word all = rw (each_alike word_in (λ a b h. h.value 
 directive_alike directives.Byte all = rw (each_alike byte_in (λ a b h. h.byte) all) refl
 directive_alike directives.Zero all = rw (count_alike all) refl
 
+-- A first word says the same statement with operands that are read alike, pair by pair.
 pub chosen_alike : (d : Option Directive) (m : Option (Mnemonic × Order)) {xs ys : List (List ℕ)} → Pairwise AreReadAlike xs ys → chosen d m xs ≡ chosen d m ys
 chosen_alike (Some d) m all = directive_alike d all
 chosen_alike None (Some m) all = rw (instruction_alike m.0 m.1 all) refl

@@ -14,6 +14,7 @@ found_below p n (x ∷ xs) h = let a = and_parts (nat_lt x n) (list_all (λ y. n
     by_case true here there = here
     by_case false here there = there
 
+-- The number of a register is below 32.
 pub register_below : (word : List ℕ) → IfSome (register_of word) (λ x. x < 32)
 unfolding register_of
 register_below word = found_below (λ number. bytes_eq (x_name number) word || bytes_eq (use_name number) word) 32 numbers refl

@@ -23,7 +23,7 @@ use Rattle.asm_lines.specs.declared.mnemonic.Order.{Order}
 use Rattle.asm_lines.specs.Text.{is_blank, cut_at, cut_last_at, parts_at, operands_of}
 use Rattle.asm_lines.specs.Names.{written, unordered, plain_mnemonic, mnemonic_of, directive_of, x_name, register_of}
 use Rattle.asm_lines.specs.Statements.{Instr, number, instruction, whole, op_imm, load, store, branch, upper}
-use Rattle.asm_lines.specs.Statements.{jal, jalr, is_letter, is_name, register_in, value_in, bracketed, part_in}
+use Rattle.asm_lines.specs.Statements.{jal, jalr, is_letter, is_name, register_in, value_in, bracket_parts, part_in}
 use Rattle.asm_lines.specs.Statements.{upper_in, lower_in, base_in, nothing_in, op_in, op_imm_in, shift_in}
 use Rattle.asm_lines.specs.Statements.{addressed_in, branch_in, upper_insn_in, jal_in, fence_in, amo_in}
 use Rattle.asm_lines.specs.Statements.{instruction_in, statement_in, rest_of_line, label_in, said_in, line_of}
@@ -213,11 +213,11 @@ register_again r lt =
 
 -- ---- operands
 
-no_part : (modifier w : List ℕ) → bracketed w ≡ None → part_in modifier w ≡ None
+no_part : (modifier w : List ℕ) → bracket_parts w ≡ None → part_in modifier w ≡ None
 unfolding part_in
 no_part modifier w h = rw h refl
 
-signed_no_brackets : (z : ℤ) → unsigned_abs z < 2 ^ 32 → bracketed (signed_decimal z) ≡ None
+signed_no_brackets : (z : ℤ) → unsigned_abs z < 2 ^ 32 → bracket_parts (signed_decimal z) ≡ None
 signed_no_brackets z small = bracketed_none (signed_decimal z) (signed_word z small).nonempty (signed_pass (λ b. not (eqb b 41)) refl refl z small)
 
 lower_again : (f : ℕ) → f < 2 ^ 12 → lower_in (signed_decimal (signed (2 ^ 11) f)) ≡ Ok (number (signed (2 ^ 11) f))
@@ -261,7 +261,7 @@ module _ (rs1 f : ℕ) (base : IsRegister rs1) (lt : f < 2 ^ 12) where
   address_word : Word (in_brackets (signed_decimal (signed (2 ^ 11) f)) (x_name rs1))
   address_word = brackets_word _ (x_name rs1) (signed_word (signed (2 ^ 11) f) (signed_small (2 ^ 11) f lt (omega arith))).plain base.word
 
-  address_again : bracketed (in_brackets (signed_decimal (signed (2 ^ 11) f)) (x_name rs1)) ≡ Some (signed_decimal (signed (2 ^ 11) f), x_name rs1)
+  address_again : bracket_parts (in_brackets (signed_decimal (signed (2 ^ 11) f)) (x_name rs1)) ≡ Some (signed_decimal (signed (2 ^ 11) f), x_name rs1)
   address_again = bracketed_again (signed_decimal (signed (2 ^ 11) f)) (x_name rs1)
       (word_trimmed _ (signed_word (signed (2 ^ 11) f) (signed_small (2 ^ 11) f lt (omega arith)))) (word_trimmed (x_name rs1) base.word) base.no_bracket
 
@@ -280,7 +280,9 @@ two v w = more v (more w none)
 
 -- a text is one line, which says an instruction
 pub record IsLineOf (text : List ℕ) (i : Instr) : Type 0 where
+  -- the text is read as the instruction, with no label
   pub read : line_of text ≡ Ok (record { name = None; statement = Some (instruction i) })
+  -- it has no line feed
   pub one_line : parts_at 10 text ≡ text ∷ []
 
 -- an instruction with operands is read from its text where they are words that are read
@@ -298,6 +300,7 @@ bare m order i again read = record {
   one_line = one_part 10 (written m order) (no_line_feed (written m order) again.word);
 }
 
+-- The text of an instruction in range is one line, which says that instruction.
 pub written_read : (i : Insn) → InRange i → IsLineOf (text_of i) (as_said i)
 unfolding text_of op_in op_imm_in shift_in addressed_in branch_in upper_insn_in jal_in fence_in amo_in nothing_in
 written_read (insns.Op op rd rs1 rs2) r =

@@ -24,6 +24,7 @@ name_bytes (b ∷ bs) e =
     let a = and_parts (is_letter b) (list_all is_name_byte bs) e in
     and_from (is_name_byte b) (list_all is_name_byte bs) (rw a.0 refl) a.1
 
+-- A name has no byte that is not a byte of names.
 pub name_without : (c : ℕ) → is_name_byte c ≡ false → (name : List ℕ) → is_name name ≡ true → list_all (λ b. not (eqb b c)) name ≡ true
 name_without c fails name e = no_such is_name_byte c fails name (name_bytes name e)
 
@@ -55,6 +56,7 @@ quiet_mark bytes h = weaker (λ b. not (eqb b 58 || eqb b 35)) (λ b. not (eqb b
 
 -- ---- labels
 
+-- A name, blanks and a colon are read as a label of that name, and what follows is the rest of the text.
 pub labelled : (name gap rest : List ℕ) → is_name name ≡ true → AreBlanks gap → label_in ((name ++ gap) ++ 58 ∷ rest) ≡ (Some name, rest)
 unfolding label_in
 labelled name gap rest e h =
@@ -74,6 +76,7 @@ same_operands : (word rest rest' : List ℕ) → operands_of rest ≡ operands_o
 unfolding statement_in
 same_operands word rest rest' e = ap (chosen (directive_of word) (mnemonic_of word)) e
 
+-- The test of length 0 is false for a text that has a byte.
 pub not_empty : (xs : List ℕ) → 0 < length xs → eqb (length xs) 0 ≡ false
 not_empty xs some = ne_eqb _ _ (λ e. absurd (omega (arith, e, some)))
 
@@ -150,6 +153,8 @@ module _ (lead word : List ℕ) (led : IsLead lead) (is : IsFirstWord word) wher
             statement_read word is rest,
           ) refl
 
+  -- Lines with the same label and first word say the same if their operands are read alike, pair by pair,
+  -- and have no colon and no mark of a comment.
   pub lines_alike : (rest rest' : List ℕ) → IsQuiet rest → IsQuiet rest' → Pairwise AreReadAlike (operands_of rest) (operands_of rest')
       → line_of (statement_line lead word rest) ≡ line_of (statement_line lead word rest')
   unfolding statement_in

@@ -26,6 +26,7 @@ slice_split-uncut p (b ∷ bs) e = uncut (p b) refl e (slice_split-uncut p bs)
 
 -- the parts so far, each as `f` of what stands before a byte that passes, and the rest
 module _ (p : ℕ → Bool) (f : List ℕ → List ℕ) where
+  -- If a piece is cut off the rest, the pieces so far and the pieces of the rest still are all pieces.
   pub pieces_more : (old new : List (Bor (List ℕ))) (x : Bor (List ℕ)) (rest after : List ℕ) (all : List (List ℕ)) → new ≡ old ++ x ∷ [] →
       position_or_len p rest < length rest → x.now ≡ f (before_first p rest) → after ≡ after_first p rest
       → map (λ (y : Bor (List ℕ)). y.now) old ++ map f (slice_split p rest) ≡ all → map (λ (y : Bor (List ℕ)). y.now) new ++ map f (slice_split p after) ≡ all
@@ -33,6 +34,7 @@ module _ (p : ℕ → Bool) (f : List ℕ → List ℕ) where
       let cut : map f (slice_split p rest) ≡ x.now ∷ map f (slice_split p after) = ap (map f) (slice_split_first p rest 0 lt) ∙ rw (← is_x, ← is_after) refl in
       rw (is_new, map-append, append_assoc, ← cut) so_far
 
+  -- If the rest is not cut, the pieces so far and the rest are all pieces.
   pub pieces_all : (old new : List (Bor (List ℕ))) (x : Bor (List ℕ)) (rest : List ℕ) (all : List (List ℕ)) → new ≡ old ++ x ∷ [] →
       position_or_len p rest ≡ length rest → x.now ≡ f rest
       → map (λ (y : Bor (List ℕ)). y.now) old ++ map f (slice_split p rest) ≡ all → map (λ (y : Bor (List ℕ)). y.now) new ≡ all
@@ -40,6 +42,7 @@ module _ (p : ℕ → Bool) (f : List ℕ → List ℕ) where
       let cut : map f (slice_split p rest) ≡ x.now ∷ [] = ap (map f) (slice_split-uncut p rest none) ∙ rw is_x refl in
       rw (is_new, map-append, ← cut) so_far
 
+-- A list that is mapped by the identity stays the same.
 pub map_same : (xs : List (List ℕ)) → map (λ (x : List ℕ). x) xs ≡ xs
 map_same [] = refl
 map_same (x ∷ xs) = ap (λ (ys : List (List ℕ)). x ∷ ys) (map_same xs)

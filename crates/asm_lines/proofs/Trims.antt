@@ -14,6 +14,7 @@ use Rattle.asm_lines.proofs.Comments.{Cut, uncut, cut, cut_of}
 abbrev pub lacks : ℕ → List ℕ → Bool
 lacks m xs = list_all (λ b. not (eqb b m)) xs
 
+-- If two texts lack a byte, so does one after the other.
 pub lacks_both : (m : ℕ) (xs ys : List ℕ) → lacks m xs ≡ true → lacks m ys ≡ true → lacks m (xs ++ ys) ≡ true
 lacks_both m xs ys h i = joined_all (λ b. not (eqb b m)) xs ys h i
 
@@ -25,11 +26,12 @@ no_such p c fails bs h = weaker p (λ b. not (eqb b c)) (λ b e. go b e (eqb b c
     go b e false f = refl
     go b e true f = let differ : false ≡ true = sym fails ∙ sym (ap p (eqb-true b c f)) ∙ e in differ
 
--- ---- a text behind blanks, or before them
+-- ---- a text after blanks, or before them
 
 reverse_cons : (x : ℕ) (xs : List ℕ) → reverse (x ∷ xs) ≡ reverse xs ++ x ∷ []
 reverse_cons x xs = reverse-append (x ∷ []) xs
 
+-- If each byte of a text passes a test, so does each byte of the reversed text.
 pub all_reversed : (q : ℕ → Bool) (xs : List ℕ) → list_all q xs ≡ true → list_all q (reverse xs) ≡ true
 all_reversed q [] h = refl
 all_reversed q (x ∷ xs) h =
@@ -54,6 +56,7 @@ front_before (x ∷ xs) c ys h = go (is_blank x) (front_before xs c ys h)
     go true more = more
     go false more = refl
 
+-- Blanks before a text are trimmed away.
 pub trimmed_behind : (gap xs : List ℕ) → AreBlanks gap → trimmed (gap ++ xs) ≡ trimmed xs
 unfolding trimmed
 trimmed_behind gap xs h = ap (λ (l : List ℕ). reverse (front_trimmed (reverse l))) (front_behind gap xs h)
@@ -61,10 +64,13 @@ trimmed_behind gap xs h = ap (λ (l : List ℕ). reverse (front_trimmed (reverse
 back_before : (xs gap : List ℕ) → AreBlanks gap → front_trimmed (reverse (xs ++ gap)) ≡ front_trimmed (reverse xs)
 back_before xs gap h = ap front_trimmed (reverse-append xs gap) ∙ front_behind (reverse gap) (reverse xs) (all_reversed is_blank gap h)
 
--- blanks behind a text stay where it has a byte that is no blank
+-- blanks after a text stay where it has a byte that is no blank
 pub record Kept (xs gap : List ℕ) : Type 0 where
+  -- what is left of the blanks
   pub gap_left : List ℕ
+  -- the text with the blanks, trimmed in front, is the trimmed text and these
   pub is : front_trimmed (xs ++ gap) ≡ front_trimmed xs ++ gap_left
+  -- these are blanks
   pub blanks : AreBlanks gap_left
 
 twice : (ys : List ℕ) → list_all (λ b. not (not (is_blank b))) ys ≡ true → AreBlanks ys
@@ -74,6 +80,7 @@ twice ys e = weaker (λ b. not (not (is_blank b))) is_blank (λ b n. undone (is_
     undone true n = refl
     undone false n = n
 
+-- If a text with blanks after it is trimmed in front, only blanks are left after the trimmed text.
 pub kept_of : (xs gap : List ℕ) → AreBlanks gap → Kept xs gap
 kept_of xs gap h = go (cut_of (λ b. not (is_blank b)) xs)
   where
@@ -94,6 +101,7 @@ kept_of xs gap h = go (cut_of (λ b. not (is_blank b)) xs)
           blanks = h;
         }
 
+-- Blanks after a text are trimmed away.
 pub trimmed_before : (xs gap : List ℕ) → AreBlanks gap → trimmed (xs ++ gap) ≡ trimmed xs
 unfolding trimmed
 trimmed_before xs gap h =
@@ -102,11 +110,12 @@ trimmed_before xs gap h =
 
 -- ---- the end of a text
 
--- blanks alone, or a last byte that is none, with blanks behind it
+-- blanks alone, or a last byte that is none, with blanks after it
 pub data Ends (xs : List ℕ) : Type 0 where
   blank : AreBlanks xs → Ends xs
   solid : (front : List ℕ) (c : ℕ) (gap : List ℕ) → xs ≡ (front ++ c ∷ []) ++ gap → is_blank c ≡ false → AreBlanks gap → Ends xs
 
+-- Each text is blanks alone, or has a last byte that is none.
 pub ends_of : (xs : List ℕ) → Ends xs
 ends_of [] = blank refl
 ends_of (x ∷ xs) = go (ends_of xs)
@@ -133,9 +142,11 @@ trimmed_word xs some h = trimmed_same xs (not-true _ (all_at (λ b. not (is_blan
 abbrev pub is_comma : ℕ → Bool
 is_comma b = eqb b 44
 
+-- Blanks have no comma.
 pub blanks_uncut : (gap : List ℕ) → AreBlanks gap → lacks 44 gap ≡ true
 blanks_uncut gap h = no_such is_blank 44 refl gap h
 
+-- Blanks before a text do not change its operands.
 pub operands_behind : (gap xs : List ℕ) → AreBlanks gap → operands_of (gap ++ xs) ≡ operands_of xs
 unfolding operands_of
 operands_behind gap xs h = go (cut_of is_comma xs)
@@ -152,7 +163,7 @@ operands_behind gap xs h = go (cut_of is_comma xs)
         ∙ ap (map trimmed) (sym (split_mid is_comma front c behind e n))
         ∙ ap (λ l. map trimmed (slice_split is_comma l)) (sym is)
 
--- behind a beginning of an operand
+-- after a beginning of an operand
 operands_after : (lead xs gap : List ℕ) → lacks 44 lead ≡ true → AreBlanks gap
     → map trimmed (slice_split is_comma (lead ++ (xs ++ gap))) ≡ map trimmed (slice_split is_comma (lead ++ xs))
 operands_after lead [] gap l h =
@@ -174,6 +185,7 @@ operands_after lead (x ∷ xs) gap l h = go (λ front none. operands_after front
         ∙ rest (lead ++ x ∷ []) (lacks_both 44 lead (x ∷ []) l (and_from (not (is_comma x)) true (not_from_false (is_comma x) e) refl))
         ∙ ap (λ y. map trimmed (slice_split is_comma y)) (append_assoc lead (x ∷ []) xs)
 
+-- Blanks after a text do not change its operands.
 pub operands_before : (xs gap : List ℕ) → AreBlanks gap → operands_of (xs ++ gap) ≡ operands_of xs
 unfolding operands_of
 operands_before xs gap h = operands_after [] xs gap refl h

@@ -17,17 +17,29 @@ use Rattle.asm_lines.proofs.Trims.{lacks}
 
 -- what a bracket is not
 pub record IsBracket (m : ℕ) : Type 0 where
+  -- it is an opening or a closing bracket
   pub which : (m ≡ 40) ⊎ (m ≡ 41)
+  -- no blank
   pub solid : is_blank m ≡ false
+  -- no letter
   pub letter : is_letter m ≡ false
+  -- no byte of names
   pub name_byte : is_name_byte m ≡ false
+  -- no decimal digit
   pub decimal : digit_in 10 m ≡ None
+  -- no hex digit
   pub hex : digit_in 16 m ≡ None
+  -- no minus
   pub no_minus : eqb m 45 ≡ false
+  -- no 0
   pub no_zero : eqb m 48 ≡ false
+  -- no x
   pub no_x : eqb m 120 ≡ false
+  -- in no register's name
   pub registers : list_all (λ r. lacks m (x_name r) && lacks m (use_name r)) numbers ≡ true
+  -- not in %hi
   pub high : lacks m (37 ∷ 104 ∷ 105 ∷ []) ≡ true
+  -- not in %lo
   pub low : lacks m (37 ∷ 108 ∷ 111 ∷ []) ≡ true
 
 -- what is so of both brackets is so of each
@@ -35,6 +47,7 @@ module _ (m : ℕ) (which : (m ≡ 40) ⊎ (m ≡ 41)) where
   of_both : (P : ℕ → Type 0) → P 40 → P 41 → P m
   of_both P a b = elim which [ inl e ↦ subst P (sym e) a | inr e ↦ subst P (sym e) b ]
 
+  -- An opening or a closing bracket is none of these.
   pub bracket : IsBracket m
   bracket = record {
     which = which;
@@ -57,6 +70,7 @@ module _ (m : ℕ) (is : IsBracket m) where
 
   -- ---- other texts
 
+  -- A text with a bracket is not equal to a text without it.
   pub unlike : (P Q ys : List ℕ) → lacks m ys ≡ true → bytes_eq (P ++ m ∷ Q) ys ≡ false
   unlike [] Q [] h = refl
   unlike [] Q (y ∷ ys) h = and_left (eqb m y) _ (eqb_other y (and_parts (not (eqb y m)) (lacks m ys) h).0)
@@ -78,6 +92,7 @@ module _ (m : ℕ) (is : IsBracket m) where
       (λ r e. let a = and_parts (lacks m (x_name r)) (lacks m (use_name r)) e in rw (unlike_name (x_name r) P Q a.0, unlike_name (use_name r) P Q a.1) refl)
       numbers is.registers)
 
+  -- A text with a bracket is not read as a register.
   pub register_fails : (P Q : List ℕ) → register_in (P ++ m ∷ Q) ≡ Err Form
   unfolding register_in
   register_fails P Q = rw (no_such_register P Q) refl
@@ -86,6 +101,7 @@ module _ (m : ℕ) (is : IsBracket m) where
   not_all [] Q = and_left (is_name_byte m) _ is.name_byte
   not_all (p ∷ P) Q = and_right (is_name_byte p) _ (not_all P Q)
 
+  -- A text with a bracket is not a name.
   pub no_name : (P Q : List ℕ) → is_name (P ++ m ∷ Q) ≡ false
   unfolding is_name
   no_name [] Q = and_left (is_letter m) _ is.letter
@@ -123,10 +139,12 @@ module _ (m : ℕ) (is : IsBracket m) where
   no_number (p ∷ q ∷ P) Q = pick_none (eqb p 45) (eqb p 48 && eqb q 120) _ _ _ (rw (none_written 10 (q ∷ P) Q is.decimal) refl) (rw
       (none_written 16 P Q is.hex) refl) (rw (none_written 10 (p ∷ q ∷ P) Q is.decimal) refl)
 
+  -- A text with a bracket is not read as a number.
   pub number_fails : (least most : ℤ) (P Q : List ℕ) → number_within least most (P ++ m ∷ Q) ≡ Err Form
   unfolding number_within
   number_fails least most P Q = rw (no_number P Q) refl
 
+  -- A text with a bracket is not read as no operand.
   pub some_operand : (P Q : List ℕ) → nothing_in ((P ++ m ∷ Q) ∷ []) ≡ Err Form
   unfolding nothing_in
   some_operand [] Q = refl

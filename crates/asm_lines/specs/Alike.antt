@@ -1,11 +1,13 @@
 -- Texts that say the same, though they are written otherwise.
-use Rattle.std.specs.Prelude.{◌≡◌, ℕ, ◌<◌, true, not, ◌==◌, ◌||◌, List, [], ◌∷◌, ◌++◌, length, Option, Some, None, ◌⊎◌, ℤ, codes}
+use Rattle.std.specs.Prelude.{◌≡◌, ℕ, ◌<◌, true, not, ◌==◌, ◌||◌, List, [], ◌∷◌, ◌++◌, length, Option, Some, None, ◌⊎◌}
+use Rattle.std.specs.Prelude.{ℤ, codes}
 use Rattle.std.specs.List.{list_all}
 use Rattle.std.specs.Str.Parse.{IsNumeral, digits_value}
 use Rattle.asm_lines.specs.Text.{is_blank}
 use Rattle.asm_lines.specs.Number.{natural_within}
 use Rattle.asm_lines.specs.Written.{in_brackets}
-use Rattle.asm_lines.specs.Statements.{is_name, register_in, value_in, bracketed, upper_in, lower_in, byte_in, nothing_in}
+use Rattle.asm_lines.specs.Statements.{is_name, register_in, value_in, bracket_parts, upper_in, lower_in, byte_in}
+use Rattle.asm_lines.specs.Statements.{nothing_in}
 
 -- ---- numerals
 
@@ -15,7 +17,8 @@ IsDecimalOf n bytes = IsNumeral 10 bytes × (digits_value 10 bytes ≡ n)
 
 -- 0x, and hex digits of either case that write it
 abbrev pub IsHexOf : ℕ → List ℕ → Type 0
-IsHexOf n bytes = (digits : List ℕ) × (bytes ≡ codes "0x" ++ digits) × IsNumeral 16 digits × (digits_value 16 digits ≡ n)
+IsHexOf n bytes = (digits : List ℕ) × (bytes ≡ codes "0x" ++ digits) × IsNumeral 16 digits
+    × (digits_value 16 digits ≡ n)
 
 abbrev pub IsNumeralOf : ℕ → List ℕ → Type 0
 IsNumeralOf n bytes = IsDecimalOf n bytes ⊎ IsHexOf n bytes
@@ -25,7 +28,8 @@ IsNumeralOf n bytes = IsDecimalOf n bytes ⊎ IsHexOf n bytes
 -- front ( inside ): neither has it, or both do, with fronts that are read alike and one register
 abbrev pub AreBracketedAlike : Option (List ℕ × List ℕ) → Option (List ℕ × List ℕ) → Type 0
 AreBracketedAlike None None = Unit {0}
-AreBracketedAlike (Some p) (Some q) = (lower_in p.0 ≡ lower_in q.0) × (register_in p.1 ≡ register_in q.1) × ((length p.0 == 0) ≡ (length q.0 == 0))
+AreBracketedAlike (Some p) (Some q) = (lower_in p.0 ≡ lower_in q.0) × (register_in p.1 ≡ register_in q.1)
+    × ((length p.0 == 0) ≡ (length q.0 == 0))
 AreBracketedAlike _ _ = ⊥
 
 -- each reader of an operand makes the same of both
@@ -36,19 +40,21 @@ pub record AreReadAlike (one other : List ℕ) : Type 0 where
   pub lower : lower_in one ≡ lower_in other
   pub natural : (most : ℕ) → natural_within most one ≡ natural_within most other
   pub byte : byte_in one ≡ byte_in other
-  pub brackets : AreBracketedAlike (bracketed one) (bracketed other)
+  pub brackets : AreBracketedAlike (bracket_parts one) (bracket_parts other)
   pub nothing : nothing_in (one ∷ []) ≡ nothing_in (other ∷ [])
 
 -- as many operands, each with the one in its place
 pub data Pairwise (R : List ℕ → List ℕ → Type 0) : List (List ℕ) → List (List ℕ) → Type 0 where
   none : Pairwise R [] []
-  more : {one other : List ℕ} {ones others : List (List ℕ)} → R one other → Pairwise R ones others → Pairwise R (one ∷ ones) (other ∷ others)
+  more : {one other : List ℕ} {ones others : List (List ℕ)} → R one other → Pairwise R ones others →
+      Pairwise R (one ∷ ones) (other ∷ others)
 
--- two operands that are the same, or are numerals of one number, alone or in front of a base in brackets
+-- two operands that are the same, or are numerals of one number, alone or before a base in brackets
 pub data SayTheSame : List ℕ → List ℕ → Type 0 where
   same : (operand : List ℕ) → SayTheSame operand operand
   numerals : (n : ℕ) (one other : List ℕ) → IsNumeralOf n one → IsNumeralOf n other → SayTheSame one other
-  offsets : (n : ℕ) (one other base : List ℕ) → IsNumeralOf n one → IsNumeralOf n other → list_all (λ b. not (b == 40)) base ≡ true
+  offsets : (n : ℕ) (one other base : List ℕ) → IsNumeralOf n one → IsNumeralOf n other →
+      list_all (λ b. not (b == 40)) base ≡ true
       → SayTheSame (in_brackets one base) (in_brackets other base)
 
 -- ---- lines

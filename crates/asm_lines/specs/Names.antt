@@ -1,5 +1,6 @@
 -- The words of the language: mnemonics, directives and registers.
-use Rattle.std.specs.Prelude.{ℕ, Bool, true, false, List, [], ◌∷◌, ◌++◌, Option, Some, None, option_and_then, codes, find, ◌||◌, if◌then◌else◌, slice_index_or}
+use Rattle.std.specs.Prelude.{ℕ, Bool, true, false, List, [], ◌∷◌, ◌++◌, Option, Some, None, option_and_then, codes}
+use Rattle.std.specs.Prelude.{find, ◌||◌, if◌then◌else◌, slice_index_or}
 use Rattle.std.specs.Str.{bytes_eq}
 use Rattle.rv_table.specs.declared.operation.RegisterOp.TheVariants as reg
 use Rattle.rv_table.specs.declared.operation.ImmediateOp.TheVariants.{Addi, Slti, Sltiu, Xori, Ori, Andi}
@@ -10,7 +11,8 @@ use Rattle.rv_table.specs.declared.operation.BranchOp.TheVariants.{Beq, Bne, Blt
 use Rattle.rv_table.specs.declared.operation.UpperOp.TheVariants.{Lui, Auipc}
 use Rattle.rv_table.specs.declared.operation.AmoOp.TheVariants as amo
 use Rattle.asm_lines.specs.declared.mnemonic.Mnemonic.{Mnemonic}
-use Rattle.asm_lines.specs.declared.mnemonic.Mnemonic.TheVariants.{Op, OpImm, Shift, Load, Store, Branch, Upper, Jal, Jalr, Fence, Ecall, Ebreak, Amo}
+use Rattle.asm_lines.specs.declared.mnemonic.Mnemonic.TheVariants.{Op, OpImm, Shift, Load, Store, Branch, Upper, Jal}
+use Rattle.asm_lines.specs.declared.mnemonic.Mnemonic.TheVariants.{Jalr, Fence, Ecall, Ebreak, Amo}
 use Rattle.asm_lines.specs.declared.mnemonic.Order.{Order}
 use Rattle.asm_lines.specs.declared.statement.Section.TheVariants.{Code, Local, Shared}
 use Rattle.asm_lines.specs.declared.directive.Directive.{Directive}
@@ -181,7 +183,8 @@ with_order _ _ = None
 
 abbrev pub or_ordered : List ℕ → Option Mnemonic → Option (Mnemonic × Order)
 or_ordered word (Some m) = Some (m, unordered)
-or_ordered word None = option_and_then (λ parts. with_order (plain_mnemonic parts.0) (order_of parts.1)) (cut_last_at 46 word)
+or_ordered word None = option_and_then (λ parts. with_order (plain_mnemonic parts.0) (order_of parts.1))
+    (cut_last_at 46 word)
 
 -- the mnemonic that is written so, and its ordering
 unfoldable pub mnemonic_of : List ℕ → Option (Mnemonic × Order)

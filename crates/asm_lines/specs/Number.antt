@@ -36,7 +36,8 @@ minus n = pos 0 -ℤ pos n
 unfoldable pub number_of : List ℕ → Option ℤ
 number_of bytes =
     if slice_index bytes 0 == 45 then option_map minus (digits_in 10 (drop 1 bytes))
-    else (if (slice_index bytes 0 == 48) && (slice_index bytes 1 == 120) then option_map pos (digits_in 16 (drop 2 bytes))
+    else (if (slice_index bytes 0 == 48)
+    && (slice_index bytes 1 == 120) then option_map pos (digits_in 16 (drop 2 bytes))
     else option_map pos (digits_in 10 bytes))
 
 -- the number that is written so, where it is from `least` to `most`

@@ -20,7 +20,8 @@ use Rattle.asm_lines.specs.declared.instruction.Addressed.TheVariants as kinds
 use Rattle.asm_lines.specs.declared.fault.LineFault.{LineFault}
 use Rattle.asm_lines.specs.declared.fault.LineFault.TheVariants.{Unknown, Form}
 use Rattle.asm_lines.specs.declared.mnemonic.Mnemonic.{Mnemonic}
-use Rattle.asm_lines.specs.declared.mnemonic.Mnemonic.TheVariants.{Op, OpImm, Shift, Load, Store, Branch, Upper, Jal, Jalr, Fence, Ecall, Ebreak, Amo}
+use Rattle.asm_lines.specs.declared.mnemonic.Mnemonic.TheVariants.{Op, OpImm, Shift, Load, Store, Branch, Upper, Jal}
+use Rattle.asm_lines.specs.declared.mnemonic.Mnemonic.TheVariants.{Jalr, Fence, Ecall, Ebreak, Amo}
 use Rattle.asm_lines.specs.declared.mnemonic.Order.{Order}
 use Rattle.asm_lines.specs.declared.statement.Section.{Section}
 use Rattle.asm_lines.specs.declared.directive.Directive.{Directive}
@@ -90,8 +91,8 @@ value_in least most operand =
     else (number_within least most operand >>= λ z. Ok (number z))
 
 -- front ( inside )
-unfoldable pub bracketed : List ℕ → Option (List ℕ × List ℕ)
-bracketed operand =
+unfoldable pub bracket_parts : List ℕ → Option (List ℕ × List ℕ)
+bracket_parts operand =
     if slice_index operand (length operand - 1) == 41
     then option_map (λ parts. (trimmed parts.0, trimmed parts.1)) (cut_last_at 40 (take (length operand - 1) operand))
     else None
@@ -102,7 +103,7 @@ label_of_part modifier None = None
 label_of_part modifier (Some parts) = if bytes_eq parts.0 modifier && is_name parts.1 then Some parts.1 else None
 
 unfoldable pub part_in : List ℕ → List ℕ → Option (List ℕ)
-part_in modifier operand = label_of_part modifier (bracketed operand)
+part_in modifier operand = label_of_part modifier (bracket_parts operand)
 
 abbrev pub or_number : (least most : ℤ) → List ℕ → Option (List ℕ) → Result Val LineFault
 or_number least most operand (Some name) = Ok (label name)
@@ -119,7 +120,7 @@ lower_in operand = or_number (negsuc 2047) (pos 2047) operand (part_in (codes "%
 -- (rs1)
 unfoldable pub base_in : List ℕ → Result ℕ LineFault
 base_in operand = do
-  parts ← ok_or (bracketed operand) Form
+  parts ← ok_or (bracket_parts operand) Form
   if length parts.0 == 0 then register_in parts.1 else Err Form
 
 -- no operand
@@ -166,7 +167,7 @@ addressed kinds.Jalr register rs1 i = jalr register rs1 i
 unfoldable pub addressed_in : Addressed → List (List ℕ) → Result Instr LineFault
 addressed_in kind (a ∷ b ∷ []) = do
   register ← register_in a
-  address ← ok_or (bracketed b) Form
+  address ← ok_or (bracket_parts b) Form
   i ← lower_in address.0
   rs1 ← register_in address.1
   Ok (addressed kind register rs1 i)

@@ -2,7 +2,8 @@
 use Rattle.std.specs.Prelude.{◌≡◌, ℕ, true, int_le, ◌*◌, ◌^◌, nat_lt, List, [], ◌∷◌, ◌++◌, if◌then◌else◌, ℤ, pos, ◌-ℤ◌}
 use Rattle.std.specs.Fmt.{decimal, signed_decimal}
 use Rattle.rv_table.specs.declared.insn.Insn.{Insn}
-use Rattle.rv_table.specs.declared.insn.Insn.TheVariants.{Op, OpImm, Shift, Load, Store, Branch, Upper, Jal, Jalr, Fence, Ecall, Ebreak, Amo}
+use Rattle.rv_table.specs.declared.insn.Insn.TheVariants.{Op, OpImm, Shift, Load, Store, Branch, Upper, Jal, Jalr}
+use Rattle.rv_table.specs.declared.insn.Insn.TheVariants.{Fence, Ecall, Ebreak, Amo}
 use Rattle.asm_lines.specs.declared.mnemonic.Mnemonic.{Mnemonic}
 use Rattle.asm_lines.specs.declared.mnemonic.Mnemonic.TheVariants as mnemonics
 use Rattle.asm_lines.specs.declared.mnemonic.Order.{Order}
@@ -49,7 +50,8 @@ operands_written (Op op rd rs1 rs2) = x_name rd ∷ x_name rs1 ∷ x_name rs2 �
 operands_written (OpImm op rd rs1 imm) = x_name rd ∷ x_name rs1 ∷ signed_decimal (signed (2 ^ 11) imm) ∷ []
 operands_written (Shift op rd rs1 amount) = x_name rd ∷ x_name rs1 ∷ decimal amount ∷ []
 operands_written (Load op rd rs1 imm) = x_name rd ∷ in_brackets (signed_decimal (signed (2 ^ 11) imm)) (x_name rs1) ∷ []
-operands_written (Store op rs1 rs2 imm) = x_name rs2 ∷ in_brackets (signed_decimal (signed (2 ^ 11) imm)) (x_name rs1) ∷ []
+operands_written (Store op rs1 rs2 imm) =
+    x_name rs2 ∷ in_brackets (signed_decimal (signed (2 ^ 11) imm)) (x_name rs1) ∷ []
 operands_written (Branch op rs1 rs2 field) = x_name rs1 ∷ x_name rs2 ∷ signed_decimal (offset (2 ^ 11) field) ∷ []
 operands_written (Upper op rd v) = x_name rd ∷ decimal v ∷ []
 operands_written (Jal rd field) = x_name rd ∷ signed_decimal (offset (2 ^ 19) field) ∷ []

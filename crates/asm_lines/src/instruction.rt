@@ -9,7 +9,9 @@ ghost use Rattle.asm_lines.specs.Statements.{instruction_in};
 use crate::fault::LineFault;
 use crate::mnemonic::{Mnemonic, Order};
 use crate::number::natural_within;
-use crate::operand::{base_in, bracketed, lower_in, nothing_in, register_in, upper_in, value_in};
+use crate::operand::{
+    base_in, bracket_parts, lower_in, nothing_in, register_in, upper_in, value_in,
+};
 use crate::statement::{Instruction, Value};
 use rv_table::{
     AmoOp, BranchOp, Immediate, ImmediateOp, Insn, LoadOp, Register, RegisterOp, ShiftOp, StoreOp,
@@ -93,7 +95,7 @@ fn shift_in<'a>(op: ShiftOp, operands: &[&'a [u8]]) -> Result<Instruction<'a>, L
     }))
 }
 
-/// The instructions with an address, `i(rs1)`, behind a register.
+/// The instructions with an address, `i(rs1)`, after a register.
 #[derive(Clone, Copy, Debug, PartialEq, Eq, Drop)]
 enum Addressed {
     Load(LoadOp),
@@ -137,7 +139,7 @@ fn addressed_in<'a>(kind: Addressed, operands: &[&'a [u8]]) -> Result<Instructio
         return Err(LineFault::Form);
     };
     let register = register_in(a)?;
-    let (front, inside) = bracketed(b).ok_or(LineFault::Form)?;
+    let (front, inside) = bracket_parts(b).ok_or(LineFault::Form)?;
     let imm = lower_in(front)?;
     let rs1 = register_in(inside)?;
     Ok(kind.instruction(register, rs1, imm))

@@ -1,10 +1,12 @@
 //! Laws of what a line says.
 
-ghost use Rattle.std.specs.Prelude.{◌≡◌, ℕ, List, ◌++◌, codes, true, ◌^◌, ◌/◌, ◌<◌, pos, negsuc, ◌∷◌, [], Some, None, Ok};
+ghost use Rattle.std.specs.Prelude.{◌≡◌, ℕ, List, ◌++◌, codes, true, ◌^◌, ◌/◌, ◌<◌, pos, negsuc, ◌∷◌, [], Some, None};
+ghost use Rattle.std.specs.Prelude.{Ok};
 ghost use Rattle.rv_table.specs.declared.insn.Insn.{Insn};
 ghost use Rattle.rv_table.specs.Rows.{InRange};
 ghost use Rattle.asm_lines.specs.Text.{parts_at, operands_of};
-ghost use Rattle.asm_lines.specs.Alike.{IsNumeralOf, AreReadAlike, Pairwise, SayTheSame, AreBlanks, IsQuiet, IsMark, IsFirstWord, IsLead, statement_line};
+ghost use Rattle.asm_lines.specs.Alike.{IsNumeralOf, AreReadAlike, Pairwise, SayTheSame, AreBlanks, IsQuiet, IsMark};
+ghost use Rattle.asm_lines.specs.Alike.{IsFirstWord, IsLead, statement_line};
 ghost use Rattle.asm_lines.specs.Number.{low_bits, number_of};
 ghost use Rattle.asm_lines.specs.Statements.{instruction, is_name, line_of};
 ghost use Rattle.asm_lines.specs.Written.{text_of, as_said, signed, offset, IsEvenWithin};
@@ -37,7 +39,7 @@ pub fn numerals_are_read_alike()
         → line_of (statement_line lead word rest) ≡ line_of (statement_line lead word rest') }
 {}
 
-/// A line with a comment behind it is read as the line without.
+/// A line with a comment after it is read as the line without.
 pub fn comments_change_nothing()
     ensures { (line comment : List ℕ) → line_of (line ++ (codes "#" ++ comment)) ≡ line_of line }
 {}
@@ -45,10 +47,13 @@ pub fn comments_change_nothing()
 /// Blanks change nothing on either side of a comma or a bracket among the operands of a statement, on
 /// either side of a label's colon, and at the ends of a line.
 pub fn blanks_change_nothing()
-    ensures marks { (lead word front gap gap' back : List ℕ) (mark : ℕ) → IsLead lead → IsFirstWord word → IsQuiet front → IsQuiet back
+    ensures marks { (lead word front gap gap' back : List ℕ) (mark : ℕ) → IsLead lead → IsFirstWord word →
+        IsQuiet front → IsQuiet back
         → AreBlanks gap → AreBlanks gap' → IsMark mark
-        → line_of (statement_line lead word (front ++ (gap ++ mark ∷ (gap' ++ back)))) ≡ line_of (statement_line lead word (front ++ mark ∷ back)) }
+        → line_of (statement_line lead word (front ++ (gap ++ mark ∷ (gap' ++ back))))
+        ≡ line_of (statement_line lead word (front ++ mark ∷ back)) }
     ensures colon { (name gap gap' rest : List ℕ) → is_name name ≡ true → AreBlanks gap → AreBlanks gap'
         → line_of (name ++ (gap ++ 58 ∷ (gap' ++ rest))) ≡ line_of (name ++ 58 ∷ rest) }
-    ensures ends { (before line after : List ℕ) → AreBlanks before → AreBlanks after → line_of (before ++ (line ++ after)) ≡ line_of line }
+    ensures ends { (before line after : List ℕ) → AreBlanks before → AreBlanks after →
+        line_of (before ++ (line ++ after)) ≡ line_of line }
 {}

@@ -34,7 +34,8 @@ fn byte_in(operand: &[u8]) -> Result<u8, LineFault>
 }
 
 fn words_in<'a>(alloc: Global, operands: &[&'a [u8]]) -> Result<Vec<Value<'a>>, LineError>
-    ensures { Gives (λ values. map val_of values.items) result (each word_in (map (λ operand. operand.now) operands.now)) }
+    ensures { Gives (λ values. map val_of values.items) result
+        (each word_in (map (λ operand. operand.now) operands.now)) }
 {
     let mut values = Vec::new(alloc);
     for operand in operands {

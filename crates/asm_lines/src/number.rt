@@ -1,7 +1,8 @@
 //! Numbers, decimal and hex.
 
 ghost use Rattle.std.specs.Prelude.{◌≡◌, ◌^◌, ◌≤◌, ◌<◌, ℤ, pos, negsuc, ◌≤ℤ◌, min, IfOk};
-ghost use Rattle.asm_lines.specs.Number.{digit_in, digits_in, capped, number_within, natural_within, low_bits, CapsNumber};
+ghost use Rattle.asm_lines.specs.Number.{digit_in, digits_in, capped, number_within, natural_within, low_bits};
+ghost use Rattle.asm_lines.specs.Number.{CapsNumber};
 
 use crate::fault::LineFault;
 

@@ -4,7 +4,7 @@ ghost use Rattle.std.specs.Prelude.{◌≡◌, ◌≤ℤ◌, pos, negsuc, ◌^�
 ghost use Rattle.std.specs.List.{list_all};
 ghost use Rattle.std.specs.Option.{option_map};
 ghost use Rattle.asm_lines.specs.Steps.{GivesFault};
-ghost use Rattle.asm_lines.specs.Statements.{is_letter, is_name_byte, is_name, register_in, value_in, bracketed};
+ghost use Rattle.asm_lines.specs.Statements.{is_letter, is_name_byte, is_name, register_in, value_in, bracket_parts};
 ghost use Rattle.asm_lines.specs.Statements.{part_in, upper_in, lower_in, base_in, nothing_in, val_of};
 
 use crate::fault::LineFault;
@@ -66,9 +66,9 @@ pub fn value_in(least: i64, most: i64, operand: &[u8]) -> Result<Value<'_>, Line
 }
 
 /// What stands before and within the brackets with which the operand ends.
-#[tactic(auto, unfolding(crate::specs::Statements::bracketed))]
-pub fn bracketed(operand: &[u8]) -> Option<(&[u8], &[u8])>
-    ensures { option_map (λ parts. (parts.0.now, parts.1.now)) result ≡ bracketed operand.now }
+#[tactic(auto, unfolding(crate::specs::Statements::bracket_parts))]
+pub fn bracket_parts(operand: &[u8]) -> Option<(&[u8], &[u8])>
+    ensures { option_map (λ parts. (parts.0.now, parts.1.now)) result ≡ bracket_parts operand.now }
 {
     let [body @ .., b')'] = operand else {
         return None;
@@ -82,7 +82,7 @@ pub fn bracketed(operand: &[u8]) -> Option<(&[u8], &[u8])>
 fn part_in<'a>(modifier: &[u8], operand: &'a [u8]) -> Option<&'a [u8]>
     ensures { option_map (λ name. name.now) result ≡ part_in modifier.now operand.now }
 {
-    let (front, name) = bracketed(operand)?;
+    let (front, name) = bracket_parts(operand)?;
     if front == modifier && is_name(name) {
         Some(name)
     } else {
@@ -119,7 +119,7 @@ pub fn lower_in(operand: &[u8]) -> Result<Value<'_>, LineFault>
 pub fn base_in(operand: &[u8]) -> Result<Register, LineFault>
     ensures { result ≡ base_in operand.now }
 {
-    let (front, inside) = bracketed(operand).ok_or(LineFault::Form)?;
+    let (front, inside) = bracket_parts(operand).ok_or(LineFault::Form)?;
     if front.is_empty() {
         register_in(inside)
     } else {

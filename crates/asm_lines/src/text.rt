@@ -58,7 +58,8 @@ fn position_of(bytes: &[u8], mark: u8) -> Option<usize>
 pub fn cut(bytes: &[u8], mark: u8) -> Option<(&[u8], &[u8])>
     ensures value { option_map (λ parts. (parts.0.now, parts.1.now)) result ≡ cut_at (λ b. b == mark) bytes.now }
     ensures parts { MatchOption result (position_or_len (λ b. b == mark) bytes.now ≡ length bytes.now)
-        (λ parts. (position_or_len (λ b. b == mark) bytes.now < length bytes.now) × (parts.0.now ≡ before_first (λ b. b == mark) bytes.now)
+        (λ parts. (position_or_len (λ b. b == mark) bytes.now < length bytes.now)
+        × (parts.0.now ≡ before_first (λ b. b == mark) bytes.now)
         × (parts.1.now ≡ after_first (λ b. b == mark) bytes.now)) }
 {
     match position_of(bytes, mark) {

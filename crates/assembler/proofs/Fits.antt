@@ -16,13 +16,14 @@ use Rattle.assembler.specs.declared.fault.AsmFault.{AsmFault}
 use Rattle.assembler.specs.declared.fault.AsmFault.TheVariants.{SectionFull, LabelTwice}
 use Rattle.assembler.specs.Faults.{◌>>=◌, lifted}
 use Rattle.assembler.specs.Meaning.{Labels, Place, start, room_of, count_of, address, size_of, grown, after_statement}
-use Rattle.assembler.specs.Meaning.{after_option, labelled, after_said, after_read, after, Placed, misplaced}
+use Rattle.assembler.specs.Meaning.{after_option, labelled, after_said, after_read, after, Placed, misplacement}
 use Rattle.assembler.specs.Meaning.{fit_or_fault, place_statement, is_taken, place_said, part_of, insn_at, word_bytes}
 use Rattle.assembler.specs.Meaning.{words_bytes, statement_bytes, Piece, piece_of, line_piece, pieces_from, pieces_of}
 use Rattle.assembler.specs.Meaning.{labels_of, lines_of, bytes_in, section_bytes, IsMeaning, FitsRegions}
 
 -- ---- results
 
+-- If two steps together succeed, the first gives something with which the second succeeds.
 pub bind_ok : {A B : Type 0} (r : Result A AsmFault) (f : A → Result B AsmFault) (y : B) → (r >>= f) ≡ Ok y → (x : A) × (r ≡ Ok x) × (f x ≡ Ok y)
 bind_ok (Ok x) f y h = (x, refl, h)
 bind_ok (Err e) f y h = absurd cc
@@ -51,8 +52,11 @@ statement_length labels at (instruction i) bs h =
 -- ---- places
 
 pub record IsWithin (at : Place) : Type 0 where
+  -- the bytes of code are within their room
   pub code : at.code ≤ 65536
+  -- the local bytes are within their room
   pub local : at.local ≤ 65536
+  -- the shared bytes are within their room
   pub shared : at.shared ≤ 786432
 
 -- a place and the next one, with the bytes between them
@@ -60,6 +64,7 @@ pub record Step (at next : Place) (piece : Piece) : Type 0 where
   code : next.code ≡ at.code + length (bytes_in Code (Ok piece))
   local : next.local ≡ at.local + length (bytes_in Local (Ok piece))
   shared : next.shared ≡ at.shared + length (bytes_in Shared (Ok piece))
+  -- the next place is within the rooms
   pub within : IsWithin next
 
 grown_step : (s : Section) (n : ℕ) (bs : List ℕ) (at : Place) → IsWithin at → count_of s at + n ≤ room_of s → length bs ≡ n → Step at (grown s n at) (s, bs)
@@ -145,7 +150,7 @@ option_step labels name at None p piece h placed e =
     let same : ◌≡◌ {A = Piece} (at.section, []) piece = cc is_piece in
     subst (λ x. Step at (labelled name at) x) same (idle_step name at h)
 option_step labels name at (Some s) p piece h placed e =
-    let fits = placed_fits (misplaced at.section (address at) s) at s p placed in
+    let fits = placed_fits (misplacement at.section (address at) s) at s p placed in
     let is_piece : (statement_bytes labels (address at) s >>= λ bs. Ok (at.section, bs)) ≡ Ok piece = ap (piece_of labels) (sym fits.1) ∙ e in
     let found = bind_ok (statement_bytes labels (address at) s) (λ bs. Ok (at.section, bs)) piece is_piece in
     let same : ◌≡◌ {A = Piece} (at.section, found.0) piece = cc found.2 in
@@ -168,6 +173,7 @@ read_step : (labels : Labels) (at : Place) (r : Result Said LineFault) (piece : 
 read_step labels at (Ok said) piece h e = said_step labels at said piece h e
 read_step labels at (Err f) piece h e = absurd cc
 
+-- A line without a fault, at a place within the rooms, leads by its bytes to the next place, within them too.
 pub line_step : (labels : Labels) (at : Place) (line : List ℕ) (piece : Piece) → IsWithin at → line_piece labels at line ≡ Ok piece →
     Step at (after at line) piece
 line_step labels at line piece h e = read_step labels at (line_of line) piece h e
@@ -179,6 +185,7 @@ record AllWithin (at : Place) (pieces : List (Result Piece AsmFault)) : Type 0 w
   local : at.local + length (section_bytes Local pieces) ≤ 65536
   shared : at.shared + length (section_bytes Shared pieces) ≤ 786432
 
+-- A result that is no fault is a piece.
 pub ok_piece : (r : Result Piece AsmFault) → IsOk r → (piece : Piece) × (r ≡ Ok piece)
 ok_piece (Ok piece) h = (piece, refl)
 ok_piece (Err f) h = absurd (false≢true h)
@@ -201,6 +208,7 @@ all_within labels at (line ∷ lines) h oks =
       shared = omega (arith, section_more Shared head.0 (pieces_from labels (after at line) lines), step.shared, more.shared);
     })
 
+-- The layout that a text means fits into its regions.
 pub meaning_fits : (text : List ℕ) (layout : Layout) → IsMeaning text layout → FitsRegions layout
 unfolding pieces_of
 meaning_fits text layout m =

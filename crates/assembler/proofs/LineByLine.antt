@@ -27,11 +27,13 @@ use Rattle.assembler.specs.Passes.{place_of, nows, piece_at, label_values}
 pub record Scanned (lines : List (Bor (List ℕ))) (i : ℕ) (placed : List LineAt) (cursor : Cursor) : Type 0 where
   pub so_far : (ls : Labels) → pieces_from ls start (nows lines) ≡ map (piece_at ls) placed ++ pieces_from ls (place_of cursor) (nows (drop i lines))
   pub count : length placed ≡ i
+  -- the place after the lines that are left, from the cursor on, is the place after all lines
   pub labels : fold after (place_of cursor) (nows (drop i lines)) ≡ fold after start (nows lines)
 
 at_item : (lines : List (Bor (List ℕ))) (i : ℕ) (d : Bor (List ℕ)) → i < length lines → nows (drop i lines) ≡ (get_or lines i d).now ∷ nows (drop (i + 1) lines)
 at_item lines i d lt = rw (add-one, drop-cons lines i d lt) refl
 
+-- After one more line is placed, and the cursor moved past it, one line more is scanned.
 pub scanned_more : (lines : List (Bor (List ℕ))) (i : ℕ) (d : Bor (List ℕ)) (placed new : List LineAt) (cursor cursor' : Cursor) (p : LineAt) →
     i < length lines → Scanned lines i placed cursor
     → ((ls : Labels) → line_piece ls (place_of cursor) (get_or lines i d).now ≡ piece_at ls p) →
@@ -53,6 +55,7 @@ get_seam : {X : Type 0} (xs : List X) (y : X) (ys : List X) → slice_get (xs ++
 get_seam [] y ys = refl
 get_seam (x ∷ xs) y ys = get_seam xs y ys
 
+-- A line with a fault at the cursor has this fault among the pieces of the lines, whatever the labels are.
 pub scanned_fault : (lines : List (Bor (List ℕ))) (i : ℕ) (d : Bor (List ℕ)) (placed : List LineAt) (cursor : Cursor) (f : AsmFault) → i < length lines →
     Scanned lines i placed cursor
     → place_line (place_of cursor) (get_or lines i d).now ≡ Err f → (ls : Labels) → slice_get (pieces_from ls start (nows lines)) (i + 1 - 1) ≡ Some (Err f)
@@ -69,6 +72,7 @@ scanned_fault lines i d placed cursor f lt before bad ls =
         ≡ (Err f ∷ pieces_from ls (after (place_of cursor) (get_or lines i d).now) (nows (drop (i + 1) lines)))
     first r e = rw e refl
 
+-- After the last line, the pieces of all lines are those placed, and the cursor is at the end.
 pub scanned_all : (lines : List (Bor (List ℕ))) (i : ℕ) (placed : List LineAt) (cursor : Cursor) → length lines ≤ i → Scanned lines i placed cursor
     → ((ls : Labels) → pieces_from ls start (nows lines) ≡ map (piece_at ls) placed) × (place_of cursor ≡ fold after start (nows lines))
 scanned_all lines i placed cursor le before =
@@ -81,10 +85,12 @@ scanned_all lines i placed cursor le before =
 
 -- the first i lines have their bytes
 pub record Emitted (labels : Labels) (placed : List LineAt) (i entry : ℕ) (layout : Layout) : Type 0 where
+  -- none of them has a fault
   pub faultless : All IsOk (map (piece_at labels) (take i placed))
   pub code_is : layout.code ≡ section_bytes Code (map (piece_at labels) (take i placed))
   pub local_is : layout.local ≡ section_bytes Local (map (piece_at labels) (take i placed))
   pub shared_is : layout.shared ≡ section_bytes Shared (map (piece_at labels) (take i placed))
+  -- the layout has this entry
   pub entry_is : layout.entry ≡ entry
 
 module _ (labels : Labels) (placed : List LineAt) (i : ℕ) (d : LineAt) where
@@ -94,6 +100,7 @@ module _ (labels : Labels) (placed : List LineAt) (i : ℕ) (d : LineAt) where
       more ∙ ap (λ x. x ++ bytes_in s (piece_at labels (get_or placed i d))) before
       ∙ sym (rw (map_more (piece_at labels) placed i d lt, flat_map-append) (rw (append-nil (bytes_in s (piece_at labels (get_or placed i d)))) refl))
 
+  -- If the layout gets the bytes of the next line, which has no fault, one line more has its bytes there.
   pub emitted_next : (entry : ℕ) (old new : Layout) → i < length placed → Emitted labels placed i entry old → IsOk (piece_at labels (get_or placed i d))
       → new.code ≡ old.code ++ bytes_in Code (piece_at labels (get_or placed i d)) →
       new.local ≡ old.local ++ bytes_in Local (piece_at labels (get_or placed i d)) →
@@ -107,6 +114,7 @@ module _ (labels : Labels) (placed : List LineAt) (i : ℕ) (d : LineAt) where
     entry_is = same ∙ before.entry_is;
   }
 
+  -- A fault of a placed line is among the pieces, at that line's place.
   pub emitted_fault : (f : AsmFault) → i < length placed → piece_at labels (get_or placed i d) ≡ Err f →
       slice_get (map (piece_at labels) placed) (i + 1 - 1) ≡ Some (Err f)
   emitted_fault f lt bad =
@@ -114,6 +122,7 @@ module _ (labels : Labels) (placed : List LineAt) (i : ℕ) (d : LineAt) where
       rw at (slice_get-map (piece_at labels) placed i ∙ ap (option_map (piece_at labels)) (slice_get-get_or placed i d lt)
       ∙ ap (λ (r : Result Piece AsmFault). Some r) bad)
 
+-- After the last line, no line has a fault, and each section has the bytes of all lines.
 pub emitted_all : (labels : Labels) (placed : List LineAt) (i entry : ℕ) (layout : Layout) → length placed ≤ i → Emitted labels placed i entry layout
     → All IsOk (map (piece_at labels) placed) × (layout.code ≡ section_bytes Code (map (piece_at labels) placed))
     × (layout.local ≡ section_bytes Local (map (piece_at labels) placed)) × (layout.shared ≡ section_bytes Shared (map (piece_at labels) placed))
@@ -123,6 +132,7 @@ emitted_all labels placed i entry layout le before =
 
 -- ---- both
 
+-- After all lines are placed, the text has the labels of the cursor, and the pieces of the placed lines.
 pub pieces_are : (text : List ℕ) (lines : List (Bor (List ℕ))) (placed : List LineAt) (cursor : Cursor) → nows lines ≡ lines_of text
     → ((ls : Labels) → pieces_from ls start (nows lines) ≡ map (piece_at ls) placed) → place_of cursor ≡ fold after start (nows lines)
     → (labels_of (lines_of text) ≡ label_values cursor.labels) × (pieces_of (lines_of text) ≡ map (piece_at (label_values cursor.labels)) placed)
@@ -133,23 +143,28 @@ pieces_are text lines placed cursor same pieces places =
     ap (λ ls. pieces_from ls start (nows lines)) labels ∙ pieces (label_values cursor.labels) in
     (ap labels_of (sym same) ∙ labels, ap pieces_of (sym same) ∙ all)
 
+-- A fault that a line has whatever the labels are is that line's fault in the text.
 pub present : (text : List ℕ) (lines : List (Bor (List ℕ))) (i : ℕ) (f : AsmFault) → nows lines ≡ lines_of text →
     ((ls : Labels) → slice_get (pieces_from ls start (nows lines)) i ≡ Some (Err f)) → slice_get (pieces_of (lines_of text)) i ≡ Some (Err f)
 unfolding pieces_of
 present text lines i f same bad = ap (λ all. slice_get (pieces_of all) i) (sym same) ∙ bad (labels_of (nows lines))
 
+-- If no piece is a fault, there is none at any place.
 pub no_fault : (all : List (Result Piece AsmFault)) (i : ℕ) (f : AsmFault) → All IsOk all → slice_get all i ≡ Some (Err f) → ⊥
 no_fault all i f each bad =
     let at : get_or all i (Err f) ≡ Err f = get_or_from_slice_get all i (Err f) (Err f) bad in
     let ok : IsOk (get_or all i (Err f)) = each i (Err f) (slice_get_within all i (Err f) bad) in
     false≢true (subst (λ r. IsOk r) at ok)
 
+-- Two layouts that have the same entry and the same sections are the same.
 pub same_layout : (a b : Layout) → a.entry ≡ b.entry → a.code ≡ b.code → a.local ≡ b.local → a.shared ≡ b.shared → a ≡ b
 same_layout a b entry code local shared =
     let make = λ (e : ℕ) (c l s : List ℕ). let layout : Layout = record { entry = e; code = c; local = l; shared = s } in layout in
     ap (λ (e : ℕ). make e a.code a.local a.shared) entry ∙ ap (λ (c : List ℕ). make b.entry c a.local a.shared) code
     ∙ ap (λ (l : List ℕ). make b.entry b.code l a.shared) local ∙ ap (λ (s : List ℕ). make b.entry b.code b.local s) shared
 
+-- If all lines are placed, none has a fault, and the layout has their bytes and the entry of the cursor's labels,
+-- the text means the layout.
 pub meaning_from : (text : List ℕ) (lines : List (Bor (List ℕ))) (placed : List LineAt) (cursor : Cursor) (layout : Layout) → nows lines ≡ lines_of text
     → ((ls : Labels) → pieces_from ls start (nows lines) ≡ map (piece_at ls) placed) → place_of cursor ≡ fold after start (nows lines)
     → All IsOk (map (piece_at (label_values cursor.labels)) placed) → layout.code ≡ section_bytes Code (map (piece_at (label_values cursor.labels)) placed) →

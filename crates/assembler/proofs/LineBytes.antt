@@ -21,15 +21,18 @@ abbrev pub AreBytes : List ℕ → Type 0
 AreBytes [] = Unit {0}
 AreBytes (b ∷ bs) = (b < 256) × AreBytes bs
 
+-- Bytes followed by bytes are bytes.
 pub bytes_append : (xs ys : List ℕ) → AreBytes xs → AreBytes ys → AreBytes (xs ++ ys)
 bytes_append [] ys h k = k
 bytes_append (x ∷ xs) ys h k = (h.0, bytes_append xs ys h.1 k)
 
+-- What is read at any place of a list of bytes is below 256.
 pub byte_below : (bs : List ℕ) → AreBytes bs → (i : ℕ) → slice_index bs i < 256
 byte_below [] h i = omega arith
 byte_below (b ∷ bs) h zero = h.0
 byte_below (b ∷ bs) h (suc i) = byte_below bs h.1 i
 
+-- Zeros are bytes.
 pub zero_bytes : (n : ℕ) → AreBytes (replicate n 0)
 zero_bytes zero = tt
 zero_bytes (suc n) = (omega arith, zero_bytes n)
@@ -122,6 +125,7 @@ said_bytes text said h =
     let same : ◌≡◌ {A = Said} (record { name = (label_in text).0; statement = found.0 }) said = cc found.2 in
     subst (λ (x : Said). HasBytesIn x.statement) same (rest_bytes (label_in text).1 found.0 found.1)
 
+-- The numbers that a line reads as bytes are below 256.
 pub line_bytes : (line : List ℕ) (said : Said) → line_of line ≡ Ok said → HasBytesIn said.statement
 unfolding line_of
 line_bytes line said h = said_bytes (before_comment line (cut_at (λ b. b == 35) line)) said h

@@ -19,7 +19,7 @@ use Rattle.assembler.specs.Openings.{placed_byte, IsTextProcessor, IsTextOpening
 use Rattle.assembler.proofs.LineBytes.{byte_below}
 use Rattle.assembler.proofs.PlacedBytes.{placed_bytes}
 
--- a place behind the last byte is zero
+-- a place after the last byte is zero
 behind_zero : (bytes : List ℕ) (place : ℕ) → slice_index bytes place ≡ (if nat_lt place (length bytes) then slice_index bytes place else 0)
 behind_zero bytes place =
     elim (cases_lt place (length bytes)) [
@@ -60,6 +60,7 @@ module _ (known : (config : Config) (layout : Layout) → IsOpenable layout → 
     local = λ a e. placed Local layout.local _ a m.local ((q.local a e).local e);
   }
 
+  -- If a text means a layout that fits its regions, the machine that opens on the layout opens on the text.
   pub opens_on_the_text : IsTextOpening text config (opening config layout)
   opens_on_the_text =
       let o = known config layout (record { code = fits.code; local = fits.local; bytes = small }) in

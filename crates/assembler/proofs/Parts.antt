@@ -45,6 +45,7 @@ module _ (labels : Labels) (name : List ℕ) (symbol : Symbol) (is : labels name
   sum : (base : ℕ) → base ≡ (value + 2048) % 2 ^ 32 / 4096 * 2 ^ 12 → plus base (extended 12 (value % 4096)) ≡ value
   sum base e = ap (λ b. plus b (extended 12 (value % 4096))) e ∙ sum_is value small
 
+  -- `%hi` and `%lo` of a label make its value, if that is below 2^32.
   pub parts_make_value : MakeValue labels name value
   unfolding effect_of immediate_value
   parts_make_value = record {

@@ -9,7 +9,7 @@ use Rattle.asm_lines.specs.Statements.{Val, Stmt, section, words, bytes, zeros, 
 use Rattle.assembler.specs.declared.fault.AsmFault.{AsmFault}
 use Rattle.assembler.specs.declared.fault.AsmFault.TheVariants.{LabelTwice}
 use Rattle.assembler.specs.Faults.{◌>>=◌, lifted}
-use Rattle.assembler.specs.Meaning.{Labels, Place, start, address, Placed, misplaced, place_statement}
+use Rattle.assembler.specs.Meaning.{Labels, Place, start, address, Placed, misplacement, place_statement}
 use Rattle.assembler.specs.Meaning.{is_taken, place_said, after, part_of, insn_at, word_bytes, words_bytes}
 use Rattle.assembler.specs.Meaning.{option_bytes, same_section, Piece, piece_of, line_piece, pieces_from}
 use Rattle.assembler.specs.Meaning.{pieces_of, labels_of, bytes_in, section_bytes}
@@ -47,7 +47,7 @@ placed_same at None p h =
     let is_p : ◌≡◌ {A = Placed} (record { section = at.section; address = address at; statement = None }) p = cc in
     ap (λ (x : Placed). x.statement) is_p
 placed_same at (Some s) p h =
-    ap (λ (x : Placed). x.statement) (sym (placed_fits (misplaced at.section (address at) s) at s p h).1)
+    ap (λ (x : Placed). x.statement) (sym (placed_fits (misplacement at.section (address at) s) at s p h).1)
 
 piece_are_bytes : (labels : Labels) (p : Placed) (piece : Piece) → HasBytesIn p.statement → piece_of labels p ≡ Ok piece → AreBytes piece.1
 unfolding piece_of
@@ -90,6 +90,7 @@ section_from s labels at (line ∷ lines) =
     (section_piece s (line_piece labels at line) (λ piece h. read_are_bytes labels at (line_of line) piece (λ said e. line_bytes line said e) h))
     (section_from s labels (after at line) lines)
 
+-- Each number that lines place in a section is a byte.
 pub placed_bytes : (s : Section) (lines : List (List ℕ)) → AreBytes (section_bytes s (pieces_of lines))
 unfolding pieces_of
 placed_bytes s lines = section_from s (labels_of lines) start lines

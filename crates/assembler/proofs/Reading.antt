@@ -19,7 +19,7 @@ none_is_none : (bytes : List ℕ) (words : ℕ) (rest : Option (List ℕ)) (e : 
     ConsumesAll (Some bytes) rest read → refusal_of words read ≡ Some e → ⊥
 none_is_none bytes words rest e none read all h = cc (none, ap (refusal_of words) (all_read bytes rest read all), h)
 
--- input that is accepted is refused by the link or for want of memory alone
+-- input that is accepted is refused by the link or if out of memory alone
 pub refused_by_link_or_memory : (words : ℕ) (bytes : List ℕ) (rest : Option (List ℕ)) (e : ImageError) → length bytes ≤ 1048576 →
     refusal_of words bytes ≡ None → IsRefused words (Some bytes) rest e → (e ≡ error.Link) ⊎ (e ≡ error.Memory)
 refused_by_link_or_memory words bytes rest error.Truncated short none h = absurd (none_is_none bytes words rest error.Truncated none h.0 h.1 h.2)

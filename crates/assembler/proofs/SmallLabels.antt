@@ -70,6 +70,7 @@ all_words labels at (line ∷ lines) h small oks =
     all_words labels (after at line) lines step.within (line_words at line h small)
     (All-tail IsOk (line_piece labels at line) (pieces_from labels (after at line) lines) oks)
 
+-- If a text means a layout, the value of each of its labels is below 2^32.
 pub labels_are_words : (text : List ℕ) (layout : Layout) → IsMeaning text layout → (name : List ℕ) (symbol : Symbol)
     → labels_of (lines_of text) name ≡ Some symbol → symbol.address < 2 ^ 32
 unfolding pieces_of

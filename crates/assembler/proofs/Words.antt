@@ -19,6 +19,7 @@ prefixed front read = read >>= λ bytes. Ok (front ++ bytes)
 
 -- the bytes so far, and those of the rest, are the bytes of all
 pub record WordsSoFar (m : BTreeMap (Bor (List ℕ)) Symbol) (values : List Value) (i : ℕ) (old out : List ℕ) : Type 0 where
+  -- the bytes that were added
   pub done : List ℕ
   pub out_is : out ≡ old ++ done
   pub so_far : prefixed done (words_bytes (label_values m) (map val_of (drop i values))) ≡ words_bytes (label_values m) (map val_of values)
@@ -27,6 +28,7 @@ module _ (m : BTreeMap (Bor (List ℕ)) Symbol) (values : List Value) (i : ℕ) 
   rest_is : i < length values → map val_of (drop i values) ≡ val_of (get_or values i d) ∷ map val_of (drop (i + 1) values)
   rest_is lt = rw (add-one, drop-cons values i d lt) refl
 
+  -- After the word of one more value is added, the bytes so far are those of one value more.
   pub words_more : (z : _) (out' : List ℕ) → i < length values → WordsSoFar m values i old out →
       part_of (taken parts.Whole) (label_values m) (val_of (get_or values i d)) ≡ Ok z → out' ≡ out ++ to_le_bytes w32 (low_bits (2 ^ 32) z)
       → WordsSoFar m values (i + 1) old out'
@@ -46,6 +48,7 @@ module _ (m : BTreeMap (Bor (List ℕ)) Symbol) (values : List Value) (i : ℕ) 
       regroup front new (Ok bytes) = ap (λ (x : List ℕ). Ok x) (sym (append_assoc front new bytes))
       regroup front new (Err f) = refl
 
+  -- If one of the values has a fault, and none before it has, this is the fault of all of them.
   pub words_fault : (f : AsmFault) → i < length values → WordsSoFar m values i old out →
       part_of (taken parts.Whole) (label_values m) (val_of (get_or values i d)) ≡ Err f → words_bytes (label_values m) (map val_of values) ≡ Err f
   unfolding words_bytes
@@ -53,6 +56,7 @@ module _ (m : BTreeMap (Bor (List ℕ)) Symbol) (values : List Value) (i : ℕ) 
       let one : words_bytes (label_values m) (map val_of (drop i values)) ≡ Err f = ap (words_bytes (label_values m)) (rest_is lt) ∙ rw read refl in
       sym before.so_far ∙ ap (prefixed before.done) one
 
+  -- After the last value, the bytes that were added are those of all values.
   pub words_done : length values ≤ i → WordsSoFar m values i old out → IsOkAnd (words_bytes (label_values m) (map val_of values)) (λ bytes. out ≡ old ++ bytes)
   unfolding words_bytes
   words_done le before =

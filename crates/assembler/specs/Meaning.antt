@@ -71,7 +71,7 @@ size_of (bytes bs) = length bs
 size_of (zeros n) = n
 size_of (instruction i) = 4
 
--- the place behind so many bytes more of a section
+-- the place after this many bytes more of a section
 abbrev pub grown : Section → ℕ → Place → Place
 grown Code n at = record at { code = at.code + n }
 grown Local n at = record at { local = at.local + n }
@@ -89,7 +89,8 @@ after_option at (Some s) = after_statement at s
 -- a label's value is the address of the next byte at its line
 abbrev pub labelled : Option (List ℕ) → Place → Place
 labelled None at = at
-labelled (Some name) at = record at { labels = update bytes_eq at.labels name (Some (record { section = at.section; address = address at })) }
+labelled (Some name) at =
+    record at { labels = update bytes_eq at.labels name (Some (record { section = at.section; address = address at })) }
 
 -- the place after a line. A line that cannot be read takes no bytes and has no label.
 unfoldable pub after_said : Place → Said → Place
@@ -114,14 +115,14 @@ abbrev pub unaligned : ℕ → Option AsmFault
 unaligned n = if n % 4 == 0 then None else Some Range
 
 -- instructions stand only in code; they and words need a place divisible by 4
-abbrev pub misplaced : Section → ℕ → Stmt → Option AsmFault
-misplaced Code n (instruction i) = unaligned n
-misplaced Local n (instruction i) = Some Form
-misplaced Shared n (instruction i) = Some Form
-misplaced s n (words vs) = unaligned n
-misplaced s n (section t) = None
-misplaced s n (bytes bs) = None
-misplaced s n (zeros m) = None
+abbrev pub misplacement : Section → ℕ → Stmt → Option AsmFault
+misplacement Code n (instruction i) = unaligned n
+misplacement Local n (instruction i) = Some Form
+misplacement Shared n (instruction i) = Some Form
+misplacement s n (words vs) = unaligned n
+misplacement s n (section t) = None
+misplacement s n (bytes bs) = None
+misplacement s n (zeros m) = None
 
 abbrev pub fit_or_fault : Option AsmFault → Place → Stmt → Result Placed AsmFault
 fit_or_fault (Some f) at s = Err f
@@ -131,7 +132,7 @@ fit_or_fault None at s =
 
 abbrev pub place_statement : Place → Option Stmt → Result Placed AsmFault
 place_statement at None = Ok (record { section = at.section; address = address at; statement = None })
-place_statement at (Some s) = fit_or_fault (misplaced at.section (address at) s) at s
+place_statement at (Some s) = fit_or_fault (misplacement at.section (address at) s) at s
 
 abbrev pub is_taken : Place → Option (List ℕ) → Bool
 is_taken at None = false
@@ -269,7 +270,8 @@ section_bytes s pieces = flat_map (bytes_in s) pieces
 -- the value of `start` where it is a label in code with a value divisible by 4
 abbrev pub entry_of : Option Symbol → ℕ
 entry_of None = 0x0001_0000
-entry_of (Some symbol) = if same_section symbol.section Code && (symbol.address % 4 == 0) then symbol.address else 0x0001_0000
+entry_of (Some symbol) = if same_section symbol.section Code
+    && (symbol.address % 4 == 0) then symbol.address else 0x0001_0000
 
 -- The layout is what the text means: no line has a fault, and each section has the bytes that the lines place.
 pub record IsMeaning (text : List ℕ) (layout : Layout) : Type 0 where

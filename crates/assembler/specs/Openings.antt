@@ -1,5 +1,6 @@
 -- The flat state that a text means: what a machine opens with on it, address by address.
-use Rattle.std.specs.Prelude.{◌≡◌, ◌⊎◌, ℕ, ◌-◌, ◌/◌, ◌%◌, ◌^◌, true, nat_lt, List, length, Option, Some, slice_get, slice_index, codes, if◌then◌else◌}
+use Rattle.std.specs.Prelude.{◌≡◌, ◌⊎◌, ℕ, ◌-◌, ◌/◌, ◌%◌, ◌^◌, true, nat_lt, List, length, Option, Some, slice_get}
+use Rattle.std.specs.Prelude.{slice_index, codes, if◌then◌else◌}
 use Rattle.flat_machine.specs.declared.config.Config.{Config}
 use Rattle.flat_machine.specs.declared.event.Status.TheVariants.{Running}
 use Rattle.flat_machine.specs.Words.{part_of}
@@ -18,7 +19,7 @@ use Rattle.assembler.specs.Meaning.{base_of, lines_of, pieces_of, section_bytes,
 abbrev pub text_entry : (text : List ℕ) → ℕ
 text_entry text = entry_of (labels_of (lines_of text) (codes "start"))
 
--- what a text has at an address of a section: the byte that it places there, and zero behind the last one
+-- what a text has at an address of a section: the byte that it places there, and zero after the last one
 abbrev pub placed_byte : (text : List ℕ) → Section → (address : ℕ) → ℕ
 placed_byte text s address =
     let bytes = section_bytes s (pieces_of (lines_of text)) in
@@ -32,7 +33,8 @@ pub record IsTextProcessor (text : List ℕ) (p : Processor) : Type 0 where
   pub zero : (r : ℕ) → slice_index p.registers r ≡ 0
   pub running : p.status ≡ Running
   pub local_size : length p.local ≡ 2 ^ 16
-  pub local : (address : ℕ) → in_local address ≡ true → slice_index p.local (address % 2 ^ 16) ≡ placed_byte text Local address
+  pub local : (address : ℕ) → in_local address ≡ true →
+      slice_index p.local (address % 2 ^ 16) ≡ placed_byte text Local address
 
 -- The flat machine of a configuration opens on the text, address by address.
 pub record IsTextOpening (text : List ℕ) (config : Config) (m : FlatState) : Type 0 where
@@ -43,15 +45,18 @@ pub record IsTextOpening (text : List ℕ) (config : Config) (m : FlatState) : T
       (address : ℕ) → in_shared config.shared_words address ≡ true →
       part_of 1 (address % 4) (slice_index m.shared ((address - 2 ^ 31) / 4)) ≡ placed_byte text Shared address
   pub code_size : length m.code ≡ 2 ^ 16
-  pub code : (address : ℕ) → in_code address ≡ true → slice_index m.code (address % 2 ^ 16) ≡ placed_byte text Code address
+  pub code : (address : ℕ) → in_code address ≡ true →
+      slice_index m.code (address % 2 ^ 16) ≡ placed_byte text Code address
 
 -- Reading the bytes for a configuration gives an image on which a machine opens as on the text. There is such an image,
--- and the only errors are the link's and want of memory.
+-- and the only errors are the link's and out of memory.
 pub record IsReadAsText (text : List ℕ) (config : Config) (file : List ℕ) : Type 0 where
   pub accepted : IsAccepted config.shared_words file
   pub meant : (layout : Layout) × IsMeant config.shared_words file layout
-  pub opens : (layout : Layout) → IsMeant config.shared_words file layout → IsTextOpening text config (opening config layout)
+  pub opens : (layout : Layout) → IsMeant config.shared_words file layout →
+      IsTextOpening text config (opening config layout)
   pub given :
       (rest : Option (List ℕ)) (image : ImageContents) → IsGiven config.shared_words (Some file) rest image →
       IsTextOpening text config (opening config image.layout)
-  pub refused : (rest : Option (List ℕ)) (e : ImageError) → IsRefused config.shared_words (Some file) rest e → (e ≡ error.Link) ⊎ (e ≡ error.Memory)
+  pub refused : (rest : Option (List ℕ)) (e : ImageError) → IsRefused config.shared_words (Some file) rest e →
+      (e ≡ error.Link) ⊎ (e ≡ error.Memory)

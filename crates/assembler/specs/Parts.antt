@@ -11,19 +11,25 @@ use Rattle.flat_machine.specs.Effects.{effect_of, register_of}
 use Rattle.asm_lines.specs.Statements.{label, op_imm, load, store, upper}
 use Rattle.assembler.specs.Meaning.{Labels, insn_at}
 
--- The immediates of instructions that name a label by `%hi` and by `%lo`, wherever they stand: what LUI leaves in a register,
--- and what ADDI adds to it, make the value. So a load or a store from there refers to the value as an address.
+-- The immediates of instructions that name a label by `%hi` and by `%lo`, wherever they stand: what LUI leaves in a
+-- register, and what ADDI adds to it, make the value. So a load or a store from there refers to the value as an
+-- address.
 pub record MakeValue (labels : Labels) (name : List ℕ) (value : ℕ) : Type 0 where
   pub high : ℕ
   pub low : ℕ
   pub lui : (at rd : ℕ) → insn_at labels at (upper Lui rd (label name)) ≡ Ok (Upper Lui rd high)
   pub addi : (at rd rs1 : ℕ) → insn_at labels at (op_imm Addi rd rs1 (label name)) ≡ Ok (OpImm Addi rd rs1 low)
-  pub load_from : (op : LoadOp) (at rd rs1 : ℕ) → insn_at labels at (load op rd rs1 (label name)) ≡ Ok (Load op rd rs1 low)
-  pub store_to : (op : StoreOp) (at rs1 rs2 : ℕ) → insn_at labels at (store op rs1 rs2 (label name)) ≡ Ok (Store op rs1 rs2 low)
-  pub left : (s : Setting) (pc rd : ℕ) (registers : List ℕ) → effect_of s pc registers (Upper Lui rd high) ≡ does.Write rd (high * 2 ^ 12)
+  pub load_from : (op : LoadOp) (at rd rs1 : ℕ) →
+      insn_at labels at (load op rd rs1 (label name)) ≡ Ok (Load op rd rs1 low)
+  pub store_to : (op : StoreOp) (at rs1 rs2 : ℕ) →
+      insn_at labels at (store op rs1 rs2 (label name)) ≡ Ok (Store op rs1 rs2 low)
+  pub left : (s : Setting) (pc rd : ℕ) (registers : List ℕ) →
+      effect_of s pc registers (Upper Lui rd high) ≡ does.Write rd (high * 2 ^ 12)
   pub added : (s : Setting) (pc rd rs1 : ℕ) (registers : List ℕ) → register_of registers rs1 ≡ high * 2 ^ 12
       → effect_of s pc registers (OpImm Addi rd rs1 low) ≡ does.Write rd value
-  pub loaded : (s : Setting) (pc rd rs1 : ℕ) (op : LoadOp) (registers : List ℕ) → register_of registers rs1 ≡ high * 2 ^ 12
+  pub loaded : (s : Setting) (pc rd rs1 : ℕ) (op : LoadOp) (registers : List ℕ) →
+      register_of registers rs1 ≡ high * 2 ^ 12
       → effect_of s pc registers (Load op rd rs1 low) ≡ does.Load op rd value
-  pub stored : (s : Setting) (pc rs1 rs2 : ℕ) (op : StoreOp) (registers : List ℕ) → register_of registers rs1 ≡ high * 2 ^ 12
+  pub stored : (s : Setting) (pc rs1 rs2 : ℕ) (op : StoreOp) (registers : List ℕ) →
+      register_of registers rs1 ≡ high * 2 ^ 12
       → effect_of s pc registers (Store op rs1 rs2 low) ≡ does.Store op value (register_of registers rs2)

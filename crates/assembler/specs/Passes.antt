@@ -20,7 +20,13 @@ abbrev pub label_values : BTreeMap (Bor (List ℕ)) Symbol → Labels
 label_values m = λ name. get_by (λ (k : Bor (List ℕ)). slice_cmp nat_cmp name k.now) m
 
 abbrev pub place_of : Cursor → Place
-place_of c = record { section = c.section; code = c.code; local = c.local; shared = c.shared; labels = label_values c.labels }
+place_of c = record {
+  section = c.section;
+  code = c.code;
+  local = c.local;
+  shared = c.shared;
+  labels = label_values c.labels;
+}
 
 abbrev pub nows : List (Bor (List ℕ)) → List (List ℕ)
 nows parts = map (λ (part : Bor (List ℕ)). part.now) parts
@@ -37,7 +43,8 @@ taken (parts.Offset at) v = offset_from at v
 
 -- what a statement at a line's place puts there
 unfoldable pub statement_piece : Labels → LineAt → Option Stmt → Result Piece AsmFault
-statement_piece labels p statement = piece_of labels (record { section = p.section; address = p.address; statement = statement })
+statement_piece labels p statement =
+    piece_of labels (record { section = p.section; address = p.address; statement = statement })
 
 -- what a line at its place puts there
 unfoldable pub piece_at : Labels → LineAt → Result Piece AsmFault

@@ -98,7 +98,8 @@ fn put_base(text: &mut ArrayString<48>, register: Register)
 /// Adds a further operand, as `imm(rs1)`.
 fn put_address(text: &mut ArrayString<48>, imm: Immediate<12>, rs1: Register)
     requires { array_string_len text.old + 18 ≤ 48 }
-    ensures { text.new.bytes ≡ text.old.bytes ++ 44 ∷ 32 ∷ in_brackets (signed_decimal (signed (2 ^ 11) imm)) (x_name rs1) }
+    ensures { text.new.bytes ≡ text.old.bytes
+        ++ 44 ∷ 32 ∷ in_brackets (signed_decimal (signed (2 ^ 11) imm)) (x_name rs1) }
 {
     put_number(text, immediate(imm));
     put_base(text, rs1);

@@ -1,6 +1,7 @@
 //! The second pass: the bytes of each line at its place.
 
-ghost use Rattle.std.specs.Prelude.{◌≡◌, ◌≢◌, ◌++◌, ◌<◌, ◌-◌, pos, Err, Some, IsOk, IfOk, IfErr, OnOk, IsOkAnd, All, map, slice_get};
+ghost use Rattle.std.specs.Prelude.{◌≡◌, ◌≢◌, ◌++◌, ◌<◌, ◌-◌, pos, Err, Some, IsOk, IfOk, IfErr, OnOk, IsOkAnd, All};
+ghost use Rattle.std.specs.Prelude.{map, slice_get};
 ghost use Rattle.asm_lines.specs.declared.statement.Section.TheVariants.{Code, Local, Shared};
 ghost use Rattle.asm_lines.specs.Statements.{val_of, stmt_of};
 ghost use Rattle.assembler.specs.declared.fault.AsmFault.TheVariants.{Memory};
@@ -23,8 +24,10 @@ fn emit_words<'a>(
     values: &[Value<'a>],
     out: &mut Bytes,
 ) -> Result<(), AsmFault>
-    ensures ok { OnOk result (IsOkAnd (words_bytes (label_values labels.now) (map val_of values.now)) (λ bs. out.new ≡ out.old ++ bs)) }
-    ensures err { IfErr result (λ f. f ≢ Memory → words_bytes (label_values labels.now) (map val_of values.now) ≡ Err f) }
+    ensures ok { OnOk result (IsOkAnd (words_bytes (label_values labels.now) (map val_of values.now))
+        (λ bs. out.new ≡ out.old ++ bs)) }
+    ensures err { IfErr result (λ f. f ≢ Memory →
+        words_bytes (label_values labels.now) (map val_of values.now) ≡ Err f) }
 {
     for value in values {
         let number = number_of(labels, Part::Whole, value)?;
@@ -41,8 +44,10 @@ fn emit_statement<'a>(
     statement: &Statement<'a>,
     out: &mut Bytes,
 ) -> Result<(), AsmFault>
-    ensures ok { OnOk result (IsOkAnd (statement_bytes (label_values labels.now) at (stmt_of statement.now)) (λ bs. out.new ≡ out.old ++ bs)) }
-    ensures err { IfErr result (λ f. f ≢ Memory → statement_bytes (label_values labels.now) at (stmt_of statement.now) ≡ Err f) }
+    ensures ok { OnOk result (IsOkAnd (statement_bytes (label_values labels.now) at (stmt_of statement.now))
+        (λ bs. out.new ≡ out.old ++ bs)) }
+    ensures err { IfErr result (λ f. f ≢ Memory →
+        statement_bytes (label_values labels.now) at (stmt_of statement.now) ≡ Err f) }
 {
     match statement {
         Statement::Section(_) => {}
@@ -65,7 +70,8 @@ fn emit_in_section<'a>(
     statement: &Statement<'a>,
     layout: &mut Layout,
 ) -> Result<(), AsmFault>
-    ensures ok { OnOk result (IsOk (statement_piece (label_values labels.now) place.now (Some (stmt_of statement.now)))) }
+    ensures ok { OnOk result (IsOk (statement_piece (label_values labels.now) place.now
+        (Some (stmt_of statement.now)))) }
     ensures code { OnOk result (layout.new.code ≡ layout.old.code
         ++ bytes_in Code (statement_piece (label_values labels.now) place.now (Some (stmt_of statement.now)))) }
     ensures local { OnOk result (layout.new.local ≡ layout.old.local
@@ -73,7 +79,8 @@ fn emit_in_section<'a>(
     ensures shared { OnOk result (layout.new.shared ≡ layout.old.shared
         ++ bytes_in Shared (statement_piece (label_values labels.now) place.now (Some (stmt_of statement.now)))) }
     ensures entry { OnOk result (layout.new.entry ≡ layout.old.entry) }
-    ensures err { IfErr result (λ f. f ≢ Memory → statement_piece (label_values labels.now) place.now (Some (stmt_of statement.now)) ≡ Err f) }
+    ensures err { IfErr result (λ f. f ≢ Memory →
+        statement_piece (label_values labels.now) place.now (Some (stmt_of statement.now)) ≡ Err f) }
 {
     match place.section {
         Section::Code => emit_statement(labels, place.address, statement, &mut layout.code),
@@ -91,9 +98,12 @@ fn emit_line<'a>(
     layout: &mut Layout,
 ) -> Result<(), AsmFault>
     ensures ok { OnOk result (IsOk (piece_at (label_values labels.now) place.now)) }
-    ensures code { OnOk result (layout.new.code ≡ layout.old.code ++ bytes_in Code (piece_at (label_values labels.now) place.now)) }
-    ensures local { OnOk result (layout.new.local ≡ layout.old.local ++ bytes_in Local (piece_at (label_values labels.now) place.now)) }
-    ensures shared { OnOk result (layout.new.shared ≡ layout.old.shared ++ bytes_in Shared (piece_at (label_values labels.now) place.now)) }
+    ensures code { OnOk result (layout.new.code ≡ layout.old.code
+        ++ bytes_in Code (piece_at (label_values labels.now) place.now)) }
+    ensures local { OnOk result (layout.new.local ≡ layout.old.local
+        ++ bytes_in Local (piece_at (label_values labels.now) place.now)) }
+    ensures shared { OnOk result (layout.new.shared ≡ layout.old.shared
+        ++ bytes_in Shared (piece_at (label_values labels.now) place.now)) }
     ensures entry { OnOk result (layout.new.entry ≡ layout.old.entry) }
     ensures err { IfErr result (λ f. f ≢ Memory → piece_at (label_values labels.now) place.now ≡ Err f) }
 {
@@ -115,9 +125,12 @@ pub fn emit_lines<'a>(
     entry: u32,
 ) -> Result<Layout, AsmError>
     ensures faultless { IfOk result (λ _. All IsOk (map (piece_at (label_values labels.now)) placed.now)) }
-    ensures code { IfOk result (λ layout. layout.code ≡ section_bytes Code (map (piece_at (label_values labels.now)) placed.now)) }
-    ensures local { IfOk result (λ layout. layout.local ≡ section_bytes Local (map (piece_at (label_values labels.now)) placed.now)) }
-    ensures shared { IfOk result (λ layout. layout.shared ≡ section_bytes Shared (map (piece_at (label_values labels.now)) placed.now)) }
+    ensures code { IfOk result (λ layout. layout.code
+        ≡ section_bytes Code (map (piece_at (label_values labels.now)) placed.now)) }
+    ensures local { IfOk result (λ layout. layout.local
+        ≡ section_bytes Local (map (piece_at (label_values labels.now)) placed.now)) }
+    ensures shared { IfOk result (λ layout. layout.shared
+        ≡ section_bytes Shared (map (piece_at (label_values labels.now)) placed.now)) }
     ensures entry { IfOk result (λ layout. layout.entry ≡ entry) }
     ensures err { IfErr result (λ e. e.fault ≢ Memory → (0 < e.line)
         × (slice_get (map (piece_at (label_values labels.now)) placed.now) (e.line - 1) ≡ Some (Err e.fault))) }

@@ -43,7 +43,7 @@ pub fn high_and_low_make_the_value()
 
 /// From text to image to flat state: where a text has a meaning, the entry lies in code and the shared
 /// section fits the configuration, the spelling of its layout is accepted, and is read for that
-/// configuration (a fault of the link and want of memory aside). The machine that opens on what was
+/// configuration (a fault of the link and out of memory aside). The machine that opens on what was
 /// read stands at the entry with all processors, and has at each address what the text places there.
 pub fn image_opens_on_the_text()
     ensures { (config : Config) (text : List ℕ) (layout : Layout) → IsMeaning text layout

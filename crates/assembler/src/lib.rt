@@ -8,8 +8,8 @@
 //! opens on a text, address by address, and the law [`image_opens_on_the_text`] that it does so on the
 //! image file.
 //!
-//! [`disassemble`] writes the text that `asm_lines` defines for an instruction (`text_of`). The law [`disassembled_again`] says
-//! that the text means the instruction's one word.
+//! [`disassemble`] writes the text that `asm_lines` defines for an instruction (`text_of`). The law
+//! [`disassembled_again`] says that the text means the instruction's one word.
 //!
 //! # The language
 //!
@@ -43,7 +43,7 @@
 //! | shifts by a constant | `op rd, rs1, i` | 0 to 31 |
 //! | `fence` | `fence rd, rs1, v` | 0 to 4095 |
 //! | `ecall`, `ebreak` | `ecall` | |
-//! | atomic memory operations | `op rd, rs2, (rs1)`, with `.aq`, `.rl` or `.aqrl` behind `op` | |
+//! | atomic memory operations | `op rd, rs2, (rs1)`, with `.aq`, `.rl` or `.aqrl` after `op` | |
 //!
 //! Source of register names, `%hi` and `%lo`: The RISC-V Instruction Set Manual, Volume I, "RISC-V
 //! Assembly Programmer's Handbook". The rest is this project's own.
@@ -71,4 +71,4 @@ pub use laws::{
 };
 pub use passes::assemble;
 pub use program::Program;
-pub use sections::{base_of, misplaced, room_of, size_of};
+pub use sections::{base_of, misplacement, room_of, size_of};

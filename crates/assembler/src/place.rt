@@ -1,6 +1,7 @@
 //! The first pass: each line at its place, and the labels.
 
-ghost use Rattle.std.specs.Prelude.{◌≡◌, ◌≢◌, ◌≤◌, ◌-◌, ℕ, IfOk, IfErr, OnOk, true, false, ◌<◌, Ok, Err, Some, fold, slice_get, map};
+ghost use Rattle.std.specs.Prelude.{◌≡◌, ◌≢◌, ◌≤◌, ◌-◌, ℕ, IfOk, IfErr, OnOk, true, false, ◌<◌, Ok, Err, Some, fold};
+ghost use Rattle.std.specs.Prelude.{slice_get, map};
 ghost use Rattle.std.specs.Option.{option_map};
 ghost use Rattle.asm_lines.specs.Statements.{stmt_of, said_of};
 ghost use Rattle.assembler.specs.declared.fault.AsmFault.TheVariants.{Memory, LabelTwice};
@@ -11,7 +12,7 @@ ghost use Rattle.assembler.specs.Passes.{name_of, nows, place_of, piece_at};
 
 use crate::cursor::{Cursor, LineAt};
 use crate::fault::{AsmError, AsmFault};
-use crate::sections::{misplaced, room_of, size_of};
+use crate::sections::{misplacement, room_of, size_of};
 use crate::symbol::Symbol;
 use asm_lines::{Line, LineError, Section, Statement, read_line};
 use flat_machine::{CODE_START, LOCAL_START, SHARED_START};
@@ -54,15 +55,19 @@ impl<'a> Cursor<'a> {
         }
     }
 
-    /// Goes behind a statement, where it may stand here.
+    /// Goes after a statement, where it may stand here.
     fn place_statement(&mut self, statement: &Statement<'_>) -> Result<(), AsmFault>
         ensures ok { OnOk result ((place_statement (place_of self.old) (Some (stmt_of statement.now))
-            ≡ Ok (record { section = self.old.section; address = address (place_of self.old); statement = Some (stmt_of statement.now) }))
+            ≡ Ok (record {
+              section = self.old.section;
+              address = address (place_of self.old);
+              statement = Some (stmt_of statement.now);
+            }))
             × (place_of self.new ≡ after_option (place_of self.old) (Some (stmt_of statement.now)))) }
         ensures err { IfErr result (λ f. place_statement (place_of self.old) (Some (stmt_of statement.now)) ≡ Err f) }
     {
         let section = self.section;
-        if let Some(fault) = misplaced(section, u64::from(self.address()), statement) {
+        if let Some(fault) = misplacement(section, u64::from(self.address()), statement) {
             return Err(fault);
         }
         let count = self.count();
@@ -84,7 +89,8 @@ impl<'a> Cursor<'a> {
     fn add_label(&mut self, name: Option<&'a [u8]>) -> Result<(), AsmFault>
         ensures ok { OnOk result ((is_taken (place_of self.old) (name_of name.entry) ≡ false)
             × (place_of self.new ≡ labelled (name_of name.entry) (place_of self.old))) }
-        ensures err { IfErr result (λ f. f ≢ Memory → (is_taken (place_of self.old) (name_of name.entry) ≡ true) × (f ≡ LabelTwice)) }
+        ensures err { IfErr result (λ f. f ≢ Memory →
+            (is_taken (place_of self.old) (name_of name.entry) ≡ true) × (f ≡ LabelTwice)) }
     {
         let Some(name) = name else {
             return Ok(());
@@ -104,7 +110,11 @@ impl<'a> Cursor<'a> {
     #[tactic(auto, unfolding(crate::specs::Meaning::place_said, crate::specs::Meaning::after_said))]
     fn place_said(&mut self, said: &Line<'a>) -> Result<(), AsmFault>
         ensures ok { OnOk result ((place_said (place_of self.old) (said_of said.now)
-            ≡ Ok (record { section = self.old.section; address = address (place_of self.old); statement = option_map stmt_of said.now.statement }))
+            ≡ Ok (record {
+              section = self.old.section;
+              address = address (place_of self.old);
+              statement = option_map stmt_of said.now.statement;
+            }))
             × (place_of self.new ≡ after_said (place_of self.old) (said_of said.now))) }
         ensures err { IfErr result (λ f. f ≢ Memory → place_said (place_of self.old) (said_of said.now) ≡ Err f) }
     {

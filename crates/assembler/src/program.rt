@@ -55,7 +55,7 @@ impl Program {
         ensures err { IsOkUnless result (record { line = 1; fault = Memory }) }
     {
         let mut writer = Meter::new(Vec::new(alloc));
-        // A vector refuses bytes for want of memory alone.
+        // A vector refuses bytes if out of memory alone.
         match write_image(&mut writer, &self.layout) {
             Ok(()) => Ok(writer.device),
             Err(_) => Err(AsmError {

@@ -2,7 +2,7 @@
 
 ghost use Rattle.std.specs.Prelude.{◌≡◌, ◌-◌, ◌^◌, min};
 ghost use Rattle.asm_lines.specs.Statements.{stmt_of};
-ghost use Rattle.assembler.specs.Meaning.{base_of, room_of, size_of, misplaced};
+ghost use Rattle.assembler.specs.Meaning.{base_of, room_of, size_of, misplacement};
 
 use crate::fault::AsmFault;
 use asm_lines::{Section, Statement};
@@ -42,10 +42,10 @@ pub fn size_of(statement: &Statement<'_>) -> u64
     }
 }
 
-/// Why a statement may not stand at this address of a section: an instruction that is not in the code is a fault of form, and an
-/// instruction or words at an address that 4 does not divide are out of range.
-pub fn misplaced(section: Section, address: u64, statement: &Statement<'_>) -> Option<AsmFault>
-    ensures { result ≡ misplaced section address (stmt_of statement.now) }
+/// Why a statement may not stand at this address of a section: an instruction that is not in the code is a fault of
+/// form, and an instruction or words at an address that 4 does not divide are out of range.
+pub fn misplacement(section: Section, address: u64, statement: &Statement<'_>) -> Option<AsmFault>
+    ensures { result ≡ misplacement section address (stmt_of statement.now) }
 {
     match (section, statement) {
         (Section::Local | Section::Shared, Statement::Instruction(_)) => Some(AsmFault::Form),

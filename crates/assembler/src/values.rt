@@ -3,7 +3,8 @@
 ghost use Rattle.std.specs.Prelude.{◌≡◌};
 ghost use Rattle.asm_lines.specs.Number.{low_bits};
 ghost use Rattle.asm_lines.specs.Statements.{val_of, instr_of};
-ghost use Rattle.assembler.specs.Meaning.{value_of, part_of, offset_of, lower_field, upper_field, branch_field, jump_field, insn_at};
+ghost use Rattle.assembler.specs.Meaning.{value_of, part_of, offset_of, lower_field, upper_field, branch_field};
+ghost use Rattle.assembler.specs.Meaning.{jump_field, insn_at};
 ghost use Rattle.assembler.specs.Passes.{label_values, taken};
 
 use crate::fault::AsmFault;

@@ -1,4 +1,4 @@
-//! Runs a program on all processors of a machine by the sweep, and tells how long a step takes.
+//! Runs a program on all processors of a machine by the sweep, and says how long a step takes.
 //!
 //! `bench steps K RUNS`: each processor of a machine of `K` stages adds 1 to one shared word a hundred
 //! times, writes a byte to the console and halts; that is done RUNS times, on a new machine each time.
@@ -11,7 +11,7 @@ use assembler::assemble;
 use elf_image::{Image, read_image, write_image};
 use flat_machine::{Config, Status};
 use link::Meter;
-use machine_steps::{Machine, machine_is_sound};
+use machine_steps::{Machine, machine_is_well_formed};
 use schedules::{Downs, Row, Services, Turns, Ups};
 use std::alloc::Global;
 use std::time::{Duration, Instant};
@@ -48,7 +48,7 @@ fn take_row<R: Row>(machine: &mut Machine, counts: &mut Counts, row: &R)
     requires there { R.is_there row.now machine.old.config.k }
     ensures config { machine.new.config ≡ machine.old.config }
 {
-    machine_is_sound(machine);
+    machine_is_well_formed(machine);
     let mut wire = 0;
     while let Some(next) = row.first(machine, wire) {
         counts.add(&machine.apply(row.step(next)));
@@ -127,7 +127,7 @@ fn tell_result(rt: &HostRuntime, machine: &Machine, counts: &Counts) -> anyhow::
     Ok(())
 }
 
-/// The time of a run of a machine. The first tells its result.
+/// The time of a run of a machine. The first says its result.
 fn time_of(
     rt: &HostRuntime,
     machine: &mut Machine,
@@ -148,7 +148,7 @@ fn new_machine(alloc: Global, config: Config) -> anyhow::Result<Machine> {
     Ok(Machine::new(alloc, image(alloc, &config)?, config)?)
 }
 
-/// Runs so many machines, and tells how long that took.
+/// Runs this many machines, and says how long that took.
 fn measure(rt: &HostRuntime, config: Config, runs: u32) -> anyhow::Result<()> {
     let mut counts = Counts {
         moved: 0,
@@ -169,7 +169,7 @@ fn measure(rt: &HostRuntime, config: Config, runs: u32) -> anyhow::Result<()> {
     Ok(())
 }
 
-/// Runs machines as these words ask for, and tells what that came to.
+/// Runs machines as these words ask for, and says what that came to.
 pub fn run(rt: &HostRuntime, arguments: &[String]) -> anyhow::Result<()> {
     let (k, runs) = asked(arguments)?;
     let config = Config {

@@ -223,7 +223,7 @@ fn tell(rt: &HostRuntime, kind: Kind, rounds: u32, bench: &Bench) -> anyhow::Res
     Ok(())
 }
 
-/// Moves messages as these words ask for, and tells what that came to.
+/// Moves messages as these words ask for, and says what that came to.
 pub fn run(rt: &HostRuntime, arguments: &[String]) -> anyhow::Result<()> {
     let (kinds, rounds) = asked(arguments)?;
     for kind in kinds {

@@ -114,6 +114,7 @@ with_a_record o x free = ap (λ b. if b then combined_in o.r x o.requests else N
 without_a_record : (o : OutputLists) (x : Request) → o.b ≤ length o.records → combination o.b o.r x o.requests o.records ≡ None
 without_a_record o x full = ap (λ b. if b then combined_in o.r x o.requests else None) (le-ltb (length o.records) o.b full)
 
+-- If a record is free, a request combines with the first entry with which it can, as `CombinesWithTheFirst` says.
 pub with_the_first : CombinesWithTheFirst
 with_the_first o x i e phi free at none =
     let joins : joint o.r x e ≡ Some phi = joint_is o.r x e phi at.fewer at.same_word at.composes in
@@ -154,6 +155,7 @@ refused_without o x is none = accepted_is o x None is ∙ ap (λ b. if b then (Q
 
 -- ---- the laws
 
+-- A request is combined exactly if a record is free and some entry combines with it.
 pub combines_where_it_can : CombinesWhereItCan
 combines_where_it_can o x = (
   (λ made. elim (decided o x) [
@@ -194,6 +196,7 @@ no_combination o x none = elim (decided o x) [
   | cannot other is ↦ is
 ]
 
+-- A request is queued, unmarked, exactly if it cannot combine and there is room.
 pub queues_where_there_is_room : QueuesWhereThereIsRoom
 queues_where_there_is_room o x = (
   (λ is.
@@ -210,6 +213,7 @@ queues_where_there_is_room o x = (
         let other : Full ≡ Queued = sym (ap (λ (r : Accepted × OutputLists). r.0) (refused_without o x none (ltb-false (length o.requests) o.c f))) ∙ answer in
         absurd (cc)
 
+-- A request is refused, and the output left as it was, exactly if it cannot combine and there is no room.
 pub refuses_where_there_is_none : RefusesWhereThereIsNone
 refuses_where_there_is_none o x = (
   (λ is.

@@ -4,7 +4,7 @@ use Rattle.std.specs.Prelude.{if◌then◌else◌}
 use Rattle.messages.specs.declared.message.Record.{Record}
 use Rattle.messages.specs.declared.message.Reply.{Reply}
 use Rattle.messages.specs.Queues.{answers, records_but, records_of}
-use Rattle.messages.specs.Seconds.{seconds_told}
+use Rattle.messages.specs.Seconds.{answered_seconds}
 use Rattle.combining_switch.specs.Pools.{PoolLists}
 use Rattle.combining_switch.specs.declared.answers.Answered.{Answered}
 use Rattle.combining_switch.specs.declared.answers.Answered.TheVariants.{One, Many, NoRoom}
@@ -21,6 +21,7 @@ answered_by s pool out x ys b =
     )
     else (NoRoom, s, pool)
 
+-- What a switch does with a reply is settled by whether there is room for all the replies that it gives.
 pub by_room : (s : SwitchState) (pool : PoolLists) (out : ℕ) (x : Reply) (ys : List Reply) (b : Bool)
     → ys ≡ answers (records_of x.leader (records_at s out)) x
     → has_room s.c s.its_bit s.inputs (put_replies s.its_bit s.inputs ys pool) ys ≡ b → answered s pool out x ≡ answered_by s pool out x ys b
@@ -31,20 +32,20 @@ by_room s pool out x ys b same room =
 
 never_none : (es : List Record) → answered_for es ≡ NoRoom → ⊥
 never_none [] e = let no : One ≡ NoRoom = e in cc
-never_none (f ∷ es) e = let no : Many (seconds_told f es) ≡ NoRoom = e in cc
+never_none (f ∷ es) e = let no : Many (answered_seconds f es) ≡ NoRoom = e in cc
 
 abbrev answer_of : Answered × SwitchState × PoolLists → Answered
 answer_of r = r.0
 
 -- whether there is room
-pub room_told : (s : SwitchState) (pool : PoolLists) (out : ℕ) (x : Reply) (ys : List Reply) (b : Bool)
+pub room_holds : (s : SwitchState) (pool : PoolLists) (out : ℕ) (x : Reply) (ys : List Reply) (b : Bool)
     → ys ≡ answers (records_of x.leader (records_at s out)) x → has_room s.c s.its_bit s.inputs (put_replies s.its_bit s.inputs ys pool) ys ≡ b
     → (b ≡ true → (answered s pool out x).0 ≡ NoRoom → ⊥) × (((answered s pool out x).0 ≡ NoRoom → ⊥) → b ≡ true)
-room_told s pool out x ys true same room = (
+room_holds s pool out x ys true same room = (
   (λ t e. never_none (records_of x.leader (records_at s out)) (sym (ap answer_of (by_room s pool out x ys true same room)) ∙ e)),
   (λ n. refl),
 )
-room_told s pool out x ys false same room = (
+room_holds s pool out x ys false same room = (
   (λ t. absurd (let no : false ≡ true = t in cc)),
   (λ n. absurd (n (ap answer_of (by_room s pool out x ys false same room)))),
 )

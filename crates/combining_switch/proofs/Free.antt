@@ -14,6 +14,7 @@ one_or_other (ys ∷ queues) zero (suc r) xs = inr refl
 one_or_other (ys ∷ queues) (suc q) zero xs = inr refl
 one_or_other (ys ∷ queues) (suc q) (suc r) xs = one_or_other queues q r xs
 
+-- A free processor stays free if a queue gets other requests, and it leads none of them.
 pub free_of_requests : (l : PoolLists) (q p : ℕ) (xs : List Request) → (In p (map leader_of_request xs) → ⊥) → IsFree l p → IsFree (with_requests l q xs) p
 free_of_requests l q p xs none free = record { no_request = λ r m. go r m (one_or_other l.requests q r xs); no_reply = free.no_reply }
   where
@@ -22,6 +23,7 @@ free_of_requests l q p xs none free = record { no_request = λ r m. go r m (one_
     go r m (inl e) = none (subst (λ ys. In p (map leader_of_request ys)) e m)
     go r m (inr e) = free.no_request r (subst (λ ys. In p (map leader_of_request ys)) e m)
 
+-- A free processor stays free if a queue gets other replies, and it leads none of them.
 pub free_of_replies : (l : PoolLists) (q p : ℕ) (ys : List Reply) → (In p (map leader_of_reply ys) → ⊥) → IsFree l p → IsFree (with_replies l q ys) p
 free_of_replies l q p ys none free = record { no_request = free.no_request; no_reply = λ r m. go r m (one_or_other l.replies q r ys) }
   where

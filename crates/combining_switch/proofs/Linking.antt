@@ -30,11 +30,13 @@ queue_is next queues v q e is there at =
     let within : q < length queues = omega (arith, queues_are next queues v is) in
     ap (λ l. queue_at l q) (sym is) ∙ get_or-map (walk_of next) queues q e [] within ∙ ap (walk_of next) (sym at)
 
+-- The count in the ends of a queue is the queue's length.
 pub count_is : (next : List ℕ) (queues : List Ends) (v : LinkLists) (q : ℕ) (e : Ends) → lists_of next queues ≡ v → q < length v.queues → e ≡ get_or queues
     q e →
     e.count ≡ length (queue_at v q)
 count_is next queues v q e is there at = sym (ap length (queue_is next queues v q e is there at) ∙ length-walk next e.first e.count)
 
+-- A list of length 0 has no first number.
 pub front_none : (ps : List ℕ) (n : ℕ) → n ≡ length ps → n ≡ 0 → None ≡ slice_get ps 0
 front_none ps n is none = sym (slice_get_past ps 0 (omega arith))
 
@@ -43,12 +45,14 @@ unfolding walk
 walk_front next f zero some = absurd (omega arith)
 walk_front next f (suc n) some = refl
 
+-- If the count in the ends of a queue is above 0, their first number is the queue's first.
 pub front_some : (next : List ℕ) (queues : List Ends) (v : LinkLists) (q : ℕ) (e : Ends) → lists_of next queues ≡ v → q < length v.queues →
     e ≡ get_or queues q e → 0 < e.count
     → slice_get (queue_at v q) 0 ≡ Some e.first
 front_some next queues v q e is there at some =
     ap (λ ps. slice_get ps 0) (queue_is next queues v q e is there at) ∙ walk_front next e.first e.count some
 
+-- If a number is not at the last place of its queue, the table has for it the number at the next place.
 pub behind_some : (next : List ℕ) (queues : List Ends) (v : LinkLists) (q : ℕ) (e : Ends) (i p d : ℕ) → lists_of next queues ≡ v → q < length v.queues →
     e ≡ get_or queues q e → slice_get (queue_at v q) i ≡ Some p → i + 1 < e.count → p < length next → d ≡ get_or next p d
     → Some d ≡ slice_get (queue_at v q) (suc i)
@@ -63,6 +67,7 @@ behind_some next queues v q e i p d is there at stands more below read =
     default (x ∷ xs) zero d lt = refl
     default (x ∷ xs) (suc j) d lt = default xs j d (omega arith)
 
+-- A list has no number after its last place.
 pub behind_none : (ps : List ℕ) (n i : ℕ) → n ≡ length ps → n ≤ i + 1 → None ≡ slice_get ps (suc i)
 behind_none ps n i is none = sym (slice_get_past ps (suc i) (omega arith))
 
@@ -73,6 +78,7 @@ row_within next queues v q i p is linked stands =
     let found : slice_get (queue_at (lists_of next queues) q) i ≡ Some p = ap (λ l. slice_get (queue_at l q) i) is ∙ stands in
     linked.apart.within q p (In-slice_get (queue_at (lists_of next queues) q) i p found)
 
+-- A linked queue has at most 64 numbers.
 pub few_in : (next : List ℕ) (queues : List Ends) (v : LinkLists) (q : ℕ) → lists_of next queues ≡ v → IsLinked next queues → length (queue_at v q) ≤ 64
 few_in next queues v q is linked =
     let few : length (queue_at (lists_of next queues) q) ≤ length next =
@@ -85,7 +91,9 @@ few_in next queues v q is linked =
 
 -- the fields are linked, and read as these lists
 pub record Became (next : List ℕ) (queues : List Ends) (v : LinkLists) : Type 0 where
+  -- the table and the ends are linked
   pub linked : IsLinked next queues
+  -- they are read as these lists
   pub view : lists_of next queues ≡ v
 
 -- one queue is read by other ends, and the walks of the others are as before
@@ -113,10 +121,11 @@ became next queues next' q e ps linked long there walks others apart last = reco
           ∙ ap (set (map (walk_of next) queues) q) walks) i;
     }
 
--- what is put behind the numbers of a queue
+-- what is put after the numbers of a queue
 abbrev Pushed : (next : List ℕ) (queues : List Ends) (q p : ℕ) → LinkLists → Type 0
 Pushed next queues q p v = Became next queues (with_queue v q (queue_at v q ++ p ∷ []))
 
+-- If the ends of an empty queue get as first and last a number that no queue has, the queue has that number.
 pub pushed_first : (next : List ℕ) (queues : List Ends) (v : LinkLists) (q p : ℕ) (e : Ends) → lists_of next queues ≡ v → IsLinked next queues →
     q < length v.queues → p < v.cells → IsUnlinked v p → e ≡ get_or queues q e → e.count ≡ 0
     → Became next (set queues q (record { first = p; last = p; count = 1 })) (with_queue v q (queue_at v q ++ p ∷ []))
@@ -151,6 +160,7 @@ last_inside next queues v q e is linked there at some =
     go (suc n) c some known =
         subst (λ x. In x (walk next e.first (suc n))) (sym known) (last_or-In e.first (walk next (get_or next e.first 0) n))
 
+-- The last number in the ends of a queue that is not empty has a row in the table.
 pub last_within : (next : List ℕ) (queues : List Ends) (v : LinkLists) (q : ℕ) (e : Ends) → lists_of next queues ≡ v → IsLinked next queues →
     q < length v.queues → e ≡ get_or queues q e → 0 < e.count → e.last < length next
 last_within next queues v q e is linked there at some =
@@ -158,6 +168,7 @@ last_within next queues v q e is linked there at some =
     subst (λ l. In e.last (queue_at l q)) (sym is) (last_inside next queues v q e is linked there at some) in
     linked.apart.within q e.last inside
 
+-- If a number that no queue has becomes the last of a queue's ends, and follows the old last, the queue ends in it.
 pub pushed_more : (next : List ℕ) (queues : List Ends) (v : LinkLists) (q p : ℕ) (e : Ends) → lists_of next queues ≡ v → IsLinked next queues →
     q < length v.queues → p < v.cells → IsUnlinked v p → e ≡ get_or queues q e → 0 < e.count
     → Became (set next e.last p) (set queues q (record { first = e.first; last = p; count = e.count + 1 })) (with_queue v q (queue_at v q ++ p ∷ []))
@@ -205,6 +216,7 @@ pushed_more next queues v q p e is linked =
         (subst (λ m. (x : ℕ) → In x (walk next e.first m) → x < length next) c below) (subst (λ m. Distinct (walk next e.first m)) c once)
         ∙ ap (λ m. walk next e.first m ++ p ∷ []) (sym c)
 
+-- If a queue's ends get as their first what the table has for the first before, the queue loses its first number.
 pub popped : (next : List ℕ) (queues : List Ends) (v : LinkLists) (q : ℕ) (e : Ends) (g : ℕ) → lists_of next queues ≡ v → IsLinked next queues →
     q < length v.queues → e ≡ get_or queues q e → 0 < e.count → g ≡ get_or next e.first g
     → Became next (set queues q (record { first = g; last = e.last; count = e.count - 1 })) (with_queue v q (drop 1 (queue_at v q)))
@@ -239,6 +251,7 @@ popped next queues v q e g is linked =
 
 -- ---- new links
 
+-- A table of at most 64 zeros, with ends of m empty queues, is linked and read as m empty queues.
 pub new_links : (n m : ℕ) (next : List ℕ) (queues : List Ends) → n ≤ 64 → next ≡ replicate n 0 → queues ≡ replicate m no_ends →
     Became next queues (record { cells = n; queues = replicate m [] })
 unfolding walk

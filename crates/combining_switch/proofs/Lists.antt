@@ -124,12 +124,13 @@ In-slice_get [] i x at = cc
 In-slice_get (y ∷ xs) zero x at = inl (cc)
 In-slice_get (y ∷ xs) (suc i) x at = inr (In-slice_get xs i x at)
 
+-- An element of a list is at some place within the list's length.
 pub slice_get_In : {X : Type 0} (xs : List X) (x : X) → In x xs → (i : ℕ) × (i < length xs) × (slice_get xs i ≡ Some x)
 slice_get_In [] x m = elim m [ ]
 slice_get_In (y ∷ xs) x (inl e) = (0, omega arith, ap Some (sym e))
 slice_get_In (y ∷ xs) x (inr m) = let h = slice_get_In xs x m in (suc h.0, omega (arith, h.1), h.2)
 
--- nothing stands behind a place where nothing stands
+-- nothing stands after a place where nothing stands
 pub none_behind : {X : Type 0} (xs : List X) (i j : ℕ) → slice_get xs i ≡ None → i ≤ j → slice_get xs j ≡ None
 none_behind [] i j none le = refl
 none_behind (x ∷ xs) zero j none le = cc
@@ -145,6 +146,7 @@ module _ {X Y : Type 0} where
   get_or-map_past f (x ∷ xs) zero d = refl
   get_or-map_past f (x ∷ xs) (suc i) d = get_or-map_past f xs i d
 
+  -- If two functions agree on what is read at each place of a list, they map the list to the same.
   pub map_same : (f g : X → Y) (xs : List X) (d : X) → ((j : ℕ) → g (get_or xs j d) ≡ f (get_or xs j d)) → map g xs ≡ map f xs
   map_same f g [] d same = refl
   map_same f g (x ∷ xs) d same = (λ k. same 0 k ∷ map_same f g xs d (λ j. same (suc j)) k)
@@ -212,6 +214,7 @@ front_leaves : (p : ℕ) (ps : List ℕ) → Distinct ps → slice_get ps 0 ≡ 
 front_leaves p [] d first m = m
 front_leaves p (x ∷ xs) d first m = let same : x ≡ p = same_Some x p first in d.0 (subst (λ v. In v xs) (sym same) m)
 
+-- The first number of a queue is in no queue after it is taken from there.
 pub unlinked_after : (l : LinkLists) (q p : ℕ) → AreApart l → q < length l.queues → slice_get (queue_at l q) 0 ≡ Some p →
     IsUnlinked (with_queue l q (drop 1 (queue_at l q))) p
 unlinked_after l q p apart there first r m = go m (cases_eq r q)

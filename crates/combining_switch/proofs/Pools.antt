@@ -42,6 +42,7 @@ request_queue cells m l v q is pool there =
     let all : length (pool_lists cells m l).requests ≡ m = few_requests cells m l both in
     (omega arith, omega arith)
 
+-- The number of a pool's queue of replies, plus m, is the number of a linked queue.
 pub reply_queue : (cells : List Cell) (m : ℕ) (l : LinkLists) (v : PoolLists) (q : ℕ) → pool_lists cells m l ≡ v → IsPool cells m l → q < length v.replies →
     m + q < length l.queues
 reply_queue cells m l v q is pool there =
@@ -50,6 +51,7 @@ reply_queue cells m l v q is pool there =
     let all : length (pool_lists cells m l).replies ≡ length l.queues - m = all_replies cells m l in
     omega arith
 
+-- The number of a pool's queue of replies, plus m, is below 131072.
 pub reply_queue_few : (cells : List Cell) (m : ℕ) (l : LinkLists) (v : PoolLists) (q : ℕ) → pool_lists cells m l ≡ v → IsPool cells m l → q < length
     v.replies →
     m + q < 131072
@@ -57,11 +59,13 @@ reply_queue_few cells m l v q is pool there =
     let few : length l.queues < 131072 = pool.few_queues in
     omega (arith, reply_queue cells m l v q is pool there)
 
+-- A queue of requests is as long in the pool as among the linked queues.
 pub request_count : (cells : List Cell) (m : ℕ) (l : LinkLists) (v : PoolLists) (q n : ℕ) → pool_lists cells m l ≡ v → q < m → n ≡ length (queue_at l q) →
     n ≡ length (requests_at v q)
 request_count cells m l v q n is lt count =
     count ∙ sym (ap (λ p. length (requests_at p q)) (sym is) ∙ ap length (requests_are cells m l q lt) ∙ length-map (queue_at l q) (request_in cells))
 
+-- A queue of replies is as long in the pool as among the linked queues.
 pub reply_count : (cells : List Cell) (m : ℕ) (l : LinkLists) (v : PoolLists) (q n : ℕ) → pool_lists cells m l ≡ v → n ≡ length (queue_at l (m + q)) →
     n ≡ length (replies_at v q)
 reply_count cells m l v q n is count =
@@ -74,6 +78,7 @@ request_get cells m l v q i o is lt found =
     ap (option_map (request_in cells)) found ∙ sym (slice_get-map (request_in cells) (queue_at l q) i)
     ∙ ap (λ xs. slice_get xs i) (sym (requests_are cells m l q lt)) ∙ ap (λ p. slice_get (requests_at p q) i) is
 
+-- The reply at a place of a pool's queue is the one in the cell whose number is linked there, if any.
 pub reply_get : (cells : List Cell) (m : ℕ) (l : LinkLists) (v : PoolLists) (q i : ℕ) (o : Option ℕ) → pool_lists cells m l ≡ v →
     o ≡ slice_get (queue_at l (m + q)) i → option_map (reply_in cells) o ≡ slice_get (replies_at v q) i
 reply_get cells m l v q i o is found =
@@ -120,6 +125,7 @@ side zero q = of_replies q (omega arith)
 side (suc m) zero = of_requests (omega arith)
 side (suc m) (suc q) = elim (side m q) [ of_requests lt ↦ of_requests (omega arith) | of_replies r e ↦ of_replies r (omega arith) ]
 
+-- A processor that is free in the pool has its number in no linked queue.
 pub unlinked_is : (cells : List Cell) (m : ℕ) (l : LinkLists) (v : PoolLists) (p : ℕ) → pool_lists cells m l ≡ v → IsFree v p → IsUnlinked l p
 unlinked_is cells m l v p is = subst (λ w. IsFree w p → IsUnlinked l p) is (λ free q i. elim (side m q) [
   | of_requests lt ↦ free.no_request q
@@ -128,6 +134,7 @@ unlinked_is cells m l v p is = subst (λ w. IsFree w p → IsUnlinked l p) is (�
       (subst (In p) (sym (ap (map leader_of_reply) (replies_are cells m l r) ∙ leaders_of_replies cells (queue_at l (m + r)) ∙ ap (queue_at l) (sym e))) i)
 ])
 
+-- A processor whose number is in no linked queue is free in the pool.
 pub free_is : (cells : List Cell) (m : ℕ) (l : LinkLists) (v : PoolLists) (p : ℕ) → pool_lists cells m l ≡ v → IsUnlinked l p → IsFree v p
 free_is cells m l v p is out = subst (λ w. IsFree w p) is (record {
   no_request = λ q i. elim (side m q) [
@@ -152,6 +159,7 @@ reply_other : (cells : List Cell) (p : ℕ) (c : Cell) (r : ℕ) → (r ≡ p �
 unfolding reply_in
 reply_other cells p c r n = ap (λ (d : Cell). record { leader = r; value = d.value }) (get_or-set_other cells p r c no_cell n)
 
+-- A request that is written to its leader's cell is the request read there, whatever value the cell has.
 pub request_written : (cells : List Cell) (x : Request) (n : ℕ) → x.leader < length cells →
     request_in (set cells x.leader (record { word = x.word; phi = x.phi; marks = x.marks; value = n })) x.leader ≡ x
 unfolding request_in
@@ -159,6 +167,7 @@ request_written cells x n lt =
     ap (λ (d : Cell). record { leader = x.leader; word = d.word; phi = d.phi; marks = d.marks })
     (get_or-set_same cells x.leader (record { word = x.word; phi = x.phi; marks = x.marks; value = n }) no_cell lt)
 
+-- A reply is the one read in its leader's cell if the cell written there has its value.
 pub reply_written : (cells : List Cell) (y : Reply) (c : Cell) → y.leader < length cells → c.value ≡ y.value → reply_in (set cells y.leader c) y.leader ≡ y
 unfolding reply_in
 reply_written cells y c lt value =
@@ -187,6 +196,8 @@ module _ (cells : List Cell) (m : ℕ) (l : LinkLists) (p : ℕ) (c : Cell) wher
 
 -- ---- calls
 
+-- If a request is written to its cell, which no queue has, and its number is linked last in a queue of
+-- requests, then in the pool it is the last of that queue, and all else is as before.
 pub pushed_request : (cells : List Cell) (m : ℕ) (l : LinkLists) (v : PoolLists) (l' : LinkLists) (q : ℕ) (x : Request) (c : Cell) → pool_lists cells m l ≡ v →
     q < m → IsUnlinked l x.leader → request_in (set cells x.leader c) x.leader ≡ x → l' ≡ with_queue l q (queue_at l q ++ x.leader ∷ [])
     → pool_lists (set cells x.leader c) m l' ≡ with_requests v q (requests_at v q ++ x ∷ [])
@@ -218,6 +229,8 @@ pushed_request cells m l v l' q x c is lt out written linked =
         ap (map (map (reply_in (set cells x.leader c)))) (drop-set-lt m l.queues q (queue_at l q ++ x.leader ∷ []) lt)
         ∙ map_same (map (reply_in cells)) (map (reply_in (set cells x.leader c))) (drop m l.queues) [] (λ j. reply_same cells m l x.leader c j (out (m + j)))
 
+-- If a reply is written to its cell, which no queue has, and its number is linked last in a queue of
+-- replies, then in the pool it is the last of that queue, and all else is as before.
 pub pushed_reply : (cells : List Cell) (m : ℕ) (l : LinkLists) (v : PoolLists) (l' : LinkLists) (q : ℕ) (y : Reply) (c : Cell) → pool_lists cells m l ≡ v →
     IsUnlinked l y.leader → reply_in (set cells y.leader c) y.leader ≡ y → l' ≡ with_queue l (m + q) (queue_at l (m + q) ++ y.leader ∷ [])
     → pool_lists (set cells y.leader c) m l' ≡ with_replies v q (replies_at v q ++ y ∷ [])
@@ -249,6 +262,7 @@ pushed_reply cells m l v l' q y c is out written linked =
         (λ j n. reply_same cells m l y.leader c j (out (m + j)))
         ∙ ap (set (map (map (reply_in cells)) (drop m l.queues)) q) row
 
+-- If a linked queue of requests loses its first number, the pool's queue loses its first request.
 pub popped_request : (cells : List Cell) (m : ℕ) (l : LinkLists) (v : PoolLists) (l' : LinkLists) (q : ℕ) → pool_lists cells m l ≡ v → q < m →
     l' ≡ with_queue l q (drop 1 (queue_at l q))
     → pool_lists cells m l' ≡ with_requests v q (drop 1 (requests_at v q))
@@ -267,6 +281,7 @@ popped_request cells m l v l' q is lt linked =
     replies : map (map (reply_in cells)) (drop m (set l.queues q (drop 1 (queue_at l q)))) ≡ map (map (reply_in cells)) (drop m l.queues)
     replies = ap (map (map (reply_in cells))) (drop-set-lt m l.queues q (drop 1 (queue_at l q)) lt)
 
+-- If a linked queue of replies loses its first number, the pool's queue loses its first reply.
 pub popped_reply : (cells : List Cell) (m : ℕ) (l : LinkLists) (v : PoolLists) (l' : LinkLists) (q : ℕ) → pool_lists cells m l ≡ v →
     l' ≡ with_queue l (m + q) (drop 1 (queue_at l (m + q)))
     → pool_lists cells m l' ≡ with_replies v q (drop 1 (replies_at v q))
@@ -285,6 +300,7 @@ popped_reply cells m l v l' q is linked =
         ∙ ap (set (map (map (reply_in cells)) (drop m l.queues)) q)
         (sym (drop-map (reply_in cells) 1 (queue_at l (m + q))) ∙ ap (drop 1) (sym (replies_are cells m l q)))
 
+-- If a request is written to the cell of its number, which is linked at a place of a queue, the pool has it there.
 pub replaced : (cells : List Cell) (m : ℕ) (l : LinkLists) (v : PoolLists) (q i : ℕ) (x : Request) (c : Cell) → pool_lists cells m l ≡ v → AreApart l →
     q < m → slice_get (queue_at l q) i ≡ Some x.leader → request_in (set cells x.leader c) x.leader ≡ x
     → pool_lists (set cells x.leader c) m l ≡ with_requests v q (set (requests_at v q) i x)
@@ -321,6 +337,7 @@ all_empty : {X : Type 0} (f : ℕ → X) (n : ℕ) → map (map f) (replicate n 
 all_empty f zero = refl
 all_empty f (suc n) = ap (λ xs. [] ∷ xs) (all_empty f n)
 
+-- Queues that have no number are read as an empty pool.
 pub new_pool : (cells : List Cell) (n a b : ℕ) (l : LinkLists) → l ≡ record { cells = n; queues = replicate (a + b) [] } → pool_lists cells a l ≡
     empty_pool n a b
 new_pool cells n a b l is =
@@ -342,6 +359,7 @@ request_freed cells m l l' q p x apart there first after is =
     subst (IsFree (pool_lists cells m l')) (sym leader)
     (free_is cells m l' (pool_lists cells m l') p refl (subst (λ (k : LinkLists). IsUnlinked k p) (sym after) (unlinked_after l q p apart there first)))
 
+-- The leader of the first reply of a queue is free after this reply is taken from it.
 pub reply_freed : (cells : List Cell) (m : ℕ) (l l' : LinkLists) (q p : ℕ) (y : Reply) → AreApart l → q < length l.queues →
     slice_get (queue_at l q) 0 ≡ Some p → l' ≡ with_queue l q (drop 1 (queue_at l q)) → y ≡ reply_in cells p → IsFree (pool_lists cells m l') y.leader
 unfolding reply_in
@@ -360,6 +378,7 @@ request_below cells m l v q i p x is apart found x_is =
     let all : l.cells ≡ v.cells = ap (λ (w : PoolLists). w.cells) is in
     omega arith
 
+-- The leader of a queued reply is below the number of the pool's cells.
 pub reply_below : (cells : List Cell) (m : ℕ) (l : LinkLists) (v : PoolLists) (q i p : ℕ) (y : Reply) → pool_lists cells m l ≡ v → AreApart l →
     slice_get (queue_at l q) i ≡ Some p → y ≡ reply_in cells p → y.leader < v.cells
 unfolding reply_in

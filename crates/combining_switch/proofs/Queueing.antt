@@ -34,6 +34,7 @@ queue_next i qs pool y ys can = record {
   apart = can.apart.1;
 }
 
+-- A switch's queues are still in the pool if one of the pool's queues gets other replies.
 pub stands_still : (s : SwitchState) (pool : PoolLists) (q : ℕ) (ys : List Reply) → StandsIn s pool → StandsIn s (with_replies pool q ys)
 stands_still s pool q ys stands = record {
   outputs = stands.outputs;

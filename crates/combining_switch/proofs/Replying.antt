@@ -1,4 +1,4 @@
--- The replies for a leader's reply, record by record: how many are for an input, and who is told.
+-- The replies for a leader's reply, record by record: how many are for an input, and who is reported.
 use Rattle.std.proofs.Common.{◌≡◌, ℕ, ◌+◌, Bool, true, false, cond, List, [], ◌∷◌, ◌++◌, length, map, refl, sym, ap, ◌∙◌, arith}
 use Rattle.std.proofs.lemmas.List.{map-append}
 use Rattle.std.specs.Prelude.{◌==◌}
@@ -17,10 +17,12 @@ unfolding put_replies
 put_one_more i qs y es e pool =
     ap (λ ys. put_replies i qs ys pool) (map-append (reply_of y) es (e ∷ [])) ∙ put_replies-append i qs (map (reply_of y) es) (reply_of y e ∷ []) pool
 
+-- A pool to which no replies are put is as before.
 pub put_none : (i : ℕ) (qs : List ℕ) (pool : PoolLists) → pool ≡ put_replies i qs [] pool
 unfolding put_replies
 put_none i qs pool = refl
 
+-- Putting the first reply, and then the others, is putting all of them.
 pub put_first : (i : ℕ) (qs : List ℕ) (x : Reply) (ys : List Reply) (pool : PoolLists)
     → put_replies i qs ys (put_reply i qs pool x) ≡ put_replies i qs (x ∷ ys) pool
 unfolding put_replies

@@ -15,6 +15,7 @@ pub record Inputs (qs : List ℕ) (pool : PoolLists) : Type 0 where
   pub there : (v : ℕ) → v < 2 → input_of qs v < length pool.replies
   pub apart : input_of qs 0 ≡ input_of qs 1 → ⊥
 
+-- If a switch's queues are in the pool, so are those of its inputs, and they are two different ones.
 pub inputs_of : (s : SwitchState) (pool : PoolLists) → StandsIn s pool → Inputs s.inputs pool
 inputs_of s pool stands = record { there = stands.inputs; apart = stands.apart }
 
@@ -64,7 +65,7 @@ length_after_one i qs y pool inp two in_pool false is =
     ap length (get_or-set_other pool.replies (input_for i qs y.leader) (input_of qs inp) (replies_at pool (input_for i qs y.leader) ++ y ∷ []) [] other)
     ∙ omega arith
 
--- an input has the replies for it behind those that it had
+-- an input has the replies for it after those that it had
 pub length_after : (i : ℕ) (qs : List ℕ) (ys : List Reply) (pool : PoolLists) (inp : ℕ) → inp < 2 → Inputs qs pool
     → length (replies_at (put_replies i qs ys pool) (input_of qs inp)) ≡ length (replies_at pool (input_of qs inp)) + length (replies_for i inp ys)
 unfolding put_replies

@@ -29,6 +29,7 @@ pub combined_is_taken : (o : OutputLists) (x : Request) (j : Combination) → co
     (accepted o x).0 ≡ Full → ⊥
 combined_is_taken o x j is full = let no : Combined j.made.leader ≡ Full = sym (as_is o x (Some j) is) ∙ full in cc
 
+-- An output whose queue has room does not refuse a request.
 pub with_room_is_taken : (o : OutputLists) (x : Request) → length o.requests < o.c → (accepted o x).0 ≡ Full → ⊥
 with_room_is_taken o x room full = go (combination o.b o.r x o.requests o.records) refl
   where
@@ -44,14 +45,15 @@ else_refused o x full none = as_is o x None none ∙ ap first_of (answer_of o x 
 
 -- ---- as it is asked
 
--- no room, by a test that tells of room
+-- no room, by a test that says of room
 pub no_place : (o : OutputLists) (b : Bool) → (length o.requests < o.c → b ≡ true) → b ≡ false → o.c ≤ length o.requests
-no_place o b told none = go (cases_lt (length o.requests) o.c)
+no_place o b fact none = go (cases_lt (length o.requests) o.c)
   where
     go : (length o.requests < o.c) ⊎ (o.c ≤ length o.requests) → o.c ≤ length o.requests
-    go (inl room) = absurd (let no : true ≡ false = sym (told room) ∙ none in cc)
+    go (inl room) = absurd (let no : true ≡ false = sym (fact room) ∙ none in cc)
     go (inr full) = full
 
+-- An output whose queue is full takes a request exactly if there is a partner with which it combines.
 pub by_partner : (o : OutputLists) (x : Request) (p : Option Partner) (b : Bool) → is_some p ≡ b →
     option_map (partnership o.requests x) p ≡ combination o.b o.r x o.requests o.records → o.c ≤ length o.requests
     → (b ≡ true → (accepted o x).0 ≡ Full → ⊥) × (((accepted o x).0 ≡ Full → ⊥) → b ≡ true)

@@ -33,7 +33,7 @@ walk_longer next p f (suc m) below once =
     ap (λ r. f ∷ walk (set next l p) r (suc (suc m))) same
     ∙ ap (λ ps. f ∷ ps) (walk_longer next p g m (λ q i. below q (inr i)) once.1)
 
--- what stands behind one
+-- what stands after one
 pub walk_behind : (next : List ℕ) (f n i p : ℕ) → slice_get (walk next f n) i ≡ Some p → suc i < n →
     slice_get (walk next f n) (suc i) ≡ Some (get_or next p 0)
 unfolding walk

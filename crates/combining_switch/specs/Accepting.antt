@@ -6,9 +6,10 @@ use Rattle.messages.specs.declared.message.Request.{Request}
 use Rattle.combining_switch.specs.Outputs.{OutputLists, accepted}
 use Rattle.combining_switch.specs.declared.answers.Accepted.TheVariants.{Queued, Combined, Full}
 
--- A request combines with this entry of a queue: the entry was combined fewer than r times in it, has the request's word, and its
--- function, followed by the request's, is phi.
-pub record CombinesAt (r : ℕ) (queue : List Request) (x : Request) (place : ℕ) (entry : Request) (phi : Phi) : Type 0 where
+-- A request combines with this entry of a queue: the entry was combined fewer than r times in it, has the request's
+-- word, and its function, followed by the request's, is phi.
+pub record CombinesAt (r : ℕ) (queue : List Request) (x : Request) (place : ℕ) (entry : Request)
+    (phi : Phi) : Type 0 where
   pub there : slice_get queue place ≡ Some entry
   pub fewer : entry.marks < r
   pub same_word : entry.word ≡ x.word
@@ -22,17 +23,17 @@ pub record CanCombine (o : OutputLists) (x : Request) : Type 0 where
   pub phi : Phi
   pub combines : CombinesAt o.r o.requests x place entry phi
 
--- no entry in front of this place does
+-- no entry before this place does
 abbrev pub NoneInFront : (r : ℕ) → List Request → Request → ℕ → Type 0
 NoneInFront r queue x place = (i : ℕ) (e : Request) (phi : Phi) → i < place → CombinesAt r queue x i e phi → ⊥
 
--- A request is combined exactly where a record is free and some entry combines with it,
+-- A request is combined exactly if a record is free and some entry combines with it,
 abbrev pub CombinesWhereItCan : Type 0
 CombinesWhereItCan = (o : OutputLists) (x : Request) →
     ((leader : ℕ) × ((accepted o x).0 ≡ Combined leader)) ↔ CanCombine o x
 
--- and with the first such entry, which leads both, has the function of both, and is marked once more. The record has the function
--- that the entry had, and who came second.
+-- and with the first such entry, which leads both, has the function of both, and is marked once more. The record has
+-- the function that the entry had, and who came second.
 abbrev pub CombinesWithTheFirst : Type 0
 CombinesWithTheFirst = (o : OutputLists) (x : Request) (i : ℕ) (e : Request) (phi : Phi) →
     length o.records < o.b → CombinesAt o.r o.requests x i e phi → NoneInFront o.r o.requests x i →
@@ -47,7 +48,7 @@ CombinesWithTheFirst = (o : OutputLists) (x : Request) (i : ℕ) (e : Request) (
       },
     )
 
--- Else it goes behind the others of the queue, not marked, exactly where there is room,
+-- Else it goes after the others of the queue, not marked, exactly if there is room,
 abbrev pub QueuesWhereThereIsRoom : Type 0
 QueuesWhereThereIsRoom = (o : OutputLists) (x : Request) →
     (accepted o x ≡ (
@@ -61,7 +62,7 @@ QueuesWhereThereIsRoom = (o : OutputLists) (x : Request) →
       },
     )) ↔ ((CanCombine o x → ⊥) × (length o.requests < o.c))
 
--- and is refused exactly where there is none, and then nothing changes.
+-- and is refused exactly if there is none, and then nothing changes.
 abbrev pub RefusesWhereThereIsNone : Type 0
 RefusesWhereThereIsNone = (o : OutputLists) (x : Request) →
     (accepted o x ≡ (Full, o)) ↔ ((CanCombine o x → ⊥) × (o.c ≤ length o.requests))

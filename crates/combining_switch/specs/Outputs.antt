@@ -30,7 +30,7 @@ output_in pool o = record { c = o.c; b = o.b; r = o.r; requests = requests_at po
 abbrev pub output_with : OutputState → List Record → OutputState
 output_with o es = record { c = o.c; b = o.b; r = o.r; queue = o.queue; records = es }
 
--- the request goes behind those of the queue, if there is room
+-- the request goes after those of the queue, if there is room
 abbrev pub queued : OutputLists → Request → Accepted × OutputLists
 queued o x =
     if nat_lt (length o.requests) o.c
@@ -39,7 +39,17 @@ queued o x =
 
 -- the queue has the entry that stands for the two, and the record is the newest
 abbrev pub combined : OutputLists → Combination → Accepted × OutputLists
-combined o j = (Combined j.made.leader, record { c = o.c; b = o.b; r = o.r; requests = j.queue; records = o.records ++ j.made ∷ [] })
+combined o j = (
+  Combined j.made.leader,
+  record {
+    c = o.c;
+    b = o.b;
+    r = o.r;
+    requests = j.queue;
+    records = o.records
+        ++ j.made ∷ [];
+  },
+)
 
 abbrev pub accepted_as : OutputLists → Request → Option Combination → Accepted × OutputLists
 accepted_as o x None = queued o x

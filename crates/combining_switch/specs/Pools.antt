@@ -4,7 +4,7 @@ use Rattle.messages.specs.declared.message.Request.{Request}
 use Rattle.messages.specs.declared.message.Reply.{Reply}
 use Rattle.messages.specs.Places.{In}
 
--- a cell for each of so many processors, and queues of requests and of replies, each kind numbered from 0
+-- a cell for each of this many processors, and queues of requests and of replies, each kind numbered from 0
 pub record PoolLists : Type 0 where
   pub cells : ℕ
   pub requests : List (List Request)

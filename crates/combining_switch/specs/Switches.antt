@@ -1,18 +1,19 @@
 -- What a contract sees of a `Switch`, and what it does with a reply.
-use Rattle.std.specs.Prelude.{◌≡◌, ◌==◌, ◌<◌, ℕ, Bool, true, ◌&&◌, filter, nat_le, List, [], ◌∷◌, ◌++◌, length, slice_index_or, slice_set, if◌then◌else◌}
+use Rattle.std.specs.Prelude.{◌≡◌, ◌==◌, ◌<◌, ℕ, Bool, true, ◌&&◌, filter, nat_le, List, [], ◌∷◌, ◌++◌, length}
+use Rattle.std.specs.Prelude.{slice_index_or, slice_set, if◌then◌else◌}
 use Rattle.omega_wires.specs.Wires.{bit}
 use Rattle.messages.specs.declared.message.Reply.{Reply}
 use Rattle.messages.specs.declared.message.Record.{Record}
 use Rattle.messages.specs.Places.{ApartBy, In}
 use Rattle.messages.specs.Queues.{answers, records_of, records_but}
-use Rattle.messages.specs.Seconds.{seconds_told}
+use Rattle.messages.specs.Seconds.{answered_seconds}
 use Rattle.combining_switch.specs.Pools.{IsFree, PoolLists, leader_of_reply, replies_at, with_replies}
 use Rattle.combining_switch.specs.Outputs.{OutputState, output_with}
 use Rattle.combining_switch.specs.declared.answers.Answered.{Answered}
 use Rattle.combining_switch.specs.declared.answers.Answered.TheVariants.{One, Many, NoRoom}
 
--- Two outputs, and two inputs, each with the number of its queue among a pool's queues of replies, of up to c each. A reply
--- goes to the input that a bit of its leader's number names.
+-- Two outputs, and two inputs, each with the number of its queue among a pool's queues of replies, of up to c each. A
+-- reply goes to the input that a bit of its leader's number names.
 pub record SwitchState : Type 0 where
   pub c : ℕ
   pub its_bit : ℕ
@@ -24,7 +25,13 @@ abbrev pub new_switch : (c b r its_bit out_zero out_one in_zero in_one : ℕ) �
 new_switch c b r i x y v w = record {
   c = c;
   its_bit = i;
-  outputs = record { c = c; b = b; r = r; queue = x; records = [] } ∷ record { c = c; b = b; r = r; queue = y; records = [] } ∷ [];
+  outputs = record { c = c; b = b; r = r; queue = x; records = [] } ∷ record {
+    c = c;
+    b = b;
+    r = r;
+    queue = y;
+    records = [];
+  } ∷ [];
   inputs = v ∷ w ∷ [];
 }
 
@@ -38,7 +45,13 @@ abbrev pub records_at : SwitchState → (out : ℕ) → List Record
 records_at s out = (output_of s out).records
 
 abbrev pub with_records : SwitchState → (out : ℕ) → List Record → SwitchState
-with_records s out es = record { c = s.c; its_bit = s.its_bit; outputs = slice_set s.outputs out (output_with (output_of s out) es); inputs = s.inputs }
+with_records s out es =
+    record {
+      c = s.c;
+      its_bit = s.its_bit;
+      outputs = slice_set s.outputs out (output_with (output_of s out) es);
+      inputs = s.inputs;
+    }
 
 -- the number of an input's queue
 abbrev pub input_of : List ℕ → (inp : ℕ) → ℕ
@@ -56,9 +69,10 @@ pub record StandsIn (s : SwitchState) (pool : PoolLists) : Type 0 where
 abbrev pub input_for : (its_bit : ℕ) → List ℕ → (leader : ℕ) → ℕ
 input_for i inputs p = input_of inputs (bit i p)
 
--- a reply is put behind those at its leader's input
+-- a reply is put after those at its leader's input
 abbrev pub put_reply : (its_bit : ℕ) → List ℕ → PoolLists → Reply → PoolLists
-put_reply i inputs pool y = with_replies pool (input_for i inputs y.leader) (replies_at pool (input_for i inputs y.leader) ++ y ∷ [])
+put_reply i inputs pool y =
+    with_replies pool (input_for i inputs y.leader) (replies_at pool (input_for i inputs y.leader) ++ y ∷ [])
 
 -- the replies for an input
 abbrev pub replies_for : (its_bit inp : ℕ) → List Reply → List Reply
@@ -76,7 +90,8 @@ put_replies i inputs (y ∷ ys) pool = put_replies i inputs ys (put_reply i inpu
 -- whether each of these replies, now put, has its place within c
 unfoldable pub has_room : (c its_bit : ℕ) → List ℕ → PoolLists → List Reply → Bool
 has_room c i inputs pool [] = true
-has_room c i inputs pool (y ∷ ys) = nat_le (length (replies_at pool (input_for i inputs y.leader))) c && has_room c i inputs pool ys
+has_room c i inputs pool (y ∷ ys) = nat_le (length (replies_at pool (input_for i inputs y.leader))) c
+    && has_room c i inputs pool ys
 
 -- the leaders of these replies differ, and their cells are free
 pub record CanBeQueued (pool : PoolLists) (ys : List Reply) : Type 0 where
@@ -88,11 +103,12 @@ pub record CanBeQueued (pool : PoolLists) (ys : List Reply) : Type 0 where
 
 abbrev pub answered_for : List Record → Answered
 answered_for [] = One
-answered_for (e ∷ es) = Many (seconds_told e es)
+answered_for (e ∷ es) = Many (answered_seconds e es)
 
--- The leader's reply and those of its seconds are put, in the order of the combinations, and its records go; or there is no
--- room for all of them, and nothing changes.
-abbrev pub answered_from : SwitchState → PoolLists → (out : ℕ) → Reply → List Record → Answered × SwitchState × PoolLists
+-- The leader's reply and those of its seconds are put, in the order of the combinations, and its records go; or there
+-- is no room for all of them, and nothing changes.
+abbrev pub answered_from : SwitchState → PoolLists → (out : ℕ) → Reply → List Record →
+    Answered × SwitchState × PoolLists
 answered_from s pool out x records =
     let all = put_replies s.its_bit s.inputs (answers records x) pool in
     if has_room s.c s.its_bit s.inputs all (answers records x)

@@ -1,9 +1,9 @@
--- How the lists of queues are read off their ends and the table of what stands behind each number.
+-- How the lists of queues are read off their ends and the table of what stands after each number.
 use Rattle.std.specs.Prelude.{◌≡◌, ◌≤◌, ℕ, zero, suc, List, [], ◌∷◌, length, map, slice_index_or}
 use Rattle.combining_switch.specs.declared.links.Ends.{Ends}
 use Rattle.combining_switch.specs.Links.{AreApart, LinkLists}
 
--- from p on, so many numbers, each followed by what the table has for it
+-- from p on, this many numbers, each followed by what the table has for it
 unfoldable pub walk : (next : List ℕ) → ℕ → (count : ℕ) → List ℕ
 walk next p zero = []
 walk next p (suc n) = p ∷ walk next (slice_index_or next p 0) n

@@ -35,7 +35,7 @@ pub enum Answered {
 }
 
 impl Answered {
-    /// The same, where one more second is answered: three at most are told.
+    /// The same, where one more second is answered: three at most are reported.
     pub(crate) fn and(self, second: u8) -> Self
         ensures { (records : List Record) (last : Record) → self ≡ answered_for records → second ≡ last.second
             → result ≡ answered_for (records ++ last ∷ []) }

@@ -1,6 +1,7 @@
 //! Queues of numbers that are linked through one table.
 
-ghost use Rattle.std.specs.Prelude.{◌≡◌, ◌↔◌, ◌<◌, ◌≤◌, ◌+◌, ℕ, suc, [], ◌∷◌, ◌++◌, drop, length, replicate, slice_get, Some, IfOk, IsTrue};
+ghost use Rattle.std.specs.Prelude.{◌≡◌, ◌↔◌, ◌<◌, ◌≤◌, ◌+◌, ℕ, suc, [], ◌∷◌, ◌++◌, drop, length, replicate, slice_get};
+ghost use Rattle.std.specs.Prelude.{Some, IfOk, IsTrue};
 ghost use Rattle.messages.specs.Places.{In};
 ghost use Rattle.combining_switch.specs.Links.{AreApart, IsUnlinked, LinkLists, queue_at, with_queue};
 
@@ -21,7 +22,7 @@ struct Ends {
 /// Queues of numbers, no number twice, seen as their lists.
 #[derive(Drop)]
 pub struct Links {
-    /// For each number that one stands behind, in the queue where it stands, which that is.
+    /// For each number that one stands after, in the queue where it stands, which that is.
     next: Vec<u8>,
     queues: Vec<Ends>,
 }
@@ -39,7 +40,7 @@ impl Model for Links {
 }
 
 impl Links {
-    /// So many empty queues, of numbers below `cells`.
+    /// This many empty queues, of numbers below `cells`.
     pub fn new(alloc: Global, cells: u8, queues: usize) -> Result<Self, AllocError>
         requires { cells ≤ 64 }
         ensures { IfOk result (λ l. l ≡ record { cells = cells; queues = replicate queues [] }) }
@@ -64,7 +65,7 @@ impl Links {
         let _ = &self.next;
     }
 
-    /// Puts a number behind those of a queue.
+    /// Puts a number after those of a queue.
     pub fn push(&mut self, queue: usize, number: u8)
         requires queue { queue < length self.old.queues }
         requires number { number < self.old.cells }
@@ -134,7 +135,7 @@ impl Links {
         }
     }
 
-    /// The number behind one of a queue that stands at `place`.
+    /// The number after one of a queue that stands at `place`.
     pub fn behind(&self, queue: usize, place: usize, number: u8) -> Option<u8>
         requires queue { queue < length self.now.queues }
         requires there { slice_get (queue_at self.now queue) place ≡ Some number }

@@ -1,6 +1,7 @@
 //! One output of a switch.
 
-ghost use Rattle.std.specs.Prelude.{◌≡◌, ◌↔◌, ◌+◌, ◌<◌, ◌≤◌, [], drop, length, slice_get, slice_index_or, IfSome, IsTrue, OnSome, option_map};
+ghost use Rattle.std.specs.Prelude.{◌≡◌, ◌↔◌, ◌+◌, ◌<◌, ◌≤◌, [], drop, length, slice_get, slice_index_or, IfSome};
+ghost use Rattle.std.specs.Prelude.{IsTrue, OnSome, option_map};
 ghost use Rattle.messages.specs.Queues.{combination, combined_in, joint, records_but};
 ghost use Rattle.combining_switch.specs.Pools.{IsFree, requests_at, with_requests};
 ghost use Rattle.combining_switch.specs.declared.answers.Accepted.TheVariants.{Full};
@@ -30,7 +31,13 @@ impl Model for Output {
 
     ghost Value = { OutputState };
 
-    ghost view = { λ o. record { c = o.capacity; b = o.waiting.limit; r = o.most_marks; queue = o.queue; records = o.waiting.records } };
+    ghost view = { λ o. record {
+      c = o.capacity;
+      b = o.waiting.limit;
+      r = o.most_marks;
+      queue = o.queue;
+      records = o.waiting.records;
+    } };
 
     ghost invariant = { λ o. o.most_marks ≤ 3 };
 }
@@ -44,8 +51,8 @@ struct Partner {
 }
 
 impl Output {
-    /// An output with the queue of this number, of up to `c` requests, each of which is combined up to `r` times, and an empty wait
-    /// buffer of up to `b` records.
+    /// An output with the queue of this number, of up to `c` requests, each of which is combined up to `r` times, and
+    /// an empty wait buffer of up to `b` records.
     pub fn new(c: u8, b: u8, r: u8, queue: u16) -> Self
         requires records { b ≤ 16 }
         requires combinations { r ≤ 3 }
@@ -82,7 +89,8 @@ impl Output {
         requires free { IsFree pool.old request.leader }
         ensures answer { result ≡ (accepted (output_in pool.old self.old) request).0 }
         ensures records { self.new ≡ output_with self.old (accepted (output_in pool.old self.old) request).1.records }
-        ensures requests { pool.new ≡ with_requests pool.old self.old.queue (accepted (output_in pool.old self.old) request).1.requests }
+        ensures requests { pool.new
+            ≡ with_requests pool.old self.old.queue (accepted (output_in pool.old self.old) request).1.requests }
     {
         match self.partner(pool, &request) {
             Some(partner) => self.combine(pool, partner, &request),
@@ -105,14 +113,15 @@ impl Output {
         }
     }
 
-    /// Puts a request behind the others, if there is room.
+    /// Puts a request after the others, if there is room.
     fn enqueue(&self, pool: &mut Pool, request: Request) -> Accepted
         requires queue { self.now.queue < length pool.old.requests }
         requires cell { request.leader < pool.old.cells }
         requires free { IsFree pool.old request.leader }
         ensures answer { result ≡ (queued (output_in pool.old self.now) request).0 }
         ensures records { (queued (output_in pool.old self.now) request).1.records ≡ self.now.records }
-        ensures requests { pool.new ≡ with_requests pool.old self.now.queue (queued (output_in pool.old self.now) request).1.requests }
+        ensures requests { pool.new
+            ≡ with_requests pool.old self.now.queue (queued (output_in pool.old self.now) request).1.requests }
     {
         if !self.has_place(pool) {
             return Accepted::Full;
@@ -130,11 +139,15 @@ impl Output {
         requires queue { self.old.queue < length pool.old.requests }
         requires partner { IsPartner self.old.r (requests_at pool.old self.old.queue) partner }
         requires room { length self.old.records < self.old.b }
-        ensures answer { result ≡ (combined (output_in pool.old self.old) (partnership (requests_at pool.old self.old.queue) request.now partner)).0 }
+        ensures answer { result
+            ≡ (combined (output_in pool.old self.old) (partnership
+            (requests_at pool.old self.old.queue) request.now partner)).0 }
         ensures records { self.new ≡ output_with self.old
-            (combined (output_in pool.old self.old) (partnership (requests_at pool.old self.old.queue) request.now partner)).1.records }
+            (combined (output_in pool.old self.old) (partnership (requests_at pool.old self.old.queue) request.now
+            partner)).1.records }
         ensures requests { pool.new ≡ with_requests pool.old self.old.queue
-            (combined (output_in pool.old self.old) (partnership (requests_at pool.old self.old.queue) request.now partner)).1.requests }
+            (combined (output_in pool.old self.old) (partnership (requests_at pool.old self.old.queue) request.now
+            partner)).1.requests }
     {
         let Partner {
             place,
@@ -178,7 +191,8 @@ impl Output {
     pub fn take(&self, pool: &mut Pool) -> Option<Request>
         requires { self.now.queue < length pool.old.requests }
         ensures first { result ≡ slice_get (requests_at pool.old self.now.queue) 0 }
-        ensures after { pool.new ≡ with_requests pool.old self.now.queue (drop 1 (requests_at pool.old self.now.queue)) }
+        ensures after { pool.new
+            ≡ with_requests pool.old self.now.queue (drop 1 (requests_at pool.old self.now.queue)) }
     {
         pool.pop_request(usize::from(self.queue))
     }
@@ -194,7 +208,8 @@ impl Output {
 /// The first entry of a queue, from the front, with which a request combines.
 fn first_partner(pool: &Pool, queue: usize, most_marks: u8, request: &Request) -> Option<Partner>
     requires { queue < length pool.now.requests }
-    ensures first { option_map (partnership (requests_at pool.now queue) request.now) result ≡ combined_in most_marks request.now (requests_at pool.now queue) }
+    ensures first { option_map (partnership (requests_at pool.now queue) request.now) result
+        ≡ combined_in most_marks request.now (requests_at pool.now queue) }
     ensures partner { IfSome result (IsPartner most_marks (requests_at pool.now queue)) }
 {
     let mut next = pool.front_request(queue);
@@ -212,7 +227,8 @@ fn first_partner(pool: &Pool, queue: usize, most_marks: u8, request: &Request) -
     None
 }
 
-/// The function of an entry and a request together, where the two combine: the entry was combined fewer than `most_marks` times.
+/// The function of an entry and a request together, where the two combine: the entry was combined fewer than
+/// `most_marks` times.
 #[tactic(auto, unfolding(messages::specs::Queues::joint))]
 fn joint(most_marks: u8, entry: &Request, request: &Request) -> Option<Phi>
     ensures { result ≡ joint most_marks request.now entry.now }

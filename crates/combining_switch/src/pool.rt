@@ -1,7 +1,9 @@
 //! The pool of a network's cells.
 
-ghost use Rattle.std.specs.Prelude.{◌≡◌, ◌↔◌, ◌<◌, ◌≤◌, suc, [], ◌∷◌, ◌++◌, drop, length, slice_get, slice_set, option_map, Some, IfOk, IfSome, IsTrue};
-ghost use Rattle.combining_switch.specs.Pools.{IsFree, PoolLists, empty_pool, leader_of_request, replies_at, requests_at, with_replies, with_requests};
+ghost use Rattle.std.specs.Prelude.{◌≡◌, ◌↔◌, ◌<◌, ◌≤◌, suc, [], ◌∷◌, ◌++◌, drop, length, slice_get, slice_set};
+ghost use Rattle.std.specs.Prelude.{option_map, Some, IfOk, IfSome, IsTrue};
+ghost use Rattle.combining_switch.specs.Pools.{IsFree, PoolLists, empty_pool, leader_of_request, replies_at};
+ghost use Rattle.combining_switch.specs.Pools.{requests_at, with_replies, with_requests};
 ghost use Rattle.combining_switch.specs.Cells.{reply_in, request_in};
 
 use crate::links::Links;
@@ -49,7 +51,7 @@ impl Model for Pool {
 }
 
 impl Pool {
-    /// A pool of cells for so many processors, with empty queues for requests and for replies.
+    /// A pool of cells for this many processors, with empty queues for requests and for replies.
     ///
     /// # Errors
     ///
@@ -74,7 +76,7 @@ impl Pool {
         })
     }
 
-    /// Puts a request behind those of a queue. No message that its leader leads may stand in a queue.
+    /// Puts a request after those of a queue. No message that its leader leads may stand in a queue.
     pub fn push_request(&mut self, queue: usize, request: Request)
         requires queue { queue < length self.old.requests }
         requires cell { request.leader < self.old.cells }
@@ -85,7 +87,7 @@ impl Pool {
         self.links.push(queue, request.leader);
     }
 
-    /// Puts a reply behind those of a queue. No message that its leader leads may stand in a queue.
+    /// Puts a reply after those of a queue. No message that its leader leads may stand in a queue.
     pub fn push_reply(&mut self, queue: usize, reply: Reply)
         requires queue { queue < length self.old.replies }
         requires cell { reply.leader < self.old.cells }
@@ -125,7 +127,8 @@ impl Pool {
     /// Puts a request into the place of one that has the same leader.
     pub fn replace(&mut self, queue: usize, place: usize, request: Request)
         requires queue { queue < length self.old.requests }
-        requires there { option_map leader_of_request (slice_get (requests_at self.old queue) place) ≡ Some request.leader }
+        requires there { option_map leader_of_request (slice_get (requests_at self.old queue) place)
+            ≡ Some request.leader }
         ensures { self.new ≡ with_requests self.old queue (slice_set (requests_at self.old queue) place request) }
     {
         self.links.are_apart();
@@ -168,7 +171,7 @@ impl Pool {
         Some(reply_in(&self.cells, leader))
     }
 
-    /// The request behind one of a queue, which stands at `place` and has this leader.
+    /// The request after one of a queue, which stands at `place` and has this leader.
     pub fn request_behind(&self, queue: usize, place: usize, leader: u8) -> Option<Request>
         requires queue { queue < length self.now.requests }
         requires there { option_map leader_of_request (slice_get (requests_at self.now queue) place) ≡ Some leader }

@@ -45,9 +45,9 @@ impl Model for Switch {
 }
 
 impl Switch {
-    /// A switch with queues of up to `c` messages and wait buffers of up to `b` records, which are empty, whose replies go by
-    /// bit `its_bit` of their leaders' numbers. An entry of a queue of requests is combined up to `r` times. `outputs` and `inputs`
-    /// are the numbers of its queues of requests and of replies.
+    /// A switch with queues of up to `c` messages and wait buffers of up to `b` records, which are empty, whose
+    /// replies go by bit `its_bit` of their leaders' numbers. An entry of a queue of requests is combined up to `r`
+    /// times. `outputs` and `inputs` are the numbers of its queues of requests and of replies.
     pub fn new(c: u8, b: u8, r: u8, its_bit: u8, outputs: (u16, u16), inputs: (u16, u16)) -> Self
         requires queues { (2 ≤ c) × (c ≤ 16) }
         requires records { b ≤ 16 }
@@ -82,7 +82,8 @@ impl Switch {
         requires cell { request.leader < pool.old.cells }
         requires free { IsFree pool.old request.leader }
         ensures answer { result ≡ (accepted (output_in pool.old (output_of self.old out)) request).0 }
-        ensures records { self.new ≡ with_records self.old out (accepted (output_in pool.old (output_of self.old out)) request).1.records }
+        ensures records { self.new
+            ≡ with_records self.old out (accepted (output_in pool.old (output_of self.old out)) request).1.records }
         ensures requests { pool.new ≡ with_requests pool.old (output_of self.old out).queue
             (accepted (output_in pool.old (output_of self.old out)) request).1.requests }
     {
@@ -114,7 +115,9 @@ impl Switch {
         requires out { out < 2 }
         requires queues { StandsIn self.now pool.old }
         ensures first { result ≡ slice_get (requests_at pool.old (output_of self.now out).queue) 0 }
-        ensures after { pool.new ≡ with_requests pool.old (output_of self.now out).queue (drop 1 (requests_at pool.old (output_of self.now out).queue)) }
+        ensures after { pool.new
+            ≡ with_requests pool.old (output_of self.now out).queue
+            (drop 1 (requests_at pool.old (output_of self.now out).queue)) }
     {
         self.outputs[usize::from(out)].take(pool)
     }
@@ -160,7 +163,8 @@ impl Switch {
     fn has_room(&self, pool: &Pool, leader: u8, records: &[Record]) -> bool
         requires queues { StandsIn self.now pool.now }
         requires records { length records.now ≤ 16 }
-        ensures { (reply : Reply) → reply.leader ≡ leader → result ≡ has_room self.now.c self.now.its_bit self.now.inputs
+        ensures { (reply : Reply) → reply.leader ≡ leader →
+            result ≡ has_room self.now.c self.now.its_bit self.now.inputs
             (put_replies self.now.its_bit self.now.inputs (answers (records_of leader records.now) reply) pool.now)
             (answers (records_of leader records.now) reply) }
     {
@@ -178,12 +182,15 @@ impl Switch {
         usize::from(self.capacity.saturating_sub(queued))
     }
 
-    /// Puts a leader's reply and those of its seconds, each behind those at its own leader's input, and tells who is answered.
+    /// Puts a leader's reply and those of its seconds, each after those at its own leader's input, and says who is
+    /// answered.
     fn put_all(&self, pool: &mut Pool, reply: Reply, records: &[Record]) -> Answered
         requires queues { StandsIn self.now pool.old }
         requires leaders { CanBeQueued pool.old (answers (records_of reply.leader records.now) reply) }
         ensures answer { result ≡ answered_for (records_of reply.leader records.now) }
-        ensures replies { pool.new ≡ put_replies self.now.its_bit self.now.inputs (answers (records_of reply.leader records.now) reply) pool.old }
+        ensures replies { pool.new
+            ≡ put_replies self.now.its_bit self.now.inputs (answers
+            (records_of reply.leader records.now) reply) pool.old }
     {
         self.put(pool, reply);
         let mut answered = Answered::One;
@@ -196,7 +203,7 @@ impl Switch {
         answered
     }
 
-    /// Puts a reply behind those at its leader's input.
+    /// Puts a reply after those at its leader's input.
     fn put(&self, pool: &mut Pool, reply: Reply)
         requires queue { input_for self.now.its_bit self.now.inputs reply.leader < length pool.old.replies }
         requires cell { reply.leader < pool.old.cells }
@@ -221,7 +228,9 @@ impl Switch {
         requires input { inp < 2 }
         requires queues { StandsIn self.now pool.old }
         ensures first { result ≡ slice_get (replies_at pool.old (input_of self.now.inputs inp)) 0 }
-        ensures after { pool.new ≡ with_replies pool.old (input_of self.now.inputs inp) (drop 1 (replies_at pool.old (input_of self.now.inputs inp))) }
+        ensures after { pool.new
+            ≡ with_replies pool.old (input_of self.now.inputs inp)
+            (drop 1 (replies_at pool.old (input_of self.now.inputs inp))) }
     {
         pool.pop_reply(usize::from(self.inputs[usize::from(inp)]))
     }
@@ -241,7 +250,8 @@ fn second_reply(made: &Record, value: u32) -> Reply
 fn count_for(its_bit: u8, inp: u8, leader: u8, records: &[Record]) -> usize
     requires bits { its_bit < 8 }
     requires records { length records.now ≤ 16 }
-    ensures { (reply : Reply) → reply.leader ≡ leader → result ≡ length (replies_for its_bit inp (answers (records_of leader records.now) reply)) }
+    ensures { (reply : Reply) → reply.leader ≡ leader →
+        result ≡ length (replies_for its_bit inp (answers (records_of leader records.now) reply)) }
 {
     usize::from(bit(its_bit, leader) == inp) + count_seconds(its_bit, inp, leader, records)
 }

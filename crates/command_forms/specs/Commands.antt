@@ -116,12 +116,14 @@ dis_command = with_number shared_words (with_file (new_app (codes "dis")))
 
 -- a machine's sizes
 abbrev pub with_sizes : App → App
-with_sizes a = with_number shared_words (with_number combinations (with_number records (with_number queue (with_number stages a))))
+with_sizes a = with_number shared_words (with_number combinations
+    (with_number records (with_number queue (with_number stages a))))
 
 unfoldable pub run_command : App
 run_command =
     with_number start (with_number budget (with_sizes
-    (with_rule (with_rule (with_rule (with_file (new_app (codes "run"))) (option (codes "trace"))) (flag (codes "sweep"))) (flag (codes "quiet")))))
+    (with_rule (with_rule (with_rule (with_file (new_app (codes "run"))) (option (codes "trace")))
+    (flag (codes "sweep"))) (flag (codes "quiet")))))
 
 -- a trace and the image of its run
 abbrev pub replaying : Text → App
@@ -137,7 +139,8 @@ unfoldable pub order_command : App
 order_command = with_rule (with_rule (replaying (codes "order")) (number processor)) (number shared_word)
 
 unfoldable pub debug_command : App
-debug_command = with_number port (with_number steps (with_sizes (with_file (new_app (codes "debug")))))
+debug_command = with_number port (with_number steps (with_sizes
+    (with_rule (with_file (new_app (codes "debug"))) (option (codes "trace")))))
 
 unfoldable pub story_command : App
 story_command = replaying (codes "story")
@@ -156,9 +159,12 @@ explore_command =
 
 unfoldable pub hunt_command : App
 hunt_command =
-    with_number start (with_number runs (with_number steps (with_sizes (with_rule (with_file (new_app (codes "hunt"))) (option (codes "trace"))))))
+    with_number start (with_number runs (with_number steps (with_sizes
+    (with_rule (with_rule (with_rule (with_file (new_app (codes "hunt"))) (option (codes "trace")))
+    (flag (codes "overwrite")))
+    (flag (codes "quiet"))))))
 
--- the program, which has a version and is told what to do
+-- the program, which has a version and is reported what to do
 abbrev pub program : App
 program = on_top (λ s. record s { has_version = true; subcommand_required = true }) (new_app (codes "ultra"))
 

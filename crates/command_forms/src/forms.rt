@@ -96,19 +96,19 @@ const WORDS: CommandForm = CommandForm {
 
 const CHECK: CommandForm = CommandForm {
     name: "check",
-    about: "List every fault of a text, each with its line and column, the word and what would be right",
+    about: "List every fault of a text, each with its line, column, word and what would be right",
     arguments: &[TEXT],
     ends: CHECK_ENDS,
 };
 
 const ASM: CommandForm = CommandForm {
     name: "asm",
-    about: "Assemble a text to an image, which says what stands at which address when a machine starts",
+    about: "Assemble a text to an image, which holds the memory of a machine that starts",
     arguments: &[
         TEXT,
         Argument::Path {
             id: "OUT",
-            help: "Where to write the image, an ELF32 file; opened only once the whole text is assembled",
+            help: "Where to write the image, an ELF32 file; opened after the whole text is assembled",
         },
     ],
     ends: ASM_ENDS,
@@ -129,15 +129,15 @@ const RUN: CommandForm = CommandForm {
         Argument::Text {
             name: "trace",
             value: "OUT",
-            help: "Where to write the steps of the run, for `ultra replay`; opened only once the run is over",
+            help: "Where to write the steps of the run, for `ultra replay`; opened after the run is over",
         },
         Argument::Flag {
             name: "sweep",
-            help: "Run by the sweep, on one thread: the same run each time",
+            help: "Run by the sweep, on one thread: every run gives the same result",
         },
         Argument::Flag {
             name: "quiet",
-            help: "Tell nothing of how far the run is, where standard error is a terminal",
+            help: "Show no progress line on a terminal",
         },
         Argument::Number(STAGES),
         Argument::Number(QUEUE),
@@ -158,7 +158,15 @@ const HUNT: CommandForm = CommandForm {
         Argument::Text {
             name: "trace",
             value: "PREFIX",
-            help: "Write a trace for each result, for `ultra replay`, to PREFIX with the run's number and `.trace` behind it",
+            help: "Write a trace for each result, for `ultra replay`, to PREFIX followed by the run's number and `.trace`",
+        },
+        Argument::Flag {
+            name: "overwrite",
+            help: "Overwrite traces that exist; without it the hunt is refused if one does",
+        },
+        Argument::Flag {
+            name: "quiet",
+            help: "Show no progress line on a terminal",
         },
         Argument::Number(STAGES),
         Argument::Number(QUEUE),
@@ -174,25 +182,25 @@ const HUNT: CommandForm = CommandForm {
 
 const EXPLORE: CommandForm = CommandForm {
     name: "explore",
-    about: "Print every final result that an image's program can have on 1 to 64 processors, whatever the schedule",
+    about: "Print every final result that a program can have on 1 to 64 processors, over all schedules",
     arguments: &[
         IMAGE,
         Argument::Text {
             name: "trace",
             value: "OUT",
-            help: "Where to write the steps to the result that --witness names, for `ultra replay`; opened only once they are there",
+            help: "Where to write the steps to the result that --witness names, for `ultra replay`; opened after they are found",
         },
         Argument::Flag {
             name: "each",
-            help: "List every result by itself; processors that stand alike are not exchanged",
+            help: "Print every result by itself; alike processors are not exchanged",
         },
         Argument::Flag {
             name: "every",
-            help: "Explore each k from 0 to 6, whatever --k says, and print a line for each; not with --witness",
+            help: "Explore every k from 0 to 6, and print a line for each; not with --witness",
         },
         Argument::Flag {
             name: "quiet",
-            help: "Tell nothing of how far the search is, where standard error is a terminal",
+            help: "Show no progress line on a terminal",
         },
         Argument::Number(STAGES),
         Argument::Number(QUEUE),
@@ -241,7 +249,7 @@ const STATS: CommandForm = CommandForm {
 
 const PICTURE: CommandForm = CommandForm {
     name: "picture",
-    about: "Draw the machine behind some steps of a trace, as an SVG",
+    about: "Draw the machine after some steps of a trace, as an SVG",
     arguments: &[
         TRACE,
         TRACED_IMAGE,
@@ -253,9 +261,14 @@ const PICTURE: CommandForm = CommandForm {
 
 const DEBUG: CommandForm = CommandForm {
     name: "debug",
-    about: "Wait for a debugger on 127.0.0.1, and carry out its lines on a machine that opens on an image",
+    about: "Wait for a debugger on 127.0.0.1, and serve its commands on a machine that opens on an image",
     arguments: &[
         IMAGE,
+        Argument::Text {
+            name: "trace",
+            value: "OUT",
+            help: "Where to write the steps of the session, for `ultra replay`; opened after the session is over",
+        },
         Argument::Number(STAGES),
         Argument::Number(QUEUE),
         Argument::Number(RECORDS),
@@ -269,7 +282,7 @@ const DEBUG: CommandForm = CommandForm {
 
 const EXPLAIN: CommandForm = CommandForm {
     name: "explain",
-    about: "Tell what a code that ultra prints means, what usually causes it and what to do",
+    about: "Explain what a code that ultra prints means, what usually causes it and what to do",
     arguments: &[Argument::Word {
         id: "CODE",
         help: "A code, as `A3`, a fault's number, as `4`, or a page; without it, all of them are listed",

@@ -13,7 +13,8 @@ use std::alloc::Global;
 ///
 /// A mistake in the words, a request for help or the version, or a lack of memory.
 pub fn matches_of<'a>(alloc: Global, words: &'a [&'a str]) -> Result<ArgMatches<'a>, Error>
-    ensures rows { IfOk result (λ m. subcommand_rows_of m ≡ subcommand_of ultra_command (map (λ w. w.now) words.entry.now)) }
+    ensures rows { IfOk result (λ m. subcommand_rows_of m
+        ≡ subcommand_of ultra_command (map (λ w. w.now) words.entry.now)) }
     ensures kinds { FailsBy (fault_of ultra_command (map (λ w. w.now) words.entry.now)) result }
 {
     ultra_shape(alloc)?.try_get_matches_from(words)

@@ -82,7 +82,7 @@ pub const PORT: NumberOption = NumberOption {
     default: 3333,
     low: 1,
     high: 65_535,
-    help: "Port of 127.0.0.1 at which a debugger is awaited, 1 to 65535 [default: 3333]",
+    help: "Port of 127.0.0.1 for the debugger, 1 to 65535 [default: 3333]",
 };
 
 /// How many steps each run of a hunt may take.
@@ -100,7 +100,7 @@ pub const RUNS: NumberOption = NumberOption {
     default: 1000,
     low: 1,
     high: 1_000_000,
-    help: "Runs that are taken, 1 to 1000000 [default: 1000]",
+    help: "Runs to take, 1 to 1000000 [default: 1000]",
 };
 
 /// With how many states an exploration is given up.
@@ -109,7 +109,7 @@ pub const STATES: NumberOption = NumberOption {
     default: 1_000_000,
     low: 1,
     high: u32::MAX,
-    help: "Give up where as many states as this are found, 1 to 4294967295 [default: 1000000]",
+    help: "Give up when this many states are found, 1 to 4294967295 [default: 1000000]",
 };
 
 /// Where the choices of the threads begin.
@@ -118,7 +118,7 @@ pub const START: NumberOption = NumberOption {
     default: 1,
     low: 0,
     high: u32::MAX,
-    help: "Where the choices of the threads begin, 0 to 4294967295; the sweep makes none [default: 1]",
+    help: "Number from which the choices of the threads start, 0 to 4294967295; the sweep makes none [default: 1]",
 };
 
 /// Where the choices of a hunt's first run begin.
@@ -127,7 +127,7 @@ pub const FIRST_START: NumberOption = NumberOption {
     default: 1,
     low: 0,
     high: u32::MAX,
-    help: "Where the choices of the first run begin, 0 to 4294967295; those of the next begin at the next number [default: 1]",
+    help: "Number of the first run, which decides its choices, 0 to 4294967295; the next run has the next number [default: 1]",
 };
 
 /// An option that takes a number, and has no default.
@@ -162,7 +162,7 @@ pub const STEP: ChoiceOption = ChoiceOption {
     name: "step",
     low: 0,
     high: u32::MAX,
-    help: "Draw the machine behind so many steps, 0 to 4294967295 [default: behind all]",
+    help: "Draw the machine after this many steps, 0 to 4294967295 [default: after all]",
 };
 
 /// The shared word on which the entries act that are asked for.

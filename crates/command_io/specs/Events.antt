@@ -17,8 +17,8 @@ shown_from s (event ∷ events) = shown_from (with_event s event) events
 abbrev pub shown_by : List Event → ShownBy
 shown_by events = shown_from nothing_shown events
 
--- The tally has what each of so many processors has shown in so many steps.
+-- The tally has what each of this many processors has shown in this many steps.
 pub record IsTally (processors : ℕ) (t : TallyState) (events : ℕ → List Event) (steps : ℕ) : Type 0 where
   pub all : length t.shown ≡ processors
   pub each : (p : ℕ) → p < processors → slice_index_or t.shown p nothing_shown ≡ shown_by (events p)
-  pub noted : t.noted ≡ steps
+  pub observed : t.observed ≡ steps

@@ -1,4 +1,4 @@
--- Faults, and the exit statuses that tell them.
+-- Faults, and the exit statuses that say them.
 use Rattle.std.specs.Prelude.{ℕ}
 use Rattle.assembler.specs.declared.fault.AsmError.{AsmError}
 use Rattle.assembler.specs.declared.fault.AsmFault.{AsmFault}
@@ -10,7 +10,8 @@ use Rattle.trace_file.specs.declared.error.TraceError.TheVariants as trace
 use Rattle.command_io.specs.declared.fault.Fault.{Fault}
 use Rattle.command_io.specs.declared.fault.Fault.TheVariants as fault
 
--- the exit status that tells a fault: 2 for a refused input, 3 for a failed link, 4 for want of memory, or a limit that is used up
+-- the exit status that says a fault: 2 for a refused input, 3 for a failed link, 4 if out of memory, or a limit that
+-- is used up
 abbrev pub status_of_fault : Fault → ℕ
 status_of_fault (fault.Line number) = 2
 status_of_fault (fault.Text e) = 2

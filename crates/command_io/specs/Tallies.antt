@@ -20,14 +20,14 @@ nothing_shown = record { retired = 0; console = [] }
 abbrev pub with_retired : ShownBy → (out : Option ℕ) → ShownBy
 with_retired s out = record { retired = s.retired + 1; console = with_byte s.console out }
 
--- what the processors of a machine have shown in so many steps
+-- what the processors of a machine have shown in this many steps
 pub record TallyState : Type 0 where
   pub shown : List ShownBy
-  pub noted : ℕ
+  pub observed : ℕ
 
 -- no processor has shown more than there were steps
 abbrev pub AreFew : TallyState → Type 0
-AreFew t = All (λ (s : ShownBy). s.retired ≤ t.noted) t.shown
+AreFew t = All (λ (s : ShownBy). s.retired ≤ t.observed) t.shown
 
 abbrev pub retired_at : List ShownBy → ℕ → (out : Option ℕ) → Option ShownBy → List ShownBy
 retired_at shown p out None = shown
@@ -39,4 +39,4 @@ shown_after shown (Turn p) (Retired retired) = retired_at shown p retired.out (s
 shown_after shown _ _ = shown
 
 abbrev pub noted_after : TallyState → Step → Outcome → TallyState
-noted_after t s o = record { shown = shown_after t.shown s o; noted = t.noted + 1 }
+noted_after t s o = record { shown = shown_after t.shown s o; observed = t.observed + 1 }

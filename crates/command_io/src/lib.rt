@@ -1,17 +1,18 @@
 //! What the commands of `ultra` share.
 //!
-//! Faults with the exit statuses that tell them, the image that they read and the machine that opens on it, digits, how a text is printed, and a writer that is
-//! opened by its first write. `specs/Printing.antt` says what a command leaves on its output, `specs/Files.antt` what is read of
-//! a file.
+//! Faults with the exit statuses that say them, the image that they read and the machine that opens on it, digits, how
+//! a text is printed, and a writer that is opened by its first write. `specs/Printing.antt` says what a command leaves
+//! on its output, `specs/Files.antt` what is read of a file.
 //!
-//! A [`Tally`] counts what steps answer: for each processor the instructions that retired, and the bytes that it gave to the
-//! console. A report has a line for each processor and one for each shared word that is not zero; here are single lines, and
-//! `specs/Lines.antt` has them as definitions.
+//! A [`Tally`] counts what steps answer: for each processor the instructions that retired, and the bytes that it gave
+//! to the console. A report has a line for each processor and one for each shared word that is not zero; here are
+//! single lines, and `specs/Lines.antt` has them as definitions.
 #![tactic(auto)]
 
 mod digits;
 mod exit;
 mod fault;
+mod fault_text;
 mod input;
 mod lines;
 mod on_first_write;
@@ -21,10 +22,10 @@ mod tally;
 
 pub use digits::{push_bytes, push_status, push_word};
 pub use exit::{DONE, LINK_FAILED, REFUSED, SPENT, STOPPED_BY_FAULT};
-pub use fault::{Fault, tell};
-pub use input::{image_of, machine_of, opened};
+pub use fault::{Fault, report_fault};
+pub use input::{image_in, image_of, machine_of, opened};
 pub use lines::{push_console, push_processor, push_shared_word};
 pub use on_first_write::{CreateAt, OnFirstWrite, Open};
-pub use printing::print;
+pub use printing::{print, write_error, write_error_parts};
 pub use shown::Shown;
 pub use tally::Tally;

@@ -10,7 +10,8 @@ use flat_machine::Status;
 use std::alloc::{AllocError, Global};
 use std::fmt::Write;
 
-/// Appends the line of a processor, of which so many instructions have retired, and which has given these bytes to the console.
+/// Appends the line of a processor, of which this many instructions have retired, and which has given these bytes to
+/// the console.
 ///
 /// # Errors
 ///
@@ -50,7 +51,8 @@ fn push_retired(text: &mut String, retired: u32) -> Result<(), AllocError>
 ///
 /// [`AllocError`] where there is no memory for it.
 pub fn push_console(alloc: Global, text: &mut String, console: &[u8]) -> Result<(), AllocError>
-    ensures { OnOk result (string_bytes text.new ≡ string_bytes text.old ++ codes " console " ++ console_text console.now) }
+    ensures { OnOk result (string_bytes text.new ≡ string_bytes text.old ++ codes " console "
+        ++ console_text console.now) }
 {
     text.push_str(" console ")?;
     if console.is_empty() {

@@ -43,7 +43,7 @@ impl<'a, R: Files> Open for CreateAt<'a, R> {
 
 /// A writer whose device is opened by the first write, so that a command that is refused leaves the device
 /// as it was. A failed opening is a failed write, and the next write opens once more. The device has what it
-/// had when it was opened, and behind that what is written.
+/// had when it was opened, and after that what is written.
 #[derive(Drop)]
 pub struct OnFirstWrite<O: Open + Drop> {
     /// What opens the device.
@@ -69,9 +69,11 @@ impl<O: Open + Drop> Write for OnFirstWrite<O> {
 
     fn write(&mut self, buf: &[u8]) -> io::Result<usize>
         ensures bound { WritesAtMost result buf.now }
-        ensures bytes { WriteAppends (contents_of O.Device.contents self.old.device) (contents_of O.Device.contents self.new.device) result buf.now }
+        ensures bytes { WriteAppends (contents_of O.Device.contents self.old.device)
+            (contents_of O.Device.contents self.new.device) result buf.now }
         ensures open { OnOk result (is_some self.new.device ≡ true) }
-        ensures first { self.old.device ≡ None → IsFirstWrite (O.opens self.old.opener) O.Device.contents self.new.device result buf.now }
+        ensures first { self.old.device ≡ None →
+            IsFirstWrite (O.opens self.old.opener) O.Device.contents self.new.device result buf.now }
     {
         if let Some(device) = &mut self.device {
             return device.write(buf);
@@ -83,7 +85,8 @@ impl<O: Open + Drop> Write for OnFirstWrite<O> {
     }
 
     fn flush(&mut self) -> io::Result<()>
-        ensures bytes { Keeps (contents_of O.Device.contents self.old.device) (contents_of O.Device.contents self.new.device) }
+        ensures bytes { Keeps (contents_of O.Device.contents self.old.device)
+            (contents_of O.Device.contents self.new.device) }
         ensures shut { self.old.device ≡ None → (self.new ≡ self.old) × IsOk result }
     {
         match &mut self.device {

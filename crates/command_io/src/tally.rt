@@ -7,14 +7,14 @@ ghost use Rattle.command_io.specs.Tallies.{ShownBy, TallyState, nothing_shown, n
 use crate::shown::Shown;
 use std::alloc::{AllocError, Global};
 use std::marker::Model;
-use steps::{Notes, Outcome, Step};
+use steps::{Outcome, Step, StepObserver};
 
 /// What each processor of a machine has shown in the steps that are noted.
 #[derive(Debug, Drop)]
 pub struct Tally {
     processors: Vec<Shown>,
     /// How many steps are noted.
-    noted: u32,
+    observed: u32,
 }
 
 impl Model for Tally {
@@ -22,19 +22,19 @@ impl Model for Tally {
 
     ghost Value = { TallyState };
 
-    ghost view = { λ t. record { shown = t.processors.items; noted = t.noted } };
+    ghost view = { λ t. record { shown = t.processors.items; observed = t.observed } };
 
-    ghost invariant = { λ t. AreFew (record { shown = t.processors.items; noted = t.noted }) };
+    ghost invariant = { λ t. AreFew (record { shown = t.processors.items; observed = t.observed }) };
 }
 
 impl Tally {
-    /// The tally of so many processors that have shown nothing.
+    /// The tally of this many processors that have shown nothing.
     ///
     /// # Errors
     ///
     /// [`AllocError`] where there is no memory for it.
     pub fn new(alloc: Global, processors: u8) -> Result<Self, AllocError>
-        ensures { IfOk result (λ t. t ≡ record { shown = replicate processors nothing_shown; noted = 0 }) }
+        ensures { IfOk result (λ t. t ≡ record { shown = replicate processors nothing_shown; observed = 0 }) }
     {
         let mut shown = Vec::new(alloc);
         for _ in 0..processors {
@@ -42,17 +42,17 @@ impl Tally {
         }
         Ok(Tally {
             processors: shown,
-            noted: 0,
+            observed: 0,
         })
     }
 
     /// An instruction of the processor at this place has retired.
     fn retire(&mut self, place: usize, out: Option<u8>) -> Result<(), AllocError>
-        requires small { self.old.noted < 2 ^ 32 }
-        requires few { All (λ (s : ShownBy). s.retired < self.old.noted) self.old.shown }
+        requires small { self.old.observed < 2 ^ 32 }
+        requires few { All (λ (s : ShownBy). s.retired < self.old.observed) self.old.shown }
         ensures shown { OnOk result (self.new ≡ record {
           shown = retired_at self.old.shown place out (slice_get self.old.shown place);
-          noted = self.old.noted;
+          observed = self.old.observed;
         }) }
     {
         if place >= self.processors.len() {
@@ -70,15 +70,15 @@ impl Tally {
 }
 
 /// A tally counts up to 2^32 steps.
-impl Notes for Tally {
+impl StepObserver for Tally {
     ghost use Rattle.std.specs.Prelude.{◌≡◌, ◌<◌, ◌+◌, ◌^◌};
     ghost use Rattle.command_io.specs.Tallies.{noted_after};
 
     type Refusal = AllocError;
 
-    ghost has_room = { λ t more. t.noted + more < 2 ^ 32 };
+    ghost has_room = { λ t more. t.observed + more < 2 ^ 32 };
 
-    ghost noted = { λ old step outcome new. new ≡ noted_after old step outcome };
+    ghost observed = { λ old step outcome new. new ≡ noted_after old step outcome };
 
     /// Notes what a step answered.
     ///
@@ -87,8 +87,8 @@ impl Notes for Tally {
     /// [`AllocError`] where there is no memory for a byte of the console.
     // Of what a step answers little is read.
     #[inline(always)]
-    fn note(&mut self, step: Step, outcome: &Outcome) -> Result<(), AllocError> {
-        self.noted += 1;
+    fn observe(&mut self, step: Step, outcome: &Outcome) -> Result<(), AllocError> {
+        self.observed += 1;
         match (step, *outcome) {
             (Step::Turn(p), Outcome::Retired(retired)) => {
                 self.retire(usize::from(p), retired.out)

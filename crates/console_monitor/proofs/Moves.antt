@@ -1,4 +1,4 @@
--- Each move of a queue keeps its rule, and tells its end what it promises.
+-- Each move of a queue keeps its rule, and says its end what it promises.
 use Rattle.std.proofs.Common.{◌≡◌, ◌≢◌, ℕ, zero, suc, true, false, true≢false, List, [], ◌∷◌, ◌++◌}
 use Rattle.std.proofs.Common.{length, set, sym, refl, ap, ◌∙◌, subst, ⊎_elim, append_assoc}
 use mathlib.Core.Option.{some, some-ne-none}
@@ -30,6 +30,7 @@ all_set F views port w mine others j u e =
 
 -- ---- the moves
 
+-- At first the rule holds: the queue is empty, and its one end puts and takes, and has done neither.
 pub begins : InOrder [] (account true true [] [] ∷ [])
 begins = (
   0,
@@ -41,6 +42,7 @@ begins = (
       (λ j u other e. absurd (other (at_end [] _ u j (λ x. some-ne-none u (sym x)) e))),
 )
 
+-- If an end that puts appends an item to the queue, the rule is kept, and the end has put this item too.
 pub sends : (n port : ℕ) (v : Account) (x : ℕ) → v.puts ≡ true
     → Pushes InOrder n port v x (λ w. w ≡ account v.puts v.takes (v.put ++ x ∷ []) v.taken)
 sends n port v x may items views _ h at =
@@ -60,6 +62,7 @@ sends n port v x may items views _ h at =
       refl,
     )
 
+-- If an end that takes removes the first item of the queue, the rule is kept, and the end has taken this item too.
 pub gets : (port : ℕ) (v : Account) → v.takes ≡ true
     → Pops InOrder port v (λ x w. w ≡ account v.puts v.takes v.put (v.taken ++ x ∷ []))
 gets port v may x items views h at =
@@ -79,6 +82,7 @@ gets port v may x items views h at =
       refl,
     )
 
+-- An end that puts and takes may be split into one that puts and one that takes.
 pub forks : (port : ℕ) (v : Account) → v.puts ≡ true → v.takes ≡ true
     → Forks InOrder port v (account true false v.put []) (account false true [] v.taken)
 forks port v a b items views h at =
@@ -104,6 +108,7 @@ forks port v a b items views h at =
           (at_snoc vs r u j e),
     )
 
+-- An end that puts may take over another that takes, and then does both; the other then does neither.
 pub merges : (port : ℕ) (v : Account) (other : ℕ) (u : Account) → v.puts ≡ true → u.takes ≡ true
     → Merges InOrder port v other u (account true true v.put u.taken) (account false false [] [])
 merges port v other u a b items views h at two at' =
@@ -128,6 +133,7 @@ merges port v other u a b items views h at two at' =
 
 -- ---- what an end learns
 
+-- An end that puts and takes learns that it put what it took, followed by what is in the queue.
 pub totals : (port : ℕ) (v : Account) → v.puts ≡ true → v.takes ≡ true → Learns InOrder port v (λ items. v.put ≡ v.taken ++ items)
 totals port v a b items views h at = let mine = h.5 port v at in (mine.0 a).1 ∙ h.4 ∙ ap (λ l. l ++ items) (sym (mine.1 b).1)
 

@@ -1,5 +1,6 @@
 //! All queues together.
-ghost use Rattle.std.specs.Prelude.{◌≡◌, ◌<◌, [], ◌∷◌, ◌++◌, length, map, replicate, vec_len, MatchOption, IfOk, slice_set};
+ghost use Rattle.std.specs.Prelude.{◌≡◌, ◌<◌, [], ◌∷◌, ◌++◌, length, map, replicate, vec_len, MatchOption, IfOk};
+ghost use Rattle.std.specs.Prelude.{slice_set};
 ghost use Rattle.console_monitor.specs.Ends.{
   put_of,
   taken_of,
@@ -75,7 +76,8 @@ impl Monitor {
     ) -> Result<Vec<Vec<u8>>, ConsoleRefusal>
         requires { map (λ e. sender_queue e.sender) ends.items ≡ queues_of self }
         ensures count { IfOk result (λ rests. vec_len rests ≡ vec_len ends) }
-        ensures whole { IfOk result (λ rests. joined (takens_of self) (map (λ v. v.items) rests.items) ≡ map sent_by ends.items) }
+        ensures whole { IfOk result (λ rests. joined (takens_of self) (map (λ v. v.items) rests.items)
+            ≡ map sent_by ends.items) }
     {
         let mut rests = Vec::new(alloc);
         for (end, inlet) in ends.into_iter().zip(self.inlets) {

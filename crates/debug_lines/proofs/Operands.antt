@@ -1,4 +1,4 @@
--- Operands are cut at just the spaces behind them, and read as they are spelled.
+-- Operands are cut at just the spaces after them, and read as they are spelled.
 use Rattle.std.proofs.Common.{◌≡◌, ◌≢◌, ℕ, ◌≤◌, List, [], ◌∷◌, ◌++◌, length, refl, ap, ◌∙◌, true, false, subst, inl, inr}
 use Rattle.std.proofs.lemmas.Bool.{and_parts, leb-true, le-leb, cases_Bool, eqb-true}
 use Rattle.std.proofs.lemmas.Option.{option_and_then_some, none-some, same_Some}
@@ -39,7 +39,7 @@ pub cut-read : (line : List ℕ) → line ≡ whole (cut_at_space line).0 (cut_a
 cut-read [] = refl
 cut-read (b ∷ line) = cut-read-cons b line (cut-read line) (cases_Bool (b == 32))
 
--- ---- a number and what is behind it
+-- ---- a number and what is after it
 
 pub operand-written : (a rest : List ℕ) (n : ℕ) → IsNumber a n → operand_of (a ++ 32 ∷ rest) ≡ Some (n, rest)
 unfolding operand_of

@@ -1,5 +1,6 @@
 -- The command of a line, arm by arm. `Spelling.antt` says it as a relation.
-use Rattle.std.specs.Prelude.{ℕ, List, length, Option, Some, None, nat_le, ◌&&◌, if◌then◌else◌, unwrap_or, option_and_then}
+use Rattle.std.specs.Prelude.{ℕ, List, length, Option, Some, None, nat_le, ◌&&◌, if◌then◌else◌, unwrap_or}
+use Rattle.std.specs.Prelude.{option_and_then}
 use Rattle.std.specs.Option.{option_map}
 use Rattle.debug_lines.specs.declared.word.Word.{Word}
 use Rattle.debug_lines.specs.declared.word.Word.TheVariants as word
@@ -16,7 +17,8 @@ register_of rest = option_and_then (λ p. option_map (λ r. Register p.0 r) (num
 
 unfoldable pub set_of : List ℕ → Option Command
 set_of rest =
-    option_and_then (λ p. option_and_then (λ r. option_map (λ v. Set p.0 r.0 v) (number_of r.1)) (operand_of p.1)) (operand_of rest)
+    option_and_then (λ p. option_and_then (λ r. option_map (λ v. Set p.0 r.0 v) (number_of r.1)) (operand_of p.1))
+    (operand_of rest)
 
 -- 1 to 512 bytes
 abbrev pub shown : (p address length : ℕ) → Option Command
@@ -24,15 +26,17 @@ shown p address length = if nat_le 1 length && nat_le length 512 then Some (Memo
 
 unfoldable pub memory_of : List ℕ → Option Command
 memory_of rest =
-    option_and_then (λ p. option_and_then (λ a. option_and_then (λ n. shown p.0 a.0 n) (number_of a.1)) (operand_of p.1)) (operand_of rest)
+    option_and_then (λ p. option_and_then (λ a. option_and_then (λ n. shown p.0 a.0 n) (number_of a.1))
+    (operand_of p.1)) (operand_of rest)
 
 unfoldable pub write_of : List ℕ → Option Command
 write_of rest =
-    option_and_then (λ p. option_and_then (λ a. option_map (λ bytes. Write p.0 a.0 bytes) (bytes_of a.1)) (operand_of p.1)) (operand_of rest)
+    option_and_then (λ p. option_and_then (λ a. option_map (λ bytes. Write p.0 a.0 bytes) (bytes_of a.1))
+    (operand_of p.1)) (operand_of rest)
 
 -- ---- lines
 
--- a word with what is behind its space
+-- a word with what is after its space
 abbrev pub with_operands : Word → List ℕ → Option Command
 with_operands word.State rest = option_map State (number_of rest)
 with_operands word.Regs rest = option_map Registers (number_of rest)

@@ -3,7 +3,7 @@ use Rattle.std.specs.Prelude.{◌≡◌, ◌≢◌, ℕ, List, [], ◌∷◌, �
 use Rattle.debug_lines.specs.declared.reader.Event.{Event}
 use Rattle.debug_lines.specs.declared.reader.Event.TheVariants.{Line, TooLong}
 
--- the bytes behind the last line feed, where over 1,024 of them count as one rest
+-- the bytes after the last line feed, where over 1,024 of them count as one rest
 abbrev pub Held : Type 0
 Held = Option (List ℕ)
 

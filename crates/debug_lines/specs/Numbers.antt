@@ -1,9 +1,10 @@
 -- Numbers and bytes in hex digits of either case, and the parts of a line round a space.
-use Rattle.std.specs.Prelude.{ℕ, ◌+◌, ◌*◌, List, [], ◌∷◌, length, Option, Some, None, nat_le, ◌==◌, ◌&&◌, if◌then◌else◌, option_and_then, Result, Ok, Err}
+use Rattle.std.specs.Prelude.{ℕ, ◌+◌, ◌*◌, List, [], ◌∷◌, length, Option, Some, None, nat_le, ◌==◌, ◌&&◌, if◌then◌else◌}
+use Rattle.std.specs.Prelude.{option_and_then, Result, Ok, Err}
 use Rattle.hex.specs.Hex.{hex_digit_value, decode_of}
 use Rattle.hex.specs.declared.error.FromHexError.{FromHexError}
 
--- the number of digits behind digits of this number
+-- the number of digits after digits of this number
 abbrev pub number_from : ℕ → List ℕ → Option ℕ
 number_from n [] = Some n
 number_from n (b ∷ digits) = option_and_then (λ d. number_from (16 * n + d) digits) (hex_digit_value b)
@@ -12,7 +13,7 @@ number_from n (b ∷ digits) = option_and_then (λ d. number_from (16 * n + d) d
 unfoldable pub number_of : List ℕ → Option ℕ
 number_of digits = if nat_le 1 (length digits) && nat_le (length digits) 8 then number_from 0 digits else None
 
--- the bytes before the first space, and those behind it where there is one
+-- the bytes before the first space, and those after it where there is one
 abbrev pub onto_word : ℕ → List ℕ × Option (List ℕ) → List ℕ × Option (List ℕ)
 onto_word b parts = (b ∷ parts.0, parts.1)
 
@@ -20,10 +21,11 @@ abbrev pub cut_at_space : List ℕ → List ℕ × Option (List ℕ)
 cut_at_space [] = ([], None)
 cut_at_space (b ∷ bytes) = if b == 32 then ([], Some bytes) else onto_word b (cut_at_space bytes)
 
--- a number, and what is behind the space behind it
+-- a number, and what is after the space after it
 unfoldable pub operand_of : List ℕ → Option (ℕ × List ℕ)
 operand_of bytes =
-    option_and_then (λ rest. option_and_then (λ n. Some (n, rest)) (number_of (cut_at_space bytes).0)) (cut_at_space bytes).1
+    option_and_then (λ rest. option_and_then (λ n. Some (n, rest)) (number_of (cut_at_space bytes).0))
+    (cut_at_space bytes).1
 
 -- the bytes, where digits are those of bytes
 abbrev pub decoded : Result (List ℕ) FromHexError → Option (List ℕ)

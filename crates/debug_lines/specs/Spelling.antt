@@ -21,7 +21,8 @@ pub record IsNumber (digits : List ℕ) (n : ℕ) : Type 0 where
 abbrev pub AreBytes : List ℕ → List ℕ → Type 0
 AreBytes digits [] = digits ≡ []
 AreBytes digits (byte ∷ bytes) =
-    (high : ℕ) × (low : ℕ) × (rest : List ℕ) × (digits ≡ high ∷ low ∷ rest) × AreDigitsOf (high ∷ low ∷ []) byte × AreBytes rest bytes
+    (high : ℕ) × (low : ℕ) × (rest : List ℕ) × (digits ≡ high ∷ low ∷ rest) × AreDigitsOf (high ∷ low ∷ []) byte
+    × AreBytes rest bytes
 
 -- two parts with exactly one space between them
 abbrev pub spaced : List ℕ → List ℕ → List ℕ
@@ -31,9 +32,11 @@ spaced a b = a ++ 32 ∷ b
 abbrev pub IsSpelling : List ℕ → Command → Type 0
 IsSpelling line (State p) = (a : List ℕ) × IsNumber a p × (line ≡ codes "state " ++ a)
 IsSpelling line (Registers p) = (a : List ℕ) × IsNumber a p × (line ≡ codes "regs " ++ a)
-IsSpelling line (Register p r) = (a : List ℕ) × (b : List ℕ) × IsNumber a p × IsNumber b r × (line ≡ codes "reg " ++ spaced a b)
+IsSpelling line (Register p r) = (a : List ℕ) × (b : List ℕ) × IsNumber a p × IsNumber b r
+    × (line ≡ codes "reg " ++ spaced a b)
 IsSpelling line (Set p r v) =
-    (a : List ℕ) × (b : List ℕ) × (c : List ℕ) × IsNumber a p × IsNumber b r × IsNumber c v × (line ≡ codes "set " ++ spaced a (spaced b c))
+    (a : List ℕ) × (b : List ℕ) × (c : List ℕ) × IsNumber a p × IsNumber b r × IsNumber c v
+    × (line ≡ codes "set " ++ spaced a (spaced b c))
 IsSpelling line (Memory p address n) =
     (a : List ℕ) × (b : List ℕ) × (c : List ℕ) × IsNumber a p × IsNumber b address × IsNumber c n
     × (line ≡ codes "mem " ++ spaced a (spaced b c)) × (1 ≤ n) × (n ≤ 512)

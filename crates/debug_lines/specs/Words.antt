@@ -2,7 +2,8 @@
 use Rattle.std.specs.Prelude.{ℕ, List, [], ◌∷◌, Option, codes, find}
 use Rattle.std.specs.Str.{bytes_eq}
 use Rattle.debug_lines.specs.declared.word.Word.{Word}
-use Rattle.debug_lines.specs.declared.word.Word.TheVariants.{State, Regs, Reg, Set, Mem, Write, Break, Clear, Step, Cont, Quit}
+use Rattle.debug_lines.specs.declared.word.Word.TheVariants.{State, Regs, Reg, Set, Mem, Write, Break, Clear, Step}
+use Rattle.debug_lines.specs.declared.word.Word.TheVariants.{Cont, Quit}
 
 -- how a word is written
 abbrev pub name_of : Word → List ℕ

@@ -1,7 +1,8 @@
 //! The command that a line asks for.
 
 ghost use Rattle.std.specs.Prelude.{◌≡◌, ◌≤◌, length};
-ghost use Rattle.debug_lines.specs.Commands.{alone_of, command_of, listed_of, with_operands, register_of, set_of, memory_of, write_of};
+ghost use Rattle.debug_lines.specs.Commands.{alone_of, command_of, listed_of, with_operands, register_of, set_of};
+ghost use Rattle.debug_lines.specs.Commands.{memory_of, write_of};
 ghost use Rattle.debug_lines.specs.declared.word.Word.TheVariants as word;
 
 use crate::number::{cut, number, operand};
@@ -108,7 +109,7 @@ fn alone(word: Word) -> Option<Command>
     }
 }
 
-/// The command of a word with what is behind its space.
+/// The command of a word with what is after its space.
 fn of_operands(word: Word, rest: &[u8]) -> Option<Command>
     requires { length rest.now ≤ 1024 }
     ensures { result ≡ with_operands word rest.now }

@@ -18,5 +18,6 @@ pub fn one_reading()
 pub fn commands_are_spelled()
     ensures spelled_is_read { (line : List ℕ) (command : Command) → Spells line command → command_of line ≡ command }
     ensures read_is_spelled { (line : List ℕ) → command_of line ≢ Command.Malformed → Spells line (command_of line) }
-    ensures others_are_malformed { (line : List ℕ) → ((command : Command) → Spells line command → ⊥) → command_of line ≡ Command.Malformed }
+    ensures others_are_malformed { (line : List ℕ) → ((command : Command) → Spells line command → ⊥) →
+        command_of line ≡ Command.Malformed }
 {}

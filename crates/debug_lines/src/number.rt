@@ -8,7 +8,7 @@ ghost use Rattle.debug_lines.specs.Numbers.{number_of, operand_of, cut_at_space}
 /// The most digits that a number has.
 const MAX_DIGITS: usize = 8;
 
-/// The bytes before the first space, and those behind it where there is one.
+/// The bytes before the first space, and those after it where there is one.
 pub(crate) fn cut(bytes: &[u8]) -> (&[u8], Option<&[u8]>)
     ensures word { result.0.now ≡ (cut_at_space bytes.now).0 }
     ensures rest { option_map (λ x. x.now) result.1 ≡ (cut_at_space bytes.now).1 }
@@ -22,7 +22,7 @@ pub(crate) fn cut(bytes: &[u8]) -> (&[u8], Option<&[u8]>)
     (bytes, None)
 }
 
-/// A number, and what is behind the space behind it.
+/// A number, and what is after the space after it.
 #[tactic(auto, unfolding(crate::specs::Numbers::operand_of))]
 pub(crate) fn operand(bytes: &[u8]) -> Option<(u32, &[u8])>
     ensures value { option_map (λ x. (x.0, x.1.now)) result ≡ operand_of bytes.now }

@@ -1,6 +1,7 @@
 //! The lines of a stream of bytes that comes in pieces.
 
-ghost use Rattle.std.specs.Prelude.{List, slice_index, ◌+◌, ◌≡◌, ◌≤◌, ◌<◌, ℕ, [], ◌∷◌, ◌++◌, length, take, IsSome, IfSome, IfNone, option_to_list};
+ghost use Rattle.std.specs.Prelude.{List, slice_index, ◌+◌, ◌-◌, ◌≡◌, ◌≤◌, ◌<◌, ℕ, [], ◌∷◌, ◌++◌, length, take, IsSome};
+ghost use Rattle.std.specs.Prelude.{IfSome, IfNone, option_to_list};
 ghost use Rattle.debug_lines.specs.Lines.{IsAfter, IsUnbroken, held_of, held_more, event_of_held};
 
 use arrayvec::ArrayVec;
@@ -44,7 +45,7 @@ pub enum Event {
     TooLong,
 }
 
-/// Finds the lines of a stream. It keeps what came behind the last line feed: at most 1,024 bytes, or the fact that
+/// Finds the lines of a stream. It keeps what came after the last line feed: at most 1,024 bytes, or the fact that
 /// there were more.
 #[derive(Debug, Drop)]
 pub struct LineReader {
@@ -71,12 +72,14 @@ impl LineReader {
         }
     }
 
-    /// Takes bytes until an event is whole, which is at its line feed. Without an event all bytes of the piece are
-    /// taken. Says how many were.
+    /// Takes bytes until an event is whole, which is at its line feed, and none after it. Without an event all bytes
+    /// of the piece are taken. Says how many were.
     pub fn feed(&mut self, piece: &[u8]) -> (usize, Option<Event>)
         ensures within { result.0 ≤ length piece.now }
         ensures all { IfNone result.1 (result.0 ≡ length piece.now) }
         ensures some { IsSome result.1 → 0 < result.0 }
+        ensures at_line_feed { IsSome result.1 → (slice_index piece.now (result.0 - 1) ≡ 10)
+            × IsUnbroken (take (result.0 - 1) piece.now) }
         // Whatever came before: the events of all the bytes so far are those so far and this one.
         ensures events { (bytes : List ℕ) (events : List Event) → IsAfter bytes events self.old
             → IsAfter (bytes ++ take result.0 piece.now) (events ++ option_to_list result.1) self.new }
@@ -130,7 +133,8 @@ pub fn pack(bytes: &[u8], packed: &mut ArrayVec<u8, 1025>)
 /// The place of the first line feed.
 fn find_line_feed(bytes: &[u8]) -> Option<usize>
     ensures none { IfNone result (IsUnbroken bytes.now) }
-    ensures some { IfSome result (λ at. (at < length bytes.now) × IsUnbroken (take at bytes.now) × (slice_index bytes.now at ≡ 10)) }
+    ensures some { IfSome result (λ at. (at < length bytes.now) × IsUnbroken (take at bytes.now)
+        × (slice_index bytes.now at ≡ 10)) }
 {
     for (i, byte) in bytes.iter().enumerate() {
         if *byte == LINE_FEED {

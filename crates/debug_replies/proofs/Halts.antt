@@ -8,6 +8,7 @@ and_false : (b : Bool) → (b && false) ≡ false
 and_false true = refl
 and_false false = refl
 
+-- If one of the first n processors is not halted, not all of them are.
 pub one_goes_on : (m : FlatState) (i n : ℕ) → i < n → is_halted_at m i ≡ false → are_halted m n ≡ false
 one_goes_on m i zero below none = absurd (omega arith)
 one_goes_on m i (suc n) below none = by (cases_eq i n) (λ before. one_goes_on m i n before none)

@@ -8,6 +8,7 @@ and_false : (b : Bool) → (b && false) ≡ false
 and_false true = refl
 and_false false = refl
 
+-- If one address of a range is not reached, not all of them are.
 pub one_is_not : (m : FlatState) (writes : Bool) (address i n : ℕ) → i < n → is_reached m writes (address + i) ≡ false → are_reached m writes address n ≡ false
 one_is_not m writes address i zero below none = absurd (omega arith)
 one_is_not m writes address i (suc n) below none = by (cases_eq i n) (λ before. one_is_not m writes address i n before none)

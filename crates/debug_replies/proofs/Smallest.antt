@@ -4,6 +4,7 @@ use Rattle.std.specs.Prelude.{if◌then◌else◌}
 use Rattle.std.proofs.lemmas.Bool.{cases_eq}
 use Rattle.debug_replies.specs.Stops.{or_else, smallest}
 
+-- If a number below n passes the test, and none below it does, it is the smallest below n that does.
 pub smallest_is : (test : ℕ → Bool) (i n : ℕ) → i < n → smallest test i ≡ None → test i ≡ true → smallest test n ≡ Some i
 smallest_is test i zero below none passes = absurd (omega arith)
 smallest_is test i (suc n) below none passes = by (cases_eq i n) (λ before. smallest_is test i n before none passes)

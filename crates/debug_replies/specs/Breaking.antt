@@ -1,5 +1,6 @@
 -- The breaks of a session, as flags of the code words in the order of their addresses.
-use Rattle.std.specs.Prelude.{ℕ, ◌/◌, ◌%◌, ◌^◌, Bool, false, ◌&&◌, List, Option, Some, None, slice_index_or, slice_set, if◌then◌else◌}
+use Rattle.std.specs.Prelude.{ℕ, ◌/◌, ◌%◌, ◌^◌, Bool, false, ◌&&◌, List, Option, Some, None, slice_index_or, slice_set}
+use Rattle.std.specs.Prelude.{if◌then◌else◌}
 use Rattle.flat_machine.specs.Memory.{in_code, is_aligned}
 
 -- an address of code that is divisible by 4

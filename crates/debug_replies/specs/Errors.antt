@@ -10,7 +10,7 @@ use Rattle.debug_replies.specs.Breaking.{is_code_word}
 use Rattle.debug_replies.specs.declared.error.Error.{Error}
 use Rattle.debug_replies.specs.declared.error.Error.TheVariants as error
 
--- how an error is told
+-- how an error is reported
 abbrev pub error_text : Error → List ℕ
 error_text error.Form = codes "E01"
 error_text error.Address = codes "E02"

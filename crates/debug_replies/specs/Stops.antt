@@ -21,7 +21,7 @@ is_halted_status (Some status) = is_halted status
 abbrev pub is_halted_at : FlatState → (p : ℕ) → Bool
 is_halted_at m p = is_halted_status (option_map (λ (q : Processor). q.status) (slice_get m.processors p))
 
--- the first so many processors are halted
+-- the first this many processors are halted
 abbrev pub are_halted : FlatState → (n : ℕ) → Bool
 are_halted m zero = true
 are_halted m (suc n) = are_halted m n && is_halted_at m n
@@ -83,11 +83,12 @@ abbrev pub smallest : (test : ℕ → Bool) → (n : ℕ) → Option ℕ
 smallest test zero = None
 smallest test (suc n) = or_else (smallest test n) (if test n then Some n else None)
 
--- The smallest processor that stands at a break; else the smallest that a fault has stopped, where none had stopped it before;
--- else none.
+-- The smallest processor that stands at a break; else the smallest that a fault has stopped, where none had stopped it
+-- before; else none.
 unfoldable pub named_stop : (before : ℕ → Bool) → FlatState → (breaks : List Bool) → Option ℕ
 named_stop before m breaks =
-    or_else (smallest (is_at_break breaks m) (length m.processors)) (smallest (is_newly_faulted before m) (length m.processors))
+    or_else (smallest (is_at_break breaks m) (length m.processors))
+    (smallest (is_newly_faulted before m) (length m.processors))
 
 -- ---- with a flag for each processor
 

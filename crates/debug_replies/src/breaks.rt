@@ -41,7 +41,8 @@ impl Breaks {
     pub fn set(&mut self, address: u32) -> bool
         ensures there { result ≡ is_code_word address }
         ensures flags { self.new ≡ with_flag self.old address true }
-        ensures breaks { (a : ℕ) → is_break self.new a ≡ (if a == address && is_code_word a then true else is_break self.old a) }
+        ensures breaks { (a : ℕ) →
+            is_break self.new a ≡ (if a == address && is_code_word a then true else is_break self.old a) }
     {
         self.write(address, true)
     }
@@ -72,7 +73,8 @@ impl Breaks {
     fn write(&mut self, address: u32, flag: bool) -> bool
         ensures there { result ≡ is_code_word address }
         ensures flags { self.new ≡ with_flag self.old address flag }
-        ensures breaks { (a : ℕ) → is_break self.new a ≡ (if a == address && is_code_word a then flag else is_break self.old a) }
+        ensures breaks { (a : ℕ) →
+            is_break self.new a ≡ (if a == address && is_code_word a then flag else is_break self.old a) }
     {
         match word_place(address) {
             Some(place) => {

@@ -1,7 +1,8 @@
 //! The errors of commands.
 
 ghost use Rattle.std.specs.Prelude.{◌≡◌, ◌≤◌, ◌<◌, ◌+◌, ◌^◌, length};
-ghost use Rattle.debug_replies.specs.Errors.{error_of, error_text, has_addresses, is_malformed, is_range, is_reached, processor_of, register_of};
+ghost use Rattle.debug_replies.specs.Errors.{error_of, error_text, has_addresses, is_malformed, is_range, is_reached};
+ghost use Rattle.debug_replies.specs.Errors.{processor_of, register_of};
 ghost use Rattle.machine_steps.specs.Runs.{flat_state};
 
 use crate::breaks::is_code_word;
@@ -31,7 +32,7 @@ pub enum Error {
 }
 
 impl Error {
-    /// How the error is told.
+    /// How the error is reported.
     pub fn text(self) -> &'static str
         ensures { result.now ≡ error_text self }
     {
@@ -106,7 +107,7 @@ fn has_addresses(machine: &Machine, command: &Command) -> bool
     }
 }
 
-/// Whether each of so many addresses is one of a region, which is written or only read.
+/// Whether each of this many addresses is one of a region, which is written or only read.
 #[tactic(auto, unfolding(crate::specs::Errors::is_range))]
 fn is_range(machine: &Machine, address: u32, count: u32, writes: bool) -> bool
     ensures { result ≡ is_range (flat_state machine.now) writes address count }

@@ -4,7 +4,8 @@ ghost use Rattle.std.specs.Prelude.{◌≡◌, ◌≤◌, ◌+◌, ◌++◌, len
 ghost use Rattle.arrayvec.specs.ArrayVec.{array_vec_len};
 ghost use Rattle.machine_steps.specs.Machines.{AreHome};
 ghost use Rattle.machine_steps.specs.Runs.{flat_state};
-ghost use Rattle.debug_replies.specs.Texts.{memory_text, register_at, register_text, registers_text, shown_text, state_text};
+ghost use Rattle.debug_replies.specs.Texts.{memory_text, register_at, register_text, registers_text, shown_text};
+ghost use Rattle.debug_replies.specs.Texts.{state_text};
 
 use crate::digits::{push, push_byte, push_status, push_word, push_words};
 use crate::error::MAX_SHOWN;

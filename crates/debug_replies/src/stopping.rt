@@ -101,8 +101,8 @@ fn has_halted(status: Status) -> bool
     matches!(status, Status::Halted(_))
 }
 
-/// The processor that the stop reply of `cont` names: the smallest that runs and stands at a break; else the smallest that a
-/// fault has stopped, where none had stopped it before; else none.
+/// The processor that the stop reply of `cont` names: the smallest that runs and stands at a break; else the smallest
+/// that a fault has stopped, where none had stopped it before; else none.
 #[tactic(auto, unfolding(crate::specs::Stops::named_stop))]
 pub fn named_stop(machine: &Machine, breaks: &Breaks, before: &Faults) -> Option<u8>
     requires home { AreHome machine.now }
@@ -117,7 +117,8 @@ pub fn named_stop(machine: &Machine, breaks: &Breaks, before: &Faults) -> Option
 /// The smallest processor that stands at a break.
 fn first_at_break(machine: &Machine, breaks: &Breaks) -> Option<u8>
     requires home { AreHome machine.now }
-    ensures { result ≡ smallest (is_at_break breaks.now (flat_state machine.now)) (length (flat_state machine.now).processors) }
+    ensures { result
+        ≡ smallest (is_at_break breaks.now (flat_state machine.now)) (length (flat_state machine.now).processors) }
 {
     for processor in 0..flat_processors(machine) {
         if is_at_break(machine, breaks, processor) {
@@ -130,7 +131,9 @@ fn first_at_break(machine: &Machine, breaks: &Breaks) -> Option<u8>
 /// The smallest processor that a fault has stopped, and none before.
 fn first_faulted(machine: &Machine, before: &Faults) -> Option<u8>
     requires home { AreHome machine.now }
-    ensures { result ≡ smallest (is_newly_faulted (is_flagged before.now) (flat_state machine.now)) (length (flat_state machine.now).processors) }
+    ensures { result
+        ≡ smallest (is_newly_faulted (is_flagged before.now) (flat_state machine.now))
+        (length (flat_state machine.now).processors) }
 {
     for processor in 0..flat_processors(machine) {
         if is_faulted(machine, processor) && !before.contains(processor) {

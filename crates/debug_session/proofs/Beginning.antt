@@ -1,10 +1,10 @@
 -- A session that was begun, and one that was not.
-use Rattle.std.proofs.Common.{◌≡◌, ◌∙◌, ℕ, List, Option, subst}
+use Rattle.std.proofs.Common.{◌≡◌, ◌∙◌, ℕ, List, Option, ap, subst}
 use Rattle.flat_machine.specs.declared.config.Config.{Config}
 use Rattle.machine_steps.specs.elf_image.Files.{IsImageOf}
 use Rattle.machine_steps.specs.elf_image.Images.{ImageContents}
 use Rattle.machine_steps.specs.Machines.{MachineLists}
-use Rattle.machine_steps.specs.Runs.{IsOpening}
+use Rattle.machine_steps.specs.Runs.{IsOpening, IsReplay}
 use Rattle.machine_log.specs.Logs.{Log}
 use Rattle.command_io.specs.declared.fault.Fault.{Fault}
 use Rattle.command_io.specs.declared.fault.Fault.TheVariants as fault
@@ -14,6 +14,8 @@ use Rattle.debug_session.specs.Conversations.{HasServed, IsServed}
 use Rattle.debug_session.specs.declared.session_end.SessionEnd.{SessionEnd}
 use Rattle.debug_session.specs.declared.session_end.SessionEnd.TheVariants.{Quit, EndOfInput, ReadFailed, WriteFailed, Memory, TraceFull}
 use Rattle.debug_session.specs.Sessions.{IsNoSession, IsSession, opened}
+use Rattle.debug_session.specs.Sweeps.{sweep_spec}
+use Rattle.debug_session.proofs.Opened.{opens_alike}
 
 whichever : (end : SessionEnd) (A B C : Type 0) → IsServed end A (Unit {0}) → IsServed end (Unit {0}) B → (B → C) → IsServed end A C
 whichever Quit A B C a b f = a
@@ -23,27 +25,50 @@ whichever WriteFailed A B C a b f = a
 whichever Memory A B C a b f = f b
 whichever TraceFull A B C a b f = f b
 
+whoever : (end : SessionEnd) (A B C : Type 0) → IsServed end A (Unit {0}) → IsServed end (Unit {0}) B → (A → C) → (B → C) → C
+whoever Quit A B C a b f g = f a
+whoever EndOfInput A B C a b f g = f a
+whoever ReadFailed A B C a b f g = f a
+whoever WriteFailed A B C a b f g = f a
+whoever Memory A B C a b f g = g b
+whoever TraceFull A B C a b f g = g b
+
 -- a session on a log that was just begun
-pub session : {R W : Type 0} (gives : R × W → Type 0) (remaining : R → Option (List ℕ)) (contents : W → Option (List ℕ)) (c : Config)
-    (known : Option (List ℕ)) (image : ImageContents) (opening : MachineLists) (old new : Log) (link : R × W) (reader : R) (writer : W) (end : SessionEnd) →
-    IsImageOf c.shared_words known image → IsOpening c image opening → old ≡ opened opening → gives link →
-    IsServed end (HasServed (remaining link.0) (remaining reader) (contents link.1) (contents writer) old new end) (Unit {0}) →
-    IsServed end (Unit {0}) ((reader ≡ link.0) × (writer ≡ link.1) × (new ≡ old)) → IsSession gives remaining contents c known end new
-session gives remaining contents c known image opening old new link reader writer end meant opens begun given served refused = record {
-  image = image;
-  meant = meant;
-  opening = opening;
-  opens = opens;
-  link = link;
-  given = given;
-  reader = reader;
-  writer = writer;
-  served =
-      whichever end (HasServed (remaining link.0) (remaining reader) (contents link.1) (contents writer) (opened opening) new end)
-      ((reader ≡ link.0) × (writer ≡ link.1) × (new ≡ old)) (new ≡ opened opening)
-      (subst (λ l. IsServed end (HasServed (remaining link.0) (remaining reader) (contents link.1) (contents writer) l new end) (Unit {0})) begun served)
-      refused (λ same. same.2 ∙ begun);
-}
+module _ {R W : Type 0} (gives : R × W → Type 0) (remaining : R → Option (List ℕ)) (contents : W → Option (List ℕ)) (c : Config)
+    (budget : ℕ) (known : Option (List ℕ)) (image : ImageContents) (opening : MachineLists) (old new : Log) (link : R × W) (reader : R) (writer : W)
+    (end : SessionEnd) where
+  abbrev Served : Log → Type 0
+  Served old = HasServed (sweep_spec budget) (remaining link.0) (remaining reader) (contents link.1) (contents writer) old new end
+
+  abbrev Refused : Type 0
+  Refused = (reader ≡ link.0) × (writer ≡ link.1) × (new ≡ old)
+
+  -- A session on a log that was just opened, begun or refused, is a session of the command.
+  pub session : IsImageOf c.shared_words known image → IsOpening c image opening → old ≡ opened opening → gives link →
+      IsServed end (Served old) (Unit {0}) → IsServed end (Unit {0}) Refused → IsReplay new.opening new.steps new.machine →
+      IsSession gives remaining contents c budget known end new
+  session meant opens begun given served refused replay = record {
+    image = image;
+    meant = meant;
+    opening = opening;
+    opens = opens;
+    link = link;
+    given = given;
+    opening_is = opening_is;
+    replay = subst (λ (m : MachineLists). IsReplay m new.steps new.machine) opening_is replay;
+    reader = reader;
+    writer = writer;
+    served =
+        whichever end (Served (opened opening)) Refused (new ≡ opened opening)
+        (subst (λ (l : Log). IsServed end (Served l) (Unit {0})) begun served) refused (λ same. same.2 ∙ begun);
+  }
+    where
+      opening_is : new.opening ≡ opening
+      opening_is =
+          whoever end (Served old) Refused (new.opening ≡ old.opening) served refused
+          (opens_alike (sweep_spec budget) (remaining link.0) (remaining reader) (contents link.1) (contents writer) old new end)
+          (λ same. ap (λ (l : Log). l.opening) same.2)
+          ∙ ap (λ (l : Log). l.opening) begun
 
 -- the image is refused
 pub no_image : (c : Config) (known : Option (List ℕ)) (f : Fault) → IsFaultOfImage c.shared_words known f → IsNoSession c known f

@@ -4,6 +4,7 @@ use Rattle.std.specs.Prelude.{◌&&◌, replicate, slice_index_or, if◌then◌e
 use Rattle.std.proofs.Math.Nat.{pow-le-pow_right}
 use Rattle.std.proofs.lemmas.Bool.{ltb-true}
 
+-- With at most 6 stages, the number of a processor is below 64.
 pub below_64 : (k p : ℕ) → k ≤ 6 → p < 2 ^ k → p < 64
 below_64 k p few within = let most : 2 ^ k ≤ 64 = pow-le-pow_right {n = 2} (omega arith) few in omega (arith, most, within)
 
@@ -15,6 +16,7 @@ is_there {X} p n home x y e = by (nat_lt p n) refl e
     by true is there = ltb-true p n is
     by false is there = absurd (cc)
 
+-- No processor is noted if all flags are false.
 pub none_noted : (n p : ℕ) → slice_index_or (replicate n false) p false ≡ false
 none_noted zero p = refl
 none_noted (suc n) zero = refl

@@ -10,3 +10,6 @@ pub mod Quieting
 pub mod Few
 pub mod Running
 pub mod Beginning
+pub mod Opened
+pub mod Recorded
+pub mod Ending

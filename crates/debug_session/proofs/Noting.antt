@@ -8,6 +8,7 @@ use Rattle.debug_session.specs.Breaks.{HasRetired, IsRetirement, Retires}
 use Rattle.debug_session.proofs.Splits.{split_last}
 
 module _ (m : MachineLists) (start : ℕ) (done : List Step) where
+  -- A processor that has retired an instruction has done so after one step more.
   pub retired_more : (s : Step) (p : ℕ) → HasRetired m start done p → HasRetired m start (done ++ s ∷ []) p
   retired_more s p h = record {
     before = h.before;
@@ -17,6 +18,7 @@ module _ (m : MachineLists) (start : ℕ) (done : List Step) where
     retired = h.retired;
   }
 
+  -- If the next step retires an instruction of a processor, it has retired one after this step.
   pub retired_now : (s : Step) (p : ℕ) → start ≤ length done → Retires s (answer_after m done s) p → HasRetired m start (done ++ s ∷ []) p
   retired_now (step.Turn q) p behind (same, retired) = record {
     before = done;
@@ -30,7 +32,7 @@ module _ (m : MachineLists) (start : ℕ) (done : List Step) where
   retired_now (step.Down s w) p behind r = absurd r
   retired_now (step.Poke q) p behind r = absurd r
 
-  -- what has retired behind a step more has retired before, or in it
+  -- what has retired after a step more has retired before, or in it
   pub retired_either : (s : Step) (p : ℕ) → HasRetired m start (done ++ s ∷ []) p → HasRetired m start done p ⊎ Retires s (answer_after m done s) p
   retired_either s p h = by (split_last done h.before h.rest s (step.Turn p) h.is)
     where

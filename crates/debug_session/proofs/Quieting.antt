@@ -8,7 +8,7 @@ use Rattle.machine_steps.specs.machine_theory.Theory as theory
 use Rattle.steps.specs.declared.step.Step.{Step}
 use Rattle.steps.specs.declared.step.Outcome.{Outcome}
 use Rattle.steps.specs.declared.step.Outcome.TheVariants.{Stalled}
-use Rattle.machine_steps.specs.machine_theory.Processors.{Told}
+use Rattle.machine_steps.specs.machine_theory.Processors.{ObservedCore}
 use Rattle.machine_steps.specs.machine_theory.Steps.{machine_of_parts, outcome_of}
 use Rattle.machine_steps.specs.Machines.{IsMachine, MachineLists, machine_of}
 use Rattle.machine_log.specs.Logs.{HasTaken, Log, entered}
@@ -37,7 +37,7 @@ module _ (l new : Log) (s : Step) (o : Outcome) (taken : HasTaken l s o new) (st
   still_running (p, within, runs) = (
     p,
     subst (λ (k : ℕ). p < 2 ^ k) (sym size) within,
-    ap (λ (M : theory.Machine Told). (M.core p).state.status) machine_is ∙ runs,
+    ap (λ (M : theory.Machine ObservedCore). (M.core p).state.status) machine_is ∙ runs,
   )
 
   -- the step itself is quiet

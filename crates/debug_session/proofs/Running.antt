@@ -11,6 +11,7 @@ use Rattle.debug_session.specs.Runs.{HasDriven}
 use Rattle.debug_session.specs.Sweeps.{HasContinued}
 use Rattle.schedules.proofs.Lemmas.{own_both}
 
+-- A sweep, followed by its drain, has driven the log by steps of the machine's own.
 pub has_run : ReplaysAreCut → ((m : MachineLists) → AreOwn (drain_steps m)) → (breaks : List Bool) (budget : ℕ) (old new : Log) →
     HasContinued breaks budget old new → IsReplay old.opening old.steps old.machine →
     IsReplay new.opening new.steps new.machine → HasDriven old new

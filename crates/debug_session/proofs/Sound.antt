@@ -17,6 +17,7 @@ use Rattle.machine_log.specs.Logs.{AreLawful}
 use Rattle.debug_lines.specs.declared.command.Command.{Command}
 use Rattle.debug_lines.specs.declared.command.Command.TheVariants.{Set, Write, Step}
 use Rattle.debug_session.specs.Answers.{ActsUnless, Session}
+use Rattle.debug_session.specs.Runs.{RunSpec}
 use Rattle.debug_replies.specs.declared.error.Error.{Error}
 use Rattle.debug_replies.specs.declared.error.Error.TheVariants as error
 use Rattle.debug_replies.specs.Errors.{error_of, has_addresses, is_malformed, is_named_below, is_range, processor_of, register_of}
@@ -44,9 +45,11 @@ few m p is count there = let most : 2 ^ m.config.k ≤ 2 ^ 6 = pow_mono is.limit
 pub set_processor : (m : FlatState) (p r value : ℕ) → error_of m (Set p r value) ≡ None → p < length m.processors
 set_processor m p r value e = ltb-true p (length m.processors) (sound m (Set p r value) e).1
 
+-- If a command that writes bytes has no error, the processor that it names is there.
 pub write_processor : (m : FlatState) (p address : ℕ) (bytes : List ℕ) → error_of m (Write p address bytes) ≡ None → p < length m.processors
 write_processor m p address bytes e = ltb-true p (length m.processors) (sound m (Write p address bytes) e).1
 
+-- If a command `step` has no error, the processor that it names is there.
 pub step_processor : (m : FlatState) (p : ℕ) → error_of m (Step p) ≡ None → p < length m.processors
 step_processor m p e = ltb-true p (length m.processors) (sound m (Step p) e).1
 
@@ -83,17 +86,17 @@ set_is_lawful m p r value count e some small =
 
 -- ---- a command that was carried out
 
-no_error : (e : Option Error) (old new : Session) (c : Command) (done : Unit {0}) → ActsUnless e old c (Ok done) new → e ≡ None
-no_error None old new c done acts = refl
-no_error (Some e) old new c done acts = let refused : Ok done ≡ Err e = acts.0 in cc
+no_error : (run : RunSpec) (e : Option Error) (old new : Session) (c : Command) (done : Unit {0}) → ActsUnless run e old c (Ok done) new → e ≡ None
+no_error run None old new c done acts = refl
+no_error run (Some e) old new c done acts = let refused : Ok done ≡ Err e = acts.0 in cc
 
 -- the processor of a step is a byte
-pub step_is_small : (old new : Session) (c : Command) (done : Unit {0}) (p : ℕ) → IsMachine old.log.machine →
+pub step_is_small : (run : RunSpec) (old new : Session) (c : Command) (done : Unit {0}) (p : ℕ) → IsMachine old.log.machine →
     length (flat_state old.log.machine).processors ≡ 2 ^ old.log.machine.config.k →
-    ActsUnless (error_of (flat_state old.log.machine) c) old c (Ok done) new → c ≡ Step p → p < 256
-step_is_small old new c done p is count acts same =
+    ActsUnless run (error_of (flat_state old.log.machine) c) old c (Ok done) new → c ≡ Step p → p < 256
+step_is_small run old new c done p is count acts same =
     let m = old.log.machine in
     let none : error_of (flat_state m) (Step p) ≡ None =
-    subst (λ (d : Command). error_of (flat_state m) d ≡ None) same (no_error (error_of (flat_state m) c) old new c done acts) in
+    subst (λ (d : Command). error_of (flat_state m) d ≡ None) same (no_error run (error_of (flat_state m) c) old new c done acts) in
     let small : p < 64 = few m p is count (step_processor (flat_state m) p none) in
     omega (arith, small)

@@ -139,9 +139,9 @@ module _ (breaks : List Bool) (limit : ℕ) (old l new : Log) (flags : List Bool
           now : Retires s o p → Retires s (answer_after m l.steps s) p
           now = subst (λ a. Retires s a p) answer_is
 
-          told : (xs : List Step) → HasRetired m start l.steps p ⊎ Retires s o p → (is_noted flags' p ≡ true)
-          told xs (inl before) = (marks p within).1 (inl ((u.noted p within).1 before))
-          told xs (inr r) = (marks p within).1 (inr r)
+          fact : (xs : List Step) → HasRetired m start l.steps p ⊎ Retires s o p → (is_noted flags' p ≡ true)
+          fact xs (inl before) = (marks p within).1 (inl ((u.noted p within).1 before))
+          fact xs (inr r) = (marks p within).1 (inr r)
 
           back : HasRetired m start l.steps p ⊎ Retires s (answer_after m l.steps s) p → HasRetired m start l.steps p ⊎ Retires s o p
           back (inl h) = inl h
@@ -158,11 +158,11 @@ module _ (breaks : List Bool) (limit : ℕ) (old l new : Log) (flags : List Bool
           by : Either → (is_noted flags' p ≡ true) ↔ HasRetired m start new.steps p
           by (inl (stalled, same)) = (
             λ flag. subst (λ xs. HasRetired m start xs p) (sym same) (same_after stalled ((marks p within).0 flag)),
-            λ h. told l.steps (inl (subst (λ xs. HasRetired m start xs p) same h)),
+            λ h. fact l.steps (inl (subst (λ xs. HasRetired m start xs p) same h)),
           )
           by (inr one) = (
             λ flag. subst (λ xs. HasRetired m start xs p) (sym one) (after ((marks p within).0 flag)),
-            λ h. told l.steps (back (retired_either m start l.steps s p (subst (λ xs. HasRetired m start xs p) one h))),
+            λ h. fact l.steps (back (retired_either m start l.steps s p (subst (λ xs. HasRetired m start xs p) one h))),
           )
 
   -- a step that is a fault
@@ -209,6 +209,7 @@ module _ (breaks : List Bool) (limit : ℕ) (old l : Log) (flags : List Bool) (u
   replay_there : IsReplay old.opening l.steps l.machine
   replay_there = subst (λ n. IsReplay n l.steps l.machine) u.opening u.replay
 
+  -- If the next step is a turn of a processor at a break, a sweep that is under way has ended.
   pub ends_at_break : (s : Step) → MeetsBreak l.machine breaks flags s → HasSwept breaks limit old l
   ends_at_break (step.Turn p) meets =
       ends_here breaks limit old l flags u (inr (inr (inr (
@@ -220,6 +221,7 @@ module _ (breaks : List Bool) (limit : ℕ) (old l : Log) (flags : List Bool) (u
   ends_at_break (step.Down t w) meets = absurd meets
   ends_at_break (step.Poke q) meets = absurd meets
 
+  -- If no processor runs, a sweep that is under way has ended.
   pub ends_where_none_runs : (HasRunning l.machine → ⊥) → HasSwept breaks limit old l
   ends_where_none_runs none = ends_here breaks limit old l flags u (inr (inl (λ runs. none (has_running old.opening l.machine l.steps replay_there runs))))
 

@@ -26,10 +26,11 @@ one_more p address (x ∷ bytes) b =
     let same : address + 1 + length bytes ≡ address + suc (length bytes) = omega arith in
     ap (λ rest. poke_of p address x ∷ rest) (one_more p (address + 1) bytes b ∙ ap (λ a. pokes_of p (address + 1) bytes ++ poke_of p a b ∷ []) same)
 
--- The array has the writes of the first so many bytes.
+-- The array has the writes of the first this many bytes.
 pub record AreWritten (p address i : ℕ) (bytes : List ℕ) (pokes : List Poke) : Type 0 where
   pub room : length pokes ≡ 512
   pub so_far : take i pokes ≡ pokes_of p address (take i bytes)
+  -- each of these values is a byte
   pub small : (k : ℕ) → k < i → slice_index bytes k < 256
 
 -- one byte more
@@ -90,6 +91,7 @@ reached_of : (m : FlatState) (writes : Bool) (address n : ℕ) → is_range m wr
 unfolding is_range
 reached_of m writes address n e = (both (nat_le (address + n) (2 ^ 32)) (are_reached m writes address n) e).1
 
+-- A range ends at 2^32 or before.
 pub range_end : (m : FlatState) (writes : Bool) (address n : ℕ) → is_range m writes address n ≡ true → address + n ≤ 2 ^ 32
 unfolding is_range
 range_end m writes address n e = leb-true (address + n) (2 ^ 32) (both (nat_le (address + n) (2 ^ 32)) (are_reached m writes address n) e).0
@@ -108,6 +110,7 @@ all_written : (p address i : ℕ) (bytes : List ℕ) (pokes : List Poke) → Are
 all_written p address i bytes pokes w all =
     subst (λ n. take n pokes ≡ pokes_of p address (take n bytes)) all w.so_far ∙ ap (pokes_of p address) (take_all (length bytes) bytes (omega arith))
 
+-- If the array has the writes of all bytes, and their addresses are a range, each of the writes is lawful.
 pub array_is_lawful : (c : Config) (m : FlatState) (p address i : ℕ) (values bytes : List ℕ) (pokes : List Poke) → AreWritten p address i values pokes →
     i ≡ length values → values ≡ bytes → length m.shared ≡ c.shared_words → p < 2 ^ c.k → is_range m true address (length bytes) ≡ true →
     AreLawful c (take (length values) pokes)

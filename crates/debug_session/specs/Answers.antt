@@ -20,7 +20,7 @@ use Rattle.debug_replies.specs.Breaking.{with_flag}
 use Rattle.debug_replies.specs.Errors.{error_of, error_text}
 use Rattle.debug_replies.specs.Stops.{is_faulted_at, is_running_at, named_stop, stop_text}
 use Rattle.debug_replies.specs.Texts.{shown_text}
-use Rattle.debug_session.specs.Runs.{HasDriven}
+use Rattle.debug_session.specs.Runs.{HasDriven, RunSpec}
 
 -- What a session stands in: the log with its machine, and the breaks.
 pub record Session : Type 0 where
@@ -41,12 +41,12 @@ ending_of (Err refusal.NotFree) = Err error.Processor
 
 -- ---- commands that take steps
 
--- the log has room for so many steps more
+-- the log has room for this many steps more
 abbrev pub HasRoom : Log → (count : ℕ) → Type 0
 HasRoom l count = length l.steps + count ≤ 4194304
 
--- A command asks for room for so many steps before the first. For want of room it is refused exactly where the log has none for
--- them; it may be refused for want of memory too; else it is done. A refusal changes nothing.
+-- A command asks for room for this many steps before the first. For want of room it is refused exactly if the log has
+-- none for them; it may be refused if out of memory too; else it is done. A refusal changes nothing.
 abbrev pub IsTried : (count : ℕ) → (done : Type 0) → (old new : Log) → Ending → Type 0
 IsTried count done old new (Ok nothing) = HasRoom old count × done
 IsTried count done old new (Err error.Room) = (HasRoom old count → ⊥) × (new ≡ old)
@@ -72,9 +72,10 @@ pokes_of p address (byte ∷ bytes) = poke_of p address byte ∷ pokes_of p (add
 
 -- `write`: a write from outside for each byte
 abbrev pub Writes : (old : Log) → (p address : ℕ) → (bytes : List ℕ) → Ending → (new : Log) → Type 0
-Writes old p address bytes ending new = IsTried (length bytes) (HasPoked old (pokes_of p address bytes) new) old new ending
+Writes old p address bytes ending new =
+    IsTried (length bytes) (HasPoked old (pokes_of p address bytes) new) old new ending
 
--- One whole instruction of processor p: a step of the flat machine. Its steps stand behind those of the log.
+-- One whole instruction of processor p: a step of the flat machine. Its steps stand after those of the log.
 pub record HasStepped (old : Log) (p : ℕ) (new : Log) : Type 0 where
   pub opening : new.opening ≡ old.opening
   pub steps : new.steps ≡ old.steps ++ one_steps old.machine p
@@ -94,15 +95,16 @@ pub record HasGoneOn (old new : Log) : Type 0 where
   pub run : HasDriven old new
   pub flat : flat_state new.machine ≡ flat_run (flat_state old.machine) (passed old.machine run.more).order
 
--- `cont`: what the runner does. It may be refused for want of room or of memory, with nothing changed.
-abbrev pub Continues : (old : Log) → Ending → (new : Log) → Type 0
-Continues old (Ok nothing) new = HasGoneOn old new
-Continues old (Err error.Room) new = new ≡ old
-Continues old (Err error.Memory) new = new ≡ old
-Continues old (Err error.Form) new = ⊥
-Continues old (Err error.Address) new = ⊥
-Continues old (Err error.Processor) new = ⊥
-Continues old (Err error.Register) new = ⊥
+-- `cont`: what the runner does with the session's breaks. For want of room it is refused exactly if the log lacks it;
+-- it may be refused if out of memory too. A refusal changes nothing.
+abbrev pub Continues : RunSpec → (breaks : List Bool) → (old : Log) → Ending → (new : Log) → Type 0
+Continues run breaks old (Ok nothing) new = (run.lacks_room old → ⊥) × run.runs breaks old new × HasGoneOn old new
+Continues run breaks old (Err error.Room) new = run.lacks_room old × (new ≡ old)
+Continues run breaks old (Err error.Memory) new = (run.lacks_room old → ⊥) × (new ≡ old)
+Continues run breaks old (Err error.Form) new = ⊥
+Continues run breaks old (Err error.Address) new = ⊥
+Continues run breaks old (Err error.Processor) new = ⊥
+Continues run breaks old (Err error.Register) new = ⊥
 
 -- ---- all commands
 
@@ -110,26 +112,30 @@ Continues old (Err error.Register) new = ⊥
 abbrev pub IsShown : (old : Session) → Ending → (new : Session) → Type 0
 IsShown old ending new = (ending ≡ Ok tt) × (new ≡ old)
 
--- what a command does that has no error on the machine
-abbrev pub Acts : (old : Session) → Command → Ending → (new : Session) → Type 0
-Acts old (State p) ending new = IsShown old ending new
-Acts old (Registers p) ending new = IsShown old ending new
-Acts old (Register p r) ending new = IsShown old ending new
-Acts old (Set p r value) ending new = Sets old.log p r value ending new.log × (new.breaks ≡ old.breaks)
-Acts old (Memory p address n) ending new = IsShown old ending new
-Acts old (Write p address bytes) ending new = Writes old.log p address bytes ending new.log × (new.breaks ≡ old.breaks)
-Acts old (Break address) ending new = (ending ≡ Ok tt) × (new ≡ record old { breaks = with_flag old.breaks address true })
-Acts old (Clear address) ending new = (ending ≡ Ok tt) × (new ≡ record old { breaks = with_flag old.breaks address false })
-Acts old (Step p) ending new = StepsOnce old.log p ending new.log × (new.breaks ≡ old.breaks)
-Acts old Continue ending new = Continues old.log ending new.log × (new.breaks ≡ old.breaks)
-Acts old Quit ending new = IsShown old ending new
-Acts old Malformed ending new = IsShown old ending new
+-- what a command does that has no error on the machine, where the runner of `cont` does this
+abbrev pub Acts : RunSpec → (old : Session) → Command → Ending → (new : Session) → Type 0
+Acts run old (State p) ending new = IsShown old ending new
+Acts run old (Registers p) ending new = IsShown old ending new
+Acts run old (Register p r) ending new = IsShown old ending new
+Acts run old (Set p r value) ending new = Sets old.log p r value ending new.log × (new.breaks ≡ old.breaks)
+Acts run old (Memory p address n) ending new = IsShown old ending new
+Acts run old (Write p address bytes) ending new = Writes old.log p address bytes ending new.log
+    × (new.breaks ≡ old.breaks)
+Acts run old (Break address) ending new = (ending ≡ Ok tt)
+    × (new ≡ record old { breaks = with_flag old.breaks address true })
+Acts run old (Clear address) ending new = (ending ≡ Ok tt)
+    × (new ≡ record old { breaks = with_flag old.breaks address false })
+Acts run old (Step p) ending new = StepsOnce old.log p ending new.log × (new.breaks ≡ old.breaks)
+Acts run old Continue ending new = Continues run old.breaks old.log ending new.log × (new.breaks ≡ old.breaks)
+Acts run old Quit ending new = IsShown old ending new
+Acts run old Malformed ending new = IsShown old ending new
 
-abbrev pub ActsUnless : Option Error → (old : Session) → Command → Ending → (new : Session) → Type 0
-ActsUnless None old c ending new = Acts old c ending new
-ActsUnless (Some e) old c ending new = (ending ≡ Err e) × (new ≡ old)
+abbrev pub ActsUnless : RunSpec → Option Error → (old : Session) → Command → Ending → (new : Session) → Type 0
+ActsUnless run None old c ending new = Acts run old c ending new
+ActsUnless run (Some e) old c ending new = (ending ≡ Err e) × (new ≡ old)
 
--- The reply to a command that was carried out, by the flat machine after it, and by which processors faults had stopped before.
+-- The reply to a command that was carried out, by the flat machine after it, and by which processors faults had
+-- stopped before.
 abbrev pub done_text : (faulted : ℕ → Bool) → FlatState → (breaks : List Bool) → Command → List ℕ
 done_text faulted m breaks (Step p) = stop_text m (Some p)
 done_text faulted m breaks Continue = stop_text m (named_stop faulted m breaks)
@@ -137,11 +143,13 @@ done_text faulted m breaks c = shown_text m c
 
 -- the reply to a command
 abbrev pub reply_text : (old new : Session) → Command → Ending → List ℕ
-reply_text old new c (Ok nothing) = done_text (is_faulted_at (flat_state old.log.machine)) (flat_state new.log.machine) new.breaks c
+reply_text old new c (Ok nothing) =
+    done_text (is_faulted_at (flat_state old.log.machine)) (flat_state new.log.machine) new.breaks c
 reply_text old new c (Err e) = error_text e
 
--- A command does this, and this is answered. An error that it has on the machine comes before all others, and changes nothing.
-pub record Answers (old : Session) (c : Command) (text : List ℕ) (new : Session) : Type 0 where
+-- A command does this, and this is answered. An error that it has on the machine comes before all others, and changes
+-- nothing.
+pub record Answers (run : RunSpec) (old : Session) (c : Command) (text : List ℕ) (new : Session) : Type 0 where
   pub ending : Ending
-  pub acts : ActsUnless (error_of (flat_state old.log.machine) c) old c ending new
+  pub acts : ActsUnless run (error_of (flat_state old.log.machine) c) old c ending new
   pub text_is : text ≡ reply_text old new c ending

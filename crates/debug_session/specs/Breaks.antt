@@ -21,7 +21,7 @@ abbrev pub IsRetirement : Outcome → Type 0
 IsRetirement (outcome.Retired retired) = Unit {0}
 IsRetirement _ = ⊥
 
--- In one of the steps behind the first so many processor p has retired an instruction.
+-- In one of the steps after the first this many processor p has retired an instruction.
 pub record HasRetired (opening : MachineLists) (start : ℕ) (done : List Step) (p : ℕ) : Type 0 where
   pub before : List Step
   pub rest : List Step
@@ -29,16 +29,17 @@ pub record HasRetired (opening : MachineLists) (start : ℕ) (done : List Step) 
   pub behind : start ≤ length before
   pub retired : IsRetirement (answer_after opening before (step.Turn p))
 
--- Processor p stands at a break: it runs, has no reference open, has retired an instruction behind the first so many steps, and
--- the next one is at a break.
-pub record StandsAtBreak (opening : MachineLists) (breaks : List Bool) (start : ℕ) (done : List Step) (p : ℕ) : Type 0 where
+-- Processor p stands at a break: it runs, has no reference open, has retired an instruction after the first this many
+-- steps, and the next one is at a break.
+pub record StandsAtBreak (opening : MachineLists) (breaks : List Bool) (start : ℕ) (done : List Step)
+    (p : ℕ) : Type 0 where
   pub there : p < 2 ^ opening.config.k
   pub running : (processor_after opening done p).status ≡ Running
   pub shut : (machine_after opening done).is_open p ≡ false
   pub retired : HasRetired opening start done p
   pub at_break : is_break breaks (processor_after opening done p).pc ≡ true
 
--- ---- with flags that tell who has retired
+-- ---- with flags that say who has retired
 
 abbrev pub is_noted : (flags : List Bool) → (p : ℕ) → Bool
 is_noted flags p = slice_index_or flags p false
@@ -51,11 +52,11 @@ Retires (step.Serve m) o p = ⊥
 Retires (step.Down s w) o p = ⊥
 Retires (step.Poke q) o p = ⊥
 
--- the flags tell which processors have retired an instruction behind the first so many steps
+-- the flags say which processors have retired an instruction after the first this many steps
 abbrev pub AreFlagged : (opening : MachineLists) → (start : ℕ) → (flags : List Bool) → (done : List Step) → Type 0
 AreFlagged m start flags done = (p : ℕ) → p < 2 ^ m.config.k → (is_noted flags p ≡ true) ↔ HasRetired m start done p
 
--- on a machine of which the flags tell, processor p stands at a break
+-- on a machine of which the flags say, processor p stands at a break
 pub record IsAtBreak (m : MachineLists) (breaks flags : List Bool) (p : ℕ) : Type 0 where
   pub there : p < 2 ^ m.config.k
   pub running : (processor_of m p).status ≡ Running

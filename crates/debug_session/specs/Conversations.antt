@@ -9,8 +9,10 @@ use Rattle.machine_steps.specs.Machines.{IsIdle}
 use Rattle.machine_log.specs.Logs.{Log}
 use Rattle.debug_session.specs.Answers.{Session}
 use Rattle.debug_session.specs.Dialogues.{Dialogue, NoneQuits, is_quit}
+use Rattle.debug_session.specs.Runs.{RunSpec}
 use Rattle.debug_session.specs.declared.session_end.SessionEnd.{SessionEnd}
-use Rattle.debug_session.specs.declared.session_end.SessionEnd.TheVariants.{Quit, EndOfInput, ReadFailed, WriteFailed, Memory, TraceFull}
+use Rattle.debug_session.specs.declared.session_end.SessionEnd.TheVariants.{Quit, EndOfInput, ReadFailed, WriteFailed}
+use Rattle.debug_session.specs.declared.session_end.SessionEnd.TheVariants.{Memory, TraceFull}
 
 -- The events are these and a last one, and none but the last ends the session.
 pub record EndsWith (events : List Event) (ends : Event → Type 0) : Type 0 where
@@ -29,9 +31,10 @@ pub record IsCutShort (replies : List (List ℕ)) (missing : List ℕ) : Type 0 
   pub cut : last ++ 10 ∷ [] ≡ part ++ missing
   pub some : 0 < length missing
 
--- What the ways to end say of the events and their replies, of the bytes that were taken and not read, of the text that was not
--- written, and of what the reader has left.
-abbrev pub IsEnd : SessionEnd → List Event → (replies : List (List ℕ)) → (unread missing : List ℕ) → (left : Option (List ℕ)) → Type 0
+-- What the ways to end say of the events and their replies, of the bytes that were taken and not read, of the text
+-- that was not written, and of what the reader has left.
+abbrev pub IsEnd : SessionEnd → List Event → (replies : List (List ℕ)) → (unread missing : List ℕ) →
+    (left : Option (List ℕ)) → Type 0
 IsEnd Quit events replies unread missing left = (missing ≡ []) × EndsWith events (λ event. is_quit event ≡ true)
 IsEnd EndOfInput events replies unread missing left = (missing ≡ []) × NoneQuits events × (unread ≡ []) × IsAtEnd left
 IsEnd ReadFailed events replies unread missing left = (missing ≡ []) × NoneQuits events × (unread ≡ [])
@@ -40,7 +43,8 @@ IsEnd Memory events replies unread missing left = ⊥
 IsEnd TraceFull events replies unread missing left = ⊥
 
 -- What a session takes from its reader, writes and leaves, begun with no byte held.
-pub record Conversation (reader reader' writer writer' : Option (List ℕ)) (old new : Session) (end : SessionEnd) : Type 0 where
+pub record Conversation (run : RunSpec) (reader reader' writer writer' : Option (List ℕ)) (old new : Session)
+    (end : SessionEnd) : Type 0 where
   -- the bytes that were read, and those of the last piece that were not
   pub input : List ℕ
   pub unread : List ℕ
@@ -51,7 +55,7 @@ pub record Conversation (reader reader' writer writer' : Option (List ℕ)) (old
   pub lines : IsAfter input events held
   -- the replies, each with its line feed, and how much of them was written
   pub replies : List (List ℕ)
-  pub dialogue : Dialogue old events replies new
+  pub dialogue : Dialogue run old events replies new
   pub written : List ℕ
   pub missing : List ℕ
   pub cut : joined replies ≡ written ++ missing
@@ -65,14 +69,16 @@ pub record HasDrained (old new : Log) : Type 0 where
   pub count : ℕ
   pub drained : IsDrained old.machine count new.machine
 
--- A session drains its machine, and then holds a conversation, begun with no break. No reference is open behind it.
-pub record HasServed (reader reader' writer writer' : Option (List ℕ)) (old new : Log) (end : SessionEnd) : Type 0 where
+-- A session drains its machine, and then holds a conversation, begun with no break. No reference is open after it.
+pub record HasServed (run : RunSpec) (reader reader' writer writer' : Option (List ℕ)) (old new : Log)
+    (end : SessionEnd) : Type 0 where
   pub drained : Log
   pub drain : HasDrained old drained
   pub breaks : List Bool
   pub no_break : (a : ℕ) → is_break breaks a ≡ false
   pub breaks' : List Bool
-  pub conversation : Conversation reader reader' writer writer' (record { log = drained; breaks = breaks }) (record { log = new; breaks = breaks' }) end
+  pub conversation : Conversation run reader reader' writer writer' (record { log = drained; breaks = breaks })
+      (record { log = new; breaks = breaks' }) end
   pub idle : IsIdle new.machine
 
 -- ---- on the way
@@ -80,15 +86,16 @@ pub record HasServed (reader reader' writer writer' : Option (List ℕ)) (old ne
 -- what a reader of lines was given
 abbrev pub Reads : (held : Held) → (input : List ℕ) → List Event → (kept : Held) → Type 0
 Reads held input events kept =
-    (bytes : List ℕ) (before : List Event) → IsAfter bytes before held → IsAfter (bytes ++ input) (before ++ events) kept
+    (bytes : List ℕ) (before : List Event) → IsAfter bytes before held →
+    IsAfter (bytes ++ input) (before ++ events) kept
 
 -- Some events were read, none of which ends the session, and answered whole.
-pub record Goes (held : Held) (old : Session) (writer : Option (List ℕ)) (input : List ℕ) (kept : Held) (new : Session) (writer' : Option (List ℕ))
-    : Type 0 where
+pub record Goes (run : RunSpec) (held : Held) (old : Session) (writer : Option (List ℕ)) (input : List ℕ)
+    (kept : Held) (new : Session) (writer' : Option (List ℕ)) : Type 0 where
   pub events : List Event
   pub replies : List (List ℕ)
   pub lines : Reads held input events kept
-  pub dialogue : Dialogue old events replies new
+  pub dialogue : Dialogue run old events replies new
   pub wrote : Appends writer writer' (joined replies)
   pub none : NoneQuits events
 
@@ -102,12 +109,12 @@ IsStop Memory events replies missing = ⊥
 IsStop TraceFull events replies missing = ⊥
 
 -- The same, up to an event that ended the session, or whose reply could not be written.
-pub record Stops (held : Held) (old : Session) (writer : Option (List ℕ)) (input : List ℕ) (kept : Held) (new : Session) (writer' : Option (List ℕ))
-    (end : SessionEnd) : Type 0 where
+pub record Stops (run : RunSpec) (held : Held) (old : Session) (writer : Option (List ℕ)) (input : List ℕ)
+    (kept : Held) (new : Session) (writer' : Option (List ℕ)) (end : SessionEnd) : Type 0 where
   pub events : List Event
   pub replies : List (List ℕ)
   pub lines : Reads held input events kept
-  pub dialogue : Dialogue old events replies new
+  pub dialogue : Dialogue run old events replies new
   pub written : List ℕ
   pub missing : List ℕ
   pub cut : joined replies ≡ written ++ missing

@@ -7,6 +7,7 @@ use Rattle.debug_lines.specs.declared.reader.Event.{Event}
 use Rattle.debug_lines.specs.declared.reader.Event.TheVariants.{Line, TooLong}
 use Rattle.debug_lines.specs.Commands.{command_of}
 use Rattle.debug_session.specs.Answers.{Session, Answers}
+use Rattle.debug_session.specs.Runs.{RunSpec}
 
 -- the command that an event asks for: a line that is too long is none
 abbrev pub asked : Event → Command
@@ -14,11 +15,12 @@ asked (Line line) = command_of line
 asked TooLong = Malformed
 
 -- From the old session on, each of the events has one of these replies, in turn, and the last leaves the new session.
-abbrev pub Dialogue : (old : Session) → List Event → (replies : List (List ℕ)) → (new : Session) → Type 0
-Dialogue old [] [] new = new ≡ old
-Dialogue old (event ∷ events) (reply ∷ replies) new = (mid : Session) × Answers old (asked event) reply mid × Dialogue mid events replies new
-Dialogue old [] (reply ∷ replies) new = ⊥
-Dialogue old (event ∷ events) [] new = ⊥
+abbrev pub Dialogue : RunSpec → (old : Session) → List Event → (replies : List (List ℕ)) → (new : Session) → Type 0
+Dialogue run old [] [] new = new ≡ old
+Dialogue run old (event ∷ events) (reply ∷ replies) new =
+    (mid : Session) × Answers run old (asked event) reply mid × Dialogue run mid events replies new
+Dialogue run old [] (reply ∷ replies) new = ⊥
+Dialogue run old (event ∷ events) [] new = ⊥
 
 abbrev pub is_quit_command : Command → Bool
 is_quit_command (State p) = false

@@ -5,3 +5,4 @@ pub mod Runs
 pub mod Breaks
 pub mod Sweeps
 pub mod Sessions
+pub mod Listening

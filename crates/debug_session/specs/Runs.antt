@@ -1,13 +1,13 @@
 -- What a runner does to a log.
-use Rattle.std.specs.Prelude.{◌≡◌, List, ◌++◌}
+use Rattle.std.specs.Prelude.{◌≡◌, Bool, List, ◌++◌}
 use Rattle.steps.specs.declared.step.Step.{Step}
 use Rattle.machine_steps.specs.Machines.{IsIdle}
 use Rattle.machine_steps.specs.Runs.{IsReplay}
 use Rattle.machine_log.specs.Logs.{Log}
 use Rattle.schedules.specs.Own.{AreOwn}
 
--- Behind the steps that it had the log has more, none of which writes from outside. Its machine is the replay of the one that it
--- was over just these, and no reference is open.
+-- After the steps that it had the log has more, none of which writes from outside. Its machine is the replay of the
+-- one that it was over just these, and no reference is open.
 pub record HasDriven (old new : Log) : Type 0 where
   pub opening : new.opening ≡ old.opening
   pub more : List Step
@@ -15,3 +15,10 @@ pub record HasDriven (old new : Log) : Type 0 where
   pub own : AreOwn more
   pub replay : IsReplay old.machine more new.machine
   pub idle : IsIdle new.machine
+
+-- What a runner does with its budget.
+pub record RunSpec : Type 1 where
+  -- the log has no room for the steps that it may take
+  pub lacks_room : Log → Type 0
+  -- with these breaks it has gone on so far
+  pub runs : (breaks : List Bool) → (old new : Log) → Type 0

@@ -11,7 +11,7 @@ use crate::runner::Runner;
 use debug_lines::{Command, Written};
 use debug_replies::{Breaks, Error, is_running};
 use flat_machine::{Poke, SHARED_START};
-use machine_log::{LockRefusal, Logged, log_is_kept};
+use machine_log::{LockRefusal, Logged, log_is_well_formed};
 use machine_steps::flat_states_are_read;
 
 /// The most bytes that a line writes.
@@ -27,9 +27,9 @@ pub(crate) fn set(log: &mut Logged, processor: u32, register: u32, value: u32) -
     if register == 0 {
         return Ok(());
     }
-    log_is_kept(log);
+    log_is_well_formed(log);
     flat_states_are_read();
-    told(log.pokes(&[Poke::Register {
+    map_refusal(log.pokes(&[Poke::Register {
         processor: processor as u8,
         register: register as u8,
         value,
@@ -48,7 +48,7 @@ pub(crate) fn write(
     ensures writes { Writes log.old processor address bytes.now result log.new }
     ensures idle { IsIdle log.new.machine }
 {
-    log_is_kept(log);
+    log_is_well_formed(log);
     flat_states_are_read();
     let mut pokes = [Poke::Shared {
         address: 0,
@@ -58,7 +58,7 @@ pub(crate) fn write(
     for (i, value) in values.iter().enumerate() {
         pokes[i] = poke_of(processor as u8, address + i as u32, *value);
     }
-    told(log.pokes(&pokes[..values.len()]))
+    map_refusal(log.pokes(&pokes[..values.len()]))
 }
 
 /// The write of one byte: an address from 2^31 on is one of shared memory, each other one of the
@@ -84,37 +84,37 @@ pub(crate) fn step(log: &mut Logged, processor: u32) -> Result<(), Error>
     ensures steps { StepsOnce log.old processor result log.new }
     ensures idle { IsIdle log.new.machine }
 {
-    log_is_kept(log);
+    log_is_well_formed(log);
     flat_states_are_read();
     if !is_running(log.machine(), processor) {
         return Ok(());
     }
     match log.one(processor as u8) {
         Ok(_) => Ok(()),
-        Err(refusal) => told(Err(refusal)),
+        Err(refusal) => map_refusal(Err(refusal)),
     }
 }
 
 /// Goes on by a runner.
-pub(crate) fn go_on(
+pub(crate) fn go_on<C: Runner>(
     log: &mut Logged,
     breaks: &Breaks,
-    runner: &mut impl Runner,
+    runner: &mut C,
     budget: u32,
 ) -> Result<(), Error>
     requires idle { IsIdle log.old.machine }
-    ensures goes_on { Continues log.old result log.new }
+    ensures goes_on { Continues (C.spec budget) breaks.now log.old result log.new }
     ensures idle { IsIdle log.new.machine }
 {
     runs_are_in_order();
-    log_is_kept(log);
+    log_is_well_formed(log);
     let ran = runner.run(log, breaks, budget);
-    log_is_kept(log);
-    told(ran)
+    log_is_well_formed(log);
+    map_refusal(ran)
 }
 
-/// How a log's answer is told.
-fn told(answer: Result<(), LockRefusal>) -> Result<(), Error>
+/// How a log's answer is map_refusal.
+fn map_refusal(answer: Result<(), LockRefusal>) -> Result<(), Error>
     ensures { result ≡ ending_of answer }
 {
     match answer {

@@ -16,16 +16,17 @@ use machine_log::Logged;
 use machine_steps::flat_states_are_read;
 
 /// Carries a command out, and puts the reply to it into the text, in place of what it had.
-pub(crate) fn answer(
+pub(crate) fn answer<C: Runner>(
     command: &Command,
     log: &mut Logged,
     breaks: &mut Breaks,
-    runner: &mut impl Runner,
+    runner: &mut C,
     budget: u32,
     text: &mut ArrayVec<u8, 1024>,
 )
     requires idle { IsIdle log.old.machine }
-    ensures answers { Answers (record { log = log.old; breaks = breaks.old }) command.now text.new.items (record { log = log.new; breaks = breaks.new }) }
+    ensures answers { Answers (C.spec budget) (record { log = log.old; breaks = breaks.old }) command.now
+        text.new.items (record { log = log.new; breaks = breaks.new }) }
     ensures idle { IsIdle log.new.machine }
 {
     flat_states_are_read();
@@ -40,18 +41,21 @@ pub(crate) fn answer(
 ///
 /// # Errors
 ///
-/// That which the command has on the machine ([`error_of`]); else [`Error::Room`] and [`Error::Memory`], where the log has no room
-/// for the steps of the command, or there is no memory for them. Each leaves all as it was.
-fn carry_out(
+/// That which the command has on the machine ([`error_of`]); else [`Error::Room`] and [`Error::Memory`], where the log
+/// has no room for the steps of the command, or there is no memory for them. Each leaves all as it was.
+fn carry_out<C: Runner>(
     command: &Command,
     log: &mut Logged,
     breaks: &mut Breaks,
-    runner: &mut impl Runner,
+    runner: &mut C,
     budget: u32,
 ) -> Result<(), Error>
     requires idle { IsIdle log.old.machine }
-    ensures acts { ActsUnless (error_of (flat_state log.old.machine) command.now) (record { log = log.old; breaks = breaks.old }) command.now result
-        (record { log = log.new; breaks = breaks.new }) }
+    ensures acts { ActsUnless (C.spec budget) (error_of (flat_state log.old.machine) command.now)
+        (record { log = log.old; breaks = breaks.old }) command.now result (record {
+          log = log.new;
+          breaks = breaks.new;
+        }) }
     ensures idle { IsIdle log.new.machine }
 {
     if let Some(error) = error_of(log.machine(), command) {

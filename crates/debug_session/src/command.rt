@@ -1,41 +1,49 @@
 //! `ultra debug`: from the bytes of an image to the end of a session.
 
 ghost use Rattle.std.specs.Prelude.{◌⊎◌, IfOk, IfErr};
+ghost use Rattle.trace_commands.specs.TraceReports.{IsWorking};
 ghost use Rattle.debug_session.specs.Sessions.{HasEnded, HasNotBegun, IsNoSession, IsSession};
 
 use crate::connect::Connect;
-use crate::end::debug_end;
+use crate::saving::finish;
 use crate::serving::serve;
 use crate::session_end::SessionEnd;
 use crate::sweep::Sweep;
-use command_io::{Fault, image_of, machine_of, tell};
+use command_io::{Fault, image_in, machine_of, report_fault};
 use flat_machine::Config;
-use link::Failed;
-use machine_log::Logged;
+use link::{Failed, LinkWrite};
+use machine_log::{Logged, log_is_well_formed};
 use std::alloc::Global;
 use std::io::{Read, Write};
 use std::sync::Wait;
 
-/// Serves a session on a machine of this size that opens on the image that a file is. A link is asked for once the machine is
-/// there. `cont` follows the sweep, for as many steps as the budget has at most.
+/// Serves a session on a machine of this size that opens on the image that a file is. A link is asked for once the
+/// machine is there. `cont` follows the sweep, for as many steps as the budget has at most. Where a trace is asked for,
+/// that of the session is written once it is over, however it ended: its steps lead the machine from where it opens to
+/// where it stands. Of a session that could not begin nothing is written.
 ///
-/// Answers the exit status, that of the session's end ([`debug_end`]). Where there is no session, that of the fault that is told
-/// on standard error, in this order: of the image, of the machine's size, of the link.
-pub fn debug_command<F: Read + Drop, C: Connect, E: Write>(
+/// Answers the exit status, that of the session's end ([`crate::debug_end`]). Where there is no session, or its trace
+/// could not be written, it is that of the fault that is reported on standard error, in this order: of the image, of
+/// the machine's size, of the link that is asked for, of the trace, which is reported in place of how the session
+/// ended.
+pub fn debug_command<F: Read + Drop, C: Connect, T: LinkWrite, E: Write>(
     rt: &impl Wait,
     alloc: Global,
     file: F,
     config: Config,
     budget: u32,
     door: &mut C,
+    trace: &mut Option<T>,
     err: &mut E,
 ) -> u8
-    ensures { HasEnded (C.gives door.old) C.Reader.remaining C.Writer.contents config (F.remaining file) result
-        ⊎ HasNotBegun config (F.remaining file) result }
+    requires works { IsWorking T.has_failed trace.old }
+    ensures { HasEnded (C.gives door.old) C.Reader.remaining C.Writer.contents T.has_failed T.contents
+        config budget (F.remaining file) trace.old trace.new result
+        ⊎ HasNotBegun config (F.remaining file) trace.old trace.new result }
 {
     match session(rt, alloc, file, config, budget, door) {
-        Ok((end, log)) => debug_end(end, log.machine(), err),
-        Err(fault) => tell(fault, err),
+        Ok((end, log)) => finish(end, &log, trace, err),
+        Err(fault) => report_fault(fault, err),
     }
 }
 
@@ -48,15 +56,17 @@ fn session<F: Read + Drop, C: Connect>(
     budget: u32,
     door: &mut C,
 ) -> Result<(SessionEnd, Logged), Fault>
-    ensures session { IfOk result (λ done. IsSession (C.gives door.old) C.Reader.remaining C.Writer.contents config (F.remaining file) done.0 done.1) }
+    ensures session { IfOk result (λ done. IsSession (C.gives door.old) C.Reader.remaining C.Writer.contents
+        config budget (F.remaining file) done.0 done.1) }
     ensures refused { IfErr result (IsNoSession config (F.remaining file)) }
 {
-    let image = image_of(alloc, file, &config)?;
+    let image = image_in(alloc, file, &config)?;
     let mut log = Logged::new(alloc, machine_of(alloc, image, config)?);
     let (mut reader, mut writer) = match door.connect() {
         Ok(link) => link,
         Err(Failed) => return Err(Fault::Link),
     };
     let end = serve(rt, &mut reader, &mut writer, &mut log, &mut Sweep, budget);
+    log_is_well_formed(&log);
     Ok((end, log))
 }

@@ -1,19 +1,28 @@
-//! What a run is on the flat machine.
+//! What a run is on the flat machine, and that a log has a trace.
 
 ghost use Rattle.std.specs.Prelude.{◌≡◌};
+ghost use Rattle.trace_file.specs.Traces.{IsTrace, trace_of};
 ghost use Rattle.flat_machine.specs.Flat.{flat_run};
 ghost use Rattle.machine_steps.specs.Machines.{IsIdle};
 ghost use Rattle.machine_steps.specs.Runs.{flat_state, passed};
-ghost use Rattle.machine_log.specs.Logs.{IsKept, Log};
+ghost use Rattle.machine_log.specs.Logs.{IsWellFormed, Log};
 ghost use Rattle.debug_session.specs.Runs.{HasDriven};
 
+use machine_log::{Logged, log_is_well_formed};
 use machine_steps::runs_are_serialized;
 
-/// Whatever steps a runner takes, behind them the machine is the flat machine after the serial order of just
+/// Whatever steps a runner takes, after them the machine is the flat machine after the serial order of just
 /// these steps, from where it stood before.
 pub fn runs_are_in_order()
-    ensures { (old new : Log) → IsKept old → IsKept new → IsIdle old.machine → (run : HasDriven old new) →
+    ensures { (old new : Log) → IsWellFormed old → IsWellFormed new → IsIdle old.machine → (run : HasDriven old new) →
         flat_state new.machine ≡ flat_run (flat_state old.machine) (passed old.machine run.more).order }
 {
     runs_are_serialized();
+}
+
+/// Each log has a trace: whatever its steps did, there is a record of each, also of those that wrote from outside.
+pub(crate) fn log_has_trace(log: &Logged)
+    ensures { IsTrace (trace_of log.now.machine.config log.now.steps) }
+{
+    log_is_well_formed(log);
 }

@@ -1,6 +1,7 @@
 //! A session's own loops.
 
-ghost use Rattle.std.specs.Prelude.{◌≡◌, ◌↔◌, ◌<◌, ◌+◌, [], ◌∷◌, ◌++◌, ℕ, List, true, false, length, is_err, MatchResult, IfSome, IfNone};
+ghost use Rattle.std.specs.Prelude.{◌≡◌, ◌↔◌, ◌<◌, ◌+◌, [], ◌∷◌, ◌++◌, ℕ, List, true, false, length, is_err};
+ghost use Rattle.std.specs.Prelude.{MatchResult, IfSome, IfNone};
 ghost use Rattle.std.specs.Io.KnownBytes.{Appends};
 ghost use Rattle.link.specs.Transfer.{AppendsPart};
 ghost use Rattle.machine_steps.specs.Draining.{drain_bound};
@@ -22,35 +23,37 @@ use std::sync::Wait;
 /// The most bytes that are read at once.
 const PIECE_BYTES: usize = 256;
 
-/// Serves a session. It takes steps until no reference is open; then it reads lines, at most 256 bytes at once. A line that
-/// is whole is carried out, and then its reply is written. It ends at `quit`, at the end of the input, or where the reader or
-/// the writer fails.
+/// Serves a session. It takes steps until no reference is open; then it reads lines, at most 256 bytes at once. A line
+/// that is whole is carried out, and then its reply is written. It ends at `quit`, at the end of the input, or where
+/// the reader or the writer fails.
 ///
 /// So at each end but those of the first steps, the machine stands after the commands that were read, the last of them
-/// possibly unanswered. Bytes behind the last line feed do nothing. A session waits for its reader, so nothing is said of
-/// whether it returns.
-pub fn serve<R: LinkRead, W: LinkWrite>(
+/// possibly unanswered. Bytes after the last line feed do nothing. A session waits for its reader, so nothing is said
+/// of whether it returns.
+pub fn serve<R: LinkRead, W: LinkWrite, C: Runner>(
     rt: &impl Wait,
     reader: &mut R,
     writer: &mut W,
     log: &mut Logged,
-    runner: &mut impl Runner,
+    runner: &mut C,
     budget: u32,
 ) -> SessionEnd
     requires reads { R.has_failed reader.old ≡ false }
     requires writes { W.has_failed writer.old ≡ false }
 
-    // The link's faults are answered exactly where the link failed.
+    // The link's faults are answered exactly if the link failed.
     ensures read_failed { (result ≡ SessionEnd.ReadFailed) ↔ (R.has_failed reader.new ≡ true) }
     ensures write_failed { (result ≡ SessionEnd.WriteFailed) ↔ (W.has_failed writer.new ≡ true) }
 
     // The refusals of the first steps.
-    ensures full { (result ≡ SessionEnd.TraceFull) ↔ (4194304 < length log.old.steps + drain_bound log.old.machine.config) }
-    ensures refused { IsServed result (Unit {0}) ((reader.new ≡ reader.old) × (writer.new ≡ writer.old) × (log.new ≡ log.old)) }
+    ensures full { (result ≡ SessionEnd.TraceFull)
+        ↔ (4194304 < length log.old.steps + drain_bound log.old.machine.config) }
+    ensures refused { IsServed result (Unit {0}) ((reader.new ≡ reader.old) × (writer.new ≡ writer.old)
+        × (log.new ≡ log.old)) }
 
     // All else is the dialogue of the events that were read.
-    ensures served { IsServed result (HasServed (R.remaining reader.old) (R.remaining reader.new) (W.contents writer.old) (W.contents writer.new)
-        log.old log.new result) (Unit {0}) }
+    ensures served { IsServed result (HasServed (C.spec budget) (R.remaining reader.old) (R.remaining reader.new)
+        (W.contents writer.old) (W.contents writer.new) log.old log.new result) (Unit {0}) }
 {
     match log.drain() {
         Ok(_) => {}
@@ -82,24 +85,26 @@ pub fn serve<R: LinkRead, W: LinkWrite>(
 }
 
 /// Answers the events that end in a piece.
-fn serve_piece<W: LinkWrite>(
+fn serve_piece<W: LinkWrite, C: Runner>(
     piece: &[u8],
     lines: &mut LineReader,
     writer: &mut W,
     log: &mut Logged,
     breaks: &mut Breaks,
-    runner: &mut impl Runner,
+    runner: &mut C,
     budget: u32,
 ) -> Option<SessionEnd>
     requires writes { W.has_failed writer.old ≡ false }
     requires idle { IsIdle log.old.machine }
     ensures failed { (result ≡ Some SessionEnd.WriteFailed) ↔ (W.has_failed writer.new ≡ true) }
     ensures idle { IsIdle log.new.machine }
-    ensures goes { IfNone result (Goes lines.old (record { log = log.old; breaks = breaks.old }) (W.contents writer.old) piece.now
-        lines.new (record { log = log.new; breaks = breaks.new }) (W.contents writer.new)) }
+    ensures goes { IfNone result (Goes (C.spec budget) lines.old (record { log = log.old; breaks = breaks.old })
+        (W.contents writer.old) piece.now lines.new (record { log = log.new; breaks = breaks.new }) (W.contents
+        writer.new)) }
     ensures stops { IfSome result (λ end. (input : List ℕ) × (unread : List ℕ) × (piece.now ≡ input ++ unread)
-        × Stops lines.old (record { log = log.old; breaks = breaks.old }) (W.contents writer.old) input
-        lines.new (record { log = log.new; breaks = breaks.new }) (W.contents writer.new) end) }
+        × Stops (C.spec budget) lines.old (record { log = log.old; breaks = breaks.old })
+        (W.contents writer.old) input lines.new (record { log = log.new; breaks = breaks.new }) (W.contents
+        writer.new) end) }
 {
     let mut rest = piece;
     while !rest.is_empty() {
@@ -117,12 +122,12 @@ fn serve_piece<W: LinkWrite>(
 }
 
 /// Carries an event out, and then writes the reply to it. Says whether it ends the session.
-fn serve_event<W: LinkWrite>(
+fn serve_event<W: LinkWrite, C: Runner>(
     event: &Event,
     writer: &mut W,
     log: &mut Logged,
     breaks: &mut Breaks,
-    runner: &mut impl Runner,
+    runner: &mut C,
     budget: u32,
 ) -> Result<bool, Failed>
     requires writes { W.has_failed writer.old ≡ false }
@@ -130,8 +135,10 @@ fn serve_event<W: LinkWrite>(
     ensures failed { W.has_failed writer.new ≡ is_err result }
     ensures idle { IsIdle log.new.machine }
     ensures answered { (text : List ℕ)
-        × Answers (record { log = log.old; breaks = breaks.old }) (asked event.now) text (record { log = log.new; breaks = breaks.new })
-        × MatchResult result (λ quits. (quits ≡ is_quit event.now) × Appends (W.contents writer.old) (W.contents writer.new) (text ++ 10 ∷ []))
+        × Answers (C.spec budget) (record { log = log.old; breaks = breaks.old }) (asked event.now) text
+        (record { log = log.new; breaks = breaks.new })
+        × MatchResult result (λ quits. (quits ≡ is_quit event.now)
+        × Appends (W.contents writer.old) (W.contents writer.new) (text ++ 10 ∷ []))
         (λ _. AppendsPart (W.contents writer.old) (W.contents writer.new) (text ++ 10 ∷ [])) }
 {
     let command = asked(event);

@@ -4,17 +4,17 @@ ghost use Rattle.std.specs.Prelude.{◌≡◌, ◌≤◌, ◌<◌, ◌+◌, ◌�
 ghost use Rattle.machine_steps.specs.Draining.{drain_bound};
 ghost use Rattle.machine_steps.specs.Machines.{IsIdle};
 ghost use Rattle.machine_steps.specs.Standing.{HasRunning};
-ghost use Rattle.machine_log.specs.Logs.{KeepsPlaces, Log};
+ghost use Rattle.machine_log.specs.Logs.{KeepsCapacity, Log};
 ghost use Rattle.schedules.specs.Sweeps.{IsFault};
 ghost use Rattle.debug_session.specs.Breaks.{IsAtBreak, MeetsBreak, Retires, is_noted};
 ghost use Rattle.debug_session.specs.Runs.{HasDriven};
-ghost use Rattle.debug_session.specs.Sweeps.{HasContinued, HasSwept, IsUnderWay};
+ghost use Rattle.debug_session.specs.Sweeps.{HasContinued, HasSwept, IsUnderWay, sweep_spec};
 
 use crate::runner::Runner;
 use debug_replies::Breaks;
 use flat_machine::{Cause, Status};
-use machine_log::{LockRefusal, Logged, Roomy, roomy_is_kept};
-use machine_steps::{Machine, any_runs, machine_is_sound, replays_are_cut};
+use machine_log::{LockRefusal, Logged, ReservedLog, reserved_log_is_well_formed};
+use machine_steps::{Machine, any_runs, machine_is_well_formed, replays_are_cut};
 use schedules::{Round, rounds_go_on, sweeps_write_nothing};
 use steps::{Outcome, Step};
 
@@ -28,6 +28,8 @@ const MOST_PROCESSORS: usize = 64;
 pub struct Sweep;
 
 impl Runner for Sweep {
+    ghost spec = { sweep_spec };
+
     /// Follows the sweep until a fault stops a processor, a processor stands at a break, no processor runs,
     /// or as many steps are entered as the budget has. Then takes steps until no reference is open. For all
     /// these steps it makes room first.
@@ -40,7 +42,8 @@ impl Runner for Sweep {
         requires idle { IsIdle log.old.machine }
         ensures ran { OnOk result (HasDriven log.old log.new) }
         ensures continued { OnOk result (HasContinued breaks.now budget log.old log.new) }
-        ensures full { (result ≡ Err LockRefusal.Full) ↔ (4194304 < length log.old.steps + (budget + drain_bound log.old.machine.config)) }
+        ensures full { (result ≡ Err LockRefusal.Full)
+            ↔ (4194304 < length log.old.steps + (budget + drain_bound log.old.machine.config)) }
         ensures named { result ≡ Err LockRefusal.Unnamed → ⊥ }
         ensures not_free { result ≡ Err LockRefusal.NotFree → ⊥ }
         ensures refused { OnErr result (log.new ≡ log.old) }
@@ -51,30 +54,30 @@ impl Runner for Sweep {
     }
 }
 
-/// Follows the sweep for so many steps at most, and then drains the machine. There is room for the steps.
-fn sweep_and_drain(log: &mut Roomy, breaks: &Breaks, budget: u32)
-    requires room { budget + drain_bound log.old.log.machine.config ≤ log.old.places }
+/// Follows the sweep for this many steps at most, and then drains the machine. There is room for the steps.
+fn sweep_and_drain(log: &mut ReservedLog, breaks: &Breaks, budget: u32)
+    requires room { budget + drain_bound log.old.log.machine.config ≤ log.old.capacity_left }
     ensures ran { HasDriven log.old.log log.new.log }
     ensures continued { HasContinued breaks.now budget log.old.log log.new.log }
 {
     replays_are_cut();
     sweeps_write_nothing();
-    roomy_is_kept(log);
+    reserved_log_is_well_formed(log);
     let limit = log.steps().len() + budget as usize;
     follow(log, breaks, limit);
     log.drain();
-    roomy_is_kept(log);
+    reserved_log_is_well_formed(log);
 }
 
-/// Follows the sweep until it ends, or the log has so many steps.
-fn follow(log: &mut Roomy, breaks: &Breaks, limit: usize)
+/// Follows the sweep until it ends, or the log has this many steps.
+fn follow(log: &mut ReservedLog, breaks: &Breaks, limit: usize)
     requires few { length log.old.log.steps ≤ limit }
-    requires room { limit ≤ length log.old.log.steps + log.old.places }
+    requires room { limit ≤ length log.old.log.steps + log.old.capacity_left }
     ensures swept { HasSwept breaks.now limit log.old.log log.new.log }
     ensures config { log.new.log.machine.config ≡ log.old.log.machine.config }
-    ensures places { KeepsPlaces log.old log.new }
+    ensures capacity_left { KeepsCapacity log.old log.new }
 {
-    roomy_is_kept(log);
+    reserved_log_is_well_formed(log);
     let mut retired = none_retired();
     // While a processor runs, a round enters a step, or ends the sweep.
     while log.steps().len() < limit {
@@ -94,23 +97,24 @@ fn none_retired() -> [bool; MOST_PROCESSORS]
     [false; MOST_PROCESSORS]
 }
 
-/// Takes a round of the sweep, up to where the sweep ends, or the step behind which the log has so many.
+/// Takes a round of the sweep, up to where the sweep ends, or the step after which the log has this many.
 /// Answers whether the sweep ends there.
 fn take_round(
-    log: &mut Roomy,
+    log: &mut ReservedLog,
     breaks: &Breaks,
     retired: &mut [bool; MOST_PROCESSORS],
     limit: usize,
 ) -> bool
     requires few { length log.old.log.steps < limit }
-    requires room { limit ≤ length log.old.log.steps + log.old.places }
+    requires room { limit ≤ length log.old.log.steps + log.old.capacity_left }
     requires running { HasRunning log.old.log.machine }
     ensures goes_on { result ≡ false → (first : Log) → IsUnderWay breaks.now limit first retired.old log.old.log →
         IsUnderWay breaks.now limit first retired.new log.new.log }
     ensures some { result ≡ false → length log.old.log.steps < length log.new.log.steps }
-    ensures over { result ≡ true → (first : Log) → IsUnderWay breaks.now limit first retired.old log.old.log → HasSwept breaks.now limit first log.new.log }
+    ensures over { result ≡ true → (first : Log) → IsUnderWay breaks.now limit first retired.old log.old.log →
+        HasSwept breaks.now limit first log.new.log }
     ensures config { log.new.log.machine.config ≡ log.old.log.machine.config }
-    ensures places { KeepsPlaces log.old log.new }
+    ensures capacity_left { KeepsCapacity log.old log.new }
 {
     rounds_go_on();
     sweeps_write_nothing();
@@ -123,8 +127,8 @@ fn take_round(
             return true;
         }
         let outcome = log.step(step);
-        note(retired, &step, &outcome);
-        roomy_is_kept(log);
+        mark_retired(retired, &step, &outcome);
+        reserved_log_is_well_formed(log);
         if is_fault(&outcome) {
             return true;
         }
@@ -151,7 +155,7 @@ fn meets_break(
 fn is_at_break(p: u8, machine: &Machine, breaks: &Breaks, retired: &[bool; MOST_PROCESSORS]) -> bool
     ensures { IsTrue result ↔ IsAtBreak machine.now breaks.now retired.now p }
 {
-    machine_is_sound(machine);
+    machine_is_well_formed(machine);
     let Some(pc) = machine.pc(p) else {
         return false;
     };
@@ -165,8 +169,9 @@ fn is_at_break(p: u8, machine: &Machine, breaks: &Breaks, retired: &[bool; MOST_
 }
 
 /// Notes whose instruction the step has retired.
-fn note(retired: &mut [bool; MOST_PROCESSORS], step: &Step, outcome: &Outcome)
-    ensures { (p : ℕ) → p < 64 → (is_noted retired.new p ≡ true) ↔ ((is_noted retired.old p ≡ true) ⊎ Retires step.now outcome.now p) }
+fn mark_retired(retired: &mut [bool; MOST_PROCESSORS], step: &Step, outcome: &Outcome)
+    ensures { (p : ℕ) → p < 64 → (is_noted retired.new p ≡ true)
+        ↔ ((is_noted retired.old p ≡ true) ⊎ Retires step.now outcome.now p) }
 {
     if let (Step::Turn(p), Outcome::Retired(_)) = (step, outcome) {
         let place = usize::from(*p);

@@ -3,7 +3,8 @@
 -- Source: the RISC-V Unprivileged ISA manual, "Base Instruction Formats" and "Immediate Encoding Variants".
 use Rattle.std.specs.Prelude.{ℕ, ◌+◌, ◌*◌, ◌^◌, cond, Option, MatchOption}
 use Rattle.rv_table.specs.declared.insn.Insn.{Insn}
-use Rattle.rv_table.specs.declared.insn.Insn.TheVariants.{Op, OpImm, Shift, Load, Store, Branch, Upper, Jal, Jalr, Fence, Ecall, Ebreak, Amo}
+use Rattle.rv_table.specs.declared.insn.Insn.TheVariants.{Op, OpImm, Shift, Load, Store, Branch, Upper, Jal, Jalr}
+use Rattle.rv_table.specs.declared.insn.Insn.TheVariants.{Fence, Ecall, Ebreak, Amo}
 use Rattle.rv_table.specs.Rows.{bits, match_of, Spells}
 
 -- The result of reading a word is an instruction that the word spells, or `None` where it spells none.

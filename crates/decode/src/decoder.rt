@@ -16,7 +16,7 @@ use crate::operations::{
 };
 use rv_table::{Insn, UpperOp, spelled_is_read};
 
-// The masks of the table's rows: a row tells by the opcode, and by funct3, funct5 and funct7.
+// The masks of the table's rows: a row says by the opcode, and by funct3, funct5 and funct7.
 const OPCODE: u32 = 0x0000_007F;
 
 const FUNCT3: u32 = 0x0000_707F;

@@ -80,7 +80,8 @@ pub fn u_immediate(word: u32) -> Immediate<20>
 
 /// The J-immediate without its bit 0, which is always 0.
 pub fn j_immediate(word: u32) -> Immediate<20>
-    ensures { result ≡ bits word 31 31 * 2 ^ 19 + bits word 19 12 * 2 ^ 11 + bits word 20 20 * 2 ^ 10 + bits word 30 21 }
+    ensures { result
+        ≡ bits word 31 31 * 2 ^ 19 + bits word 19 12 * 2 ^ 11 + bits word 20 20 * 2 ^ 10 + bits word 30 21 }
 {
     Immediate::new(
         (field(word, 31, 31) << 19)

@@ -1,7 +1,8 @@
 //! The operation whose row has a given match, within each shape of instruction.
 
 ghost use Rattle.std.specs.Prelude.{◌≡◌, IsNone, IfSome};
-ghost use Rattle.rv_table.specs.Rows.{register_match, immediate_match, shift_match, load_match, store_match, branch_match, amo_match};
+ghost use Rattle.rv_table.specs.Rows.{register_match, immediate_match, shift_match, load_match, store_match};
+ghost use Rattle.rv_table.specs.Rows.{branch_match, amo_match};
 ghost use Rattle.rv_table.specs.declared.operation.RegisterOp.{RegisterOp};
 ghost use Rattle.rv_table.specs.declared.operation.ImmediateOp.{ImmediateOp};
 ghost use Rattle.rv_table.specs.declared.operation.ShiftOp.{ShiftOp};

@@ -26,10 +26,12 @@ passes b e rest p q = rw (p, q) refl
 not_true : (b : Bool) → b ≡ true → not b ≡ false
 not_true b e = rw e refl
 
+-- If a conjunction is true, both of its parts are true.
 pub and_true : (a b : Bool) → (a && b) ≡ true → (a ≡ true) × (b ≡ true)
 and_true true b e = (refl, e)
 and_true false b e = absurd (cc)
 
+-- If no element of a list is refused, the list has no first refusal.
 pub none_refused : {X : Type 0} (refusal : X → Option ImageError) (xs : List X) → ((k : ℕ) (x : X) → slice_get xs k ≡ Some x → refusal x ≡ None) →
     first_of (map refusal xs) ≡ None
 none_refused refusal [] h = refl
@@ -60,6 +62,7 @@ between w Code a e = let q : a / 65536 ≡ 1 = grind (arith, nat_tests, e) in (o
 between w Local a e = let q : a / 65536 ≡ 2 = grind (arith, nat_tests, e) in (omega arith, omega arith)
 between w Shared a e = (grind (arith, nat_tests, e), grind (arith, nat_tests, e))
 
+-- A segment that sets an address and lies in a region passes the test of that region.
 pub is_inside : (w : ℕ) (region : Region) (p : ProgramHeader) → 0 < p.p_memsz → LiesIn w region p → is_in w region p ≡ true
 is_inside w region p some l =
     let first = between w region p.p_vaddr (l.inside p.p_vaddr (omega arith, omega arith)) in
@@ -69,6 +72,7 @@ is_inside w region p some l =
     let below : nat_le (p.p_vaddr + p.p_memsz) (region_start region + region_length w region) ≡ true = grind (arith, nat_tests, end) in
     rw (l.flagged, above, below) refl
 
+-- A segment that passes the test of one region passes the test of lying in any.
 pub in_one : (w : ℕ) (region : Region) (p : ProgramHeader) → is_in w region p ≡ true → is_in_a_region w p ≡ true
 in_one w Code p e = in_first _ _ _ e
   where
@@ -86,6 +90,7 @@ in_one w Shared p e = in_third (is_in w Code p) (is_in w Local p) _ e
     in_third false true c e = refl
     in_third false false c e = e
 
+-- A segment is not refused if its bytes are in the file, it has room for them, and it is empty or lies in a region.
 pub segment_fine : (bytes w : ℕ) (p : ProgramHeader) → p.p_offset + p.p_filesz ≤ bytes → p.p_filesz ≤ p.p_memsz → (0 < p.p_memsz → is_in_a_region w p ≡ true) →
     segment_refusal bytes w p ≡ None
 segment_fine bytes w p there room placed =
@@ -102,6 +107,7 @@ segment_fine bytes w p there room placed =
           | inr none ↦ let test : nat_lt 0 p.p_memsz ≡ false = grind (arith, nat_tests, none) in rw test refl
         ]
 
+-- Headers are not refused if they are executable and supported, and end within the file.
 pub headers_fine : (file : List ℕ) → 52 ≤ length file → is_executable file (file_header file) ≡ true → is_supported (file_header file) ≡ true →
     (file_header file).e_phoff + 32 * (file_header file).e_phnum ≤ length file → header_refusal file ≡ None
 headers_fine file long executable supported listed =
@@ -127,6 +133,7 @@ unrefused w file size headers filed disjoint enters =
     (cond (have_overlap (segments file)) (Some Overlap) None) (cond (is_entry (file_header file).e_entry) None (Some Entry))
     (ap (λ b. cond b (Some TooLong) None) short) headers filed (ap (λ b. cond b (Some Overlap) None) disjoint) (ap (λ b. cond b None (Some Entry)) enters)
 
+-- A file that is accepted is not refused.
 pub accepted_is_not_refused : (w : ℕ) (file : List ℕ) → IsAccepted w file → refusal_of w file ≡ None
 accepted_is_not_refused w file a =
     unrefused w file a.not_long (headers_fine file a.headed a.executable a.supported a.listed)

@@ -13,7 +13,7 @@ use Rattle.elf_image.specs.Refusals.{is_executable, is_supported, header_refusal
 use Rattle.elf_image.specs.Refusals.{segment_refusals, have_overlap, is_entry, first_of, refusal_of}
 use Rattle.elf_image.specs.Images.{IsCause}
 
--- an error that tells of what the input holds
+-- an error that says of what the input holds
 abbrev pub is_of_input : ImageError → Bool
 is_of_input Truncated = true
 is_of_input NotExecutable = true
@@ -53,7 +53,7 @@ of_segments : (bytes w : ℕ) (ps : List ProgramHeader) → OfInput (first_of (s
 of_segments bytes w [] = tt
 of_segments bytes w (p ∷ ps) = of_first (segment_refusal bytes w p) (segment_refusals bytes w ps) (of_segment bytes w p) (of_segments bytes w ps)
 
--- a refusal that tells of the input is a cause
+-- a refusal that says of the input is a cause
 cause : (w : ℕ) (file : List ℕ) (e : ImageError) → is_of_input e ≡ true → refusal_of w file ≡ Some e → IsCause w file e
 cause w file Truncated i r = r
 cause w file NotExecutable i r = r
@@ -95,19 +95,23 @@ module _ (w : ℕ) (file : List ℕ) (short : length file ≤ 1048576) where
   not_long : one ≡ None
   not_long = let t : nat_lt 1048576 (length file) ≡ false = grind (arith, nat_tests) in ap (λ b. cond b (Some TooLong) None) t
 
+  -- A refusal of the headers is the first that applies to a file that is not too long.
   pub cause_headers : (e : ImageError) → header_refusal file ≡ Some e → IsCause w file e
   unfolding refusal_of
   cause_headers e h = cause w file e (subst OfInput h (of_headers file)) (at_second one (header_refusal file) three four five e not_long h)
 
+  -- If the headers are not refused, the first refusal of a segment is the first that applies.
   pub cause_segments : (e : ImageError) → header_refusal file ≡ None → three ≡ Some e → IsCause w file e
   unfolding refusal_of
   cause_segments e h s =
       cause w file e (subst OfInput s (of_segments (length file) w (segments file))) (at_third one (header_refusal file) three four five e not_long h s)
 
+  -- If no header or segment is refused, an overlap is the first refusal that applies.
   pub cause_overlap : header_refusal file ≡ None → three ≡ None → have_overlap (segments file) ≡ true → IsCause w file Overlap
   unfolding refusal_of
   cause_overlap h s o = at_fourth one (header_refusal file) three four five Overlap not_long h s (ap (λ b. cond b (Some Overlap) None) o)
 
+  -- If no header or segment is refused and none overlap, a wrong entry is the first refusal that applies.
   pub cause_entry : header_refusal file ≡ None → three ≡ None → have_overlap (segments file) ≡ false → is_entry (file_header file).e_entry ≡ false →
       IsCause w file Entry
   unfolding refusal_of

@@ -1,4 +1,4 @@
--- What the checks of a file tell.
+-- What the checks of a file say.
 use Rattle.std.proofs.Common.{◌≡◌, ℕ, zero, suc, ◌+◌, ◌*◌, ◌<◌, ◌≤◌, Bool, true, false, not, ◌&&◌, ◌||◌}
 use Rattle.std.proofs.Common.{List, [], ◌∷◌, length, None, Some, refl, arith, nat_lt, nat_le}
 use Rattle.std.specs.Prelude.{slice_get}
@@ -16,11 +16,16 @@ use Rattle.elf_image.proofs.Conditions.{and_true, or_false, not_false, passed, n
 
 -- a file whose headers are not refused
 pub record Headed (file : List ℕ) : Type 0 where
+  -- the file is at least as long as an ELF header
   pub long : 52 ≤ length file
+  -- it is an executable for RISC-V
   pub executable : is_executable file (file_header file) ≡ true
+  -- the other fields of its header are supported
   pub supported : is_supported (file_header file) ≡ true
+  -- its program header table ends within the file
   pub listed : (file_header file).e_phoff + 32 * (file_header file).e_phnum ≤ length file
 
+-- If the headers are not refused, all that is checked of them holds.
 pub headed : (file : List ℕ) → header_refusal file ≡ None → Headed file
 headed file h =
     let a = passed (nat_lt (length file) 52) Truncated _ h in
@@ -36,10 +41,14 @@ headed file h =
 
 -- a segment that is not refused
 pub record Checked (file_bytes shared_words : ℕ) (p : ProgramHeader) : Type 0 where
+  -- its bytes end within the file
   pub there : p.p_offset + p.p_filesz ≤ file_bytes
+  -- it has room for them
   pub room : p.p_filesz ≤ p.p_memsz
+  -- it lies in a region if it sets an address
   pub placed : 0 < p.p_memsz → is_in_a_region shared_words p ≡ true
 
+-- If a segment is not refused, all that is checked of it holds.
 pub checked : (file_bytes shared_words : ℕ) (p : ProgramHeader) → segment_refusal file_bytes shared_words p ≡ None → Checked file_bytes shared_words p
 checked file_bytes shared_words p h =
     let a = passed (not (is_in_file file_bytes p)) OutsideInput _ h in
@@ -56,10 +65,14 @@ checked file_bytes shared_words p h =
 
 -- a segment that lies in a region
 pub record Inside (shared_words : ℕ) (region : Region) (p : ProgramHeader) : Type 0 where
+  -- its flags are those of the region
   pub flagged : is_flagged region p.p_flags ≡ true
+  -- it does not begin before the region
   pub above : region_start region ≤ p.p_vaddr
+  -- it ends within the region
   pub below : p.p_vaddr + p.p_memsz ≤ region_start region + region_length shared_words region
 
+-- A segment that passes the test of a region has its flags and lies between its ends.
 pub inside : (shared_words : ℕ) (region : Region) (p : ProgramHeader) → is_in shared_words region p ≡ true → Inside shared_words region p
 inside shared_words region p e =
     let flags = is_flagged region p.p_flags in
@@ -91,6 +104,7 @@ which w p e = by_tests (is_in w Code p) (is_in w Local p) refl refl e
     by_tests false true code local e = (Local, local)
     by_tests false false code local e = (Shared, e)
 
+-- A segment that is in some region, and sets an address of this region, is in this region.
 pub at_home : (shared_words : ℕ) (region : Region) (p : ProgramHeader) (i : ℕ) → is_in_a_region shared_words p ≡ true → Sets p (region_start region + i) →
     i < region_length shared_words region → is_in shared_words region p ≡ true
 at_home w region p i e s h = let there = which w p e in home w there.0 region p i there.1 s h
@@ -99,6 +113,7 @@ at_home w region p i e s h = let there = which w p e in home w there.0 region p 
 pub overlap_false : (p q : ProgramHeader) (a : ℕ) → overlap p q ≡ false → Sets p a → Sets q a → ⊥
 overlap_false p q a e s t = grind (arith, nat_tests, e, s.0, s.1, t.0, t.1)
 
+-- If no segments of a list overlap, no two of them set the same address.
 pub apart : (ps : List ProgramHeader) (j k : ℕ) (p q : ProgramHeader) (a : ℕ) → have_overlap ps ≡ false → j < k → slice_get ps j ≡ Some p →
     slice_get ps k ≡ Some q → Sets p a → Sets q a → ⊥
 apart [] j k p q a e h at_j at_k s t = absurd (cc)

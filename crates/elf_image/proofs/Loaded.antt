@@ -15,7 +15,7 @@ use Rattle.elf_image.proofs.Checked.{Inside, inside}
 abbrev pub blank : ProgramHeader
 blank = record { p_type = 0; p_offset = 0; p_vaddr = 0; p_filesz = 0; p_memsz = 0; p_flags = 0 }
 
--- what the test of a segment that sets addresses of a region tells
+-- what the test of a segment that sets addresses of a region says
 pub sets_inside : (w : ℕ) (r : Region) (p : ProgramHeader) → sets_in w r p ≡ true → (0 < p.p_memsz) × Inside w r p
 sets_inside w r p e = let a = and_true (nat_lt 0 p.p_memsz) (is_in w r p) e in (grind (arith, nat_tests, a.0), inside w r p a.1)
 
@@ -32,9 +32,11 @@ module _ (ps : List ProgramHeader) (w : ℕ) (r : Region) (n : ℕ) (p : Program
         | inr ne ↦ omega arith
       ]
 
+  -- The extent of a region stays the same after a segment that sets nothing in it.
   pub extent_skip : (extent : ℕ) → sets_in w r p ≡ false → IsExtent ps w r n extent → IsExtent ps w r (n + 1) extent
   extent_skip extent misses l = record { reached = λ k q h one. l.reached k q (earlier k q misses h one) one; last = l.last }
 
+  -- After a segment that sets addresses of the region, its extent is the maximum of the old one and the segment's end.
   pub extent_next : (extent new : ℕ) → sets_in w r p ≡ true → new ≡ max extent (p.p_vaddr + p.p_memsz - region_start r) → IsExtent ps w r n extent →
       IsExtent ps w r (n + 1) new
   extent_next extent new hits is l = record { reached = reached; last = last }

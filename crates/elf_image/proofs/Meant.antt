@@ -1,4 +1,4 @@
--- From what the checks and the loader tell to accepted input and its meaning.
+-- From what the checks and the loader say to accepted input and its meaning.
 use Rattle.std.proofs.Common.{◌≡◌, ℕ, ◌+◌, ◌-◌, ◌/◌, ◌%◌, ◌<◌, ◌≤◌, Bool, true, false, cond, List}
 use Rattle.std.proofs.Common.{[], length, None, Some, refl, ap, ◌∙◌, inl, inr, arith, nat_lt, eqb}
 use Rattle.std.specs.Prelude.{slice_get, slice_index}
@@ -35,10 +35,15 @@ lies_in w region p e =
 
 -- a file that no check refuses
 pub record Passed (shared_words : ℕ) (file : List ℕ) : Type 0 where
+  -- the file is at most 1 MiB long
   pub short : length file ≤ 1048576
+  -- its headers are not refused
   pub headers : header_refusal file ≡ None
+  -- none of its segments is refused
   pub filed : first_of (segment_refusals (length file) shared_words (segments file)) ≡ None
+  -- no two segments overlap
   pub disjoint : have_overlap (segments file) ≡ false
+  -- a processor can start at its entry
   pub enters : is_entry (file_header file).e_entry ≡ true
 
 entry_passed : (b : Bool) (e : ImageError) → cond b None (Some e) ≡ None → b ≡ true
@@ -67,6 +72,7 @@ module _ (w : ℕ) (file : List ℕ) (passed : Passed w file) where
   check : (k : ℕ) (p : ProgramHeader) → slice_get (segments file) k ≡ Some p → Checked (length file) w p
   check k p at = checked (length file) w p (each_none (segment_refusal (length file) w) (segments file) k p passed.filed at)
 
+  -- A file that no check refuses is accepted.
   pub accepted : IsAccepted w file
   accepted =
       let h = headed file passed.headers in
@@ -129,6 +135,7 @@ module _ (w : ℕ) (file : List ℕ) (passed : Passed w file) where
           let i = sets_inside w region end.1 end.2.sets in
           (end.0, end.1, end.2.at, (omega (arith, i.0, i.1.above, end.3), omega (arith, end.3)))
 
+  -- A layout is what the file means if it has the file's entry and each region's loaded bytes.
   pub meant : (layout : Layout) → layout.entry ≡ (file_header file).e_entry →
       IsLoaded file (segments file) w Code layout.code → IsLoaded file (segments file) w Local layout.local →
       IsLoaded file (segments file) w Shared layout.shared →
@@ -140,6 +147,7 @@ module _ (w : ℕ) (file : List ℕ) (passed : Passed w file) where
     shared = has_bytes Shared layout.shared shared;
   }
 
+  -- The layout that the file means fits its regions, and its entry is an aligned address of code.
   pub placed : (layout : Layout) → IsMeant w file layout → IsPlaced layout w
   placed layout m =
       let entry = (file_header file).e_entry in
@@ -155,8 +163,10 @@ module _ (w : ℕ) (file : List ℕ) (passed : Passed w file) where
 
 -- ---- for the law
 
+-- A file that is not refused is accepted.
 pub accepted_file : (w : ℕ) (file : List ℕ) → refusal_of w file ≡ None → IsAccepted w file
 accepted_file w file h = accepted w file (not_refused w file h)
 
+-- The layout that is loaded from a file that is not refused is what the file means.
 pub meant_layout : (w : ℕ) (file : List ℕ) (layout : Layout) → refusal_of w file ≡ None → LoadsLayout file w layout → IsMeant w file layout
 meant_layout w file layout h l = meant w file (not_refused w file h) layout l.entry l.code l.local l.shared

@@ -141,6 +141,7 @@ module _ (config : Config) (layout : Layout) (openable : IsOpenable layout) wher
         local = local;
       })
 
+  -- The opening of a layout has at each address what the layout places there, if a machine can open on the layout.
   pub opens_on_the_layout : IsLayoutOpening layout config (opening config layout)
   opens_on_the_layout = record {
     count = length-replicate (2 ^ config.k) (opening_processor layout);
@@ -178,6 +179,8 @@ module _ (config : Config) (file : List ℕ) (layout : Layout) (m : IsMeant conf
       (opening config layout) m.entry code_byte local_byte shared_byte
       (opens_on_the_layout config layout (record { code = m.code.fits; local = m.local.fits; bytes = small }))
 
+-- The opening of the layout that a file means has at each address what the file sets there,
+-- if the elements of its shared part are bytes.
 pub opens_on_the_file : (config : Config) (file : List ℕ) (layout : Layout) → IsMeant config.shared_words file layout →
     ((i : ℕ) → slice_index layout.shared i < 256) → IsFileOpening file config (opening config layout)
 opens_on_the_file config file layout m small = opens_on_the_meaning config file layout m small

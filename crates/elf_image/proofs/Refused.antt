@@ -1,4 +1,4 @@
--- What a refusal tells.
+-- What a refusal says.
 use Rattle.std.proofs.Common.{◌≡◌, ℕ, suc, ◌+◌, ◌*◌, ◌<◌, max, min, Bool, true, false, not, cond}
 use Rattle.std.proofs.Common.{◌&&◌, ◌||◌, List, [], ◌∷◌, map, length, Option, None, Some, refl}
 use Rattle.std.proofs.Common.{sym, subst, ◌∙◌, ◌⊎◌, inl, inr, arith, nat_lt, nat_le}
@@ -65,13 +65,21 @@ any_true test (x ∷ xs) h =
 
 -- the segments j and k of a list overlap
 pub record Overlapping (ps : List ProgramHeader) : Type 0 where
+  -- the place of the earlier segment
   pub j : ℕ
+  -- the place of the later segment
   pub k : ℕ
+  -- the earlier segment
   pub p : ProgramHeader
+  -- the later segment
   pub q : ProgramHeader
+  -- the two places differ, and are in this order
   pub less : j < k
+  -- the earlier segment is at its place
   pub first : slice_get ps j ≡ Some p
+  -- the later segment is at its place
   pub second : slice_get ps k ≡ Some q
+  -- the two share an address
   pub share : overlap p q ≡ true
 
 two_overlap : (ps : List ProgramHeader) → have_overlap ps ≡ true → Overlapping ps
@@ -145,6 +153,7 @@ module _ (w : ℕ) (file : List ℕ) where
       let less : a < min (o.p.p_vaddr + o.p.p_memsz) (o.q.p_vaddr + o.q.p_memsz) = grind (arith, nat_tests, o.share) in
       (o.j, o.k, o.p, o.q, a, o.less, o.first, o.second, (omega arith, omega (arith, less)), (omega arith, omega (arith, less)))
 
+  -- If a file is refused with an error, it has the cause of that error.
   pub refused : (e : ImageError) → refusal_of w file ≡ Some e → HasCause w file e
   unfolding refusal_of
   refused e h =
@@ -176,5 +185,6 @@ module _ (w : ℕ) (file : List ℕ) where
       at_entry true t h = none_here (HasCause w file e) e h
       at_entry false t h = let same : Entry ≡ e = cc in subst (HasCause w file) same t
 
+-- A file that is refused with an error has the cause of that error.
 pub refused_for : (w : ℕ) (file : List ℕ) (e : ImageError) → refusal_of w file ≡ Some e → HasCause w file e
 refused_for w file e h = refused w file e h

@@ -73,11 +73,17 @@ bytes_of p = program_header_bytes p.p_offset p.p_vaddr p.p_filesz p.p_flags
 
 -- a header that its bytes give back
 pub record IsSpelled (p : ProgramHeader) : Type 0 where
+  -- it is of a segment to load
   pub load : p.p_type ≡ 1
+  -- the segment is as long in memory as in the file
   pub same : p.p_memsz ≡ p.p_filesz
+  -- its offset is a word
   pub offset : p.p_offset < 2 ^ 32
+  -- its address is a word
   pub start : p.p_vaddr < 2 ^ 32
+  -- its length is a word
   pub count : p.p_filesz < 2 ^ 32
+  -- its flags are a word
   pub flags : p.p_flags < 2 ^ 32
 
 length-bytes_of : (p : ProgramHeader) → length (bytes_of p) ≡ 32
@@ -232,9 +238,11 @@ module _ (l : Layout) where
       by_cases false true = omega arith
       by_cases false false = omega arith
 
+  -- The ELF header of a spelling has the layout's entry and its number of segments, if the entry is a word.
   pub header_read : l.entry < 2 ^ 32 → file_header (spelling l) ≡ spelled_header l.entry (count_of l)
   header_read h = ap file_header in_parts ∙ header_spelled l.entry (count_of l) _ h (omega (arith, few))
 
+  -- If the entry is a word, the segments of a spelling of at most 1 MiB are those of the layout's table.
   pub segments_read : l.entry < 2 ^ 32 → length (spelling l) ≤ 1048576 → segments (spelling l) ≡ table l
   segments_read h short =
       let size = length-spelling in
@@ -253,5 +261,6 @@ module _ (l : Layout) where
       ∙ table_back header_bytes rest 52 (table l) (length-file_header_bytes l.entry (count_of l)) spelled in
       ap (filter is_load) read ∙ all_load (code_header l) (local_header l) (shared_header l) (is_nil l.local) (is_nil l.shared) refl refl refl
 
+-- A spelling is at most 148 bytes longer than the parts of its layout together.
 pub short_headers : (l : Layout) → length (spelling l) ≤ 148 + length l.code + length l.local + length l.shared
 short_headers l = omega (arith, length-spelling l, few l)

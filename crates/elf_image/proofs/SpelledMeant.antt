@@ -267,7 +267,7 @@ module _ (w : ℕ) (l : Layout) (placed : IsPlaced l w) (short : length (spellin
       let at = third_listed (code_header l) (local_header l) (shared_header l) (is_nil l.local) (is_nil l.shared) (some_bytes l.shared h) in
       one_at Shared at.0 (shared_header l) at.1 h shared_lies
 
-  -- the headers, and what stands behind them
+  -- the headers, and what stands after them
   abbrev head : List ℕ
   head = file_header_bytes l.entry (count_of l) ++ flat_map bytes_of (table l)
 

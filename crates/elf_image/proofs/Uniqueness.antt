@@ -57,6 +57,7 @@ module _ (file : List ℕ) (w : ℕ) (region : Region) where
             | inr none ↦ a.unset i h none ∙ sym (b.unset i (omega (arith, count)) none)
           ]
 
+-- A file means at most one layout.
 pub meant_once : (w : ℕ) (file : List ℕ) (one other : Layout) → IsMeant w file one → IsMeant w file other → one ≡ other
 meant_once w file one other a b =
     let entry : one.entry ≡ other.entry = a.entry ∙ sym b.entry in

@@ -17,10 +17,11 @@ pub record IsImageOf (shared_words : ℕ) (known : Option (List ℕ)) (image : I
   pub meant : IsMeant shared_words file image.layout
   pub words : image.shared_words ≡ shared_words
 
--- Why an image is not there: the file is too long, or is refused, and this is the first refusal that applies. That the link
--- failed says nothing of the file.
+-- Why an image is not there: the file is too long, or is refused, and this is the first refusal that applies. That the
+-- link failed says nothing of the file.
 abbrev pub IsImageRefusal : (shared_words : ℕ) → (known : Option (List ℕ)) → ImageError → Type 0
 IsImageRefusal shared_words known error.TooLong = IfSome known (λ all. 1048576 < length all)
 IsImageRefusal shared_words known error.Link = Unit {0}
 IsImageRefusal shared_words known error.Memory = ⊥
-IsImageRefusal shared_words known refusal = (file : List ℕ) × IsWhole known file × (refusal_of shared_words file ≡ Some refusal)
+IsImageRefusal shared_words known refusal = (file : List ℕ) × IsWhole known file
+    × (refusal_of shared_words file ≡ Some refusal)

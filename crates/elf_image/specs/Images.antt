@@ -1,5 +1,6 @@
 -- Accepted input, and the image that it means.
-use Rattle.std.specs.Prelude.{◌≡◌, ℕ, ◌+◌, ◌-◌, ◌*◌, ◌%◌, ◌<◌, ◌≤◌, Bool, true, List, length, Option, Some, slice_get, slice_index}
+use Rattle.std.specs.Prelude.{◌≡◌, ℕ, ◌+◌, ◌-◌, ◌*◌, ◌%◌, ◌<◌, ◌≤◌, Bool, true, List, length, Option, Some, slice_get}
+use Rattle.std.specs.Prelude.{slice_index}
 use Rattle.link.specs.Transfer.{ConsumesAll, ConsumesAtMost, ConsumesPast}
 use Rattle.flat_machine.specs.Memory.{in_code, in_local, in_shared}
 use Rattle.elf_image.specs.declared.error.ImageError.{ImageError}
@@ -26,7 +27,7 @@ pub record LiesIn (shared_words : ℕ) (region : Region) (p : ProgramHeader) : T
   pub flagged : is_flagged region p.p_flags ≡ true
   pub inside : (address : ℕ) → Sets p address → in_region shared_words region address ≡ true
 
--- the bytes are an image for machines with so many shared words
+-- the bytes are an image for machines with this many shared words
 pub record IsAccepted (shared_words : ℕ) (file : List ℕ) : Type 0 where
   pub not_long : length file ≤ 1048576
   pub headed : 52 ≤ length file
@@ -36,12 +37,15 @@ pub record IsAccepted (shared_words : ℕ) (file : List ℕ) : Type 0 where
   pub listed : (file_header file).e_phoff + 32 * (file_header file).e_phnum ≤ length file
   -- so do each segment's bytes, and the segment has room for them
   pub filed :
-      (k : ℕ) (p : ProgramHeader) → slice_get (segments file) k ≡ Some p → (p.p_offset + p.p_filesz ≤ length file) × (p.p_filesz ≤ p.p_memsz)
+      (k : ℕ) (p : ProgramHeader) → slice_get (segments file) k ≡ Some p →
+      (p.p_offset + p.p_filesz ≤ length file) × (p.p_filesz ≤ p.p_memsz)
   -- each segment that sets an address lies in one region
-  pub placed : (k : ℕ) (p : ProgramHeader) → slice_get (segments file) k ≡ Some p → 0 < p.p_memsz → (region : Region) × LiesIn shared_words region p
+  pub placed : (k : ℕ) (p : ProgramHeader) → slice_get (segments file) k ≡ Some p → 0 < p.p_memsz →
+      (region : Region) × LiesIn shared_words region p
   -- no two segments set one address
   pub apart :
-      (j k : ℕ) (p q : ProgramHeader) (address : ℕ) → slice_get (segments file) j ≡ Some p → slice_get (segments file) k ≡ Some q →
+      (j k : ℕ) (p q : ProgramHeader) (address : ℕ) → slice_get (segments file) j ≡ Some p →
+      slice_get (segments file) k ≡ Some q →
       Sets p address → Sets q address → j ≡ k
   pub entry : is_entry (file_header file).e_entry ≡ true
 
@@ -50,10 +54,12 @@ pub record IsAccepted (shared_words : ℕ) (file : List ℕ) : Type 0 where
 -- The bytes of a region, to the last that a segment sets: what a segment sets is as it sets it, all else is zero.
 pub record HasBytes (file : List ℕ) (shared_words : ℕ) (region : Region) (bytes : List ℕ) : Type 0 where
   pub set :
-      (k : ℕ) (p : ProgramHeader) (i : ℕ) → slice_get (segments file) k ≡ Some p → i < length bytes → Sets p (region_start region + i) →
+      (k : ℕ) (p : ProgramHeader) (i : ℕ) → slice_get (segments file) k ≡ Some p → i < length bytes →
+      Sets p (region_start region + i) →
       slice_index bytes i ≡ byte_of file p (region_start region + i)
   pub unset : (i : ℕ) → i < length bytes → IsUnset (segments file) (region_start region + i) → slice_index bytes i ≡ 0
-  pub behind : (i : ℕ) → length bytes ≤ i → i < region_length shared_words region → IsUnset (segments file) (region_start region + i)
+  pub behind : (i : ℕ) → length bytes ≤ i → i < region_length shared_words region →
+      IsUnset (segments file) (region_start region + i)
   pub last : 0 < length bytes → IsSet (segments file) (region_start region + (length bytes - 1))
   pub fits : length bytes ≤ region_length shared_words region
 
@@ -87,15 +93,15 @@ IsGiven shared_words old new image =
     (file : List ℕ) × ConsumesAll old new file × IsAccepted shared_words file × IsMeant shared_words file image.layout
     × (image.shared_words ≡ shared_words)
 
--- A refusal of the input, which is the first that applies; of want of memory this says nothing.
+-- A refusal of the input, which is the first that applies; of a lack of memory this says nothing.
 abbrev pub IsCause : (shared_words : ℕ) → List ℕ → ImageError → Type 0
 IsCause shared_words file error.TooLong = ⊥
 IsCause shared_words file error.Link = ⊥
 IsCause shared_words file error.Memory = Unit {0}
 IsCause shared_words file refusal = refusal_of shared_words file ≡ Some refusal
 
--- Why there is no image, and what the reader has given: the input is too long; or the link failed, of which another clause
--- speaks, or memory was short, and a beginning of the input was read; or all that the reader had is refused.
+-- Why there is no image, and what the reader has given: the input is too long; or the link failed, of which another
+-- clause speaks, or memory was short, and a beginning of the input was read; or all that the reader had is refused.
 abbrev pub IsRefused : (shared_words : ℕ) → (old new : Option (List ℕ)) → ImageError → Type 0
 IsRefused shared_words old new error.TooLong = ConsumesPast 1048576 old new
 IsRefused shared_words old new error.Link = ConsumesAtMost 1048576 old new

@@ -1,5 +1,6 @@
 -- What the laws of images speak of.
-use Rattle.std.specs.Prelude.{◌≡◌, ◌⊎◌, ℕ, ◌+◌, ◌-◌, ◌*◌, ◌/◌, ◌%◌, ◌^◌, ◌<◌, ◌≤◌, true, false, List, length, Some, slice_get, slice_index}
+use Rattle.std.specs.Prelude.{◌≡◌, ◌⊎◌, ℕ, ◌+◌, ◌-◌, ◌*◌, ◌/◌, ◌%◌, ◌^◌, ◌<◌, ◌≤◌, true, false, List, length, Some}
+use Rattle.std.specs.Prelude.{slice_get, slice_index}
 use Rattle.flat_machine.specs.declared.config.Config.{Config}
 use Rattle.flat_machine.specs.declared.event.Status.TheVariants.{Running}
 use Rattle.flat_machine.specs.Words.{part_of}
@@ -17,17 +18,18 @@ use Rattle.elf_image.specs.Images.{LiesIn}
 
 -- What the file has at an address: what a segment sets there, and zero where none does.
 pub record IsByteAt (file : List ℕ) (address byte : ℕ) : Type 0 where
-  pub set : (k : ℕ) (p : ProgramHeader) → slice_get (segments file) k ≡ Some p → Sets p address → byte ≡ byte_of file p address
+  pub set : (k : ℕ) (p : ProgramHeader) → slice_get (segments file) k ≡ Some p → Sets p address →
+      byte ≡ byte_of file p address
   pub unset : IsUnset (segments file) address → byte ≡ 0
 
--- What a layout has at an address: a byte of the region that the address is in, and zero behind the last one.
+-- What a layout has at an address: a byte of the region that the address is in, and zero after the last one.
 pub record IsPlacedAt (layout : Layout) (address byte : ℕ) : Type 0 where
   pub code : in_code address ≡ true → byte ≡ slice_index layout.code (address - 0x10000)
   pub local : in_local address ≡ true → byte ≡ slice_index layout.local (address - 0x20000)
   pub shared : 2 ^ 31 ≤ address → byte ≡ slice_index layout.shared (address - 2 ^ 31)
 
--- A processor opens at an entry: it stands there, its registers are zero, and it runs. Its local memory has 2¹⁶ bytes, each
--- of which is what is said to be at its address.
+-- A processor opens at an entry: it stands there, its registers are zero, and it runs. Its local memory has 2¹⁶ bytes,
+-- each of which is what is said to be at its address.
 pub record IsOpeningProcessor (entry : ℕ) (IsAt : (address byte : ℕ) → Type 0) (p : Processor) : Type 0 where
   pub pc : p.pc ≡ entry
   pub registers : length p.registers ≡ 32
@@ -36,14 +38,15 @@ pub record IsOpeningProcessor (entry : ℕ) (IsAt : (address byte : ℕ) → Typ
   pub local_size : length p.local ≡ 2 ^ 16
   pub local : (address : ℕ) → in_local address ≡ true → IsAt address (slice_index p.local (address % 2 ^ 16))
 
--- The flat machine of a configuration opens at an entry, with the bytes that are said to be at the addresses. Its code has
--- 2¹⁶ bytes.
+-- The flat machine of a configuration opens at an entry, with the bytes that are said to be at the addresses. Its code
+-- has 2¹⁶ bytes.
 pub record IsOpening (entry : ℕ) (IsAt : (address byte : ℕ) → Type 0) (config : Config) (m : FlatState) : Type 0 where
   pub count : length m.processors ≡ 2 ^ config.k
   pub processors : (k : ℕ) (p : Processor) → slice_get m.processors k ≡ Some p → IsOpeningProcessor entry IsAt p
   pub words : length m.shared ≡ config.shared_words
   pub shared :
-      (address : ℕ) → in_shared config.shared_words address ≡ true → IsAt address (part_of 1 (address % 4) (slice_index m.shared ((address - 2 ^ 31) / 4)))
+      (address : ℕ) → in_shared config.shared_words address ≡ true →
+      IsAt address (part_of 1 (address % 4) (slice_index m.shared ((address - 2 ^ 31) / 4)))
   pub code_size : length m.code ≡ 2 ^ 16
   pub code : (address : ℕ) → in_code address ≡ true → IsAt address (slice_index m.code (address % 2 ^ 16))
 

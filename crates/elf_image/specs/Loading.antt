@@ -9,34 +9,44 @@ use Rattle.elf_image.specs.Regions.{region_start, sets_in}
 use Rattle.elf_image.specs.Segments.{Sets, byte_of}
 
 -- one of the segments sets addresses of the region
-pub record IsOne (ps : List ProgramHeader) (shared_words : ℕ) (region : Region) (k : ℕ) (p : ProgramHeader) : Type 0 where
+pub record IsOne (ps : List ProgramHeader) (shared_words : ℕ) (region : Region) (k : ℕ)
+    (p : ProgramHeader) : Type 0 where
   pub at : slice_get ps k ≡ Some p
   pub sets : sets_in shared_words region p ≡ true
 
 -- the first `count` segments of the region end this far from its first address, and one of them just there
 pub record IsExtent (ps : List ProgramHeader) (shared_words : ℕ) (region : Region) (count extent : ℕ) : Type 0 where
-  pub reached : (k : ℕ) (p : ProgramHeader) → k < count → IsOne ps shared_words region k p → p.p_vaddr + p.p_memsz ≤ region_start region + extent
-  pub last : 0 < extent → (k : ℕ) × (p : ProgramHeader) × IsOne ps shared_words region k p × (p.p_vaddr + p.p_memsz ≡ region_start region + extent)
+  pub reached : (k : ℕ) (p : ProgramHeader) → k < count → IsOne ps shared_words region k p →
+      p.p_vaddr + p.p_memsz ≤ region_start region + extent
+  pub last : 0 < extent →
+      (k : ℕ) × (p : ProgramHeader) × IsOne ps shared_words region k p
+      × (p.p_vaddr + p.p_memsz ≡ region_start region + extent)
 
 -- the segment's bytes in the file are at their places of a region that begins at `start`, and all else is as it was
 pub record CopiesSegment (file : List ℕ) (p : ProgramHeader) (start : ℕ) (old new : List ℕ) : Type 0 where
   pub count : length new ≡ length old
   pub copied :
-      (i : ℕ) → p.p_vaddr ≤ start + i → start + i < p.p_vaddr + p.p_filesz → slice_index new i ≡ slice_index file (p.p_offset + (start + i - p.p_vaddr))
+      (i : ℕ) → p.p_vaddr ≤ start + i → start + i < p.p_vaddr + p.p_filesz →
+      slice_index new i ≡ slice_index file (p.p_offset + (start + i - p.p_vaddr))
   pub before : (i : ℕ) → start + i < p.p_vaddr → slice_index new i ≡ slice_index old i
   pub behind : (i : ℕ) → p.p_vaddr + p.p_filesz ≤ start + i → slice_index new i ≡ slice_index old i
 
 -- the first `count` segments of the region are loaded, and what they do not set is zero
-pub record AreLoaded (file : List ℕ) (ps : List ProgramHeader) (shared_words : ℕ) (region : Region) (count : ℕ) (bytes : List ℕ) : Type 0 where
+pub record AreLoaded (file : List ℕ) (ps : List ProgramHeader) (shared_words : ℕ) (region : Region) (count : ℕ)
+    (bytes : List ℕ) : Type 0 where
   pub set :
-      (k : ℕ) (p : ProgramHeader) (i : ℕ) → k < count → IsOne ps shared_words region k p → Sets p (region_start region + i) →
+      (k : ℕ) (p : ProgramHeader) (i : ℕ) → k < count → IsOne ps shared_words region k p →
+      Sets p (region_start region + i) →
       slice_index bytes i ≡ byte_of file p (region_start region + i)
   pub unset :
-      (i : ℕ) → ((k : ℕ) (p : ProgramHeader) → k < count → IsOne ps shared_words region k p → Sets p (region_start region + i) → ⊥) →
+      (i : ℕ) →
+      ((k : ℕ) (p : ProgramHeader) → k < count → IsOne ps shared_words region k p → Sets p (region_start region + i) →
+      ⊥) →
       slice_index bytes i ≡ 0
 
 -- the region's bytes are there, to the last that a segment sets
-pub record IsLoaded (file : List ℕ) (ps : List ProgramHeader) (shared_words : ℕ) (region : Region) (bytes : List ℕ) : Type 0 where
+pub record IsLoaded (file : List ℕ) (ps : List ProgramHeader) (shared_words : ℕ) (region : Region)
+    (bytes : List ℕ) : Type 0 where
   pub extent : IsExtent ps shared_words region (length ps) (length bytes)
   pub loaded : AreLoaded file ps shared_words region (length ps) bytes
 

@@ -9,11 +9,12 @@ unfoldable pub use Rattle.local_memory.specs.Accesses.{padded}
 pub use Rattle.local_memory.specs.Accesses.{region_of_bytes}
 use Rattle.elf_image.specs.declared.layout.Layout.{Layout}
 
--- so many little-endian words, which begin with these bytes and are zero after them
+-- this many little-endian words, which begin with these bytes and are zero after them
 abbrev pub words_of : List ℕ → (count : ℕ) → List ℕ
 words_of bytes count = map (λ i. number_at bytes (4 * i) 4) (range_with_len 0 count)
 
--- Each processor stands at the entry and runs. Its registers are zero, and its local memory begins with the local bytes.
+-- Each processor stands at the entry and runs. Its registers are zero, and its local memory begins with the local
+-- bytes.
 abbrev pub opening_processor : Layout → Processor
 opening_processor layout = record {
   pc = layout.entry;

@@ -15,7 +15,8 @@ use Rattle.elf_image.specs.Regions.{is_in_a_region}
 -- 7F "ELF", ELFCLASS32, ELFDATA2LSB, EV_CURRENT; ET_EXEC; EM_RISCV
 abbrev pub is_executable : List ℕ → FileHeader → Bool
 is_executable file header =
-    starts_with nat_eq file (0x7F ∷ 0x45 ∷ 0x4C ∷ 0x46 ∷ 1 ∷ 1 ∷ 1 ∷ []) && header.e_type == 2 && header.e_machine == 243
+    starts_with nat_eq file (0x7F ∷ 0x45 ∷ 0x4C ∷ 0x46 ∷ 1 ∷ 1 ∷ 1 ∷ []) && header.e_type == 2
+    && header.e_machine == 243
 
 abbrev pub is_supported : FileHeader → Bool
 is_supported header =
@@ -68,7 +69,7 @@ first_of [] = None
 first_of (None ∷ refusals) = first_of refusals
 first_of (Some refusal ∷ refusals) = Some refusal
 
--- the refusal of a file, for so many shared words: the first that applies, in this order
+-- the refusal of a file, for this many shared words: the first that applies, in this order
 unfoldable pub refusal_of : (shared_words : ℕ) → List ℕ → Option ImageError
 refusal_of shared_words file =
     first_of (

@@ -16,8 +16,8 @@ halves numbers = flat_map (to_le_bytes w16) numbers
 abbrev pub words : List ℕ → List ℕ
 words numbers = flat_map (to_le_bytes w32) numbers
 
--- e_ident; e_type, e_machine; e_version, e_entry, e_phoff, e_shoff, e_flags; e_ehsize, e_phentsize, e_phnum, e_shentsize,
--- e_shnum, e_shstrndx
+-- e_ident; e_type, e_machine; e_version, e_entry, e_phoff, e_shoff, e_flags; e_ehsize, e_phentsize, e_phnum,
+-- e_shentsize, e_shnum, e_shstrndx
 unfoldable pub file_header_bytes : (entry count : ℕ) → List ℕ
 file_header_bytes entry count =
     (0x7F ∷ 0x45 ∷ 0x4C ∷ 0x46 ∷ 1 ∷ 1 ∷ 1 ∷ [])
@@ -58,8 +58,11 @@ abbrev pub head_bytes : Layout → List ℕ
 head_bytes layout =
     file_header_bytes layout.entry (count_of layout)
     ++ program_header_bytes (code_offset layout) (region_start Code) (length layout.code) (written_flags Code)
-    ++ (if is_nil layout.local then [] else program_header_bytes (local_offset layout) (region_start Local) (length layout.local) (written_flags Local))
-    ++ (if is_nil layout.shared then [] else program_header_bytes (shared_offset layout) (region_start Shared) (length layout.shared) (written_flags Shared))
+    ++ (if is_nil layout.local then []
+    else program_header_bytes (local_offset layout) (region_start Local) (length layout.local) (written_flags Local))
+    ++ (if is_nil layout.shared then []
+    else program_header_bytes (shared_offset layout) (region_start Shared) (length layout.shared)
+    (written_flags Shared))
 
 -- the headers, and then the bytes of each region
 unfoldable pub spelling : Layout → List ℕ

@@ -69,7 +69,7 @@ impl Bytes {
         self.items.is_empty()
     }
 
-    /// Adds a byte behind the last.
+    /// Adds a byte after the last.
     ///
     /// # Errors
     ///
@@ -82,7 +82,7 @@ impl Bytes {
         Ok(())
     }
 
-    /// Adds bytes behind the last.
+    /// Adds bytes after the last.
     ///
     /// # Errors
     ///
@@ -94,7 +94,7 @@ impl Bytes {
         self.items.extend_from_slice(bytes)
     }
 
-    /// Adds `count` copies of a byte behind the last.
+    /// Adds `count` copies of a byte after the last.
     ///
     /// # Errors
     ///

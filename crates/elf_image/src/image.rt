@@ -8,7 +8,7 @@ use crate::layout::Layout;
 use std::alloc::Global;
 use std::marker::Model;
 
-/// A program that was read for machines with so many shared words.
+/// A program that was read for machines with this many shared words.
 #[derive(Debug, Drop)]
 pub struct Image {
     layout: Layout,

@@ -15,13 +15,14 @@ use crate::laws::loading_gives_the_meaning;
 /// Input that is not refused is accepted: each segment lies in a region with all its addresses, and
 /// no two set one address. All else is refused.
 pub fn not_refused_is_accepted()
-    ensures { (shared_words : ℕ) (file : List ℕ) → (refusal_of shared_words file ≡ None) ↔ IsAccepted shared_words file }
+    ensures { (shared_words : ℕ) (file : List ℕ) → (refusal_of shared_words file ≡ None)
+        ↔ IsAccepted shared_words file }
 {
     // A law of reading, for the proof alone.
     loading_gives_the_meaning();
 }
 
-/// What is refused has the cause that is told.
+/// What is refused has the cause that is reported.
 pub fn refusals_have_their_causes()
     ensures { (shared_words : ℕ) (file : List ℕ) (error : ImageError) → refusal_of shared_words file ≡ Some error
         → HasCause shared_words file error }
@@ -34,10 +35,11 @@ pub fn input_means_one_layout()
 {}
 
 /// A machine that opens on a layout has at each address what the layout has there: a byte of the
-/// region, and zero behind the last one. Every processor has the local bytes, stands at the entry with
+/// region, and zero after the last one. Every processor has the local bytes, stands at the entry with
 /// registers of zero, and runs.
 pub fn machine_opens_on_the_layout()
-    ensures { (config : Config) (layout : Layout) → IsOpenable layout → IsLayoutOpening layout config (opening config layout) }
+    ensures { (config : Config) (layout : Layout) → IsOpenable layout →
+        IsLayoutOpening layout config (opening config layout) }
 {}
 
 /// A machine that opens on the layout that a file means has at each address what the file has there:
@@ -51,7 +53,8 @@ pub fn machine_opens_on_the_file()
 /// A spelling has at most three program headers beside the file header, 148 bytes, and then the bytes
 /// of each region.
 pub fn spelling_is_headers_and_bytes()
-    ensures { (layout : Layout) → length (spelling layout) ≤ 148 + length layout.code + length layout.local + length layout.shared }
+    ensures { (layout : Layout) →
+        length (spelling layout) ≤ 148 + length layout.code + length layout.local + length layout.shared }
 {}
 
 /// The spelling of a layout is accepted, where it is not too long and the layout fits its regions,

@@ -9,7 +9,8 @@ ghost use Rattle.elf_image.specs.Loading.{LoadsLayout};
 /// Input that is not refused is accepted, and the layout that its segments load is what it means.
 #[tactic(auto, using(crate::proofs::Meant::accepted_file, crate::proofs::Meant::meant_layout))]
 pub fn loading_gives_the_meaning()
-    ensures accepted { (shared_words : ℕ) (file : List ℕ) → refusal_of shared_words file ≡ None → IsAccepted shared_words file }
+    ensures accepted { (shared_words : ℕ) (file : List ℕ) → refusal_of shared_words file ≡ None →
+        IsAccepted shared_words file }
     ensures meant { (shared_words : ℕ) (file : List ℕ) (layout : Layout) → refusal_of shared_words file ≡ None
         → LoadsLayout file shared_words layout → IsMeant shared_words file layout }
 {}

@@ -23,13 +23,13 @@ pub const MAX_IMAGE_BYTES: usize = 1_048_576;
 ///
 /// # Errors
 ///
-/// The first of these that applies, in this order. While reading: [`ImageError::Link`] exactly where
+/// The first of these that applies, in this order. While reading: [`ImageError::Link`] exactly if
 /// the link failed in this call, [`ImageError::Memory`], [`ImageError::TooLong`]. Then
 /// [`ImageError::Truncated`] of the ELF header, [`ImageError::NotExecutable`],
 /// [`ImageError::UnsupportedHeader`], [`ImageError::Truncated`] of the program headers; for each
 /// segment in order [`ImageError::OutsideInput`] and [`ImageError::OutsideRegions`]; then
 /// [`ImageError::Overlap`], and [`ImageError::Entry`]. [`ImageError::Memory`] may still come where
-/// there is no memory for the image. With a failed link and want of memory the reader has given a
+/// there is no memory for the image. With a failed link and out of memory the reader has given a
 /// beginning of its bytes, [`MAX_IMAGE_BYTES`] at most.
 pub fn read_image<R: LinkRead>(
     alloc: Global,
@@ -38,7 +38,8 @@ pub fn read_image<R: LinkRead>(
 ) -> Result<Image, ImageError>
     requires { R.has_failed reader.old ≡ false }
     ensures ok { IfOk result (IsGiven config.now.shared_words (R.remaining reader.old) (R.remaining reader.new)) }
-    ensures refused { IfErr result (IsRefused config.now.shared_words (R.remaining reader.old) (R.remaining reader.new)) }
+    ensures refused { IfErr result (IsRefused config.now.shared_words (R.remaining reader.old)
+        (R.remaining reader.new)) }
     ensures link { IsErrOf result ImageError.Link ↔ (R.has_failed reader.new ≡ true) }
 {
     let file = read_within(alloc, reader, MAX_IMAGE_BYTES)?;

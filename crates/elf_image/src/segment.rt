@@ -4,7 +4,8 @@ ghost use Rattle.std.specs.Prelude.{◌≡◌, ◌<◌, ◌≤◌, ◌+◌, ◌-
 ghost use Rattle.std.specs.List.{list_any};
 ghost use Rattle.elf_image.specs.Headers.{file_header, program_header, segments};
 ghost use Rattle.elf_image.specs.Regions.{is_in, is_in_a_region, sets_in};
-ghost use Rattle.elf_image.specs.Refusals.{header_refusal, is_in_file, segment_refusal, overlap, have_overlap, first_of, segment_refusals};
+ghost use Rattle.elf_image.specs.Refusals.{header_refusal, is_in_file, segment_refusal, overlap, have_overlap};
+ghost use Rattle.elf_image.specs.Refusals.{first_of, segment_refusals};
 
 use crate::error::ImageError;
 use crate::header::{FileHeader, MAX_PROGRAM_HEADERS, word_at};
@@ -129,7 +130,8 @@ pub fn check_each(
     shared_words: u32,
 ) -> Result<(), ImageError>
     ensures ok { OnOk result (first_of (segment_refusals file_bytes shared_words segments.now) ≡ None) }
-    ensures refused { IfErr result (λ error. first_of (segment_refusals file_bytes shared_words segments.now) ≡ Some error) }
+    ensures refused { IfErr result (λ error. first_of (segment_refusals file_bytes shared_words segments.now)
+        ≡ Some error) }
 {
     for segment in segments {
         segment.check(file_bytes, shared_words)?;

@@ -5,7 +5,8 @@ ghost use Rattle.std.specs.Io.KnownBytes.{Appends};
 ghost use Rattle.arrayvec.specs.ArrayVec.{array_vec_len};
 ghost use Rattle.link.specs.Transfer.{AppendsPart};
 ghost use Rattle.elf_image.specs.Regions.{region_start};
-ghost use Rattle.elf_image.specs.Spellings.{halves, words, written_flags, file_header_bytes, program_header_bytes, head_bytes, spelling, FitsRegions};
+ghost use Rattle.elf_image.specs.Spellings.{halves, words, written_flags, file_header_bytes, program_header_bytes};
+ghost use Rattle.elf_image.specs.Spellings.{head_bytes, spelling, FitsRegions};
 
 use crate::bytes::Bytes;
 use crate::error::ImageError;
@@ -28,7 +29,7 @@ type Head = ArrayVec<u8, MAX_HEAD_BYTES>;
 ///
 /// # Errors
 ///
-/// [`ImageError::Link`] exactly where the link failed in this call. A beginning of the spelling, and
+/// [`ImageError::Link`] exactly if the link failed in this call. A beginning of the spelling, and
 /// not all of it, was written then.
 pub fn write_image<W: LinkWrite>(writer: &mut W, layout: &Layout) -> Result<(), ImageError>
     requires works { W.has_failed writer.old ≡ false }
@@ -69,7 +70,7 @@ fn head_of(layout: &Layout) -> Head
     head
 }
 
-/// Adds the ELF header of an executable with so many program headers.
+/// Adds the ELF header of an executable with this many program headers.
 fn put_file_header(head: &mut Head, entry: u32, e_phnum: u16)
     requires { array_vec_len head.old ≡ 0 }
     ensures items { head.new.items ≡ head.old.items ++ file_header_bytes entry e_phnum }
@@ -98,7 +99,8 @@ fn put_program_header(head: &mut Head, offset: usize, region: Region, bytes: &By
     requires room { array_vec_len head.old ≤ 116 }
     requires offset { offset < 2 ^ 32 }
     requires count { length bytes.now < 2 ^ 32 }
-    ensures items { head.new.items ≡ head.old.items ++ program_header_bytes offset (region_start region) (length bytes.now) (written_flags region) }
+    ensures items { head.new.items ≡ head.old.items
+        ++ program_header_bytes offset (region_start region) (length bytes.now) (written_flags region) }
     ensures len { array_vec_len head.new ≡ array_vec_len head.old + 32 }
 {
     let flags = written_flags(region);

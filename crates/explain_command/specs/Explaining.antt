@@ -2,7 +2,7 @@
 use Rattle.std.specs.Prelude.{◌≡◌, ℕ, List, Option, Some, None}
 use Rattle.command_io.specs.declared.fault.Fault.{Fault}
 use Rattle.command_io.specs.declared.fault.Fault.TheVariants as fault
-use Rattle.command_io.specs.Printing.{IsPartPrinted}
+use Rattle.command_io.specs.Printing.{PrintsPrefix}
 use Rattle.explain_command.specs.declared.topic.Topic.{Topic}
 use Rattle.explain_command.specs.declared.topic.Topics.{Topics}
 use Rattle.explain_command.specs.Topics.{list_of, text_of, topic_named}
@@ -10,7 +10,8 @@ use Rattle.explain_command.specs.Topics.{list_of, text_of, topic_named}
 -- the bytes are the text of the topic that the word names, or the list where there is no word
 abbrev pub IsExplanation : Topics → (word : Option (List ℕ)) → (bytes : List ℕ) → Type 0
 IsExplanation topics None bytes = bytes ≡ list_of topics
-IsExplanation topics (Some word) bytes = (topic : Topic) × (topic_named topics word ≡ Some topic) × (bytes ≡ text_of topic)
+IsExplanation topics (Some word) bytes = (topic : Topic) × (topic_named topics word ≡ Some topic)
+    × (bytes ≡ text_of topic)
 
 -- there is a word, and it names no topic
 abbrev pub IsUnknown : Topics → (word : Option (List ℕ)) → Type 0
@@ -19,6 +20,6 @@ IsUnknown topics (Some word) = topic_named topics word ≡ None
 
 -- why not all is printed that was asked for, and what is printed then
 abbrev pub IsNoExplanation : Topics → (word : Option (List ℕ)) → (old new : Option (List ℕ)) → Fault → Type 0
-IsNoExplanation topics word old new fault.Link = IsPartPrinted (IsExplanation topics word) old new
+IsNoExplanation topics word old new fault.Link = PrintsPrefix (IsExplanation topics word) old new
 IsNoExplanation topics word old new fault.Memory = Unit {0}
 IsNoExplanation topics word old new other = ⊥

@@ -9,7 +9,7 @@ use Rattle.explain_command.specs.declared.topic.Topics.{Topics}
 abbrev pub is_named : (word : List ℕ) → Topic → Bool
 is_named word t = str_eq_ignore_ascii_case t.name.now word
 
--- the first topic that the word names, of what stands behind `ultra:`, the faults, the debugger's errors and the pages
+-- the first topic that the word names, of what stands after `ultra:`, the faults, the debugger's errors and the pages
 abbrev pub topic_named : Topics → (word : List ℕ) → Option Topic
 topic_named topics word =
     option_or (find (is_named word) topics.codes.now) (option_or (find (is_named word) topics.ends.now)
@@ -31,7 +31,7 @@ lines_of (t ∷ ts) = line_of t ++ lines_of ts
 -- a line for each topic, below a line that says what they are
 abbrev pub list_of : Topics → List ℕ
 list_of topics =
-    codes "Codes, which stand behind `ultra:` on standard error\n" ++ lines_of topics.codes.now ++ lines_of topics.ends.now
+    codes "Codes, which follow `ultra:` on standard error\n" ++ lines_of topics.codes.now ++ lines_of topics.ends.now
     ++ codes "\nNumbers of faults, as `fault 4` in a report\n" ++ lines_of topics.faults.now
-    ++ codes "\nErrors of the debugger, as it answers a line\n" ++ lines_of topics.replies.now
+    ++ codes "\nErrors of the debugger, which answer a line\n" ++ lines_of topics.replies.now
     ++ codes "\nPages\n" ++ lines_of topics.pages.now

@@ -1,19 +1,20 @@
 //! The command.
 
 ghost use Rattle.std.specs.Prelude.{◌≡◌, ◌≢◌, true, false, option_map};
-ghost use Rattle.command_io.specs.Printing.{IsPrinted, IsTold};
+ghost use Rattle.command_io.specs.FaultTexts.{IsReported};
+ghost use Rattle.command_io.specs.Printing.{Prints, ReportsFault};
 ghost use Rattle.explain_command.specs.Explaining.{IsExplanation, IsNoExplanation, IsUnknown};
 
 use crate::texts::{list_text, topic_text};
 use crate::topic::Topics;
-use command_io::{DONE, Fault, REFUSED, print, tell};
+use command_io::{DONE, Fault, REFUSED, print, report_fault};
 use link::LinkWrite;
 use std::alloc::Global;
 use std::io::Write;
 
 /// Prints the text of the topic that a word names, or a list of all topics where no word is given. Answers the exit
-/// status: 0 where all of it is printed, 2 where nothing has that name, else that of the fault that is told on standard
-/// error. The text is made whole before its first byte is printed.
+/// status: 0 where all of it is printed, 2 where nothing has that name, else that of the fault that is reported on
+/// standard error. The text is made whole before its first byte is printed.
 pub fn explain_command<W: LinkWrite, E: Write>(
     alloc: Global,
     topics: &Topics,
@@ -22,11 +23,15 @@ pub fn explain_command<W: LinkWrite, E: Write>(
     err: &mut E,
 ) -> u8
     requires works { W.has_failed out.old ≡ false }
-    ensures explained { result ≡ 0 → IsPrinted (IsExplanation topics.now (option_map (λ w. w.now) word.entry)) (W.contents out.old) (W.contents out.new) }
+    ensures explained { result ≡ 0 →
+        Prints (IsExplanation topics.now (option_map (λ w. w.now) word.entry)) (W.contents out.old)
+        (W.contents out.new) }
     ensures unknown { result ≡ 2 → IsUnknown topics.now (option_map (λ w. w.now) word.entry) × (out.new ≡ out.old) }
-    ensures told { result ≢ 0 → result ≢ 2 → IsTold W.has_failed Fault.Link ⊥
-        (IsNoExplanation topics.now (option_map (λ w. w.now) word.entry) (W.contents out.old) (W.contents out.new)) out.old out.new result }
+    ensures fault { result ≢ 0 → result ≢ 2 → ReportsFault W.has_failed Fault.Link ⊥
+        (IsNoExplanation topics.now (option_map (λ w. w.now) word.entry) (W.contents out.old) (W.contents out.new))
+        (IsReported (E.contents err.old) (E.contents err.new)) out.old out.new result }
     ensures failed { W.has_failed out.new ≡ true → result ≡ 3 }
+    ensures quiet { result ≡ 0 → err.new ≡ err.old }
 {
     let text = match word {
         None => list_text(alloc, topics),
@@ -36,19 +41,19 @@ pub fn explain_command<W: LinkWrite, E: Write>(
         },
     };
     let Ok(text) = text else {
-        return tell(Fault::Memory, err);
+        return report_fault(Fault::Memory, err);
     };
     match print(out, text.as_str()) {
         Ok(()) => DONE,
-        Err(fault) => tell(fault, err),
+        Err(fault) => report_fault(fault, err),
     }
 }
 
-/// Tells that a word names nothing, as the command line's faults are told.
+/// Tells that a word names nothing, as the command line's faults are reported.
 fn refuse<E: Write>(word: &str, err: &mut E) -> u8
     ensures { result ≡ 2 }
 {
-    // Where standard error fails too, the exit status alone tells it.
+    // Where standard error fails too, the exit status alone reports it.
     let _ = writeln!(
         err,
         "error: unrecognized code '{word}'\n\n`ultra explain` lists what there is."

@@ -10,10 +10,11 @@ pub(crate) const FAULTS: &[Topic] = &[
         advice: "\
 The processor stops at that word, and changes nothing else.
 
-Usual causes: a program that goes on past its end, into words that are 0; a jump into data; an
-instruction of an extension that is not there, as a compressed one.
+Usual causes: a program that runs past its end, into words that are 0; a jump into data; an
+instruction of a missing extension, such as a compressed one. In C, `lr.w` or `sc.w`, from which
+compilers make compare-and-swap: use `fetch_and_add` and its kin of examples/c/ultra.h.
 
-What to do: end each way through the program by environment call 0, and look at the word at pc:
+What to do: end each path through the program with environment call 0, and look at the word at pc:
 
     ultra dis program.elf
 ",
@@ -22,13 +23,13 @@ What to do: end each way through the program by environment call 0, and look at 
         name: "2",
         meaning: "pc is outside code",
         advice: "\
-Code is from 0x00010000 to 0x0001ffff. The processor stops when it is to take its next instruction,
-so pc is where it went.
+Code is from 0x00010000 to 0x0001ffff. The processor stops before it takes its next instruction, so pc
+is where it went.
 
-Usual causes: `jalr` by a register that was never set, or that a function did not save, as `ra`; a
-jump to a label of `.local` or `.shared`; the end of code without environment call 0.
+Usual causes: `jalr` by a register that was never set, or that a function did not save, such as `ra`;
+a jump to a label of `.local` or `.shared`; the end of code without environment call 0.
 
-What to do: look at what led to that pc, and save `ra` in each function that calls another.
+What to do: find what led to that pc, and save `ra` in each function that calls another.
 ",
     },
     Topic {
@@ -37,7 +38,7 @@ What to do: look at what led to that pc, and save `ra` in each function that cal
         advice: "\
 The processor stops at the jump, and writes no return address.
 
-Usual causes: a target by a number, as `jal x0, 2`; `jalr` by an address that was worked out wrong.
+Usual causes: a number as a target, such as `jal x0, 2`; `jalr` by a wrong address.
 
 What to do: name targets by labels, and multiply an index into code by 4.
 ",
@@ -49,9 +50,9 @@ What to do: name targets by labels, and multiply an index into code by 4.
 The processor stops at the instruction, and changes nothing else. A word is at an address divisible
 by 4, half a word at an even one.
 
-Usual causes: a place in an array without the factor 4; a word behind bytes; a pointer in `.byte`s.
+Usual causes: an index into an array without the factor 4; a word after bytes; a pointer in `.byte`s.
 
-What to do: multiply the index by 4, and fill bytes up by `.zero`.
+What to do: multiply the index by 4, and pad bytes with `.zero`.
 
     slli t0, t0, 2          # from the index of a word to its distance
 ",
@@ -62,10 +63,10 @@ What to do: multiply the index by 4, and fill bytes up by `.zero`.
         advice: "\
 The processor stops at the instruction, and changes nothing else.
 
-Usual causes: an index past the shared words, of which there are 1,024 where `--words` says nothing;
-`%lo` without `%hi`; a base register that was never set, so that the address is near 0.
+Usual causes: an index past the shared words, of which there are 1,024 by default (`--words`); `%lo`
+without `%hi`; a base register that was never set, so that the address is near 0.
 
-What to do: give the machine more words, or look at the base. `ultra explain memory-map` has the
+What to do: give the machine more words, or check the base. `ultra explain memory-map` shows the
 regions.
 
     ultra run --words 4096 program.elf
@@ -78,10 +79,11 @@ regions.
 The processor stops at the instruction, and changes nothing else. Code can be read, and no program
 changes it.
 
-Usual causes: a variable that stands behind the instructions, without a section of its own.
+Usual causes: a variable after the instructions, without a section of its own. In C, a stack that
+overflows: it is first in local memory, just above the code. Then give it more, as in `make
+program.elf STACK_SIZE=8192`.
 
-What to do: put `.local` before what each processor has for itself, and `.shared` before what all
-share.
+What to do: put `.local` before the data of each processor, and `.shared` before what all share.
 
     .shared
     sum: .word 0
@@ -89,13 +91,13 @@ share.
     },
     Topic {
         name: "7",
-        meaning: "an environment call that there is not",
+        meaning: "an environment call that does not exist",
         advice: "\
 The processor stops at the `ecall`, and changes nothing else.
 
-Usual causes: a call of another system in a7; an a7 that was set for one call, and written since.
+Usual causes: a call of another system in a7; an a7 that was set for one call, and overwritten since.
 
-What to do: set a7 right before each `ecall`. `ultra explain calls` has them all.
+What to do: set a7 right before each `ecall`. `ultra explain calls` lists the calls.
 
     addi a7, x0, 0          # halt
     ecall
@@ -103,12 +105,12 @@ What to do: set a7 right before each `ecall`. `ultra explain calls` has them all
     },
     Topic {
         name: "8",
-        meaning: "the program has come to an ebreak",
+        meaning: "the program reached an ebreak",
         advice: "\
 The processor stops there, and changes nothing else.
 
-Usual causes: a check of the program's own that failed, where it goes to an `ebreak` as the examples
-do; a trap that a compiler wrote for what must not happen.
+Usual causes: a failed check of the program itself, if it goes to an `ebreak` as the examples do; a
+trap of a compiler for what must not happen.
 
 What to do: find the check by the report's pc:
 

@@ -6,7 +6,7 @@ ghost use Rattle.explain_command.specs.Topics.{line_of, lines_of, list_of, text_
 use crate::topic::{Topic, Topics};
 use std::alloc::{AllocError, Global};
 
-/// What is told of a topic.
+/// The text of a topic.
 pub(crate) fn topic_text(alloc: Global, topic: &Topic) -> Result<String, AllocError>
     ensures { IfOk result (λ text. string_bytes text ≡ text_of topic.now) }
 {
@@ -22,12 +22,12 @@ pub(crate) fn list_text(alloc: Global, topics: &Topics) -> Result<String, AllocE
     ensures { IfOk result (λ text. string_bytes text ≡ list_of topics.now) }
 {
     let mut text = String::new(alloc);
-    text.push_str("Codes, which stand behind `ultra:` on standard error\n")?;
+    text.push_str("Codes, which follow `ultra:` on standard error\n")?;
     push_lines(&mut text, topics.codes)?;
     push_lines(&mut text, topics.ends)?;
     text.push_str("\nNumbers of faults, as `fault 4` in a report\n")?;
     push_lines(&mut text, topics.faults)?;
-    text.push_str("\nErrors of the debugger, as it answers a line\n")?;
+    text.push_str("\nErrors of the debugger, which answer a line\n")?;
     push_lines(&mut text, topics.replies)?;
     text.push_str("\nPages\n")?;
     push_lines(&mut text, topics.pages)?;

@@ -10,14 +10,14 @@ pub struct Topic {
     pub name: &'static str,
     /// What it means, in one line.
     pub meaning: &'static str,
-    /// All else that there is to say, in whole lines: where it is told, what usually causes it, and what to do.
+    /// All else that there is to say, in whole lines: where it is reported, what usually causes it, and what to do.
     pub advice: &'static str,
 }
 
 /// Topics by their kinds. Of two topics with one name the first is explained.
 #[derive(Debug, Drop)]
 pub struct Topics {
-    /// What stands behind `ultra: ` on standard error: codes of what is read or written.
+    /// What stands after `ultra: ` on standard error: codes of what is read or written.
     pub codes: &'static [Topic],
     /// What else stands there: why a command has come to no end of its own.
     pub ends: &'static [Topic],

@@ -23,7 +23,7 @@ use Rattle.machine_steps.specs.serialization.Order.{pass, passes, from_machine}
 use Rattle.machine_steps.specs.steps.declared.step.Step.{Step}
 use Rattle.machine_steps.specs.steps.declared.step.Step.TheVariants as step
 use Rattle.machine_steps.specs.machine_theory.Theory as theory
-use Rattle.machine_steps.specs.machine_theory.Processors.{Told, sizes_of, next, kind_of, program, no_processor}
+use Rattle.machine_steps.specs.machine_theory.Processors.{ObservedCore, sizes_of, next, kind_of, program, no_processor}
 use Rattle.machine_steps.specs.machine_theory.Steps.{named, after, machine_of_parts}
 use Rattle.machine_steps.specs.machine_theory.FlatSizes.{IsSoundFlat}
 use Rattle.machine_steps.specs.machine_theory.Order.{Passed, passed_by}
@@ -36,7 +36,7 @@ use Rattle.machine_steps.proofs.Lemmas.{all_shut, sound, FirstTurn, IsAnswered, 
 use Rattle.machine_steps.proofs.Lemmas.{first_turn, lone_goes_on as goes_on, named_again, starts}
 use Rattle.machine_steps.specs.Runs.{all_after, events_of}
 use Rattle.machine_steps.specs.Draining.{step_of}
-use Rattle.local_reduction.specs.Stations.{turns}
+use Rattle.local_reduction.specs.LocalStates.{turns}
 use Rattle.local_reduction.specs.Results.{FinalResult, IsFlatResult}
 use Rattle.exploration.specs.Results.{IsOfTheMachine, AreOfTheMachine, stands_after, IsMachineResult}
 use Rattle.exploration.proofs.MachineEnds.{found_at, Matches, results_same, none_runs}
@@ -49,7 +49,7 @@ of_both : (xs ys : List Step) → AreOfTheMachine xs → AreOfTheMachine ys → 
 of_both [] ys h g = g
 of_both (x ∷ xs) ys h g = (h.0, of_both xs ys h.1 g)
 
-after_both : (c : Config) (code : List ℕ) (xs ys : List Step) (N : theory.Machine Told) →
+after_both : (c : Config) (code : List ℕ) (xs ys : List Step) (N : theory.Machine ObservedCore) →
     all_after c code N (xs ++ ys) ≡ all_after c code (all_after c code N xs) ys
 unfolding all_after
 after_both c code [] ys N = refl
@@ -59,7 +59,7 @@ again : (sts : List theory.Step) → map named (map step_of sts) ≡ sts
 again [] = refl
 again (t ∷ ts) = ap₂ (λ u us. u ∷ us) (named_again t) (again ts)
 
-of_named : (N : theory.Machine Told) (st : theory.Step) → Named N st → IsOfTheMachine (step_of st)
+of_named : (N : theory.Machine ObservedCore) (st : theory.Step) → Named N st → IsOfTheMachine (step_of st)
 of_named N (theory.Turn p) h = tt
 of_named N (theory.Up s w) h = tt
 of_named N (theory.Serve i) h = tt
@@ -94,23 +94,23 @@ module _ (c : Config) (code : List ℕ) (limits : IsWithinLimits c) (bytes : Are
   -- ---- one instruction, by steps of the machine
 
   -- steps enter one turn of processor k, and leave no reference open
-  pub record IsTurn (k : ℕ) (N : theory.Machine Told) (steps : List Step) : Type 0 where
+  pub record IsTurn (k : ℕ) (N : theory.Machine ObservedCore) (steps : List Step) : Type 0 where
     pub own : AreOfTheMachine steps
     pub order : (passes (sizes_of c) (program c code) (map named steps) (from_machine N)).order ≡ turns (k ∷ [])
     pub shut : (p : ℕ) → (all_after c code N steps).is_open p ≡ false
 
-  abbrev Loned : ℕ → Passed Told → List theory.Step → Type 0
-  Loned k h sts = IsLone Told (sizes_of c) (program c code) k (passes (sizes_of c) (program c code) sts h) × AreOfTheMachine (map step_of sts)
+  abbrev Loned : ℕ → Passed ObservedCore → List theory.Step → Type 0
+  Loned k h sts = IsLone ObservedCore (sizes_of c) (program c code) k (passes (sizes_of c) (program c code) sts h) × AreOfTheMachine (map step_of sts)
 
   -- a drain brings k's reference back, and no other
-  drained_alone : (n k : ℕ) (h : Passed Told) → IsLone Told (sizes_of c) (program c code) k h →
+  drained_alone : (n k : ℕ) (h : Passed ObservedCore) → IsLone ObservedCore (sizes_of c) (program c code) k h →
       Loned k h (draining.drain_steps (sizes_of c) (program c code) n h.machine)
   unfolding draining.drain_steps passes
   drained_alone zero k h lone = (lone, tt)
   drained_alone (suc n) k h lone = by (draining.drain_step (sizes_of c) h.machine) refl (λ st l. drained_alone n k (pass (sizes_of c) (program c code) h st) l)
     where
       by : (o : Option theory.Step) → draining.drain_step (sizes_of c) h.machine ≡ o →
-          ((st : theory.Step) → IsLone Told (sizes_of c) (program c code) k (pass (sizes_of c) (program c code) h st) →
+          ((st : theory.Step) → IsLone ObservedCore (sizes_of c) (program c code) k (pass (sizes_of c) (program c code) h st) →
           Loned k (pass (sizes_of c) (program c code) h st)
           (draining.drain_steps (sizes_of c) (program c code) n (theory.step (sizes_of c) (program c code) h.machine st).machine)) →
           Loned k h (elim o [
@@ -120,31 +120,31 @@ module _ (c : Config) (code : List ℕ) (limits : IsWithinLimits c) (bytes : Are
           ])
       by None e more = (lone, tt)
       by (Some st) e more =
-          let g = goes_on Told (sizes_of c) (program c code) k h lone st e in
+          let g = goes_on ObservedCore (sizes_of c) (program c code) k h lone st e in
           let l = more st g.0 in
-          (l.0, (of_named h.machine st (drain_named Told h.machine (sizes_of c) st e), l.1))
+          (l.0, (of_named h.machine st (drain_named ObservedCore h.machine (sizes_of c) st e), l.1))
 
-  passes_after : (sts : List theory.Step) (h : Passed Told) →
+  passes_after : (sts : List theory.Step) (h : Passed ObservedCore) →
       (passes (sizes_of c) (program c code) sts h).machine ≡ theory.machine_after (sizes_of c) (program c code) sts h.machine
   unfolding passes theory.machine_after
   passes_after [] h = refl
   passes_after (st ∷ sts) h = passes_after sts (pass (sizes_of c) (program c code) h st)
 
-  module _ (k : ℕ) (N : theory.Machine Told) (role : ℕ → Role) (steady : Steady (sizes_of c) (program c code) N role) (shut : (p : ℕ) →
+  module _ (k : ℕ) (N : theory.Machine ObservedCore) (role : ℕ → Role) (steady : Steady (sizes_of c) (program c code) N role) (shut : (p : ℕ) →
       N.is_open p ≡ false) where
-    abbrev first_of : Passed Told
+    abbrev first_of : Passed ObservedCore
     first_of = pass (sizes_of c) (program c code) (from_machine N) (theory.Turn k)
 
     by_advance : theory.step (sizes_of c) (program c code) N (theory.Turn k) ≡ theory.advance (program c code) N k → IsTurn k N (step.Turn k ∷ [])
     unfolding passes all_after after
     by_advance e = record {
       own = (tt, tt);
-      order = ap (λ (r : theory.Result Told). (passed_by (from_machine N) r).order) e;
-      shut = λ p. ap (λ (r : theory.Result Told). r.machine.is_open p) e ∙ shut p;
+      order = ap (λ (r : theory.Result ObservedCore). (passed_by (from_machine N) r).order) e;
+      shut = λ p. ap (λ (r : theory.Result ObservedCore). r.machine.is_open p) e ∙ shut p;
     }
 
     -- after the turn and all steps of a drain
-    drained : (lone : IsLone Told (sizes_of c) (program c code) k first_of) → (sts : List theory.Step) →
+    drained : (lone : IsLone ObservedCore (sizes_of c) (program c code) k first_of) → (sts : List theory.Step) →
         sts ≡ draining.drain_steps (sizes_of c) (program c code) (draining.drain_bound (sizes_of c)) first_of.machine → Loned k first_of sts →
         IsTurn k N (step.Turn k ∷ map step_of sts)
     unfolding passes all_after after
@@ -153,19 +153,19 @@ module _ (c : Config) (code : List ℕ) (limits : IsWithinLimits c) (bytes : Are
         last_shut : (p : ℕ) → (passes (sizes_of c) (program c code) sts (pass (sizes_of c) (program c code) (from_machine N) (theory.Turn k))).machine.is_open
             p ≡ false
         last_shut p =
-            ap (λ (M : theory.Machine Told). M.is_open p) (passes_after sts first_of)
+            ap (λ (M : theory.Machine ObservedCore). M.is_open p) (passes_after sts first_of)
             ∙ ap (λ ss. (theory.machine_after (sizes_of c) (program c code) ss first_of.machine).is_open p) all
             ∙ drain_ends (sizes_of c) (program c code) first_of.machine lone.role lone.steady limits.answers p
 
         there_shut : (p : ℕ) → (all_after c code (theory.step (sizes_of c) (program c code) N (theory.Turn k)).machine (map step_of sts)).is_open p ≡ false
         there_shut p =
-            ap (λ (M : theory.Machine Told). M.is_open p) (sym (passes_all c code (map step_of sts) first_of))
+            ap (λ (M : theory.Machine ObservedCore). M.is_open p) (sym (passes_all c code (map step_of sts) first_of))
             ∙ ap (λ ss. (passes (sizes_of c) (program c code) ss first_of).machine.is_open p) (again sts)
             ∙ last_shut p
 
-        entered : IsAsking Told (sizes_of c) (program c code) k
+        entered : IsAsking ObservedCore (sizes_of c) (program c code) k
             (passes (sizes_of c) (program c code) sts (pass (sizes_of c) (program c code) (from_machine N) (theory.Turn k)))
-            ⊎ IsAnswered Told (sizes_of c) (program c code) k
+            ⊎ IsAnswered ObservedCore (sizes_of c) (program c code) k
             (passes (sizes_of c) (program c code) sts (pass (sizes_of c) (program c code) (from_machine N) (theory.Turn k))) →
             (passes (sizes_of c) (program c code) sts (pass (sizes_of c) (program c code) (from_machine N) (theory.Turn k))).order ≡ turns (k ∷ [])
         entered (inl asking) = absurd (true≢false (sym asking.opened ∙ last_shut k))
@@ -177,21 +177,22 @@ module _ (c : Config) (code : List ℕ) (limits : IsWithinLimits c) (bytes : Are
 
     by_issue : theory.step (sizes_of c) (program c code) N (theory.Turn k) ≡ theory.issue (program c code) N k → (steps : List Step) × IsTurn k N steps
     by_issue e =
-        let lone = starts Told (sizes_of c) (program c code) k N role steady shut e in
+        let lone = starts ObservedCore (sizes_of c) (program c code) k N role steady shut e in
         let sts = draining.drain_steps (sizes_of c) (program c code) (draining.drain_bound (sizes_of c)) first_of.machine in
         (step.Turn k ∷ map step_of sts, drained lone sts refl (drained_alone (draining.drain_bound (sizes_of c)) k first_of lone))
 
   -- ---- one turn of both machines
 
   -- The machine is the flat machine, and no reference is open.
-  pub record IsFlat (N : theory.Machine Told) (F : FlatState) (events : List (ℕ × Event)) : Type 0 where
+  pub record IsFlat (N : theory.Machine ObservedCore) (F : FlatState) (events : List (ℕ × Event)) : Type 0 where
     pub matches : Matches c N F events
     pub shut : (p : ℕ) → N.is_open p ≡ false
     pub role : ℕ → Role
     pub steady : Steady (sizes_of c) (program c code) N role
     pub sound : IsSoundFlat c code F
 
-  forgotten : (N : theory.Machine Told) (role : ℕ → Role) → Steady (sizes_of c) (program c code) N role → Steady (sizes_of c) (program c code) (forget N) role
+  forgotten : (N : theory.Machine ObservedCore) (role : ℕ → Role) → Steady (sizes_of c) (program c code) N role →
+      Steady (sizes_of c) (program c code) (forget N) role
   forgotten N role s = record {
     placed = s.placed;
     worded = s.worded;
@@ -203,7 +204,7 @@ module _ (c : Config) (code : List ℕ) (limits : IsWithinLimits c) (bytes : Are
     refers = s.refers;
   }
 
-  module _ (k : ℕ) (N : theory.Machine Told) (F : FlatState) (events : List (ℕ × Event)) (h : IsFlat N F events) where
+  module _ (k : ℕ) (N : theory.Machine ObservedCore) (F : FlatState) (events : List (ℕ × Event)) (h : IsFlat N F events) where
     opens_there : Opens c code (forget N) F
     opens_there = record {
       few = limits.stages;
@@ -211,8 +212,8 @@ module _ (c : Config) (code : List ℕ) (limits : IsWithinLimits c) (bytes : Are
       role = h.role;
       steady = forgotten N h.role h.steady;
       idle = λ p within. h.shut p;
-      reads = ap₂ (λ (f : ℕ → ℕ) (g : ℕ → Told). record { mem = f; core = g }) (fun_ext h.matches.words)
-          (fun_ext (λ p. ap (λ (g : Told). record { state = g.state; events = [] }) (h.matches.cores p)));
+      reads = ap₂ (λ (f : ℕ → ℕ) (g : ℕ → ObservedCore). record { mem = f; core = g }) (fun_ext h.matches.words)
+          (fun_ext (λ p. ap (λ (g : ObservedCore). record { state = g.state; events = [] }) (h.matches.cores p)));
     }
 
     sound_then : IsSoundFlat c code (flat_step F (entry.Processor k))
@@ -224,10 +225,10 @@ module _ (c : Config) (code : List ℕ) (limits : IsWithinLimits c) (bytes : Are
       matches = record {
         count = sound_then.size.processors;
         size = sound_then.size.shared;
-        cores = λ p. ap (λ (M : theory.Machine Told). M.core p) there ∙ ap (shift (events_of N) p) (core_there p) ∙ joined p;
-        words = λ i. ap (λ (M : theory.Machine Told). M.mem i) there ∙ word_there i;
+        cores = λ p. ap (λ (M : theory.Machine ObservedCore). M.core p) there ∙ ap (shift (events_of N) p) (core_there p) ∙ joined p;
+        words = λ i. ap (λ (M : theory.Machine ObservedCore). M.mem i) there ∙ word_there i;
       };
-      shut = λ p. ap (λ (M : theory.Machine Told). M.is_open p) there ∙ t.shut p;
+      shut = λ p. ap (λ (M : theory.Machine ObservedCore). M.is_open p) there ∙ t.shut p;
       role = steady_then.0;
       steady = subst (λ M. Steady (sizes_of c) (program c code) M steady_then.0) (theory_all c code steps N) steady_then.1;
       sound = sound_then;
@@ -242,20 +243,21 @@ module _ (c : Config) (code : List ℕ) (limits : IsWithinLimits c) (bytes : Are
         explained : IsExplained c code F (passes (sizes_of c) (program c code) (map named steps) (from_machine (forget N)))
         explained = (runs_are_explained c code).moments (forget N) F (map named steps) opens_there
 
-        flat_core : List Entry → ℕ → Told
+        flat_core : List Entry → ℕ → ObservedCore
         flat_core es p = record { state = slice_index_or (flat_run F es).processors p no_processor; events = with_events (λ j. []) (flat_events F es) p }
 
         core_there : (p : ℕ) → (all_after c code (forget N) steps).core p
             ≡ record { state = slice_index_or (flat_step F (entry.Processor k)).processors p no_processor; events = with_events (λ j. []) (one_events F k) p }
         core_there p =
-            ap (λ (M : theory.Machine Told). M.core p) (sym reached)
-            ∙ explained.unserved p (explained.shut p (ap (λ (M : theory.Machine Told). M.is_open p) reached ∙ t.shut p))
+            ap (λ (M : theory.Machine ObservedCore). M.core p) (sym reached)
+            ∙ explained.unserved p (explained.shut p (ap (λ (M : theory.Machine ObservedCore). M.is_open p) reached ∙ t.shut p))
             ∙ ap (λ es. flat_core es p) t.order
             ∙ ap (λ es. record { state = slice_index_or (flat_step F (entry.Processor k)).processors p no_processor; events = with_events (λ j. []) es p })
             (append-nil (one_events F k))
 
         word_there : (i : ℕ) → (all_after c code (forget N) steps).mem i ≡ slice_index (flat_step F (entry.Processor k)).shared i
-        word_there i = ap (λ (M : theory.Machine Told). M.mem i) (sym reached) ∙ explained.words i ∙ ap (λ es. slice_index (flat_run F es).shared i) t.order
+        word_there i = ap (λ (M : theory.Machine ObservedCore). M.mem i) (sym reached) ∙ explained.words i
+            ∙ ap (λ es. slice_index (flat_run F es).shared i) t.order
 
         joined : (p : ℕ) → shift (events_of N) p (record {
           state = slice_index_or (flat_step F (entry.Processor k)).processors p no_processor;
@@ -267,7 +269,7 @@ module _ (c : Config) (code : List ℕ) (limits : IsWithinLimits c) (bytes : Are
             }
         joined p =
             ap (λ es. record { state = slice_index_or (flat_step F (entry.Processor k)).processors p no_processor; events = es })
-            (ap (λ (g : Told). g.events ++ with_events (λ j. []) (one_events F k) p) (h.matches.cores p)
+            (ap (λ (g : ObservedCore). g.events ++ with_events (λ j. []) (one_events F k) p) (h.matches.cores p)
             ∙ sym (events_behind (one_events F k) (with_events (λ j. []) events) p)
             ∙ ap (λ (f : ℕ → List Event). f p) (sym (events_join events (one_events F k) (λ j. []))))
 
@@ -281,7 +283,7 @@ module _ (c : Config) (code : List ℕ) (limits : IsWithinLimits c) (bytes : Are
         absurd (true≢false (sym (lt-ltb k (2 ^ c.k) (subst (λ n. k < n) h.matches.count (found_at F.processors k p no_processor there).0)) ∙ past))
     stands_still (inr none) p there =
         ap (λ (q : Processor). is_running q.status) (sym (found_at F.processors k p no_processor there).1)
-        ∙ ap (λ (g : Told). is_running g.state.status) (sym (h.matches.cores k))
+        ∙ ap (λ (g : ObservedCore). is_running g.state.status) (sym (h.matches.cores k))
         ∙ rests (next c code k (N.core k).state) (is_running (N.core k).state.status) none
 
     by_none : (flat_step F (entry.Processor k) ≡ F) × (one_events F k ≡ []) → IsFlat N (flat_step F (entry.Processor k)) (events ++ one_events F k)
@@ -303,7 +305,7 @@ module _ (c : Config) (code : List ℕ) (limits : IsWithinLimits c) (bytes : Are
         by (inr (inl e)) = taken (step.Turn k ∷ [], by_advance k (forget N) h.role (forgotten N h.role h.steady) h.shut e)
         by (inr (inr e)) = taken (by_issue k (forget N) h.role (forgotten N h.role h.steady) h.shut e)
 
-  all_turns : (order : List ℕ) (N : theory.Machine Told) (F : FlatState) (events : List (ℕ × Event)) → IsFlat N F events →
+  all_turns : (order : List ℕ) (N : theory.Machine ObservedCore) (F : FlatState) (events : List (ℕ × Event)) → IsFlat N F events →
       (steps : List Step) × AreOfTheMachine steps × IsFlat (all_after c code N steps) (flat_run F (turns order)) (events ++ flat_events F (turns order))
   unfolding all_after
   all_turns [] N F events h = ([], tt, subst (IsFlat N F) (sym (append-nil events)) h)
@@ -312,7 +314,7 @@ module _ (c : Config) (code : List ℕ) (limits : IsWithinLimits c) (bytes : Are
       let rest = all_turns ks (all_after c code N one.0) (flat_step F (entry.Processor k)) (events ++ one_events F k) one.2 in (
         one.0 ++ rest.0,
         of_both one.0 rest.0 one.1 rest.1,
-        subst (λ (z : theory.Machine Told × List (ℕ × Event)). IsFlat z.0 (flat_run F (turns (k ∷ ks))) z.1)
+        subst (λ (z : theory.Machine ObservedCore × List (ℕ × Event)). IsFlat z.0 (flat_run F (turns (k ∷ ks))) z.1)
             (λ i. (
               sym (after_both c code one.0 rest.0 N) i,
               append_assoc events (one_events F k) (flat_events (flat_step F (entry.Processor k)) (turns ks)) i,
@@ -333,6 +335,7 @@ begins m is idle = record {
   sound = sound m is;
 }
 
+-- If no reference is open in a machine, each result of the flat machine that it is is a result of the machine.
 pub flat_results_are : (m : MachineLists) (r : FinalResult) → IsMachine m → IsIdle m → IsFlatResult (flat_state m) r → IsMachineResult m r
 flat_results_are m r is idle h =
     let start : IsFlat m.config m.code is.limits is.code (machine_of m (λ p. [])) (flat_state m) [] = begins m is idle in

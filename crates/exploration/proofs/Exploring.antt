@@ -14,20 +14,26 @@ use Rattle.machine_steps.specs.machine_ports.Ports.{PortState}
 use Rattle.machine_steps.specs.machine_theory.Processors.{no_processor, no_port, port_at, word_at}
 use Rattle.machine_steps.specs.Machines.{MachineLists, IsMachine}
 use Rattle.machine_steps.specs.Openings.{flat_state}
-use Rattle.local_reduction.specs.Closing.{IsForgetful, Standing, Settles}
+use Rattle.local_reduction.specs.Closing.{IsForgetful, MacroState, ReachesMacroState}
 use Rattle.local_reduction.specs.Exchanging.{AreAlike, IsUniform}
+use Rattle.local_reduction.specs.Live.{HasAllLive}
 use Rattle.local_reduction.specs.Results.{FinalResult, IsFlatResult, HaveStopped, StandsFor, result_at}
 use Rattle.state_search.proofs.Lemmas.{stands_for_on, there, found_at, mapped_at, listed_there, listed_is}
-use Rattle.state_graph.specs.Laws.{AllStoodForAreResults, AreSchedulesOf, EachResultIsStoodFor, KeepsResults, SuccessorsTellOfSchedules}
+use Rattle.state_graph.specs.Laws.{AllStoodForAreResults, IsTerminationOf, EachResultIsStoodFor, KeepsResults, SuccessorsDecideTermination}
 use Rattle.local_reduction.specs.Forgetting.{kept_by}
-use Rattle.state_graph.specs.declared.schedules.Schedules.{Schedules}
-use Rattle.state_graph.specs.Schedules.{AreTold}
-use Rattle.state_search.specs.declared.tables.Extent.{Extent}
-use Rattle.state_search.specs.Tables.{TableLists, placed_at, setting_at, means}
+use Rattle.state_graph.specs.declared.termination.Termination.{Termination}
+use Rattle.state_graph.specs.Termination.{IsTrueOf}
+use Rattle.state_search.specs.declared.state_tables.Extent.{Extent}
+use Rattle.state_search.specs.StateTables.{TableLists, placed_at, setting_at, means}
 use Rattle.state_search.specs.Opening.{AreOfExtent, flat_of}
 use Rattle.state_search.specs.Search.{AreClasses, AreClassesOf, state_at}
-use Rattle.state_search.specs.Ends.{AreFound}
-use Rattle.exploration.specs.Endings.{AreSingle, IsEnding, IsStoodFor}
+use Rattle.state_search.specs.Ends.{AreFound, AreMany}
+use Rattle.exploration.specs.Endings.{AreInOrder, AreSingle, IsEnding, IsStoodFor}
+use Rattle.exploration.specs.Refusals.{refused_by_search}
+use Rattle.exploration.specs.States.{AreAllStates, HasManyStates, IsGivenUp}
+use Rattle.state_search.specs.declared.refusal.Refusal.{Refusal as SearchRefusal}
+use Rattle.state_search.specs.declared.refusal.Refusal.TheVariants as search
+use Rattle.state_search.specs.Refusals.{IsGivenUpFor}
 use Rattle.exploration.proofs.Endings.{kept_result}
 
 -- ---- the rows that a search has found
@@ -46,28 +52,28 @@ uniform e classes t row are of j k alike = by (cases_lt j e.processors) (cases_l
         let x = there classes k 0 (subst (λ n. k < n) (sym are.all) l) in
         subst (λ n. j < n) are.all (found_at classes j (slice_index classes k) 0 (a ∙ x)).0
 
-    past : (k : ℕ) → e.processors ≤ k → slice_get (means e t row).stations k ≡ None
+    past : (k : ℕ) → e.processors ≤ k → slice_get (means e t row).local_states k ≡ None
     past k far =
-        let long = length-map-range_with_len (λ p. kept_by t.live (placed_at t (slice_index row p)).station) 0 e.processors in
-        slice_get_past (means e t row).stations k (omega (arith, long, far))
+        let long = length-map-range_with_len (λ p. kept_by t.live (placed_at t (slice_index row p)).local_state) 0 e.processors in
+        slice_get_past (means e t row).local_states k (omega (arith, long, far))
 
     by : (j < e.processors) ⊎ (e.processors ≤ j) → (k < e.processors) ⊎ (e.processors ≤ k) →
-        slice_get (means e t row).stations j ≡ slice_get (means e t row).stations k
+        slice_get (means e t row).local_states j ≡ slice_get (means e t row).local_states k
     by (inl lj) (inl lk) =
         let same : slice_index classes j ≡ slice_index classes k =
         (found_at classes j (slice_index classes k) 0 (alike ∙ there classes k 0 (subst (λ n. k < n) (sym are.all) lk))).1 in
-        listed_there (λ p. kept_by t.live (placed_at t (slice_index row p)).station) e.processors j lj
-        ∙ (ap (λ i. Some (kept_by t.live (placed_at t i).station)) (of j k lj lk same)
-        ∙ sym (listed_there (λ p. kept_by t.live (placed_at t (slice_index row p)).station) e.processors k lk))
+        listed_there (λ p. kept_by t.live (placed_at t (slice_index row p)).local_state) e.processors j lj
+        ∙ (ap (λ i. Some (kept_by t.live (placed_at t i).local_state)) (of j k lj lk same)
+        ∙ sym (listed_there (λ p. kept_by t.live (placed_at t (slice_index row p)).local_state) e.processors k lk))
     by (inl lj) (inr fk) = let l = within k j (sym alike) lj in absurd (omega (arith, l, fk))
     by (inr fj) (inl lk) = let l = within j k alike lk in absurd (omega (arith, l, fj))
     by (inr fj) (inr fk) = past j fj ∙ sym (past k fk)
 
-module _ (e : Extent) (code : List ℕ) (classes : List ℕ) (t : TableLists) (rows moves : List (List ℕ)) (first : Standing)
+module _ (e : Extent) (code : List ℕ) (classes : List ℕ) (t : TableLists) (rows moves : List (List ℕ)) (first : MacroState)
     (m : FlatState) (f : IsForgetful (setting_at e) code (kept_by t.live)) (found : AreFound e code classes t rows moves first)
-    (settles_first : Settles (setting_at e) code (kept_by t.live) m (λ k. []) first) (results : List FinalResult) where
-  settles : Settles (setting_at e) code (kept_by t.live) m (λ k. []) (state_at e t rows 0)
-  settles = subst (Settles (setting_at e) code (kept_by t.live) m (λ k. [])) (sym found.begins) settles_first
+    (settles_first : ReachesMacroState (setting_at e) code (kept_by t.live) m (λ k. []) first) (results : List FinalResult) where
+  settles : ReachesMacroState (setting_at e) code (kept_by t.live) m (λ k. []) (state_at e t rows 0)
+  settles = subst (ReachesMacroState (setting_at e) code (kept_by t.live) m (λ k. [])) (sym found.begins) settles_first
 
   -- All that the results stand for are results of the flat machine,
   pub flat_sound : AllStoodForAreResults → IsUniform classes first →
@@ -89,11 +95,62 @@ module _ (e : Extent) (code : List ℕ) (classes : List ℕ) (t : TableLists) (r
       let y = all x.0 x.1 x.2 in
       (y.0, y.1, stands_for_on classes y.0 (result_at (state_at e t rows x.0)) q y.2 x.3)
 
-  -- What is told of the schedules is so.
-  pub flat_schedules : SuccessorsTellOfSchedules → (told : Schedules) → AreTold moves told → AreSchedulesOf m told
-  flat_schedules law told =
-      law (setting_at e) code (kept_by t.live) classes (state_at e t rows) (length rows) moves m (λ k. []) told f
+  -- What is said of the schedules is so.
+  pub flat_schedules : SuccessorsDecideTermination → (fact : Termination) → IsTrueOf moves fact → IsTerminationOf m fact
+  flat_schedules law fact =
+      law (setting_at e) code (kept_by t.live) classes (state_at e t rows) (length rows) moves m (λ k. []) fact f
       found.successors found.reached settles
+
+  -- The states are all to which it comes.
+  pub all_states : HasAllLive code t.live → (termination : Termination) (count : ℕ) → IsTrueOf moves termination →
+      AreInOrder classes (state_at e t rows) (length rows) results → count ≡ length moves →
+      AreAllStates m classes results termination count
+  all_states right termination count fact order is =
+      subst (AreAllStates m classes results termination) (sym (is ∙ found.successors.all)) (record {
+        states = record {
+          at = setting_at e;
+          code = code;
+          live = t.live;
+          right = right;
+          state = state_at e t rows;
+          settles = settles;
+          reached = found.reached;
+          different = found.different;
+        };
+        moves = moves;
+        successors = found.successors;
+        breadth = found.breadth;
+        fact = fact;
+        order = order;
+      })
+
+-- If a search has found as many as the limit, or more, there are.
+pub many_states : (e : Extent) (code : List ℕ) (classes : List ℕ) (t : TableLists) (first : MacroState) (m : FlatState) (least : ℕ) →
+    HasAllLive code t.live → ReachesMacroState (setting_at e) code (kept_by t.live) m (λ k. []) first → AreMany e code classes t first least →
+    HasManyStates m least
+many_states e code classes t first m least right settles h = record {
+  classes = classes;
+  count = length h.rows;
+  many = h.many;
+  states = record {
+    at = setting_at e;
+    code = code;
+    live = t.live;
+    right = right;
+    state = state_at e t h.rows;
+    settles = subst (ReachesMacroState (setting_at e) code (kept_by t.live) m (λ k. [])) (sym h.begins) settles;
+    reached = h.reached;
+    different = h.different;
+  };
+}
+
+-- What a search is given up for is reported.
+pub search_gives_up : (m : FlatState) (limit : ℕ) (why : SearchRefusal) → IsGivenUpFor (HasManyStates m limit) why →
+    IsGivenUp m limit (refused_by_search why)
+search_gives_up m limit search.Memory h = tt
+search_gives_up m limit search.States h = h
+search_gives_up m limit search.Alone h = tt
+search_gives_up m limit search.Asks h = tt
 
 -- ---- the machine
 
@@ -103,12 +160,15 @@ few_processors k few = pow-le-pow_right {n = 2} (omega arith) few
 
 -- what is known of a machine's size, its cores and its words, as they were read
 pub record AreRead (m : MachineLists) (e : Extent) (cores : List CoreState) (words : List ℕ) : Type 0 where
+  -- The machine can have come about.
   pub sound : IsMachine m
+  -- The extent has as many processors as the machine.
   pub processors : e.processors ≡ 2 ^ m.config.k
   pub shared : e.shared_words ≡ m.config.shared_words
   pub cores_are : cores ≡ map (λ p. (port_at m.ports p).core) (range_with_len 0 (2 ^ m.config.k))
   pub words_are : words ≡ map (word_at m.config.k m.modules) (range_with_len 0 m.config.shared_words)
 
+-- If an extent, cores and words are those of a machine, this is what is known of them as they were read.
 pub are_read : {m : MachineLists} {e : Extent} {cores : List CoreState} {words : List ℕ} {exchanged : Bool} → IsMachine m →
     e ≡ record { processors = 2 ^ m.config.k; shared_words = m.config.shared_words; exchanged = exchanged } →
     cores ≡ map (λ p. (port_at m.ports p).core) (range_with_len 0 (2 ^ m.config.k)) →
@@ -125,6 +185,7 @@ module _ {m : MachineLists} {e : Extent} {cores : List CoreState} {list : List �
   abbrev core : ℕ → CoreState
   core p = (port_at m.ports p).core
 
+  -- The cores that were read are those of a machine of this extent.
   pub of_extent : AreOfExtent e cores
   of_extent = record {
     all = ap length seen.cores_are ∙ (length-map-range_with_len core 0 (2 ^ m.config.k) ∙ sym seen.processors);
@@ -140,6 +201,7 @@ module _ {m : MachineLists} {e : Extent} {cores : List CoreState} {list : List �
             shared_words = sym seen.shared i;
           }))
 
+  -- The list of the words that were read is as long as the shared memory of the extent.
   pub wide : length list ≡ e.shared_words
   wide = ap length seen.words_are ∙ (length-map-range_with_len (word_at m.config.k m.modules) 0 m.config.shared_words ∙ sym seen.shared)
 
@@ -163,6 +225,7 @@ module _ {m : MachineLists} {e : Extent} {cores : List CoreState} {list : List �
   both : map (λ (c : CoreState). c.state) cores ≡ map (λ (p : PortState). p.core.state) m.ports
   both = left ∙ sym right
 
+  -- The code, the cores and the words that were read make the flat machine that the machine is.
   pub flat_is : flat_of m.code cores list ≡ flat_state m
   flat_is = λ i. record { processors = both i; shared = seen.words_are i; code = m.code }
 

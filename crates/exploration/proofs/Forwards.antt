@@ -24,7 +24,7 @@ use Rattle.machine_steps.specs.serialization.Order.{pass, passes, from_machine}
 use Rattle.machine_steps.specs.steps.declared.step.Step.{Step}
 use Rattle.machine_steps.specs.steps.declared.step.Step.TheVariants as step
 use Rattle.machine_steps.specs.machine_theory.Theory as theory
-use Rattle.machine_steps.specs.machine_theory.Processors.{Told, sizes_of, next, kind_of, program, no_processor}
+use Rattle.machine_steps.specs.machine_theory.Processors.{ObservedCore, sizes_of, next, kind_of, program, no_processor}
 use Rattle.machine_steps.specs.machine_theory.Steps.{named, after}
 use Rattle.machine_steps.specs.machine_theory.FlatSizes.{IsSoundFlat}
 use Rattle.machine_steps.specs.machine_theory.Order.{Passed, segment}
@@ -35,7 +35,7 @@ use Rattle.machine_steps.specs.Machines.{MachineLists, machine_of, IsIdle, IsMac
 use Rattle.machine_steps.specs.Openings.{flat_state}
 use Rattle.machine_steps.proofs.Lemmas.{sound, opens}
 use Rattle.machine_steps.specs.Runs.{all_after, passed}
-use Rattle.local_reduction.specs.Stations.{turns}
+use Rattle.local_reduction.specs.LocalStates.{turns}
 use Rattle.local_reduction.specs.Results.{FinalResult, IsFlatResult}
 use Rattle.exploration.specs.Results.{NoneRuns, IsOfTheMachine, AreOfTheMachine, stands_after, IsMachineResult}
 use Rattle.exploration.proofs.MachineEnds.{Matches, results_same, stopped_flat}
@@ -50,6 +50,7 @@ turns_of : (xs : List ℕ) → map entry.Processor xs ≡ turns xs
 turns_of [] = refl
 turns_of (x ∷ xs) = ap (λ es. entry.Processor x ∷ es) (turns_of xs)
 
+-- Entries that are turns of processors are lawful.
 pub turns_lawful : (c : Config) (xs : List ℕ) → AreLawful c (turns xs)
 turns_lawful c [] = tt
 turns_lawful c (x ∷ xs) = (tt, turns_lawful c xs)
@@ -70,8 +71,8 @@ segment_turns group (theory.Poked q) h = absurd h
 segment_turns group theory.Stalled h = ([], refl)
 
 module _ (c : Config) (code : List ℕ) where
-  module _ (M : theory.Machine Told) where
-    either : (b : Bool) (r : theory.Result Told) → NotPoked r.outcome → NotPoked (if b then r else theory.stalled M).outcome
+  module _ (M : theory.Machine ObservedCore) where
+    either : (b : Bool) (r : theory.Result ObservedCore) → NotPoked r.outcome → NotPoked (if b then r else theory.stalled M).outcome
     either true r h = h
     either false r h = tt
 
@@ -114,7 +115,7 @@ module _ (c : Config) (code : List ℕ) where
     not_poked (step.Poke q) h = absurd h
 
   -- steps without writes from outside enter turns
-  order_of_turns : (steps : List Step) (h : Passed Told) (js : List ℕ) → AreOfTheMachine steps → h.order ≡ turns js →
+  order_of_turns : (steps : List Step) (h : Passed ObservedCore) (js : List ℕ) → AreOfTheMachine steps → h.order ≡ turns js →
       (xs : List ℕ) × ((passes (sizes_of c) (program c code) (map named steps) h).order ≡ turns xs)
   unfolding passes
   order_of_turns [] h js all e = (js, e)
@@ -123,12 +124,15 @@ module _ (c : Config) (code : List ℕ) where
       order_of_turns steps (pass (sizes_of c) (program c code) h (named s)) (js ++ more.0) all.1
       ((λ i. e i ++ more.1 i) ∙ turns_join js more.0)
 
-  pub passes_all : (steps : List Step) (h : Passed Told) → (passes (sizes_of c) (program c code) (map named steps) h).machine ≡ all_after c code h.machine steps
+  -- A pass of the theory over some steps ends with the machine after these steps.
+  pub passes_all : (steps : List Step) (h : Passed ObservedCore) →
+      (passes (sizes_of c) (program c code) (map named steps) h).machine ≡ all_after c code h.machine steps
   unfolding passes all_after after
   passes_all [] h = refl
   passes_all (s ∷ steps) h = passes_all steps (pass (sizes_of c) (program c code) h (named s))
 
-  pub theory_all : (steps : List Step) (M : theory.Machine Told) →
+  -- The machine of the theory after some steps is the machine after these steps.
+  pub theory_all : (steps : List Step) (M : theory.Machine ObservedCore) →
       theory.machine_after (sizes_of c) (program c code) (map named steps) M ≡ all_after c code M steps
   unfolding all_after after theory.machine_after
   theory_all [] M = refl
@@ -140,7 +144,8 @@ module _ (c : Config) (code : List ℕ) where
   refers_runs false t e = absurd (cc)
 
   -- so where none runs, none is open
-  pub none_open : (M : theory.Machine Told) (role : ℕ → Role) → Steady (sizes_of c) (program c code) M role → NoneRuns c M → (p : ℕ) → M.is_open p ≡ false
+  pub none_open : (M : theory.Machine ObservedCore) (role : ℕ → Role) → Steady (sizes_of c) (program c code) M role → NoneRuns c M → (p : ℕ) →
+      M.is_open p ≡ false
   none_open M role steady none p = by (cases_Bool (M.is_open p))
     where
       within : M.is_open p ≡ true → (role p ≡ Idle) ⊎ (p < 2 ^ c.k) → M.is_open p ≡ false
@@ -155,7 +160,7 @@ module _ (c : Config) (code : List ℕ) where
 -- ---- the law
 
 module _ (m : MachineLists) (is : IsMachine m) (idle : IsIdle m) where
-  abbrev start : theory.Machine Told
+  abbrev start : theory.Machine ObservedCore
   start = machine_of m (λ p. [])
 
   explained : (steps : List Step) → IsExplained m.config m.code (flat_state m) (passed m steps)
@@ -173,13 +178,14 @@ module _ (m : MachineLists) (is : IsMachine m) (idle : IsIdle m) where
         count = flat.size.processors;
         size = flat.size.shared;
         cores = λ p.
-            ap (λ (M : theory.Machine Told). M.core p) (sym there)
-            ∙ e.unserved p (e.shut p (ap (λ (M : theory.Machine Told). M.is_open p) there ∙ shut p))
+            ap (λ (M : theory.Machine ObservedCore). M.core p) (sym there)
+            ∙ e.unserved p (e.shut p (ap (λ (M : theory.Machine ObservedCore). M.is_open p) there ∙ shut p))
             ∙ ap (λ es. after_flat es p) order;
-        words = λ i. ap (λ (M : theory.Machine Told). M.mem i) (sym there) ∙ e.words i ∙ ap (λ es. slice_index (flat_run (flat_state m) es).shared i) order;
+        words = λ i. ap (λ (M : theory.Machine ObservedCore). M.mem i) (sym there) ∙ e.words i
+            ∙ ap (λ es. slice_index (flat_run (flat_state m) es).shared i) order;
       }
     where
-      after_flat : List Entry → ℕ → Told
+      after_flat : List Entry → ℕ → ObservedCore
       after_flat es p = record {
         state = slice_index_or (flat_run (flat_state m) es).processors p no_processor;
         events = with_events (λ j. []) (flat_events (flat_state m) es) p;
@@ -197,5 +203,6 @@ module _ (m : MachineLists) (is : IsMachine m) (idle : IsIdle m) where
       let events = flat_events (flat_state m) (turns order.0) in
       (order.0, stopped_flat m.config (stands_after m steps) F events same h.2, h.3 ∙ results_same m.config (stands_after m steps) F events same)
 
+-- If no reference is open in a machine, each of its results is a result of the flat machine that it is.
 pub results_are_flat : (m : MachineLists) (r : FinalResult) → IsMachine m → IsIdle m → IsMachineResult m r → IsFlatResult (flat_state m) r
 results_are_flat m r is idle h = flat_result m is idle r h

@@ -1,4 +1,5 @@
 pub mod Endings
+pub mod Shown
 pub mod Exploring
 pub mod Sameness
 pub mod Exchanged

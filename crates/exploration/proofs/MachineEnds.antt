@@ -11,9 +11,9 @@ use Rattle.flat_machine.specs.declared.event.Event.{Event}
 use Rattle.flat_machine.specs.State.{FlatState, Processor, is_running}
 use Rattle.machine_steps.specs.messages.Places.{put}
 use Rattle.machine_steps.specs.machine_theory.Theory as theory
-use Rattle.machine_steps.specs.machine_theory.Processors.{Told, no_processor}
+use Rattle.machine_steps.specs.machine_theory.Processors.{ObservedCore, no_processor}
 use Rattle.machine_steps.specs.machine_theory.Flatness.{with_events}
-use Rattle.local_reduction.specs.Stations.{printed_after, console_after, consoles_after}
+use Rattle.local_reduction.specs.LocalStates.{printed_after, console_after, consoles_after}
 use Rattle.local_reduction.specs.Closing.{HasStopped}
 use Rattle.local_reduction.specs.Results.{result_with, result_of}
 use Rattle.exploration.specs.Results.{printed_by, machine_result, NoneRuns}
@@ -54,6 +54,7 @@ same_list [] (y ∷ ys) d n e = absurd (omega (arith, n))
 same_list (x ∷ xs) [] d n e = absurd (omega (arith, n))
 same_list (x ∷ xs) (y ∷ ys) d n e = ap₂ (λ z zs. z ∷ zs) (e 0) (same_list xs ys d (omega (arith, n)) (λ i. e (suc i)))
 
+-- If something is found at a place of a list, the place is within the list, and reading there gives it.
 pub found_at : {X : Type 0} (xs : List X) (k : ℕ) (x d : X) → slice_get xs k ≡ Some x → (k < length xs) × (slice_index_or xs k d ≡ x)
 found_at [] k x d e = absurd (cc)
 found_at (y ∷ ys) zero x d e = (omega arith, (let same : y ≡ x = cc in same))
@@ -67,13 +68,17 @@ found_there (y ∷ ys) (suc k) less = found_there ys k (omega (arith, less))
 -- ---- results
 
 -- The machine has the processors, their events and the words of the flat machine.
-pub record Matches (c : Config) (N : theory.Machine Told) (F : FlatState) (events : List (ℕ × Event)) : Type 0 where
+pub record Matches (c : Config) (N : theory.Machine ObservedCore) (F : FlatState) (events : List (ℕ × Event)) : Type 0 where
+  -- The flat machine has as many processors as the machine.
   pub count : length F.processors ≡ 2 ^ c.k
+  -- It has as many shared words.
   pub size : length F.shared ≡ c.shared_words
+  -- Each core is in the state of the flat machine's processor, and has shown its events.
   pub cores : (p : ℕ) → N.core p ≡ record { state = slice_index_or F.processors p no_processor; events = with_events (λ j. []) events p }
+  -- Each word of memory is that of the flat machine.
   pub words : (i : ℕ) → N.mem i ≡ slice_index F.shared i
 
-module _ (c : Config) (N : theory.Machine Told) (F : FlatState) (events : List (ℕ × Event)) (h : Matches c N F events) where
+module _ (c : Config) (N : theory.Machine ObservedCore) (F : FlatState) (events : List (ℕ × Event)) (h : Matches c N F events) where
   words_same : map N.mem (range_with_len 0 c.shared_words) ≡ F.shared
   words_same = same_list (map N.mem (range_with_len 0 c.shared_words)) F.shared 0 (length-map-range_with_len N.mem 0 c.shared_words ∙ sym h.size)
       (λ i. at i (cases_lt i c.shared_words))
@@ -85,25 +90,28 @@ module _ (c : Config) (N : theory.Machine Told) (F : FlatState) (events : List (
           past_end (map N.mem (range_with_len 0 c.shared_words)) i 0 (subst (λ n. n ≤ i) (sym (length-map-range_with_len N.mem 0 c.shared_words)) past)
           ∙ sym (past_end F.shared i 0 (subst (λ n. n ≤ i) (sym h.size) past))
 
+  -- A machine that has what a flat machine has, has its result too.
   pub results_same : machine_result c N ≡ result_of F events
   results_same =
       let each : (λ k. result_with (N.core k).state (printed_by [] (N.core k).events))
       ≡ (λ k. result_with (slice_index_or F.processors k no_processor) (consoles_after (λ j. []) events k)) =
-      fun_ext (λ k. ap (λ (g : Told). result_with g.state (printed_by [] g.events)) (h.cores k)
+      fun_ext (λ k. ap (λ (g : ObservedCore). result_with g.state (printed_by [] g.events)) (h.cores k)
       ∙ ap (result_with (slice_index_or F.processors k no_processor)) (consoles_same events (λ j. []) [] k refl)) in
       let processors = ap (λ f. map f (range_with_len 0 (2 ^ c.k))) each
       ∙ ap (λ n. map (λ k. result_with (slice_index_or F.processors k no_processor) (consoles_after (λ j. []) events k)) (range_with_len 0 n)) (sym h.count) in
       λ i. record { processors = processors i; words = words_same i }
 
+  -- If no processor of the machine runs, none of the flat machine does.
   pub stopped_flat : NoneRuns c N → HasStopped F
   stopped_flat none k p there =
       let found = found_at F.processors k p no_processor there in
-      ap (λ (q : Processor). is_running q.status) (sym found.1) ∙ sym (ap (λ (g : Told). is_running g.state.status) (h.cores k))
+      ap (λ (q : Processor). is_running q.status) (sym found.1) ∙ sym (ap (λ (g : ObservedCore). is_running g.state.status) (h.cores k))
       ∙ none k (subst (λ n. k < n) h.count found.0)
 
+  -- If no processor of the flat machine runs, none of the machine does.
   pub none_runs : HasStopped F → NoneRuns c N
   none_runs stopped k within =
       let there = found_there F.processors k (subst (λ n. k < n) (sym h.count) within) in
-      ap (λ (g : Told). is_running g.state.status) (h.cores k)
+      ap (λ (g : ObservedCore). is_running g.state.status) (h.cores k)
       ∙ ap (λ (q : Processor). is_running q.status) (found_at F.processors k there.0 no_processor there.1).1
       ∙ stopped k there.0 there.1

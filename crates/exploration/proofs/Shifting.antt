@@ -25,7 +25,7 @@ use Rattle.machine_steps.specs.serialization.Program.{Kind, Rests, Alone, Refers
 use Rattle.machine_steps.specs.steps.declared.step.Step.{Step}
 use Rattle.machine_steps.specs.steps.declared.step.Step.TheVariants as step
 use Rattle.machine_steps.specs.machine_theory.Theory as theory
-use Rattle.machine_steps.specs.machine_theory.Processors.{Told, sizes_of, next, alone_by, retired_by, program}
+use Rattle.machine_steps.specs.machine_theory.Processors.{ObservedCore, sizes_of, next, alone_by, retired_by, program}
 use Rattle.machine_steps.specs.machine_theory.Steps.{after}
 use Rattle.machine_steps.specs.machine_theory.Flatness.{with_events}
 use Rattle.machine_steps.specs.Runs.{all_after, events_of}
@@ -44,11 +44,13 @@ put_shifted shift core p x = fun_ext (λ q. by q (cases_eq q p))
     by q (inr other) =
         ap (λ b. cond b (shift p x) (shift q (core q))) (ne_eqb q p other) ∙ sym (ap (λ b. shift q (cond b x (core q))) (ne_eqb q p other))
 
+-- What is shown after two lists of events is what the second list adds to what is shown after the first.
 pub events_join : (first second : List (ℕ × Event)) (shown : ℕ → List Event) →
     with_events shown (first ++ second) ≡ with_events (with_events shown first) second
 events_join [] second shown = refl
 events_join ((p, x) ∷ first) second shown = events_join first second (put shown p (shown p ++ x ∷ []))
 
+-- What a processor has shown after some events is what it had shown before, and then its own of these events.
 pub events_behind : (events : List (ℕ × Event)) (shown : ℕ → List Event) (k : ℕ) → with_events shown events k ≡ shown k ++ with_events (λ j. []) events k
 events_behind [] shown k = sym (append-nil (shown k))
 events_behind ((p, x) ∷ events) shown k =
@@ -58,58 +60,59 @@ events_behind ((p, x) ∷ events) shown k =
     ∙ append_assoc (shown k) (put (λ j. []) p (x ∷ []) k) (with_events (λ j. []) events k)
     ∙ sym (ap (λ es. shown k ++ es) (events_behind events (put (λ j. []) p (x ∷ [])) k))
 
-abbrev pub shift : (ℕ → List Event) → ℕ → Told → Told
+abbrev pub shift : (ℕ → List Event) → ℕ → ObservedCore → ObservedCore
 shift e p g = record { state = g.state; events = e p ++ g.events }
 
 -- the machine, whose processors have shown these events before
-abbrev pub behind : (ℕ → List Event) → theory.Machine Told → theory.Machine Told
+abbrev pub behind : (ℕ → List Event) → theory.Machine ObservedCore → theory.Machine ObservedCore
 behind e N = record { net = N.net; mem = N.mem; core = λ p. shift e p (N.core p); is_open = N.is_open }
 
 -- and as if they had shown none
-abbrev pub forget : theory.Machine Told → theory.Machine Told
+abbrev pub forget : theory.Machine ObservedCore → theory.Machine ObservedCore
 forget N = record { net = N.net; mem = N.mem; core = λ p. record { state = (N.core p).state; events = [] }; is_open = N.is_open }
 
-pub as_before : (N : theory.Machine Told) → behind (events_of N) (forget N) ≡ N
+-- A machine that forgets its events, and then has them put before, is as it was.
+pub as_before : (N : theory.Machine ObservedCore) → behind (events_of N) (forget N) ≡ N
 as_before N =
     let cores : (λ p. shift (events_of N) p (record { state = (N.core p).state; events = [] })) ≡ N.core =
     fun_ext (λ p. ap (λ es. record { state = (N.core p).state; events = es }) (append-nil (N.core p).events)) in
     λ i. record { net = N.net; mem = N.mem; core = cores i; is_open = N.is_open }
 
 module _ (c : Config) (code : List ℕ) (e : ℕ → List Event) where
-  alone_shifted : (p : ℕ) (g : Told) (t : Turn) → alone_by (shift e p g) t ≡ shift e p (alone_by g t)
+  alone_shifted : (p : ℕ) (g : ObservedCore) (t : Turn) → alone_by (shift e p g) t ≡ shift e p (alone_by g t)
   alone_shifted p g (Retires q r) = ap (λ es. record { state = q; events = es }) (append_assoc (e p) g.events (event.Retired r ∷ []))
   alone_shifted p g (Stops cause) =
       ap (λ es. record { state = record g.state { status = status_of cause }; events = es }) (append_assoc (e p) g.events (event.Stopped cause ∷ []))
   alone_shifted p g (Reaches word change later) = refl
 
-  retired_shifted : (p : ℕ) (g : Told) (o : Option (Processor × retirement.Retired)) → retired_by (shift e p g) o ≡ shift e p (retired_by g o)
+  retired_shifted : (p : ℕ) (g : ObservedCore) (o : Option (Processor × retirement.Retired)) → retired_by (shift e p g) o ≡ shift e p (retired_by g o)
   retired_shifted p g None = refl
   retired_shifted p g (Some done) = ap (λ es. record { state = done.0; events = es }) (append_assoc (e p) g.events (event.Retired done.1 ∷ []))
 
-  module _ (N : theory.Machine Told) where
-    abbrev Same : theory.Result Told → theory.Result Told → Type 0
+  module _ (N : theory.Machine ObservedCore) where
+    abbrev Same : theory.Result ObservedCore → theory.Result ObservedCore → Type 0
     Same r s = r.machine ≡ behind e s.machine
 
-    put_told : (p : ℕ) (x y : Told) → x ≡ shift e p y → put (λ q. shift e q (N.core q)) p x ≡ (λ q. shift e q (put N.core p y q))
-    put_told p x y same = ap (put (λ q. shift e q (N.core q)) p) same ∙ put_shifted (shift e) N.core p y
+    put_observed : (p : ℕ) (x y : ObservedCore) → x ≡ shift e p y → put (λ q. shift e q (N.core q)) p x ≡ (λ q. shift e q (put N.core p y q))
+    put_observed p x y same = ap (put (λ q. shift e q (N.core q)) p) same ∙ put_shifted (shift e) N.core p y
 
-    either : (b : Bool) (r s : theory.Result Told) → Same r s → Same (if b then r else theory.stalled (behind e N)) (if b then s else theory.stalled N)
+    either : (b : Bool) (r s : theory.Result ObservedCore) → Same r s → Same (if b then r else theory.stalled (behind e N)) (if b then s else theory.stalled N)
     either true r s h = h
     either false r s h = refl
 
     by_reply : (p : ℕ) (ys : List Reply) → Same (theory.retire_from (program c code) (behind e N) p ys) (theory.retire_from (program c code) N p ys)
     by_reply p [] = refl
     by_reply p (y ∷ ys) =
-        ap (λ (core : ℕ → Told). record { net = port_taken N.net p; mem = N.mem; core = core; is_open = put N.is_open p false })
-        (put_told p (retired_by (shift e p (N.core p)) (after_reply (next c code p (N.core p).state) y.value))
+        ap (λ (core : ℕ → ObservedCore). record { net = port_taken N.net p; mem = N.mem; core = core; is_open = put N.is_open p false })
+        (put_observed p (retired_by (shift e p (N.core p)) (after_reply (next c code p (N.core p).state) y.value))
         (retired_by (N.core p) (after_reply (next c code p (N.core p).state) y.value))
         (retired_shifted p (N.core p) (after_reply (next c code p (N.core p).state) y.value)))
 
     by_kind : (p : ℕ) (kind : Kind) → Same (theory.begin (program c code) (behind e N) p kind) (theory.begin (program c code) N p kind)
     by_kind p Rests = refl
     by_kind p Alone =
-        ap (λ (core : ℕ → Told). record { net = N.net; mem = N.mem; core = core; is_open = N.is_open })
-        (put_told p (alone_by (shift e p (N.core p)) (next c code p (N.core p).state)) (alone_by (N.core p) (next c code p (N.core p).state))
+        ap (λ (core : ℕ → ObservedCore). record { net = N.net; mem = N.mem; core = core; is_open = N.is_open })
+        (put_observed p (alone_by (shift e p (N.core p)) (next c code p (N.core p).state)) (alone_by (N.core p) (next c code p (N.core p).state))
         (alone_shifted p (N.core p) (next c code p (N.core p).state)))
     by_kind p Refers = refl
 
@@ -148,7 +151,8 @@ module _ (c : Config) (code : List ℕ) (e : ℕ → List Event) where
         (by_down (moved_down (sizes_of c) N.net s w))
     step_shifted (step.Poke q) h = absurd h
 
-  pub all_shifted : (steps : List Step) (N : theory.Machine Told) → AreOfTheMachine steps →
+  -- The machine's steps do the same whatever was shown before, and add their events at the end of that.
+  pub all_shifted : (steps : List Step) (N : theory.Machine ObservedCore) → AreOfTheMachine steps →
       all_after c code (behind e N) steps ≡ behind e (all_after c code N steps)
   unfolding all_after
   all_shifted [] N all = refl

@@ -1,4 +1,6 @@
 pub mod Endings
+pub mod States
+pub mod Refusals
 pub mod Laws
 pub mod Results
 pub mod ResultLaws

@@ -7,25 +7,25 @@ use Rattle.flat_machine.specs.State.{is_running}
 use Rattle.machine_steps.specs.machine_theory.Theory as theory
 use Rattle.machine_steps.specs.steps.declared.step.Step.{Step}
 use Rattle.machine_steps.specs.steps.declared.step.Step.TheVariants as step
-use Rattle.machine_steps.specs.machine_theory.Processors.{Told}
+use Rattle.machine_steps.specs.machine_theory.Processors.{ObservedCore}
 use Rattle.machine_steps.specs.Machines.{MachineLists, machine_of}
 use Rattle.machine_steps.specs.Runs.{all_after}
-use Rattle.local_reduction.specs.Stations.{printed_after}
+use Rattle.local_reduction.specs.LocalStates.{printed_after}
 use Rattle.local_reduction.specs.Results.{FinalResult, result_with}
 
--- the bytes that these events print, behind those before
+-- the bytes that these events print, after those before
 abbrev pub printed_by : List ℕ → List Event → List ℕ
 printed_by console [] = console
 printed_by console (shown ∷ events) = printed_by (printed_after console shown) events
 
-abbrev pub machine_result : Config → theory.Machine Told → FinalResult
+abbrev pub machine_result : Config → theory.Machine ObservedCore → FinalResult
 machine_result c M = record {
   processors = map (λ k. result_with (M.core k).state (printed_by [] (M.core k).events)) (range_with_len 0 (2 ^ c.k));
   words = map M.mem (range_with_len 0 c.shared_words);
 }
 
 -- No processor runs.
-abbrev pub NoneRuns : Config → theory.Machine Told → Type 0
+abbrev pub NoneRuns : Config → theory.Machine ObservedCore → Type 0
 NoneRuns c M = (k : ℕ) → k < 2 ^ c.k → is_running (M.core k).state.status ≡ false
 
 abbrev pub IsOfTheMachine : Step → Type 0
@@ -41,10 +41,11 @@ AreOfTheMachine [] = Unit {0}
 AreOfTheMachine (s ∷ steps) = IsOfTheMachine s × AreOfTheMachine steps
 
 -- the machine after these steps, whose processors have shown nothing before
-abbrev pub stands_after : MachineLists → List Step → theory.Machine Told
+abbrev pub stands_after : MachineLists → List Step → theory.Machine ObservedCore
 stands_after m steps = all_after m.config m.code (machine_of m (λ p. [])) steps
 
 -- some steps without writes from outside end in it
 abbrev pub IsMachineResult : MachineLists → FinalResult → Type 0
 IsMachineResult m r =
-    (steps : List Step) × AreOfTheMachine steps × NoneRuns m.config (stands_after m steps) × (r ≡ machine_result m.config (stands_after m steps))
+    (steps : List Step) × AreOfTheMachine steps × NoneRuns m.config (stands_after m steps)
+    × (r ≡ machine_result m.config (stands_after m steps))

@@ -1,50 +1,67 @@
 //! The results of rows in which no processor runs.
 
-ghost use Rattle.std.specs.Prelude.{◌≡◌, ◌↔◌, ◌<◌, ◌≤◌, ℕ, All, Contains, length, map, slice_index, IfOk, IsTrue, OnOk};
-ghost use Rattle.local_reduction.specs.Results.{HaveStopped, StandsFor, result_at, station_result};
-ghost use Rattle.exploration.specs.Endings.{IsAdded, IsEnding, IsEndingAdded, IsOnce, IsStoodFor};
+ghost use Rattle.std.specs.Prelude.{◌≡◌, ◌↔◌, ◌<◌, ◌≤◌, ℕ, All, length, map, IfOk, IsTrue, OnOk};
+ghost use Rattle.local_reduction.specs.Results.{HaveStopped, result_at, local_state_result};
+ghost use Rattle.exploration.specs.Endings.{AreInOrder, AreShown, IsEnding, IsEndingAdded, IsOnce, IsRowAdded};
+ghost use Rattle.exploration.specs.Endings.{IsStoodFor};
 ghost use Rattle.state_graph.specs.Ranks.{no_rank};
 ghost use Rattle.state_search.specs.Ends.{AreRows};
 ghost use Rattle.state_search.specs.Search.{AreClasses, state_at};
-ghost use Rattle.state_search.specs.Tables.{IsRow, means, placed_at};
+ghost use Rattle.state_search.specs.StateTables.{AreDifferent, IsRow, means, placed_at};
 
-use crate::order::put_in_order;
+use crate::order::in_order;
 use crate::outcome::{FinalResult, ProcessorResult};
-use state_search::{Extent, Row, Tables};
+use indexmap::IndexSet;
+use state_search::{Extent, StateTables, StateVector};
 use std::alloc::{AllocError, Global};
 
 /// Results, and the place of the row of each.
 #[derive(Drop)]
-pub(crate) struct Endings {
+pub(crate) struct Endings<const N: usize> {
     pub results: Vec<FinalResult>,
     pub places: Vec<u32>,
+    /// The rows whose results they are, by which a result is found.
+    shown: IndexSet<StateVector<N>>,
 }
 
 /// The result of each row in which no processor runs, up to exchanges of processors of one class, each once.
 pub(crate) fn results_of<const N: usize>(
     alloc: Global,
-    tables: &Tables,
+    state_tables: &StateTables,
     extent: Extent,
     classes: &[u8],
-    rows: &[Row<N>],
-) -> Result<Endings, AllocError>
-    requires rows { AreRows extent tables.now rows.now }
+    rows: &[StateVector<N>],
+) -> Result<Endings<N>, AllocError>
+    requires rows { AreRows extent state_tables.now rows.now }
     requires classes { AreClasses extent classes.now }
     requires room { extent.processors < N }
     requires narrow { N ≤ 65 }
     requires few { length rows.now ≤ no_rank }
-    ensures sound { IfOk result (λ e. All (IsEnding extent classes.now tables.now rows.now) e.results.items) }
+    ensures sound { IfOk result (λ e. All (IsEnding extent classes.now state_tables.now rows.now) e.results.items) }
     ensures once { IfOk result (λ e. IsOnce e.results.items) }
-    ensures complete { IfOk result (λ e. (i : ℕ) → i < length rows.now → HaveStopped (state_at extent tables.now rows.now i)
-        → IsStoodFor classes.now e.results.items (result_at (state_at extent tables.now rows.now i))) }
+    ensures complete { IfOk result (λ e. (i : ℕ) → i < length rows.now →
+        HaveStopped (state_at extent state_tables.now rows.now i)
+        → IsStoodFor classes.now e.results.items (result_at (state_at extent state_tables.now rows.now i))) }
+    ensures order { IfOk result (λ e. AreInOrder classes.now (state_at extent state_tables.now rows.now)
+        (length rows.now) e.results.items) }
 {
     let mut endings = Endings {
         results: Vec::new(alloc),
         places: Vec::new(alloc),
+        shown: IndexSet::new(alloc),
     };
+    state_tables.are_different();
     let mut place = 0;
     for row in rows {
-        add_ending(alloc, tables, extent, classes, row, place, &mut endings)?;
+        add_ending(
+            alloc,
+            state_tables,
+            extent,
+            classes,
+            row,
+            place,
+            &mut endings,
+        )?;
         place += 1;
     }
     Ok(endings)
@@ -53,87 +70,84 @@ pub(crate) fn results_of<const N: usize>(
 /// Adds the result of a row, if no processor runs in it and the result is not there.
 fn add_ending<const N: usize>(
     alloc: Global,
-    tables: &Tables,
+    state_tables: &StateTables,
     extent: Extent,
     classes: &[u8],
-    row: &Row<N>,
+    row: &StateVector<N>,
     place: u32,
-    endings: &mut Endings,
+    endings: &mut Endings<N>,
 ) -> Result<(), AllocError>
-    requires row { IsRow extent tables.now row.now }
+    requires row { IsRow extent state_tables.now row.now }
     requires classes { AreClasses extent classes.now }
     requires room { extent.processors < N }
     requires narrow { N ≤ 65 }
-    ensures { OnOk result (IsEndingAdded classes.now (means extent tables.now row.now) endings.old.results.items
+    requires different { AreDifferent state_tables.now }
+    requires shown { AreShown N extent state_tables.now endings.old.shown.keys endings.old.results.items }
+    ensures added { OnOk result
+        (IsEndingAdded classes.now (means extent state_tables.now row.now) endings.old.results.items
         endings.new.results.items) }
+    ensures shown { OnOk result (AreShown N extent state_tables.now endings.new.shown.keys endings.new.results.items) }
 {
-    if !has_stopped(tables, extent, row) {
+    if !has_stopped(state_tables, extent, row) {
         return Ok(());
     }
-    let last = result_of(alloc, tables, extent, classes, row, &mut [])?;
-    if add(&mut endings.results, last)? {
-        endings.places.push(place)?;
+    let shown = in_order(state_tables, extent, classes, row, &mut []);
+    if !is_new(&mut endings.shown, shown)? {
+        return Ok(());
     }
+    let last = result_of(alloc, state_tables, extent, &shown)?;
+    endings.results.push(last)?;
+    endings.places.push(place)?;
     Ok(())
 }
 
-/// Adds a result if it is not there, and says whether it was added.
-fn add(results: &mut Vec<FinalResult>, last: FinalResult) -> Result<bool, AllocError>
-    ensures added { OnOk result (IsAdded results.old.items last results.new.items) }
+/// Adds a row if it is not there, and says whether it was added.
+fn is_new<const N: usize>(
+    rows: &mut IndexSet<StateVector<N>>,
+    row: StateVector<N>,
+) -> Result<bool, AllocError>
+    requires narrow { N ≤ 65 }
+    ensures { IfOk result (λ is_new. IsRowAdded rows.old.keys row.entry is_new rows.new.keys) }
 {
-    if has(results.as_slice(), &last) {
-        return Ok(false);
+    match rows.insert_full(row) {
+        Ok((_, is_new)) => Ok(is_new),
+        Err(_) => Err(AllocError),
     }
-    results.push(last)?;
-    Ok(true)
-}
-
-/// Whether a result is there.
-fn has(results: &[FinalResult], last: &FinalResult) -> bool
-    ensures { IsTrue result ↔ Contains results.now last.now }
-{
-    for one in results {
-        if one.is_same(last) {
-            return true;
-        }
-    }
-    false
 }
 
 /// Whether no processor runs.
-fn has_stopped<const N: usize>(tables: &Tables, extent: Extent, row: &Row<N>) -> bool
-    requires row { IsRow extent tables.now row.now }
+fn has_stopped<const N: usize>(
+    state_tables: &StateTables,
+    extent: Extent,
+    row: &StateVector<N>,
+) -> bool
+    requires row { IsRow extent state_tables.now row.now }
     requires room { extent.processors < N }
     requires narrow { N ≤ 65 }
-    ensures { IsTrue result ↔ HaveStopped (means extent tables.now row.now) }
+    ensures { IsTrue result ↔ HaveStopped (means extent state_tables.now row.now) }
 {
     for p in 0..extent.processors {
-        if tables.station(row[usize::from(p)]).is_running() {
+        if state_tables.local_state(row[usize::from(p)]).is_running() {
             return false;
         }
     }
     true
 }
 
-/// The result of a row in which no processor runs, with the processors of each class in order. Holders that stand at
-/// the places of the row trade as its processors do; there may be none.
-pub(crate) fn result_of<const N: usize>(
+/// The result of a row in which no processor runs.
+fn result_of<const N: usize>(
     alloc: Global,
-    tables: &Tables,
+    state_tables: &StateTables,
     extent: Extent,
-    classes: &[u8],
-    row: &Row<N>,
-    holders: &mut [u8],
+    row: &StateVector<N>,
 ) -> Result<FinalResult, AllocError>
-    requires row { IsRow extent tables.now row.now }
-    requires classes { AreClasses extent classes.now }
+    requires row { IsRow extent state_tables.now row.now }
     requires room { extent.processors < N }
     requires narrow { N ≤ 65 }
-    ensures { IfOk result (λ r. StandsFor classes.now (result_at (means extent tables.now row.now)) r) }
+    ensures { IfOk result (λ r. r ≡ result_at (means extent state_tables.now row.now)) }
 {
-    let mut processors = processors_of(alloc, tables, extent, row)?;
-    put_in_order(processors.as_mut_slice(), classes, holders);
-    let words = copied(tables.words(row[usize::from(extent.processors)]))?;
+    let processors = processors_of(alloc, state_tables, extent, row)?;
+    let words = copied(state_tables.words(row[usize::from(extent.processors)]))?;
     Ok(FinalResult {
         processors,
         words,
@@ -144,18 +158,19 @@ pub(crate) fn result_of<const N: usize>(
 /// The results of the processors of a row.
 fn processors_of<const N: usize>(
     alloc: Global,
-    tables: &Tables,
+    state_tables: &StateTables,
     extent: Extent,
-    row: &Row<N>,
+    row: &StateVector<N>,
 ) -> Result<Vec<ProcessorResult>, AllocError>
-    requires row { IsRow extent tables.now row.now }
+    requires row { IsRow extent state_tables.now row.now }
     requires room { extent.processors < N }
     requires narrow { N ≤ 65 }
-    ensures { IfOk result (λ all. all.items ≡ map station_result (means extent tables.now row.now).stations) }
+    ensures { IfOk result (λ all. all.items
+        ≡ map local_state_result (means extent state_tables.now row.now).local_states) }
 {
     let mut processors = Vec::new(alloc);
     for p in 0..extent.processors {
-        processors.push(processor_result(alloc, tables, row[usize::from(p)])?)?;
+        processors.push(processor_result(alloc, state_tables, row[usize::from(p)])?)?;
     }
     Ok(processors)
 }
@@ -163,18 +178,18 @@ fn processors_of<const N: usize>(
 /// The result of a station.
 fn processor_result(
     alloc: Global,
-    tables: &Tables,
+    state_tables: &StateTables,
     number: u32,
 ) -> Result<ProcessorResult, AllocError>
-    requires { number < length tables.now.stations }
-    ensures { IfOk result (λ r. r ≡ station_result (placed_at tables.now number).station) }
+    requires { number < length state_tables.now.local_states }
+    ensures { IfOk result (λ r. r ≡ local_state_result (placed_at state_tables.now number).local_state) }
 {
-    let station = tables.station(number);
+    let local_state = state_tables.local_state(number);
     let mut console = Vec::new(alloc);
-    console.extend_from_slice(station.console())?;
+    console.extend_from_slice(local_state.console())?;
     Ok(ProcessorResult {
-        pc: station.core().pc(),
-        status: station.core().status(),
+        pc: local_state.core().pc(),
+        status: local_state.core().status(),
         console,
     })
 }

@@ -7,7 +7,7 @@ pub fn results_are_closed_under_exchange()
     ensures closed { ResultsAreClosedUnderExchange }
 {}
 
-/// Whatever the classes, results that stand for those of a machine stand for the same results.
+/// For any classes, results that stand for those of a machine stand for the same results.
 pub fn exploring_either_way_stands_for_the_same()
     ensures same { ExploringEitherWayStandsForTheSame }
 {}

@@ -12,7 +12,8 @@ use std::alloc::{AllocError, Global};
 /// The cores of all processors, none of which is away.
 pub fn cores_of(alloc: Global, machine: &Machine) -> Result<Vec<Core>, AllocError>
     requires home { AreHome machine.now }
-    ensures { IfOk result (λ cores. cores.items ≡ map (λ p. (port_at machine.now.ports p).core) (range_with_len 0 (2 ^ machine.now.config.k))) }
+    ensures { IfOk result (λ cores. cores.items
+        ≡ map (λ p. (port_at machine.now.ports p).core) (range_with_len 0 (2 ^ machine.now.config.k))) }
 {
     let mut cores = Vec::new(alloc);
     for p in 0..machine.config().processors() {

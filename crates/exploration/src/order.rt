@@ -1,75 +1,107 @@
-//! Results whose alike processors are in an order by what they show.
+//! Rows whose alike processors are in an order by what they show.
 
-ghost use Rattle.std.specs.Prelude.{◌≡◌, ◌<◌, length};
-ghost use Rattle.exploration.specs.Endings.{AreExchanged};
+ghost use Rattle.std.specs.Prelude.{◌<◌, ◌≤◌, length};
+ghost use Rattle.state_search.specs.Rows.{IsRowExchanged};
+ghost use Rattle.state_search.specs.Search.{AreClasses};
+ghost use Rattle.state_search.specs.StateTables.{IsRow};
 
-use crate::outcome::ProcessorResult;
 use flat_machine::Status;
+use state_search::{Extent, LocalState, StateTables, StateVector, trade};
 use std::cmp::Ordering;
 
-/// Puts the processors of each class in order by their `pc`, how they stopped, and what they printed. Holders that
-/// stand at the places of the processors trade with them; there may be none.
-pub(crate) fn put_in_order(processors: &mut [ProcessorResult], classes: &[u8], holders: &mut [u8])
-    requires { length processors.old ≡ length classes.now }
-    ensures exchanged { AreExchanged classes.now processors.old processors.new }
-    ensures all { length processors.new ≡ length processors.old }
+/// The row with the processors of each class in order by their `pc`, how they stopped, and what they printed. Holders
+/// that stand at the places of the processors trade with them; there may be none.
+pub(crate) fn in_order<const N: usize>(
+    state_tables: &StateTables,
+    extent: Extent,
+    classes: &[u8],
+    row: &StateVector<N>,
+    holders: &mut [u8],
+) -> StateVector<N>
+    requires row { IsRow extent state_tables.now row.now }
+    requires classes { AreClasses extent classes.now }
+    requires room { extent.processors < N }
+    requires narrow { N ≤ 65 }
+    ensures exchanged { IsRowExchanged classes.now row.now result }
+    ensures row { IsRow extent state_tables.now result }
 {
-    for last in 0..processors.len() {
-        sink(processors, classes, last, holders);
+    let mut new = *row;
+    for last in 0..classes.len() {
+        sink(state_tables, extent, classes, &mut new, last, holders);
     }
+    new
 }
 
 /// Moves a processor down to its place among those of its class before it.
-fn sink(processors: &mut [ProcessorResult], classes: &[u8], last: usize, holders: &mut [u8])
-    requires all { length processors.old ≡ length classes.now }
-    requires there { last < length processors.old }
-    ensures exchanged { AreExchanged classes.now processors.old processors.new }
-    ensures all { length processors.new ≡ length processors.old }
+fn sink<const N: usize>(
+    state_tables: &StateTables,
+    extent: Extent,
+    classes: &[u8],
+    row: &mut StateVector<N>,
+    last: usize,
+    holders: &mut [u8],
+)
+    requires row { IsRow extent state_tables.now row.old }
+    requires classes { AreClasses extent classes.now }
+    requires room { extent.processors < N }
+    requires narrow { N ≤ 65 }
+    requires there { last < length classes.now }
+    ensures exchanged { IsRowExchanged classes.now row.old row.new }
+    ensures row { IsRow extent state_tables.now row.new }
 {
     let mut at = last;
     for back in 0..last {
-        at = step(processors, classes, last - 1 - back, at, holders);
+        at = step(
+            state_tables,
+            extent,
+            classes,
+            row,
+            last - 1 - back,
+            at,
+            holders,
+        );
     }
 }
 
 /// Trades two processors of one class if the second comes before the first. Gives the place at which then stands what
 /// stood at the second.
-fn step(
-    processors: &mut [ProcessorResult],
+fn step<const N: usize>(
+    state_tables: &StateTables,
+    extent: Extent,
     classes: &[u8],
+    row: &mut StateVector<N>,
     first: usize,
     second: usize,
     holders: &mut [u8],
 ) -> usize
-    requires all { length processors.old ≡ length classes.now }
-    requires first { first < length processors.old }
-    requires second { second < length processors.old }
-    ensures exchanged { AreExchanged classes.now processors.old processors.new }
-    ensures all { length processors.new ≡ length processors.old }
-    ensures there { result < length processors.new }
+    requires row { IsRow extent state_tables.now row.old }
+    requires classes { AreClasses extent classes.now }
+    requires room { extent.processors < N }
+    requires narrow { N ≤ 65 }
+    requires first { first < length classes.now }
+    requires second { second < length classes.now }
+    ensures exchanged { IsRowExchanged classes.now row.old row.new }
+    ensures row { IsRow extent state_tables.now row.new }
+    ensures there { result < length classes.now }
 {
-    if classes[first] != classes[second] || !precedes(&processors[second], &processors[first]) {
+    let later = state_tables.local_state(row[first]);
+    if classes[first] != classes[second]
+        || !precedes(state_tables.local_state(row[second]), later)
+    {
         return second;
     }
-    processors.swap(first, second);
-    trade(holders, first, second);
+    trade(row, classes, first, second, holders);
     first
 }
 
-/// Trades what stands at two places, if there is such.
-fn trade(holders: &mut [u8], first: usize, second: usize) {
-    if first < holders.len() && second < holders.len() {
-        holders.swap(first, second);
-    }
-}
-
 /// Whether a processor comes before another.
-fn precedes(one: &ProcessorResult, other: &ProcessorResult) -> bool {
+fn precedes(one: &LocalState, other: &LocalState) -> bool {
     let order = one
-        .pc
-        .cmp(&other.pc)
-        .then(rank_of(one.status).cmp(&rank_of(other.status)))
-        .then(one.console.as_slice().cmp(other.console.as_slice()));
+        .core()
+        .pc()
+        .cmp(&other.core().pc())
+        .then(rank_of(one.core().status()).cmp(&rank_of(other.core().status())))
+        .then(one.console().cmp(other.console()));
     order == Ordering::Less
 }
 

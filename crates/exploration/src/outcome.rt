@@ -3,7 +3,7 @@
 ghost use Rattle.std.specs.Prelude.{◌≡◌, ◌↔◌, ◌<◌, ℕ, slice_index, IsTrue};
 
 use flat_machine::Status;
-use state_graph::Schedules;
+use state_graph::Termination;
 use std::marker::Model;
 
 /// Where a processor has stopped, how, and the bytes that it has printed.
@@ -39,7 +39,10 @@ impl Model for FinalResult {
 
     ghost Value = { Contents };
 
-    ghost view = { λ r. record { processors = r.processors.items; words = map (slice_index r.words.items) (range_with_len 0 r.shared_words) } };
+    ghost view = { λ r. record {
+      processors = r.processors.items;
+      words = map (slice_index r.words.items) (range_with_len 0 r.shared_words);
+    } };
 }
 
 impl ProcessorResult {
@@ -87,7 +90,7 @@ fn are_same(some: &[ProcessorResult], others: &[ProcessorResult]) -> bool
     true
 }
 
-/// Whether the first so many words are the same. Those past the last of a list are zero.
+/// Whether the first this many words are the same. Those past the last of a list are zero.
 fn have_same_words(some: &[u32], others: &[u32], count: u32) -> bool
     ensures { IsTrue result ↔ ((i : ℕ) → i < count → slice_index some.now i ≡ slice_index others.now i) }
 {
@@ -114,7 +117,7 @@ fn word_at(words: &[u32], place: u32) -> u32
 pub struct Explored {
     /// In the order in which they are found. Each has its processors, in each class, in an order by what they show.
     pub results: Vec<FinalResult>,
-    pub schedules: Schedules,
+    pub termination: Termination,
     /// How many states are found.
     pub states: usize,
     /// The class of each processor, named by the first that is in it. A result stands for each that comes of it if

@@ -1,6 +1,7 @@
 //! Why a search is given up.
 
 ghost use Rattle.std.specs.Prelude.{◌≡◌};
+ghost use Rattle.exploration.specs.Refusals.{refused_by_search};
 
 use state_search::Refusal as SearchRefusal;
 
@@ -18,7 +19,9 @@ pub enum Refusal {
 impl Refusal {
     /// What a search that was made without exchange was given up for. It is not given up for a processor that asks for
     /// its own number, which only one with exchange looks for.
-    pub(crate) fn of(refusal: SearchRefusal) -> Self {
+    pub(crate) fn of(refusal: SearchRefusal) -> Self
+        ensures { result ≡ refused_by_search refusal }
+    {
         match refusal {
             SearchRefusal::Memory | SearchRefusal::Asks => Refusal::Memory,
             SearchRefusal::States => Refusal::States,

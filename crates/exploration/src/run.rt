@@ -1,18 +1,20 @@
 //! The search of a machine.
 
-ghost use Rattle.std.specs.Prelude.{◌≡◌, ◌<◌, ◌≤◌, ◌^◌, ℕ, false, Contains, length, IfOk};
+ghost use Rattle.std.specs.Prelude.{◌≡◌, ◌<◌, ◌≤◌, ◌^◌, ℕ, false, Contains, length, IfErr, IfOk};
 ghost use Rattle.local_reduction.specs.Results.{FinalResult, HaveStopped, IsFlatResult, StandsFor, result_at};
-ghost use Rattle.exploration.specs.Endings.{AreSingle, IsEnding, IsOnce, IsStoodFor};
-ghost use Rattle.state_graph.specs.Laws.{AreSchedulesOf};
+ghost use Rattle.exploration.specs.Endings.{AreInOrder, AreSingle, IsEnding, IsOnce, IsStoodFor};
+ghost use Rattle.exploration.specs.States.{AreAllStates, HasManyStates, IsGivenUp};
+ghost use Rattle.state_graph.specs.Laws.{IsTerminationOf};
 ghost use Rattle.local_reduction.specs.Live.{HasAllLive};
 ghost use Rattle.machine_steps.specs.Machines.{AreHome, IsIdle};
 ghost use Rattle.machine_steps.specs.Openings.{flat_state};
 ghost use Rattle.state_graph.specs.Ranks.{no_rank};
-ghost use Rattle.state_graph.specs.Schedules.{AreTold};
+ghost use Rattle.state_graph.specs.Termination.{IsTrueOf};
 ghost use Rattle.exploration.specs.Results.{IsMachineResult};
 ghost use Rattle.state_search.specs.Ends.{AreRows};
-ghost use Rattle.state_search.specs.Memo.{KnowsLists, KnowsStations};
+ghost use Rattle.state_search.specs.TransitionCache.{KnowsLists, KnowsLocalStates};
 ghost use Rattle.state_search.specs.Opening.{AreOfExtent, flat_of};
+ghost use Rattle.state_search.specs.Refusals.{IsGivenUpFor};
 ghost use Rattle.state_search.specs.Search.{AreClasses, state_at};
 
 use crate::ending::results_of;
@@ -24,12 +26,14 @@ use crate::way::{place_of, way_of};
 use hart::Core;
 use local_memory::Code;
 use local_reduction::{LiveTable, dead_registers_can_be_forgotten};
-use machine_steps::{Machine, machine_is_sound};
+use machine_steps::{Machine, machine_is_well_formed};
 use state_graph::{
-    all_stood_for_are_results, each_result_is_stood_for, schedules_of, successors_tell_of_schedules,
+    all_stood_for_are_results, each_result_is_stood_for, successors_decide_termination,
+    termination_of,
 };
 use state_search::{
-    Extent, Found, Memos, Refusal as SearchRefusal, Tables, Watch, classes_of, search,
+    Extent, MoveRefusal, Refusal as SearchRefusal, SearchObserver, StateSpace, StateTables,
+    TransitionCaches, classes_of, search,
 };
 use std::alloc::Global;
 
@@ -45,7 +49,7 @@ pub struct Search {
 }
 
 /// All final results that a machine can have, up to exchanges of processors that stand alike: each in which some steps
-/// without writes from outside end, after which no processor runs. How many states are found is told as they are.
+/// without writes from outside end, after which no processor runs. How many states are found is reported as they are.
 ///
 /// If a processor asks for its own number after a reference, processors are not exchanged: the search is made once more
 /// without.
@@ -53,12 +57,13 @@ pub struct Search {
 /// # Errors
 ///
 /// [`Refusal::States`] if there are as many states between references as the limit, or more, [`Refusal::Alone`] if a
-/// processor goes on for 1,000,000 instructions without a reference, and [`Refusal::Memory`].
-pub fn explore<G: Watch>(
+/// processor goes on for 1,000,000 instructions without a reference and is not found to spin, and [`Refusal::Memory`].
+#[tactic(auto, using(crate::proofs::Exploring::search_gives_up))]
+pub fn explore<G: SearchObserver>(
     alloc: Global,
     machine: &Machine,
     wish: Search,
-    watch: &mut G,
+    observer: &mut G,
 ) -> Result<Explored, Refusal>
     requires idle { IsIdle machine.now }
     requires home { AreHome machine.now }
@@ -69,28 +74,32 @@ pub fn explore<G: Watch>(
     ensures once { IfOk result (λ e. IsOnce e.results.items) }
     ensures classes { IfOk result (λ e. length e.classes.items ≡ 2 ^ machine.now.config.k) }
     ensures single { IfOk result (λ e. wish.exchanged ≡ false → AreSingle (2 ^ machine.now.config.k) e.classes.items) }
-    ensures schedules { IfOk result (λ e. AreSchedulesOf (flat_state machine.now) e.schedules) }
+    ensures termination { IfOk result (λ e. IsTerminationOf (flat_state machine.now) e.termination) }
+    ensures states { IfOk result
+        (λ e. AreAllStates (flat_state machine.now) e.classes.items e.results.items e.termination e.states) }
+    ensures few { IfOk result (λ e. e.states < wish.limit) }
+    ensures given_up { IfErr result (IsGivenUp (flat_state machine.now) wish.limit) }
 {
     if wish.exchanged {
-        match explore_as(alloc, machine, wish, true, watch) {
+        match explore_as(alloc, machine, wish, true, observer) {
             Ok(explored) => return Ok(explored),
             Err(SearchRefusal::Asks) => {}
             Err(refusal) => return Err(Refusal::of(refusal)),
         }
     }
-    match explore_as(alloc, machine, wish, false, watch) {
+    match explore_as(alloc, machine, wish, false, observer) {
         Ok(explored) => Ok(explored),
         Err(refusal) => Err(Refusal::of(refusal)),
     }
 }
 
 /// The same, with processors exchanged or not.
-fn explore_as<G: Watch>(
+fn explore_as<G: SearchObserver>(
     alloc: Global,
     machine: &Machine,
     wish: Search,
     exchanged: bool,
-    watch: &mut G,
+    observer: &mut G,
 ) -> Result<Explored, SearchRefusal>
     requires idle { IsIdle machine.now }
     requires home { AreHome machine.now }
@@ -101,9 +110,13 @@ fn explore_as<G: Watch>(
     ensures once { IfOk result (λ e. IsOnce e.results.items) }
     ensures classes { IfOk result (λ e. length e.classes.items ≡ 2 ^ machine.now.config.k) }
     ensures single { IfOk result (λ e. exchanged ≡ false → AreSingle (2 ^ machine.now.config.k) e.classes.items) }
-    ensures schedules { IfOk result (λ e. AreSchedulesOf (flat_state machine.now) e.schedules) }
+    ensures termination { IfOk result (λ e. IsTerminationOf (flat_state machine.now) e.termination) }
+    ensures states { IfOk result
+        (λ e. AreAllStates (flat_state machine.now) e.classes.items e.results.items e.termination e.states) }
+    ensures few { IfOk result (λ e. e.states < wish.limit) }
+    ensures given_up { IfErr result (IsGivenUpFor (HasManyStates (flat_state machine.now) wish.limit)) }
 {
-    machine_is_sound(machine);
+    machine_is_well_formed(machine);
     results_are_those_of_the_flat_machine();
     let extent = extent_of(machine, exchanged);
     let Ok(cores) = cores_of(alloc, machine) else {
@@ -114,13 +127,18 @@ fn explore_as<G: Watch>(
     };
     let all = cores.as_slice();
     let code: &Code = machine.code();
-    let explored = explored_by_width(alloc, code, extent, all, words, wish, watch)?;
+    let explored = explored_by_width(alloc, code, extent, all, words, wish, observer)?;
     Ok(explored)
 }
 
 /// How many processors and words a machine has.
 fn extent_of(machine: &Machine, exchanged: bool) -> Extent
-    ensures { result ≡ record { processors = 2 ^ machine.now.config.k; shared_words = machine.now.config.shared_words; exchanged = exchanged } }
+    ensures { result
+        ≡ record {
+          processors = 2 ^ machine.now.config.k;
+          shared_words = machine.now.config.shared_words;
+          exchanged = exchanged;
+        } }
 {
     let config = machine.config();
     Extent {
@@ -131,14 +149,14 @@ fn extent_of(machine: &Machine, exchanged: bool) -> Extent
 }
 
 /// All results of the flat machine of these cores and words, found by rows as wide as its processors need.
-fn explored_by_width<G: Watch>(
+fn explored_by_width<G: SearchObserver>(
     alloc: Global,
     code: &Code,
     extent: Extent,
     cores: &[Core],
     words: Vec<u32>,
     wish: Search,
-    watch: &mut G,
+    observer: &mut G,
 ) -> Result<Explored, SearchRefusal>
     requires cores { AreOfExtent extent cores.now }
     requires room { extent.processors ≤ 64 }
@@ -149,28 +167,33 @@ fn explored_by_width<G: Watch>(
         → IsStoodFor e.classes.items e.results.items q) }
     ensures once { IfOk result (λ e. IsOnce e.results.items) }
     ensures classes { IfOk result (λ e. AreClasses extent e.classes.items) }
-    ensures schedules { IfOk result (λ e. AreSchedulesOf (flat_of code.now cores.now words.items) e.schedules) }
+    ensures termination { IfOk result (λ e. IsTerminationOf (flat_of code.now cores.now words.items) e.termination) }
+    ensures states { IfOk result
+        (λ e. AreAllStates (flat_of code.now cores.now words.items) e.classes.items e.results.items
+        e.termination e.states) }
+    ensures few { IfOk result (λ e. e.states < wish.limit) }
+    ensures given_up { IfErr result (IsGivenUpFor (HasManyStates (flat_of code.now cores.now words.items) wish.limit)) }
 {
     if extent.processors <= 8 {
-        explored::<9, G>(alloc, code, extent, cores, words, wish, watch)
+        explored::<9, G>(alloc, code, extent, cores, words, wish, observer)
     } else if extent.processors <= 16 {
-        explored::<17, G>(alloc, code, extent, cores, words, wish, watch)
+        explored::<17, G>(alloc, code, extent, cores, words, wish, observer)
     } else if extent.processors <= 32 {
-        explored::<33, G>(alloc, code, extent, cores, words, wish, watch)
+        explored::<33, G>(alloc, code, extent, cores, words, wish, observer)
     } else {
-        explored::<65, G>(alloc, code, extent, cores, words, wish, watch)
+        explored::<65, G>(alloc, code, extent, cores, words, wish, observer)
     }
 }
 
 /// All results of the flat machine of these cores and words.
-fn explored<const N: usize, G: Watch>(
+fn explored<const N: usize, G: SearchObserver>(
     alloc: Global,
     code: &Code,
     extent: Extent,
     cores: &[Core],
     words: Vec<u32>,
     wish: Search,
-    watch: &mut G,
+    observer: &mut G,
 ) -> Result<Explored, SearchRefusal>
     requires cores { AreOfExtent extent cores.now }
     requires room { extent.processors < N }
@@ -182,36 +205,41 @@ fn explored<const N: usize, G: Watch>(
         → IsStoodFor e.classes.items e.results.items q) }
     ensures once { IfOk result (λ e. IsOnce e.results.items) }
     ensures classes { IfOk result (λ e. AreClasses extent e.classes.items) }
-    ensures schedules { IfOk result (λ e. AreSchedulesOf (flat_of code.now cores.now words.items) e.schedules) }
+    ensures termination { IfOk result (λ e. IsTerminationOf (flat_of code.now cores.now words.items) e.termination) }
+    ensures states { IfOk result
+        (λ e. AreAllStates (flat_of code.now cores.now words.items) e.classes.items e.results.items
+        e.termination e.states) }
+    ensures few { IfOk result (λ e. e.states < wish.limit) }
+    ensures given_up { IfErr result (IsGivenUpFor (HasManyStates (flat_of code.now cores.now words.items) wish.limit)) }
 {
     all_stood_for_are_results();
     each_result_is_stood_for();
-    successors_tell_of_schedules();
+    successors_decide_termination();
     dead_registers_can_be_forgotten();
     let Ok(live) = LiveTable::new(alloc, code) else {
         return Err(SearchRefusal::Memory);
     };
-    let mut tables = Tables::new(alloc, live);
-    let first = tables.open::<N>(alloc, code, extent, cores, words)?;
+    let mut state_tables = StateTables::new(alloc, live);
+    let first = state_tables.open::<N>(alloc, code, extent, cores, words)?;
     let Ok(classes) = classes_of(alloc, extent, &first) else {
         return Err(SearchRefusal::Memory);
     };
-    let mut memos = Memos::new(alloc);
+    let mut transition_caches = TransitionCaches::new(alloc);
     let found = search(
         alloc,
-        &mut tables,
-        &mut memos,
+        &mut state_tables,
+        &mut transition_caches,
         code,
         extent,
         classes.as_slice(),
         first,
         wish.limit,
-        watch,
+        observer,
     )?;
-    let explored = told(
+    let explored = results_of_space(
         alloc,
-        &mut tables,
-        &mut memos,
+        &mut state_tables,
+        &mut transition_caches,
         code,
         extent,
         classes,
@@ -221,55 +249,61 @@ fn explored<const N: usize, G: Watch>(
     Ok(explored)
 }
 
-/// The results of the rows that a search has found, what their successors tell of schedules, and the way that is
+/// The results of the rows that a search has found, what their successors say of schedules, and the way that is
 /// wanted.
 // A function of its own, so that none has many values to drop at each of its ends.
-fn told<const N: usize>(
+fn results_of_space<const N: usize>(
     alloc: Global,
-    tables: &mut Tables,
-    memos: &mut Memos,
+    state_tables: &mut StateTables,
+    transition_caches: &mut TransitionCaches,
     code: &Code,
     extent: Extent,
     classes: Vec<u8>,
-    found: Found<N>,
+    found: StateSpace<N>,
     wanted: Option<u32>,
-) -> Result<Explored, SearchRefusal>
-    requires live { HasAllLive code.now tables.old.live }
-    requires rows { AreRows extent tables.old found.rows.keys }
+) -> Result<Explored, MoveRefusal>
+    requires live { HasAllLive code.now state_tables.old.live }
+    requires rows { AreRows extent state_tables.old found.rows.keys }
     requires classes { AreClasses extent classes.items }
     requires room { extent.processors < N }
     requires narrow { N ≤ 65 }
     requires few { length found.moves ≤ no_rank }
     requires all { length found.moves ≡ length found.rows.keys }
-    requires stations { KnowsStations extent.exchanged code.now tables.old memos.old.stations }
-    requires lists { KnowsLists tables.old memos.old.lists }
+    requires local_states { KnowsLocalStates extent.exchanged code.now state_tables.old
+        transition_caches.old.local_states }
+    requires lists { KnowsLists state_tables.old transition_caches.old.lists }
     ensures classes { IfOk result (λ e. e.classes.items ≡ classes.items) }
     ensures sound { IfOk result (λ e. (r : FinalResult) → Contains e.results.items r
-        → IsEnding extent classes.items tables.old found.entry.rows.keys r) }
+        → IsEnding extent classes.items state_tables.old found.entry.rows.keys r) }
     ensures once { IfOk result (λ e. IsOnce e.results.items) }
-    ensures complete { IfOk result (λ e. (i : ℕ) → i < length found.entry.rows.keys → HaveStopped (state_at extent tables.old found.entry.rows.keys i)
-        → IsStoodFor classes.items e.results.items (result_at (state_at extent tables.old found.entry.rows.keys i))) }
-    ensures schedules { IfOk result (λ e. AreTold found.entry.moves e.schedules) }
+    ensures complete { IfOk result (λ e. (i : ℕ) → i < length found.entry.rows.keys →
+        HaveStopped (state_at extent state_tables.old found.entry.rows.keys i)
+        → IsStoodFor classes.items e.results.items (result_at
+        (state_at extent state_tables.old found.entry.rows.keys i))) }
+    ensures termination { IfOk result (λ e. IsTrueOf found.entry.moves e.termination) }
+    ensures order { IfOk result (λ e. AreInOrder classes.items (state_at extent state_tables.old found.entry.rows.keys)
+        (length found.entry.rows.keys) e.results.items) }
+    ensures states { IfOk result (λ e. e.states ≡ length found.entry.moves) }
 {
     let Ok(endings) = results_of(
         alloc,
-        tables,
+        state_tables,
         extent,
         classes.as_slice(),
         found.rows.as_slice(),
     ) else {
-        return Err(SearchRefusal::Memory);
+        return Err(MoveRefusal::Memory);
     };
-    let Ok(schedules) = schedules_of(alloc, &found.moves) else {
-        return Err(SearchRefusal::Memory);
+    let Ok(termination) = termination_of(alloc, &found.moves) else {
+        return Err(MoveRefusal::Memory);
     };
-    let way = match place_of(endings.places.as_slice(), schedules, wanted) {
+    let way = match place_of(endings.places.as_slice(), termination, wanted) {
         Some(place) => {
             let is_end = wanted != Some(0);
             way_of(
                 alloc,
-                tables,
-                memos,
+                state_tables,
+                transition_caches,
                 code,
                 extent,
                 classes.as_slice(),
@@ -282,7 +316,7 @@ fn told<const N: usize>(
     };
     Ok(Explored {
         results: endings.results,
-        schedules,
+        termination,
         states: found.moves.len(),
         classes,
         way,

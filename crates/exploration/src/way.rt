@@ -3,22 +3,26 @@
 ghost use Rattle.std.specs.Prelude.{◌≡◌, ◌<◌, ◌≤◌, length, OnOk};
 ghost use Rattle.local_reduction.specs.Live.{HasAllLive};
 ghost use Rattle.state_search.specs.Ends.{AreRows};
-ghost use Rattle.state_search.specs.Memo.{KnowsLists, KnowsStations};
+ghost use Rattle.state_search.specs.TransitionCache.{KnowsLists, KnowsLocalStates};
 ghost use Rattle.state_search.specs.Search.{AreClasses};
 
-use crate::ending::result_of;
+use crate::order::in_order;
 use local_memory::Code;
-use state_graph::{Schedules, path_to};
-use state_search::{Extent, Found, Memos, Refusal, Tables, movers_of};
+use state_graph::{Termination, path_to};
+use state_search::{Extent, MoveRefusal, StateSpace, StateTables, TransitionCaches, movers_of};
 use std::alloc::Global;
 
 /// The place of the row that is wanted, if it is there.
-pub(crate) fn place_of(places: &[u32], schedules: Schedules, wanted: Option<u32>) -> Option<u32> {
+pub(crate) fn place_of(
+    places: &[u32],
+    termination: Termination,
+    wanted: Option<u32>,
+) -> Option<u32> {
     match wanted?.checked_sub(1) {
         Some(before) => places.get(before as usize).copied(),
-        None => match schedules {
-            Schedules::MayBeStuck { first, .. } => Some(first),
-            Schedules::End | Schedules::MayEnd => None,
+        None => match termination {
+            Termination::Deadlock { first, .. } => Some(first),
+            Termination::Always | Termination::Possible => None,
         },
     }
 }
@@ -28,33 +32,34 @@ pub(crate) fn place_of(places: &[u32], schedules: Schedules, wanted: Option<u32>
 ///
 /// # Errors
 ///
-/// As of [`explore`](crate::explore).
+/// As of [`movers_of`].
 pub(crate) fn way_of<const N: usize>(
     alloc: Global,
-    tables: &mut Tables,
-    memos: &mut Memos,
+    state_tables: &mut StateTables,
+    transition_caches: &mut TransitionCaches,
     code: &Code,
     extent: Extent,
     classes: &[u8],
-    found: &Found<N>,
+    found: &StateSpace<N>,
     place: u32,
     is_end: bool,
-) -> Result<Vec<u8>, Refusal>
-    requires live { HasAllLive code.now tables.old.live }
-    requires rows { AreRows extent tables.old found.now.rows.keys }
+) -> Result<Vec<u8>, MoveRefusal>
+    requires live { HasAllLive code.now state_tables.old.live }
+    requires rows { AreRows extent state_tables.old found.now.rows.keys }
     requires classes { AreClasses extent classes.now }
     requires room { extent.processors < N }
     requires narrow { N ≤ 65 }
-    requires stations { KnowsStations extent.exchanged code.now tables.old memos.old.stations }
-    requires lists { KnowsLists tables.old memos.old.lists }
+    requires local_states { KnowsLocalStates extent.exchanged code.now state_tables.old
+        transition_caches.old.local_states }
+    requires lists { KnowsLists state_tables.old transition_caches.old.lists }
 {
     let Ok(path) = path_to(alloc, &found.moves, place) else {
-        return Err(Refusal::Memory);
+        return Err(MoveRefusal::Memory);
     };
     let mut walk = movers_of(
         alloc,
-        tables,
-        memos,
+        state_tables,
+        transition_caches,
         code,
         extent,
         classes,
@@ -63,7 +68,7 @@ pub(crate) fn way_of<const N: usize>(
     )?;
     if is_end {
         let holders = walk.holders.as_mut_slice();
-        trade_as_result(alloc, tables, extent, classes, found, place, holders)?;
+        trade_as_result(state_tables, extent, classes, found, place, holders);
     }
     name_by_places(walk.movers.as_mut_slice(), walk.holders.as_slice());
     Ok(walk.movers)
@@ -71,25 +76,20 @@ pub(crate) fn way_of<const N: usize>(
 
 /// Trades the holders of a row's places as its processors trade where its result has them in order.
 fn trade_as_result<const N: usize>(
-    alloc: Global,
-    tables: &Tables,
+    state_tables: &StateTables,
     extent: Extent,
     classes: &[u8],
-    found: &Found<N>,
+    found: &StateSpace<N>,
     place: u32,
     holders: &mut [u8],
-) -> Result<(), Refusal>
-    requires rows { AreRows extent tables.now found.now.rows.keys }
+)
+    requires rows { AreRows extent state_tables.now found.now.rows.keys }
     requires classes { AreClasses extent classes.now }
     requires room { extent.processors < N }
     requires narrow { N ≤ 65 }
 {
-    let Some(row) = found.rows.get_index(place as usize) else {
-        return Ok(());
-    };
-    match result_of(alloc, tables, extent, classes, row, holders) {
-        Ok(_) => Ok(()),
-        Err(_) => Err(Refusal::Memory),
+    if let Some(row) = found.rows.get_index(place as usize) {
+        in_order(state_tables, extent, classes, row, holders);
     }
 }
 

@@ -17,7 +17,7 @@ use Rattle.elf_image.specs.Images.{ImageContents}
 use Rattle.steps.specs.declared.step.Step.{Step}
 use Rattle.trace_file.specs.Traces.{IsTrace, trace_of}
 use Rattle.machine_steps.specs.machine_theory.Theory as theory
-use Rattle.machine_steps.specs.machine_theory.Processors.{Told, word_at}
+use Rattle.machine_steps.specs.machine_theory.Processors.{ObservedCore, word_at}
 use Rattle.machine_steps.specs.machine_theory.Steps.{machine_of_parts}
 use Rattle.machine_steps.specs.Machines.{MachineLists, machine_of, AreHome}
 use Rattle.machine_steps.proofs.Lemmas.{run_home}
@@ -25,8 +25,8 @@ use Rattle.machine_steps.specs.Runs.{events_of}
 use Rattle.command_io.specs.Events.{shown_from, with_event}
 use Rattle.command_io.specs.Tallies.{ShownBy, TallyState, nothing_shown, with_byte}
 use Rattle.machine_steps.specs.Standing.{HasRunning, processor_of}
-use Rattle.trace_commands.specs.Retaking.{IsRetaken}
-use Rattle.exploration.specs.local_reduction.Stations.{printed_after}
+use Rattle.trace_commands.specs.CountedReplays.{IsReplayCounted}
+use Rattle.exploration.specs.local_reduction.LocalStates.{printed_after}
 use Rattle.exploration.specs.local_reduction.Results.{FinalResult, ProcessorResult, result_with}
 use Rattle.exploration.specs.Results.{AreOfTheMachine, IsOfTheMachine, NoneRuns, machine_result, printed_by, stands_after}
 use Rattle.explore_command.specs.Witnesses.{AreTaken, IsEnd, IsStuck, IsWitness, LeadTo, LeadToResult, left_by, processor_left}
@@ -49,11 +49,11 @@ printed_all s (shown ∷ events) = ap (λ console. printed_by console events) (p
 
 -- no core is away
 pub taken_home : (c : Config) (image : ImageContents) (steps : List Step) (m : MachineLists) (t : TallyState) → AreTaken c image steps m t → AreHome m
-taken_home c image steps m t taken = run_home taken.opening m steps taken.retaken.replay.run taken.opens.home
+taken_home c image steps m t taken = run_home taken.opening m steps taken.replay_counted.replay.run taken.opens.home
 
-module _ (opening m : MachineLists) (steps : List Step) (tally : TallyState) (taken : IsRetaken opening steps m tally) where
-  -- the machine behind the steps
-  abbrev M : theory.Machine Told
+module _ (opening m : MachineLists) (steps : List Step) (tally : TallyState) (taken : IsReplayCounted opening steps m tally) where
+  -- the machine after the steps
+  abbrev M : theory.Machine ObservedCore
   M = stands_after opening steps
 
   stands : machine_of m (events_of M) ≡ M
@@ -61,11 +61,11 @@ module _ (opening m : MachineLists) (steps : List Step) (tally : TallyState) (ta
 
   state_is : (p : ℕ) → processor_of m p ≡ (M.core p).state
   unfolding machine_of_parts
-  state_is p = ap (λ (N : theory.Machine Told). (N.core p).state) stands
+  state_is p = ap (λ (N : theory.Machine ObservedCore). (N.core p).state) stands
 
   words_are : word_at m.config.k m.modules ≡ M.mem
   unfolding machine_of_parts
-  words_are = ap (λ (N : theory.Machine Told). N.mem) stands
+  words_are = ap (λ (N : theory.Machine ObservedCore). N.mem) stands
 
   config_is : m.config ≡ opening.config
   config_is = taken.replay.run.config
@@ -118,12 +118,14 @@ words_kept words word count shared are same =
 not_zero : (n : ℕ) → (suc n == 0) ≡ true → ⊥
 not_zero n e = cc (sym e ∙ ne_eqb (suc n) 0 (λ z. cc z))
 
+-- An empty list of results contains none.
 pub none_contained : (results : List FinalResult) → (length results == 0) ≡ true → (r : FinalResult) → Contains results r → ⊥
 none_contained [] none r (k, within, is) = absurd (omega (arith, within))
 none_contained (x ∷ results) none r there = not_zero (length results) none
 
 -- ---- the steps
 
+-- If each step is the machine's own, so are they all.
 pub all_own : (steps : List Step) → All IsOfTheMachine steps → AreOfTheMachine steps
 all_own [] all = tt
 all_own (s ∷ steps) all = (All-head IsOfTheMachine s steps all, all_own steps (All-tail IsOfTheMachine s steps all))
@@ -140,20 +142,22 @@ result_there opening results before (suc place) r steps is there leads =
 
 module _ (c : Config) (image : ImageContents) (results : List FinalResult) (steps : List Step) (m : MachineLists) (tally : TallyState)
     (taken : AreTaken c image steps m tally) (own : AreOfTheMachine steps) (trace : IsTrace (trace_of c steps)) where
+  -- Steps after which the machine has ended with the result of a number are a witness for this number.
   pub end_witness : (before number : ℕ) (r : FinalResult) → number ≡ suc before → before < length results → r ≡ slice_index_or results before r →
       IsEnd m tally.shown r → IsWitness c image results number steps
   end_witness before number r is within there end = record {
     opening = taken.opening;
     opens = taken.opens;
     leads = result_there taken.opening results before number r steps is (slice_get-get_or results before r within ∙ ap Some (sym there))
-        (to_result taken.opening m steps tally taken.retaken own r end);
+        (to_result taken.opening m steps tally taken.replay_counted own r end);
     trace = trace;
   }
 
+  -- Steps after which no result can be reached are a witness for the number 0.
   pub stuck_witness : (number : ℕ) → number ≡ 0 → IsStuck m → IsWitness c image results number steps
   stuck_witness number is stuck = record {
     opening = taken.opening;
     opens = taken.opens;
-    leads = subst (λ n. LeadTo taken.opening results n steps) (sym is) (record { machine = m; replay = taken.retaken.replay; own = own; stuck = stuck });
+    leads = subst (λ n. LeadTo taken.opening results n steps) (sym is) (record { machine = m; replay = taken.replay_counted.replay; own = own; stuck = stuck });
     trace = trace;
   }

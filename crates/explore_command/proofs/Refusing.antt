@@ -7,7 +7,7 @@ use Rattle.command_io.specs.declared.fault.Fault.{Fault}
 use Rattle.command_io.specs.declared.fault.Fault.TheVariants as fault
 use Rattle.command_io.specs.Files.{IsFaultOfSize}
 use Rattle.exploration.specs.local_reduction.Results.{FinalResult}
-use Rattle.exploration.specs.state_graph.declared.schedules.Schedules.{Schedules}
+use Rattle.exploration.specs.state_graph.declared.termination.Termination.{Termination}
 use Rattle.explore_command.specs.declared.refused.Refused.{Refused}
 use Rattle.explore_command.specs.declared.refused.Refused.TheVariants as refused
 use Rattle.explore_command.specs.Refusals.{IsNoWitness, IsNotTaken, IsOfSteps, refused_by_log}
@@ -19,6 +19,7 @@ log_refuses log.Full = tt
 log_refuses log.Unnamed = tt
 log_refuses log.NotFree = tt
 
+-- If steps are not taken, those of a way are not there for the same reason.
 pub steps_refuse : (c : Config) (r : Refused) → IsOfSteps r → IsNotTaken c r
 steps_refuse c (refused.Fault (fault.Line number)) why = why
 steps_refuse c (refused.Fault (fault.Text e)) why = why
@@ -57,8 +58,8 @@ size_refuses c fault.Link why = absurd why
 size_refuses c fault.Memory why = tt
 
 -- no witness without its steps
-pub not_taken : (c : Config) (results : List FinalResult) (schedules : Schedules) (number : ℕ) (r : Refused) → IsNotTaken c r →
-    IsNoWitness c results schedules number r
-not_taken c results schedules number (refused.Fault f) why = why
-not_taken c results schedules number refused.Unknown why = absurd why
-not_taken c results schedules number refused.Missed why = tt
+pub not_taken : (c : Config) (results : List FinalResult) (termination : Termination) (number : ℕ) (r : Refused) → IsNotTaken c r →
+    IsNoWitness c results termination number r
+not_taken c results termination number (refused.Fault f) why = why
+not_taken c results termination number refused.Unknown why = absurd why
+not_taken c results termination number refused.Missed why = tt

@@ -19,6 +19,7 @@ module _ (words : List ℕ) (count : ℕ) where
       get_or-map-range_with_len (slice_index words) 0 count i i 0 (omega (arith, few)) (omega arith) in
       λ j. front j ++ word_lines i (sym word j)
 
+  -- The lines of the first words are those of all words of the result that has just these.
   pub lines_are : (r : FinalResult) (processors : List ProcessorResult) → record { processors = processors; words = shown } ≡ r →
       shared_lines words count ≡ shared_lines r.words (length r.words)
   lines_are r processors is =
@@ -26,6 +27,7 @@ module _ (words : List ℕ) (count : ℕ) where
       ∙ (ap (shared_lines shown) (sym (length-map-range_with_len (slice_index words) 0 count))
       ∙ ap (λ (s : FinalResult). shared_lines s.words (length s.words)) is)
 
+-- If the lines of the words before a place are followed by those of the word there, they are those up to it.
 pub lines_more : (words before old new : List ℕ) (place word : ℕ) → old ≡ before ++ shared_lines words place → word ≡ slice_index words place →
     new ≡ old ++ word_lines place word → new ≡ before ++ shared_lines words (place + 1)
 lines_more words before old new place word front is more =

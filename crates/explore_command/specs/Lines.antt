@@ -1,12 +1,13 @@
 -- The lines of final results.
-use Rattle.std.specs.Prelude.{ℕ, zero, suc, ◌+◌, ◌==◌, nat_lt, Bool, false, List, [], ◌++◌, codes, length, slice_index, slice_index_or, if◌then◌else◌}
+use Rattle.std.specs.Prelude.{ℕ, zero, suc, ◌+◌, ◌==◌, nat_lt, Bool, false, List, [], ◌++◌, codes, length, slice_index}
+use Rattle.std.specs.Prelude.{slice_index_or, if◌then◌else◌}
 use Rattle.std.specs.Fmt.{decimal}
 use Rattle.flat_machine.specs.declared.event.Status.TheVariants.{Running}
 use Rattle.command_io.specs.Digits.{hex_of_word, line_feed, status_text}
 use Rattle.command_io.specs.Lines.{console_text, word_lines}
 use Rattle.exploration.specs.local_reduction.Results.{ProcessorResult, FinalResult}
-use Rattle.exploration.specs.state_graph.declared.schedules.Schedules.{Schedules}
-use Rattle.exploration.specs.state_graph.declared.schedules.Schedules.TheVariants as told
+use Rattle.exploration.specs.state_graph.declared.termination.Termination.{Termination}
+use Rattle.exploration.specs.state_graph.declared.termination.Termination.TheVariants as fact
 
 -- ---- a result
 
@@ -23,7 +24,8 @@ no_processor = record { pc = 0; status = Running; console = [] }
 -- the lines of the first processors
 abbrev pub processor_lines : List ProcessorResult → (count : ℕ) → List ℕ
 processor_lines processors zero = []
-processor_lines processors (suc p) = processor_lines processors p ++ processor_line p (slice_index_or processors p no_processor)
+processor_lines processors (suc p) = processor_lines processors p
+    ++ processor_line p (slice_index_or processors p no_processor)
 
 -- the lines of the first shared words: a word that is zero has none
 abbrev pub shared_lines : List ℕ → (count : ℕ) → List ℕ
@@ -44,17 +46,19 @@ no_result = record { processors = []; words = [] }
 -- the lines of the first results
 abbrev pub first_lines : List FinalResult → (count : ℕ) → List ℕ
 first_lines results zero = []
-first_lines results (suc place) = first_lines results place ++ result_lines place (slice_index_or results place no_result)
+first_lines results (suc place) = first_lines results place
+    ++ result_lines place (slice_index_or results place no_result)
 
 -- `1 state`, `2 states`
 abbrev pub counted : ℕ → (noun : List ℕ) → List ℕ
 counted count noun = decimal count ++ codes " " ++ noun ++ (if count == 1 then [] else codes "s")
 
--- what is told of the schedules
-abbrev pub schedules_text : Schedules → List ℕ
-schedules_text told.End = codes "every schedule ends"
-schedules_text told.MayEnd = codes "some schedule never ends; an end can always be reached"
-schedules_text (told.MayBeStuck states first) = codes "from " ++ counted states (codes "state") ++ codes " no end can be reached"
+-- what is said of the schedules
+abbrev pub schedules_text : Termination → List ℕ
+schedules_text fact.Always = codes "every schedule ends"
+schedules_text fact.Possible = codes "some schedule never ends; an end can always be reached"
+schedules_text (fact.Deadlock states first) = codes "from " ++ counted states (codes "state")
+    ++ codes " no end can be reached"
 
 -- ---- processors that can be exchanged
 
@@ -75,7 +79,7 @@ module _ (classes : List ℕ) (class : ℕ) where
   is_of_before zero = false
   is_of_before (suc p) = is_of p
 
-  -- what is told of a processor: the first of some that follow one another, and ` to ` and the last of them, if there
+  -- what is said of a processor: the first of some that follow one another, and ` to ` and the last of them, if there
   -- are more
   abbrev pub member_text : (processor : ℕ) → List ℕ
   member_text p =
@@ -112,10 +116,10 @@ class_lines classes (suc class) = class_lines classes class ++ class_line classe
 
 -- ---- what is printed
 
--- the lines of all results, behind them those of the processors that can be exchanged, `N results, M states`, and last
--- what is told of the schedules
-abbrev pub results_lines : List FinalResult → (classes : List ℕ) → (states : ℕ) → Schedules → List ℕ
-results_lines results classes states schedules =
+-- the lines of all results, after them those of the processors that can be exchanged, `N results, M states`, and last
+-- what is said of the schedules
+abbrev pub results_lines : List FinalResult → (classes : List ℕ) → (states : ℕ) → Termination → List ℕ
+results_lines results classes states termination =
     first_lines results (length results) ++ class_lines classes (length classes)
     ++ (counted (length results) (codes "result") ++ codes ", " ++ counted states (codes "state") ++ line_feed)
-    ++ schedules_text schedules ++ line_feed
+    ++ schedules_text termination ++ line_feed

@@ -6,8 +6,8 @@ use Rattle.machine_log.specs.declared.refusal.LockRefusal.{LockRefusal}
 use Rattle.machine_log.specs.declared.refusal.LockRefusal.TheVariants as log
 use Rattle.command_io.specs.declared.fault.Fault.TheVariants as fault
 use Rattle.exploration.specs.local_reduction.Results.{FinalResult}
-use Rattle.exploration.specs.state_graph.declared.schedules.Schedules.{Schedules}
-use Rattle.exploration.specs.state_graph.declared.schedules.Schedules.TheVariants as told
+use Rattle.exploration.specs.state_graph.declared.termination.Termination.{Termination}
+use Rattle.exploration.specs.state_graph.declared.termination.Termination.TheVariants as fact
 use Rattle.explore_command.specs.declared.refused.Refused.{Refused}
 use Rattle.explore_command.specs.declared.refused.Refused.TheVariants as refused
 
@@ -17,18 +17,18 @@ refused_by_log log.Full = refused.Fault fault.Full
 refused_by_log log.Unnamed = refused.Missed
 refused_by_log log.NotFree = refused.Missed
 
--- Some state is told of from which no end can be reached.
-abbrev pub MayBeStuck : Schedules → Type 0
-MayBeStuck told.End = ⊥
-MayBeStuck told.MayEnd = ⊥
-MayBeStuck (told.MayBeStuck states first) = Unit {0}
+-- There is a state from which no end can be reached.
+abbrev pub Deadlock : Termination → Type 0
+Deadlock fact.Always = ⊥
+Deadlock fact.Possible = ⊥
+Deadlock (fact.Deadlock states first) = Unit {0}
 
 -- Some result has the number, from 1; and for 0 there is such a state.
-abbrev pub HasWitness : List FinalResult → Schedules → (number : ℕ) → Type 0
-HasWitness results schedules zero = MayBeStuck schedules
-HasWitness results schedules (suc place) = place < length results
+abbrev pub HasWitness : List FinalResult → Termination → (number : ℕ) → Type 0
+HasWitness results termination zero = Deadlock termination
+HasWitness results termination (suc place) = place < length results
 
--- Why steps are not taken. Of want of memory, and of steps that are too many or lead elsewhere, no more is said.
+-- Why steps are not taken. Of a lack of memory, and of steps that are too many or lead elsewhere, no more is said.
 abbrev pub IsOfSteps : Refused → Type 0
 IsOfSteps (refused.Fault fault.Full) = Unit {0}
 IsOfSteps (refused.Fault fault.Memory) = Unit {0}
@@ -42,7 +42,7 @@ IsNotTaken c (refused.Fault fault.Size) = IsWithinLimits c → ⊥
 IsNotTaken c other = IsOfSteps other
 
 -- Why there is no witness.
-abbrev pub IsNoWitness : Config → List FinalResult → Schedules → (number : ℕ) → Refused → Type 0
-IsNoWitness c results schedules number refused.Unknown = HasWitness results schedules number → ⊥
-IsNoWitness c results schedules number refused.Missed = Unit {0}
-IsNoWitness c results schedules number (refused.Fault fault) = IsNotTaken c (refused.Fault fault)
+abbrev pub IsNoWitness : Config → List FinalResult → Termination → (number : ℕ) → Refused → Type 0
+IsNoWitness c results termination number refused.Unknown = HasWitness results termination number → ⊥
+IsNoWitness c results termination number refused.Missed = Unit {0}
+IsNoWitness c results termination number (refused.Fault fault) = IsNotTaken c (refused.Fault fault)

@@ -1,6 +1,6 @@
--- What is told of every size of a machine.
+-- What is said of every size of a machine.
 use Rattle.std.specs.Prelude.{if◌then◌else◌, nat_lt, ◌≡◌, ◌⊎◌, ℕ, zero, suc, ◌+◌, ◌<◌, ◌≤◌, ◌^◌, max}
-use Rattle.std.specs.Prelude.{Bool, List, [], ◌++◌, Option, Some, None, Contains, codes, length}
+use Rattle.std.specs.Prelude.{List, [], ◌++◌, Option, Some, None, Contains, codes, length}
 use Rattle.std.specs.Fmt.{decimal}
 use Rattle.flat_machine.specs.declared.config.Config.{Config}
 use Rattle.flat_machine.specs.declared.event.Status.{Status}
@@ -13,10 +13,11 @@ use Rattle.command_io.specs.declared.fault.Fault.{Fault}
 use Rattle.command_io.specs.declared.fault.Fault.TheVariants as fault
 use Rattle.command_io.specs.Digits.{line_feed, status_text}
 use Rattle.command_io.specs.Faults.{status_of_fault}
-use Rattle.command_io.specs.Printing.{IsPartPrinted, IsPrinted}
+use Rattle.command_io.specs.Printing.{PrintsPrefix, Prints}
 use Rattle.exploration.specs.local_reduction.Results.{FinalResult, ProcessorResult}
-use Rattle.exploration.specs.state_graph.declared.schedules.Schedules.{Schedules}
-use Rattle.explore_command.specs.Causes.{Opens}
+use Rattle.exploration.specs.state_graph.declared.termination.Termination.{Termination}
+use Rattle.explore_command.specs.declared.command.Asked.{Asked}
+use Rattle.explore_command.specs.Causes.{HasTooMany, Opens}
 use Rattle.explore_command.specs.Explorations.{Explorations, IsExitOf}
 use Rattle.explore_command.specs.Lines.{counted, schedules_text}
 
@@ -67,12 +68,12 @@ greatest_text None = codes "-"
 greatest_text (Some s) = status_text s
 
 -- `k K: N processors, R results, S states, every schedule ends, halt 00`
-abbrev pub size_line : (k results states : ℕ) → Schedules → Option Status → List ℕ
-size_line k results states schedules greatest =
+abbrev pub size_line : (k results states : ℕ) → Termination → Option Status → List ℕ
+size_line k results states termination greatest =
     size_text k ++ counted results (codes "result") ++ codes ", " ++ counted states (codes "state") ++ codes ", "
-    ++ schedules_text schedules ++ codes ", " ++ greatest_text greatest ++ line_feed
+    ++ schedules_text termination ++ codes ", " ++ greatest_text greatest ++ line_feed
 
--- what tells why a size is not explored
+-- what says why a size is not explored
 abbrev pub refusal_text : Fault → List ℕ
 refusal_text fault.Size = codes "K1"
 refusal_text fault.States = codes "states"
@@ -86,39 +87,42 @@ refused_line k f = size_text k ++ codes "not explored: " ++ refusal_text f ++ li
 -- ---- a size
 
 -- Why a size is not explored: it is out of the limits; or there are too many states, or a processor goes on for too
--- long alone. Of these no more is said, nor of a lack of memory.
-abbrev pub IsSizeRefused : Config → ImageContents → Fault → Type 0
-IsSizeRefused c image fault.Size = IsWithinLimits c → ⊥
-IsSizeRefused c image fault.States = Opens c image
-IsSizeRefused c image fault.Alone = Opens c image
-IsSizeRefused c image fault.Memory = Unit {0}
-IsSizeRefused c image other = ⊥
+-- long alone. Of the last no more is said, nor of a lack of memory.
+abbrev pub IsSizeRefused : Config → ImageContents → (limit : ℕ) → Fault → Type 0
+IsSizeRefused c image limit fault.Size = IsWithinLimits c → ⊥
+IsSizeRefused c image limit fault.States = HasTooMany c image limit
+IsSizeRefused c image limit fault.Alone = Opens c image
+IsSizeRefused c image limit fault.Memory = Unit {0}
+IsSizeRefused c image limit other = ⊥
 
--- The line tells what is found of the size, and this is the exit status;
-pub record IsSizeExplored (c : Config) (image : ImageContents) (each : Bool) (line : List ℕ) (status : ℕ) : Type 0 where
-  pub found : Explorations c image each
+-- The line says what is found of the size, and this is the exit status;
+pub record IsSizeExplored (c : Config) (image : ImageContents) (asked : Asked) (line : List ℕ)
+    (status : ℕ) : Type 0 where
+  pub found : Explorations c image asked
   pub greatest : Option Status
   pub is : IsGreatestStatus found.results greatest
-  pub line_is : line ≡ size_line c.k (length found.results) found.states found.schedules greatest
-  pub exit : IsExitOf found.results found.schedules status
+  pub line_is : line ≡ size_line c.k (length found.results) found.states found.termination greatest
+  pub exit : IsExitOf found.results found.termination status
 
 -- or why it is not explored, and the status is that of the fault.
-pub record IsSizeNotExplored (c : Config) (image : ImageContents) (line : List ℕ) (status : ℕ) : Type 0 where
+pub record IsSizeNotExplored (c : Config) (image : ImageContents) (limit : ℕ) (line : List ℕ)
+    (status : ℕ) : Type 0 where
   pub fault : Fault
-  pub why : IsSizeRefused c image fault
+  pub why : IsSizeRefused c image limit fault
   pub line_is : line ≡ refused_line c.k fault
   pub exit : status ≡ status_of_fault fault
 
-abbrev pub IsSizeTold : Config → ImageContents → (each : Bool) → (line : List ℕ) → (status : ℕ) → Type 0
-IsSizeTold c image each line status = IsSizeExplored c image each line status ⊎ IsSizeNotExplored c image line status
+abbrev pub ReportsSize : Config → ImageContents → (asked : Asked) → (line : List ℕ) → (status : ℕ) → Type 0
+ReportsSize c image asked line status = IsSizeExplored c image asked line status
+    ⊎ IsSizeNotExplored c image asked.limit line status
 
 -- Why the line of a size is not printed: it cannot be written, and there is a beginning of it; or there is no memory
 -- for it, and nothing is printed.
-abbrev pub IsSizeNotPrinted : Config → ImageContents → (each : Bool) → (old new : Option (List ℕ)) → Fault → Type 0
-IsSizeNotPrinted c image each old new fault.Link =
-    IsPartPrinted (λ line. (status : ℕ) × IsSizeTold c image each line status) old new
-IsSizeNotPrinted c image each old new fault.Memory = new ≡ old
-IsSizeNotPrinted c image each old new other = ⊥
+abbrev pub IsSizeNotPrinted : Config → ImageContents → (asked : Asked) → (old new : Option (List ℕ)) → Fault → Type 0
+IsSizeNotPrinted c image asked old new fault.Link =
+    PrintsPrefix (λ line. (status : ℕ) × ReportsSize c image asked line status) old new
+IsSizeNotPrinted c image asked old new fault.Memory = new ≡ old
+IsSizeNotPrinted c image asked old new other = ⊥
 
 -- ---- every size
 
@@ -137,43 +141,50 @@ greatest_exit statuses (suc k) = max (greatest_exit statuses k) (statuses k)
 
 -- These are the lines of the first sizes of the machine, whatever its k, and this is the greatest of their exit
 -- statuses.
-pub record AreSizesTold (c : Config) (image : ImageContents) (each : Bool) (count : ℕ) (text : List ℕ) (status : ℕ) : Type 0 where
+pub record ReportSizes (c : Config) (image : ImageContents) (asked : Asked) (count : ℕ) (text : List ℕ)
+    (status : ℕ) : Type 0 where
   pub lines : ℕ → List ℕ
   pub statuses : ℕ → ℕ
-  pub told : (k : ℕ) → k < count → IsSizeTold (record c { k = k }) image each (lines k) (statuses k)
+  pub fact : (k : ℕ) → k < count → ReportsSize (record c { k = k }) image asked (lines k) (statuses k)
   pub text_is : text ≡ first_sizes lines count
   pub exit : status ≡ greatest_exit statuses count
 
 -- Such lines are printed.
-abbrev pub AreSizesPrinted : Config → ImageContents → (each : Bool) → (count status : ℕ) → (old new : Option (List ℕ)) → Type 0
-AreSizesPrinted c image each count status old new = IsPrinted (λ text. AreSizesTold c image each count text status) old new
+abbrev pub AreSizesPrinted : Config → ImageContents → (asked : Asked) → (count status : ℕ) →
+    (old new : Option (List ℕ)) → Type 0
+AreSizesPrinted c image asked count status old new =
+    Prints (λ text. ReportSizes c image asked count text status) old new
 
 -- Why the lines of every size are not printed: one of them cannot be written, and there is a beginning of it and all
 -- before; or there is no memory for one, and all before are there.
-abbrev pub AreSizesNotPrinted : Config → ImageContents → (each : Bool) → (old new : Option (List ℕ)) → Fault → Type 0
-AreSizesNotPrinted c image each old new fault.Link =
-    IsPartPrinted (λ text. (count : ℕ) × (status : ℕ) × (count ≤ sizes) × AreSizesTold c image each count text status) old new
-AreSizesNotPrinted c image each old new fault.Memory =
-    (count : ℕ) × (status : ℕ) × (count ≤ sizes) × AreSizesPrinted c image each count status old new
-AreSizesNotPrinted c image each old new other = ⊥
+abbrev pub AreSizesNotPrinted : Config → ImageContents → (asked : Asked) → (old new : Option (List ℕ)) → Fault → Type 0
+AreSizesNotPrinted c image asked old new fault.Link =
+    PrintsPrefix (λ text. (count : ℕ) × (status : ℕ) × (count ≤ sizes)
+    × ReportSizes c image asked count text status) old new
+AreSizesNotPrinted c image asked old new fault.Memory =
+    (count : ℕ) × (status : ℕ) × (count ≤ sizes) × AreSizesPrinted c image asked count status old new
+AreSizesNotPrinted c image asked old new other = ⊥
 
 -- The lines of every size are printed, of the image that the file means.
-pub record PrintsEverySize (c : Config) (each : Bool) (known : Option (List ℕ)) (status : ℕ) (text : List ℕ) : Type 0 where
+pub record PrintsEverySize (c : Config) (asked : Asked) (known : Option (List ℕ)) (status : ℕ)
+    (text : List ℕ) : Type 0 where
   pub image : ImageContents
   pub meant : IsImageOf c.shared_words known image
-  pub told : AreSizesTold c image each sizes text status
+  pub fact : ReportSizes c image asked sizes text status
 
 -- Why they are not: the image is refused, or there is no memory for it; or the lines of the image that the file means
 -- are not all printed.
-abbrev pub IsEveryRefused : Config → (each : Bool) → (known : Option (List ℕ)) → (old new : Option (List ℕ)) → Fault → Type 0
-IsEveryRefused c each known old new (fault.Image e) = IsImageRefusal c.shared_words known e
-IsEveryRefused c each known old new fault.Memory = Unit {0}
-IsEveryRefused c each known old new other =
-    (image : ImageContents) × IsImageOf c.shared_words known image × AreSizesNotPrinted c image each old new other
+abbrev pub IsEveryRefused : Config → (asked : Asked) → (known : Option (List ℕ)) → (old new : Option (List ℕ)) →
+    Fault → Type 0
+IsEveryRefused c asked known old new (fault.Image e) = IsImageRefusal c.shared_words known e
+IsEveryRefused c asked known old new fault.Memory = Unit {0}
+IsEveryRefused c asked known old new other =
+    (image : ImageContents) × IsImageOf c.shared_words known image × AreSizesNotPrinted c image asked old new other
 
--- The exit status is the greatest of those of all sizes, whose lines are printed; or it tells a fault, which has its
+-- The exit status is the greatest of those of all sizes, whose lines are printed; or it says a fault, which has its
 -- cause.
-abbrev pub IsEveryTold : Config → (each : Bool) → (known : Option (List ℕ)) → (old new : Option (List ℕ)) → (status : ℕ) → Type 0
-IsEveryTold c each known old new status =
-    IsPrinted (PrintsEverySize c each known status) old new
-    ⊎ ((fault : Fault) × IsEveryRefused c each known old new fault × (status ≡ status_of_fault fault))
+abbrev pub ReportsEverySize : Config → (asked : Asked) → (known : Option (List ℕ)) → (old new : Option (List ℕ)) →
+    (status : ℕ) → Type 0
+ReportsEverySize c asked known old new status =
+    Prints (PrintsEverySize c asked known status) old new
+    ⊎ ((fault : Fault) × IsEveryRefused c asked known old new fault × (status ≡ status_of_fault fault))

@@ -10,13 +10,13 @@ use Rattle.machine_steps.specs.Runs.{IsOpening, IsReplay}
 use Rattle.machine_steps.specs.machine_theory.Processors.{word_at}
 use Rattle.command_io.specs.Tallies.{ShownBy, TallyState, nothing_shown}
 use Rattle.machine_steps.specs.Standing.{HasRunning, processor_of}
-use Rattle.trace_commands.specs.Retaking.{IsRetaken}
+use Rattle.trace_commands.specs.CountedReplays.{IsReplayCounted}
 use Rattle.exploration.specs.local_reduction.Results.{FinalResult, ProcessorResult}
 use Rattle.exploration.specs.Results.{AreOfTheMachine, IsMachineResult, NoneRuns, machine_result, stands_after}
 
 -- ---- what steps lead to
 
--- The steps lead to the result: each of them does something, none is a write from outside, behind them no processor
+-- The steps lead to the result: each of them does something, none is a write from outside, after them no processor
 -- runs, and this is left.
 pub record LeadToResult (opening : MachineLists) (steps : List Step) (r : FinalResult) : Type 0 where
   pub machine : MachineLists
@@ -43,7 +43,8 @@ LeadTo opening results zero steps = LeadToNoEnd opening steps
 LeadTo opening results (suc place) steps = IsSomeAnd (slice_get results place) (LeadToResult opening steps)
 
 -- So does the machine of this size that opens on the image; and a trace can have the steps.
-pub record IsWitness (c : Config) (image : ImageContents) (results : List FinalResult) (number : ℕ) (steps : List Step) : Type 0 where
+pub record IsWitness (c : Config) (image : ImageContents) (results : List FinalResult) (number : ℕ)
+    (steps : List Step) : Type 0 where
   pub opening : MachineLists
   pub opens : IsOpening c image opening
   pub leads : LeadTo opening results number steps
@@ -71,7 +72,8 @@ pub record IsEnd (m : MachineLists) (shown : List ShownBy) (r : FinalResult) : T
   pub left : r ≡ left_by m shown
 
 -- A machine of this size that opened on the image has taken the steps, and its processors have shown this in them.
-pub record AreTaken (c : Config) (image : ImageContents) (steps : List Step) (m : MachineLists) (t : TallyState) : Type 0 where
+pub record AreTaken (c : Config) (image : ImageContents) (steps : List Step) (m : MachineLists)
+    (t : TallyState) : Type 0 where
   pub opening : MachineLists
   pub opens : IsOpening c image opening
-  pub retaken : IsRetaken opening steps m t
+  pub replay_counted : IsReplayCounted opening steps m t

@@ -20,7 +20,8 @@ fn class_at(classes: &[u8], processor: usize) -> u8
 
 /// Appends a line for each class that has two processors or more.
 pub(crate) fn push_classes(text: &mut String, classes: &[u8]) -> Result<(), AllocError>
-    ensures { OnOk result (string_bytes text.new ≡ string_bytes text.old ++ class_lines classes.now (length classes.now)) }
+    ensures { OnOk result (string_bytes text.new ≡ string_bytes text.old
+        ++ class_lines classes.now (length classes.now)) }
 {
     for class in 0..classes.len() {
         push_class(text, classes, class)?;
@@ -80,7 +81,8 @@ fn is_of_before(classes: &[u8], class: usize, processor: usize) -> bool
 
 /// Appends the processors of a class.
 fn push_members(text: &mut String, classes: &[u8], class: usize) -> Result<(), AllocError>
-    ensures { OnOk result (string_bytes text.new ≡ string_bytes text.old ++ members_text classes.now class (length classes.now)) }
+    ensures { OnOk result (string_bytes text.new ≡ string_bytes text.old
+        ++ members_text classes.now class (length classes.now)) }
 {
     for p in 0..classes.len() {
         push_member(text, classes, class, p)?;
@@ -112,7 +114,8 @@ fn push_member(
 
 /// Appends a processor, after a comma if it is not the first of its class.
 fn push_first(text: &mut String, class: usize, processor: usize) -> Result<(), AllocError>
-    ensures { OnOk result (string_bytes text.new ≡ string_bytes text.old ++ separator class processor ++ decimal processor) }
+    ensures { OnOk result (string_bytes text.new ≡ string_bytes text.old ++ separator class processor
+        ++ decimal processor) }
 {
     if processor == class {
         write!(text, "{processor}")

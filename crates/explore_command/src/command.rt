@@ -1,16 +1,18 @@
 //! The command.
 
 ghost use Rattle.std.specs.Prelude.{◌≡◌, ◌≤◌, ◌↔◌, true, false, IfOk, IfErr, IsErrOf, OnErr};
-ghost use Rattle.command_io.specs.Printing.{IsPrinted};
-ghost use Rattle.trace_commands.specs.Accounts.{IsWorking};
-ghost use Rattle.explore_command.specs.Causes.{IsRefused, IsToldAs, status_of};
+ghost use Rattle.command_io.specs.Printing.{Prints};
+ghost use Rattle.trace_commands.specs.TraceReports.{IsWorking};
+ghost use Rattle.explore_command.specs.Causes.{IsRefused, IsReportedAs, ReportsFaultAs, status_of, unknown_line};
 ghost use Rattle.explore_command.specs.Explorations.{PrintsResults};
 
 use crate::refused::Refused;
 use crate::searching::explored;
-use command_io::{Fault, REFUSED, SPENT, image_of, print, tell};
-use exploration::Watch;
+use arrayvec::ArrayString;
+use command_io::{Fault, REFUSED, SPENT, image_in, print, report_fault, write_error};
+use exploration::SearchObserver;
 use flat_machine::Config;
+use itoa::Buffer;
 use link::LinkWrite;
 use std::alloc::Global;
 use std::io::{Read, Write};
@@ -29,81 +31,99 @@ pub struct Asked {
 
 /// Finds every final result that the program can have which the image means that a file is, on a machine of this size,
 /// and prints them, up to exchanges of processors that stand alike: each after some steps of the machine after which no
-/// processor runs; and which processors can be exchanged, and whether schedules end. How many states are found is told
-/// meanwhile. If a trace is asked for, that of a way to the result of a number is written before.
+/// processor runs; and which processors can be exchanged, and whether schedules end. How many states are found is
+/// reported meanwhile. If a trace is asked for, that of a way to the result of a number is written before.
 ///
 /// Answers the exit status: 0 if the results are printed, 1 if they are and in one of them a fault has stopped a
-/// processor, or from a state no end can be reached, else that of the fault that is told on standard error. A fault is
-/// told in this order: of the image, of the machine's size, of the search, of the witness, of the trace, of standard
-/// output.
-pub fn explore_command<R: Read + Drop, T: LinkWrite, G: Watch, W: LinkWrite, E: Write>(
+/// processor, or from a state no end can be reached, else that of the fault that is reported on standard error. A
+/// fault is reported in this order: of the image, of the machine's size, of the search, of the witness, of the trace,
+/// of standard output.
+pub fn explore_command<R: Read + Drop, T: LinkWrite, G: SearchObserver, W: LinkWrite, E: Write>(
     alloc: Global,
     file: R,
     config: Config,
     asked: Asked,
     trace: &mut Option<T>,
-    watch: &mut G,
+    observer: &mut G,
     out: &mut W,
     err: &mut E,
 ) -> u8
     requires works { IsWorking T.has_failed trace.old }
     requires prints { W.has_failed out.old ≡ false }
-    ensures printed { result ≤ 1 → IsPrinted (PrintsResults T.contents config asked.each asked.witness (R.remaining file) trace.old trace.new result)
+    ensures printed { result ≤ 1 →
+        Prints (PrintsResults T.contents config asked asked.witness (R.remaining file) trace.old trace.new result)
         (W.contents out.old) (W.contents out.new) }
-    ensures told { 2 ≤ result → IsToldAs W.has_failed
-        (IsRefused T.contents config asked.each asked.witness (R.remaining file) trace.old trace.new
-        (W.contents out.old) (W.contents out.new)) out.old out.new result }
+    ensures fault { 2 ≤ result → ReportsFaultAs W.has_failed
+        (IsRefused T.contents config asked asked.witness (R.remaining file) trace.old trace.new
+        (W.contents out.old) (W.contents out.new))
+        (IsReportedAs asked.witness (E.contents err.old) (E.contents err.new)) out.old out.new result }
     ensures failed { W.has_failed out.new ≡ true → result ≡ 3 }
+    ensures quiet { result ≤ 1 → err.new ≡ err.old }
 {
-    match carried_out(alloc, file, config, asked, trace, watch, out) {
+    match execute(alloc, file, config, asked, trace, observer, out) {
         Ok(status) => status,
         Err(refused) => tell_refused(refused, asked.witness, err),
     }
 }
 
-/// Tells why the results are not printed, and answers the exit status.
+/// Reports why the results are not printed, and answers the exit status.
 fn tell_refused<E: Write>(refused: Refused, number: u32, err: &mut E) -> u8
-    ensures told { result ≡ status_of refused }
+    ensures fault { result ≡ status_of refused }
     ensures high { 2 ≤ result }
+    ensures reported { IsReportedAs number (E.contents err.old) (E.contents err.new) refused }
 {
     match refused {
-        Refused::Fault(fault) => tell(fault, err),
+        Refused::Fault(fault) => report_fault(fault, err),
         Refused::Unknown => {
-            let _ = match number {
-                0 => writeln!(err, "error: an end can be reached from each state"),
-                _ => writeln!(err, "error: there is no result {number}"),
-            };
+            write_error(unknown_line(number).as_str(), err);
             REFUSED
         }
         Refused::Missed => {
-            let _ = writeln!(err, "error: the steps that were taken lead elsewhere");
+            write_error("error: the steps that were taken lead elsewhere\n", err);
             SPENT
         }
     }
 }
 
+/// The line that reports that no result has the number, or for 0 that an end can be reached from each state.
+fn unknown_line(number: u32) -> ArrayString<48>
+    ensures { result.bytes ≡ unknown_line number }
+{
+    let mut line = ArrayString::new();
+    if number == 0 {
+        line.push_str("error: an end can be reached from each state\n");
+    } else {
+        line.push_str("error: there is no result ");
+        line.push_str(Buffer::new().format(number));
+        line.push_str("\n");
+    }
+    line
+}
+
 /// Carries the command out.
-fn carried_out<R: Read + Drop, T: LinkWrite, G: Watch, W: LinkWrite>(
+fn execute<R: Read + Drop, T: LinkWrite, G: SearchObserver, W: LinkWrite>(
     alloc: Global,
     file: R,
     config: Config,
     asked: Asked,
     trace: &mut Option<T>,
-    watch: &mut G,
+    observer: &mut G,
     out: &mut W,
 ) -> Result<u8, Refused>
     requires works { IsWorking T.has_failed trace.old }
     requires prints { W.has_failed out.old ≡ false }
     ensures failed { IsErrOf result (Refused.Fault Fault.Link) ↔ (W.has_failed out.new ≡ true) }
-    ensures printed { IfOk result (λ status. IsPrinted (PrintsResults T.contents config asked.each asked.witness (R.remaining file) trace.old trace.new status)
+    ensures printed { IfOk result (λ status. Prints (PrintsResults T.contents config asked asked.witness
+        (R.remaining file) trace.old trace.new status)
         (W.contents out.old) (W.contents out.new)) }
     ensures low { IfOk result (λ status. status ≤ 1) }
-    ensures told { IfErr result
-        (IsRefused T.contents config asked.each asked.witness (R.remaining file) trace.old trace.new (W.contents out.old) (W.contents out.new)) }
+    ensures fault { IfErr result
+        (IsRefused T.contents config asked asked.witness (R.remaining file) trace.old trace.new (W.contents out.old)
+        (W.contents out.new)) }
     ensures silent { OnErr result (W.has_failed out.new ≡ false → out.new ≡ out.old) }
 {
-    let image = image_of(alloc, file, &config)?;
-    let (text, status) = explored(alloc, image, config, asked, trace, watch)?;
+    let image = image_in(alloc, file, &config)?;
+    let (text, status) = explored(alloc, image, config, asked, trace, observer)?;
     print(out, text.as_str())?;
     Ok(status)
 }

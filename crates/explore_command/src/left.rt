@@ -37,7 +37,8 @@ fn processors_left(
 ) -> Result<Vec<ProcessorResult>, AllocError>
     requires home { AreHome machine.now }
     requires all { length tally.now.shown ≡ 2 ^ machine.now.config.k }
-    ensures { IfOk result (λ all. all.items ≡ map (processor_left machine.now tally.now.shown) (range_with_len 0 (2 ^ machine.now.config.k))) }
+    ensures { IfOk result (λ all. all.items
+        ≡ map (processor_left machine.now tally.now.shown) (range_with_len 0 (2 ^ machine.now.config.k))) }
 {
     let mut processors = Vec::new(alloc);
     for p in 0..machine.config().processors() {

@@ -2,16 +2,17 @@
 
 ghost use Rattle.std.specs.Prelude.{◌≡◌, ◌+◌, ◌++◌, ◌<◌, ◌^◌, codes, length, slice_index, IfOk, OnOk, string_bytes};
 ghost use Rattle.std.specs.Fmt.{decimal};
-ghost use Rattle.explore_command.specs.Lines.{counted, processor_line, processor_lines, result_lines, results_lines, schedules_text, shared_lines};
+ghost use Rattle.explore_command.specs.Lines.{counted, processor_line, processor_lines, result_lines, results_lines};
+ghost use Rattle.explore_command.specs.Lines.{schedules_text, shared_lines};
 
 use crate::classes::push_classes;
 use command_io::{push_console, push_shared_word, push_status, push_word};
-use exploration::{FinalResult, ProcessorResult, Schedules};
+use exploration::{FinalResult, ProcessorResult, Termination};
 use std::alloc::{AllocError, Global};
 use std::fmt::Write;
 
 /// The lines of these results, and after them a line for each class of processors that can be exchanged, one with the
-/// number of the results and that of the states that were found, and one that tells whether schedules end.
+/// number of the results and that of the states that were found, and one that says whether schedules end.
 ///
 /// # Errors
 ///
@@ -21,9 +22,9 @@ pub fn results_text(
     results: &[FinalResult],
     classes: &[u8],
     states: usize,
-    schedules: Schedules,
+    termination: Termination,
 ) -> Result<String, AllocError>
-    ensures { IfOk result (λ text. string_bytes text ≡ results_lines results.now classes.now states schedules) }
+    ensures { IfOk result (λ text. string_bytes text ≡ results_lines results.now classes.now states termination) }
 {
     let mut text = String::new(alloc);
     for (place, result) in results.iter().enumerate() {
@@ -31,21 +32,21 @@ pub fn results_text(
     }
     push_classes(&mut text, classes)?;
     push_counts(&mut text, results.len(), states)?;
-    push_schedules(&mut text, schedules)?;
+    push_schedules(&mut text, termination)?;
     text.push('\n')?;
     Ok(text)
 }
 
-/// Appends what is told of the schedules.
-pub(crate) fn push_schedules(text: &mut String, schedules: Schedules) -> Result<(), AllocError>
-    ensures { OnOk result (string_bytes text.new ≡ string_bytes text.old ++ schedules_text schedules) }
+/// Appends what is said of the schedules.
+pub(crate) fn push_schedules(text: &mut String, termination: Termination) -> Result<(), AllocError>
+    ensures { OnOk result (string_bytes text.new ≡ string_bytes text.old ++ schedules_text termination) }
 {
-    match schedules {
-        Schedules::End => text.push_str("every schedule ends"),
-        Schedules::MayEnd => {
+    match termination {
+        Termination::Always => text.push_str("every schedule ends"),
+        Termination::Possible => {
             text.push_str("some schedule never ends; an end can always be reached")
         }
-        Schedules::MayBeStuck { states, .. } => {
+        Termination::Deadlock { states, .. } => {
             text.push_str("from ")?;
             push_count(text, states, "state")?;
             text.push_str(" no end can be reached")
@@ -56,7 +57,8 @@ pub(crate) fn push_schedules(text: &mut String, schedules: Schedules) -> Result<
 /// Appends the line of the numbers.
 fn push_counts(text: &mut String, results: usize, states: usize) -> Result<(), AllocError>
     ensures { OnOk result (string_bytes text.new
-        ≡ string_bytes text.old ++ counted results (codes "result") ++ codes ", " ++ counted states (codes "state") ++ codes "\n") }
+        ≡ string_bytes text.old ++ counted results (codes "result") ++ codes ", " ++ counted states (codes "state")
+        ++ codes "\n") }
 {
     push_count(text, results, "result")?;
     text.push_str(", ")?;
@@ -96,7 +98,8 @@ fn push_processors(
     text: &mut String,
     processors: &[ProcessorResult],
 ) -> Result<(), AllocError>
-    ensures { OnOk result (string_bytes text.new ≡ string_bytes text.old ++ processor_lines processors.now (length processors.now)) }
+    ensures { OnOk result (string_bytes text.new ≡ string_bytes text.old
+        ++ processor_lines processors.now (length processors.now)) }
 {
     for (number, processor) in processors.iter().enumerate() {
         push_processor(alloc, text, number, processor)?;
@@ -124,13 +127,14 @@ fn push_processor(
 
 /// Appends a line for each shared word that is not zero.
 fn push_words(alloc: Global, text: &mut String, last: &FinalResult) -> Result<(), AllocError>
-    ensures { OnOk result (string_bytes text.new ≡ string_bytes text.old ++ shared_lines last.now.words (length last.now.words)) }
+    ensures { OnOk result (string_bytes text.new ≡ string_bytes text.old
+        ++ shared_lines last.now.words (length last.now.words)) }
 {
     push_first_words(alloc, text, last.words.as_slice(), last.shared_words)?;
     Ok(())
 }
 
-/// Appends a line for each of the first so many words that is not zero. Those past the last are zero.
+/// Appends a line for each of the first this many words that is not zero. Those past the last are zero.
 fn push_first_words(
     alloc: Global,
     text: &mut String,

@@ -1,19 +1,19 @@
 //! How far a search is, on a line of a terminal.
 
-use exploration::Watch;
+use exploration::SearchObserver;
 use std::time::{Clock, Instant};
 
-/// How many milliseconds a line stands at least, before it is written anew.
+/// How many milliseconds a line stands at least, before it is written again.
 const LEAST: u64 = 1000;
 
-/// One who tells on a terminal how many states are found, and how many were in each second of those that have gone by.
-/// There is one line, which is written anew at most once a second, and not in the first. It is gone once the search is
+/// One who says on a terminal how many states are found, and how many were in each second of those that have gone by.
+/// There is one line, which is written again at most once a second, and not in the first. It is gone once the search is
 /// over; then another may begin.
 #[derive(Drop)]
 pub struct SearchProgress<'a, C: Clock, E: Eprint> {
     clock: &'a C,
     terminal: &'a E,
-    /// None where the clock cannot be read: nothing is told then.
+    /// None where the clock cannot be read: nothing is reported then.
     begun: Option<Instant>,
     /// How many milliseconds after the beginning the line was written last; 0 where it has not been.
     written: u64,
@@ -42,7 +42,7 @@ impl<'a, C: Clock, E: Eprint> SearchProgress<'a, C, E> {
     }
 }
 
-impl<C: Clock, E: Eprint> Watch for SearchProgress<'_, C, E> {
+impl<C: Clock, E: Eprint> SearchObserver for SearchProgress<'_, C, E> {
     fn found(&mut self, states: usize) {
         let Some(now) = self.due() else {
             return;

@@ -1,12 +1,13 @@
 //! The search, its lines and its witness.
 
-ghost use Rattle.std.specs.Prelude.{◌≡◌, ◌≤◌, ◌^◌, false, not, IfOk, IfErr, OnOk, string_bytes};
+ghost use Rattle.std.specs.Prelude.{◌≡◌, ◌<◌, ◌≤◌, ◌^◌, false, not, IfOk, IfErr, OnOk, string_bytes};
 ghost use Rattle.machine_steps.specs.Openings.{flat_state};
 ghost use Rattle.machine_steps.specs.Machines.{AreHome, IsIdle};
 ghost use Rattle.machine_steps.specs.Runs.{IsOpening};
 ghost use Rattle.exploration.specs.Endings.{AreSingle};
-ghost use Rattle.exploration.specs.state_graph.Laws.{AreSchedulesOf};
-ghost use Rattle.trace_commands.specs.Accounts.{IsWorking};
+ghost use Rattle.exploration.specs.States.{AreAllStates};
+ghost use Rattle.exploration.specs.state_graph.Laws.{IsTerminationOf};
+ghost use Rattle.trace_commands.specs.TraceReports.{IsWorking};
 ghost use Rattle.explore_command.specs.Causes.{IsNotFound, IsNotSaved, IsNotSearched};
 ghost use Rattle.explore_command.specs.Explorations.{AreExplored, AreResultsOf, IsWitnessed};
 
@@ -17,7 +18,7 @@ use crate::status::exit_status;
 use crate::witness::witness_of;
 use command_io::{Fault, machine_of};
 use elf_image::Image;
-use exploration::{Explored, Refusal, Search, Watch, explore};
+use exploration::{Explored, Refusal, Search, SearchObserver, explore};
 use flat_machine::Config;
 use link::LinkWrite;
 use machine_steps::Machine;
@@ -25,55 +26,59 @@ use std::alloc::Global;
 use trace_commands::save;
 
 /// The lines of the results, and the exit status. Where a trace is asked for, that of a witness is written.
-pub(crate) fn explored<T: LinkWrite, G: Watch>(
+pub(crate) fn explored<T: LinkWrite, G: SearchObserver>(
     alloc: Global,
     image: Image,
     config: Config,
     asked: Asked,
     trace: &mut Option<T>,
-    watch: &mut G,
+    observer: &mut G,
 ) -> Result<(String, u8), Refused>
     requires words { image.shared_words ≡ config.shared_words }
     requires works { IsWorking T.has_failed trace.old }
-    ensures lines { IfOk result (λ done. AreExplored T.contents config image asked.each asked.witness trace.old trace.new (string_bytes done.0) done.1) }
+    ensures lines { IfOk result (λ done. AreExplored T.contents config image asked asked.witness trace.old trace.new
+        (string_bytes done.0) done.1) }
     ensures low { IfOk result (λ done. done.1 ≤ 1) }
-    ensures refused { IfErr result (IsNotFound T.contents config image asked.witness trace.old trace.new) }
+    ensures refused { IfErr result (IsNotFound T.contents config image asked asked.witness trace.old trace.new) }
 {
     let machine = machine_of(alloc, image, config)?;
-    explored_from(alloc, &machine, config, asked, trace, watch)
+    explored_from(alloc, &machine, config, asked, trace, observer)
 }
 
 /// The lines of the results of a machine that has just opened, and the exit status. Where a trace is asked for, that of
 /// a witness is written.
 // A function of its own, so that none has many values to drop at each of its ends.
-fn explored_from<T: LinkWrite, G: Watch>(
+#[tactic(auto, using(crate::proofs::NotFound::not_searched, crate::proofs::NotFound::not_saved))]
+fn explored_from<T: LinkWrite, G: SearchObserver>(
     alloc: Global,
     machine: &Machine,
     config: Config,
     asked: Asked,
     trace: &mut Option<T>,
-    watch: &mut G,
+    observer: &mut G,
 ) -> Result<(String, u8), Refused>
     requires opens { IsOpening config machine.now.image machine.now }
     requires words { machine.now.image.shared_words ≡ config.shared_words }
     requires works { IsWorking T.has_failed trace.old }
-    ensures lines { IfOk result (λ done. AreExplored T.contents config machine.now.image asked.each asked.witness
+    ensures lines { IfOk result (λ done. AreExplored T.contents config machine.now.image asked asked.witness
         trace.old trace.new (string_bytes done.0) done.1) }
     ensures low { IfOk result (λ done. done.1 ≤ 1) }
-    ensures refused { IfErr result (IsNotFound T.contents config machine.now.image asked.witness trace.old trace.new) }
+    ensures refused { IfErr result
+        (IsNotFound T.contents config machine.now.image asked asked.witness trace.old trace.new) }
 {
     let search = search_of(asked, trace.is_some());
-    let found = found(alloc, machine, search, watch)?;
+    let found = found(alloc, machine, search, observer)?;
     let results = found.results.as_slice();
     let classes = found.classes.as_slice();
-    let text = results_text(alloc, results, classes, found.states, found.schedules)?;
+    let text = results_text(alloc, results, classes, found.states, found.termination)?;
     save_witness(alloc, machine.image(), config, &found, asked, trace)?;
-    Ok((text, exit_status(results, found.schedules)))
+    Ok((text, exit_status(results, found.termination)))
 }
 
 /// What a search is to look for, if a witness is wanted or not.
 pub(crate) fn search_of(asked: Asked, is_wanted: bool) -> Search
-    ensures { result.exchanged ≡ not asked.each }
+    ensures exchanged { result.exchanged ≡ not asked.each }
+    ensures limit { result.limit ≡ asked.limit }
 {
     Search {
         limit: asked.limit,
@@ -83,21 +88,25 @@ pub(crate) fn search_of(asked: Asked, is_wanted: bool) -> Search
 }
 
 /// The results of a machine that has just opened.
-pub(crate) fn found<G: Watch>(
+pub(crate) fn found<G: SearchObserver>(
     alloc: Global,
     machine: &Machine,
     search: Search,
-    watch: &mut G,
+    observer: &mut G,
 ) -> Result<Explored, Fault>
     requires idle { IsIdle machine.now }
     requires home { AreHome machine.now }
     ensures results { IfOk result (λ found. AreResultsOf machine.now found.classes.items found.results.items) }
-    ensures single { IfOk result (λ found. search.exchanged ≡ false → AreSingle (2 ^ machine.now.config.k) found.classes.items) }
-    ensures schedules { IfOk result (λ found. AreSchedulesOf (flat_state machine.now) found.schedules) }
-    ensures refused { IfErr result IsNotSearched }
+    ensures single { IfOk result (λ found. search.exchanged ≡ false →
+        AreSingle (2 ^ machine.now.config.k) found.classes.items) }
+    ensures termination { IfOk result (λ found. IsTerminationOf (flat_state machine.now) found.termination) }
+    ensures states { IfOk result (λ found. AreAllStates (flat_state machine.now) found.classes.items found.results.items
+        found.termination found.states) }
+    ensures few { IfOk result (λ found. found.states < search.limit) }
+    ensures refused { IfErr result (IsNotSearched (flat_state machine.now) search.limit) }
 {
-    let found = explore(alloc, machine, search, watch);
-    watch.over();
+    let found = explore(alloc, machine, search, observer);
+    observer.over();
     match found {
         Ok(found) => Ok(found),
         Err(Refusal::Memory) => Err(Fault::Memory),
@@ -117,9 +126,11 @@ fn save_witness<T: LinkWrite>(
 ) -> Result<(), Refused>
     requires words { image.now.shared_words ≡ config.shared_words }
     requires works { IsWorking T.has_failed trace.old }
-    ensures saved { OnOk result (IsWitnessed T.contents config image.now found.now.results.items asked.witness trace.old trace.new) }
+    ensures saved { OnOk result
+        (IsWitnessed T.contents config image.now found.now.results.items asked.witness trace.old trace.new) }
     ensures refused { IfErr result
-        (IsNotSaved T.contents config image.now found.now.results.items found.now.schedules asked.witness trace.old trace.new) }
+        (IsNotSaved T.contents config image.now found.now.results.items found.now.termination asked.witness trace.old
+        trace.new) }
 {
     if trace.is_none() {
         return Ok(());

@@ -1,10 +1,10 @@
 //! The results of every size of a machine, a line for each.
 
 ghost use Rattle.std.specs.Prelude.{◌≡◌, ◌⊎◌, ◌++◌, ◌≤◌, false, max, Option, IfOk, IfErr, OnOk, length, string_bytes};
-ghost use Rattle.command_io.specs.Printing.{IsPrinted};
+ghost use Rattle.command_io.specs.Printing.{Prints};
 ghost use Rattle.explore_command.specs.Explorations.{IsFound};
-ghost use Rattle.explore_command.specs.Sizes.{AreSizesNotPrinted, AreSizesPrinted, IsEveryRefused, IsEveryTold};
-ghost use Rattle.explore_command.specs.Sizes.{IsGreatestStatus, IsSizeRefused, IsSizeNotPrinted, IsSizeTold};
+ghost use Rattle.explore_command.specs.Sizes.{AreSizesNotPrinted, AreSizesPrinted, IsEveryRefused, ReportsEverySize};
+ghost use Rattle.explore_command.specs.Sizes.{IsGreatestStatus, IsSizeRefused, IsSizeNotPrinted, ReportsSize};
 ghost use Rattle.explore_command.specs.Sizes.{PrintsEverySize, greatest_text, refusal_text, refused_line};
 ghost use Rattle.explore_command.specs.Sizes.{size_line, size_text, sizes};
 
@@ -13,9 +13,9 @@ use crate::greatest::greatest_status;
 use crate::lines::{push_count, push_schedules};
 use crate::searching::{found, search_of};
 use crate::status::exit_status;
-use command_io::{Fault, image_of, opened, print, push_status, tell};
+use command_io::{Fault, image_in, opened, print, push_status, report_fault};
 use elf_image::Image;
-use exploration::{Explored, Watch};
+use exploration::{Explored, SearchObserver};
 use flat_machine::{Config, Status};
 use link::{LinkWrite, parts_make_a_beginning};
 use std::alloc::{AllocError, Global};
@@ -27,71 +27,73 @@ const SIZES: u8 = 7;
 
 /// Explores the program that the image means which a file is, on machines of every size, one after another, and prints
 /// a line for each: how many results and states there are, how schedules end, and the greatest status of a processor;
-/// or why the size is not explored. How many states are found is told meanwhile. What the size has for `k` is of no
+/// or why the size is not explored. How many states are found is reported meanwhile. What the size has for `k` is of no
 /// account.
 ///
 /// Answers the greatest exit status of all sizes, each as [`explore_command`](crate::explore_command) gives it; or, if
-/// the image is refused, a line cannot be printed, or there is no memory for it, that of the fault that is told on
+/// the image is refused, a line cannot be printed, or there is no memory for it, that of the fault that is reported on
 /// standard error.
-pub fn explore_every_size<R: Read + Drop, G: Watch, W: LinkWrite, E: Write>(
+pub fn explore_every_size<R: Read + Drop, G: SearchObserver, W: LinkWrite, E: Write>(
     alloc: Global,
     file: R,
     config: Config,
     asked: Asked,
-    watch: &mut G,
+    observer: &mut G,
     out: &mut W,
     err: &mut E,
 ) -> u8
     requires prints { W.has_failed out.old ≡ false }
-    ensures told { IsEveryTold config asked.each (R.remaining file) (W.contents out.old) (W.contents out.new) result }
+    ensures fault { ReportsEverySize config asked (R.remaining file) (W.contents out.old) (W.contents out.new) result }
 {
-    match print_every_size(alloc, file, config, asked, watch, out, err) {
+    match print_every_size(alloc, file, config, asked, observer, out, err) {
         Ok(status) => status,
-        Err(fault) => tell(fault, err),
+        Err(fault) => report_fault(fault, err),
     }
 }
 
 /// Prints the lines, and gives the greatest of their exit statuses.
-fn print_every_size<R: Read + Drop, G: Watch, W: LinkWrite, E: Write>(
+fn print_every_size<R: Read + Drop, G: SearchObserver, W: LinkWrite, E: Write>(
     alloc: Global,
     file: R,
     config: Config,
     asked: Asked,
-    watch: &mut G,
+    observer: &mut G,
     out: &mut W,
     err: &mut E,
 ) -> Result<u8, Fault>
     requires prints { W.has_failed out.old ≡ false }
-    ensures printed { IfOk result (λ status. IsPrinted (PrintsEverySize config asked.each (R.remaining file) status)
+    ensures printed { IfOk result (λ status. Prints (PrintsEverySize config asked (R.remaining file) status)
         (W.contents out.old) (W.contents out.new)) }
-    ensures refused { IfErr result (IsEveryRefused config asked.each (R.remaining file) (W.contents out.old) (W.contents out.new)) }
+    ensures refused { IfErr result (IsEveryRefused config asked (R.remaining file) (W.contents out.old)
+        (W.contents out.new)) }
 {
-    let image = image_of(alloc, file, &config)?;
-    print_sizes(alloc, &image, config, asked, watch, out, err)
+    let image = image_in(alloc, file, &config)?;
+    print_sizes(alloc, &image, config, asked, observer, out, err)
 }
 
 /// Prints the lines of every size, of an image.
 // A law of texts that are written in parts says what is there if a line is not written whole.
-fn print_sizes<G: Watch, W: LinkWrite, E: Write>(
+fn print_sizes<G: SearchObserver, W: LinkWrite, E: Write>(
     alloc: Global,
     image: &Image,
     config: Config,
     asked: Asked,
-    watch: &mut G,
+    observer: &mut G,
     out: &mut W,
     err: &mut E,
 ) -> Result<u8, Fault>
     requires words { image.now.shared_words ≡ config.shared_words }
     requires prints { W.has_failed out.old ≡ false }
-    ensures printed { IfOk result (λ status. AreSizesPrinted config image.now asked.each sizes status
+    ensures printed { IfOk result (λ status. AreSizesPrinted config image.now asked sizes status
         (W.contents out.old) (W.contents out.new)) }
-    ensures refused { IfErr result (AreSizesNotPrinted config image.now asked.each (W.contents out.old) (W.contents out.new)) }
+    ensures refused { IfErr result (AreSizesNotPrinted config image.now asked (W.contents out.old)
+        (W.contents out.new)) }
 {
     parts_make_a_beginning();
     let mut status = 0;
     for k in 0..SIZES {
         let size = Config { k, ..config };
-        let exit = print_size(alloc, image, size, asked, watch, out, err)?;
+        let exit = print_size(alloc, image, size, asked, observer, out, err)?;
         status = greater(status, exit);
     }
     Ok(status)
@@ -105,75 +107,76 @@ fn greater(one: u8, other: u8) -> u8
 }
 
 /// Prints the line of a size, and gives its exit status.
-fn print_size<G: Watch, W: LinkWrite, E: Write>(
+fn print_size<G: SearchObserver, W: LinkWrite, E: Write>(
     alloc: Global,
     image: &Image,
     config: Config,
     asked: Asked,
-    watch: &mut G,
+    observer: &mut G,
     out: &mut W,
     err: &mut E,
 ) -> Result<u8, Fault>
     requires words { image.now.shared_words ≡ config.shared_words }
     requires few { config.k ≤ 6 }
     requires prints { W.has_failed out.old ≡ false }
-    ensures printed { IfOk result (λ status. IsPrinted (λ line. IsSizeTold config image.now asked.each line status)
+    ensures printed { IfOk result (λ status. Prints (λ line. ReportsSize config image.now asked line status)
         (W.contents out.old) (W.contents out.new)) }
     ensures works { OnOk result (W.has_failed out.new ≡ false) }
-    ensures refused { IfErr result (IsSizeNotPrinted config image.now asked.each (W.contents out.old) (W.contents out.new)) }
+    ensures refused { IfErr result (IsSizeNotPrinted config image.now asked (W.contents out.old) (W.contents out.new)) }
 {
-    let (line, status) = line_of(alloc, image, config, asked, watch, err)?;
+    let (line, status) = line_of(alloc, image, config, asked, observer, err)?;
     print(out, line.as_str())?;
     Ok(status)
 }
 
-/// The line of a size, and its exit status. If it is not explored, the fault is told on standard error too.
-fn line_of<G: Watch, E: Write>(
+/// The line of a size, and its exit status. If it is not explored, the fault is reported on standard error too.
+fn line_of<G: SearchObserver, E: Write>(
     alloc: Global,
     image: &Image,
     config: Config,
     asked: Asked,
-    watch: &mut G,
+    observer: &mut G,
     err: &mut E,
 ) -> Result<(String, u8), AllocError>
     requires words { image.now.shared_words ≡ config.shared_words }
     requires few { config.k ≤ 6 }
-    ensures told { IfOk result (λ done. IsSizeTold config image.now asked.each (string_bytes done.0) done.1) }
+    ensures fault { IfOk result (λ done. ReportsSize config image.now asked (string_bytes done.0) done.1) }
 {
-    match explore_size(alloc, image, config, asked, watch) {
+    match explore_size(alloc, image, config, asked, observer) {
         Ok(explored) => Ok((
             line_of_explored(alloc, config.k, &explored)?,
-            exit_status(explored.results.as_slice(), explored.schedules),
+            exit_status(explored.results.as_slice(), explored.termination),
         )),
         Err(fault) => {
             let line = line_of_refused(alloc, config.k, fault)?;
-            Ok((line, tell(fault, err)))
+            Ok((line, report_fault(fault, err)))
         }
     }
 }
 
 /// What is found of a size.
-fn explore_size<G: Watch>(
+fn explore_size<G: SearchObserver>(
     alloc: Global,
     image: &Image,
     config: Config,
     asked: Asked,
-    watch: &mut G,
+    observer: &mut G,
 ) -> Result<Explored, Fault>
     requires words { image.now.shared_words ≡ config.shared_words }
-    ensures found { IfOk result (λ found. IsFound config image.now asked.each found.classes.items found.results.items
-        found.schedules) }
-    ensures refused { IfErr result (IsSizeRefused config image.now) }
+    ensures found { IfOk result (λ found. IsFound config image.now asked found.classes.items found.results.items
+        found.termination found.states) }
+    ensures refused { IfErr result (IsSizeRefused config image.now asked.limit) }
 {
     let machine = opened(alloc, image, config)?;
-    found(alloc, &machine, search_of(asked, false), watch)
+    found(alloc, &machine, search_of(asked, false), observer)
 }
 
 /// The line of a size that is explored.
 fn line_of_explored(alloc: Global, k: u8, found: &Explored) -> Result<String, AllocError>
     requires { k ≤ 6 }
     ensures { IfOk result (λ line. (greatest : Option Status) × IsGreatestStatus found.now.results.items greatest
-        × (string_bytes line ≡ size_line k (length found.now.results.items) found.now.states found.now.schedules greatest)) }
+        × (string_bytes line
+        ≡ size_line k (length found.now.results.items) found.now.states found.now.termination greatest)) }
 {
     let mut text = String::new(alloc);
     push_size(&mut text, k)?;
@@ -181,7 +184,7 @@ fn line_of_explored(alloc: Global, k: u8, found: &Explored) -> Result<String, Al
     text.push_str(", ")?;
     push_count(&mut text, found.states, "state")?;
     text.push_str(", ")?;
-    push_schedules(&mut text, found.schedules)?;
+    push_schedules(&mut text, found.termination)?;
     text.push_str(", ")?;
     push_greatest(alloc, &mut text, greatest_status(found.results.as_slice()))?;
     text.push('\n')?;
@@ -225,7 +228,7 @@ fn push_greatest(
     }
 }
 
-/// What tells why a size is not explored.
+/// What says why a size is not explored.
 fn refusal_text(fault: Fault) -> &'static str
     ensures { result.now ≡ refusal_text fault }
 {

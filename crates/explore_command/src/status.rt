@@ -1,19 +1,19 @@
-//! The exit status that tells how the processors of the results stopped, and whether they always can.
+//! The exit status that says how the processors of the results stopped, and whether they always can.
 
 ghost use Rattle.std.specs.Prelude.{◌≤◌, ◌↔◌, All, IsTrue};
 ghost use Rattle.explore_command.specs.Explorations.{IsExitOf, IsFaultless, IsNotFaulted, IsNotStuck};
 
 use command_io::{DONE, STOPPED_BY_FAULT};
-use exploration::{FinalResult, ProcessorResult, Schedules};
+use exploration::{FinalResult, ProcessorResult, Termination};
 use flat_machine::Status;
 
 /// The exit status of results: [`STOPPED_BY_FAULT`] where in one of them a fault has stopped a processor, or from a
 /// state no end can be reached, else [`DONE`].
-pub fn exit_status(results: &[FinalResult], schedules: Schedules) -> u8
-    ensures exit { IsExitOf results.now schedules result }
+pub fn exit_status(results: &[FinalResult], termination: Termination) -> u8
+    ensures exit { IsExitOf results.now termination result }
     ensures low { result ≤ 1 }
 {
-    if are_faultless(results) && is_not_stuck(schedules) {
+    if are_faultless(results) && is_not_stuck(termination) {
         DONE
     } else {
         STOPPED_BY_FAULT
@@ -21,12 +21,12 @@ pub fn exit_status(results: &[FinalResult], schedules: Schedules) -> u8
 }
 
 /// Whether there is no state from which no end can be reached.
-fn is_not_stuck(schedules: Schedules) -> bool
-    ensures { IsTrue result ↔ IsNotStuck schedules }
+fn is_not_stuck(termination: Termination) -> bool
+    ensures { IsTrue result ↔ IsNotStuck termination }
 {
-    match schedules {
-        Schedules::End | Schedules::MayEnd => true,
-        Schedules::MayBeStuck { .. } => false,
+    match termination {
+        Termination::Always | Termination::Possible => true,
+        Termination::Deadlock { .. } => false,
     }
 }
 

@@ -11,9 +11,9 @@ use flat_machine::Config;
 use machine_steps::Machine;
 use std::alloc::Global;
 use steps::Step;
-use trace_commands::retaken;
+use trace_commands::replay_counted;
 
-/// The machine behind these steps, which opened on a copy of the image, and what its processors have shown in them.
+/// The machine after these steps, which opened on a copy of the image, and what its processors have shown in them.
 #[tactic(auto, using(crate::proofs::Refusing::size_refuses))]
 pub(crate) fn taken(
     alloc: Global,
@@ -27,7 +27,7 @@ pub(crate) fn taken(
     ensures refused { IfErr result (IsNotTaken config) }
 {
     let mut machine = opened(alloc, image, config)?;
-    match retaken(alloc, &mut machine, steps) {
+    match replay_counted(alloc, &mut machine, steps) {
         Ok(tally) => Ok((machine, tally)),
         Err(Fault::Memory) => Err(Refused::Fault(Fault::Memory)),
         Err(_) => Err(Refused::Missed),

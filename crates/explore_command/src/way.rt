@@ -14,7 +14,7 @@ use steps::{Outcome, Step};
 /// How many turns a processor is given to come to its next reference, or to stop: as many as the search gives it.
 const MAX_TURNS: u32 = 1_000_000;
 
-/// The log of a way, on a machine of this size that opens on a copy of the image. Behind it no reference is open; and
+/// The log of a way, on a machine of this size that opens on a copy of the image. After it no reference is open; and
 /// where it is to end in a result, each processor has taken turns until it stops.
 #[tactic(auto, using(crate::proofs::Refusing::size_refuses, crate::proofs::Refusing::steps_refuse))]
 pub(crate) fn log_of(
@@ -63,7 +63,7 @@ fn turn(log: &mut Logged, p: u8) -> Result<Turned, Refused>
 
 /// Brings what is on its way to its end.
 #[tactic(auto, using(crate::proofs::Refusing::log_refuses))]
-fn bring_home(log: &mut Logged) -> Result<(), Refused>
+fn drain_within(log: &mut Logged) -> Result<(), Refused>
     ensures refused { IfErr result IsOfSteps }
 {
     match log.drain() {
@@ -79,7 +79,7 @@ fn refer(log: &mut Logged, p: u8) -> Result<(), Refused>
     for _turn in 0..MAX_TURNS {
         match turn(log, p)? {
             Turned::On => {}
-            Turned::Sent => return bring_home(log),
+            Turned::Sent => return drain_within(log),
             Turned::Stopped => return Err(Refused::Missed),
         }
     }

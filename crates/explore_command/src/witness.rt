@@ -12,7 +12,7 @@ use crate::taking::taken;
 use crate::way::log_of;
 use command_io::{Fault, Tally};
 use elf_image::Image;
-use exploration::{Explored, FinalResult, Refusal, Schedules, Search, Unwatched, explore};
+use exploration::{Explored, FinalResult, NoProgress, Refusal, Search, Termination, explore};
 use flat_machine::Config;
 use machine_log::Logged;
 use machine_steps::{Machine, any_runs};
@@ -21,8 +21,8 @@ use steps::Step;
 use trace_file::is_trace;
 
 /// The log of a machine of this size that opens on a copy of the image, and ends in the result of this number, from 1;
-/// for 0, in a state from which no end can be reached, by another search of at most so many states. Its references are
-/// those of the way that was wanted as the machine was explored.
+/// for 0, in a state from which no end can be reached, by another search of at most this many states. Its references
+/// are those of the way that was wanted as the machine was explored.
 ///
 /// # Errors
 ///
@@ -40,10 +40,10 @@ pub fn witness_of(
 ) -> Result<Logged, Refused>
     requires words { image.now.shared_words ≡ config.shared_words }
     ensures witness { IfOk result (λ log. IsWitness config image.now explored.now.results.items number log.steps) }
-    ensures refused { IfErr result (IsNoWitness config explored.now.results.items explored.now.schedules number) }
+    ensures refused { IfErr result (IsNoWitness config explored.now.results.items explored.now.termination number) }
 {
     let results = explored.results.as_slice();
-    if !has_witness(results, explored.schedules, number) {
+    if !has_witness(results, explored.termination, number) {
         return Err(Refused::Unknown);
     }
     let log = log_of(alloc, image, config, explored.way.as_slice(), number > 0)?;
@@ -52,14 +52,14 @@ pub fn witness_of(
 }
 
 /// Whether a result has the number; for 0, whether there is a state from which no end can be reached.
-fn has_witness(results: &[FinalResult], schedules: Schedules, number: u32) -> bool
-    ensures { IsTrue result ↔ HasWitness results.now schedules number }
+fn has_witness(results: &[FinalResult], termination: Termination, number: u32) -> bool
+    ensures { IsTrue result ↔ HasWitness results.now termination number }
 {
     match number.checked_sub(1) {
         Some(before) => (before as usize) < results.len(),
-        None => match schedules {
-            Schedules::MayBeStuck { .. } => true,
-            Schedules::End | Schedules::MayEnd => false,
+        None => match termination {
+            Termination::Deadlock { .. } => true,
+            Termination::Always | Termination::Possible => false,
         },
     }
 }
@@ -144,7 +144,7 @@ fn look_for_an_end(alloc: Global, machine: &Machine, limit: u32) -> Result<(), R
         exchanged: true,
         wanted: None,
     };
-    match explore(alloc, machine, search, &mut Unwatched) {
+    match explore(alloc, machine, search, &mut NoProgress) {
         Ok(found) if found.results.as_slice().is_empty() => Ok(()),
         Err(Refusal::Memory) => Err(Refused::Fault(Fault::Memory)),
         _ => Err(Refused::Missed),

@@ -1,5 +1,5 @@
-//! Tests of the search for every final result (`exploration`), on small programs whose results are counted by hand, and of random
-//! runs and their different results (`hunt_command`).
+//! Tests of the search for every final result (`exploration`), on small programs whose results are counted by hand,
+//! and of random runs and their different results (`hunt_command`).
 //!
 //! They stand in a crate of their own, so that what stands on the search need not wait for them.
 #![tactic(auto)]

@@ -7,10 +7,11 @@ mod exchanges;
 mod hunting;
 mod order;
 mod random_schedules;
+mod spinning;
 mod texts;
 mod ways;
 
-use exploration::{Explored, FinalResult, Refusal, Search, Unwatched, explore};
+use exploration::{Explored, FinalResult, NoProgress, Refusal, Search, explore};
 use flat_machine::Config;
 use std::alloc::Global;
 use std::fmt::{Debug, Write};
@@ -18,7 +19,7 @@ use std::process::Abort;
 use std::test::Fail;
 use test_support::{machine_of, tight_size};
 
-/// Ends the test where the two differ, and tells them and the case that they are of ([`assert_same!`]).
+/// Ends the test where the two differ, and says them and the case that they are of ([`assert_same!`]).
 fn same<T: PartialEq + Debug, A: Debug>(rt: &impl Abort, found: &T, wanted: &T, at: &A) {
     assert_eq!(rt; found, wanted, "{at:?}");
 }
@@ -53,7 +54,7 @@ fn explored(
         ..tight_size(k)
     };
     let machine = machine_of(alloc, text, config)?;
-    Ok(explore(alloc, &machine, search, &mut Unwatched))
+    Ok(explore(alloc, &machine, search, &mut NoProgress))
 }
 
 /// What a search finds, of a text on 2^k processors.
@@ -65,7 +66,7 @@ fn found(alloc: Global, text: &str, k: u8, search: Search) -> Result<Explored, F
 }
 
 /// A line for each processor of a result: where it stands, how it stopped and what it printed.
-fn told(alloc: Global, last: &FinalResult) -> Result<String, Fail> {
+fn reported(alloc: Global, last: &FinalResult) -> Result<String, Fail> {
     let mut text = String::new(alloc);
     for processor in last.processors.iter() {
         let (pc, status, console) = (processor.pc, processor.status, processor.console.as_slice());

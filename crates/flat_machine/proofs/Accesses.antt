@@ -18,6 +18,7 @@ use Rattle.flat_machine.specs.Words.{part_of, with_part}
 
 -- ---- lists
 
+-- If the numbers of a list are below a bound, they are so after a number below it is written at a place.
 pub set_below : (bound : ℕ) (xs : List ℕ) (k x : ℕ) → x < bound → AreBelow bound xs → AreBelow bound (slice_set xs k x)
 set_below bound [] k x small all = all
 set_below bound (y ∷ ys) zero x small all = first
@@ -31,6 +32,7 @@ set_below bound (y ∷ ys) (suc k) x small all = rest (set_below bound ys k x sm
     rest below zero = all zero
     rest below (suc j) = below j
 
+-- The number that `size` bytes make is below 2^(8 * size).
 pub number_small : (bytes : List ℕ) (place size : ℕ) → AreBelow 256 bytes → number_at bytes place size < 2 ^ (8 * size)
 unfolding number_at
 number_small bytes place zero all = omega arith
@@ -41,6 +43,7 @@ number_small bytes place (suc size) all =
     let power : 2 ^ (8 * suc size) ≡ 256 * 2 ^ (8 * size) = ap (λ k. 2 ^ k) bits ∙ pow-add 2 8 (8 * size) in
     rw power (omega arith)
 
+-- Bytes stay bytes if a number is written over some of them.
 pub with_number_below : (bytes : List ℕ) (place size value : ℕ) → AreBelow 256 bytes → AreBelow 256 (with_number bytes place size value)
 unfolding with_number
 with_number_below bytes place zero value all = all
@@ -49,6 +52,7 @@ with_number_below bytes place (suc size) value all =
 
 -- ---- parts of words
 
+-- The number of `size` bytes of a word is below 2^(8 * size).
 pub part_small : (size offset word : ℕ) → part_of size offset word < 2 ^ (8 * size)
 unfolding part_of
 part_small size offset word = mod_below _ _ (pow_pos (8 * size))
@@ -81,6 +85,7 @@ load_inside Lw address aligned = omega arith
 load_inside Lbu address aligned = omega arith
 load_inside Lhu address aligned = omega arith
 
+-- A store at an address divisible by its size lies within one word.
 pub store_inside : (op : StoreOp) (address : ℕ) → address % store_size op ≡ 0 → address % 4 + store_size op ≤ 4
 store_inside Sb address aligned = omega arith
 store_inside Sh address aligned = omega arith

@@ -98,6 +98,7 @@ after_other m j k ne at_j at_k =
     ∙ ap (λ x. with_own n k (own_of x n.code (slice_get m.processors k))) setting
     ∙ ap (λ x. with_own n k (own_of (setting_of m k) x (slice_get m.processors k))) code
 
+-- Steps of two processors that reach no shared word leave the same machine in either order.
 pub local_turns : (m : FlatState) (j k : ℕ) → j ≢ k → IsLocalAt m j (slice_get m.processors j) → IsLocalAt m k (slice_get m.processors k) →
     flat_step (flat_step m (entry.Processor j)) (entry.Processor k) ≡ flat_step (flat_step m (entry.Processor k)) (entry.Processor j)
 local_turns m j k ne at_j at_k =

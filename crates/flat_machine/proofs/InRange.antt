@@ -105,6 +105,7 @@ fetched_fits code pc i e = by_place (in_code pc) (insn_of (number_at code (pc % 
     by_place true None is e = absurd (cc)
     by_place false o is e = absurd (cc)
 
+-- A turn leaves words if the processor has words, code is bytes, and the setting's numbers are words.
 pub turn_words : (s : Setting) (code : List ℕ) (p : Processor) → s.number < 2 ^ 32 → s.processors < 2 ^ 32 → AreBelow 256 code → HasWords p →
     LeavesWords (turn_of s code p)
 turn_words s code p number count bytes h = by_fetched (fetched code p.pc) refl
@@ -149,6 +150,7 @@ processor_in_range m k change (Some p) at keeps h =
     let count : length m.processors ≤ 2 ^ 8 = h.count in
     record { processors = All-set HasWords m.processors k (change p) words h.processors; count = omega arith; shared = h.shared; code = h.code }
 
+-- A processor that has words still has them after a poke writes a word into a register or pc.
 pub register_words : (register value : ℕ) (p : Processor) → value < 2 ^ 32 → HasWords p → HasWords (with_poked_register register value p)
 register_words register value p small h = by_register (eqb register 32)
   where
@@ -156,6 +158,7 @@ register_words register value p small h = by_register (eqb register 32)
     by_register true = record { pc = small; registers = h.registers; local = h.local }
     by_register false = record { pc = h.pc; registers = set_below (2 ^ 32) p.registers register value small h.registers; local = h.local }
 
+-- A processor that has words still has them after a poke writes a byte into its local memory.
 pub byte_words : (address value : ℕ) (p : Processor) → value < 256 → HasWords p → HasWords (with_poked_byte address value p)
 byte_words address value p small h = record { pc = h.pc; registers = h.registers; local = set_below 256 p.local (address % 2 ^ 16) value small h.local }
 
@@ -181,6 +184,7 @@ poked_in_range m p small h = by_law (is_lawful m p)
     by_law true = written_in_range m p small h
     by_law false = h
 
+-- A machine in range is in range after an entry, if a poke writes words.
 pub step_in_range : (m : FlatState) (e : Entry) → WritesWords e → IsInRange m → IsInRange (flat_step m e)
 unfolding flat_step
 step_in_range m (entry.Processor k) writes h = turned_in_range m k (slice_get m.processors k) refl h
@@ -188,6 +192,7 @@ step_in_range m (entry.Poke p) writes h = poked_in_range m p writes h
 
 -- ---- runs
 
+-- A machine in range is in range after a list of entries whose pokes write words.
 pub run_in_range : (m : FlatState) (entries : List Entry) → IsInRange m → All WritesWords entries → IsInRange (flat_run m entries)
 run_in_range m [] h writes = h
 run_in_range m (e ∷ es) h writes = run_in_range (flat_step m e) es (step_in_range m e (All-head WritesWords e es writes) h) (All-tail WritesWords e es writes)

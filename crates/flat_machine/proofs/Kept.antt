@@ -40,10 +40,12 @@ all_get P xs k x all e =
 
 -- A fact of a processor that going on, jumping to an aligned target, storing, stopping and lawful pokes keep.
 pub record IsKept (P : Processor → Type 0) : Type 0 where
+  -- The fact is kept if the processor writes a register and goes on to the next instruction.
   pub next : (p : Processor) (rd value : ℕ) → P p → P (gone_to (next_pc p) rd value p)
   pub jump : (p : Processor) (target rd value : ℕ) → P p → target % 4 ≡ 0 → P (gone_to target rd value p)
   pub store : (p : Processor) (bytes : List ℕ) → P p → P (record p { local = bytes })
   pub stop : (p : Processor) (status : Status) → P p → P (record p { status = status })
+  -- The fact is kept if a lawful poke writes a register or pc.
   pub register : (p : Processor) (r v : ℕ) → P p → is_lawful_register r v ≡ true → P (with_poked_register r v p)
 
 module _ (P : Processor → Type 0) (kept : IsKept P) where
@@ -157,6 +159,7 @@ zero_is_kept = record {
   register = λ p r v h lawful. zero_poked p r v (eqb r 32) h (not_zero r v lawful);
 }
 
+-- If register 0 of each processor holds 0, it does so after any list of entries.
 pub zero_kept : (m : FlatState) (entries : List Entry) → All HasZero m.processors → All HasZero (flat_run m entries).processors
 zero_kept m entries all = run_keeps HasZero zero_is_kept m entries all
 
@@ -185,5 +188,6 @@ alignment_is_kept = record {
   register = λ p r v h lawful. pc_poked p r v (eqb r 32) refl h lawful;
 }
 
+-- If the pc of each processor is divisible by 4, it is so after any list of entries.
 pub alignment_kept : (m : FlatState) (entries : List Entry) → All HasAlignedPc m.processors → All HasAlignedPc (flat_run m entries).processors
 alignment_kept m entries all = run_keeps HasAlignedPc alignment_is_kept m entries all

@@ -13,9 +13,11 @@ use Rattle.flat_machine.specs.Words.{signed, upper}
 pub signed_size : (a : ℕ) → a < 2 ^ 32 → unsigned_abs (signed a) ≤ 2 ^ 31
 signed_size a h = grind arith
 
+-- The product of two words in two's complement fits in 64 bits with a sign.
 pub signed_product_fits : (a b : ℕ) → a < 2 ^ 32 → b < 2 ^ 32 → FitsSigned w64 (signed a *ℤ signed b)
 signed_product_fits a b h g = fits_signed_mul w64 (signed a) (signed b) (2 ^ 31) (2 ^ 31) (signed_size a h) (signed_size b g) (omega arith)
 
+-- The product of a word in two's complement and a natural number below 2^32 fits in 64 bits with a sign.
 pub mixed_product_fits : (a b : ℕ) → a < 2 ^ 32 → b < 2 ^ 32 → FitsSigned w64 (signed a *ℤ pos b)
 mixed_product_fits a b h g = fits_signed_mul w64 (signed a) (pos b) (2 ^ 31) (2 ^ 32 - 1) (signed_size a h) (omega arith) (omega arith)
 
@@ -23,10 +25,12 @@ upper_small_of : (z : ℤ) → FitsSigned w64 z → cast_unsigned w64 z / 2 ^ 32
 upper_small_of (pos n) fits = omega (arith, fits.sfits)
 upper_small_of (negsuc n) fits = omega arith
 
+-- The upper half of a product that fits in 64 bits with a sign is a word.
 pub upper_small : (z : ℤ) → FitsSigned w64 z → upper z < 2 ^ 32
 unfolding upper
 upper_small z fits = upper_small_of z fits
 
+-- The upper half of the product of two words as natural numbers is a word.
 pub upper_of_naturals_small : (a b : ℕ) → a < 2 ^ 32 → b < 2 ^ 32 → a * b / 2 ^ 32 < 2 ^ 32
 upper_of_naturals_small a b h g = div_below (a * b) (2 ^ 32) (2 ^ 32) (omega arith) (mul-lt a b (2 ^ 32) (2 ^ 32) h g)
 
@@ -47,6 +51,7 @@ joined z low fits e =
     let whole : cast_unsigned w64 z / 2 ^ 32 * 2 ^ 32 + low ≡ cast_unsigned w64 z = omega arith in
     ap (cast_signed w64) whole ∙ to_z-of_z w64 z fits
 
+-- The two halves of the product of two words in two's complement are together that product.
 pub signed_halves : (a b : ℕ) → a < 2 ^ 32 → b < 2 ^ 32 →
     cast_signed w64 (upper (signed a *ℤ signed b) * 2 ^ 32 + a * b % 2 ^ 32) ≡ signed a *ℤ signed b
 signed_halves a b h g =
@@ -59,6 +64,7 @@ pub wrapped_word : (b : ℕ) → b < 2 ^ 32 → int_wrap w32 (pos b) ≡ signed 
 unfolding int_wrap
 wrapped_word b h = ap signed (let e : b % 2 ^ 32 ≡ b = omega arith in e)
 
+-- The two halves of the product of a word in two's complement and a natural number are together that product.
 pub mixed_halves : (a b : ℕ) → a < 2 ^ 32 → b < 2 ^ 32 →
     cast_signed w64 (upper (signed a *ℤ pos b) * 2 ^ 32 + a * b % 2 ^ 32) ≡ signed a *ℤ pos b
 mixed_halves a b h g =

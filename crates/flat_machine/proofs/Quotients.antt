@@ -41,6 +41,7 @@ word_of_small : (z : ℤ) → unsigned_abs z ≤ 2 ^ 31 → cast_unsigned w32 z 
 word_of_small (pos n) h = omega arith
 word_of_small (negsuc n) h = omega arith
 
+-- The quotient in two's complement is a word if the dividend is one.
 pub quotient_small : (a b : ℕ) → a < 2 ^ 32 → quotient a b < 2 ^ 32
 unfolding quotient
 quotient_small a b h = by (eqb b 0) (overflows a b)
@@ -50,6 +51,7 @@ quotient_small a b h = by (eqb b 0) (overflows a b)
     by false true = omega arith
     by false false = word_of_small (int_div (signed a) (signed b)) (omega (arith, quotient_size (signed a) (signed b), signed_size a h))
 
+-- The remainder in two's complement is a word if the dividend is one.
 pub remainder_small : (a b : ℕ) → a < 2 ^ 32 → remainder a b < 2 ^ 32
 unfolding remainder
 remainder_small a b h = by (eqb b 0) (overflows a b)
@@ -59,6 +61,7 @@ remainder_small a b h = by (eqb b 0) (overflows a b)
     by false true = omega arith
     by false false = word_of_small (int_rem (signed a) (signed b)) (omega (arith, remainder_size (signed a) (signed b), signed_size a h))
 
+-- The quotient of natural numbers, 2^32 - 1 for a divisor of zero, is a word if the dividend is one.
 pub natural_quotient_small : (a b : ℕ) → a < 2 ^ 32 → cond (eqb b 0) (2 ^ 32 - 1) (a / b) < 2 ^ 32
 natural_quotient_small a b h = by (eqb b 0)
   where
@@ -66,6 +69,7 @@ natural_quotient_small a b h = by (eqb b 0)
     by true = omega arith
     by false = omega (arith, quotient_of_naturals a b)
 
+-- The remainder of natural numbers, the dividend for a divisor of zero, is a word if the dividend is one.
 pub natural_remainder_small : (a b : ℕ) → a < 2 ^ 32 → cond (eqb b 0) a (a % b) < 2 ^ 32
 natural_remainder_small a b h = by (eqb b 0)
   where
@@ -75,6 +79,8 @@ natural_remainder_small a b h = by (eqb b 0)
 
 -- ---- natural numbers
 
+-- If the divisor is not zero, quotient times divisor plus remainder is the dividend,
+-- and the remainder is below the divisor.
 pub natural_division : (a b : ℕ) → b ≢ 0 → (cond (eqb b 0) (2 ^ 32 - 1) (a / b) * b + cond (eqb b 0) a (a % b) ≡ a) × (cond (eqb b 0) a (a % b) < b)
 natural_division a b some = rw (ne_eqb b 0 some) (div-add-mod' a b, mod_below a b (omega arith))
 
@@ -134,6 +140,8 @@ signed_remainder a b h some normal =
 
 -- ---- what the law says
 
+-- In two's complement, quotient times divisor plus remainder is the dividend,
+-- if the divisor is not zero and the quotient does not overflow.
 pub signed_division : (a b : ℕ) → a < 2 ^ 32 → b < 2 ^ 32 → b ≢ 0 → overflows a b ≡ false →
     signed (quotient a b) *ℤ signed b +ℤ signed (remainder a b) ≡ signed a
 signed_division a b h g some normal =
@@ -147,6 +155,7 @@ overflow_is a b over =
     let parts = and_parts (eqb a (2 ^ 31)) (eqb b (2 ^ 32 - 1)) over in
     (eqb-true a (2 ^ 31) parts.0, eqb-true b (2 ^ 32 - 1) parts.1)
 
+-- If the quotient overflows, it is 2^31 and the remainder is 0.
 pub at_overflow : (a b : ℕ) → overflows a b ≡ true → (quotient a b ≡ 2 ^ 31) × (remainder a b ≡ 0)
 unfolding quotient remainder
 at_overflow a b over =
@@ -166,6 +175,7 @@ modulo_word q b r a q_small b_small r_small a_small e =
     let word : (low + r) % 2 ^ 32 ≡ a = word_of ((low + r) % 2 ^ 32) (signed a) (omega arith) (sum ∙ product ∙ whole) ∙ of_z-to_z w32 a a_small in
     omega arith
 
+-- As words, modulo 2^32, quotient times divisor plus remainder is the dividend if the divisor is not zero.
 pub word_division : (a b : ℕ) → a < 2 ^ 32 → b < 2 ^ 32 → b ≢ 0 → (quotient a b * b + remainder a b) % 2 ^ 32 ≡ a
 word_division a b h g some = by (overflows a b) refl
   where
@@ -180,6 +190,7 @@ word_division a b h g some = by (overflows a b) refl
 divisor_size : (b : ℕ) → b < 2 ^ 32 → b ≢ 0 → 0 < unsigned_abs (signed b)
 divisor_size b h some = grind arith
 
+-- A remainder in two's complement is nearer to zero than the divisor, if that is not zero.
 pub remainder_is_nearer : (a b : ℕ) → a < 2 ^ 32 → b < 2 ^ 32 → b ≢ 0 → unsigned_abs (signed (remainder a b)) < unsigned_abs (signed b)
 remainder_is_nearer a b h g some = by (overflows a b) refl
   where
@@ -200,6 +211,7 @@ remainder_by_zero : (a : ℕ) → remainder a 0 ≡ a
 unfolding remainder
 remainder_by_zero a = refl
 
+-- A remainder in two's complement that is not zero has the sign of the dividend.
 pub remainder_has_the_sign : (a b : ℕ) → a < 2 ^ 32 → remainder a b ≢ 0 → is_negative (signed (remainder a b)) ≡ is_negative (signed a)
 remainder_has_the_sign a zero h some = ap (λ n. is_negative (signed n)) (remainder_by_zero a)
 remainder_has_the_sign a (suc b) h some = by (overflows a (suc b)) refl

@@ -11,10 +11,12 @@ use Rattle.flat_machine.specs.State.{FlatState, Processor, is_running, status_of
 use Rattle.flat_machine.specs.Turns.{Turn, Retires, Reaches, Stops, turn_of}
 use Rattle.flat_machine.specs.Flat.{taken, with_taken, step_of, turned, turn_event, flat_step, flat_event, flat_run, flat_events, with_processor_number}
 
+-- A run over two lists of entries is a run over the first and then one over the second.
 pub run_append : (m : FlatState) (first second : List Entry) → flat_run m (first ++ second) ≡ flat_run (flat_run m first) second
 run_append m [] second = refl
 run_append m (e ∷ es) second = run_append (flat_step m e) es second
 
+-- The events of two lists of entries are those of the first, and then those of the second from where the first ends.
 pub events_append : (m : FlatState) (first second : List Entry) → flat_events m (first ++ second) ≡ flat_events m first ++ flat_events (flat_run m first) second
 events_append m [] second = refl
 events_append m (e ∷ es) second =
@@ -39,6 +41,7 @@ stop_turned m k p cause true r e =
     rw r (ap (with_taken m k) stops)
 stop_turned m k p cause false r e = let e' = rw r at e in absurd (cc)
 
+-- If a processor's step stops it, the step changes nothing but its status.
 pub stop_changes_status : (m : FlatState) (k : ℕ) (p : Processor) (cause : Cause) → slice_get m.processors k ≡ Some p →
     flat_event m (entry.Processor k) ≡ Some (Stopped cause) →
     flat_step m (entry.Processor k) ≡ record m { processors = slice_set m.processors k (record p { status = status_of cause }) }
@@ -46,6 +49,7 @@ unfolding flat_step flat_event
 stop_changes_status m k p cause at e =
     ap (turned m k) at ∙ stop_turned m k p cause (is_running p.status) refl (ap (turn_event m k) (sym at) ∙ e)
 
+-- A step of a processor that does not run leaves the machine as it is.
 pub stopped_stays : (m : FlatState) (k : ℕ) (p : Processor) → slice_get m.processors k ≡ Some p → is_running p.status ≡ false →
     flat_step m (entry.Processor k) ≡ m
 unfolding flat_step
@@ -69,6 +73,7 @@ others_turned m k other (Some p) ne = by_running (is_running p.status)
     by_running true = set_other m.processors k other (step_of m k p).0 ne
     by_running false = refl
 
+-- A processor's step leaves each other processor as it is.
 pub others_kept : (m : FlatState) (k other : ℕ) → other ≢ k → slice_get (flat_step m (entry.Processor k)).processors other ≡ slice_get m.processors other
 unfolding flat_step
 others_kept m k other ne = others_turned m k other (slice_get m.processors k) ne
@@ -98,6 +103,7 @@ word_turned m k (Some p) = by_running (is_running p.status)
     by_running true = (reached (turn_of (setting_of m k) m.code p), others_taken p m.shared (turn_of (setting_of m k) m.code p))
     by_running false = (0, λ other ne. refl)
 
+-- A processor's step changes at most one shared word.
 pub one_word : (m : FlatState) (k : ℕ) → (word : ℕ)
     × ((other : ℕ) → other ≢ word → slice_get (flat_step m (entry.Processor k)).shared other ≡ slice_get m.shared other)
 unfolding flat_step OneWord
@@ -111,6 +117,7 @@ code_turned m k (Some p) = by_running (is_running p.status)
     by_running true = refl
     by_running false = refl
 
+-- A processor's step leaves code as it is.
 pub code_kept : (m : FlatState) (k : ℕ) → (flat_step m (entry.Processor k)).code ≡ m.code
 unfolding flat_step
 code_kept m k = code_turned m k (slice_get m.processors k)

@@ -28,6 +28,7 @@ use Rattle.flat_machine.proofs.Quotients.{natural_quotient_small, natural_remain
 
 -- ---- operations
 
+-- A sum modulo 2^32 is a word.
 pub sum_small : (a b : ℕ) → plus a b < 2 ^ 32
 unfolding plus
 sum_small a b = omega arith
@@ -100,6 +101,7 @@ loaded_small Lhu old h = omega arith
 
 -- ---- effects
 
+-- What is read of a register is a word, if all registers hold words.
 pub register_small : (registers : List ℕ) (r : ℕ) → AreBelow (2 ^ 32) registers → register_of registers r < 2 ^ 32
 unfolding register_of
 register_small registers r all = by_register (eqb r 0)

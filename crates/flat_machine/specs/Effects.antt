@@ -1,7 +1,8 @@
 -- What each instruction does in a processor with this pc and these registers: one line a shape.
 use Rattle.std.specs.Prelude.{ℕ, ◌*◌, ◌/◌, ◌%◌, ◌^◌, Bool, ◌==◌, List, slice_index, slice_set, if◌then◌else◌}
 use Rattle.rv_table.specs.declared.insn.Insn.{Insn}
-use Rattle.rv_table.specs.declared.insn.Insn.TheVariants.{Op, OpImm, Shift, Load, Store, Branch, Upper, Jal, Jalr, Fence, Ecall, Ebreak, Amo}
+use Rattle.rv_table.specs.declared.insn.Insn.TheVariants.{Op, OpImm, Shift, Load, Store, Branch, Upper, Jal, Jalr}
+use Rattle.rv_table.specs.declared.insn.Insn.TheVariants.{Fence, Ecall, Ebreak, Amo}
 use Rattle.rv_table.specs.declared.operation.UpperOp.TheVariants.{Lui, Auipc}
 use Rattle.flat_machine.specs.declared.fault.Fault.TheVariants.{UnknownCall, Breakpoint}
 use Rattle.flat_machine.specs.declared.effect.Effect.{Effect}
@@ -29,13 +30,16 @@ call_of s a7 a0 =
 
 module _ (s : Setting) (pc : ℕ) (registers : List ℕ) where
   unfoldable pub effect_of : Insn → Effect
-  effect_of (Op op rd rs1 rs2) = does.Write rd (register_value op (register_of registers rs1) (register_of registers rs2))
+  effect_of (Op op rd rs1 rs2) =
+      does.Write rd (register_value op (register_of registers rs1) (register_of registers rs2))
   effect_of (OpImm op rd rs1 imm) = does.Write rd (immediate_value op (register_of registers rs1) (extended 12 imm))
   effect_of (Shift op rd rs1 amount) = does.Write rd (shift_value op (register_of registers rs1) amount)
   effect_of (Load op rd rs1 imm) = does.Load op rd (plus (register_of registers rs1) (extended 12 imm))
-  effect_of (Store op rs1 rs2 imm) = does.Store op (plus (register_of registers rs1) (extended 12 imm)) (register_of registers rs2)
+  effect_of (Store op rs1 rs2 imm) =
+      does.Store op (plus (register_of registers rs1) (extended 12 imm)) (register_of registers rs2)
   effect_of (Branch op rs1 rs2 offset) =
-      if is_taken op (register_of registers rs1) (register_of registers rs2) then does.Jump 0 0 (plus pc (extended 13 (2 * offset))) else does.Pass
+      if is_taken op (register_of registers rs1) (register_of registers rs2)
+      then does.Jump 0 0 (plus pc (extended 13 (2 * offset))) else does.Pass
   effect_of (Upper Lui rd upper) = does.Write rd (upper * 2 ^ 12)
   effect_of (Upper Auipc rd upper) = does.Write rd (plus pc (upper * 2 ^ 12))
   effect_of (Jal rd offset) = does.Jump rd (plus pc 4) (plus pc (extended 21 (2 * offset)))

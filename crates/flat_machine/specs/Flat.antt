@@ -68,7 +68,8 @@ with_processor m k change None = m
 with_processor m k change (Some p) = record m { processors = slice_set m.processors k (change p) }
 
 abbrev pub written : FlatState → Poke → FlatState
-written m (poke.Register k register value) = with_processor m k (with_poked_register register value) (slice_get m.processors k)
+written m (poke.Register k register value) =
+    with_processor m k (with_poked_register register value) (slice_get m.processors k)
 written m (poke.Local k address value) = with_processor m k (with_poked_byte address value) (slice_get m.processors k)
 written m (poke.Shared address value) = record m { shared = with_shared_byte address value m.shared }
 

@@ -89,31 +89,38 @@ abbrev pub StopChangesStatus : Type 0
 StopChangesStatus =
     (m : FlatState) (k : ℕ) (p : Processor) (cause : Cause) → slice_get m.processors k ≡ Some p →
     flat_event m (entry.Processor k) ≡ Some (Stopped cause) →
-    flat_step m (entry.Processor k) ≡ record m { processors = slice_set m.processors k (record p { status = status_of cause }) }
+    flat_step m (entry.Processor k)
+    ≡ record m { processors = slice_set m.processors k (record p { status = status_of cause }) }
 
 -- there is a word such that a processor's step changes no other
 abbrev pub ChangesOneWord : Type 0
 ChangesOneWord =
-    (m : FlatState) (k : ℕ) → (word : ℕ) × ((other : ℕ) → other ≢ word → slice_get (flat_step m (entry.Processor k)).shared other ≡ slice_get m.shared other)
+    (m : FlatState) (k : ℕ) →
+    (word : ℕ)
+    × ((other : ℕ) → other ≢ word → slice_get (flat_step m (entry.Processor k)).shared other ≡ slice_get m.shared other)
 
 -- steps of two processors that reach no shared word leave the same in either order
 abbrev pub LocalTurnsCommute : Type 0
 LocalTurnsCommute =
-    (m : FlatState) (j k : ℕ) → j ≢ k → IsLocalAt m j (slice_get m.processors j) → IsLocalAt m k (slice_get m.processors k) →
-    flat_step (flat_step m (entry.Processor j)) (entry.Processor k) ≡ flat_step (flat_step m (entry.Processor k)) (entry.Processor j)
+    (m : FlatState) (j k : ℕ) → j ≢ k → IsLocalAt m j (slice_get m.processors j) →
+    IsLocalAt m k (slice_get m.processors k) →
+    flat_step (flat_step m (entry.Processor j)) (entry.Processor k)
+    ≡ flat_step (flat_step m (entry.Processor k)) (entry.Processor j)
 
 -- ---- words of effects and turns
 
 -- an instruction asks for words, where its operands are words
 abbrev pub EffectsAskForWords : Type 0
 EffectsAskForWords =
-    (s : Setting) (pc : ℕ) (registers : List ℕ) (i : Insn) → s.number < 2 ^ 32 → s.processors < 2 ^ 32 → AreBelow (2 ^ 32) registers → InRange i →
+    (s : Setting) (pc : ℕ) (registers : List ℕ) (i : Insn) → s.number < 2 ^ 32 → s.processors < 2 ^ 32 →
+    AreBelow (2 ^ 32) registers → InRange i →
     AsksForWords (effect_of s pc registers i)
 
 -- a turn leaves words, where the processor has words and code is bytes
 abbrev pub TurnsLeaveWords : Type 0
 TurnsLeaveWords =
-    (s : Setting) (code : List ℕ) (p : Processor) → s.number < 2 ^ 32 → s.processors < 2 ^ 32 → AreBelow 256 code → HasWords p →
+    (s : Setting) (code : List ℕ) (p : Processor) → s.number < 2 ^ 32 → s.processors < 2 ^ 32 → AreBelow 256 code →
+    HasWords p →
     LeavesWords (turn_of s code p)
 
 -- ---- products and quotients
@@ -125,16 +132,20 @@ NaturalHalves = (a b : ℕ) → register_value reg.Mulhu a b * 2 ^ 32 + register
 -- the halves of the product of two words in two's complement are the product, in two's complement of 64 bits
 abbrev pub SignedHalves : Type 0
 SignedHalves =
-    (a b : ℕ) → a < 2 ^ 32 → b < 2 ^ 32 → cast_signed w64 (register_value reg.Mulh a b * 2 ^ 32 + register_value reg.Mul a b) ≡ signed a *ℤ signed b
+    (a b : ℕ) → a < 2 ^ 32 → b < 2 ^ 32 →
+    cast_signed w64 (register_value reg.Mulh a b * 2 ^ 32 + register_value reg.Mul a b) ≡ signed a *ℤ signed b
 
 -- so are those of a word in two's complement and a natural number
 abbrev pub MixedHalves : Type 0
 MixedHalves =
-    (a b : ℕ) → a < 2 ^ 32 → b < 2 ^ 32 → cast_signed w64 (register_value reg.Mulhsu a b * 2 ^ 32 + register_value reg.Mul a b) ≡ signed a *ℤ pos b
+    (a b : ℕ) → a < 2 ^ 32 → b < 2 ^ 32 →
+    cast_signed w64 (register_value reg.Mulhsu a b * 2 ^ 32 + register_value reg.Mul a b) ≡ signed a *ℤ pos b
 
--- a quotient of natural numbers times the divisor, and the remainder, are the dividend; the remainder is less than the divisor
+-- a quotient of natural numbers times the divisor, and the remainder, are the dividend; the remainder is less than the
+-- divisor
 abbrev pub NaturalDivision : Type 0
-NaturalDivision = (a b : ℕ) → b ≢ 0 → (register_value reg.Divu a b * b + register_value reg.Remu a b ≡ a) × (register_value reg.Remu a b < b)
+NaturalDivision = (a b : ℕ) → b ≢ 0 →
+    (register_value reg.Divu a b * b + register_value reg.Remu a b ≡ a) × (register_value reg.Remu a b < b)
 
 -- in two's complement they are the dividend too, unless the quotient is no word
 abbrev pub SignedDivision : Type 0
@@ -145,24 +156,30 @@ SignedDivision =
 -- and as words, modulo 2^32, always
 abbrev pub WordDivision : Type 0
 WordDivision =
-    (a b : ℕ) → a < 2 ^ 32 → b < 2 ^ 32 → b ≢ 0 → (register_value reg.Div a b * b + register_value reg.Rem a b) % 2 ^ 32 ≡ a
+    (a b : ℕ) → a < 2 ^ 32 → b < 2 ^ 32 → b ≢ 0 →
+    (register_value reg.Div a b * b + register_value reg.Rem a b) % 2 ^ 32 ≡ a
 
 -- a remainder in two's complement is nearer to zero than the divisor
 abbrev pub RemainderIsNearer : Type 0
 RemainderIsNearer =
-    (a b : ℕ) → a < 2 ^ 32 → b < 2 ^ 32 → b ≢ 0 → unsigned_abs (signed (register_value reg.Rem a b)) < unsigned_abs (signed b)
+    (a b : ℕ) → a < 2 ^ 32 → b < 2 ^ 32 → b ≢ 0 →
+    unsigned_abs (signed (register_value reg.Rem a b)) < unsigned_abs (signed b)
 
 -- and it has the dividend's sign, unless it is zero
 abbrev pub RemainderHasTheSign : Type 0
 RemainderHasTheSign =
-    (a b : ℕ) → a < 2 ^ 32 → register_value reg.Rem a b ≢ 0 → is_negative (signed (register_value reg.Rem a b)) ≡ is_negative (signed a)
+    (a b : ℕ) → a < 2 ^ 32 → register_value reg.Rem a b ≢ 0 →
+    is_negative (signed (register_value reg.Rem a b)) ≡ is_negative (signed a)
 
 -- by zero, a quotient has all bits, and a remainder is the dividend
 abbrev pub DivisionByZero : Type 0
 DivisionByZero =
-    (a : ℕ) → (register_value reg.Div a 0 ≡ 2 ^ 32 - 1) × (register_value reg.Divu a 0 ≡ 2 ^ 32 - 1) × (register_value reg.Rem a 0 ≡ a)
+    (a : ℕ) →
+    (register_value reg.Div a 0 ≡ 2 ^ 32 - 1) × (register_value reg.Divu a 0 ≡ 2 ^ 32 - 1)
+    × (register_value reg.Rem a 0 ≡ a)
     × (register_value reg.Remu a 0 ≡ a)
 
 -- where the quotient is no word it is the dividend, which is -2^31, and the remainder is zero
 abbrev pub DivisionOverflow : Type 0
-DivisionOverflow = (a b : ℕ) → overflows a b ≡ true → (register_value reg.Div a b ≡ 2 ^ 31) × (register_value reg.Rem a b ≡ 0)
+DivisionOverflow = (a b : ℕ) → overflows a b ≡ true →
+    (register_value reg.Div a b ≡ 2 ^ 31) × (register_value reg.Rem a b ≡ 0)

@@ -15,7 +15,8 @@ number_at bytes place (suc size) = slice_index bytes place + 256 * number_at byt
 -- the bytes with the low `size` bytes of a number from a place on
 unfoldable pub with_number : List ℕ → (place size value : ℕ) → List ℕ
 with_number bytes place zero value = bytes
-with_number bytes place (suc size) value = with_number (slice_set bytes place (value % 256)) (place + 1) size (value / 256)
+with_number bytes place (suc size) value =
+    with_number (slice_set bytes place (value % 256)) (place + 1) size (value / 256)
 
 -- The memory map: code from 0x00010000, local memory from 0x00020000, each of 2^16 bytes; shared words from 0x80000000.
 abbrev pub in_code : ℕ → Bool

@@ -1,9 +1,10 @@
 -- What the operations of each shape compute: one line a row of the table.
 --
 -- Source: the manual's "Integer Computational Instructions", "Multiplication Operations", "Division Operations",
--- "Conditional Branches", "Load and Store Instructions" and "Atomic Memory Operations". `a` is x[rs1], `b` is x[rs2], `i`
--- the extended immediate or the shift amount.
-use Rattle.std.specs.Prelude.{ℕ, ◌-◌, ◌*◌, ◌/◌, ◌%◌, ◌^◌, pos, ◌*ℤ◌, Bool, ◌==◌, not, bit_and, bit_or, bit_xor, nat_lt, if◌then◌else◌}
+-- "Conditional Branches", "Load and Store Instructions" and "Atomic Memory Operations". `a` is x[rs1], `b` is x[rs2],
+-- `i` the extended immediate or the shift amount.
+use Rattle.std.specs.Prelude.{ℕ, ◌-◌, ◌*◌, ◌/◌, ◌%◌, ◌^◌, pos, ◌*ℤ◌, Bool, ◌==◌, not, bit_and, bit_or, bit_xor, nat_lt}
+use Rattle.std.specs.Prelude.{if◌then◌else◌}
 use Rattle.std.specs.Int.{w32, cast_unsigned, int_shr}
 use Rattle.rv_table.specs.declared.operation.RegisterOp.{RegisterOp}
 use Rattle.rv_table.specs.declared.operation.RegisterOp.TheVariants as reg

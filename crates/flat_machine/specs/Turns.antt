@@ -1,5 +1,6 @@
 -- One turn of a processor, as far as it goes alone.
-use Rattle.std.specs.Prelude.{ℕ, ◌*◌, ◌%◌, ◌^◌, Bool, true, false, ◌==◌, not, List, [], ◌∷◌, ◌++◌, Option, Some, None, Result, Ok, Err, if◌then◌else◌}
+use Rattle.std.specs.Prelude.{ℕ, ◌*◌, ◌%◌, ◌^◌, Bool, true, false, ◌==◌, not, List, [], ◌∷◌, ◌++◌, Option, Some, None}
+use Rattle.std.specs.Prelude.{Result, Ok, Err, if◌then◌else◌}
 use Rattle.rv_table.specs.Rows.{insn_of}
 use Rattle.rv_table.specs.declared.insn.Insn.{Insn}
 use Rattle.flat_machine.specs.declared.fault.Fault.{Fault}
@@ -21,7 +22,8 @@ use Rattle.flat_machine.specs.Memory.{number_at, with_number, in_code, region_of
 pub data Turn : Type 0 where
   -- The instruction needs nothing but the processor's own: what the processor becomes, and the event.
   Retires : Processor → Retired → Turn
-  -- It acts on a shared word: which, what becomes of the word, and of the processor with the event, each by the word before.
+  -- It acts on a shared word: which, what becomes of the word, and of the processor with the event, each by the word
+  -- before.
   Reaches : (word : ℕ) → (change : ℕ → ℕ) → (after : ℕ → Processor × Retired) → Turn
   -- The processor stops.
   Stops : Cause → Turn
@@ -36,14 +38,15 @@ abbrev pub IsReference : Turn → Type 0
 IsReference (Reaches word change after) = Unit {0}
 IsReference _ = ⊥
 
--- what an instruction that retires gives the console, behind what is there
+-- what an instruction that retires gives the console, after what is there
 abbrev pub with_byte : List ℕ → Option ℕ → List ℕ
 with_byte console None = console
 with_byte console (Some byte) = console ++ byte ∷ []
 
 -- the event of an instruction at pc that wrote a register
 abbrev pub retired_writing : (pc : ℕ) → Insn → (rd value : ℕ) → Retired
-retired_writing pc insn rd value = record { pc = pc; insn = insn; result = if rd == 0 then None else Some value; out = None }
+retired_writing pc insn rd value =
+    record { pc = pc; insn = insn; result = if rd == 0 then None else Some value; out = None }
 
 -- the event of an instruction at pc that printed a byte
 abbrev pub retired_printing : (pc : ℕ) → Insn → (byte : ℕ) → Retired
@@ -56,9 +59,10 @@ gone_to target rd value p = record p { pc = target; registers = with_register p.
 abbrev pub next_pc : Processor → ℕ
 next_pc p = plus p.pc 4
 
--- An access of `size` bytes at an address: rd gets `value` of the old number there, which, if the access writes, becomes
--- `change` of it.
-module _ (code : List ℕ) (p : Processor) (insn : Insn) (size address rd : ℕ) (value change : ℕ → ℕ) (writes : Bool) where
+-- An access of `size` bytes at an address: rd gets `value` of the old number there, which, if the access writes,
+-- becomes `change` of it.
+module _ (code : List ℕ) (p : Processor) (insn : Insn) (size address rd : ℕ) (value change : ℕ →
+    ℕ) (writes : Bool) where
   abbrev pub read : ℕ → Processor
   read old = gone_to (next_pc p) rd (value old) p
 
@@ -72,7 +76,8 @@ module _ (code : List ℕ) (p : Processor) (insn : Insn) (size address rd : ℕ)
       (λ x. (read (part_of size (address % 4) x), read_event (part_of size (address % 4) x)))
   accessed (Ok (region.Local place)) =
       let old = number_at p.local place size in
-      Retires (record (read old) { local = if writes then with_number p.local place size (change old) else p.local }) (read_event old)
+      Retires (record (read old) { local = if writes then with_number p.local place size (change old) else p.local })
+      (read_event old)
   accessed (Ok (region.Code place)) = let old = number_at code place size in Retires (read old) (read_event old)
   accessed (Err fault) = Stops (cause.Fault fault)
 
@@ -80,12 +85,15 @@ module _ (code : List ℕ) (p : Processor) (insn : Insn) (size address rd : ℕ)
 abbrev pub performed : Setting → List ℕ → Processor → Insn → Effect → Turn
 performed s code p i (does.Write rd value) = Retires (gone_to (next_pc p) rd value p) (retired_writing p.pc i rd value)
 performed s code p i (does.Jump rd value target) =
-    if target % 4 == 0 then Retires (gone_to target rd value p) (retired_writing p.pc i rd value) else Stops (cause.Fault TargetNotAligned)
+    if target % 4 == 0 then Retires (gone_to target rd value p) (retired_writing p.pc i rd value)
+    else Stops (cause.Fault TargetNotAligned)
 performed s code p i does.Pass = Retires (gone_to (next_pc p) 0 0 p) (retired_writing p.pc i 0 0)
 performed s code p i (does.Load op rd address) =
-    accessed code p i (load_size op) address rd (loaded op) (λ old. old) false (region_of s (load_size op) address false)
+    accessed code p i (load_size op) address rd (loaded op) (λ old. old) false
+    (region_of s (load_size op) address false)
 performed s code p i (does.Store op address value) =
-    accessed code p i (store_size op) address 0 (λ old. 0) (λ old. value) true (region_of s (store_size op) address true)
+    accessed code p i (store_size op) address 0 (λ old. 0) (λ old. value) true
+    (region_of s (store_size op) address true)
 performed s code p i (does.Amo op rd address value) =
     accessed code p i 4 address rd (λ old. old) (λ old. amo_value op old value) true (region_of s 4 address true)
 performed s code p i (does.Print byte) = Retires (gone_to (next_pc p) 0 0 p) (retired_printing p.pc i byte)

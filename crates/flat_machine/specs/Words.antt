@@ -1,5 +1,6 @@
 -- The arithmetic of 32-bit words, which stand as numbers below 2^32.
-use Rattle.std.specs.Prelude.{ℕ, ◌+◌, ◌-◌, ◌*◌, ◌/◌, ◌%◌, ◌^◌, ℤ, int_div, int_rem, Bool, ◌==◌, ◌&&◌, nat_lt, int_lt, if◌then◌else◌}
+use Rattle.std.specs.Prelude.{ℕ, ◌+◌, ◌-◌, ◌*◌, ◌/◌, ◌%◌, ◌^◌, ℤ, int_div, int_rem, Bool, ◌==◌, ◌&&◌, nat_lt, int_lt}
+use Rattle.std.specs.Prelude.{if◌then◌else◌}
 use Rattle.std.specs.Int.{w32, w64, cast_signed, cast_unsigned}
 
 -- a sum modulo 2^32
@@ -54,4 +55,5 @@ part_of size offset word = word / 2 ^ (8 * offset) % 2 ^ (8 * size)
 
 unfoldable pub with_part : (size offset word value : ℕ) → ℕ
 with_part size offset word value =
-    word / 2 ^ (8 * (offset + size)) * 2 ^ (8 * (offset + size)) + value % 2 ^ (8 * size) * 2 ^ (8 * offset) + word % 2 ^ (8 * offset)
+    word / 2 ^ (8 * (offset + size)) * 2 ^ (8 * (offset + size)) + value % 2 ^ (8 * size) * 2 ^
+    (8 * offset) + word % 2 ^ (8 * offset)

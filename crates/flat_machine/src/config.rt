@@ -42,8 +42,8 @@ pub struct Config {
     pub c: u8,
     /// How many records a wait buffer holds: 0 to 16.
     pub b: u8,
-    /// How often an entry of a queue is combined, at most: 1 to 3, and less than `c`, so that a queue has room for all replies of
-    /// an entry.
+    /// How often an entry of a queue is combined, at most: 1 to 3, and less than `c`, so that a queue has room for all
+    /// replies of an entry.
     pub r: u8,
     /// How many words the shared memory has: 1 to 262,144.
     pub shared_words: u32,

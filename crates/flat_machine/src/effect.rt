@@ -58,8 +58,8 @@ pub enum Effect {
 pub enum Region {
     /// To the shared word of this number, from 0.
     Shared { word: u32 },
-    /// To local memory, so many bytes from its first address: 0 to 65,535.
+    /// To local memory, this many bytes from its first address: 0 to 65,535.
     Local { place: u32 },
-    /// To code, so many bytes from its first address: 0 to 65,535.
+    /// To code, this many bytes from its first address: 0 to 65,535.
     Code { place: u32 },
 }

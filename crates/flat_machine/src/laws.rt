@@ -13,13 +13,15 @@ ghost use Rattle.flat_machine.specs.Laws.{DivisionOverflow};
 /// Register 0 always holds 0.
 #[tactic(auto, using(crate::proofs::Kept::zero_kept))]
 pub fn register_zero_is_zero()
-    ensures { (m : FlatState) (entries : List Entry) → All HasZero m.processors → All HasZero (flat_run m entries).processors }
+    ensures { (m : FlatState) (entries : List Entry) → All HasZero m.processors →
+        All HasZero (flat_run m entries).processors }
 {}
 
 /// Every `pc` stays divisible by 4.
 #[tactic(auto, using(crate::proofs::Kept::alignment_kept))]
 pub fn pc_stays_aligned()
-    ensures { (m : FlatState) (entries : List Entry) → All HasAlignedPc m.processors → All HasAlignedPc (flat_run m entries).processors }
+    ensures { (m : FlatState) (entries : List Entry) → All HasAlignedPc m.processors →
+        All HasAlignedPc (flat_run m entries).processors }
 {}
 
 /// An instruction that stops its processor, by a fault or by a halt, changes nothing but the status.
@@ -58,7 +60,8 @@ pub fn local_turns_commute()
 /// A run over two lists is a run over the first, and then one over the second.
 #[tactic(auto, using(crate::proofs::Steps::run_append, crate::proofs::Steps::events_append))]
 pub fn runs_join()
-    ensures state { (m : FlatState) (first second : List Entry) → flat_run m (first ++ second) ≡ flat_run (flat_run m first) second }
+    ensures state { (m : FlatState) (first second : List Entry) →
+        flat_run m (first ++ second) ≡ flat_run (flat_run m first) second }
     ensures events { (m : FlatState) (first second : List Entry)
         → flat_events m (first ++ second) ≡ flat_events m first ++ flat_events (flat_run m first) second }
 {}
@@ -70,7 +73,8 @@ pub fn runs_join()
 pub fn words_stay_words()
     ensures effect { EffectsAskForWords }
     ensures turn { TurnsLeaveWords }
-    ensures run { (m : FlatState) (entries : List Entry) → IsInRange m → All WritesWords entries → IsInRange (flat_run m entries) }
+    ensures run { (m : FlatState) (entries : List Entry) → IsInRange m → All WritesWords entries →
+        IsInRange (flat_run m entries) }
 {}
 
 /// What products and quotients have to do with their operands. The two halves of a product are the

@@ -1,4 +1,4 @@
--- Each step of the table keeps the rule that the keeper and the claims agree.
+-- Each step of the table keeps the rule that the authority and the fragments agree.
 use Rattle.std.proofs.Common.{◌≡◌, ◌≢◌, ◌⊎◌, ℕ, zero, suc, ◌<◌, List, [], ◌∷◌, ◌++◌, length}
 use Rattle.std.proofs.Common.{set, Some, Bool, true, false, true≢false, refl, sym, ap, ◌∙◌}
 use Rattle.std.proofs.Common.{subst, ⊎_elim, arith, eqb, cond, eq-eqb, ne_eqb, inl, inr}
@@ -8,7 +8,7 @@ use lib.ListN.{get_elem?}
 use Rattle.atomic_table.specs.Table.{State, Me, Allows, Splits, Joins, keeps}
 use Rattle.atomic_table.proofs.Lists.{at_set}
 use Rattle.ghost_map.specs.declared.rule.View.{View}
-use Rattle.ghost_map.specs.Rows.{keeper, claim, nobody, let_go, hold, taken, Fits, Kept, Hired, Written}
+use Rattle.ghost_map.specs.Rows.{authority, fragment, nobody, let_go, hold, taken, Fits, Kept, Allocated, Written}
 
 off : false ≡ true → ⊥
 off e = true≢false (sym e)
@@ -68,10 +68,11 @@ module _ {R : Type 0} where
   none_held : (all : List R) (boss : ℕ) (owner : ℕ → ℕ) (at : ℕ) → Fits all boss owner at nobody
   none_held all boss owner at = ((λ k. absurd (off k)), (λ who row h. absurd (cc)))
 
-  pub begins : Kept {R = R} (keeper [] [] ∷ [])
+  -- At first the rule holds: there are no rows, and one authority that knows them and has nothing in hand.
+  pub begins : Kept {R = R} (authority [] [] ∷ [])
   begins = ([], 0, (λ k. k), one)
     where
-      one : (by : ℕ) (v : View R) → get_elem? (keeper [] [] ∷ []) by ≡ some v → Fits [] 0 (λ k. k) by v
+      one : (by : ℕ) (v : View R) → get_elem? (authority [] [] ∷ []) by ≡ some v → Fits [] 0 (λ k. k) by v
       one zero v e = subst (Fits [] 0 (λ k. k) 0) (some-injective _ _ e) ((λ _. (refl, refl)), (λ who row h. absurd (cc)))
       one (suc by) v e = absurd (some-ne-none v (sym e))
 
@@ -88,10 +89,10 @@ module _ {R : Type 0} where
   Rule s = Kept s.views
 
   pub hires : (all : List R) (row : R) (slots id i : ℕ)
-      → Allows Rule slots id (keeper all [], []) i (λ n. n) (λ n w. Hired row (keeper all [], []) w)
+      → Allows Rule slots id (authority all [], []) i (λ n. n) (λ n w. Allocated row (authority all [], []) w)
   hires all row slots id i s h len at fits =
-      let mine = (h.3 id (keeper all []) at).0 refl in
-      let w : View R = keeper (all ++ row ∷ []) ((length all, row) ∷ []) in
+      let mine = (h.3 id (authority all []) at).0 refl in
+      let w : View R = authority (all ++ row ∷ []) ((length all, row) ∷ []) in
       let more = h.0 ++ row ∷ [] in
       let owner = moved h.2 (length all) id in (
         w,
@@ -124,14 +125,15 @@ module _ {R : Type 0} where
         refl,
       )
 
+  -- With a row's fragment in hand, the authority may write that row.
   pub writes : (all : List R) (who : ℕ) (row new : R) (slots id i : ℕ)
-      → Allows Rule slots id (keeper all ((who, row) ∷ []), []) i (λ n. n)
-      (λ n w. Written new (keeper all ((who, row) ∷ []), []) w)
+      → Allows Rule slots id (authority all ((who, row) ∷ []), []) i (λ n. n)
+      (λ n w. Written new (authority all ((who, row) ∷ []), []) w)
   writes all who row new slots id i s h len at fits =
-      let f0 = h.3 id (keeper all ((who, row) ∷ [])) at in
+      let f0 = h.3 id (authority all ((who, row) ∷ [])) at in
       let mine = f0.0 refl in
       let own = f0.1 who row refl in
-      let w : View R = keeper (slice_set all who new) ((who, new) ∷ []) in
+      let w : View R = authority (slice_set all who new) ((who, new) ∷ []) in
       let now = slice_set h.0 who new in (
         w,
         keeps,
@@ -158,19 +160,19 @@ module _ {R : Type 0} where
         (λ who' r hh.
             let e : (who, row) ≡ (who', r) = cc (hh) in
             let Now : ℕ × R → Type 0 = λ p.
-            (slice_get all p.0 ≡ Some p.1) × (◌≡◌ {A = Me (Unit {0}) (View R)} (w, []) (keeper (slice_set all p.0 new) ((p.0, new) ∷ []), [])) in
+            (slice_get all p.0 ≡ Some p.1) × (◌≡◌ {A = Me (Unit {0}) (View R)} (w, []) (authority (slice_set all p.0 new) ((p.0, new) ∷ []), [])) in
             subst Now e
             (subst (λ (l : List R). slice_get l who ≡ Some row) (sym mine.1) own.1, refl)),
       )
 
   pub frees : (all : List R) (who : ℕ) (row : R) (id : ℕ)
-      → Splits Rule id (keeper all ((who, row) ∷ [])) (let_go (keeper all ((who, row) ∷ []))) (hold (keeper all ((who, row) ∷ [])))
+      → Splits Rule id (authority all ((who, row) ∷ [])) (let_go (authority all ((who, row) ∷ []))) (hold (authority all ((who, row) ∷ [])))
   frees all who row id s h at =
-      let f0 = h.3 id (keeper all ((who, row) ∷ [])) at in
+      let f0 = h.3 id (authority all ((who, row) ∷ [])) at in
       let mine = f0.0 refl in
       let own = f0.1 who row refl in
-      let left = let_go (keeper all ((who, row) ∷ [])) in
-      let right = hold (keeper all ((who, row) ∷ [])) in
+      let left = let_go (authority all ((who, row) ∷ [])) in
+      let right = hold (authority all ((who, row) ∷ [])) in
       let n = length (set s.views id left) in
       let owner = moved h.2 who n in (
         h.0,
@@ -199,12 +201,13 @@ module _ {R : Type 0} where
             (at_end (set s.views id left) right u j e),
       )
 
+  -- An authority with nothing in hand may take over the one fragment of another seat, which then has none.
   pub takes : (all : List R) (who : ℕ) (row : R) (id other : ℕ)
-      → Joins Rule id (keeper all []) other (claim ((who, row) ∷ [])) (taken (keeper all []) (claim ((who, row) ∷ []))) nobody
+      → Joins Rule id (authority all []) other (fragment ((who, row) ∷ [])) (taken (authority all []) (fragment ((who, row) ∷ []))) nobody
   takes all who row id other s h at apart there =
-      let both = taken (keeper all []) (claim ((who, row) ∷ [])) in
-      let mine = (h.3 id (keeper all []) at).0 refl in
-      let held : View R = claim ((who, row) ∷ []) in
+      let both = taken (authority all []) (fragment ((who, row) ∷ [])) in
+      let mine = (h.3 id (authority all []) at).0 refl in
+      let held : View R = fragment ((who, row) ∷ []) in
       let theirs = ⊎_elim
       (λ (t : (other ≡ id) × (both ≡ held)). absurd (apart t.0))
       (λ (t : (other ≢ id) × (get_elem? s.views other ≡ some held)). (h.3 other held t.1).1 who row refl)
@@ -236,21 +239,24 @@ module _ {R : Type 0} where
 
   -- the same at a seat that is known
   pub hires_as : (me : Me (Unit {0}) (View R)) (all : List R) (row : R) (slots id i : ℕ)
-      → me ≡ (keeper all [], []) → Allows Rule slots id me i (λ n. n) (λ n w. Hired row me w)
+      → me ≡ (authority all [], []) → Allows Rule slots id me i (λ n. n) (λ n w. Allocated row me w)
   hires_as me all row slots id i is =
-      subst (λ (m : Me (Unit {0}) (View R)). Allows Rule slots id m i (λ n. n) (λ n w. Hired row m w)) (sym is) (hires all row slots id i)
+      subst (λ (m : Me (Unit {0}) (View R)). Allows Rule slots id m i (λ n. n) (λ n w. Allocated row m w)) (sym is) (hires all row slots id i)
 
+  -- A seat that is known to be the authority's, with a row's fragment in hand, may write that row.
   pub writes_as : (me : Me (Unit {0}) (View R)) (all : List R) (who : ℕ) (row new : R) (slots id i : ℕ)
-      → me ≡ (keeper all ((who, row) ∷ []), []) → Allows Rule slots id me i (λ n. n) (λ n w. Written new me w)
+      → me ≡ (authority all ((who, row) ∷ []), []) → Allows Rule slots id me i (λ n. n) (λ n w. Written new me w)
   writes_as me all who row new slots id i is =
       subst (λ (m : Me (Unit {0}) (View R)). Allows Rule slots id m i (λ n. n) (λ n w. Written new m w)) (sym is) (writes all who row new slots id i)
 
+  -- A view known to be the authority's, with a fragment in hand, may be split into the authority and the fragment.
   pub frees_as : (v : View R) (all : List R) (who : ℕ) (row : R) (id : ℕ)
-      → v ≡ keeper all ((who, row) ∷ []) → Splits Rule id v (let_go v) (hold v)
+      → v ≡ authority all ((who, row) ∷ []) → Splits Rule id v (let_go v) (hold v)
   frees_as v all who row id is = subst (λ (v : View R). Splits Rule id v (let_go v) (hold v)) (sym is) (frees all who row id)
 
+  -- A view known to be the authority's, with nothing in hand, may take over one known to be a fragment.
   pub takes_as : (v w : View R) (all : List R) (who : ℕ) (row : R) (id other : ℕ)
-      → v ≡ keeper all [] → w ≡ claim ((who, row) ∷ []) → Joins Rule id v other w (taken v w) nobody
+      → v ≡ authority all [] → w ≡ fragment ((who, row) ∷ []) → Joins Rule id v other w (taken v w) nobody
   takes_as v w all who row id other is that =
       subst (λ (p : View R × View R). Joins Rule id p.0 other p.1 (taken p.0 p.1) nobody) (λ i. (sym is i, sym that i))
       (takes all who row id other)
@@ -261,14 +267,15 @@ module _ {R : Type 0} where
   one_of (x ∷ []) e = (x, refl)
   one_of (x ∷ y ∷ ys) e = absurd (omega arith)
 
-  -- the one row of a claim whose badge has this view
+  -- the one row of a fragment whose badge has this view
   pub known : (held : List (ℕ × R)) (views : List (View R)) (w : View R)
-      → length held ≡ 1 → views ≡ claim held ∷ [] → views ≡ w ∷ [] → (p : ℕ × R) × (held ≡ p ∷ []) × (w ≡ claim (p ∷ []))
+      → length held ≡ 1 → views ≡ fragment held ∷ [] → views ≡ w ∷ [] → (p : ℕ × R) × (held ≡ p ∷ []) × (w ≡ fragment (p ∷ []))
   known held views w len is that =
       let one = one_of held len in
-      let same : w ≡ claim held = cc (is, that) in
-      (one.0, one.1, same ∙ ap claim one.1)
+      let same : w ≡ fragment held = cc (is, that) in
+      (one.0, one.1, same ∙ ap fragment one.1)
 
+  -- An authority with nothing in hand that has taken a fragment is the authority with this fragment in hand.
   pub joined : (me now : Me (Unit {0}) (View R)) (w : View R) (p : ℕ × R)
-      → me ≡ (keeper me.0.all [], []) → w ≡ claim (p ∷ []) → now ≡ (taken me.0 w, me.1) → now ≡ (keeper me.0.all (p ∷ []), [])
+      → me ≡ (authority me.0.all [], []) → w ≡ fragment (p ∷ []) → now ≡ (taken me.0 w, me.1) → now ≡ (authority me.0.all (p ∷ []), [])
   joined me now w p is that e = e ∙ (λ i. (taken (is i).0 (that i), (is i).1))

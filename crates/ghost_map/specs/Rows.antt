@@ -1,4 +1,4 @@
--- Rows that a keeper knows whole, and of which each claim knows one.
+-- Rows that an authority knows whole, and of which each fragment knows one.
 use Rattle.std.specs.Prelude.{◌≡◌, ℕ, List, [], ◌∷◌, ◌++◌, length, Some, slice_get, slice_set, true, false}
 use mathlib.Core.Option.{some}
 use lib.ListN.{get_elem?}
@@ -11,21 +11,21 @@ abbrev pub no_table : TableId
 no_table = record { words = 0; slots = 0; views_name = 0; atom = 0; block = 0; offset = 0; slot_names = [] }
 
 module _ {R : Type 0} where
-  -- the keeper, with the claims that it has in hand
-  abbrev pub keeper : List R → List (ℕ × R) → View R
-  keeper all held = record { keeps = true; all = all; held = held }
+  -- the authority, with the fragments that it has in hand
+  abbrev pub authority : List R → List (ℕ × R) → View R
+  authority all held = record { keeps = true; all = all; held = held }
 
-  abbrev pub claim : List (ℕ × R) → View R
-  claim held = record { keeps = false; all = []; held = held }
+  abbrev pub fragment : List (ℕ × R) → View R
+  fragment held = record { keeps = false; all = []; held = held }
 
   abbrev pub nobody : View R
-  nobody = claim []
+  nobody = fragment []
 
   abbrev pub let_go : View R → View R
   let_go v = record { keeps = v.keeps; all = v.all; held = [] }
 
   abbrev pub hold : View R → View R
-  hold v = claim v.held
+  hold v = fragment v.held
 
   abbrev pub taken : View R → View R → View R
   taken v w = record { keeps = v.keeps; all = v.all; held = w.held }
@@ -42,20 +42,21 @@ module _ {R : Type 0} where
       (all : List R) × (boss : ℕ) × (owner : ℕ → ℕ)
       × ((by : ℕ) (v : View R) → get_elem? views by ≡ some v → Fits all boss owner by v)
 
-  -- the keeper has one row more, and the claim to it in hand
-  abbrev pub Hired : R → Me (Unit {0}) (View R) → Me (Unit {0}) (View R) → Type 0
-  Hired row v w = w ≡ (keeper (v.0.all ++ row ∷ []) ((length v.0.all, row) ∷ []), v.1)
+  -- the authority has one row more, and the fragment to it in hand
+  abbrev pub Allocated : R → Me (Unit {0}) (View R) → Me (Unit {0}) (View R) → Type 0
+  Allocated row v w = w ≡ (authority (v.0.all ++ row ∷ []) ((length v.0.all, row) ∷ []), v.1)
 
-  -- the claim in hand agreed with the keeper's row, which is now this one in both
+  -- the fragment in hand agreed with the authority's row, which is now this one in both
   abbrev pub Written : R → Me (Unit {0}) (View R) → Me (Unit {0}) (View R) → Type 0
   Written new v w = (who : ℕ) (row : R) → v.0.held ≡ (who, row) ∷ []
-      → (slice_get v.0.all who ≡ Some row) × (w ≡ (keeper (slice_set v.0.all who new) ((who, new) ∷ []), v.1))
+      → (slice_get v.0.all who ≡ Some row) × (w ≡ (authority (slice_set v.0.all who new) ((who, new) ∷ []), v.1))
 
-  -- The claim to row `who` agreed with the keeper, who had these rows. The new row stands in its place, for both.
-  pub record IsWritten (new : R) (rows : List R) (who : ℕ) (row : R) (rows' : List R) (claim' : List (ℕ × R)) : Type 0 where
+  -- The fragment to row `who` agreed with the authority, who had these rows. The new row stands in its place, for both.
+  pub record IsWritten (new : R) (rows : List R) (who : ℕ) (row : R) (rows' : List R)
+      (fragment' : List (ℕ × R)) : Type 0 where
     pub agreed : slice_get rows who ≡ Some row
-    pub keeper : rows' ≡ slice_set rows who new
-    pub claim : claim' ≡ (who, new) ∷ []
+    pub authority : rows' ≡ slice_set rows who new
+    pub fragment : fragment' ≡ (who, new) ∷ []
 
   -- what the views of a badge hold
   abbrev pub held_of : List (View R) → List (ℕ × R)

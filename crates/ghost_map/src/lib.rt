@@ -1,12 +1,13 @@
-//! A table of rows that one keeper knows whole. Each claim knows one row, and the two always agree.
+//! A table of rows that one authority knows whole. Each fragment knows one row, and the two always agree.
 //!
-//! Who has a [`Claim`] and meets the [`Keeper`] learns that its row is the keeper's, and may write it ([`Keeper::write`]). So what
-//! parts of a program store, each by itself, can be told from what lies under a lock. When the program runs there is nothing of it
-//! but one word: the rows exist in proofs alone. `specs/Rows.antt` has the rule.
+//! A thread that holds a [`Fragment`] and the [`Authority`] knows that the fragment's row is the authority's, and may
+//! write it ([`Authority::write`]). So a lock that keeps the authority knows what each part of a program stores by
+//! itself. This is the authoritative ghost map of Iris. At run time one word is left of it: the rows exist in proofs
+//! alone. `specs/Rows.antt` has the rule.
 #![tactic(auto)]
 
-mod keeper;
+mod authority;
 mod rule;
 
-pub use keeper::{Claim, Keeper, Room};
+pub use authority::{Authority, Fragment, NewTable};
 pub use rule::{Naming, Next, View};

@@ -1,4 +1,4 @@
-//! The rule of the table, and what its steps tell.
+//! The rule of the table, and what its steps know.
 
 use atomic_table::{Join, Play, Split, TableRule};
 use std::collections::LinkedList;
@@ -22,37 +22,37 @@ pub trait Next<R> {
     ghost next: { R };
 }
 
-/// What a seat knows: the keeper all rows, and a claim its number and its row. No value of it is made.
+/// What a seat knows: the authority all rows, and a fragment its number and its row. No value of it is made.
 pub struct View<R> {
     pub keeps: bool,
     pub all: LinkedList<R>,
     pub held: LinkedList<(u64, R)>,
 }
 
-/// The rule that the keeper and the claims agree.
+/// The rule that the authority and the fragments agree.
 pub struct Agrees;
 
 impl<R> TableRule<(), View<R>, ()> for Agrees {
     ghost use Rattle.std.specs.Prelude.{[]};
-    ghost use Rattle.ghost_map.specs.Rows.{Kept, keeper};
+    ghost use Rattle.ghost_map.specs.Rows.{Kept, authority};
 
     ghost holds = { λ _ s. Kept s.views };
 
-    ghost first = { λ _. keeper [] [] };
+    ghost first = { λ _. authority [] [] };
 }
 
-/// The keeper makes a row with a claim to it.
-pub struct Hires<M> {
+/// The authority makes a row with a fragment to it.
+pub struct Allocates<M> {
     of: PhantomData<M>,
 }
 
-impl<R, M: Next<R>> Play<(), View<R>> for Hires<M> {
-    ghost use Rattle.ghost_map.specs.Rows.{Hired};
+impl<R, M: Next<R>> Play<(), View<R>> for Allocates<M> {
+    ghost use Rattle.ghost_map.specs.Rows.{Allocated};
 
-    ghost then = { λ _ v _ w. Hired M.next v w };
+    ghost then = { λ _ v _ w. Allocated M.next v w };
 }
 
-/// The keeper with a claim writes the claim's row.
+/// The authority with a fragment writes the fragment's row.
 pub struct Writes<M> {
     of: PhantomData<M>,
 }
@@ -63,10 +63,10 @@ impl<R, M: Next<R>> Play<(), View<R>> for Writes<M> {
     ghost then = { λ _ v _ w. Written M.next v w };
 }
 
-/// The keeper takes in a claim, and lets it go.
-pub struct Hand;
+/// The authority takes in a fragment, and lets it go.
+pub struct SplitAndJoin;
 
-impl<R> Split<View<R>> for Hand {
+impl<R> Split<View<R>> for SplitAndJoin {
     ghost use Rattle.ghost_map.specs.Rows.{let_go, hold};
 
     ghost left = { let_go };
@@ -74,7 +74,7 @@ impl<R> Split<View<R>> for Hand {
     ghost right = { hold };
 }
 
-impl<R> Join<View<R>> for Hand {
+impl<R> Join<View<R>> for SplitAndJoin {
     ghost use Rattle.ghost_map.specs.Rows.{taken, nobody};
 
     ghost both = { taken };

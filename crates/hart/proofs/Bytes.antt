@@ -17,6 +17,7 @@ byte_of (suc (suc zero)) word h = refl
 byte_of (suc (suc (suc zero))) word h = refl
 byte_of (suc (suc (suc (suc n)))) word h = absurd (omega arith)
 
+-- A part of a word that lies within its four bytes is the number of its bytes there.
 pub read : PartsAreBytes
 unfolding part_of number_at
 read zero offset word h = omega arith
@@ -133,6 +134,7 @@ number_of_bytes word h =
     let whole : word ≡ word / 1 % 2 ^ 32 = omega arith in
     whole ∙ read 4 0 word (omega arith)
 
+-- A word with another number in one of its parts is a word, and has the bytes of that number there.
 pub all_written : NewPartsAreNewBytes
 all_written size offset word value fits h =
     let bytes : word_bytes (with_part size offset word value) ≡ with_number (word_bytes word) offset size value = written size offset word value fits in

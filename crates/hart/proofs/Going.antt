@@ -22,13 +22,19 @@ all_more taken retired quiet silent =
 
 -- a run of which no instruction has given the console a byte
 pub record HasGone (code : List ℕ) (old new : CoreState) (before after : RetirementList) : Type 0 where
+  -- the instructions that it has taken
   pub taken : List Retired
   pub turns : TakesLocal old.setting code old.state taken new.state
+  -- what the core knows of its machine is as before
   pub setting : new.setting ≡ old.setting
+  -- The list may have as many retirements as before.
   pub most : after.most ≡ before.most
+  -- The list has the retirements of these instructions at its end.
   pub listed : after.items ≡ before.items ++ taken
+  -- none of the instructions gives the console a byte
   pub quiet : All IsQuiet taken
 
+-- A run that has taken no instruction leaves the core and the list as they are.
 pub not_gone : (code : List ℕ) (core : CoreState) (list : RetirementList) → HasGone code core core list list
 not_gone code core list = record { taken = []; turns = refl; setting = refl; most = refl; listed = sym (append-nil list.items); quiet = All-nil IsQuiet }
 
@@ -80,12 +86,15 @@ module _ (code : List ℕ) (old new now : CoreState) (before after list : Retire
   not_most None e = absurd (cc)
   not_most (Some given) e = absurd (cc)
 
+  -- If the next instruction is taken and gives the console no byte, the run has gone on by it.
   pub gone_on : HasTaken code new now after list None → HasGone code old now before list
   gone_on next = goes_on None next (quiet_by next.retired.out next.ends)
 
+  -- If the next instruction is taken and gives the console no byte, the list has one retirement more.
   pub one_more : HasTaken code new now after list None → length list.items ≡ length after.items + 1
   one_more next = ap (λ (l : RetirementList). length l.items) next.list ∙ length-append after.items (next.retired ∷ [])
 
+  -- If the list has room, and the next instruction ends the run or is not taken, the whole run ends so.
   pub ended : (end : LocalEnd) → length after.items < after.most → HasTaken code new now after list (Some end) → HasRunLocally code old now before list end
   ended (Out byte) room next = gives (Some (Out byte)) next byte (out_by byte next.retired.out next.ends)
   ended Most room next = absurd (not_most next.retired.out next.ends)
@@ -102,6 +111,7 @@ module _ (code : List ℕ) (old new now : CoreState) (before after list : Retire
     );
   }
 
+-- A run ends if the list is full.
 pub full : (code : List ℕ) (old new : CoreState) (before after : RetirementList) → HasGone code old new before after → length after.items ≡ after.most →
     HasRunLocally code old new before after Most
 full code old new before after gone all =

@@ -30,6 +30,7 @@ or_by_xor x v hx hv =
     let right : bit_at (bit_or x v) i ≡ max (bit_at x i) (bit_at v i) = bit_at_or x v i in
     omega arith)
 
+-- The function of a load leaves each word as it is.
 pub load_meaning : (x : ℕ) → x < 2 ^ 32 → apply (Bits (2 ^ 32 - 1) 0) x ≡ x
 unfolding apply
 load_meaning x h = xor_comm (bit_and x (2 ^ 32 - 1)) 0 ∙ kept x h
@@ -38,52 +39,63 @@ constant_meaning : (v x : ℕ) → apply (Bits 0 v) x ≡ v
 unfolding apply
 constant_meaning v x = ap (λ y. bit_xor y v) (and_comm x 0)
 
+-- The constant function of a word is the function of a store of all four bytes.
 pub word_phi : (v : ℕ) → v < 2 ^ 32 → Bits 0 v ≡ store_phi 4 0 v
 unfolding store_phi
 word_phi v h =
     let e : v ≡ v % 2 ^ 32 * 1 = omega arith in
     ap (λ y. Bits 0 y) e
 
+-- The constant function of a word means that all four bytes are replaced by that word.
 pub word_meaning : (v x : ℕ) → v < 2 ^ 32 → x < 2 ^ 32 → apply (Bits 0 v) x ≡ with_part 4 0 x v
 unfolding with_part
 word_meaning v x hv hx =
     let e : v ≡ x / 2 ^ 32 * 2 ^ 32 + v % 2 ^ 32 * 1 + x % 1 = omega arith in
     constant_meaning v x ∙ e
 
+-- The sum with v means what AMOADD makes of a word.
 pub add_meaning : (v x : ℕ) → apply (Add v) x ≡ amo_value amo.Add x v
 unfolding apply amo_value plus
 add_meaning v x = refl
 
+-- The constant function of v means what AMOSWAP makes of a word.
 pub swap_meaning : (v x : ℕ) → apply (Bits 0 v) x ≡ amo_value amo.Swap x v
 unfolding amo_value
 swap_meaning v x = constant_meaning v x
 
+-- A mask of ones, and then an exclusive or with v, mean what AMOXOR makes of a word.
 pub xor_meaning : (v x : ℕ) → x < 2 ^ 32 → apply (Bits (2 ^ 32 - 1) v) x ≡ amo_value amo.Xor x v
 unfolding apply amo_value
 xor_meaning v x hx = ap (λ y. bit_xor y v) (kept x hx)
 
+-- A mask that clears the bits of v, and then an exclusive or with v, mean what AMOOR makes of a word.
 pub or_meaning : (v x : ℕ) → v < 2 ^ 32 → x < 2 ^ 32 → apply (Bits (2 ^ 32 - 1 - v) v) x ≡ amo_value amo.Or x v
 unfolding apply amo_value
 or_meaning v x hv hx = or_by_xor x v hx hv
 
+-- The mask v means what AMOAND makes of a word.
 pub and_meaning : (v x : ℕ) → apply (Bits v 0) x ≡ amo_value amo.And x v
 unfolding apply amo_value
 and_meaning v x = xor_comm (bit_and x v) 0
 
+-- The signed range from the least number to v means what AMOMIN makes of a word.
 pub min_meaning : (v x : ℕ) (r : SignedEnds) → r.lo ≡ negsuc (2 ^ 31 - 1) → r.hi ≡ cast_signed w32 v → v < 2 ^ 32 → x < 2 ^ 32 →
     apply (Clamp r) x ≡ amo_value amo.Min x v
 unfolding apply amo_value is_below
 min_meaning v x r low high hv hx = rw (low, high) (grind (arith, ints, of_z-to_z))
 
+-- The signed range from v to the greatest number means what AMOMAX makes of a word.
 pub max_meaning : (v x : ℕ) (r : SignedEnds) → r.lo ≡ cast_signed w32 v → r.hi ≡ pos (2 ^ 31 - 1) → v < 2 ^ 32 → x < 2 ^ 32 →
     apply (Clamp r) x ≡ amo_value amo.Max x v
 unfolding apply amo_value is_below
 max_meaning v x r low high hv hx = rw (low, high) (grind (arith, ints, of_z-to_z))
 
+-- The unsigned range from 0 to v means what AMOMINU makes of a word.
 pub minu_meaning : (v x : ℕ) (r : UnsignedEnds) → r.lo ≡ 0 → r.hi ≡ v → apply (ClampU r) x ≡ amo_value amo.Minu x v
 unfolding apply amo_value
 minu_meaning v x r low high = rw (low, high) (grind arith)
 
+-- The unsigned range from v to 2^32 - 1 means what AMOMAXU makes of a word.
 pub maxu_meaning : (v x : ℕ) (r : UnsignedEnds) → r.lo ≡ v → r.hi ≡ 2 ^ 32 - 1 → x < 2 ^ 32 → apply (ClampU r) x ≡ amo_value amo.Maxu x v
 unfolding apply amo_value
 maxu_meaning v x r low high hx = rw (low, high) (grind arith)
@@ -101,6 +113,7 @@ amo_small amo.Max old v h g = grind arith
 amo_small amo.Minu old v h g = grind arith
 amo_small amo.Maxu old v h g = grind arith
 
+-- The function of a store within a word means that the stored part is replaced by the value.
 pub store_meaning : (size offset v x : ℕ) → offset + size ≤ 4 → x < 2 ^ 32 → apply (store_phi size offset v) x ≡ with_part size offset x v
 unfolding apply store_phi with_part
 store_meaning size offset v x fits h =

@@ -48,6 +48,7 @@ module _ (code : List ℕ) (p : Processor) (insn : Insn) (size address rd : ℕ)
   leaves reply (Ok (region.Code place)) h = absurd h
   leaves reply (Err fault) h = absurd h
 
+-- If a load refers to a shared word, its bytes lie within that word.
 pub load_fits : (s : Setting) (code : List ℕ) (p : Processor) (insn : Insn) (op : LoadOp) (rd address : ℕ) →
     IsReference (performed s code p insn (does.Load op rd address)) → address % 4 + load_size op ≤ 4
 load_fits s code p insn Lb rd address h = omega arith
@@ -67,6 +68,7 @@ whole_change change offset x at h small =
     let new : with_part 4 0 x (change x) ≡ change x = whole_with x (change x) h small in
     rw (at, part) new
 
+-- After the reply to an atomic operation, the processor has the reply in rd and is at the next instruction.
 pub amo_leaves : (s : Setting) (code : List ℕ) (p : Processor) (insn : Insn) (op : AmoOp) (rd address value reply : ℕ) → reply < 2 ^ 32 →
     IsReference (performed s code p insn (does.Amo op rd address value)) →
     after_reply (performed s code p insn (does.Amo op rd address value)) reply ≡ Some (gone_to (next_pc p) rd reply p, retired_writing p.pc insn rd reply)

@@ -36,6 +36,8 @@ module _ (k : ℕ) where
   setting_kept : (m : FlatState) (p : Processor) → setting_of (with_other m k p) k ≡ setting_of m k
   setting_kept m p = ap (λ n. record { number = k; processors = n; shared_words = length m.shared }) (length-set m.processors k p)
 
+  -- Local instructions that processor k takes by itself are its next turns on the flat machine: these leave k as the
+  -- instructions do, change nothing else, and show what retired.
   pub are_turns : (m : FlatState) (p last : Processor) (rs : List Retired) → slice_get m.processors k ≡ Some p →
       TakesLocal (setting_of m k) m.code p rs last →
       (flat_run m (turns_of k (length rs)) ≡ with_other m k last) × (flat_events m (turns_of k (length rs)) ≡ shown_by k rs)

@@ -9,7 +9,8 @@ word_bytes word = word % 2 ^ 8 ∷ word / 2 ^ 8 % 2 ^ 8 ∷ word / 2 ^ 16 % 2 ^ 
 
 -- A part of a word is the number of its bytes there.
 abbrev pub PartsAreBytes : Type 0
-PartsAreBytes = (size offset word : ℕ) → offset + size ≤ 4 → part_of size offset word ≡ number_at (word_bytes word) offset size
+PartsAreBytes = (size offset word : ℕ) → offset + size ≤ 4 →
+    part_of size offset word ≡ number_at (word_bytes word) offset size
 
 -- A word with another part is a word, and has the bytes of the number there.
 abbrev pub NewPartsAreNewBytes : Type 0

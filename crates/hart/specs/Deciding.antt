@@ -24,7 +24,8 @@ use Rattle.hart.specs.declared.decision.Taken.TheVariants as taken
 -- The decision is the turn's kind. A reference names the turn's word, and its phi means what becomes of the word.
 abbrev pub Decides : Decision → Turn → Type 0
 Decides Local (Retires after retired) = Unit {0}
-Decides (Refer word phi shape) (Reaches reached change after) = (word ≡ reached) × ((x : ℕ) → x < 2 ^ 32 → apply phi x ≡ change x)
+Decides (Refer word phi shape) (Reaches reached change after) = (word ≡ reached)
+    × ((x : ℕ) → x < 2 ^ 32 → apply phi x ≡ change x)
 Decides (Halt byte) (Stops cause) = cause ≡ because.Halt byte
 Decides (Fault fault) (Stops cause) = cause ≡ because.Fault fault
 Decides _ _ = ⊥
@@ -45,7 +46,8 @@ after_reply _ reply = None
 -- A reference is the effect's: its phi is that of the table, and its shape names the operation.
 abbrev pub IsOfEffect : Decision → Effect → Type 0
 IsOfEffect (Refer word phi kind) (does.Load op rd address) = (phi ≡ load_phi) × (kind ≡ shape.Load op)
-IsOfEffect (Refer word phi kind) (does.Store op address value) = (phi ≡ store_phi (store_size op) (address % 4) value) × (kind ≡ shape.Store op)
+IsOfEffect (Refer word phi kind) (does.Store op address value) = (phi ≡ store_phi (store_size op) (address % 4) value)
+    × (kind ≡ shape.Store op)
 IsOfEffect (Refer word phi kind) (does.Amo op rd address value) = (phi ≡ amo_phi op value) × (kind ≡ shape.Amo op)
 IsOfEffect (Refer word phi kind) _ = ⊥
 IsOfEffect _ _ = Unit {0}
@@ -59,8 +61,9 @@ NamesWord _ s = Unit {0}
 
 -- What came of a turn, and the processor before and after: it has taken what is local whole, and of all else nothing.
 abbrev pub IsTaken : Taken → (old new : Processor) → Turn → Type 0
-IsTaken (taken.Retired retired) old new (Retires after told) = (new ≡ after) × (retired ≡ told)
-IsTaken (taken.Refers word phi) old new (Reaches reached change after) = (new ≡ old) × (word ≡ reached) × ((x : ℕ) → x < 2 ^ 32 → apply phi x ≡ change x)
+IsTaken (taken.Retired retired) old new (Retires after fact) = (new ≡ after) × (retired ≡ fact)
+IsTaken (taken.Refers word phi) old new (Reaches reached change after) = (new ≡ old) × (word ≡ reached)
+    × ((x : ℕ) → x < 2 ^ 32 → apply phi x ≡ change x)
 IsTaken (taken.Halts byte) old new (Stops cause) = (new ≡ old) × (cause ≡ because.Halt byte)
 IsTaken (taken.Faults fault) old new (Stops cause) = (new ≡ old) × (cause ≡ because.Fault fault)
 IsTaken _ old new _ = ⊥

@@ -1,5 +1,6 @@
 -- Runs of local instructions on a core by itself.
-use Rattle.std.specs.Prelude.{◌≡◌, ℕ, ◌<◌, true, List, [], ◌∷◌, ◌++◌, Option, Some, None, All, length, map, replicate, slice_get, slice_set}
+use Rattle.std.specs.Prelude.{◌≡◌, ℕ, ◌<◌, true, List, [], ◌∷◌, ◌++◌, Option, Some, None, All, length, map, replicate}
+use Rattle.std.specs.Prelude.{slice_get, slice_set}
 use Rattle.flat_machine.specs.declared.setting.Setting.{Setting}
 use Rattle.flat_machine.specs.declared.event.Event.{Event}
 use Rattle.flat_machine.specs.declared.event.Event.TheVariants as event
@@ -22,14 +23,16 @@ pub record RetirementList : Type 0 where
 -- ---- local instructions
 
 -- The processor runs, and its next turn is a local instruction, which retires like this and leaves it so.
-pub record TakesOne (s : Setting) (code : List ℕ) (before : Processor) (retired : Retired) (after : Processor) : Type 0 where
+pub record TakesOne (s : Setting) (code : List ℕ) (before : Processor) (retired : Retired)
+    (after : Processor) : Type 0 where
   pub runs : is_running before.status ≡ true
   pub turn : turn_of s code before ≡ Retires after retired
 
 -- The processor takes local instructions, which retire like these, one after another.
 abbrev pub TakesLocal : Setting → (code : List ℕ) → (before : Processor) → List Retired → (after : Processor) → Type 0
 TakesLocal s code before [] after = after ≡ before
-TakesLocal s code before (retired ∷ later) after = (next : Processor) × TakesOne s code before retired next × TakesLocal s code next later after
+TakesLocal s code before (retired ∷ later) after = (next : Processor) × TakesOne s code before retired next
+    × TakesLocal s code next later after
 
 -- It does not run, or what it does next is no local instruction.
 abbrev pub TakesNoMore : Setting → (code : List ℕ) → Processor → Type 0
@@ -49,15 +52,16 @@ pub record GivesAtLast (taken : List Retired) (byte : ℕ) : Type 0 where
   pub quiet : All IsQuiet earlier
   pub gives : last.out ≡ Some byte
 
--- Where a run ends that has taken these instructions, and leaves the processor and the list like this. A byte for the console
--- ends it first, then the list that is full.
+-- Where a run ends that has taken these instructions, and leaves the processor and the list like this. A byte for the
+-- console ends it first, then the list that is full.
 abbrev pub EndsAt : LocalEnd → Setting → (code : List ℕ) → (taken : List Retired) → Processor → RetirementList → Type 0
 EndsAt (Out byte) s code taken p list = GivesAtLast taken byte
 EndsAt Most s code taken p list = All IsQuiet taken × (length list.items ≡ list.most)
 EndsAt Other s code taken p list = All IsQuiet taken × (length list.items < list.most) × TakesNoMore s code p
 
 -- A run of local instructions, each of which was listed.
-pub record HasRunLocally (code : List ℕ) (old new : CoreState) (before after : RetirementList) (end : LocalEnd) : Type 0 where
+pub record HasRunLocally (code : List ℕ) (old new : CoreState) (before after : RetirementList)
+    (end : LocalEnd) : Type 0 where
   pub taken : List Retired
   pub turns : TakesLocal old.setting code old.state taken new.state
   pub setting : new.setting ≡ old.setting
@@ -72,7 +76,8 @@ end_of (Some byte) = Some (Out byte)
 end_of None = None
 
 -- The next instruction is taken and listed.
-pub record IsListed (code : List ℕ) (old new : CoreState) (before after : RetirementList) (end : Option LocalEnd) : Type 0 where
+pub record IsListed (code : List ℕ) (old new : CoreState) (before after : RetirementList)
+    (end : Option LocalEnd) : Type 0 where
   pub retired : Retired
   pub turn : TakesOne old.setting code old.state retired new.state
   pub setting : new.setting ≡ old.setting
@@ -80,13 +85,15 @@ pub record IsListed (code : List ℕ) (old new : CoreState) (before after : Reti
   pub ends : end ≡ end_of retired.out
 
 -- It is, or the run ends before it.
-abbrev pub HasTaken : (code : List ℕ) → (old new : CoreState) → (before after : RetirementList) → Option LocalEnd → Type 0
-HasTaken code old new before after (Some Other) = (new ≡ old) × (after ≡ before) × TakesNoMore old.setting code old.state
+abbrev pub HasTaken : (code : List ℕ) → (old new : CoreState) → (before after : RetirementList) → Option LocalEnd →
+    Type 0
+HasTaken code old new before after (Some Other) = (new ≡ old) × (after ≡ before)
+    × TakesNoMore old.setting code old.state
 HasTaken code old new before after end = IsListed code old new before after end
 
 -- ---- the law
 
--- so many turns of processor k
+-- this many turns of processor k
 abbrev pub turns_of : (k count : ℕ) → List Entry
 turns_of k count = replicate count (entry.Processor k)
 
@@ -94,10 +101,11 @@ turns_of k count = replicate count (entry.Processor k)
 abbrev pub shown_by : ℕ → List Retired → List (ℕ × Event)
 shown_by k taken = map (λ (retired : Retired). (k, event.Retired retired)) taken
 
--- Local instructions that a processor takes by itself are its next turns on the flat machine: these leave it so, change nothing
--- else, and show what retired.
+-- Local instructions that a processor takes by itself are its next turns on the flat machine: these leave it so,
+-- change nothing else, and show what retired.
 abbrev pub LocalRunsAreTurns : Type 0
-LocalRunsAreTurns = (m : FlatState) (k : ℕ) (before after : Processor) (taken : List Retired) → slice_get m.processors k ≡ Some before →
+LocalRunsAreTurns = (m : FlatState) (k : ℕ) (before after : Processor) (taken : List Retired) →
+    slice_get m.processors k ≡ Some before →
     TakesLocal (setting_of m k) m.code before taken after →
     (flat_run m (turns_of k (length taken)) ≡ record m { processors = slice_set m.processors k after })
     × (flat_events m (turns_of k (length taken)) ≡ shown_by k taken)

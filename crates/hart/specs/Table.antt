@@ -14,7 +14,8 @@ load_phi = Bits (2 ^ 32 - 1) 0
 
 -- a store of `size` bytes: ones outside the bytes stored, and the low bytes of the value moved there
 unfoldable pub store_phi : (size offset v : ℕ) → Phi
-store_phi size offset v = Bits (2 ^ 32 - 1 - (2 ^ (8 * size) - 1) * 2 ^ (8 * offset)) (v % 2 ^ (8 * size) * 2 ^ (8 * offset))
+store_phi size offset v =
+    Bits (2 ^ 32 - 1 - (2 ^ (8 * size) - 1) * 2 ^ (8 * offset)) (v % 2 ^ (8 * size) * 2 ^ (8 * offset))
 
 unfoldable pub amo_phi : AmoOp → (v : ℕ) → Phi
 amo_phi amo.Add v = Add v

@@ -1,21 +1,23 @@
 //! One processor's core: its registers, its local memory, and what its next instruction does.
 //!
-//! [`Core::decide`] says what the next turn is. [`Core::take_local`] takes a turn that needs only what the core has. A turn that
-//! acts on a shared word is a [`Decision::Refer`]: the word's number, and the function that its value goes through. Whoever has
-//! the word applies the function, and [`Core::retire`] takes the value that the word had before; between the two nothing else
-//! of the core changes. [`Core::stop`] records a turn that stops the processor. [`Core::take`] decides and takes in one call.
-//! What a turn does is the flat machine's definition (`flat_machine`, `specs/Turns.antt`).
+//! [`Core::decide`] says what the next turn is. [`Core::take_local`] takes a turn that needs only what the core has. A
+//! turn that acts on a shared word is a [`Decision::Refer`]: the word's number, and the function that its value goes
+//! through. Whoever has the word applies the function, and [`Core::retire`] takes the value that the word had before;
+//! between the two nothing else of the core changes. [`Core::stop`] records a turn that stops the processor.
+//! [`Core::take`] decides and takes in one call. What a turn does is the flat machine's definition (`flat_machine`,
+//! `specs/Turns.antt`).
 //!
-//! `instructions` has the function of each load, store and AMO of a shared word: fetch-and-phi. `specs/Table.antt` says it as a
-//! table.
+//! `instructions` has the function of each load, store and AMO of a shared word: fetch-and-phi. `specs/Table.antt`
+//! says it as a table.
 //!
-//! [`run_local`] takes many local instructions with a core that is away from its machine, and lists what retired, in room that
-//! was made before ([`Retirements`]). That these are the turns that the flat machine takes is a law ([`local_runs_are_turns`]).
+//! [`run_local`] takes many local instructions with a core that is away from its machine, and lists what retired, in
+//! room that was made before ([`Retirements`]). That these are the turns that the flat machine takes is a law
+//! ([`local_runs_are_turns`]).
 //!
 //! A core holds no word of shared memory. Only [`Core::new`], [`Core::copy`] and [`Retirements::new`] take memory.
 //!
-//! Source: The RISC-V Instruction Set Manual, Volume I (Unprivileged ISA), "Load and Store Instructions" and "Atomic Memory
-//! Operations".
+//! Source: The RISC-V Instruction Set Manual, Volume I (Unprivileged ISA), "Load and Store Instructions" and "Atomic
+//! Memory Operations".
 #![tactic(auto)]
 
 mod decision;

@@ -144,7 +144,8 @@ impl Core {
     /// Writes a register from outside. Register 0 stays 0.
     pub fn set_register(&mut self, register: Register, value: u32)
         ensures zero { register ≡ 0 → self.new ≡ self.old }
-        ensures written { 0 < register → self.new ≡ record self.old { state = with_poked_register register value self.old.state } }
+        ensures written { 0 < register →
+            self.new ≡ record self.old { state = with_poked_register register value self.old.state } }
     {
         let number = register.number();
         if number != 0 {

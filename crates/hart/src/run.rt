@@ -16,13 +16,14 @@ pub enum LocalEnd {
     Out(u8),
     /// There is room for no more retirements.
     Most,
-    /// The core does not run, or what it would do next is no local instruction: a reference to a shared word, or a stop.
+    /// The core does not run, or what it would do next is no local instruction: a reference to a shared word, or a
+    /// stop.
     Other,
 }
 
-/// Takes instructions of a core one after another, and lists what each retired, up to the first that gives the console a
-/// byte. It ends before one that is not local, and where the list is full. Nothing else of the core changes, and no memory
-/// is taken.
+/// Takes instructions of a core one after another, and lists what each retired, up to the first that gives the console
+/// a byte. It ends before one that is not local, and where the list is full. Nothing else of the core changes, and no
+/// memory is taken.
 pub fn run_local(core: &mut Core, code: &Code, retirements: &mut Retirements) -> LocalEnd
     ensures { HasRunLocally code.now core.old core.new retirements.old retirements.new result }
 {
@@ -34,8 +35,8 @@ pub fn run_local(core: &mut Core, code: &Code, retirements: &mut Retirements) ->
     LocalEnd::Most
 }
 
-/// Takes the next instruction where it is local, and lists it. Answers how the run ends with it or before it; None where it
-/// goes on.
+/// Takes the next instruction where it is local, and lists it. Answers how the run ends with it or before it; None
+/// where it goes on.
 #[inline(always)]
 fn take_next(core: &mut Core, code: &Code, retirements: &mut Retirements) -> Option<LocalEnd>
     requires room { length retirements.old.items < retirements.old.most }

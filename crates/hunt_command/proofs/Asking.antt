@@ -14,16 +14,26 @@ use Rattle.hunt_command.specs.Runs.{WasAsked}
 
 -- The run has come so far, and is not over: these steps of its schedule are left.
 pub record IsAsking (plan : List Step) (limit : ℕ) (old l : Log) (unasked : List Step) : Type 0 where
+  -- the log opened as the old one did
   pub opening : l.opening ≡ old.opening
+  -- its machine is the replay of its steps
   pub replay : IsReplay l.opening l.steps l.machine
+  -- the steps that were asked for
   pub asked : List Step
+  -- these and the steps that are left are the whole schedule
   pub all : plan ≡ asked ++ unasked
+  -- no step that is left writes from outside
   pub own : AreOwn unasked
+  -- the log has entered each step asked for that did something
   pub steps : l.steps ≡ entered_of old.opening old.steps asked
+  -- it has no more steps than the limit
   pub few : length l.steps ≤ limit
+  -- the run was not over before
   pub first : IsFirst old.opening (length old.steps) l.steps
+  -- nor is it over now: a processor runs, and the last step was no fault
   pub under : IsUnder old.opening (length old.steps) l.steps
 
+-- If a processor runs and there is room, a run begins, with its whole schedule left.
 pub asking_begins : (plan : List Step) (limit : ℕ) (l : Log) → AreOwn plan → length l.steps ≤ limit → IsReplay l.opening l.steps l.machine →
     HasRunning l.machine → IsAsking plan limit l l plan
 asking_begins plan limit l own few replay runs = record {
@@ -92,6 +102,7 @@ module _ (plan : List Step) (limit : ℕ) (old l new : Log) (s : Step) (rest : L
   first_more : IsFirst old.opening (length old.steps) new.steps
   first_more = step_first old l new s o i.opening i.replay i.own.0 taken i.under i.first
 
+  -- If a step asked for is no fault, and stops no processor or leaves one running, the run goes on after it.
   pub asks_on : (IsFault o → ⊥) × ((IsStop o → ⊥) ⊎ HasRunning new.machine) → IsAsking plan limit old new rest
   asks_on plain = record {
     opening = taken.opening ∙ i.opening;
@@ -108,6 +119,7 @@ module _ (plan : List Step) (limit : ℕ) (old l new : Log) (s : Step) (rest : L
   behind : length old.steps ≤ length l.steps
   behind = subst (λ xs. length old.steps ≤ length xs) (sym i.steps) (longer old.opening old.steps i.asked)
 
+  -- If a step asked for is a fault, or no processor runs after it, the run is over.
   pub run_over : IsFault o ⊎ (HasRunning new.machine → ⊥) → WasAsked plan limit old Over new
   run_over over = record {
     opening = taken.opening ∙ i.opening;

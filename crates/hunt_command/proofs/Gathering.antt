@@ -36,6 +36,7 @@ results_more c image most start place (y ∷ rs) r each one (suc i) x there =
     step : (j : ℕ) → place + 1 + j ≡ place + suc j
     step j = omega arith
 
+-- In no runs nothing is found, and the exit status is 0.
 pub none_found : (c : Config) (image : ImageContents) (most start : ℕ) → AreFound c image most start 0 [] 0
 none_found c image most start = record {
   results = [];
@@ -65,11 +66,11 @@ one_found c image most start place fs status number r f is one = record {
     here = ap (number_at start) (let all = f.all in let same : place ≡ 0 + length f.results = omega (arith, all) in same)
 
 -- the same, where it is noted
-pub one_noted : (c : Config) (image : ImageContents) (most start place number : ℕ) (old new : FindingsState) (status status' of_run : ℕ) (text : List ℕ) →
+pub one_observed : (c : Config) (image : ImageContents) (most start place number : ℕ) (old new : FindingsState) (status status' of_run : ℕ) (text : List ℕ) →
     AreFound c image most start place old.found status → number ≡ number_at start place →
     IsResultOf c image most number (record { text = text; status = of_run }) →
     new ≡ record { found = noted old.found text number; noted = old.noted + 1 } → status' ≡ greater of_run status →
     AreFound c image most start (place + 1) new.found status'
-one_noted c image most start place number old new status status' of_run text f is one next more =
+one_observed c image most start place number old new status status' of_run text f is one next more =
     subst (λ (x : FindingsState × ℕ). AreFound c image most start (place + 1) x.0.found x.1) (λ i. (sym next i, sym more i))
     (one_found c image most start place old.found status number (record { text = text; status = of_run }) f is one)

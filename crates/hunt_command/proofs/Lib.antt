@@ -1,7 +1,10 @@
 pub mod Noting
+pub mod Writing
+pub mod Refusing
 pub mod RunsOfSchedules
 pub mod Gathering
 pub mod Plans
 pub mod Asking
+pub mod Counting
 pub mod Recorded
 pub mod OneRun

@@ -1,72 +1,166 @@
 -- A result that is noted: the place that is looked for, and that none came more often than results were noted.
-use Rattle.std.proofs.Common.{◌≡◌, ℕ, ◌+◌, ◌<◌, ◌≤◌, Bool, true, false, List, [], ◌∷◌, ◌++◌, drop}
-use Rattle.std.proofs.Common.{length, take, sym, ap, ◌∙◌, arith, append_assoc, slice_index_or}
-use Rattle.std.specs.Prelude.{All, bytes_eq, if◌then◌else◌, slice_set, suc}
-use Rattle.std.proofs.Math.Seq.{drop-cons}
-use Rattle.std.proofs.lemmas.List.{append-nil, drop_all, take_all, take_more}
+use Rattle.std.proofs.Common.{◌≡◌, ℕ, zero, suc, ◌+◌, ◌≤◌, Bool, true, false, cond, not, List, [], ◌∷◌, ◌++◌, Option, Some, None}
+use Rattle.std.proofs.Common.{String, Global, string_bytes, length, take, refl, sym, ap, subst, ◌∙◌, arith, append_assoc}
+use Rattle.std.specs.Prelude.{All, bytes_eq, is_some, nat_lt, position, slice_get, slice_set}
+use Rattle.std.specs.List.{position_or_len}
+use Rattle.std.specs.Map.{keys_of}
+use Rattle.std.specs.Option.{option_map}
+use Rattle.indexmap.specs.Layout.{set_value_at}
+use Rattle.std.proofs.lemmas.Bool.{ltb-false}
+use Rattle.std.proofs.lemmas.List.{append-nil, length-map, map-append, take_all, take_more}
+use Rattle.std.proofs.lemmas.Map.Entries.{length-keys_of}
 use Rattle.std.proofs.lemmas.List.Elements.{All-append, All-cons, All-nil, All-set}
-use Rattle.std.proofs.lemmas.Option.{slice_get-get_or, slice_get_past}
-use Rattle.hunt_command.specs.Findings.{FindingState, finding_lines, findings_lines, noted, noted_at, once_more, place_of}
+use Rattle.std.proofs.lemmas.Option.{get_or_from_slice_get, slice_get-map, slice_get_past, slice_get_within}
+use Rattle.hunt_command.specs.declared.findings.Counted.{Counted}
+use Rattle.hunt_command.specs.Findings.{FindingState, finding_lines, findings_lines, firsts, found_in, noted, noted_at, once_more, place_of}
 
-module _ (text : List ℕ) (fs : List FindingState) (i : ℕ) (d : FindingState) (inside : i < length fs) where
-  here : place_of text (drop i fs) ≡ (if bytes_eq (slice_index_or fs i d).text text then 0 else suc (place_of text (drop (suc i) fs)))
-  here = ap (place_of text) (drop-cons fs i d inside)
+-- ---- a place that is found, or not
 
-  pub place_here : bytes_eq (slice_index_or fs i d).text text ≡ true → place_of text fs ≡ i + place_of text (drop i fs) → i ≡ place_of text fs
-  place_here same so_far =
-      let none : place_of text (drop i fs) ≡ 0 = here ∙ ap (λ (b : Bool). if b then 0 else suc (place_of text (drop (suc i) fs))) same in
-      omega (arith, none, so_far)
+pub noted_there : (fs : List FindingState) (text : List ℕ) (number : ℕ) (f : FindingState) → slice_get fs (place_of text fs) ≡ Some f →
+    noted fs text number ≡ slice_set fs (place_of text fs) (once_more f)
+noted_there fs text number f there = ap (λ o. noted_at fs (place_of text fs) o text number) there
 
-  pub place_behind : bytes_eq (slice_index_or fs i d).text text ≡ false → place_of text fs ≡ i + place_of text (drop i fs) →
-      place_of text fs ≡ (i + 1) + place_of text (drop (i + 1) fs)
-  place_behind other so_far =
-      let next : place_of text (drop i fs) ≡ suc (place_of text (drop (suc i) fs)) =
-      here ∙ ap (λ (b : Bool). if b then 0 else suc (place_of text (drop (suc i) fs))) other in
-      let same : suc i ≡ i + 1 = omega arith in
-      let there : place_of text (drop (suc i) fs) ≡ place_of text (drop (i + 1) fs) = ap (λ j. place_of text (drop j fs)) same in
-      omega (arith, next, so_far, there)
+pub noted_new : (fs : List FindingState) (text : List ℕ) (number : ℕ) → length fs ≤ place_of text fs →
+    noted fs text number ≡ fs ++ (record { text = text; runs = 1; first = number }) ∷ []
+noted_new fs text number past = ap (λ o. noted_at fs (place_of text fs) o text number) (slice_get_past fs (place_of text fs) past)
 
-pub place_past : (text : List ℕ) (fs : List FindingState) (i : ℕ) → length fs ≤ i → place_of text fs ≡ i + place_of text (drop i fs) →
-    place_of text fs ≡ i
-place_past text fs i past so_far =
-    let none : place_of text (drop i fs) ≡ 0 = ap (place_of text) (drop_all i fs past) in omega (arith, none, so_far)
+-- ---- the entries of a map
+
+module _ {K V : Type 0} (text : K → List ℕ) (runs first : V → ℕ) where
+  abbrev Found : List (K × V) → List FindingState
+  Found es = found_in text runs first es
+
+  abbrev One : K → V → FindingState
+  One k v = record { text = text k; runs = runs v; first = first v }
+
+  -- a text is found where the map finds its key
+  pub place_in : (t : List ℕ) (is : K → Bool) → ((k : K) → is k ≡ bytes_eq t (text k)) → (es : List (K × V)) →
+      position_or_len is (keys_of es) ≡ place_of t (Found es)
+  place_in t is same [] = refl
+  place_in t is same (e ∷ es) = λ j. cond (not (same e.0 j)) (1 + place_in t is same es j) 0
+
+  -- What is found at a place is what the entry of the map says there.
+  pub entry_in : (es : List (K × V)) (i : ℕ) (k : K) (v : V) → slice_get es i ≡ Some (k, v) → slice_get (Found es) i ≡ Some (One k v)
+  entry_in es i k v there = slice_get-map _ es i ∙ ap (option_map (λ (e : K × V). One e.0 e.1)) there
+
+  -- If the value of an entry is replaced, what is found is replaced at its place alone.
+  pub set_in : (es : List (K × V)) (i : ℕ) (k : K) (v w : V) → slice_get es i ≡ Some (k, v) →
+      Found (set_value_at es i w) ≡ slice_set (Found es) i (One k w)
+  set_in [] i k v w there = absurd (cc)
+  set_in (e ∷ es) zero k v w there = (let same : e ≡ (k, v) = cc in ap (λ (x : K × V). One x.0 w ∷ Found es) same)
+  set_in (e ∷ es) (suc i) k v w there = ap (λ fs. One e.0 e.1 ∷ fs) (set_in es i k v w there)
+
+  -- the number of the first run to it
+  pub first_in : (es : List (K × V)) (i : ℕ) (k : K) (v : V) → slice_get es i ≡ Some (k, v) → slice_get (firsts (Found es)) i ≡ Some (first v)
+  first_in es i k v there =
+      slice_get-map _ (Found es) i ∙ ap (option_map (λ (f : FindingState). f.first)) (entry_in es i k v there)
+
+  -- If an entry is appended to the map, what it says is appended to what is found.
+  pub new_in : (es : List (K × V)) (k : K) (v : V) → Found (es ++ (k, v) ∷ []) ≡ Found es ++ One k v ∷ []
+  new_in es k v = map-append _ es ((k, v) ∷ [])
+
+  module _ (t : List ℕ) (is : K → Bool) (same : (k : K) → is k ≡ bytes_eq t (text k)) (es : List (K × V)) where
+    by_test : (i : Option ℕ) → position is (keys_of es) ≡ i → (b : Bool) → nat_lt (position_or_len is (keys_of es)) (length (keys_of es)) ≡ b →
+        cond b (Some (position_or_len is (keys_of es))) None ≡ i
+    by_test i at b e = ap (λ c. cond c (Some (position_or_len is (keys_of es))) None) (sym e) ∙ at
+
+    -- where the map does not find the key
+    pub absent_in : position is (keys_of es) ≡ None → length (Found es) ≤ place_of t (Found es)
+    absent_in none = by (nat_lt (position_or_len is (keys_of es)) (length (keys_of es))) refl
+      where
+        by : (b : Bool) → nat_lt (position_or_len is (keys_of es)) (length (keys_of es)) ≡ b → length (Found es) ≤ place_of t (Found es)
+        by true e = let bad : Some (position_or_len is (keys_of es)) ≡ None = by_test None none true e in absurd (cc)
+        by false e =
+            let past = ltb-false (position_or_len is (keys_of es)) (length (keys_of es)) e in
+            let keys = length-keys_of es in
+            let found = length-map es (λ (e : K × V). One e.0 e.1) in
+            let place = place_in t is same es in omega (arith, past, keys, found, place)
+
+    -- where it does
+    pub present_in : (i : ℕ) → position is (keys_of es) ≡ Some i → place_of t (Found es) ≡ i
+    present_in i at = by (nat_lt (position_or_len is (keys_of es)) (length (keys_of es))) refl
+      where
+        by : (b : Bool) → nat_lt (position_or_len is (keys_of es)) (length (keys_of es)) ≡ b → place_of t (Found es) ≡ i
+        by true e =
+            let there : Some (position_or_len is (keys_of es)) ≡ Some i = by_test (Some i) at true e in
+            let one : position_or_len is (keys_of es) ≡ i = cc in sym (place_in t is same es) ∙ one
+        by false e = let bad : None ≡ Some i = by_test (Some i) at false e in absurd (cc)
+
+    -- a new key goes last
+    pub noted_absent : (es' : List (K × V)) (k : K) (v : V) → text k ≡ t → runs v ≡ 1 → position is (keys_of es) ≡ None →
+        es' ≡ es ++ (k, v) ∷ [] → Found es' ≡ noted (Found es) t (first v)
+    noted_absent es' k v named once none more =
+        ap Found more ∙ new_in es k v
+        ∙ (λ j. Found es ++ (record { text = named j; runs = once j; first = first v }) ∷ [])
+        ∙ sym (noted_new (Found es) t (first v) (absent_in none))
+
+    -- a key that is there is counted once more
+    pub noted_present : (es' : List (K × V)) (i : ℕ) (k : K) (v w : V) (number : ℕ) → position is (keys_of es) ≡ Some i →
+        slice_get es i ≡ Some (k, v) → One k w ≡ once_more (One k v) → es' ≡ set_value_at es i w → Found es' ≡ noted (Found es) t number
+    noted_present es' i k v w number at there more now =
+        let place = present_in i at in
+        ap Found now ∙ set_in es i k v w there ∙ ap (slice_set (Found es) i) more
+        ∙ ap (λ p. slice_set (Found es) p (once_more (One k v))) (sym place)
+        ∙ sym (noted_there (Found es) t number (One k v) (ap (slice_get (Found es)) place ∙ entry_in es i k v there))
+
+-- ---- the entries of what is found
+
+abbrev pub text_in : String Global → List ℕ
+text_in s = string_bytes s
+
+abbrev pub runs_in : Counted → ℕ
+runs_in counted = counted.runs
+
+abbrev pub first_of : Counted → ℕ
+first_of counted = counted.first
+
+-- nothing is there
+pub none_of : {X : Type 0} → (o : Option X) → false ≡ is_some o → o ≡ None
+none_of None e = refl
+none_of (Some x) e = absurd (cc)
+
+-- There are as many numbers of first runs as different results.
+pub firsts_length : (fs : List FindingState) → length (firsts fs) ≡ length fs
+firsts_length fs = length-map fs _
 
 -- ---- lines
 
-pub lines_more : (xs : List FindingState) (f : FindingState) → findings_lines (xs ++ f ∷ []) ≡ findings_lines xs ++ finding_lines f
+lines_more : (xs : List FindingState) (f : FindingState) → findings_lines (xs ++ f ∷ []) ≡ findings_lines xs ++ finding_lines f
 lines_more [] f = append-nil (finding_lines f)
 lines_more (x ∷ xs) f = ap (λ ys. finding_lines x ++ ys) (lines_more xs f) ∙ sym (append_assoc (finding_lines x) (findings_lines xs) (finding_lines f))
 
-pub lines_step : (fs : List FindingState) (i : ℕ) (d : FindingState) → i < length fs →
-    findings_lines (take (i + 1) fs) ≡ findings_lines (take i fs) ++ finding_lines (slice_index_or fs i d)
-lines_step fs i d inside = ap findings_lines (take_more fs i d inside) ∙ lines_more (take i fs) (slice_index_or fs i d)
+-- The lines of the first i + 1 results are those of the first i, and then those of the next.
+pub lines_step : (fs : List FindingState) (i : ℕ) (f : FindingState) → slice_get fs i ≡ Some f →
+    findings_lines (take (i + 1) fs) ≡ findings_lines (take i fs) ++ finding_lines f
+lines_step fs i f there =
+    ap findings_lines (take_more fs i f (slice_get_within fs i f there)
+    ∙ ap (λ g. take i fs ++ g ∷ []) (get_or_from_slice_get fs i f f there))
+    ∙ lines_more (take i fs) f
 
 pub lines_whole : (fs : List FindingState) (i : ℕ) → length fs ≤ i → findings_lines (take i fs) ≡ findings_lines fs
 lines_whole fs i past = ap findings_lines (take_all i fs past)
 
 -- ---- a result more
 
-abbrev NoneOver : ℕ → List FindingState → Type 0
+abbrev pub NoneOver : ℕ → List FindingState → Type 0
 NoneOver n fs = All (λ (f : FindingState). f.runs ≤ n) fs
 
-pub noted_there : (fs : List FindingState) (text : List ℕ) (number : ℕ) (d : FindingState) → place_of text fs < length fs →
-    noted fs text number ≡ slice_set fs (place_of text fs) (once_more (slice_index_or fs (place_of text fs) d))
-noted_there fs text number d inside =
-    ap (λ o. noted_at fs (place_of text fs) o text number) (slice_get-get_or fs (place_of text fs) d inside)
-
-pub noted_new : (fs : List FindingState) (text : List ℕ) (number : ℕ) → length fs ≤ place_of text fs →
-    noted fs text number ≡ fs ++ (record { text = text; runs = 1; first = number }) ∷ []
-noted_new fs text number past = ap (λ o. noted_at fs (place_of text fs) o text number) (slice_get_past fs (place_of text fs) past)
-
-pub few_more : (fs : List FindingState) (n : ℕ) → NoneOver n fs → NoneOver (n + 1) fs
+few_more : (fs : List FindingState) (n : ℕ) → NoneOver n fs → NoneOver (n + 1) fs
 few_more fs n few i d inside = (let here = few i d inside in omega (arith, here))
 
-pub few_there : (fs : List FindingState) (n i : ℕ) (d : FindingState) → i < length fs → NoneOver n fs →
-    NoneOver (n + 1) (slice_set fs i (once_more (slice_index_or fs i d)))
-few_there fs n i d inside few =
-    All-set (λ (f : FindingState). f.runs ≤ n + 1) fs i (once_more (slice_index_or fs i d)) (let here = few i d inside in omega (arith, here))
+-- If no result came more than n times, the one at this place did not.
+pub few_here : (fs : List FindingState) (n i : ℕ) (f : FindingState) → slice_get fs i ≡ Some f → NoneOver n fs → f.runs ≤ n
+few_here fs n i f there few =
+    subst (λ (g : FindingState). g.runs ≤ n) (get_or_from_slice_get fs i f f there) (few i f (slice_get_within fs i f there))
+
+-- If no result came more than n times, and one is counted once more, none came more than n + 1 times.
+pub few_there : (fs : List FindingState) (n i : ℕ) (f : FindingState) → slice_get fs i ≡ Some f → NoneOver n fs →
+    NoneOver (n + 1) (slice_set fs i (once_more f))
+few_there fs n i f there few =
+    All-set (λ (f : FindingState). f.runs ≤ n + 1) fs i (once_more f) (let here = few_here fs n i f there few in omega (arith, here))
     (few_more fs n few)
 
+-- If no result came more than n times, and a new one came once, none came more than n + 1 times.
 pub few_new : (fs : List FindingState) (n number : ℕ) (text : List ℕ) → NoneOver n fs →
     NoneOver (n + 1) (fs ++ (record { text = text; runs = 1; first = number }) ∷ [])
 few_new fs n number text few =

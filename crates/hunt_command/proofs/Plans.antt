@@ -10,21 +10,22 @@ use Rattle.steps.specs.declared.step.Step.TheVariants.{Turn, Up, Serve, Down}
 use Rattle.schedules.specs.Own.{AreOwn, IsOwn}
 use Rattle.schedules.proofs.Lemmas.{own_both, own_each}
 use Rattle.schedules.specs.Choices.{by_stage, by_wire, choices, first_state, next_state}
-use Rattle.hunt_command.specs.Schedules.{favoured, moves_behind, schedule, turns_from}
+use Rattle.hunt_command.specs.Schedules.{favoured_processor, moves_behind, schedule, turns_from}
 
+-- The steps from place i on are the one there, and then those from place i + 1 on.
 pub drop_at : (xs : List Step) (i : ℕ) (s : Step) → slice_get xs i ≡ Some s → drop i xs ≡ s ∷ drop (i + 1) xs
 drop_at xs i s there =
     drop-cons xs i (Turn 0) (slice_get_within xs i s there)
     ∙ ap₂ (λ y ys. y ∷ ys) (get_or_from_slice_get xs i s (Turn 0) there) (ap (λ j. drop j xs) (let same : suc i ≡ i + 1 = omega arith in same))
 
--- behind the moves of the network comes the next turn
+-- after the moves of the network comes the next turn
 pub turn_next : (k number x before turns place y p next : ℕ) → length (choices k) ≤ place → (turns ≡ 0 → ⊥) → y ≡ next_state x →
-    p ≡ favoured k number y before → next ≡ (if y / 2 ^ 8 % 2 == 0 then 0 else place) →
+    p ≡ favoured_processor k number y before → next ≡ (if y / 2 ^ 8 % 2 == 0 then 0 else place) →
     drop place (choices k) ++ turns_from k number x before turns ≡ Turn p ∷ (drop next (choices k) ++ turns_from k number y p (turns - 1))
 turn_next k number x before zero place y p next past some is chosen moved = absurd (some refl)
 turn_next k number x before (suc n) place y p next past some is chosen moved =
     ap (λ xs. xs ++ turns_from k number x before (suc n)) (drop_all place (choices k) past)
-    ∙ ap (λ z. Turn (favoured k number z before) ∷ (moves_behind k z ++ turns_from k number z (favoured k number z before) n)) (sym is)
+    ∙ ap (λ z. Turn (favoured_processor k number z before) ∷ (moves_behind k z ++ turns_from k number z (favoured_processor k number z before) n)) (sym is)
     ∙ ap (λ q. Turn q ∷ (moves_behind k y ++ turns_from k number y q n)) (sym chosen)
     ∙ ap₂ (λ xs m. Turn p ∷ (xs ++ turns_from k number y p m)) (sym (by (y / 2 ^ 8 % 2 == 0) moved)) (let same : n ≡ suc n - 1 = omega arith in same)
   where
@@ -55,8 +56,9 @@ own_turns : (k start x before turns : ℕ) → AreOwn (turns_from k start x befo
 own_turns k start x before zero = tt
 own_turns k start x before (suc n) =
     let y = next_state x in
-    let p = favoured k start y before in (tt, own_both (moves_behind k y) (turns_from k start y p n) (own_moves k y) (own_turns k start y p n))
+    let p = favoured_processor k start y before in (tt, own_both (moves_behind k y) (turns_from k start y p n) (own_moves k y) (own_turns k start y p n))
 
+-- No step of a random schedule writes from outside.
 pub own_schedule : (k number turns : ℕ) → AreOwn (schedule k number turns)
 unfolding schedule
 own_schedule k number turns = own_turns k number (first_state number 0) 0 turns

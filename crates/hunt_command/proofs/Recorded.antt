@@ -10,10 +10,12 @@ use Rattle.schedules.proofs.Lemmas.{drained_has_records}
 use Rattle.hunt_command.specs.Runs.{HasRunAtRandom}
 use Rattle.hunt_command.proofs.Plans.{own_schedule}
 
+-- If none of the steps of two lists in a row writes from outside, none of the first list does.
 pub own_first : (xs ys : List Step) → AreOwn (xs ++ ys) → AreOwn xs
 own_first [] ys own = tt
 own_first (x ∷ xs) ys own = (own.0, own_first xs ys own.1)
 
+-- If the steps of a log had records before a random run, they have records after it.
 pub run_has_records : (number most : ℕ) (old : Log) (end : SweepEnd) (new : Log) → HasRunAtRandom number most old end new →
     IsReplay new.opening new.steps new.machine → old.machine.config ≡ old.opening.config → HaveRecords old.machine.config.k old.steps →
     HaveRecords new.machine.config.k new.steps

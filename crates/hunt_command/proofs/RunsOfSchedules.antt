@@ -1,25 +1,26 @@
--- The log of a run, from its machine's opening on, and its steps on another machine.
-use Rattle.std.proofs.Common.{◌≡◌, ℕ, List, ◌∙◌, ap, sym, subst, arith}
+-- The log of a run, from its machine's opening on, and what the run comes to.
+use Rattle.std.proofs.Common.{◌≡◌, ℕ, ◌+◌, ◌^◌, List, ◌++◌, length, ◌∙◌, ap, sym, refl, subst, arith}
+use Rattle.std.specs.Prelude.{replicate}
 use Rattle.flat_machine.specs.declared.config.Config.{Config}
 use Rattle.flat_machine.specs.Limits.{IsWithinLimits}
 use Rattle.elf_image.specs.Images.{ImageContents}
-use Rattle.steps.specs.declared.step.Step.{Step}
 use Rattle.trace_file.specs.Traces.{HaveRecords}
-use Rattle.trace_commands.proofs.Lemmas.{is_spelled, none_stalls, only_memory}
-use Rattle.machine_log.specs.Replays.{StallsAt}
+use Rattle.trace_commands.specs.CountedReplays.{IsReplayCounted}
+use Rattle.trace_commands.proofs.Lemmas.{StepObserver, all_replayed, is_spelled}
+use Rattle.machine_steps.specs.Draining.{drain_steps}
 use Rattle.machine_steps.specs.Machines.{MachineLists}
+use Rattle.machine_steps.specs.Noting.{AreNoted}
 use Rattle.machine_steps.specs.Runs.{IsOpening}
-use Rattle.machine_log.specs.Logs.{IsKept, Log}
+use Rattle.machine_log.specs.Logs.{IsWellFormed, Log}
 use Rattle.schedules.specs.Sweeps.{opened}
 use Rattle.schedules.specs.declared.sweeping.SweepEnd.{SweepEnd}
-use Rattle.command_io.specs.declared.fault.Fault.{Fault}
-use Rattle.command_io.specs.declared.fault.Fault.TheVariants as fault
-use Rattle.trace_commands.specs.Retaking.{IsNotRetaken}
-use Rattle.hunt_command.specs.Runs.{HasRunAtRandom, IsRandomRun}
-use Rattle.hunt_command.specs.Hunts.{IsLogOf}
+use Rattle.command_io.specs.Tallies.{TallyState, nothing_shown}
+use Rattle.hunt_command.specs.Runs.{HasRunAtRandom, IsRandomRun, WasAsked}
+use Rattle.hunt_command.specs.Schedules.{schedule}
+use Rattle.hunt_command.specs.Hunts.{IsDrainedTo, IsLogOf, IsResultOf}
 
 module _ (c : Config) (most number : ℕ) (image : ImageContents) (m : MachineLists) (opens : IsOpening c image m) (old log : Log) (starts : old ≡ opened m)
-    (kept : IsKept log) (end : SweepEnd) (ran : HasRunAtRandom number most old end log)
+    (kept : IsWellFormed log) (end : SweepEnd) (ran : HasRunAtRandom number most old end log)
     (records : HaveRecords old.machine.config.k old.steps → HaveRecords log.machine.config.k log.steps) where
   opening_is : log.opening ≡ m
   opening_is = ran.opening ∙ ap (λ (l : Log). l.opening) starts
@@ -27,6 +28,7 @@ module _ (c : Config) (most number : ℕ) (image : ImageContents) (m : MachineLi
   config_is : log.machine.config ≡ c
   config_is = kept.replay.run.config ∙ ap (λ (n : MachineLists). n.config) opening_is ∙ opens.config
 
+  -- A log that has run by a schedule from the machine's opening on is that of the run of this number.
   pub log_of : IsLogOf c image most number end log
   log_of = record {
     ran = record {
@@ -40,11 +42,39 @@ module _ (c : Config) (most number : ℕ) (image : ImageContents) (m : MachineLi
         (records (subst (λ (l : Log). HaveRecords l.machine.config.k l.steps) (sym starts) (λ p d inside. absurd (omega (arith, inside))))));
   }
 
--- the steps of a run do not stall on another machine that opens on the image
-pub not_stalled : (c : Config) (image : ImageContents) (most number : ℕ) (end : SweepEnd) (log : Log) (steps : List Step) (second new : MachineLists) →
-    IsRandomRun c image number most end log → steps ≡ log.steps → IsOpening c image second → (f : Fault) → IsNotRetaken second steps new f →
-    f ≡ fault.Memory
-not_stalled c image most number end log steps second new ran all two =
-    only_memory second new steps
-    (λ place h. none_stalls c image log.opening second ran.opens two log.steps log.machine ran.replay place new
-    (subst (λ (xs : List Step). StallsAt second xs place new) all h))
+-- What the drain leads to of a machine that was asked for the steps of a schedule is what the run comes to.
+pub result_of_drain : (c : Config) (image : ImageContents) (most number : ℕ) (m : MachineLists) (old log : Log) (end : SweepEnd) (text : List ℕ) (status : ℕ) →
+    IsOpening c image m → old ≡ opened m → WasAsked (schedule old.machine.config.k number most) (length old.steps + most) old end log →
+    IsDrainedTo log.opening log.steps log.machine end text status → IsResultOf c image most number (record { text = text; status = status })
+result_of_drain c image most number m old log end text status opens starts asked d =
+    let is : log.opening ≡ m = asked.opening ∙ ap (λ (l : Log). l.opening) starts in
+    let at_first : IsOpening c image log.opening = subst (IsOpening c image) (sym is) opens in
+    let new : Log = record { opening = log.opening; steps = log.steps ++ drain_steps log.machine; machine = d.machine } in
+    let ran : HasRunAtRandom number most old end new =
+    record { middle = log; asked = asked; opening = asked.opening; steps = refl; idle = d.idle } in
+    record {
+      end = end;
+      log = new;
+      ran = record {
+        opens = at_first;
+        replay = d.replay_counted.replay;
+        ran = subst (λ (l : Log). HasRunAtRandom number most l end new) (starts ∙ ap opened (sym is)) ran;
+      };
+      opening = log.opening;
+      opens = at_first;
+      machine = d.machine;
+      tally = d.tally;
+      replay_counted = d.replay_counted;
+      is = d.is;
+      exit = d.exit;
+    }
+
+-- What is noted of the steps of a kept log from its opening on is what is shown in them.
+pub log_retaken : (m : MachineLists) (old log : Log) (t t' : TallyState) → old ≡ opened m → IsWellFormed log → log.opening ≡ old.opening →
+    t ≡ record { shown = replicate (2 ^ m.config.k) nothing_shown; observed = 0 } → AreNoted StepObserver old.opening log.steps t t' →
+    IsReplayCounted log.opening log.steps log.machine t'
+log_retaken m old log t t' starts kept same begins noted =
+    let is : log.opening ≡ m = same ∙ ap (λ (l : Log). l.opening) starts in
+    all_replayed log.opening log.machine log.steps t t'
+    (begins ∙ ap (λ (n : MachineLists). record { shown = replicate (2 ^ n.config.k) nothing_shown; observed = 0 }) (sym is)) kept.replay
+    (subst (λ n. AreNoted StepObserver n log.steps t t') (sym same) noted)

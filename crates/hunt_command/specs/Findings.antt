@@ -1,5 +1,7 @@
 -- Different results, and how often each came.
-use Rattle.std.specs.Prelude.{ℕ, suc, ◌+◌, ◌≤◌, All, List, [], ◌∷◌, ◌++◌, Option, Some, None, bytes_eq, codes, if◌then◌else◌, slice_get, slice_set}
+use Rattle.std.specs.Prelude.{ℕ, ◌+◌, ◌≤◌, All, List, [], ◌∷◌, ◌++◌, Option, Some, None, bytes_eq, codes, map}
+use Rattle.std.specs.Prelude.{slice_get, slice_set}
+use Rattle.std.specs.List.{position_or_len}
 use Rattle.std.specs.Fmt.{decimal}
 
 -- the text of a result, how many runs came to it, and the number of the first of them
@@ -8,10 +10,18 @@ pub record FindingState : Type 0 where
   pub runs : ℕ
   pub first : ℕ
 
--- what is found in so many results
+-- what is found in this many results
 pub record FindingsState : Type 0 where
   pub found : List FindingState
   pub noted : ℕ
+
+-- what is found, as the entries of a map say it
+abbrev pub found_in : {K V : Type 0} → (text : K → List ℕ) → (runs first : V → ℕ) → List (K × V) → List FindingState
+found_in text runs first entries = map (λ e. record { text = text e.0; runs = runs e.1; first = first e.1 }) entries
+
+-- the numbers of the first runs to each result
+abbrev pub firsts : List FindingState → List ℕ
+firsts fs = map (λ (f : FindingState). f.first) fs
 
 -- no result came more often than results were noted
 abbrev pub AreFew : FindingsState → Type 0
@@ -19,15 +29,15 @@ AreFew f = All (λ (one : FindingState). one.runs ≤ f.noted) f.found
 
 -- the place of a text, or how many there are where it is not found
 abbrev pub place_of : (text : List ℕ) → List FindingState → ℕ
-place_of text [] = 0
-place_of text (f ∷ fs) = if bytes_eq f.text text then 0 else suc (place_of text fs)
+place_of text fs = position_or_len (λ (f : FindingState). bytes_eq text f.text) fs
 
 -- one run more
 abbrev pub once_more : FindingState → FindingState
 once_more f = record f { runs = f.runs + 1 }
 
 -- what was found at its place is counted once more; where nothing was, it is new
-abbrev pub noted_at : List FindingState → (place : ℕ) → Option FindingState → (text : List ℕ) → (number : ℕ) → List FindingState
+abbrev pub noted_at : List FindingState → (place : ℕ) → Option FindingState → (text : List ℕ) → (number : ℕ) →
+    List FindingState
 noted_at fs place (Some f) text number = slice_set fs place (once_more f)
 noted_at fs place None text number = fs ++ (record { text = text; runs = 1; first = number }) ∷ []
 

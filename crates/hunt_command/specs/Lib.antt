@@ -2,4 +2,5 @@ pub mod Lines
 pub mod Findings
 pub mod Hunts
 pub mod Schedules
+pub mod Traces
 pub mod Runs

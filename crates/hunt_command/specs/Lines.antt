@@ -19,14 +19,17 @@ end_line Budget = codes "budget" ++ line_feed
 -- `processor P STATUS console HEX`
 unfoldable pub outcome_line : (number : ℕ) → Status → ShownBy → List ℕ
 outcome_line number status shown =
-    codes "processor " ++ decimal number ++ codes " " ++ status_text status ++ codes " console " ++ console_text shown.console ++ line_feed
+    codes "processor " ++ decimal number ++ codes " " ++ status_text status ++ codes " console "
+    ++ console_text shown.console ++ line_feed
 
 -- the lines of the first processors, which have shown this
 abbrev pub outcome_lines : MachineLists → List ShownBy → (count : ℕ) → List ℕ
 outcome_lines m shown zero = []
-outcome_lines m shown (suc p) = outcome_lines m shown p ++ outcome_line p (processor_of m p).status (slice_index_or shown p nothing_shown)
+outcome_lines m shown (suc p) = outcome_lines m shown p
+    ++ outcome_line p (processor_of m p).status (slice_index_or shown p nothing_shown)
 
--- What a run comes to: how it ended, how each processor stands and what it gave to the console, and the shared words that are not
--- zero. How many instructions a processor has retired, and where it stands, is left out: it may wait for ever in a loop.
+-- What a run comes to: how it ended, how each processor stands and what it gave to the console, and the shared words
+-- that are not zero. How many instructions a processor has retired, and where it stands, is left out: it may wait for
+-- ever in a loop.
 abbrev pub result_of : SweepEnd → MachineLists → List ShownBy → List ℕ
 result_of end m shown = end_line end ++ outcome_lines m shown (2 ^ m.config.k) ++ shared_lines m m.config.shared_words

@@ -12,13 +12,13 @@ use Rattle.schedules.specs.declared.sweeping.SweepEnd.{SweepEnd}
 use Rattle.schedules.specs.declared.sweeping.SweepEnd.TheVariants.{Over, Budget}
 use Rattle.hunt_command.specs.Schedules.{schedule}
 
--- where a run has ended that leaves so many steps at most, and these of its schedule unasked
+-- where a run has ended that leaves this many steps at most, and these of its schedule unasked
 abbrev pub EndsWith : (opening : MachineLists) → (start limit : ℕ) → (steps unasked : List Step) → SweepEnd → Type 0
 EndsWith m start limit steps unasked Over = IsOver m start steps
 EndsWith m start limit steps unasked Budget = ((length steps ≡ limit) ⊎ (unasked ≡ [])) × (IsOver m start steps → ⊥)
 
--- A log was asked for the steps of a schedule, one after another, until a fault stopped a processor, none ran, it had so many steps,
--- or all were asked for. It has entered each that did something.
+-- A log was asked for the steps of a schedule, one after another, until a fault stopped a processor, none ran, it had
+-- this many steps, or all were asked for. It has entered each that did something.
 pub record WasAsked (plan : List Step) (limit : ℕ) (old : Log) (end : SweepEnd) (new : Log) : Type 0 where
   pub opening : new.opening ≡ old.opening
   pub replay : IsReplay new.opening new.steps new.machine
@@ -28,10 +28,11 @@ pub record WasAsked (plan : List Step) (limit : ℕ) (old : Log) (end : SweepEnd
   pub steps : new.steps ≡ entered_of old.opening old.steps asked
   pub few : length new.steps ≤ limit
   -- it was not over before
-  pub first : (place : ℕ) → length old.steps ≤ place → place < length new.steps → IsOver old.opening (length old.steps) (take place new.steps) → ⊥
+  pub first : (place : ℕ) → length old.steps ≤ place → place < length new.steps →
+      IsOver old.opening (length old.steps) (take place new.steps) → ⊥
   pub ends : EndsWith old.opening (length old.steps) limit new.steps unasked end
 
--- A log has run by the schedule of this number, for so many steps and turns at most, and was then drained.
+-- A log has run by the schedule of this number, for this many steps and turns at most, and was then drained.
 pub record HasRunAtRandom (number most : ℕ) (old : Log) (end : SweepEnd) (new : Log) : Type 0 where
   pub middle : Log
   pub asked : WasAsked (schedule old.machine.config.k number most) (length old.steps + most) old end middle
@@ -40,7 +41,8 @@ pub record HasRunAtRandom (number most : ℕ) (old : Log) (end : SweepEnd) (new 
   pub idle : IsIdle new.machine
 
 -- The log has run so from its machine's opening on an image.
-pub record IsRandomRun (c : Config) (image : ImageContents) (number most : ℕ) (end : SweepEnd) (log : Log) : Type 0 where
+pub record IsRandomRun (c : Config) (image : ImageContents) (number most : ℕ) (end : SweepEnd)
+    (log : Log) : Type 0 where
   pub opens : IsOpening c image log.opening
   pub replay : IsReplay log.opening log.steps log.machine
   pub ran : HasRunAtRandom number most (opened log.opening) end log

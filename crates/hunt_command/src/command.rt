@@ -1,14 +1,20 @@
 //! `ultra hunt`: from the bytes of an image to the lines of what its runs come to.
 
-ghost use Rattle.std.specs.Prelude.{◌≡◌, ◌≤◌, ◌↔◌, ℕ, List, Option, true, false, IfOk, IfErr, IsErrOf, OnErr};
+ghost use Rattle.std.specs.Prelude.{◌≡◌, ◌≤◌, ◌↔◌, ℕ, List, Option, true, false, IfOk, IfErr, IsErrOf, OnErr, OnOk};
+ghost use Rattle.flat_machine.specs.Limits.{IsWithinLimits};
 ghost use Rattle.elf_image.specs.Files.{IsImageOf};
-ghost use Rattle.command_io.specs.Printing.{IsPrinted, IsTold};
-ghost use Rattle.hunt_command.specs.Hunts.{IsHunt, IsNoHunt};
+ghost use Rattle.command_io.specs.FaultTexts.{IsReported};
+ghost use Rattle.schedules.specs.Sweeps.{most_of};
+ghost use Rattle.command_io.specs.Files.{IsFaultOfSize};
+ghost use Rattle.command_io.specs.Printing.{Prints};
+ghost use Rattle.hunt_command.specs.Hunts.{AreFound, IsHunt, HuntFails, IsRefusalReported, ReportsFaultAs, status_of};
 
-use crate::findings::findings_text;
+use crate::findings::{Findings, findings_text};
+use crate::observer::HuntObserver;
+use crate::refused::Refused;
 use crate::runs::findings_of;
 use crate::saving::{Traces, save_all};
-use command_io::{Fault, image_of, print, tell};
+use command_io::{Fault, REFUSED, image_in, print, report_fault};
 use elf_image::Image;
 use flat_machine::Config;
 use link::LinkWrite;
@@ -22,79 +28,140 @@ pub struct Hunt {
     pub budget: u32,
     /// How many runs there are.
     pub runs: u32,
-    /// The number of the first run. Each other has the next number, and 0 comes behind the greatest.
+    /// The number of the first run. Each other has the next number, and 0 comes after the greatest.
     pub start: u32,
 }
 
-/// Runs the image that a file is on machines of this size, by the random schedules of numbers, and prints what the runs come to,
-/// each different result once. Where traces are asked for, that of the first run to each result is written before.
+/// Runs the image that a file is on machines of this size, by the random schedules of numbers, and prints what the
+/// runs come to, each different result once. How far the runs are is reported meanwhile. Where traces are asked for,
+/// that of the first run to each result is written before; where one of these is there already, none is, and nothing
+/// is printed.
 ///
-/// Answers the exit status: 0 where all is printed, 1 where it is and a processor is faulted in a run, else that of the fault that
-/// is told on standard error. A fault is told in this order: of the image, of the machine's size, of a trace, of standard output.
-pub fn hunt_command<R: Read + Drop, T: Traces, W: LinkWrite, E: Write>(
+/// Answers the exit status: 0 where all is printed, 1 where it is and a processor is faulted in a run, else that of
+/// what is reported on standard error. That is reported in this order: of the image, of the machine's size, of a trace
+/// that is there, of one that cannot be written, of standard output.
+pub fn hunt_command<R: Read + Drop, T: Traces, G: HuntObserver, W: LinkWrite, E: Write>(
     alloc: Global,
     file: R,
     config: Config,
     hunt: Hunt,
     traces: &mut Option<T>,
+    observer: &mut G,
     out: &mut W,
     err: &mut E,
 ) -> u8
     requires { W.has_failed out.old ≡ false }
-    ensures printed { result ≤ 1 → IsPrinted (IsHunt config hunt (R.remaining file) result) (W.contents out.old) (W.contents out.new) }
-    ensures told { 2 ≤ result → IsTold W.has_failed Fault.Link ⊥ (IsNoHunt config hunt (R.remaining file) (W.contents out.old) (W.contents out.new))
-        out.old out.new result }
+    ensures printed { result ≤ 1 →
+        Prints (IsHunt T.finds T.opens T.closes T.Writer.has_failed T.Writer.contents config hunt (R.remaining file)
+        traces.old traces.new result) (W.contents out.old) (W.contents out.new) }
+    ensures fault { 2 ≤ result →
+        ReportsFaultAs W.has_failed
+        (HuntFails T.finds T.opens T.closes T.Writer.has_failed T.Writer.contents config hunt
+        (R.remaining file) traces.old traces.new (W.contents out.old) (W.contents out.new))
+        (IsRefusalReported (E.contents err.old) (E.contents err.new)) out.old out.new result }
     ensures failed { W.has_failed out.new ≡ true → result ≡ 3 }
+    ensures quiet { result ≤ 1 → err.new ≡ err.old }
 {
-    match carried_out(alloc, file, config, hunt, traces, out) {
+    match execute(alloc, file, config, hunt, traces, observer, out) {
         Ok(status) => status,
-        Err(fault) => tell(fault, err),
+        Err(refused) => tell_refused(refused, traces, err),
+    }
+}
+
+/// Tells why nothing is printed, and answers the exit status.
+fn tell_refused<T: Traces, E: Write>(refused: Refused, traces: &Option<T>, err: &mut E) -> u8
+    ensures fault { result ≡ status_of refused }
+    ensures high { 2 ≤ result }
+    ensures reported { IsRefusalReported (E.contents err.old) (E.contents err.new) refused }
+{
+    match (refused, traces) {
+        (Refused::Fault(fault), _) => report_fault(fault, err),
+        (Refused::There(number), Some(traces)) => {
+            traces.tell_there(number, err);
+            REFUSED
+        }
+        (Refused::There(_), None) => REFUSED,
     }
 }
 
 /// Carries the command out.
-fn carried_out<R: Read + Drop, T: Traces, W: LinkWrite>(
+fn execute<R: Read + Drop, T: Traces, G: HuntObserver, W: LinkWrite>(
     alloc: Global,
     file: R,
     config: Config,
     hunt: Hunt,
     traces: &mut Option<T>,
+    observer: &mut G,
     out: &mut W,
-) -> Result<u8, Fault>
+) -> Result<u8, Refused>
     requires { W.has_failed out.old ≡ false }
-    ensures failed { IsErrOf result Fault.Link ↔ (W.has_failed out.new ≡ true) }
-    ensures printed { IfOk result (λ status. IsPrinted (IsHunt config hunt (R.remaining file) status) (W.contents out.old) (W.contents out.new)) }
+    ensures failed { IsErrOf result (Refused.Fault Fault.Link) ↔ (W.has_failed out.new ≡ true) }
+    ensures printed { IfOk result
+        (λ status. Prints (IsHunt T.finds T.opens T.closes T.Writer.has_failed T.Writer.contents config hunt
+        (R.remaining file) traces.old traces.new status) (W.contents out.old) (W.contents out.new)) }
     ensures low { IfOk result (λ status. status ≤ 1) }
-    ensures told { IfErr result (IsNoHunt config hunt (R.remaining file) (W.contents out.old) (W.contents out.new)) }
+    ensures fault { IfErr result (HuntFails T.finds T.opens T.closes T.Writer.has_failed T.Writer.contents config hunt
+        (R.remaining file)
+        traces.old traces.new (W.contents out.old) (W.contents out.new)) }
     ensures silent { OnErr result (W.has_failed out.new ≡ false → out.new ≡ out.old) }
 {
-    let image = image_of(alloc, file, &config)?;
-    hunt_image(alloc, &image, config, hunt, traces, out)
+    let image = image_in(alloc, file, &config)?;
+    hunt_image(alloc, &image, config, hunt, traces, observer, out)
 }
 
 /// Prints what the runs of an image come to, and writes their traces before, where these are asked for.
 // A function of its own, so that none has many values to drop at each of its ends.
-fn hunt_image<T: Traces, W: LinkWrite>(
+fn hunt_image<T: Traces, G: HuntObserver, W: LinkWrite>(
     alloc: Global,
     image: &Image,
     config: Config,
     hunt: Hunt,
     traces: &mut Option<T>,
+    observer: &mut G,
     out: &mut W,
-) -> Result<u8, Fault>
+) -> Result<u8, Refused>
     requires works { W.has_failed out.old ≡ false }
     requires words { image.now.shared_words ≡ config.shared_words }
-    ensures failed { IsErrOf result Fault.Link ↔ (W.has_failed out.new ≡ true) }
+    ensures failed { IsErrOf result (Refused.Fault Fault.Link) ↔ (W.has_failed out.new ≡ true) }
     ensures printed { IfOk result (λ status. (known : Option (List ℕ)) → IsImageOf config.shared_words known image.now
-        → IsPrinted (IsHunt config hunt known status) (W.contents out.old) (W.contents out.new)) }
+        → Prints
+        (IsHunt T.finds T.opens T.closes T.Writer.has_failed T.Writer.contents config hunt known traces.old traces.new
+        status)
+        (W.contents out.old) (W.contents out.new)) }
     ensures low { IfOk result (λ status. status ≤ 1) }
-    ensures told { IfErr result (λ fault. (known : Option (List ℕ)) → IsImageOf config.shared_words known image.now
-        → IsNoHunt config hunt known (W.contents out.old) (W.contents out.new) fault) }
+    ensures fault { IfErr result (λ refused. (known : Option (List ℕ)) → IsImageOf config.shared_words known image.now
+        → HuntFails T.finds T.opens T.closes T.Writer.has_failed T.Writer.contents config hunt known traces.old
+        traces.new
+        (W.contents out.old) (W.contents out.new) refused) }
     ensures silent { OnErr result (W.has_failed out.new ≡ false → out.new ≡ out.old) }
 {
-    let (findings, status) = findings_of(alloc, image, config, hunt.budget, hunt.start, hunt.runs)?;
-    let text = findings_text(alloc, findings.found())?;
-    save_all(alloc, image, config, hunt.budget, findings.found(), traces)?;
+    let (findings, status) = watched(alloc, image, config, hunt, observer)?;
+    let text = findings_text(alloc, &findings)?;
+    save_all(alloc, image, config, hunt.budget, &findings, traces)?;
     print(out, text.as_str())?;
     Ok(status)
+}
+
+/// What the runs of a hunt come to, and the greatest of their exit statuses.
+fn watched<G: HuntObserver>(
+    alloc: Global,
+    image: &Image,
+    config: Config,
+    hunt: Hunt,
+    observer: &mut G,
+) -> Result<(Findings, u8), Fault>
+    requires words { image.now.shared_words ≡ config.shared_words }
+    ensures found { IfOk result (λ done. AreFound config image.now
+        (most_of hunt.budget) hunt.start hunt.runs done.0.found done.1) }
+    ensures low { IfOk result (λ done. done.1 ≤ 1) }
+    ensures limits { OnOk result (IsWithinLimits config) }
+    ensures refused { IfErr result (IsFaultOfSize config) }
+{
+    if !config.is_within_limits() {
+        return Err(Fault::Size);
+    }
+    let (budget, start, runs) = (hunt.budget, hunt.start, hunt.runs);
+    let found = findings_of(alloc, image, config, budget, start, runs, observer);
+    observer.over();
+    found
 }

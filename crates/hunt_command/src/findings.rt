@@ -1,62 +1,46 @@
 //! Different results, and how often each came.
 
-ghost use Rattle.std.specs.Prelude.{◌≡◌, ◌+◌, ◌++◌, ◌<◌, ◌^◌, [], IfOk, OnOk, string_bytes};
-ghost use Rattle.hunt_command.specs.Findings.{finding_lines, findings_lines, noted, place_of};
+ghost use Rattle.std.specs.Prelude.{◌≡◌, ◌+◌, ◌++◌, ◌<◌, ◌^◌, [], Some, IfOk, OnOk, length, slice_get, string_bytes};
+ghost use Rattle.indexmap.specs.IndexMap.{index_map_len};
+ghost use Rattle.indexmap.specs.Layout.{set_value_at};
+ghost use Rattle.hunt_command.specs.Findings.{finding_lines, findings_lines, firsts, noted};
 
+use indexmap::IndexMap;
 use std::alloc::{AllocError, Global};
 use std::fmt::Write;
 use std::marker::Model;
 
-/// A result, how many runs came to it, and the number of the first of them.
-#[derive(Debug, Drop)]
-pub struct Finding {
-    text: String,
+/// How many runs came to a result, and the number of the first of them.
+#[derive(Clone, Copy, Debug, PartialEq, Eq, Drop)]
+struct Counted {
     runs: u32,
     first: u32,
 }
 
-impl Model for Finding {
-    ghost use Rattle.std.specs.Prelude.{string_bytes};
-    ghost use Rattle.hunt_command.specs.Findings.{FindingState};
-
-    ghost Value = { FindingState };
-
-    ghost view = { λ f. record { text = string_bytes f.text; runs = f.runs; first = f.first } };
-}
-
-impl Finding {
-    /// The number of the first run that came to the result.
-    pub fn first(&self) -> u32
-        ensures { result ≡ self.now.first }
-    {
-        self.first
-    }
-
-    /// Appends its lines.
-    #[tactic(auto, unfolding(crate::specs::Findings::finding_lines))]
-    fn push_to(&self, text: &mut String) -> Result<(), AllocError>
-        ensures { OnOk result (string_bytes text.new ≡ string_bytes text.old ++ finding_lines self.now) }
-    {
-        write!(text, "runs {} first {} ", self.runs, self.first)?;
-        text.push_str(self.text.as_str())
-    }
-}
-
-/// Different results, in the order in which they came first. Contracts see what is found, and how many results are noted.
-#[derive(Debug, Drop)]
+/// Different results, in the order in which they came first. Contracts see what is found, and how many results are
+/// noted.
+#[derive(Drop)]
 pub struct Findings {
-    found: Vec<Finding>,
+    /// By the text of each.
+    found: IndexMap<String, Counted>,
     noted: u32,
 }
 
 impl Model for Findings {
-    ghost use Rattle.hunt_command.specs.Findings.{AreFew, FindingsState};
+    ghost use Rattle.std.specs.Prelude.{string_bytes};
+    ghost use Rattle.hunt_command.specs.Findings.{AreFew, FindingsState, found_in};
 
     ghost Value = { FindingsState };
 
-    ghost view = { λ f. record { found = f.found.items; noted = f.noted } };
+    ghost view = { λ f. record {
+      found = found_in (λ text. string_bytes text) (λ counted. counted.runs) (λ counted. counted.first) f.found.entries;
+      noted = f.noted;
+    } };
 
-    ghost invariant = { λ f. AreFew (record { found = f.found.items; noted = f.noted }) };
+    ghost invariant = { λ f. AreFew (record {
+      found = found_in (λ text. string_bytes text) (λ counted. counted.runs) (λ counted. counted.first) f.found.entries;
+      noted = f.noted;
+    }) };
 }
 
 impl Findings {
@@ -65,16 +49,27 @@ impl Findings {
         ensures { result ≡ record { found = []; noted = 0 } }
     {
         Findings {
-            found: Vec::new(alloc),
+            found: IndexMap::new(alloc),
             noted: 0,
         }
     }
 
-    /// What is found.
-    pub fn found(&self) -> &[Finding]
-        ensures { result.now ≡ self.now.found }
+    /// How many results are found.
+    pub fn count(&self) -> usize
+        ensures { result ≡ length self.now.found }
     {
-        self.found.as_slice()
+        self.found.len()
+    }
+
+    /// The number of the first run that came to the result at a place.
+    pub fn first_at(&self, place: usize) -> u32
+        requires { place < length self.now.found }
+        ensures { slice_get (firsts self.now.found) place ≡ Some result }
+    {
+        match self.found.get_index(place) {
+            Some((_, counted)) => counted.first,
+            None => unreachable!(),
+        }
     }
 
     /// Notes the result of the run of a number.
@@ -82,36 +77,50 @@ impl Findings {
     /// # Errors
     ///
     /// [`AllocError`] where there is no memory for it.
-    pub fn note(&mut self, text: String, number: u32) -> Result<(), AllocError>
+    pub fn add(&mut self, text: String, number: u32) -> Result<(), AllocError>
         requires { self.old.noted + 1 < 2 ^ 32 }
-        ensures { OnOk result (self.new ≡ record { found = noted self.old.found (string_bytes text) number; noted = self.old.noted + 1 }) }
+        ensures { OnOk result (self.new
+            ≡ record { found = noted self.old.found (string_bytes text) number; noted = self.old.noted + 1 }) }
     {
         self.noted += 1;
-        let place = place_of(self.found.as_slice(), text.as_str());
-        if place < self.found.len() {
-            self.found[place].runs += 1;
+        let Some(place) = self.found.get_index_of(&text) else {
+            let counted = Counted {
+                runs: 1,
+                first: number,
+            };
+            self.found.insert(text, counted)?;
             return Ok(());
-        }
-        self.found.push(Finding {
-            text,
-            runs: 1,
-            first: number,
-        })?;
+        };
+        let Some((_, before)) = self.found.get_index(place) else {
+            unreachable!()
+        };
+        let counted = Counted {
+            runs: before.runs + 1,
+            first: before.first,
+        };
+        put_at(&mut self.found, place, counted);
         Ok(())
     }
 }
 
-/// The place of a result among those that are found, or how many there are where it is not.
-#[tactic(auto, using(crate::proofs::Noting::place_here, crate::proofs::Noting::place_behind, crate::proofs::Noting::place_past))]
-fn place_of(found: &[Finding], text: &str) -> usize
-    ensures { result ≡ place_of text.now found.now }
+/// Puts what is counted of the result at a place.
+fn put_at(found: &mut IndexMap<String, Counted>, place: usize, counted: Counted)
+    requires { place < index_map_len found.old }
+    ensures { found.new.entries ≡ set_value_at found.old.entries place counted }
 {
-    for (place, finding) in found.iter().enumerate() {
-        if finding.text.as_str() == text {
-            return place;
-        }
+    if let Some(value) = found.get_index_mut(place) {
+        *value = counted;
     }
-    found.len()
+}
+
+/// Appends the lines of a result.
+#[tactic(auto, unfolding(crate::specs::Findings::finding_lines))]
+fn push_result(text: &mut String, found: &str, counted: &Counted) -> Result<(), AllocError>
+    ensures { OnOk result (string_bytes text.new ≡ string_bytes text.old
+        ++ finding_lines (record { text = found.now; runs = counted.now.runs; first = counted.now.first })) }
+{
+    write!(text, "runs {} first {} ", counted.runs, counted.first)?;
+    text.push_str(found)
 }
 
 /// The lines of all that is found.
@@ -119,13 +128,15 @@ fn place_of(found: &[Finding], text: &str) -> usize
 /// # Errors
 ///
 /// [`AllocError`] where there is no memory for them.
-#[tactic(auto, using(crate::proofs::Noting::lines_step, crate::proofs::Noting::lines_whole))]
-pub fn findings_text(alloc: Global, found: &[Finding]) -> Result<String, AllocError>
-    ensures { IfOk result (λ text. string_bytes text ≡ findings_lines found.now) }
+pub fn findings_text(alloc: Global, findings: &Findings) -> Result<String, AllocError>
+    ensures { IfOk result (λ text. string_bytes text ≡ findings_lines findings.now.found) }
 {
     let mut text = String::new(alloc);
-    for finding in found {
-        finding.push_to(&mut text)?;
+    for place in 0..findings.count() {
+        let Some((found, counted)) = findings.found.get_index(place) else {
+            unreachable!()
+        };
+        push_result(&mut text, found.as_str(), counted)?;
     }
     Ok(text)
 }

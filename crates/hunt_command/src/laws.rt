@@ -7,9 +7,10 @@ ghost use Rattle.machine_log.specs.Logs.{Log};
 ghost use Rattle.schedules.specs.declared.sweeping.SweepEnd.{SweepEnd};
 ghost use Rattle.hunt_command.specs.Runs.{IsRandomRun};
 
-/// The steps that a run enters are a function of the machine's size, the image, the run's number and its budget: the same
-/// number gives the same run.
+/// The steps that a run enters are a function of the machine's size, the image, the run's number and its budget: the
+/// same number gives the same run.
 pub fn random_runs_have_one_log()
     ensures { (c : Config) (image : ImageContents) (number most : ℕ) (end other : SweepEnd) (first second : Log) →
-        IsRandomRun c image number most end first → IsRandomRun c image number most other second → first.steps ≡ second.steps }
+        IsRandomRun c image number most end first → IsRandomRun c image number most other second →
+        first.steps ≡ second.steps }
 {}

@@ -15,8 +15,8 @@ use std::alloc::{AllocError, Global};
 use std::fmt::Write;
 use trace_commands::push_words;
 
-/// What a run came to that ended so and left this machine, whose processors have shown this: how it ended, a line for each
-/// processor and one for each shared word that is not zero.
+/// What a run came to that ended so and left this machine, whose processors have shown this: how it ended, a line for
+/// each processor and one for each shared word that is not zero.
 ///
 /// # Errors
 ///
@@ -57,7 +57,8 @@ fn push_outcomes(
 ) -> Result<(), AllocError>
     requires home { AreHome machine.now }
     requires all { length tally.now.shown ≡ 2 ^ machine.now.config.k }
-    ensures { OnOk result (string_bytes text.new ≡ string_bytes text.old ++ outcome_lines machine.now tally.now.shown (2 ^ machine.now.config.k)) }
+    ensures { OnOk result (string_bytes text.new ≡ string_bytes text.old
+        ++ outcome_lines machine.now tally.now.shown (2 ^ machine.now.config.k)) }
 {
     for p in 0..machine.config().processors() {
         push_outcome_of(alloc, text, machine, tally, p)?;

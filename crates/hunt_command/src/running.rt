@@ -1,29 +1,37 @@
 //! Running a machine by a random schedule.
 
-ghost use Rattle.std.specs.Prelude.{◌≡◌, ◌≤◌, ◌<◌, ◌+◌, ◌↔◌, Err, IfOk, OnErr, OnOk, length};
+ghost use Rattle.std.specs.Prelude.{◌≡◌, ◌≤◌, ◌<◌, ◌+◌, ◌↔◌, ℕ, Err, IfErr, IfOk, OnErr, OnOk, [], length, false, true};
 ghost use Rattle.machine_steps.specs.Draining.{drain_bound};
+ghost use Rattle.machine_steps.specs.Noting.{AreNoted};
 ghost use Rattle.schedules.specs.Own.{AreOwn};
+ghost use Rattle.steps.specs.Answers.{is_stalled};
 ghost use Rattle.schedules.specs.Sweeps.{most_of};
 ghost use Rattle.hunt_command.specs.Runs.{HasRunAtRandom, WasAsked};
+ghost use Rattle.hunt_command.specs.Schedules.{schedule};
+ghost use Rattle.command_io.specs.Tallies.{noted_after};
 ghost use Rattle.trace_file.specs.Traces.{HaveRecords};
 
 use crate::schedule::Schedule;
-use machine_log::{LockRefusal, Logged, Roomy, roomy_is_kept};
+use command_io::{Fault, Tally};
+use machine_log::{LockRefusal, Logged, ReservedLog, reserved_log_is_well_formed};
 use machine_steps::any_runs;
 use schedules::{MAX_BUDGET, SweepEnd, is_over, most_steps};
+use steps::{NoObserver, Outcome, Step, StepObserver};
 
-/// Asks for the steps of the schedule of a number, until a fault stops a processor, no processor runs, or as many steps are
-/// entered, or as many turns asked for, as the budget has, [`MAX_BUDGET`] at most. Then takes steps until no reference is open, as
-/// [`Logged::drain`] does. For all these steps it makes room first.
+/// Asks for the steps of the schedule of a number, until a fault stops a processor, no processor runs, or as many
+/// steps are entered, or as many turns asked for, as the budget has, [`MAX_BUDGET`] at most. Then takes steps until no
+/// reference is open, as [`Logged::drain`] does. For all these steps it makes room first.
 ///
 /// # Errors
 ///
-/// [`LockRefusal::Full`] where the log would pass [`steps::MAX_STEPS`] steps with as many, else [`LockRefusal::Memory`] where there
-/// is no memory for them. Each leaves all as it was.
+/// [`LockRefusal::Full`] where the log would pass [`steps::MAX_STEPS`] steps with as many, else
+/// [`LockRefusal::Memory`] where there is no memory for them. Each leaves all as it was.
 pub fn random_run(log: &mut Logged, number: u32, budget: u32) -> Result<SweepEnd, LockRefusal>
     ensures ran { IfOk result (λ end. HasRunAtRandom number (most_of budget) log.old end log.new) }
-    ensures records { OnOk result (HaveRecords log.old.machine.config.k log.old.steps → HaveRecords log.new.machine.config.k log.new.steps) }
-    ensures full { (result ≡ Err LockRefusal.Full) ↔ (4194304 < length log.old.steps + (most_of budget + drain_bound log.old.machine.config)) }
+    ensures records { OnOk result (HaveRecords log.old.machine.config.k log.old.steps →
+        HaveRecords log.new.machine.config.k log.new.steps) }
+    ensures full { (result ≡ Err LockRefusal.Full)
+        ↔ (4194304 < length log.old.steps + (most_of budget + drain_bound log.old.machine.config)) }
     ensures named { result ≡ Err LockRefusal.Unnamed → ⊥ }
     ensures not_free { result ≡ Err LockRefusal.NotFree → ⊥ }
     ensures refused { OnErr result (log.new ≡ log.old) }
@@ -33,43 +41,140 @@ pub fn random_run(log: &mut Logged, number: u32, budget: u32) -> Result<SweepEnd
     Ok(run(log.room(room)?, number, most))
 }
 
-/// Runs for so many steps and turns at most, and then drains the machine. There is room for the steps.
-fn run(log: &mut Roomy, number: u32, most: u32) -> SweepEnd
-    requires few { most ≤ 4000000 }
-    requires room { most + drain_bound log.old.log.machine.config ≤ log.old.places }
-    ensures ran { HasRunAtRandom number most log.old.log result log.new.log }
-    ensures records { HaveRecords log.old.log.machine.config.k log.old.log.steps → HaveRecords log.new.log.machine.config.k log.new.log.steps }
+/// Asks for the steps of the schedule of a number in a log that has none, as [`random_run`] does, and observer each
+/// that is entered. It does not drain the machine.
+///
+/// # Errors
+///
+/// [`Fault::Memory`].
+pub(crate) fn observed_run(
+    log: &mut Logged,
+    number: u32,
+    budget: u32,
+    tally: &mut Tally,
+) -> Result<SweepEnd, Fault>
+    requires none { log.old.steps ≡ [] }
+    requires noting { tally.old.observed ≡ 0 }
+    ensures asked { IfOk result (λ end. WasAsked (schedule log.old.machine.config.k number (most_of budget))
+        (length log.old.steps + most_of budget)
+        log.old end log.new) }
+    ensures noted { OnOk result (AreNoted (λ t step outcome t'. t'
+        ≡ noted_after t step outcome) log.old.opening log.new.steps tally.old tally.new) }
+    ensures refused { IfErr result (λ fault. fault ≡ Fault.Memory) }
 {
-    roomy_is_kept(log);
-    let limit = log.steps().len() + most as usize;
-    let mut schedule = Schedule::new(log.machine().config().k, number, most);
-    let end = ask(log, &mut schedule, limit);
+    let most = budget.min(MAX_BUDGET);
+    let Ok(reserved) = log.room(most) else {
+        return Err(Fault::Memory);
+    };
+    match asked(reserved, number, most, tally) {
+        Ok(end) => Ok(end),
+        Err(_) => Err(Fault::Memory),
+    }
+}
+
+/// Runs for this many steps and turns at most, and then drains the machine. There is room for the steps.
+fn run(log: &mut ReservedLog, number: u32, most: u32) -> SweepEnd
+    requires few { most ≤ 4000000 }
+    requires room { most + drain_bound log.old.log.machine.config ≤ log.old.capacity_left }
+    ensures ran { HasRunAtRandom number most log.old.log result log.new.log }
+    ensures records { HaveRecords log.old.log.machine.config.k log.old.log.steps →
+        HaveRecords log.new.log.machine.config.k log.new.log.steps }
+{
+    reserved_log_is_well_formed(log);
+    let Ok(end) = asked(log, number, most, &mut NoObserver);
     log.drain();
-    roomy_is_kept(log);
+    reserved_log_is_well_formed(log);
     end
 }
 
-/// Asks for the steps of a schedule, until the run is over, the log has so many steps, or all are asked for.
-fn ask(log: &mut Roomy, schedule: &mut Schedule, limit: usize) -> SweepEnd
+/// Asks for steps of the schedule of a number, this many steps and turns at most, and observer each that is entered.
+/// There is room for them.
+///
+/// # Errors
+///
+/// That of the observer.
+fn asked<N: StepObserver>(
+    log: &mut ReservedLog,
+    number: u32,
+    most: u32,
+    observer: &mut N,
+) -> Result<SweepEnd, N::Refusal>
+    requires few { most ≤ 4000000 }
+    requires room { most ≤ log.old.capacity_left }
+    requires noting { N.has_room observer.old most }
+    ensures asked { IfOk result (λ end. WasAsked (schedule log.old.log.machine.config.k number most)
+        (length log.old.log.steps + most) log.old.log end
+        log.new.log) }
+    ensures noted { OnOk result (AreNoted N.observed log.old.log.opening log.old.log.steps observer.old observer.old
+        → AreNoted N.observed log.old.log.opening log.new.log.steps observer.old observer.new) }
+    ensures config { log.new.log.machine.config ≡ log.old.log.machine.config }
+    ensures room { length log.new.log.steps + log.new.capacity_left ≡ length log.old.log.steps + log.old.capacity_left }
+{
+    reserved_log_is_well_formed(log);
+    let limit = log.steps().len() + most as usize;
+    let mut schedule = Schedule::new(log.machine().config().k, number, most);
+    ask(log, &mut schedule, limit, observer)
+}
+
+/// Asks for the steps of a schedule, until the run is over, the log has this many steps, or all are asked for, and
+/// observer each that is entered.
+///
+/// # Errors
+///
+/// That of the observer.
+fn ask<N: StepObserver>(
+    log: &mut ReservedLog,
+    schedule: &mut Schedule,
+    limit: usize,
+    observer: &mut N,
+) -> Result<SweepEnd, N::Refusal>
     requires own { AreOwn schedule.old }
     requires few { length log.old.log.steps ≤ limit }
-    requires room { limit ≤ length log.old.log.steps + log.old.places }
-    ensures asked { WasAsked schedule.old limit log.old.log result log.new.log }
+    requires room { limit ≤ length log.old.log.steps + log.old.capacity_left }
+    requires noting { (most : ℕ) × (limit ≡ length log.old.log.steps + most) × N.has_room observer.old most }
+    ensures asked { IfOk result (λ end. WasAsked schedule.old limit log.old.log end log.new.log) }
+    ensures noted { OnOk result (AreNoted N.observed log.old.log.opening log.old.log.steps observer.old observer.old
+        → AreNoted N.observed log.old.log.opening log.new.log.steps observer.old observer.new) }
     ensures config { log.new.log.machine.config ≡ log.old.log.machine.config }
-    ensures room { length log.new.log.steps + log.new.places ≡ length log.old.log.steps + log.old.places }
+    ensures room { length log.new.log.steps + log.new.capacity_left ≡ length log.old.log.steps + log.old.capacity_left }
 {
-    roomy_is_kept(log);
+    reserved_log_is_well_formed(log);
     if !any_runs(log.machine()) {
-        return SweepEnd::Over;
+        return Ok(SweepEnd::Over);
     }
     while log.steps().len() < limit {
         let Some(step) = schedule.next() else {
-            return SweepEnd::Budget;
+            return Ok(SweepEnd::Budget);
         };
         let outcome = log.step(step);
+        observe_unless_stalled(observer, step, &outcome)?;
         if is_over(&outcome, log.machine()) {
-            return SweepEnd::Over;
+            return Ok(SweepEnd::Over);
         }
     }
-    SweepEnd::Budget
+    Ok(SweepEnd::Budget)
+}
+
+/// Notes what a step did that has not stalled.
+///
+/// # Errors
+///
+/// That of the observer.
+#[inline(always)]
+fn observe_unless_stalled<N: StepObserver>(
+    observer: &mut N,
+    step: Step,
+    outcome: &Outcome,
+) -> Result<(), N::Refusal>
+    requires room { (more : ℕ) × N.has_room observer.old (more + 1) }
+    ensures noted { OnOk result (is_stalled outcome.now ≡ false →
+        N.observed observer.old step outcome.now observer.new) }
+    ensures room { OnOk result ((more : ℕ) → N.has_room observer.old (more + 1) → is_stalled outcome.now ≡ false →
+        N.has_room observer.new more) }
+    ensures stalled { OnOk result (is_stalled outcome.now ≡ true → observer.new ≡ observer.old) }
+{
+    if outcome.is_stalled() {
+        return Ok(());
+    }
+    observer.observe(step, outcome)
 }

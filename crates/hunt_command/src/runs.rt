@@ -1,22 +1,28 @@
 //! Runs, and what they come to.
 
-ghost use Rattle.std.specs.Prelude.{◌≡◌, ◌≤◌, ℕ, IfErr, IfOk, string_bytes};
+ghost use Rattle.std.specs.Prelude.{◌≡◌, ◌≤◌, List, IfErr, IfOk, length, string_bytes};
+ghost use Rattle.machine_steps.specs.Machines.{AreHome, MachineLists};
+ghost use Rattle.steps.specs.declared.step.Step.{Step};
+ghost use Rattle.trace_commands.specs.CountedReplays.{IsReplayCounted};
 ghost use Rattle.schedules.specs.Sweeps.{most_of};
 ghost use Rattle.command_io.specs.Files.{IsFaultOfSize};
-ghost use Rattle.hunt_command.specs.Hunts.{AreFound, IsLogOf, IsResultOf, IsSomeLog, greater};
+ghost use Rattle.hunt_command.specs.Hunts.{AreFound, IsDrainedTo, IsLogOf, IsResultOf, greater};
 
 use crate::findings::Findings;
 use crate::lines::result_text;
-use crate::running::random_run;
-use command_io::{Fault, opened};
+use crate::observer::HuntObserver;
+use crate::running::{observed_run, random_run};
+use command_io::{Fault, Tally, opened};
 use elf_image::Image;
 use flat_machine::Config;
-use machine_log::{Logged, log_is_kept};
+use machine_log::{Logged, log_is_well_formed};
+use machine_steps::Machine;
 use schedules::SweepEnd;
 use std::alloc::Global;
-use trace_commands::{exit_status, retaken};
+use trace_commands::{drained, exit_status};
 
-/// The log of the run of a number, on a machine of this size that opens on a copy of the image, and where the run ended.
+/// The log of the run of a number, on a machine of this size that opens on a copy of the image, and where the run
+/// ended.
 ///
 /// # Errors
 ///
@@ -37,12 +43,12 @@ pub(crate) fn run_of(
         // A new log has room for the longest run, so memory is all that it can want.
         return Err(Fault::Memory);
     };
-    log_is_kept(&log);
+    log_is_well_formed(&log);
     Ok((log, end))
 }
 
-/// What the run of a number comes to: its text, and its exit status. The steps are taken again, on a machine that opens on
-/// another copy of the image, so that what the processors show is counted; none of them stalls there.
+/// What the run of a number comes to: its text, and its exit status. What the processors show is counted as the steps
+/// are taken.
 fn result_of(
     alloc: Global,
     image: &Image,
@@ -51,32 +57,39 @@ fn result_of(
     number: u32,
 ) -> Result<(String, u8), Fault>
     requires words { image.now.shared_words ≡ config.shared_words }
-    ensures result { IfOk result (λ done. IsResultOf config image.now (most_of budget) number (record { text = string_bytes done.0; status = done.1 })) }
+    ensures result { IfOk result (λ done. IsResultOf config image.now (most_of budget) number
+        (record { text = string_bytes done.0; status = done.1 })) }
     ensures low { IfOk result (λ done. done.1 ≤ 1) }
     ensures refused { IfErr result (IsFaultOfSize config) }
 {
-    let (log, end) = run_of(alloc, image, config, budget, number)?;
-    result_of_log(alloc, image, config, &log, end)
+    let machine = opened(alloc, image, config)?;
+    let mut tally = Tally::new(alloc, machine.config().processors())?;
+    let mut log = Logged::new(alloc, machine);
+    let end = observed_run(&mut log, number, budget, &mut tally)?;
+    log_is_well_formed(&log);
+    let (machine, _, _) = log.into_parts();
+    drained_result(alloc, machine, end, tally)
 }
 
-/// What the log of a run, which ended so, comes to.
+/// What a run comes to that ended so, once its machine is drained.
 // A function of its own, so that none has many values to drop at each of its ends.
-fn result_of_log(
+fn drained_result(
     alloc: Global,
-    image: &Image,
-    config: Config,
-    log: &Logged,
+    machine: Machine,
     end: SweepEnd,
+    tally: Tally,
 ) -> Result<(String, u8), Fault>
-    requires words { image.now.shared_words ≡ config.shared_words }
-    requires ran { IsSomeLog config image.now end log.now }
-    ensures result { IfOk result (λ done. (most number : ℕ) → IsLogOf config image.now most number end log.now
-        → IsResultOf config image.now most number (record { text = string_bytes done.0; status = done.1 })) }
+    requires shown { (opening : MachineLists) × (steps : List Step) × AreHome opening × (length steps ≤ 4194304)
+        × IsReplayCounted opening steps machine tally }
+    ensures result { IfOk result (λ done. (opening : MachineLists) (steps : List Step) →
+        IsReplayCounted opening steps machine tally
+        → IsDrainedTo opening steps machine end (string_bytes done.0) done.1) }
     ensures low { IfOk result (λ done. done.1 ≤ 1) }
-    ensures refused { IfErr result (IsFaultOfSize config) }
+    ensures refused { IfErr result (λ fault. fault ≡ Fault.Memory) }
 {
-    let mut machine = opened(alloc, image, config)?;
-    let tally = retaken(alloc, &mut machine, log.steps())?;
+    let mut machine = machine;
+    let mut tally = tally;
+    drained(&mut machine, &mut tally)?;
     let text = result_text(alloc, end, &machine, &tally)?;
     Ok((text, exit_status(&machine)))
 }
@@ -89,18 +102,20 @@ fn greater(one: u8, other: u8) -> u8
     if one < other { other } else { one }
 }
 
-/// What so many runs come to, of which the first has this number, and the greatest of their exit statuses.
+/// What this many runs come to, of which the first has this number, and the greatest of their exit statuses. How far
+/// they are is reported meanwhile.
 ///
 /// # Errors
 ///
 /// [`Fault::Size`] where the size is out of its limits, and [`Fault::Memory`].
-pub(crate) fn findings_of(
+pub(crate) fn findings_of<G: HuntObserver>(
     alloc: Global,
     image: &Image,
     config: Config,
     budget: u32,
     start: u32,
     runs: u32,
+    observer: &mut G,
 ) -> Result<(Findings, u8), Fault>
     requires words { image.now.shared_words ≡ config.shared_words }
     ensures found { IfOk result (λ done. AreFound config image.now (most_of budget) start runs done.0.found done.1) }
@@ -112,8 +127,9 @@ pub(crate) fn findings_of(
     for place in 0..runs {
         let number = start.wrapping_add(place);
         let (text, of_run) = result_of(alloc, image, config, budget, number)?;
-        findings.note(text, number)?;
+        findings.add(text, number)?;
         status = greater(of_run, status);
+        observer.ran(place + 1, findings.count());
     }
     Ok((findings, status))
 }

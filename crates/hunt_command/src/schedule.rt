@@ -1,8 +1,9 @@
 //! The schedule of a run: which step is asked for next.
 
-ghost use Rattle.std.specs.Prelude.{◌≡◌, ◌≤◌, ◌<◌, ◌+◌, ◌*◌, ◌/◌, ◌%◌, ◌^◌, ◌==◌, ◌∷◌, [], None, IfSome, if◌then◌else◌, length};
+ghost use Rattle.std.specs.Prelude.{◌≡◌, ◌≤◌, ◌<◌, ◌+◌, ◌*◌, ◌/◌, ◌%◌, ◌^◌, ◌==◌, ◌∷◌, [], None, IfSome, if◌then◌else◌};
+ghost use Rattle.std.specs.Prelude.{length};
 ghost use Rattle.schedules.specs.Choices.{choices};
-ghost use Rattle.hunt_command.specs.Schedules.{favoured, schedule};
+ghost use Rattle.hunt_command.specs.Schedules.{favoured_processor, schedule};
 
 use schedules::{choice_at, choices_are_of_the_network, first_state, next_state};
 use std::marker::Model;
@@ -38,7 +39,7 @@ impl Model for Schedule {
 }
 
 impl Schedule {
-    /// The schedule of the run of this number, on a machine of `k` stages, with so many turns.
+    /// The schedule of the run of this number, on a machine of `k` stages, with this many turns.
     pub fn new(k: u8, number: u32, turns: u32) -> Self
         requires { k ≤ 6 }
         ensures { result ≡ schedule k number turns }
@@ -49,7 +50,7 @@ impl Schedule {
             state: first_state(number, 0),
             favourite: 0,
             turns,
-            place: places(k),
+            place: capacity_left(k),
         }
     }
 
@@ -59,7 +60,7 @@ impl Schedule {
         ensures over { result ≡ None → self.old ≡ [] }
     {
         let place = self.place;
-        if place < places(self.k) {
+        if place < capacity_left(self.k) {
             self.place += 1;
             return Some(choice_at(self.k, place));
         }
@@ -68,14 +69,14 @@ impl Schedule {
         }
         self.turns -= 1;
         self.state = next_state(self.state);
-        self.favourite = favoured(self.k, self.number, self.state, self.favourite);
+        self.favourite = favoured_processor(self.k, self.number, self.state, self.favourite);
         self.place = place_behind(self.state, place);
         Some(Step::Turn(self.favourite))
     }
 }
 
 /// How many choices there are.
-fn places(k: u8) -> u32
+fn capacity_left(k: u8) -> u32
     requires { k ≤ 6 }
     ensures count { result ≡ 2 * k * 2 ^ k + 2 ^ k }
     ensures all { result ≡ length (choices k) }
@@ -85,18 +86,18 @@ fn places(k: u8) -> u32
     2 * u32::from(k) * wires + wires
 }
 
-/// The place in the list of choices behind a turn that left this state: its beginning, or its end, where the place is.
+/// The place in the list of choices after a turn that left this state: its beginning, or its end, where the place is.
 fn place_behind(state: u32, end: u32) -> u32
     ensures { result ≡ (if state / 2 ^ 8 % 2 == 0 then 0 else end) }
 {
     if state / 256 % 2 == 0 { 0 } else { end }
 }
 
-/// Which processor is favoured behind a state of the generator.
-fn favoured(k: u8, number: u32, state: u32, before: u8) -> u8
+/// Which processor is favoured after a state of the generator.
+fn favoured_processor(k: u8, number: u32, state: u32, before: u8) -> u8
     requires stages { k ≤ 6 }
     requires there { before < 2 ^ k }
-    ensures favoured { result ≡ favoured k number state before }
+    ensures favoured_processor { result ≡ favoured_processor k number state before }
     ensures there { result < 2 ^ k }
 {
     if state / 65_536 % (1 << (number % 6)) == 0 {

@@ -1,1 +1,5 @@
 pub mod OneMore
+pub mod Cutting
+pub mod Standing
+pub mod OperandSpans
+pub mod NearLabels

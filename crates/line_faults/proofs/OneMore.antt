@@ -24,6 +24,8 @@ one_more name m n l updates = λ i q.
     mapped old true = refl
     mapped old false = refl
 
+-- After a label is put into the map with the next address of its section, the place is the one
+-- that it becomes by the label.
 pub label_added : (s : Section) (code local shared v line : ℕ) (name : List ℕ) (m n : BTreeMap (Bor (List ℕ)) Label)
     → UpdatesBy (λ (x y : Bor (List ℕ)). slice_cmp nat_cmp x.now y.now) (λ (k : Bor (List ℕ)). slice_cmp nat_cmp name k.now) m n
     (Some (record { section = s; address = v; line = line }))

@@ -1,2 +1,9 @@
 pub mod Places
 pub mod Faults
+pub mod Spans
+pub mod Wants
+pub mod WordAtFault
+pub mod Views
+pub mod Advice
+pub mod FirstWords
+pub mod AdviceAtFault

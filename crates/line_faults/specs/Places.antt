@@ -18,4 +18,10 @@ abbrev pub label_values : BTreeMap (Bor (List ℕ)) Label → Labels
 label_values m = λ name. option_map symbol_of (get_by (λ (k : Bor (List ℕ)). slice_cmp nat_cmp name k.now) m)
 
 abbrev pub place_of : Cursor → Place
-place_of c = record { section = c.section; code = c.code; local = c.local; shared = c.shared; labels = label_values c.labels }
+place_of c = record {
+  section = c.section;
+  code = c.code;
+  local = c.local;
+  shared = c.shared;
+  labels = label_values c.labels;
+}

@@ -12,6 +12,8 @@ pub enum Hint<'a> {
     NearWord(&'static str),
     /// This does what other assemblers have the word for.
     Instead(&'static str),
+    /// Other assemblers have the word; here nothing is needed, for this reason.
+    NotNeeded(&'static str),
     /// A label's name is not written so.
     LabelName,
     /// A label ends with a colon.
@@ -29,14 +31,14 @@ pub enum Hint<'a> {
     /// The number is out of range.
     OutOfRange(Wanted),
     /// The number is a word, and these are its upper 20 bits.
-    UpperBits(i64),
+    UpperBits(u64),
     /// Instructions stand in code alone.
     OutsideCode,
     /// The line's place has this address, which is not divisible by 4.
     Unaligned(u64),
     /// A target is at an even distance.
     Odd,
-    /// The target is so many bytes away.
+    /// The target is this many bytes away.
     Far(u64, Wanted),
     /// The label stands on this line already, counted from 1.
     StandsOn(usize),
@@ -44,7 +46,7 @@ pub enum Hint<'a> {
     NoLabel,
     /// This label is written almost so.
     NearLabel(&'a [u8]),
-    /// The section has room for so many bytes, and so many stand there.
+    /// The section has room for this many bytes, and this many stand there.
     Full {
         section: Section,
         room: u32,

@@ -1,5 +1,11 @@
 //! The labels of a text.
 
+ghost use Rattle.std.specs.Prelude.{◌≡◌, IfOk, IfSome};
+ghost use Rattle.line_faults.specs.FirstWords.{few_edits, nearer};
+ghost use Rattle.line_faults.specs.Views.{near_view};
+ghost use Rattle.line_faults.specs.AdviceAtFault.{IsNearLabel};
+ghost use Rattle.line_faults.specs.Places.{label_values};
+
 use crate::edits::few_edits;
 use asm_lines::Section;
 use std::alloc::{AllocError, Global};
@@ -16,8 +22,8 @@ pub struct Label {
     pub line: usize,
 }
 
-/// A search for labels that are near to others. It looks at so many names and no more, so that a text of many labels that
-/// stand nowhere does not take long.
+/// A search for labels that are near to others. It looks at this many names and no more, so that a text of many labels
+/// that stand nowhere does not take long.
 #[derive(Drop)]
 pub struct Search {
     left: usize,
@@ -40,19 +46,38 @@ impl Search {
         alloc: Global,
         labels: &BTreeMap<&'a [u8], Label>,
         word: &[u8],
-    ) -> Result<Option<&'a [u8]>, AllocError> {
+    ) -> Result<Option<&'a [u8]>, AllocError>
+        ensures { IfOk result (λ found. IfSome found (λ name. IsNearLabel
+            (label_values labels.now) word.now name.now)) }
+    {
         let mut nearest: Option<(usize, &'a [u8])> = None;
         for name in labels.keys() {
             if self.left == 0 {
                 break;
             }
             self.left -= 1;
-            if let Some(edits) = few_edits(alloc, word, name)?
-                && nearest.is_none_or(|(fewest, _)| edits < fewest)
-            {
-                nearest = Some((edits, *name));
-            }
+            nearest = nearer(alloc, word, name, nearest)?;
         }
-        Ok(nearest.map(|(_, name)| name))
+        match nearest {
+            Some((_, name)) => Ok(Some(name)),
+            None => Ok(None),
+        }
     }
+}
+
+/// The nearer of a label and the one that was nearest before it.
+fn nearer<'a>(
+    alloc: Global,
+    word: &[u8],
+    name: &'a [u8],
+    nearest: Option<(usize, &'a [u8])>,
+) -> Result<Option<(usize, &'a [u8])>, AllocError>
+    ensures { IfOk result (λ found. near_view found
+        ≡ nearer (few_edits word.now name.now) name.now (near_view nearest.entry)) }
+{
+    Ok(match (few_edits(alloc, word, name)?, nearest) {
+        (Some(edits), None) => Some((edits, name)),
+        (Some(edits), Some((fewest, _))) if edits < fewest => Some((edits, name)),
+        _ => nearest,
+    })
 }

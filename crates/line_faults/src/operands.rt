@@ -1,68 +1,191 @@
 //! Operands that are not what they have to be.
 
+ghost use Rattle.std.specs.Prelude.{◌≡◌, ◌==◌, ◌&&◌, not, IfOk, map, length, find, slice_get, if◌then◌else◌, Some};
+ghost use Rattle.std.specs.Prelude.{None};
+ghost use Rattle.std.specs.Prelude.{is_some, option_and_then, pos};
+ghost use Rattle.std.specs.List.{list_any};
+ghost use Rattle.std.specs.Option.{option_map, option_or};
+ghost use Rattle.asm_lines.specs.Text.{is_blank};
+ghost use Rattle.asm_lines.specs.Statements.{is_name};
+ghost use Rattle.line_faults.specs.Spans.{span_of, bracketed_span};
+ghost use Rattle.line_faults.specs.Advice.{advice_of, comma, takes};
+ghost use Rattle.line_faults.specs.AdviceAtFault.{advice_within, address_advice, base_advice, brackets_advice};
+ghost use Rattle.line_faults.specs.AdviceAtFault.{count_advice, form_advice};
+ghost use Rattle.line_faults.specs.AdviceAtFault.{operands_advice, range_advice, register_advice, some_operands_advice};
+ghost use Rattle.line_faults.specs.AdviceAtFault.{value_advice};
+ghost use Rattle.asm_lines.specs.Number.{number_within};
+ghost use Rattle.line_faults.specs.Views.{line_spans, spot_span, spot_advice};
+ghost use Rattle.line_faults.specs.Wants.{shape_wants, wanted_at};
+ghost use Rattle.line_faults.specs.WordAtFault.{is_parted, label_within, part_label, value_fault, register_fault};
+ghost use Rattle.line_faults.specs.WordAtFault.{address_fault};
+ghost use Rattle.line_faults.specs.WordAtFault.{base_fault, fault_within, first_in, count_fault, some_operands_fault};
+ghost use Rattle.line_faults.specs.WordAtFault.{operands_fault, form_fault};
+
 use crate::hint::Hint;
 use crate::parts::Parts;
 use crate::piece::Piece;
+use crate::positions::{has, has_blank};
 use crate::shape::{Shape, Wanted};
 use crate::spot::Spot;
 use asm_lines::{LineFault, is_name, number_within, register_named};
 use std::alloc::{AllocError, Global};
 
 /// The first operand that is not what it has to be, or that is missing.
-pub fn wrong_operand<'a>(alloc: Global, parts: &Parts<'a>) -> Result<Option<Spot<'a>>, AllocError> {
-    let Some(shape) = Shape::of(parts.word.bytes) else {
-        return Ok(None);
-    };
+pub fn wrong_operand<'a>(alloc: Global, parts: &Parts<'a>) -> Result<Option<Spot<'a>>, AllocError>
+    ensures spot { IfOk result (λ found. option_map spot_span found ≡ form_fault (line_spans parts.now)) }
+    ensures advice { IfOk result (λ found. option_map spot_advice found ≡ form_advice (line_spans parts.now)) }
+{
+    match Shape::of(parts.word.bytes) {
+        Some(shape) => wrong_for(alloc, &shape, parts),
+        None => Ok(None),
+    }
+}
+
+/// What is wrong with operands that are to have this shape.
+fn wrong_for<'a>(
+    alloc: Global,
+    shape: &Shape,
+    parts: &Parts<'a>,
+) -> Result<Option<Spot<'a>>, AllocError>
+    ensures spot { IfOk result (λ found. option_map spot_span found
+        ≡ operands_fault (shape_wants shape.now) (span_of parts.now.rest)) }
+    ensures advice { IfOk result (λ found. option_map spot_advice found
+        ≡ operands_advice (shape_wants shape.now) (span_of parts.now.rest)) }
+{
     if shape.operands.is_empty() {
         let rest = parts.rest.trimmed();
         return Ok(Spot::unless(rest.bytes.is_empty(), rest, Hint::NoOperand));
     }
     let operands = parts.operands(alloc)?;
-    if let Some(spot) = wrong_count(&shape, parts, &operands) {
-        return Ok(Some(spot));
+    Ok(wrong_among(shape, parts.rest, &operands))
+}
+
+/// What is wrong with these operands.
+fn wrong_among<'a>(shape: &Shape, rest: Piece<'a>, operands: &[Piece<'a>]) -> Option<Spot<'a>>
+    ensures spot { option_map spot_span result
+        ≡ some_operands_fault (shape_wants shape.now) (span_of rest.entry) (map span_of operands.now) }
+    ensures advice { option_map spot_advice result
+        ≡ some_operands_advice (shape_wants shape.now) (map span_of operands.now) }
+{
+    match wrong_count(shape, rest, operands) {
+        Some(spot) => Some(spot),
+        None => first_wrong(shape, operands),
     }
-    for (number, operand) in operands.iter().enumerate() {
-        if let Some(wanted) = shape.wanted(number)
-            && let Some(spot) = wanted.look(*operand)
-        {
-            return Ok(Some(spot));
+}
+
+/// The first operand that is not what it has to be.
+fn first_wrong<'a>(shape: &Shape, operands: &[Piece<'a>]) -> Option<Spot<'a>>
+    ensures spot { option_map spot_span result
+        ≡ first_in fault_within (shape_wants shape.now) 0 (map span_of operands.now) }
+    ensures advice { option_map spot_advice result
+        ≡ first_in advice_within (shape_wants shape.now) 0 (map span_of operands.now) }
+{
+    let _count = operands.len();
+    let mut number = 0;
+    let mut rest = operands;
+    while let [operand, behind @ ..] = rest {
+        if let Some(spot) = wrong_at(shape, number, *operand) {
+            return Some(spot);
         }
+        number += 1;
+        rest = behind;
     }
-    Ok(None)
+    None
+}
+
+/// What is wrong with the operand that has this number.
+fn wrong_at<'a>(shape: &Shape, number: usize, operand: Piece<'a>) -> Option<Spot<'a>>
+    ensures spot { option_map spot_span result
+        ≡ option_and_then (λ wanted. fault_within wanted (span_of operand.entry))
+        (wanted_at (shape_wants shape.now) number) }
+    ensures advice { option_map spot_advice result
+        ≡ option_and_then (λ wanted. advice_within wanted (span_of operand.entry))
+        (wanted_at (shape_wants shape.now) number) }
+{
+    match shape.wanted(number) {
+        Some(wanted) => wanted.look(operand),
+        None => None,
+    }
 }
 
 /// Where an operand is too many, or one is missing.
-fn wrong_count<'a>(shape: &Shape, parts: &Parts<'a>, operands: &[Piece<'a>]) -> Option<Spot<'a>> {
+fn wrong_count<'a>(shape: &Shape, rest: Piece<'a>, operands: &[Piece<'a>]) -> Option<Spot<'a>>
+    ensures spot { option_map spot_span result ≡ (if shape.now.is_list then None
+        else count_fault (length shape.now.operands.now) (span_of rest.entry) (map span_of operands.now)) }
+    ensures advice { option_map spot_advice result ≡ (if shape.now.is_list then None
+        else count_advice shape.now.form.now (length shape.now.operands.now) (map span_of operands.now)) }
+{
     if shape.is_list || operands.len() == shape.operands.len() {
         return None;
     }
-    if let Some(extra) = operands.get(shape.operands.len()) {
+    Some(match extra_or_parted(shape, operands) {
+        Some(spot) => spot,
+        None => Spot {
+            piece: rest.trimmed().end(),
+            hint: Hint::Operands(shape.form),
+        },
+    })
+}
+
+/// The first operand that is too many, or else the first that is two.
+fn extra_or_parted<'a>(shape: &Shape, operands: &[Piece<'a>]) -> Option<Spot<'a>>
+    ensures spot { option_map spot_span result
+        ≡ option_or (slice_get (map span_of operands.now) (length shape.now.operands.now))
+        (find is_parted (map span_of operands.now)) }
+    ensures advice { option_map spot_advice result
+        ≡ (if is_some (slice_get (map span_of operands.now) (length shape.now.operands.now))
+        then Some (takes shape.now.form.now)
+        else option_map (λ parted. comma shape.now.form.now) (find is_parted (map span_of operands.now))) }
+{
+    if let Some(extra) = operand_at(operands, shape.operands.len()) {
         return Some(Spot {
-            piece: *extra,
+            piece: extra,
             hint: Hint::Operands(shape.form),
         });
     }
-    match operands.iter().find(|operand| is_parted(operand.bytes)) {
+    match first_parted(operands) {
         Some(parted) => Some(Spot {
-            piece: *parted,
+            piece: parted,
             hint: Hint::Comma(shape.form),
         }),
-        None => Some(Spot {
-            piece: parts.rest.trimmed().end(),
-            hint: Hint::Operands(shape.form),
-        }),
+        None => None,
     }
 }
 
+/// The operand with this number, from 0.
+pub fn operand_at<'a>(operands: &[Piece<'a>], number: usize) -> Option<Piece<'a>>
+    ensures { option_map span_of result ≡ slice_get (map span_of operands.now) number }
+{
+    operands.get(number).copied()
+}
+
+/// The first operand within which a comma is missing.
+fn first_parted<'a>(operands: &[Piece<'a>]) -> Option<Piece<'a>>
+    ensures { option_map span_of result ≡ find is_parted (map span_of operands.now) }
+{
+    let mut rest = operands;
+    while let [operand, behind @ ..] = rest {
+        if is_parted(operand.bytes) {
+            return Some(*operand);
+        }
+        rest = behind;
+    }
+    None
+}
+
 /// Whether a blank stands within an operand that has no brackets.
-fn is_parted(operand: &[u8]) -> bool {
-    operand.iter().any(|byte| *byte == b' ' || *byte == b'\t')
-        && !operand.iter().any(|byte| *byte == b'(')
+fn is_parted(operand: &[u8]) -> bool
+    ensures { result ≡ (list_any is_blank operand.now && not (list_any (λ b. b == 40) operand.now)) }
+{
+    has_blank(operand) && !has(operand, b'(')
 }
 
 impl Wanted {
     /// What of an operand is not as it has to be.
-    fn look<'a>(self, operand: Piece<'a>) -> Option<Spot<'a>> {
+    fn look<'a>(self, operand: Piece<'a>) -> Option<Spot<'a>>
+        ensures spot { option_map spot_span result ≡ fault_within self (span_of operand.entry) }
+        ensures advice { option_map spot_advice result ≡ advice_within self (span_of operand.entry) }
+    {
         match self {
             Wanted::Register => look_at_register(operand),
             Wanted::Address => look_at_address(operand),
@@ -72,24 +195,26 @@ impl Wanted {
     }
 
     /// The label that an operand names in the form that stands here.
-    pub fn label_in<'a>(self, operand: Piece<'a>) -> Option<Piece<'a>> {
+    pub fn label_in<'a>(self, operand: Piece<'a>) -> Option<Piece<'a>>
+        ensures { option_map span_of result ≡ label_within self (span_of operand.entry) }
+    {
         match self {
-            Wanted::Branch | Wanted::Jump | Wanted::Word => {
-                if is_name(operand.bytes) {
-                    Some(operand)
-                } else {
-                    None
-                }
-            }
+            Wanted::Branch | Wanted::Jump | Wanted::Word => name_in(operand),
             Wanted::Lower => part_in(b"%lo", operand),
             Wanted::Upper => part_in(b"%hi", operand),
-            Wanted::Address => part_in(b"%lo", operand.bracketed()?.0),
+            Wanted::Address => match operand.bracket_parts() {
+                Some((front, _)) => part_in(b"%lo", front),
+                None => None,
+            },
             _ => None,
         }
     }
 
     /// What is wrong with a number or a label.
-    fn look_at_value<'a>(self, operand: Piece<'a>) -> Option<Spot<'a>> {
+    fn look_at_value<'a>(self, operand: Piece<'a>) -> Option<Spot<'a>>
+        ensures spot { option_map spot_span result ≡ value_fault self (span_of operand.entry) }
+        ensures advice { option_map spot_advice result ≡ value_advice self (span_of operand.entry) }
+    {
         if self.label_in(operand).is_some() {
             return None;
         }
@@ -106,33 +231,58 @@ impl Wanted {
     }
 
     /// What would be right in place of a number that is out of range.
-    fn range_hint<'a>(self, operand: Piece<'a>) -> Hint<'a> {
-        match number_within(0, 4_294_967_295, operand.bytes) {
-            Ok(word) if matches!(self, Wanted::Upper) => Hint::UpperBits(word / 4096),
+    fn range_hint<'a>(self, operand: Piece<'a>) -> Hint<'a>
+        ensures { advice_of result
+            ≡ range_advice self (number_within (pos 0) (pos 4294967295) operand.entry.bytes.now) }
+    {
+        match (self, number_within(0, 4_294_967_295, operand.bytes)) {
+            (Wanted::Upper, Ok(word)) => Hint::UpperBits(word.unsigned_abs() / 4096),
             _ => Hint::OutOfRange(self),
         }
     }
 }
 
-/// The label of `%hi(label)` or `%lo(label)`.
-fn part_in<'a>(modifier: &[u8], operand: Piece<'a>) -> Option<Piece<'a>> {
-    let (front, name) = operand.bracketed()?;
-    if front.bytes == modifier && is_name(name.bytes) {
-        Some(name)
+/// The label that an operand is.
+fn name_in(operand: Piece<'_>) -> Option<Piece<'_>>
+    ensures { option_map span_of result
+        ≡ (if is_name operand.entry.bytes.now then Some (span_of operand.entry) else None) }
+{
+    if is_name(operand.bytes) {
+        Some(operand)
     } else {
         None
     }
 }
 
+/// The label of `%hi(label)` or `%lo(label)`.
+fn part_in<'a>(modifier: &[u8], operand: Piece<'a>) -> Option<Piece<'a>>
+    ensures { option_map span_of result ≡ part_label modifier.now (span_of operand.entry) }
+{
+    if let Some((front, name)) = operand.bracket_parts() {
+        if front.bytes == modifier && is_name(name.bytes) {
+            return Some(name);
+        }
+    }
+    None
+}
+
 /// What is wrong with a register.
-fn look_at_register<'a>(operand: Piece<'a>) -> Option<Spot<'a>> {
+fn look_at_register<'a>(operand: Piece<'a>) -> Option<Spot<'a>>
+    ensures spot { option_map spot_span result ≡ register_fault (span_of operand.entry) }
+    ensures advice { option_map spot_advice result ≡ register_advice (span_of operand.entry) }
+{
     let is_register = register_named(operand.bytes).is_some();
     Spot::unless(is_register, operand, Hint::Wants(Wanted::Register))
 }
 
 /// What is wrong with `i(rs1)`.
-fn look_at_address<'a>(operand: Piece<'a>) -> Option<Spot<'a>> {
-    let Some((number, base)) = operand.bracketed() else {
+fn look_at_address<'a>(operand: Piece<'a>) -> Option<Spot<'a>>
+    ensures spot { option_map spot_span result
+        ≡ address_fault (span_of operand.entry) (bracketed_span (span_of operand.entry)) }
+    ensures advice { option_map spot_advice result
+        ≡ address_advice (span_of operand.entry) (bracketed_span (span_of operand.entry)) }
+{
+    let Some((number, base)) = operand.bracket_parts() else {
         return Some(without_brackets(operand, Wanted::Address));
     };
     match Wanted::Lower.look_at_value(number) {
@@ -142,8 +292,13 @@ fn look_at_address<'a>(operand: Piece<'a>) -> Option<Spot<'a>> {
 }
 
 /// What is wrong with `(rs1)`.
-fn look_at_base<'a>(operand: Piece<'a>) -> Option<Spot<'a>> {
-    let Some((front, base)) = operand.bracketed() else {
+fn look_at_base<'a>(operand: Piece<'a>) -> Option<Spot<'a>>
+    ensures spot { option_map spot_span result
+        ≡ base_fault (span_of operand.entry) (bracketed_span (span_of operand.entry)) }
+    ensures advice { option_map spot_advice result
+        ≡ base_advice (span_of operand.entry) (bracketed_span (span_of operand.entry)) }
+{
+    let Some((front, base)) = operand.bracket_parts() else {
         return Some(without_brackets(operand, Wanted::Base));
     };
     if !front.bytes.is_empty() {
@@ -156,17 +311,17 @@ fn look_at_base<'a>(operand: Piece<'a>) -> Option<Spot<'a>> {
 }
 
 /// One bracket is missing, or both are.
-fn without_brackets<'a>(operand: Piece<'a>, wanted: Wanted) -> Spot<'a> {
-    let has_one = operand
-        .bytes
-        .iter()
-        .any(|byte| matches!(*byte, b'(' | b')'));
+fn without_brackets<'a>(operand: Piece<'a>, wanted: Wanted) -> Spot<'a>
+    ensures spot { spot_span result ≡ span_of operand.entry }
+    ensures advice { spot_advice result ≡ brackets_advice wanted (span_of operand.entry) }
+{
+    let hint = if has(operand.bytes, b'(') || has(operand.bytes, b')') {
+        Hint::Bracket
+    } else {
+        Hint::Wants(wanted)
+    };
     Spot {
         piece: operand,
-        hint: if has_one {
-            Hint::Bracket
-        } else {
-            Hint::Wants(wanted)
-        },
+        hint,
     }
 }

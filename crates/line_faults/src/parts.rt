@@ -1,7 +1,13 @@
 //! The parts of a line.
 
+ghost use Rattle.std.specs.Prelude.{◌≡◌, ◌==◌, IfOk, map};
+ghost use Rattle.std.specs.Option.{option_map};
+ghost use Rattle.line_faults.specs.Spans.{span_of, operand_spans, cut_span};
+ghost use Rattle.line_faults.specs.WordAtFault.{spans_of_line, text_span, label_spans};
+ghost use Rattle.line_faults.specs.Views.{line_spans};
+
 use crate::piece::Piece;
-use asm_lines::{is_name, parts_at};
+use asm_lines::is_name;
 use std::alloc::{AllocError, Global};
 
 /// A line taken apart, without its comment.
@@ -11,40 +17,57 @@ pub struct Parts<'a> {
     pub label: Option<Piece<'a>>,
     /// The statement's first word.
     pub word: Piece<'a>,
-    /// What stands behind that.
+    /// What stands after that.
     pub rest: Piece<'a>,
 }
 
 impl<'a> Parts<'a> {
     /// The parts of a line; a comment is none of them.
-    pub fn of(line: &'a [u8]) -> Parts<'a> {
-        let whole = Piece {
-            start: 0,
-            bytes: line,
-        };
-        let text = whole.cut(b'#').map_or(whole, |parts| parts.0);
-        let (label, statement) = cut_label(text);
+    #[tactic(auto, unfolding(crate::specs::WordAtFault::spans_of_line))]
+    pub fn of(line: &'a [u8]) -> Parts<'a>
+        ensures { line_spans result ≡ spans_of_line line.now }
+    {
+        let (label, statement) = cut_label(text_of(line));
         let (word, rest) = statement.trimmed().cut_blank();
         Parts { label, word, rest }
     }
 
     /// The statement's operands, which are one at least, be it empty.
-    pub fn operands(&self, alloc: Global) -> Result<Vec<Piece<'a>>, AllocError> {
+    pub fn operands(&self, alloc: Global) -> Result<Vec<Piece<'a>>, AllocError>
+        ensures { IfOk result (λ operands. map span_of operands.items ≡ operand_spans (span_of self.now.rest)) }
+    {
         let mut operands = Vec::new(alloc);
-        let mut start = self.rest.start;
-        for part in parts_at(alloc, self.rest.bytes, b',')? {
-            let operand = Piece { start, bytes: part };
+        let mut rest = self.rest;
+        while let Some((operand, behind)) = rest.cut(b',') {
             operands.push(operand.trimmed())?;
-            start = start.saturating_add(part.len()).saturating_add(1);
+            rest = behind;
         }
+        operands.push(rest.trimmed())?;
         Ok(operands)
     }
 }
 
-/// The label before the colon and what stands behind it.
-fn cut_label(text: Piece<'_>) -> (Option<Piece<'_>>, Piece<'_>) {
-    match text.cut(b':') {
-        Some((front, behind)) if is_name(front.trimmed().bytes) => (Some(front.trimmed()), behind),
-        _ => (None, text),
+/// What stands before the comment.
+fn text_of(line: &[u8]) -> Piece<'_>
+    ensures { span_of result ≡ text_span line.now }
+{
+    let whole = Piece::line(line);
+    match whole.cut(b'#') {
+        Some((text, _)) => text,
+        None => whole,
     }
+}
+
+/// The label before the colon and what stands after it.
+fn cut_label(text: Piece<'_>) -> (Option<Piece<'_>>, Piece<'_>)
+    ensures { (option_map span_of result.0, span_of result.1)
+        ≡ label_spans (span_of text.entry) (cut_span (λ b. b == 58) (span_of text.entry)) }
+{
+    if let Some((front, behind)) = text.cut(b':') {
+        let name = front.trimmed();
+        if is_name(name.bytes) {
+            return (Some(name), behind);
+        }
+    }
+    (None, text)
 }

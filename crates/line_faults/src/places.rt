@@ -1,8 +1,9 @@
-//! Where the next line of a text stands, whatever the lines before it.
+//! Where the next line of a text stands, for any lines before it.
 
 ghost use Rattle.std.specs.Prelude.{◌≡◌, ◌≤◌, ◌+◌, ◌-◌, ◌^◌, IfOk, IfErr, OnOk, Ok, Err, Some};
 ghost use Rattle.asm_lines.specs.Statements.{stmt_of, said_of};
-ghost use Rattle.assembler.specs.Meaning.{start, address, count_of, place_statement, labelled, after_statement, after_said};
+ghost use Rattle.assembler.specs.Meaning.{start, address, count_of, place_statement, labelled, after_statement};
+ghost use Rattle.assembler.specs.Meaning.{after_said};
 ghost use Rattle.assembler.specs.Passes.{name_of};
 ghost use Rattle.line_faults.specs.Faults.{said_fault};
 ghost use Rattle.line_faults.specs.Places.{label_values, place_of};
@@ -11,14 +12,14 @@ use crate::cursor::Cursor;
 use crate::labels::Label;
 use crate::values::statement_fault;
 use asm_lines::{Line, Section, Statement};
-use assembler::{AsmFault, base_of, misplaced, room_of, size_of};
+use assembler::{AsmFault, base_of, misplacement, room_of, size_of};
 use std::alloc::{AllocError, Global};
 use std::collections::BTreeMap;
 
 /// More bytes than a text that fits into memory gives a section.
 const MOST: u64 = 0x4000_0000_0000_0000;
 
-/// How many bytes there are with so many more.
+/// How many bytes there are with this many more.
 fn more(count: u64, size: u64) -> Result<u64, AllocError>
     ensures sum { IfOk result (λ sum. sum ≡ count + size) }
     ensures small { IfOk result (λ sum. sum ≤ 2 ^ 62) }
@@ -73,7 +74,7 @@ impl<'a> Cursor<'a> {
             ≡ Ok (record { section = self.now.section; address = at; statement = Some (stmt_of statement.now) })) }
         ensures err { IfErr result (λ f. place_statement (place_of self.now) (Some (stmt_of statement.now)) ≡ Err f) }
     {
-        if let Some(fault) = misplaced(self.section, self.address(), statement) {
+        if let Some(fault) = misplacement(self.section, self.address(), statement) {
             return Err(fault);
         }
         let count = self.count();
@@ -119,7 +120,7 @@ impl<'a> Cursor<'a> {
         Ok(())
     }
 
-    /// Goes behind a statement.
+    /// Goes after a statement.
     fn pass_statement(&mut self, statement: &Statement<'_>) -> Result<(), AllocError>
         ensures { OnOk result (place_of self.new ≡ after_statement (place_of self.old) (stmt_of statement.now)) }
     {
@@ -135,7 +136,7 @@ impl<'a> Cursor<'a> {
         Ok(())
     }
 
-    /// Goes behind a line that says this and has this number.
+    /// Goes after a line that says this and has this number.
     #[tactic(auto, unfolding(assembler::specs::Meaning::after_said))]
     pub fn pass(&mut self, said: &Line<'a>, number: usize) -> Result<(), AllocError>
         ensures { OnOk result (place_of self.new ≡ after_said (place_of self.old) (said_of said.now)) }

@@ -1,6 +1,8 @@
 //! What the operands of a statement have to be.
 
-ghost use Rattle.std.specs.Prelude.{◌≤ℤ◌, negsuc, pos, ◌^◌};
+ghost use Rattle.std.specs.Prelude.{◌≡◌, ◌≤ℤ◌, negsuc, pos, ◌^◌, true};
+ghost use Rattle.std.specs.Option.{option_map};
+ghost use Rattle.line_faults.specs.Wants.{range_of, of_directive, of_mnemonic, wants, wants_of, wanted_at, shape_wants};
 
 use asm_lines::{Directive, Mnemonic};
 
@@ -36,6 +38,7 @@ pub enum Wanted {
 impl Wanted {
     /// The least and the most that a number may be here.
     pub fn range(self) -> (i64, i64)
+        ensures value { result ≡ range_of self }
         ensures least { negsuc (2 ^ 32) ≤ℤ result.0 }
         ensures most { result.1 ≤ℤ pos (2 ^ 32) }
     {
@@ -61,7 +64,7 @@ pub struct Shape {
     pub form: &'static str,
     /// What each has to be.
     pub operands: &'static [Wanted],
-    /// Whether there may be more like the last.
+    /// Whether there may be any number like the first.
     pub is_list: bool,
 }
 
@@ -72,25 +75,31 @@ const NONE: Shape = Shape {
 };
 
 impl Shape {
-    /// The operands behind a first word.
-    pub fn of(word: &[u8]) -> Option<Shape> {
+    /// The operands after a first word.
+    #[tactic(auto, unfolding(crate::specs::Wants::wants_of))]
+    pub fn of(word: &[u8]) -> Option<Shape>
+        ensures { option_map shape_wants result ≡ wants_of word.now }
+    {
         if let Some(directive) = Directive::find(word) {
             return Some(Shape::of_directive(directive));
         }
-        let (mnemonic, _) = Mnemonic::find(word)?;
-        Some(Shape::of_mnemonic(mnemonic))
-    }
-
-    /// What the operand with this number, from 0, has to be.
-    pub fn wanted(&self, number: usize) -> Option<Wanted> {
-        match self.operands.get(number) {
-            Some(wanted) => Some(*wanted),
-            None if self.is_list => self.operands.last().copied(),
+        match Mnemonic::find(word) {
+            Some((mnemonic, _)) => Some(Shape::of_mnemonic(mnemonic)),
             None => None,
         }
     }
 
-    fn single(form: &'static str, operands: &'static [Wanted]) -> Shape {
+    /// What the operand with this number, from 0, has to be.
+    pub fn wanted(&self, number: usize) -> Option<Wanted>
+        ensures { result ≡ wanted_at (shape_wants self.now) number }
+    {
+        let number = if self.is_list { 0 } else { number };
+        self.operands.get(number).copied()
+    }
+
+    fn single(form: &'static str, operands: &'static [Wanted]) -> Shape
+        ensures { shape_wants result ≡ wants form.now operands.now }
+    {
         Shape {
             form,
             operands,
@@ -98,7 +107,9 @@ impl Shape {
         }
     }
 
-    fn list(form: &'static str, operands: &'static [Wanted]) -> Shape {
+    fn list(form: &'static str, operands: &'static [Wanted]) -> Shape
+        ensures { shape_wants result ≡ record { form = form.now; each = operands.now; is_list = true } }
+    {
         Shape {
             form,
             operands,
@@ -106,7 +117,9 @@ impl Shape {
         }
     }
 
-    fn of_directive(directive: Directive) -> Shape {
+    fn of_directive(directive: Directive) -> Shape
+        ensures { shape_wants result ≡ of_directive directive }
+    {
         match directive {
             Directive::Section(_) => NONE,
             Directive::Word => Shape::list("v, ..", &[Wanted::Word]),
@@ -115,7 +128,9 @@ impl Shape {
         }
     }
 
-    fn of_mnemonic(mnemonic: Mnemonic) -> Shape {
+    fn of_mnemonic(mnemonic: Mnemonic) -> Shape
+        ensures { shape_wants result ≡ of_mnemonic mnemonic }
+    {
         match mnemonic {
             Mnemonic::Op(_) => Shape::single(
                 "rd, rs1, rs2",

@@ -1,4 +1,4 @@
--- What reading and writing do to the bytes that a device tells of.
+-- What reading and writing do to the bytes that a device says of.
 use Rattle.std.specs.Prelude.{◌≡◌, ℕ, ◌<◌, ◌≤◌, ◌+◌, List, ◌++◌, length, Option}
 use Rattle.std.specs.Io.KnownBytes.{Appends, Consumes, IsAtEnd}
 use Rattle.link.specs.declared.transfer.ReadError.{ReadError}
@@ -11,7 +11,8 @@ ConsumesAll old new bytes = Consumes old new bytes × IsAtEnd new
 
 -- the known bytes lose more than limit bytes, by less than a piece
 abbrev pub ConsumesPast : ℕ → Option (List ℕ) → Option (List ℕ) → Type 0
-ConsumesPast limit old new = (bytes : List ℕ) × (limit < length bytes) × (length bytes ≤ limit + PIECE_BYTES) × Consumes old new bytes
+ConsumesPast limit old new = (bytes : List ℕ) × (limit < length bytes) × (length bytes ≤ limit + PIECE_BYTES)
+    × Consumes old new bytes
 
 -- the known bytes lose limit bytes at most
 abbrev pub ConsumesAtMost : ℕ → Option (List ℕ) → Option (List ℕ) → Type 0
@@ -29,14 +30,17 @@ ConsumesLess limit old new = (bytes : List ℕ) × (length bytes < limit) × Con
 
 -- the known bytes grow by a beginning of the text, and not by all of it
 abbrev pub AppendsPart : Option (List ℕ) → Option (List ℕ) → List ℕ → Type 0
-AppendsPart old new text = (written : List ℕ) × (missing : List ℕ) × (text ≡ written ++ missing) × (0 < length missing) × Appends old new written
+AppendsPart old new text = (written : List ℕ) × (missing : List ℕ) × (text ≡ written ++ missing) × (0 < length missing)
+    × Appends old new written
 
 -- a beginning of a text's first part is a beginning of the text
 abbrev pub EndsInTheFirst : Type 0
-EndsInTheFirst = (old new : Option (List ℕ)) (first rest : List ℕ) → AppendsPart old new first → AppendsPart old new (first ++ rest)
+EndsInTheFirst = (old new : Option (List ℕ)) (first rest : List ℕ) → AppendsPart old new first →
+    AppendsPart old new (first ++ rest)
 
 -- a text's first part, and then a beginning of the rest, is a beginning of the text
 abbrev pub EndsInTheRest : Type 0
 EndsInTheRest =
-    (old between new : Option (List ℕ)) (first rest : List ℕ) → Appends old between first → AppendsPart between new rest →
+    (old between new : Option (List ℕ)) (first rest : List ℕ) → Appends old between first →
+    AppendsPart between new rest →
     AppendsPart old new (first ++ rest)

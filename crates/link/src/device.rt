@@ -28,7 +28,7 @@ pub trait LinkRead: Read + Link {
     ///
     /// # Errors
     ///
-    /// [`Failed`] exactly where the link failed in this call, or had failed before. Nothing was taken
+    /// [`Failed`] exactly if the link failed in this call, or had failed before. Nothing was taken
     /// then.
     fn receive(&mut self, buf: &mut [u8]) -> Result<usize, Failed>
         ensures failed { Self.has_failed self.new ≡ is_err result }
@@ -43,7 +43,7 @@ pub trait LinkWrite: Write + Link {
     ///
     /// # Errors
     ///
-    /// [`Failed`] exactly where the link failed in this call, or had failed before: a write of no byte
+    /// [`Failed`] exactly if the link failed in this call, or had failed before: a write of no byte
     /// is a failure too. Nothing was written then.
     fn send(&mut self, bytes: &[u8]) -> Result<usize, Failed>
         requires { 0 < length bytes.now }

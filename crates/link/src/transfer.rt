@@ -1,6 +1,7 @@
 //! Reading all that there is, up to a limit, or a buffer full, and writing a whole text.
 
-ghost use Rattle.std.specs.Prelude.{◌≡◌, ◌≤◌, ◌<◌, ◌↔◌, ◌^◌, true, false, length, is_err, IfOk, IfErr, OnOk, OnErr, IsErrOf, take};
+ghost use Rattle.std.specs.Prelude.{◌≡◌, ◌≤◌, ◌<◌, ◌↔◌, ◌^◌, true, false, length, is_err, IfOk, IfErr, OnOk, OnErr};
+ghost use Rattle.std.specs.Prelude.{IsErrOf, take};
 ghost use Rattle.std.specs.Io.KnownBytes.{Appends, Consumes, IsAtEnd};
 ghost use Rattle.link.specs.Transfer.{AppendsPart, ConsumesAll, ConsumesLess, StopsFor};
 
@@ -30,7 +31,7 @@ pub enum ReadError {
 ///
 /// # Errors
 ///
-/// [`ReadError::Link`] exactly where the link failed in this call, [`ReadError::TooLong`] only
+/// [`ReadError::Link`] exactly if the link failed in this call, [`ReadError::TooLong`] only
 /// where there were more than `limit` bytes, of which at most [`PIECE_BYTES`] past the limit were
 /// read, and [`ReadError::Memory`] where there was no memory for the bytes. The reader has given what
 /// was read: with the first and the last, a beginning of at most `limit` bytes.
@@ -67,12 +68,13 @@ pub fn read_within<R: LinkRead>(
 ///
 /// # Errors
 ///
-/// [`Failed`] exactly where the link failed in this call. That is before the buffer was full.
+/// [`Failed`] exactly if the link failed in this call. That is before the buffer was full.
 pub fn fill<R: LinkRead>(reader: &mut R, buf: &mut [u8]) -> Result<usize, Failed>
     requires { R.has_failed reader.old ≡ false }
     ensures failed { R.has_failed reader.new ≡ is_err result }
     ensures bound { IfOk result (λ count. count ≤ length buf.new) }
-    ensures bytes { IfOk result (λ count. Consumes (R.remaining reader.old) (R.remaining reader.new) (take count buf.new)) }
+    ensures bytes { IfOk result (λ count. Consumes (R.remaining reader.old) (R.remaining reader.new)
+        (take count buf.new)) }
     ensures short { IfOk result (λ count. count < length buf.new → IsAtEnd (R.remaining reader.new)) }
     ensures err { OnErr result (ConsumesLess (length buf.old) (R.remaining reader.old) (R.remaining reader.new)) }
 {
@@ -91,7 +93,7 @@ pub fn fill<R: LinkRead>(reader: &mut R, buf: &mut [u8]) -> Result<usize, Failed
 ///
 /// # Errors
 ///
-/// [`Failed`] exactly where the link failed in this call. A beginning of the text, and not all of
+/// [`Failed`] exactly if the link failed in this call. A beginning of the text, and not all of
 /// it, was written then.
 pub fn write_whole<W: LinkWrite>(writer: &mut W, text: &[u8]) -> Result<(), Failed>
     requires { W.has_failed writer.old ≡ false }

@@ -1,4 +1,4 @@
--- Bytes of a region, and the zeros behind them: the region's bytes one by one, written over or behind, and when two are the same.
+-- Bytes of a region, and the zeros after them: the region's bytes one by one, written over or after, and when two are the same.
 use Rattle.std.proofs.Common.{◌≡◌, ℕ, zero, suc, ◌+◌, ◌-◌, ◌<◌, ◌≤◌, List, [], ◌∷◌, ◌++◌, length, append_assoc, refl, sym, ap, ◌∙◌, arith, inl, inr}
 use Rattle.std.specs.Prelude.{replicate, slice_index, slice_set}
 use Rattle.std.proofs.lemmas.List.{get_or_append_left, get_or-append_right, get_or_past, length-append}
@@ -8,11 +8,13 @@ use Rattle.local_memory.specs.Accesses.{padded}
 
 -- ---- one byte
 
+-- What is read of a list of zeros, also past its end, is 0.
 pub zero_of_replicate : (n i : ℕ) → slice_index (replicate n 0) i ≡ 0
 zero_of_replicate zero i = refl
 zero_of_replicate (suc n) zero = refl
 zero_of_replicate (suc n) (suc i) = zero_of_replicate n i
 
+-- Zeros at the end of a list of bytes change no byte that is read.
 pub byte_of_padded : (n : ℕ) (bytes : List ℕ) (i : ℕ) → slice_index (padded n bytes) i ≡ slice_index bytes i
 unfolding padded
 byte_of_padded n bytes i =
@@ -25,7 +27,7 @@ byte_of_padded n bytes i =
 
 -- ---- writing
 
--- a zero behind them is one that is there already
+-- a zero after them is one that is there already
 pub one_more : (n : ℕ) (bytes : List ℕ) → length bytes < n → padded n (bytes ++ 0 ∷ []) ≡ padded n bytes
 unfolding padded
 one_more n bytes less =
@@ -33,6 +35,7 @@ one_more n bytes less =
     let next : suc (n - length (bytes ++ 0 ∷ [])) ≡ n - length bytes = omega (arith, long, less) in
     append_assoc bytes (0 ∷ []) (replicate (n - length (bytes ++ 0 ∷ [])) 0) ∙ ap (λ k. bytes ++ replicate k 0) next
 
+-- A byte within a list can be written before the list is padded with zeros or after that.
 pub set_padded : (n : ℕ) (bytes : List ℕ) (place byte : ℕ) → place < length bytes → length (slice_set bytes place byte) ≡ length bytes →
     padded n (slice_set bytes place byte) ≡ slice_set (padded n bytes) place byte
 unfolding padded
@@ -41,7 +44,7 @@ set_padded n bytes place byte less same =
 
 -- ---- two regions
 
--- what is zero behind them is what they are padded with
+-- what is zero after them is what they are padded with
 pub padded_on : (n : ℕ) (front back : List ℕ) → length (front ++ back) ≤ n → back ≡ replicate (length back) 0 → padded n (front ++ back) ≡ padded n front
 unfolding padded
 padded_on n front back few zeros =
@@ -61,7 +64,7 @@ alike (x ∷ xs) (y ∷ ys) e same =
     let rest = alike xs ys (omega (arith, e)) (λ i. same (suc i)) in
     λ i. first i ∷ rest i
 
--- Where the longer are padded to the same, they begin with the shorter, and are zero behind them.
+-- Where the longer are padded to the same, they begin with the shorter, and are zero after them.
 pub front_is : (n : ℕ) (short front back : List ℕ) → length front ≡ length short → padded n short ≡ padded n (front ++ back) → front ≡ short
 front_is n short front back e same = alike front short e (λ i. one i)
   where
@@ -74,6 +77,7 @@ front_is n short front back e same = alike front short e (λ i. one i)
       | inr past ↦ get_or_past front i 0 past ∙ sym (get_or_past short i 0 (omega (arith, past, e)))
     ]
 
+-- If a list is padded to the same bytes as another that has a front of its length and a back, the back is zeros.
 pub back_is : (n : ℕ) (short front back : List ℕ) → length front ≡ length short → padded n short ≡ padded n (front ++ back) →
     back ≡ replicate (length back) 0
 back_is n short front back e same =

@@ -1,10 +1,12 @@
 -- Accesses of a region by address, with their faults.
-use Rattle.std.specs.Prelude.{ℕ, ◌-◌, ◌%◌, ◌^◌, Bool, not, List, ◌++◌, length, replicate, Result, Ok, Err, if◌then◌else◌}
+use Rattle.std.specs.Prelude.{ℕ, ◌-◌, ◌%◌, ◌^◌, Bool, not, List, ◌++◌, length, replicate, Result, Ok, Err}
+use Rattle.std.specs.Prelude.{if◌then◌else◌}
 use Rattle.flat_machine.specs.declared.fault.Fault.{Fault}
 use Rattle.flat_machine.specs.declared.fault.Fault.TheVariants.{AddressNotAligned, NoRegion}
 use Rattle.flat_machine.specs.Memory.{is_aligned, number_at}
 
--- whether an access is carried out, or its fault: an address that is not divisible by the size, else one outside the region
+-- whether an access is carried out, or its fault: an address that is not divisible by the size, else one outside the
+-- region
 abbrev pub access_of : (size address : ℕ) → (inside : Bool) → Result (Unit {0}) Fault
 access_of size address inside =
     if not (is_aligned size address) then Err AddressNotAligned else

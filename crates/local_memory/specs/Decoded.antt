@@ -4,7 +4,7 @@ use Rattle.rv_table.specs.declared.insn.Insn.{Insn}
 use Rattle.rv_table.specs.Rows.{insn_of}
 use Rattle.flat_machine.specs.Memory.{number_at}
 
--- the list has what each of so many words spells, in order
+-- the list has what each of this many words spells, in order
 pub record AreDecoded (bytes : List ℕ) (insns : List (Option Insn)) (words : ℕ) : Type 0 where
   pub count : length insns ≡ words
   pub each : (k : ℕ) → k < words → slice_get insns k ≡ Some (insn_of (number_at bytes (4 * k) 4))

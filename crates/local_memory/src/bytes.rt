@@ -1,6 +1,7 @@
 //! The bytes of one region.
 
-ghost use Rattle.std.specs.Prelude.{◌≡◌, ◌↔◌, ◌<◌, ◌≤◌, ◌^◌, ◌*◌, ◌+◌, ◌%◌, length, replicate, slice_index, slice_set, IfOk, IsTrue, vec_len, vec_capacity};
+ghost use Rattle.std.specs.Prelude.{◌≡◌, ◌↔◌, ◌<◌, ◌≤◌, ◌^◌, ◌*◌, ◌+◌, ◌%◌, length, replicate, slice_index, slice_set};
+ghost use Rattle.std.specs.Prelude.{IfOk, IsTrue, vec_len, vec_capacity};
 ghost use Rattle.flat_machine.specs.Memory.{number_at, with_number};
 ghost use Rattle.flat_machine.specs.Sizes.{bytes_of};
 ghost use Rattle.local_memory.specs.Accesses.{region_of_bytes};
@@ -12,8 +13,9 @@ use std::marker::Model;
 /// How many bytes a region has.
 const REGION_LENGTH: usize = 0x1_0000;
 
-/// The 65,536 bytes of a region, by their places from its first address. Those behind the last one that was written are zero, and
-/// are not stored, so a copy takes as long as what is used. There is room for all, so that a write takes no memory.
+/// The 65,536 bytes of a region, by their places from its first address. Those after the last one that was written are
+/// zero, and are not stored, so a copy takes as long as what is used. There is room for all, so that a write takes no
+/// memory.
 #[derive(Drop)]
 pub struct RegionBytes {
     written: Vec<u8>,
@@ -126,14 +128,15 @@ impl RegionBytes {
 /// Writes the low byte of a number over one that was written.
 fn set_byte(written: &mut Vec<u8>, place: usize, value: u32)
     requires { place < vec_len written.old }
-    ensures set { region_of_bytes written.new.items ≡ slice_set (region_of_bytes written.old.items) place (value % 256) }
+    ensures set { region_of_bytes written.new.items
+        ≡ slice_set (region_of_bytes written.old.items) place (value % 256) }
     ensures count { vec_len written.new ≡ vec_len written.old }
     ensures capacity { vec_capacity written.new ≡ vec_capacity written.old }
 {
     written[place] = (value % 256) as u8;
 }
 
-/// Writes zeros behind the bytes, up to a number of bytes, if they are fewer. There is room for them.
+/// Writes zeros after the bytes, up to a number of bytes, if they are fewer. There is room for them.
 fn write_up_to(written: &mut Vec<u8>, count: usize)
     requires old { vec_len written.old ≤ 2 ^ 16 }
     requires new { count ≤ 2 ^ 16 }

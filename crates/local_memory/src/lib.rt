@@ -2,7 +2,8 @@
 //! all processors share.
 //!
 //! Each is seen as the list of its 65,536 bytes. An access takes one, two or four bytes, as a
-//! little-endian number. Only [`Local::copy`] and [`Local::copy_from`] copy a memory, up to the last byte that was written.
+//! little-endian number. Only [`Local::copy`] and [`Local::copy_from`] copy a memory, up to the last byte that was
+//! written.
 #![tactic(auto)]
 
 mod bytes;

@@ -1,4 +1,4 @@
--- Where no more moves than so many follow one another, no order takes more turns than a number that the moves tell.
+-- Where no more moves than this many follow one another, no order takes more turns than a number that the moves say.
 use Rattle.std.proofs.Common.{◌≡◌, ◌⊎◌, inl, inr, ℕ, ◌+◌, ◌<◌, ◌≤◌, Bool, true, false, zero, suc, List, [], ◌∷◌}
 use Rattle.std.proofs.Common.{◌++◌, Option, Some, None, length, refl, sym, ap, subst, ◌∙◌, arith, length-append}
 use Rattle.std.specs.Prelude.{slice_get}
@@ -9,15 +9,15 @@ use Rattle.flat_machine.specs.declared.poke.Entry.TheVariants as entry
 use Rattle.flat_machine.specs.State.{FlatState, Processor, is_running}
 use Rattle.flat_machine.specs.Turns.{Turn, Retires, Reaches, Stops, turn_of}
 use Rattle.flat_machine.specs.Flat.{flat_step, flat_events}
-use Rattle.local_reduction.specs.Stations.{consoles_after, turns, Station, IsReference}
-use Rattle.local_reduction.specs.Closing.{IsForgetful, Standing, MayMove, IsShort, Settles}
-use Rattle.local_reduction.specs.Schedules.{EveryScheduleEnds}
+use Rattle.local_reduction.specs.LocalStates.{consoles_after, turns, LocalState, IsReference}
+use Rattle.local_reduction.specs.Closing.{IsForgetful, MacroState, HasSpinner, MayMove, IsShort, ReachesMacroState}
+use Rattle.local_reduction.specs.Termination.{EveryScheduleEnds}
 use Rattle.local_reduction.proofs.Settling.{one_events, one_event, one_length, stays, silent, absent, absent_silent}
 use Rattle.local_reduction.proofs.Settling.{found_within, some_inj, put, put_here, put_other, SettlesIn, below}
 use Rattle.local_reduction.proofs.Settling.{counted}
 use Rattle.local_reduction.proofs.Covering.{retiring_turn, stopping_turn, reaching_turn, may_move}
 
--- ---- sums of the first so many
+-- ---- sums of the first this many
 
 abbrev total : (ℕ → ℕ) → ℕ → ℕ
 total f zero = 0
@@ -55,34 +55,35 @@ total_put f k n (suc count) l = by (λ less. total_put f k n count less) (below 
         let own : f k ≡ f count = ap f same in
         omega (arith, rest, last, own)
 
-module _ (at : ℕ → Setting) (code : List ℕ) (kept : Station → Station) where
+module _ (at : ℕ → Setting) (code : List ℕ) (kept : LocalState → LocalState) where
   -- ---- whether a processor may move
 
-  may? : (s : Standing) (k : ℕ) → MayMove at code s k ⊎ (MayMove at code s k → ⊥)
-  may? s k = by_station (slice_get s.stations k) refl
+  may? : (s : MacroState) (k : ℕ) → MayMove at code s k ⊎ (MayMove at code s k → ⊥)
+  may? s k = by_local_state (slice_get s.local_states k) refl
     where
-      by_turn : (a : Station) → slice_get s.stations k ≡ Some a → is_running a.processor.status ≡ true → (x : Turn) → turn_of (at k) code a.processor ≡ x →
+      by_turn : (a : LocalState) → slice_get s.local_states k ≡ Some a → is_running a.processor.status ≡ true → (x : Turn) →
+          turn_of (at k) code a.processor ≡ x →
           MayMove at code s k ⊎ (MayMove at code s k → ⊥)
       by_turn a there runs (Retires p r) e =
-          inr (λ w. subst IsReference (ap (λ (b : Station). turn_of (at k) code b.processor) (some_inj w.station a (sym w.there ∙ there)) ∙ e) w.refers)
+          inr (λ w. subst IsReference (ap (λ (b : LocalState). turn_of (at k) code b.processor) (some_inj w.local_state a (sym w.there ∙ there)) ∙ e) w.refers)
       by_turn a there runs (Stops c) e =
-          inr (λ w. subst IsReference (ap (λ (b : Station). turn_of (at k) code b.processor) (some_inj w.station a (sym w.there ∙ there)) ∙ e) w.refers)
+          inr (λ w. subst IsReference (ap (λ (b : LocalState). turn_of (at k) code b.processor) (some_inj w.local_state a (sym w.there ∙ there)) ∙ e) w.refers)
       by_turn a there runs (Reaches word change after) e =
-          inl (record { station = a; there = there; runs = runs; refers = subst IsReference (sym e) tt })
+          inl (record { local_state = a; there = there; runs = runs; refers = subst IsReference (sym e) tt })
 
-      by_running : (a : Station) → slice_get s.stations k ≡ Some a → (b : Bool) → is_running a.processor.status ≡ b →
+      by_running : (a : LocalState) → slice_get s.local_states k ≡ Some a → (b : Bool) → is_running a.processor.status ≡ b →
           MayMove at code s k ⊎ (MayMove at code s k → ⊥)
       by_running a there true runs = by_turn a there runs (turn_of (at k) code a.processor) refl
       by_running a there false stands =
           inr (λ w.
-          let same : is_running w.station.processor.status ≡ is_running a.processor.status =
-          ap (λ (b : Station). is_running b.processor.status) (some_inj w.station a (sym w.there ∙ there)) in
+          let same : is_running w.local_state.processor.status ≡ is_running a.processor.status =
+          ap (λ (b : LocalState). is_running b.processor.status) (some_inj w.local_state a (sym w.there ∙ there)) in
           let both : true ≡ false = sym w.runs ∙ (same ∙ stands) in
           absurd (cc))
 
-      by_station : (o : Option Station) → slice_get s.stations k ≡ o → MayMove at code s k ⊎ (MayMove at code s k → ⊥)
-      by_station None none = inr (λ w. let both : Some w.station ≡ None = sym w.there ∙ none in absurd (cc))
-      by_station (Some a) there = by_running a there (is_running a.processor.status) refl
+      by_local_state : (o : Option LocalState) → slice_get s.local_states k ≡ o → MayMove at code s k ⊎ (MayMove at code s k → ⊥)
+      by_local_state None none = inr (λ w. let both : Some w.local_state ≡ None = sym w.there ∙ none in absurd (cc))
+      by_local_state (Some a) there = by_running a there (is_running a.processor.status) refl
 
   -- ---- how many turns are left
 
@@ -90,18 +91,23 @@ module _ (at : ℕ → Setting) (code : List ℕ) (kept : Station → Station) w
   part (inl w) g = g w
   part (inr none) g = 0
 
-  -- the reference of each processor, and the turns alone behind it, and so on
-  abbrev price : (n : ℕ) (s : Standing) → IsShort at code kept n s → ℕ
+  -- the reference of each processor, and the turns alone after it, and so on
+  abbrev price : (n : ℕ) (s : MacroState) → IsShort at code kept n s → ℕ
   price zero s h = 0
-  price (suc n) s h = total (λ k. part (may? s k) (λ w. suc ((h k w).1.count + price n (h k w).0 (h k w).2))) (length s.stations)
+  price (suc n) s h = total (λ k. part (may? s k) (λ w. suc ((h.1 k w).1.count + price n (h.1 k w).0 (h.1 k w).2))) (length s.local_states)
+
+  -- None spins where only this many moves follow one another.
+  no_spinner : (n : ℕ) (s : MacroState) → IsShort at code kept n s → HasSpinner at code s → ⊥
+  no_spinner zero s h spins = h.0 spins
+  no_spinner (suc n) s h spins = h.0 spins
 
   -- these turns are no more than what is left of the turns alone, and the price
   abbrev IsWithin : List ℕ → Type 0
   IsWithin order =
-      (n : ℕ) (s : Standing) (h : IsShort at code kept n s) (m : FlatState) (consoles : ℕ → List ℕ) (counts : ℕ → ℕ) →
+      (n : ℕ) (s : MacroState) (h : IsShort at code kept n s) (m : FlatState) (consoles : ℕ → List ℕ) (counts : ℕ → ℕ) →
       SettlesIn at code kept m consoles counts s → length (flat_events m (turns order)) ≤ total counts (length m.processors) + price n s h
 
-  module _ (f : IsForgetful at code kept) (k : ℕ) (ks : List ℕ) (again : IsWithin ks) (s : Standing) (m : FlatState) (consoles : ℕ → List ℕ)
+  module _ (f : IsForgetful at code kept) (k : ℕ) (ks : List ℕ) (again : IsWithin ks) (s : MacroState) (m : FlatState) (consoles : ℕ → List ℕ)
       (counts : ℕ → ℕ) (settles : SettlesIn at code kept m consoles counts s) where
     abbrev rest_of : List (ℕ × Event)
     rest_of = flat_events (flat_step m (entry.Processor k)) (turns ks)
@@ -125,10 +131,12 @@ module _ (at : ℕ → Setting) (code : List ℕ) (kept : Station → Station) w
           ap (λ c. total (put counts k n) c + counts k) (one_length m k p there runs)
           ∙ total_put counts k n (length m.processors) (found_within m.processors k p there)
 
-      near : (i : ℕ) × (counts k ≡ suc i)
-          × SettlesIn at code kept (flat_step m (entry.Processor k)) (consoles_after consoles (one_events m k)) (put counts k i) s →
+      near : ((i : ℕ) × (counts k ≡ suc i)
+          × SettlesIn at code kept (flat_step m (entry.Processor k)) (consoles_after consoles (one_events m k)) (put counts k i) s)
+          ⊎ ((counts k ≡ 0) × HasSpinner at code s) →
           (n : ℕ) (h : IsShort at code kept n s) → length (one_events m k ++ rest_of) ≤ total counts (length m.processors) + price n s h
-      near x n h =
+      near (inr spins) n h = absurd (no_spinner n s h spins.1)
+      near (inl x) n h =
           let rest = again n s h (flat_step m (entry.Processor k)) (consoles_after consoles (one_events m k)) (put counts k x.0) x.2 in
           let sums = put_in x.0 in
           let was = x.1 in
@@ -136,21 +144,21 @@ module _ (at : ℕ → Setting) (code : List ℕ) (kept : Station → Station) w
 
       far : (word : ℕ) (change : ℕ → ℕ) (after : ℕ → Processor × Retired) → turn_of (at k) code p ≡ Reaches word change after →
           (n : ℕ) (h : IsShort at code kept n s) → length (one_events m k ++ rest_of) ≤ total counts (length m.processors) + price n s h
-      far word change after e zero h = absurd (h k (may_move at code kept m consoles counts s k settles p there runs f word change after e))
+      far word change after e zero h = absurd (h.1 k (may_move at code kept m consoles counts s k settles p there runs f word change after e))
       far word change after e (suc n) h = by (may? s k) refl
         where
           by : (d : MayMove at code s k ⊎ (MayMove at code s k → ⊥)) → may? s k ≡ d →
               length (one_events m k ++ rest_of) ≤ total counts (length m.processors) + price (suc n) s h
           by (inr none) is = absurd (none (may_move at code kept m consoles counts s k settles p there runs f word change after e))
           by (inl w) is =
-              let move = (h k w).1 in
-              let rest = again n (h k w).0 (h k w).2 (flat_step m (entry.Processor k)) (consoles_after consoles (one_events m k)) (put counts k move.count)
-              (reaching_turn at code kept m consoles counts s k settles p there runs f word change after e (h k w).0 move) in
+              let move = (h.1 k w).1 in
+              let rest = again n (h.1 k w).0 (h.1 k w).2 (flat_step m (entry.Processor k)) (consoles_after consoles (one_events m k)) (put counts k move.count)
+              (reaching_turn at code kept m consoles counts s k settles p there runs f word change after e (h.1 k w).0 move) in
               let sums = put_in move.count in
-              let cost = total_has (λ j. part (may? s j) (λ v. suc ((h j v).1.count + price n (h j v).0 (h j v).2))) (length s.stations) k
-              (found_within s.stations k w.station w.there) in
-              let own : part (may? s k) (λ v. suc ((h k v).1.count + price n (h k v).0 (h k v).2)) ≡ suc (move.count + price n (h k w).0 (h k w).2) =
-              ap (λ d. part d (λ v. suc ((h k v).1.count + price n (h k v).0 (h k v).2))) is in
+              let cost = total_has (λ j. part (may? s j) (λ v. suc ((h.1 j v).1.count + price n (h.1 j v).0 (h.1 j v).2))) (length s.local_states) k
+              (found_within s.local_states k w.local_state w.there) in
+              let own : part (may? s k) (λ v. suc ((h.1 k v).1.count + price n (h.1 k v).0 (h.1 k v).2)) ≡ suc (move.count + price n (h.1 k w).0 (h.1 k w).2) =
+              ap (λ d. part d (λ v. suc ((h.1 k v).1.count + price n (h.1 k v).0 (h.1 k v).2))) is in
               omega (arith, rest, sums, cost, own, split)
 
     one_more : (n : ℕ) (h : IsShort at code kept n s) → length (one_events m k ++ rest_of) ≤ total counts (length m.processors) + price n s h
@@ -158,8 +166,8 @@ module _ (at : ℕ → Setting) (code : List ℕ) (kept : Station → Station) w
       where
         by_turn : (p : Processor) → slice_get m.processors k ≡ Some p → is_running p.status ≡ true → (x : Turn) → turn_of (at k) code p ≡ x →
             length (one_events m k ++ rest_of) ≤ total counts (length m.processors) + price n s h
-        by_turn p there runs (Retires q r) e = near p there runs (retiring_turn at code kept m consoles counts s k settles p there runs q r e) n h
-        by_turn p there runs (Stops c) e = near p there runs (stopping_turn at code kept m consoles counts s k settles p there runs c e) n h
+        by_turn p there runs (Retires q r) e = near p there runs (retiring_turn at code kept m consoles counts s k settles p there runs f q r e) n h
+        by_turn p there runs (Stops c) e = near p there runs (stopping_turn at code kept m consoles counts s k settles p there runs f c e) n h
         by_turn p there runs (Reaches word change after) e = far p there runs word change after e n h
 
         by_running : (p : Processor) → slice_get m.processors k ≡ Some p → (b : Bool) → is_running p.status ≡ b →
@@ -176,8 +184,9 @@ module _ (at : ℕ → Setting) (code : List ℕ) (kept : Station → Station) w
   within f [] n s h m consoles counts settles = omega arith
   within f (k ∷ ks) n s h m consoles counts settles = one_more f k ks (within f ks) s m consoles counts settles n h
 
-pub bounded : (at : ℕ → Setting) (code : List ℕ) (kept : Station → Station) (m : FlatState) (consoles : ℕ → List ℕ) (s : Standing) (most : ℕ) →
-    IsForgetful at code kept → Settles at code kept m consoles s → IsShort at code kept most s → EveryScheduleEnds m
+-- If the moves from the state that a flat machine reaches are bounded in number, every schedule of the machine ends.
+pub bounded : (at : ℕ → Setting) (code : List ℕ) (kept : LocalState → LocalState) (m : FlatState) (consoles : ℕ → List ℕ) (s : MacroState) (most : ℕ) →
+    IsForgetful at code kept → ReachesMacroState at code kept m consoles s → IsShort at code kept most s → EveryScheduleEnds m
 bounded at code kept m consoles s most f settles h =
     let x = counted at code kept m consoles s settles in (
       total x.0 (length m.processors) + price at code kept most s h,

@@ -4,8 +4,8 @@ use Rattle.std.specs.Prelude.{slice_get, slice_set, slice_index}
 use Rattle.std.proofs.lemmas.Bool.{cases_eq}
 use Rattle.flat_machine.specs.declared.setting.Setting.{Setting}
 use Rattle.flat_machine.proofs.Lemmas.{set_other}
-use Rattle.local_reduction.specs.Stations.{Station, behind, alone, IsReference, IsSettled}
-use Rattle.local_reduction.specs.Closing.{Standing, gone, IsMove, IsShort, IsWay, MayMove}
+use Rattle.local_reduction.specs.LocalStates.{LocalState, behind, alone, IsReference, IsSettled}
+use Rattle.local_reduction.specs.Closing.{MacroState, gone, IsMove, IsShort, IsWay, MayMove, HasSpinner}
 use Rattle.local_reduction.specs.Exchanging.{IsBeside, AreAlike, Exchange, IsExchanged, IsExchangeOf, IsUniform}
 use Rattle.local_reduction.specs.Exchanging.{IsMoveOfAny, IsMoveUpTo, IsShortUpTo, IsWayUpTo}
 use Rattle.local_reduction.proofs.Settling.{set_there}
@@ -88,56 +88,56 @@ module _ (classes : List ℕ) where
   -- ---- states whose processors are exchanged
 
   -- Each state is an exchange of itself.
-  pub as_it_is : (s : Standing) → IsExchangeOf classes s s
+  pub as_it_is : (s : MacroState) → IsExchangeOf classes s s
   as_it_is s = (none, record { shared = refl; each = λ k. refl })
 
   -- If processors of one class stand in equal states, each exchange leaves the state as it is.
-  pub uniform_stays : (s : Standing) → IsUniform classes s → (x : Exchange classes) → IsExchanged x.place s s
+  pub uniform_stays : (s : MacroState) → IsUniform classes s → (x : Exchange classes) → IsExchanged x.place s s
   uniform_stays s u x = record { shared = refl; each = λ k. sym (u (x.place k) k (x.alike k)) }
 
   -- If two that stand in equal states trade, the state is left as it is.
-  trade_stays : (s : Standing) (j i : ℕ) → slice_get s.stations j ≡ slice_get s.stations i → IsExchanged (traded j i) s s
+  trade_stays : (s : MacroState) (j i : ℕ) → slice_get s.local_states j ≡ slice_get s.local_states i → IsExchanged (traded j i) s s
   trade_stays s j i e = record {
     shared = refl;
-    each = traded_all (λ l k. slice_get s.stations k ≡ slice_get s.stations l) j i (sym e) e (λ k a b. refl);
+    each = traded_all (λ l k. slice_get s.local_states k ≡ slice_get s.local_states l) j i (sym e) e (λ k a b. refl);
   }
 
   -- An exchange of an exchange of s is an exchange of s.
-  pub exchanged_both : (x y : ℕ → ℕ) (s t u : Standing) → IsExchanged x s t → IsExchanged y t u → IsExchanged (λ k. x (y k)) s u
+  pub exchanged_both : (x y : ℕ → ℕ) (s t u : MacroState) → IsExchanged x s t → IsExchanged y t u → IsExchanged (λ k. x (y k)) s u
   exchanged_both x y s t u f g = record { shared = g.shared ∙ f.shared; each = λ k. g.each k ∙ f.each (y k) }
 
   -- If x exchanges s to t, what undoes x exchanges t to s.
-  pub exchanged_back : (x : Exchange classes) (s t : Standing) → IsExchanged x.place s t → IsExchanged x.taker t s
+  pub exchanged_back : (x : Exchange classes) (s t : MacroState) → IsExchanged x.place s t → IsExchanged x.taker t s
   exchanged_back x s t f = record {
     shared = sym f.shared;
-    each = λ i. ap (slice_get s.stations) (sym (x.taken i)) ∙ sym (f.each (x.taker i));
+    each = λ i. ap (slice_get s.local_states) (sym (x.taken i)) ∙ sym (f.each (x.taker i));
   }
 
   -- ---- moves of such states
 
-  module _ (at : ℕ → Setting) (code : List ℕ) (kept : Station → Station) where
+  module _ (at : ℕ → Setting) (code : List ℕ) (kept : LocalState → LocalState) where
     -- t is s exchanged by x, which moves k to the place i; and a move at the place i leads from s to v.
-    module _ (s v t : Standing) (i : ℕ) (x : Exchange classes) (k : ℕ) (is : x.place k ≡ i) (e : IsExchanged x.place s t)
+    module _ (s v t : MacroState) (i : ℕ) (x : Exchange classes) (k : ℕ) (is : x.place k ≡ i) (e : IsExchanged x.place s t)
         (move : IsMoveOfAny at code kept classes s i v) where
       mine : IsMove (λ j. at k) code kept s i v
       mine = move k (sym (x.alike k) ∙ ap (slice_get classes) is)
 
-      arrived : ℕ → Station
-      arrived old = kept (alone mine.count (at k) code (behind mine.station (mine.after old)))
+      arrived : ℕ → LocalState
+      arrived old = kept (alone mine.count (at k) code (behind mine.local_state (mine.after old)))
 
-      after_move : Standing
+      after_move : MacroState
       after_move = gone t k (arrived (slice_index t.shared mine.word)) mine.word (mine.change (slice_index t.shared mine.word))
 
-      there_t : slice_get t.stations k ≡ Some mine.station
-      there_t = e.each k ∙ (ap (slice_get s.stations) is ∙ mine.there)
+      there_t : slice_get t.local_states k ≡ Some mine.local_state
+      there_t = e.each k ∙ (ap (slice_get s.local_states) is ∙ mine.there)
 
       -- Who takes the place i makes in t the move that was made there in s. It leads to an exchange of where that led.
-      pub move_exchanged : (w : Standing) × IsMove at code kept t k w × IsExchanged x.place v w
+      pub move_exchanged : (w : MacroState) × IsMove at code kept t k w × IsExchanged x.place v w
       unfolding arrived after_move
       move_exchanged = (
         after_move,
         record {
-          station = mine.station;
+          local_state = mine.local_state;
           there = there_t;
           runs = mine.runs;
           word = mine.word;
@@ -145,7 +145,8 @@ module _ (classes : List ℕ) where
           after = mine.after;
           turn = mine.turn;
           count = mine.count;
-          settled = subst (λ ws. IsSettled (at k) code (alone mine.count (at k) code (behind mine.station (mine.after (slice_index ws mine.word)))).processor)
+          settled = subst (λ ws. IsSettled (at k) code (alone mine.count (at k) code
+              (behind mine.local_state (mine.after (slice_index ws mine.word)))).processor)
               (sym e.shared) mine.settled;
           leaves = refl;
         },
@@ -156,25 +157,25 @@ module _ (classes : List ℕ) where
       )
         where
           by : (j : ℕ) → (j ≡ k) ⊎ (j ≡ k → ⊥) →
-              slice_get (slice_set t.stations k (arrived (slice_index t.shared mine.word))) j
-              ≡ slice_get (slice_set s.stations i (arrived (slice_index s.shared mine.word))) (x.place j)
+              slice_get (slice_set t.local_states k (arrived (slice_index t.shared mine.word))) j
+              ≡ slice_get (slice_set s.local_states i (arrived (slice_index s.shared mine.word))) (x.place j)
           by j (inl same) =
-              ap (slice_get (slice_set t.stations k (arrived (slice_index t.shared mine.word)))) same
-              ∙ (set_there t.stations k (arrived (slice_index t.shared mine.word)) mine.station there_t
+              ap (slice_get (slice_set t.local_states k (arrived (slice_index t.shared mine.word)))) same
+              ∙ (set_there t.local_states k (arrived (slice_index t.shared mine.word)) mine.local_state there_t
               ∙ (ap (λ ws. Some (arrived (slice_index ws mine.word))) e.shared
-              ∙ (sym (set_there s.stations i (arrived (slice_index s.shared mine.word)) mine.station mine.there)
-              ∙ ap (slice_get (slice_set s.stations i (arrived (slice_index s.shared mine.word)))) (sym (ap x.place same ∙ is)))))
+              ∙ (sym (set_there s.local_states i (arrived (slice_index s.shared mine.word)) mine.local_state mine.there)
+              ∙ ap (slice_get (slice_set s.local_states i (arrived (slice_index s.shared mine.word)))) (sym (ap x.place same ∙ is)))))
           by j (inr ne) =
-              set_other t.stations k j (arrived (slice_index t.shared mine.word)) ne
+              set_other t.local_states k j (arrived (slice_index t.shared mine.word)) ne
               ∙ (e.each j
-              ∙ sym (set_other s.stations i (x.place j) (arrived (slice_index s.shared mine.word))
+              ∙ sym (set_other s.local_states i (x.place j) (arrived (slice_index s.shared mine.word))
               (λ same. ne (sym (x.takes j) ∙ (ap x.taker (same ∙ sym is) ∙ x.takes k)))))
 
     -- A move up to exchanges from s to u is a plain move from each exchange of s, to an exchange of u. How that comes of u
     -- depends on one exchange y, which is the same for all exchanges of s.
-    pub led : (s u : Standing) (i : ℕ) → IsMoveUpTo at code kept classes s i u →
-        (y : Exchange classes) × ((x : Exchange classes) (t : Standing) (k : ℕ) → x.place k ≡ i → IsExchanged x.place s t →
-        (w : Standing) × IsMove at code kept t k w × IsExchanged (λ j. y.place (x.place j)) u w)
+    pub led : (s u : MacroState) (i : ℕ) → IsMoveUpTo at code kept classes s i u →
+        (y : Exchange classes) × ((x : Exchange classes) (t : MacroState) (k : ℕ) → x.place k ≡ i → IsExchanged x.place s t →
+        (w : MacroState) × IsMove at code kept t k w × IsExchanged (λ j. y.place (x.place j)) u w)
     unfolding trade
     led s u i m = (
       both (back m.exchange.0) (trade m.mover i m.alike),
@@ -192,9 +193,10 @@ module _ (classes : List ℕ) where
     -- ---- ways
 
     -- A way up to exchanges is a plain way from each exchange of where it begins, to an exchange of where it ends.
-    pub way_led : (way : List (ℕ × Standing)) (s t : Standing) → IsWayUpTo at code kept classes s way t →
-        (y : Exchange classes) × ((x : Exchange classes) (u : Standing) → IsExchanged x.place s u →
-        (real : List (ℕ × Standing)) × (w : Standing) × IsWay at code kept u real w × IsExchanged (λ j. y.place (x.place j)) t w × (length real ≡ length way))
+    pub way_led : (way : List (ℕ × MacroState)) (s t : MacroState) → IsWayUpTo at code kept classes s way t →
+        (y : Exchange classes) × ((x : Exchange classes) (u : MacroState) → IsExchanged x.place s u →
+        (real : List (ℕ × MacroState)) × (w : MacroState) × IsWay at code kept u real w × IsExchanged (λ j. y.place (x.place j)) t w
+        × (length real ≡ length way))
     way_led [] s t e = (none, λ x u f. ([], u, refl, subst (λ z. IsExchanged x.place z u) e f, refl))
     way_led ((i, v) ∷ way) s t h =
         let first = led s v i h.0 in
@@ -215,20 +217,40 @@ module _ (classes : List ℕ) where
 
     module _ (beside : (j k : ℕ) → IsBeside (at j) (at k)) where
       -- A processor that may move in an exchange of s may move in s, at the place that it takes.
-      pub may_exchanged : (x : Exchange classes) (s t : Standing) (k : ℕ) → IsExchanged x.place s t → MayMove at code t k → MayMove at code s (x.place k)
+      pub may_exchanged : (x : Exchange classes) (s t : MacroState) (k : ℕ) → IsExchanged x.place s t → MayMove at code t k → MayMove at code s (x.place k)
       may_exchanged x s t k e w = record {
-        station = w.station;
+        local_state = w.local_state;
         there = sym (e.each k) ∙ w.there;
         runs = w.runs;
-        refers = subst IsReference (reference_same (at k) (at (x.place k)) (beside k (x.place k)) code w.station.processor w.refers) w.refers;
+        refers = subst IsReference (reference_same (at k) (at (x.place k)) (beside k (x.place k)) code w.local_state.processor w.refers) w.refers;
       }
 
+      -- If a processor spins in s, one spins in an exchange of s, at the place that it takes.
+      pub spinner_exchanged : (x : Exchange classes) (s t : MacroState) → IsExchanged x.place s t → HasSpinner at code s → HasSpinner at code t
+      spinner_exchanged x s t e h =
+          let k = x.taker h.processor in record {
+            processor = k;
+            local_state = h.local_state;
+            there = e.each k ∙ (ap (slice_get s.local_states) (x.taken h.processor) ∙ h.there);
+            goes_on = (
+              h.goes_on.0,
+              λ refers. h.goes_on.1 (subst IsReference
+                  (reference_same (at k) (at h.processor) (beside k h.processor) code h.local_state.processor refers) refers),
+            );
+          }
+
       -- If no more than n moves follow one another from s up to exchanges, no more follow one another from an exchange of s.
-      pub short_exchanged : (n : ℕ) (x : Exchange classes) (s t : Standing) → IsExchanged x.place s t → IsShortUpTo at code kept classes n s →
+      pub short_exchanged : (n : ℕ) (x : Exchange classes) (s t : MacroState) → IsExchanged x.place s t → IsShortUpTo at code kept classes n s →
           IsShort at code kept n t
-      short_exchanged zero x s t e h = λ k w. h (x.place k) (may_exchanged x s t k e w)
-      short_exchanged (suc n) x s t e h = λ k w.
-          let m = h (x.place k) (may_exchanged x s t k e w) in
-          let l = led s m.0 (x.place k) m.1 in
-          let moved = l.1 x t k refl e in
-          (moved.0, moved.1, short_exchanged n (both l.0 x) m.0 moved.0 moved.2 m.2)
+      short_exchanged zero x s t e h = (
+        λ spins. h.0 (spinner_exchanged (back x) t s (exchanged_back x s t e) spins),
+        λ k w. h.1 (x.place k) (may_exchanged x s t k e w),
+      )
+      short_exchanged (suc n) x s t e h = (
+        λ spins. h.0 (spinner_exchanged (back x) t s (exchanged_back x s t e) spins),
+        λ k w.
+            let m = h.1 (x.place k) (may_exchanged x s t k e w) in
+            let l = led s m.0 (x.place k) m.1 in
+            let moved = l.1 x t k refl e in
+            (moved.0, moved.1, short_exchanged n (both l.0 x) m.0 moved.0 moved.2 m.2),
+      )

@@ -20,7 +20,7 @@ use Rattle.flat_machine.specs.Memory.{number_at, with_number, region_of}
 use Rattle.flat_machine.specs.Operations.{register_value, immediate_value, shift_value, is_taken, load_size, loaded, store_size, amo_value}
 use Rattle.flat_machine.specs.Effects.{register_of, with_register, call_of, effect_of}
 use Rattle.flat_machine.specs.Turns.{Retires, Stops, retired_writing, gone_to, fetched, accessed, performed, turn_by, turn_of}
-use Rattle.local_reduction.specs.Stations.{Station, with_byte, stopped_by}
+use Rattle.local_reduction.specs.LocalStates.{LocalState, with_byte, stopped_by}
 use Rattle.local_reduction.specs.Closing.{IsAlike, IsForgetful, if_running}
 use Rattle.local_reduction.specs.Laws.{StoppedAreForgotten}
 use Rattle.local_reduction.specs.Live.{is_live, is_passed, is_needed, HasAllLive, HasAllLiveAt}
@@ -29,9 +29,11 @@ use Rattle.local_reduction.proofs.Registers.{read_same, only_only, only_written,
 
 -- ---- tests
 
+-- A disjunction holds if its first part does.
 pub or_first : (a b : Bool) → a ≡ true → (a || b) ≡ true
 or_first a b e = ap (λ x. x || b) e
 
+-- A disjunction holds if its last part does.
 pub or_last : (a b : Bool) → b ≡ true → (a || b) ≡ true
 or_last true b e = refl
 or_last false b e = e
@@ -153,11 +155,11 @@ module _ (s : Setting) (live : List (List Bool)) (pc : ℕ) (registers : List �
 -- ---- turns
 
 -- a station that does what another does, elsewhere and with other contents
-abbrev standing : Station → (pc : ℕ) → (registers local console : List ℕ) → Station
+abbrev standing : LocalState → (pc : ℕ) → (registers local console : List ℕ) → LocalState
 standing a pc registers local console =
     record { processor = record { pc = pc; registers = registers; local = local; status = a.processor.status }; console = console }
 
-module _ (s : Setting) (code : List ℕ) (live : List (List Bool)) (a : Station) (i : Insn) where
+module _ (s : Setting) (code : List ℕ) (live : List (List Bool)) (a : LocalState) (i : Insn) where
   gone_same : (rd target value : ℕ) (local console : List ℕ) → Carried s live a.processor.pc a.processor.registers rd target →
       kept_by live (standing a target (with_register (only (is_live live a.processor.pc) a.processor.registers) rd value) local console)
       ≡ kept_by live (standing a target (with_register a.processor.registers rd value) local console)
@@ -199,7 +201,7 @@ module _ (s : Setting) (code : List ℕ) (live : List (List Bool)) (a : Station)
   alike (does.Halt byte) h = refl
   alike (does.Fail fault) h = refl
 
-turn_alike : (s : Setting) (code : List ℕ) (live : List (List Bool)) (a : Station) → HasAllLiveAt code live a.processor.pc →
+turn_alike : (s : Setting) (code : List ℕ) (live : List (List Bool)) (a : LocalState) → HasAllLiveAt code live a.processor.pc →
     (x : Result Insn Fault) → fetched code a.processor.pc ≡ x →
     IsAlike (kept_by live) (with_live live a) a (turn_by s code (with_live live a).processor x) (turn_by s code a.processor x)
 turn_alike s code live a right (Ok i) e =
@@ -212,17 +214,17 @@ turn_alike s code live a right (Err fault) e = refl
 
 -- ---- stations
 
-abbrev emptied : Station → Station
+abbrev emptied : LocalState → LocalState
 emptied a = record a { processor = record a.processor { registers = []; local = [] } }
 
-stopped_kept : (live : List (List Bool)) (b : Bool) (a : Station) (c : Cause) →
+stopped_kept : (live : List (List Bool)) (b : Bool) (a : LocalState) (c : Cause) →
     kept_by live (stopped_by (cond b (with_live live a) (emptied a)) c) ≡ kept_by live (stopped_by a c)
 stopped_kept live true a (cause.Halt byte) = refl
 stopped_kept live true a (cause.Fault fault) = refl
 stopped_kept live false a (cause.Halt byte) = refl
 stopped_kept live false a (cause.Fault fault) = refl
 
-once_kept : (live : List (List Bool)) (b : Bool) (a : Station) → is_running a.processor.status ≡ b →
+once_kept : (live : List (List Bool)) (b : Bool) (a : LocalState) → is_running a.processor.status ≡ b →
     kept_by live (cond b (with_live live a) (emptied a)) ≡ kept_by live a
 once_kept live true a e =
     ap (λ rs. if_running (standing a a.processor.pc rs a.processor.local a.console))
@@ -230,12 +232,14 @@ once_kept live true a e =
 once_kept live false a e =
     ap (λ r. cond r (emptied a) (emptied a)) e ∙ sym (ap (λ r. cond r (with_live live a) (emptied a)) e)
 
-pub dead_not_kept : (live : List (List Bool)) (a : Station) (r value : ℕ) → is_live live a.processor.pc r ≡ false →
+-- What is written to a register that is not live is not kept.
+pub dead_not_kept : (live : List (List Bool)) (a : LocalState) (r value : ℕ) → is_live live a.processor.pc r ≡ false →
     kept_by live (record a { processor = record a.processor { registers = slice_set a.processor.registers r value } }) ≡ kept_by live a
 dead_not_kept live a r value dead =
     ap (λ rs. if_running (standing a a.processor.pc rs a.processor.local a.console))
     (only_cleared (is_live live a.processor.pc) a.processor.registers r value dead)
 
+-- If all that code needs is live, what is not kept of a local state is never asked for again.
 pub dead_forgotten : StoppedAreForgotten → (at : ℕ → Setting) (code : List ℕ) (live : List (List Bool)) → HasAllLive code live →
     IsForgetful at code (kept_by live)
 dead_forgotten stopped at code live right = record {

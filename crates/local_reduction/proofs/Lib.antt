@@ -1,10 +1,13 @@
+pub mod Spinning
 pub mod Settling
+pub mod Endless
 pub mod Covering
 pub mod Reaching
 pub mod Stopping
 pub mod Bounding
 pub mod Moving
 pub mod Numbers
+pub mod Returning
 pub mod Exchanging
 pub mod UpTo
 pub mod Results

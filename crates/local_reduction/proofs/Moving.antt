@@ -5,12 +5,13 @@ use Rattle.flat_machine.specs.declared.setting.Setting.{Setting}
 use Rattle.flat_machine.specs.declared.event.Retired.{Retired}
 use Rattle.flat_machine.specs.State.{Processor, is_running}
 use Rattle.flat_machine.specs.Turns.{Turn, Retires, Reaches, Stops, turn_of}
-use Rattle.local_reduction.specs.Stations.{Station, behind, alone, IsSettled}
-use Rattle.local_reduction.specs.Closing.{IsAlike, IsForgetful, Standing, gone, IsMove}
+use Rattle.local_reduction.specs.LocalStates.{LocalState, behind, alone, IsSettled}
+use Rattle.local_reduction.specs.Closing.{IsAlike, IsForgetful, MacroState, gone, IsMove}
 use Rattle.local_reduction.proofs.Settling.{alone_alike, settled_alike}
 
-pub moved : (at : ℕ → Setting) (code : List ℕ) (kept : Station → Station) (s : Standing) (k : ℕ) (a : Station) (word : ℕ) (change : ℕ → ℕ)
-    (after : ℕ → Processor × Retired) (count : ℕ) → IsForgetful at code kept → slice_get s.stations k ≡ Some (kept a) →
+-- A processor of which this is kept, and which refers to a word and then settles alone, makes a move.
+pub moved : (at : ℕ → Setting) (code : List ℕ) (kept : LocalState → LocalState) (s : MacroState) (k : ℕ) (a : LocalState) (word : ℕ) (change : ℕ → ℕ)
+    (after : ℕ → Processor × Retired) (count : ℕ) → IsForgetful at code kept → slice_get s.local_states k ≡ Some (kept a) →
     is_running a.processor.status ≡ true → turn_of (at k) code a.processor ≡ Reaches word change after →
     IsSettled (at k) code (alone count (at k) code (behind a (after (slice_index s.shared word)))).processor →
     IsMove at code kept s k
@@ -30,7 +31,7 @@ moved at code kept s k a word change after count f there runs e settled =
         sym (alone_alike at code kept f count k (behind (kept a) (g (slice_index s.shared word))) (behind a (after (slice_index s.shared word)))
         (alike.2 (slice_index s.shared word))) in
         record {
-          station = kept a;
+          local_state = kept a;
           there = there;
           runs = f.running a ∙ runs;
           word = word;

@@ -1,5 +1,5 @@
 -- A turn that does not ask for the processor's own number is the same whatever that is.
-use Rattle.std.proofs.Common.{◌≡◌, ℕ, ◌%◌, Bool, true, false, cond, zero, suc, List, Result, Ok, Err, refl, ap, subst, ◌∙◌, eqb}
+use Rattle.std.proofs.Common.{◌≡◌, ◌⊎◌, inl, inr, ℕ, ◌%◌, Bool, true, false, cond, zero, suc, List, [], Result, Ok, Err, refl, sym, ap, subst, ◌∙◌, eqb}
 use Rattle.std.proofs.lemmas.Bool.{eqb-true}
 use Rattle.rv_table.specs.declared.insn.Insn.{Insn}
 use Rattle.rv_table.specs.declared.insn.Insn.TheVariants.{Op, OpImm, Shift, Load, Store, Branch, Upper, Jal, Jalr, Fence, Ecall, Ebreak, Amo}
@@ -13,8 +13,10 @@ use Rattle.flat_machine.specs.State.{Processor, is_running}
 use Rattle.flat_machine.specs.Effects.{effect_of, call_of, register_of}
 use Rattle.flat_machine.specs.Memory.{region_of}
 use Rattle.flat_machine.specs.Turns.{performed, turn_by, turn_of, fetched}
-use Rattle.local_reduction.specs.Stations.{Station, alone_by, alone_once, alone, IsReference, IsSettled}
-use Rattle.local_reduction.specs.Exchanging.{Asks, AskNot, IsBeside}
+use Rattle.local_reduction.specs.LocalStates.{LocalState, alone_by, alone_once, alone, IsReference, GoesOn, Spins, IsSettled}
+use Rattle.local_reduction.specs.Closing.{local_state_of}
+use Rattle.local_reduction.specs.Exchanging.{Asks, AskNot, NeverAsks, IsBeside}
+use Rattle.local_reduction.proofs.Spinning.{alone_processor}
 
 -- s and t are the settings of two processors of one machine.
 module _ (s t : Setting) (b : IsBeside s t) where
@@ -93,7 +95,7 @@ reference_asks_not s code p h asks =
 -- ---- turns alone
 
 module _ (s t : Setting) (b : IsBeside s t) (code : List ℕ) where
-  once_same : (a : Station) → (is_running a.processor.status ≡ true → Asks code a.processor → ⊥) → alone_once s code a ≡ alone_once t code a
+  once_same : (a : LocalState) → (is_running a.processor.status ≡ true → Asks code a.processor → ⊥) → alone_once s code a ≡ alone_once t code a
   once_same a h = by (is_running a.processor.status) refl
     where
       by : (c : Bool) → is_running a.processor.status ≡ c →
@@ -102,7 +104,7 @@ module _ (s t : Setting) (b : IsBeside s t) (code : List ℕ) where
       by false e = refl
 
   -- Turns alone of which none asks for the number lead to the same station under both.
-  pub alone_same : (n : ℕ) (a : Station) → AskNot n s code a → alone n s code a ≡ alone n t code a
+  pub alone_same : (n : ℕ) (a : LocalState) → AskNot n s code a → alone n s code a ≡ alone n t code a
   alone_same zero a h = refl
   alone_same (suc n) a h =
       alone_same n (alone_once s code a) h.1 ∙ ap (alone n t code) (once_same a h.0)
@@ -111,12 +113,39 @@ module _ (s t : Setting) (b : IsBeside s t) (code : List ℕ) where
   pub reference_same : (p : Processor) → IsReference (turn_of s code p) → turn_of s code p ≡ turn_of t code p
   reference_same p h = turn_same s t b code p (reference_asks_not s code p h)
 
-  -- A processor that is settled under one number is settled under the other.
-  pub settled_same : (p : Processor) → IsSettled s code p → IsSettled t code p
-  settled_same p h runs = subst IsReference (reference_same p (h runs)) (h runs)
+-- It goes on under one number, if it does under the other,
+goes_same : (s t : Setting) → IsBeside s t → (code : List ℕ) (p : Processor) → GoesOn s code p → GoesOn t code p
+goes_same s t b code p h = (
+  h.0,
+  λ refers. h.1 (subst IsReference
+      (reference_same t s (record { processors = sym b.processors; shared_words = sym b.shared_words }) code p refers) refers),
+)
 
--- If neither n turns alone nor the turn behind them ask for the number, n + 1 turns do not.
-pub ask_not_more : (n : ℕ) (s : Setting) (code : List ℕ) (a : Station) → AskNot n s code a →
+module _ (s t : Setting) (b : IsBeside s t) (code : List ℕ) where
+  -- and for ever if it never asks.
+  spins_same : (a : LocalState) → NeverAsks s code a → Spins s code a.processor → Spins t code a.processor
+  spins_same a quiet h = λ n.
+      subst (GoesOn t code)
+      (alone_processor n s code (local_state_of a.processor []) a refl
+      ∙ (ap (λ (c : LocalState). c.processor) (alone_same s t b code n a (quiet n))
+      ∙ alone_processor n t code a (local_state_of a.processor []) refl))
+      (goes_same s t b code (alone n s code (local_state_of a.processor [])).processor (h n))
+
+  -- A processor that is settled under one number, and never asks for it, is settled under the other.
+  pub settled_same : (a : LocalState) → NeverAsks s code a → IsSettled s code a.processor → IsSettled t code a.processor
+  settled_same a quiet h runs = by (h runs)
+    where
+      by : IsReference (turn_of s code a.processor) ⊎ Spins s code a.processor → IsReference (turn_of t code a.processor) ⊎ Spins t code a.processor
+      by (inl refers) = inl (subst IsReference (reference_same s t b code a.processor refers) refers)
+      by (inr spins) = inr (spins_same a quiet spins)
+
+-- What never asks does not after some turns alone.
+pub never_later : (n : ℕ) (s : Setting) (code : List ℕ) (a : LocalState) → NeverAsks s code a → NeverAsks s code (alone n s code a)
+never_later zero s code a quiet = quiet
+never_later (suc n) s code a quiet = never_later n s code (alone_once s code a) (λ m. (quiet (suc m)).1)
+
+-- If neither n turns alone nor the turn after them ask for the number, n + 1 turns do not.
+pub ask_not_more : (n : ℕ) (s : Setting) (code : List ℕ) (a : LocalState) → AskNot n s code a →
     (is_running (alone n s code a).processor.status ≡ true → Asks code (alone n s code a).processor → ⊥) → AskNot (suc n) s code a
 ask_not_more zero s code a h last = (last, tt)
 ask_not_more (suc n) s code a h last = (h.0, ask_not_more n s code (alone_once s code a) h.1 last)

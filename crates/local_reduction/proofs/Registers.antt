@@ -9,6 +9,7 @@ only_at set [] r e = refl
 only_at set (x ∷ xs) zero e = ap (λ b. cond b x 0) e
 only_at set (x ∷ xs) (suc r) e = only_at (λ i. set (suc i)) xs r e
 
+-- A register of the set is read the same if the registers outside the set are 0.
 pub read_same : (set : ℕ → Bool) (xs : List ℕ) (r : ℕ) → set r ≡ true → register_of (only set xs) r ≡ register_of xs r
 unfolding register_of
 read_same set xs r e = ap (λ v. cond (eqb r 0) 0 v) (only_at set xs r e)

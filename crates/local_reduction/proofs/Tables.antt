@@ -12,11 +12,11 @@ use Rattle.flat_machine.specs.Turns.{fetched, found}
 use Rattle.local_reduction.specs.Live.{is_live, is_needed, HasAllLive, HasAllLiveAt}
 use Rattle.local_reduction.proofs.Forgetting.{or_first, or_last}
 
--- of the first so many registers those that the instruction needs are live
+-- of the first this many registers those that the instruction needs are live
 abbrev pub HasLiveBelow : (live : List (List Bool)) → (pc : ℕ) → Insn → (count : ℕ) → Type 0
 HasLiveBelow live pc i count = (r : ℕ) → r < count → is_needed live pc i r ≡ true → is_live live pc r ≡ true
 
--- and of the first so many words of code
+-- and of the first this many words of code
 abbrev pub HasLiveInWords : (code : List ℕ) → (live : List (List Bool)) → (count : ℕ) → Type 0
 HasLiveInWords code live count = (word : ℕ) → word < count → HasAllLiveAt code live (65536 + 4 * word)
 
@@ -27,6 +27,7 @@ high_is_live : (live : List (List Bool)) (pc r : ℕ) → 32 ≤ r → is_live l
 high_is_live live pc r high =
     or_first (not (eqb (pc % 4) 0) || eqb r 0 || nat_le 32 r) _ (or_last (not (eqb (pc % 4) 0) || eqb r 0) (nat_le 32 r) (le-leb 32 r high))
 
+-- If the registers below 32 that an instruction needs are live at its pc, all that is needed there is live.
 pub all_at : (code : List ℕ) (live : List (List Bool)) (pc : ℕ) (i : Insn) → fetched code pc ≡ Ok i → HasLiveBelow live pc i 32 → HasAllLiveAt code live pc
 all_at code live pc i is below j r fetches needed = by (cases_lt r 32)
   where
@@ -55,6 +56,7 @@ inside code pc i is = by (cases_eq (pc / 2 ^ 16) 1)
         let both : Ok i ≡ Err FetchOutsideCode = sym is ∙ refused in
         absurd (cc)
 
+-- If all that is needed is live at each of the 16384 words of code, all that the code needs is live.
 pub all_live : (code : List ℕ) (live : List (List Bool)) → HasLiveInWords code live 16384 → HasAllLive code live
 all_live code live words pc i r fetches needed = by (cases_eq (pc % 4) 0)
   where

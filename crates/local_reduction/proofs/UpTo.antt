@@ -1,38 +1,39 @@
 -- What sets of states, and ways, up to exchanges say of the flat machine.
-use Rattle.std.proofs.Common.{◌≡◌, ℕ, true, List, Some, refl, sym, ap, subst, ◌∙◌, arith}
+use Rattle.std.proofs.Common.{◌≡◌, ◌⊎◌, inl, inr, ℕ, true, List, Some, refl, sym, ap, subst, ◌∙◌, arith}
 use Rattle.std.specs.Prelude.{slice_get, slice_index}
 use Rattle.flat_machine.specs.declared.setting.Setting.{Setting}
 use Rattle.flat_machine.specs.State.{FlatState, is_running, setting_of}
 use Rattle.flat_machine.specs.Turns.{turn_of}
 use Rattle.flat_machine.specs.Flat.{flat_run, flat_events}
-use Rattle.local_reduction.specs.Stations.{Station, behind, alone, consoles_after, turns, IsReference, IsSettled}
-use Rattle.local_reduction.specs.Closing.{IsForgetful, Standing, gone, IsIn, IsMove, Settles}
-use Rattle.local_reduction.specs.Exchanging.{IsBeside, IsExchangeOf, IsClosedUpTo}
-use Rattle.local_reduction.specs.Laws.{NumbersAreNotAskedFor, MovesAreOfAny, SetsClosedUpToHaveAllEnds}
+use Rattle.local_reduction.specs.LocalStates.{LocalState, behind, alone, consoles_after, turns, IsReference, IsSettled}
+use Rattle.local_reduction.specs.Closing.{IsForgetful, MacroState, gone, HasSpinner, IsIn, IsMove, ReachesMacroState, IsKeptOf}
+use Rattle.local_reduction.specs.Exchanging.{IsBeside, IsExchangeOf, IsMoveUpTo, IsClosedUpTo}
+use Rattle.local_reduction.specs.Laws.{NumbersAreNotAskedFor, MovesAreOfAny, SetsClosedUpToContainAllFinalStates}
 use Rattle.local_reduction.specs.Laws.{SetsClosedUpToAreNotLeft, MovesUpToAreTurns, EachExchangeIsReached}
 use Rattle.local_reduction.specs.Laws.{ShortUpToSchedulesEnd}
-use Rattle.local_reduction.proofs.Covering.{covered_run, settled_kept, stopped_settled}
+use Rattle.local_reduction.proofs.Covering.{Ran, covered_run, settled_kept, stopped_settled}
 use Rattle.local_reduction.proofs.Moving.{moved}
 use Rattle.local_reduction.proofs.Reaching.{moves_are}
 use Rattle.local_reduction.proofs.Bounding.{bounded}
-use Rattle.local_reduction.proofs.Numbers.{alone_same, reference_same, settled_same}
-use Rattle.local_reduction.proofs.Exchanging.{none, back, both, uniform_stays, led, way_led, short_exchanged}
+use Rattle.local_reduction.proofs.Numbers.{alone_same, reference_same, settled_same, never_later}
+use Rattle.local_reduction.proofs.Exchanging.{none, back, both, exchanged_back, uniform_stays, led, way_led, spinner_exchanged, short_exchanged}
 
 -- Turns alone that do not ask for the number are the same under each.
 pub not_asked : NumbersAreNotAskedFor
 not_asked s t code count a b h = alone_same s t b code count a h
 
--- A move behind which nothing asks for the number is that of any processor of its class.
+-- A move after which nothing asks for the number is that of any processor of its class.
 pub of_any : MovesAreOfAny
 of_any at code kept classes s k i a word change after count f beside there runs turn settled asks j alike =
     let same : alone count (at i) code (behind a (after (slice_index s.shared word))) ≡ alone count (at j) code (behind a (after (slice_index s.shared word))) =
-    alone_same (at i) (at j) (beside i j) code count (behind a (after (slice_index s.shared word))) asks in
+    alone_same (at i) (at j) (beside i j) code count (behind a (after (slice_index s.shared word))) (asks count) in
     subst (λ z. IsMove (λ _. at j) code kept s k (gone s k (kept z) word (change (slice_index s.shared word)))) (sym same)
     (moved (λ _. at j) code kept s k a word change after count
     (record { running = f.running; turn = λ _ b running. f.turn j b running; stopped = f.stopped; once = f.once }) there runs
     (sym (reference_same (at i) (at j) (beside i j) code a.processor (subst IsReference (sym turn) tt)) ∙ turn)
     (subst (λ z. IsSettled (at j) code z.processor) same
-    (settled_same (at i) (at j) (beside i j) code (alone count (at i) code (behind a (after (slice_index s.shared word)))).processor settled)))
+    (settled_same (at i) (at j) (beside i j) code (alone count (at i) code (behind a (after (slice_index s.shared word))))
+    (never_later count (at i) code (behind a (after (slice_index s.shared word))) asks) settled)))
 
 -- The settings of a flat machine's processors differ by their numbers alone.
 pub beside_all : (at : ℕ → Setting) (m : FlatState) → ((k : ℕ) → setting_of m k ≡ at k) → (j k : ℕ) → IsBeside (at j) (at k)
@@ -41,44 +42,66 @@ beside_all at m is j k = record {
   shared_words = ap (λ (s : Setting). s.shared_words) (sym (is j)) ∙ ap (λ (s : Setting). s.shared_words) (is k);
 }
 
-module _ (at : ℕ → Setting) (code : List ℕ) (kept : Station → Station) (classes : List ℕ) (f : IsForgetful at code kept) where
-  module _ (states : List Standing) (closed : IsClosedUpTo at code kept classes states) (beside : (j k : ℕ) → IsBeside (at j) (at k)) where
+module _ (at : ℕ → Setting) (code : List ℕ) (kept : LocalState → LocalState) (classes : List ℕ) (f : IsForgetful at code kept) where
+  module _ (states : List MacroState) (closed : IsClosedUpTo at code kept classes states) (beside : (j k : ℕ) → IsBeside (at j) (at k)) where
     -- an exchange of a state of the set
-    abbrev In : Standing → Type 0
-    In u = (t : Standing) × IsIn states t × IsExchangeOf classes t u
+    abbrev In : MacroState → Type 0
+    In u = (t : MacroState) × IsIn states t × IsExchangeOf classes t u
 
-    all_closed : (u : Standing) (k : ℕ) (a : Station) → In u → slice_get u.stations k ≡ Some a → is_running a.processor.status ≡ true →
-        IsReference (turn_of (at k) code a.processor) → (v : Standing) × IsMove at code kept u k v × In v
+    all_closed : (u : MacroState) (k : ℕ) (a : LocalState) → In u → slice_get u.local_states k ≡ Some a → is_running a.processor.status ≡ true →
+        IsReference (turn_of (at k) code a.processor) → HasSpinner at code u ⊎ ((v : MacroState) × IsMove at code kept u k v × In v)
     all_closed u k a h there runs refers =
         let x = h.2.0 in
-        let next = closed h.0 (x.place k) a h.1 (sym (h.2.1.each k) ∙ there) runs
-        (subst IsReference (reference_same (at k) (at (x.place k)) (beside k (x.place k)) code a.processor refers) refers) in
-        let l = led classes at code kept h.0 next.0 (x.place k) next.1 in
-        let moved = l.1 x u k refl h.2.1 in
-        (moved.0, moved.1, (next.0, next.2, (both classes l.0 x, moved.2)))
+        by (closed h.0 (x.place k) a h.1 (sym (h.2.1.each k) ∙ there) runs
+        (subst IsReference (reference_same (at k) (at (x.place k)) (beside k (x.place k)) code a.processor refers) refers))
+      where
+        by : HasSpinner at code h.0
+            ⊎ ((t : MacroState) × IsMoveUpTo at code kept classes h.0 (h.2.0.place k) t × IsIn states t) →
+            HasSpinner at code u ⊎ ((v : MacroState) × IsMove at code kept u k v × In v)
+        by (inl spins) = inl (spinner_exchanged classes at code kept beside h.2.0 h.0 u h.2.1 spins)
+        by (inr next) =
+            let l = led classes at code kept h.0 next.0 (h.2.0.place k) next.1 in
+            let moved = l.1 h.2.0 u k refl h.2.1 in
+            inr (moved.0, moved.1, (next.0, next.2, (both classes l.0 h.2.0, moved.2)))
 
-    -- From an exchange of a state of the set, each order of turns leads to one.
-    pub not_left_up_to : (m : FlatState) (consoles : ℕ → List ℕ) (u : Standing) (order : List ℕ) → In u → Settles at code kept m consoles u →
-        (v : Standing) × In v × Settles at code kept (flat_run m (turns order)) (consoles_after consoles (flat_events m (turns order))) v
+    -- From an exchange of a state of the set, each order of turns leads to one, or a processor spins.
+    not_left_up_to : (m : FlatState) (consoles : ℕ → List ℕ) (u : MacroState) (order : List ℕ) → In u → ReachesMacroState at code kept m consoles u →
+        Ran at code kept f In all_closed order m consoles
     not_left_up_to m consoles u order inside h = covered_run at code kept f In all_closed order m consoles u inside h
 
--- No order of turns leaves a set that is closed up to exchanges.
+-- No order of turns leaves a set that is closed up to exchanges, if no processor spins.
 pub closed_up_to_not_left : SetsClosedUpToAreNotLeft
-closed_up_to_not_left at code kept classes states m consoles s u order f closed inside x h =
-    let c = not_left_up_to at code kept classes f states closed (beside_all at m h.settings) m consoles u order (s, inside, x) h in
-    (c.1.0, c.0, c.1.1, c.1.2, c.2)
+closed_up_to_not_left at code kept classes states m consoles s u order f closed none inside x h =
+    by (not_left_up_to at code kept classes f states closed (beside_all at m h.settings) m consoles u order (s, inside, x) h)
+  where
+    by : Ran at code kept f (In at code kept classes f states closed (beside_all at m h.settings))
+        (all_closed at code kept classes f states closed (beside_all at m h.settings)) order m consoles →
+        (t v : MacroState) × IsIn states t × IsExchangeOf classes t v
+        × ReachesMacroState at code kept (flat_run m (turns order)) (consoles_after consoles (flat_events m (turns order))) v
+    by (inl c) = (c.1.0, c.0, c.1.1, c.1.2, c.2)
+    by (inr caught) =
+        let t = caught.1 in
+        absurd (none t.0 t.1 (spinner_exchanged classes at code kept (beside_all at m h.settings) (back classes t.2.0) caught.0 t.0
+        (exchanged_back classes t.2.0 t.0 caught.0 t.2.1) caught.2))
 
 -- A set that is closed up to exchanges has an exchange of each end.
-pub closed_up_to_ends : SetsClosedUpToHaveAllEnds
+pub closed_up_to_ends : SetsClosedUpToContainAllFinalStates
 closed_up_to_ends at code kept classes states m consoles s u order f closed inside x h stopped =
-    let c = closed_up_to_not_left at code kept classes states m consoles s u order f closed inside x h in (
+    by (not_left_up_to at code kept classes f states closed (beside_all at m h.settings) m consoles u order (s, inside, x) h)
+  where
+    by : Ran at code kept f (In at code kept classes f states closed (beside_all at m h.settings))
+        (all_closed at code kept classes f states closed (beside_all at m h.settings)) order m consoles →
+        (t v : MacroState) × IsIn states t × IsExchangeOf classes t v
+        × IsKeptOf kept (flat_run m (turns order)) (consoles_after consoles (flat_events m (turns order))) v
+    by (inl c) = (
+      c.1.0,
       c.0,
-      c.1,
-      c.2,
-      c.3,
-      settled_kept at code kept (flat_run m (turns order)) (consoles_after consoles (flat_events m (turns order))) c.1 c.4
+      c.1.1,
+      c.1.2,
+      settled_kept at code kept (flat_run m (turns order)) (consoles_after consoles (flat_events m (turns order))) c.0 c.2
           (stopped_settled at code (flat_run m (turns order)) stopped),
     )
+    by (inr caught) = absurd (caught.3 stopped)
 
 -- Where moves up to exchanges lead, some order of turns leads to an exchange of it.
 pub up_to_turns : MovesUpToAreTurns
@@ -106,12 +129,12 @@ each_reached at code kept classes m consoles s way t x f uniform h w =
     let done = moves_are at code kept m consoles s real.0 real.1 f h real.2 in (
       done.0,
       real.1,
-      record { shared = real.3.shared; each = λ k. real.3.each k ∙ ap (slice_get t.stations) (l.0.taken (x.place k)) },
+      record { shared = real.3.shared; each = λ k. real.3.each k ∙ ap (slice_get t.local_states) (l.0.taken (x.place k)) },
       done.1,
       done.2,
     )
 
--- If only so many moves follow one another up to exchanges, every schedule ends.
+-- If only this many moves follow one another up to exchanges, every schedule ends.
 pub short_up_to : ShortUpToSchedulesEnd
 short_up_to at code kept classes m consoles s most f h short =
     bounded at code kept m consoles s most f h

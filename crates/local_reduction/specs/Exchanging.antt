@@ -1,13 +1,13 @@
 -- Exchanges of processors that stand alike, and sets of states that are closed under moves up to exchanges. Such a set
 -- needs only one of the states that are exchanges of one another: model checking calls this symmetry reduction.
-use Rattle.std.specs.Prelude.{◌≡◌, ℕ, zero, suc, true, List, [], ◌∷◌, Ok, Some, slice_get}
+use Rattle.std.specs.Prelude.{◌≡◌, ◌⊎◌, ℕ, zero, suc, true, List, [], ◌∷◌, Ok, Some, slice_get}
 use Rattle.rv_table.specs.declared.insn.Insn.TheVariants.{Ecall}
 use Rattle.flat_machine.specs.declared.setting.Setting.{Setting}
 use Rattle.flat_machine.specs.State.{Processor, is_running}
 use Rattle.flat_machine.specs.Effects.{register_of}
 use Rattle.flat_machine.specs.Turns.{fetched, turn_of}
-use Rattle.local_reduction.specs.Stations.{Station, alone_once, IsReference}
-use Rattle.local_reduction.specs.Closing.{Standing, IsIn, IsMove, MayMove}
+use Rattle.local_reduction.specs.LocalStates.{LocalState, alone_once, IsReference}
+use Rattle.local_reduction.specs.Closing.{MacroState, IsIn, IsMove, MayMove, HasSpinner}
 
 -- ---- the own number
 
@@ -15,11 +15,15 @@ use Rattle.local_reduction.specs.Closing.{Standing, IsIn, IsMove, MayMove}
 abbrev pub Asks : (code : List ℕ) → Processor → Type 0
 Asks code p = (fetched code p.pc ≡ Ok Ecall) × (register_of p.registers 17 ≡ 2)
 
--- and none of so many turns alone does.
-abbrev pub AskNot : (count : ℕ) → Setting → (code : List ℕ) → Station → Type 0
+-- and none of this many turns alone does.
+abbrev pub AskNot : (count : ℕ) → Setting → (code : List ℕ) → LocalState → Type 0
 AskNot zero s code a = Unit {0}
 AskNot (suc n) s code a =
     (is_running a.processor.status ≡ true → Asks code a.processor → ⊥) × AskNot n s code (alone_once s code a)
+
+-- However many turns it takes alone, it never asks.
+abbrev pub NeverAsks : Setting → (code : List ℕ) → LocalState → Type 0
+NeverAsks s code a = (count : ℕ) → AskNot count s code a
 
 -- the same machine, for a processor of another number
 pub record IsBeside (s t : Setting) : Type 0 where
@@ -41,58 +45,62 @@ pub record Exchange (classes : List ℕ) : Type 0 where
   pub alike : (k : ℕ) → AreAlike classes (place k) k
 
 -- t is s, with each processor in the place that it takes
-pub record IsExchanged (place : ℕ → ℕ) (s t : Standing) : Type 0 where
+pub record IsExchanged (place : ℕ → ℕ) (s t : MacroState) : Type 0 where
   pub shared : t.shared ≡ s.shared
-  pub each : (k : ℕ) → slice_get t.stations k ≡ slice_get s.stations (place k)
+  pub each : (k : ℕ) → slice_get t.local_states k ≡ slice_get s.local_states (place k)
 
 -- t comes of s by an exchange of processors of one class
-abbrev pub IsExchangeOf : (classes : List ℕ) → Standing → Standing → Type 0
+abbrev pub IsExchangeOf : (classes : List ℕ) → MacroState → MacroState → Type 0
 IsExchangeOf classes s t = (x : Exchange classes) × IsExchanged x.place s t
 
 -- Processors of one class stand in equal states.
-abbrev pub IsUniform : (classes : List ℕ) → Standing → Type 0
-IsUniform classes s = (j k : ℕ) → AreAlike classes j k → slice_get s.stations j ≡ slice_get s.stations k
+abbrev pub IsUniform : (classes : List ℕ) → MacroState → Type 0
+IsUniform classes s = (j k : ℕ) → AreAlike classes j k → slice_get s.local_states j ≡ slice_get s.local_states k
 
 -- ---- moves up to exchanges
 
 -- Whichever of its class stood at the place k, the same move would lead from s to t.
 abbrev pub IsMoveOfAny :
-    (at : ℕ → Setting) → (code : List ℕ) → (kept : Station → Station) → (classes : List ℕ) →
-    Standing → ℕ → Standing → Type 0
+    (at : ℕ → Setting) → (code : List ℕ) → (kept : LocalState → LocalState) → (classes : List ℕ) →
+    MacroState → ℕ → MacroState → Type 0
 IsMoveOfAny at code kept classes s k t = (j : ℕ) → AreAlike classes j k → IsMove (λ i. at j) code kept s k t
 
 -- A move of the processor k, or of one of its class that stands as it does, leads from s to what t is an exchange of.
-pub record IsMoveUpTo (at : ℕ → Setting) (code : List ℕ) (kept : Station → Station) (classes : List ℕ) (s : Standing)
-    (k : ℕ) (t : Standing) : Type 0 where
+pub record IsMoveUpTo (at : ℕ → Setting) (code : List ℕ) (kept : LocalState →
+    LocalState) (classes : List ℕ) (s : MacroState)
+    (k : ℕ) (t : MacroState) : Type 0 where
   pub mover : ℕ
   pub alike : AreAlike classes mover k
-  pub same : slice_get s.stations mover ≡ slice_get s.stations k
-  pub left : Standing
+  pub same : slice_get s.local_states mover ≡ slice_get s.local_states k
+  pub left : MacroState
   pub move : IsMoveOfAny at code kept classes s mover left
   pub exchange : IsExchangeOf classes left t
 
--- The set has with each state those that a move of each of its processors leads to, up to exchanges.
+-- The set has with each state in which no processor spins those that a move of each of its processors leads to, up to
+-- exchanges.
 abbrev pub IsClosedUpTo :
-    (at : ℕ → Setting) → (code : List ℕ) → (kept : Station → Station) → (classes : List ℕ) → List Standing → Type 0
+    (at : ℕ → Setting) → (code : List ℕ) → (kept : LocalState → LocalState) → (classes : List ℕ) → List MacroState →
+    Type 0
 IsClosedUpTo at code kept classes states =
-    (s : Standing) (k : ℕ) (a : Station) →
-    IsIn states s → slice_get s.stations k ≡ Some a → is_running a.processor.status ≡ true →
+    (s : MacroState) (k : ℕ) (a : LocalState) →
+    IsIn states s → slice_get s.local_states k ≡ Some a → is_running a.processor.status ≡ true →
     IsReference (turn_of (at k) code a.processor) →
-    (t : Standing) × IsMoveUpTo at code kept classes s k t × IsIn states t
+    HasSpinner at code s ⊎ ((t : MacroState) × IsMoveUpTo at code kept classes s k t × IsIn states t)
 
--- From there no more moves than so many follow one another, up to exchanges.
+-- From there no more moves than this many follow one another, up to exchanges, and no processor spins.
 abbrev pub IsShortUpTo :
-    (at : ℕ → Setting) → (code : List ℕ) → (kept : Station → Station) → (classes : List ℕ) →
-    (most : ℕ) → Standing → Type 0
-IsShortUpTo at code kept classes zero s = (k : ℕ) → MayMove at code s k → ⊥
+    (at : ℕ → Setting) → (code : List ℕ) → (kept : LocalState → LocalState) → (classes : List ℕ) →
+    (most : ℕ) → MacroState → Type 0
+IsShortUpTo at code kept classes zero s = (HasSpinner at code s → ⊥) × ((k : ℕ) → MayMove at code s k → ⊥)
 IsShortUpTo at code kept classes (suc n) s =
-    (k : ℕ) → MayMove at code s k →
-    (t : Standing) × IsMoveUpTo at code kept classes s k t × IsShortUpTo at code kept classes n t
+    (HasSpinner at code s → ⊥)
+    × ((k : ℕ) → MayMove at code s k →
+    (t : MacroState) × IsMoveUpTo at code kept classes s k t × IsShortUpTo at code kept classes n t)
 
 -- moves up to exchanges, each to a state of the list and of the processor beside it, lead from s to t
 abbrev pub IsWayUpTo :
-    (at : ℕ → Setting) → (code : List ℕ) → (kept : Station → Station) → (classes : List ℕ) →
-    (s : Standing) → List (ℕ × Standing) → (t : Standing) → Type 0
+    (at : ℕ → Setting) → (code : List ℕ) → (kept : LocalState → LocalState) → (classes : List ℕ) →
+    (s : MacroState) → List (ℕ × MacroState) → (t : MacroState) → Type 0
 IsWayUpTo at code kept classes s [] t = s ≡ t
 IsWayUpTo at code kept classes s ((k, u) ∷ way) t =
     IsMoveUpTo at code kept classes s k u × IsWayUpTo at code kept classes u way t

@@ -1,6 +1,6 @@
-pub mod Stations
+pub mod LocalStates
 pub mod Closing
-pub mod Schedules
+pub mod Termination
 pub mod Exchanging
 pub mod Results
 pub mod Laws

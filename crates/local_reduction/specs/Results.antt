@@ -6,8 +6,8 @@ use Rattle.flat_machine.specs.declared.event.Status.{Status}
 use Rattle.flat_machine.specs.declared.event.Status.TheVariants.{Halted}
 use Rattle.flat_machine.specs.State.{FlatState, Processor, is_running}
 use Rattle.flat_machine.specs.Flat.{flat_run, flat_events}
-use Rattle.local_reduction.specs.Stations.{Station, consoles_after, turns}
-use Rattle.local_reduction.specs.Closing.{Standing, HasStopped}
+use Rattle.local_reduction.specs.LocalStates.{LocalState, consoles_after, turns}
+use Rattle.local_reduction.specs.Closing.{MacroState, HasStopped}
 use Rattle.local_reduction.specs.Exchanging.{Exchange}
 
 -- Where a processor has stopped, how, with the halt's byte or the fault, and the bytes that it has printed.
@@ -51,14 +51,14 @@ IsFlatResult m r =
 -- ---- of states between references
 
 -- No processor runs.
-abbrev pub HaveStopped : Standing → Type 0
-HaveStopped s = (k : ℕ) (a : Station) → slice_get s.stations k ≡ Some a → is_running a.processor.status ≡ false
+abbrev pub HaveStopped : MacroState → Type 0
+HaveStopped s = (k : ℕ) (a : LocalState) → slice_get s.local_states k ≡ Some a → is_running a.processor.status ≡ false
 
-abbrev pub station_result : Station → ProcessorResult
-station_result a = result_with a.processor a.console
+abbrev pub local_state_result : LocalState → ProcessorResult
+local_state_result a = result_with a.processor a.console
 
-abbrev pub result_at : Standing → FinalResult
-result_at s = record { processors = map station_result s.stations; words = s.shared }
+abbrev pub result_at : MacroState → FinalResult
+result_at s = record { processors = map local_state_result s.local_states; words = s.shared }
 
 -- ---- exchanges
 

@@ -2,26 +2,26 @@
 
 ghost use Rattle.local_reduction.specs.Laws.{EachExchangeIsReached, MovesAreOfAny, MovesUpToAreTurns};
 ghost use Rattle.local_reduction.specs.Laws.{NumbersAreNotAskedFor, SetsClosedUpToAreNotLeft};
-ghost use Rattle.local_reduction.specs.Laws.{SetsClosedUpToHaveAllEnds, ShortUpToSchedulesEnd};
+ghost use Rattle.local_reduction.specs.Laws.{SetsClosedUpToContainAllFinalStates, ShortUpToSchedulesEnd};
 
 /// Turns alone that do not ask for the processor's own number are the same whatever that is.
 pub fn numbers_are_not_asked_for()
     ensures same { NumbersAreNotAskedFor }
 {}
 
-/// A move behind which nothing asks for the own number is that of any processor of its class.
+/// A move after which nothing ever asks for the own number is that of any processor of its class.
 pub fn moves_are_of_any()
     ensures any { MovesAreOfAny }
 {}
 
 /// If a set of states has the one to which a flat machine settles, and with each state those after
-/// a reference of each of its processors, up to exchanges of processors of one class, it has each end of
-/// that machine up to an exchange.
-pub fn sets_closed_up_to_have_all_ends()
-    ensures ends { SetsClosedUpToHaveAllEnds }
+/// a reference of each of its processors, up to exchanges of processors of one class and but for states in
+/// which a processor spins, it has each end of that machine up to an exchange.
+pub fn sets_closed_up_to_contain_all_final_states()
+    ensures ends { SetsClosedUpToContainAllFinalStates }
 {}
 
-/// And whatever turns are taken, the machine settles to an exchange of a state of the set.
+/// And whatever turns are taken, the machine settles to an exchange of a state of the set, if no processor spins.
 pub fn sets_closed_up_to_are_not_left()
     ensures stays { SetsClosedUpToAreNotLeft }
 {}
@@ -37,7 +37,7 @@ pub fn each_exchange_is_reached()
     ensures each { EachExchangeIsReached }
 {}
 
-/// If references follow one another only so many times up to exchanges, every schedule ends.
+/// If references follow one another only this many times up to exchanges, every schedule ends.
 pub fn short_up_to_schedules_end()
     ensures ends { ShortUpToSchedulesEnd }
 {}

@@ -1,15 +1,17 @@
 //! What processors do alone, and sets of states between references.
 //!
-//! What a processor does between two references to shared words touches nothing that another sees. So a state is each processor
-//! at its next reference, or stopped, with what it has printed, and the shared words; and only references lead from one state to
-//! others (`specs/Closing.antt`). The laws say that no order of turns ends anywhere else. If processors stand alike, one state is
-//! enough of those that are exchanges of one another (`specs/Exchanging.antt`). What an end leaves is a result
+//! What a processor does between two references to shared words touches nothing that another sees. So a state is each
+//! processor at its next reference, or stopped, with what it has printed, and the shared words; and only references
+//! lead from one state to others (`specs/Closing.antt`). The laws say that no order of turns ends anywhere else. A
+//! processor may also *spin*: go on alone for ever, as one does that comes back to a state in which it was. Then no
+//! order of turns ends, so nothing need be known of what the others do. If processors stand alike, one state is enough
+//! of those that are exchanges of one another (`specs/Exchanging.antt`). What an end leaves is a result
 //! (`specs/Results.antt`).
 //!
-//! A register is *live* where a processor stands at an instruction if that instruction, or one after it, may read the register
-//! before it is written. A table of live registers serves if it has, for each instruction, what the instruction reads, and what
-//! is live after it less what it writes; [`LiveTable::new`] makes one, and looks through it. What registers hold that are not
-//! live is never asked for, so it can be forgotten.
+//! A register is *live* where a processor stands at an instruction if that instruction, or one after it, may read the
+//! register before it is written. A table of live registers serves if it has, for each instruction, what the
+//! instruction reads, and what is live after it less what it writes; [`LiveTable::new`] makes one, and looks through
+//! it. What registers hold that are not live is never asked for, so it can be forgotten.
 #![tactic(auto)]
 
 mod exchanges;
@@ -20,11 +22,13 @@ mod table;
 
 pub use exchanges::{
     each_exchange_is_reached, moves_are_of_any, moves_up_to_are_turns, numbers_are_not_asked_for,
-    sets_closed_up_to_are_not_left, sets_closed_up_to_have_all_ends, short_up_to_schedules_end,
+    sets_closed_up_to_are_not_left, sets_closed_up_to_contain_all_final_states,
+    short_up_to_schedules_end,
 };
 pub use laws::{
-    closed_sets_are_not_left, closed_sets_have_all_ends, moves_are_of_what_is_kept,
+    closed_sets_are_not_left, closed_sets_contain_all_final_states, moves_are_of_what_is_kept,
     moves_are_turns, short_schedules_end, stopped_processors_can_be_forgotten,
+    what_comes_back_spins,
 };
 pub use live_laws::{dead_registers_are_not_kept, dead_registers_can_be_forgotten};
 pub use table::LiveTable;

@@ -9,8 +9,8 @@ pub fn dead_registers_are_not_kept()
     ensures not_kept { DeadAreNotKept }
 {}
 
-/// What registers hold that are not live can be forgotten, and so can all registers and the local memory of a processor that
-/// has stopped.
+/// What registers hold that are not live can be forgotten, and so can all registers and the local memory of a
+/// processor that has stopped.
 pub fn dead_registers_can_be_forgotten()
     ensures forgotten { DeadAreForgotten }
 {

@@ -8,7 +8,7 @@ use hart_ops::{branch_offset, jump_offset, sum};
 use rv_table::{Insn, Register};
 
 impl LiveTable {
-    /// Whether an instruction at `pc` may read a register, or what comes behind it, before it is written.
+    /// Whether an instruction at `pc` may read a register, or what comes after it, before it is written.
     #[tactic(auto, unfolding(crate::specs::Live::is_needed))]
     pub(crate) fn needs(&self, pc: u32, insn: &Insn, register: Register) -> bool
         ensures { result ≡ is_needed self.now pc insn.now register }

@@ -95,7 +95,8 @@ impl LiveTable {
         true
     }
 
-    /// Adds what instructions need, from the last to the first. What it makes of the table is looked through afterwards.
+    /// Adds what instructions need, from the last to the first. What it makes of the table is looked through
+    /// afterwards.
     fn grow(&mut self, code: &Code) {
         for word in 0..CODE_WORDS {
             self.grow_at(code, CODE_START + 4 * (CODE_WORDS - 1 - word));

@@ -7,7 +7,7 @@ use Rattle.std.proofs.lemmas.List.{append-nil, drop-append-le, take-append-le}
 use Rattle.std.proofs.Math.Seq.{take-length, drop-length}
 use Rattle.std.proofs.lemmas.Option.{slice_get_within, slice_get-get_or}
 use Rattle.machine_steps.specs.machine_theory.Theory.{Machine}
-use Rattle.machine_steps.specs.machine_theory.Processors.{Told}
+use Rattle.machine_steps.specs.machine_theory.Processors.{ObservedCore}
 use Rattle.machine_steps.specs.machine_theory.Steps.{outcome_of}
 use Rattle.steps.specs.declared.step.Step.{Step}
 use Rattle.steps.specs.declared.step.Step.TheVariants as step
@@ -17,15 +17,15 @@ use Rattle.steps.specs.Answers.{is_stalled}
 use Rattle.machine_steps.specs.Machines.{MachineLists, machine_of}
 use Rattle.machine_steps.specs.Runs.{all_after, answer_after}
 use Rattle.machine_log.specs.Logs.{entered, is_named}
-use Rattle.machine_lock.specs.declared.row.Notice.{Notice}
+use Rattle.machine_lock.specs.declared.row.PassEvent.{PassEvent}
 use Rattle.machine_lock.specs.declared.row.Answer.{Answer}
-use Rattle.machine_lock.specs.declared.row.Row.{Row}
-use Rattle.machine_lock.specs.Lists.{notices_of, given_to, shown_at, is_poke, is_turn_of, is_turn_below, all_named, no_poke, no_turn, turns_below}
+use Rattle.machine_lock.specs.declared.row.PassState.{PassState}
+use Rattle.machine_lock.specs.Lists.{pass_events_of, given_to, shown_at, is_poke, is_turn_of, is_turn_below, all_named, no_poke, no_turn, turns_below}
 use Rattle.machine_lock.specs.Passes.{Held, held, most_of, rows_of, IsWhole, new_passes}
 use Rattle.machine_log.specs.Lendings.{lent_at}
 use Rattle.machine_log.proofs.Lemmas.{replicate_none}
-use Rattle.machine_lock.specs.Rows.{new_row, told, counted, behind, machine_after, notices_since, LastFits, RowFits, Fits, Follows, steps_of}
-use Rattle.machine_lock.proofs.Lists.{all_after-append, all-push, each-set, get-front, get-last, notices_pushed, length-slice_set}
+use Rattle.machine_lock.specs.Rows.{new_row, with_answer, counted, behind, machine_after, pass_events_since, LastFits, RowFits, Fits, Follows, steps_of}
+use Rattle.machine_lock.proofs.Lists.{all_after-append, all-push, each-set, get-front, get-last, pass_events_pushed, length-slice_set}
 
 is_off : (b : Bool) → (b ≡ true → ⊥) → b ≡ false
 is_off true h = absurd (h refl)
@@ -33,17 +33,18 @@ is_off false h = refl
 
 -- ---- sums of steps
 
-pub steps_of-set : (rows : List Row) (p : ℕ) (r new : Row) → slice_get rows p ≡ Some r → steps_of (slice_set rows p new) + r.steps ≡ steps_of rows + new.steps
+pub steps_of-set : (rows : List PassState) (p : ℕ) (r new : PassState) → slice_get rows p ≡ Some r →
+    steps_of (slice_set rows p new) + r.steps ≡ steps_of rows + new.steps
 steps_of-set [] p r new e = absurd (cc)
-steps_of-set (x ∷ xs) zero r new e = let h : x ≡ r = cc in let h' = ap (λ (y : Row). y.steps) h in omega arith
+steps_of-set (x ∷ xs) zero r new e = let h : x ≡ r = cc in let h' = ap (λ (y : PassState). y.steps) h in omega arith
 steps_of-set (x ∷ xs) (suc p) r new e = let h = steps_of-set xs p r new e in omega arith
 
-pub steps_of-get : (rows : List Row) (p : ℕ) (r : Row) → slice_get rows p ≡ Some r → r.steps ≤ steps_of rows
+pub steps_of-get : (rows : List PassState) (p : ℕ) (r : PassState) → slice_get rows p ≡ Some r → r.steps ≤ steps_of rows
 steps_of-get [] p r e = absurd (cc)
-steps_of-get (x ∷ xs) zero r e = let h : x ≡ r = cc in let h' = ap (λ (y : Row). y.steps) h in omega arith
+steps_of-get (x ∷ xs) zero r e = let h : x ≡ r = cc in let h' = ap (λ (y : PassState). y.steps) h in omega arith
 steps_of-get (x ∷ xs) (suc p) r e = let h = steps_of-get xs p r e in omega arith
 
-steps_of-append : (xs ys : List Row) → steps_of (xs ++ ys) ≡ steps_of xs + steps_of ys
+steps_of-append : (xs ys : List PassState) → steps_of (xs ++ ys) ≡ steps_of xs + steps_of ys
 steps_of-append [] ys = omega arith
 steps_of-append (x ∷ xs) ys = let h = steps_of-append xs ys in omega arith
 
@@ -56,6 +57,7 @@ counted_small o = small (is_stalled o)
 
 -- ---- what one step gives
 
+-- A step that is no turn of a processor gives it nothing.
 pub none_of : (q place : ℕ) (s : Step) (o : Outcome) → is_turn_of q s ≡ false → given_to q place s o ≡ []
 none_of q place s o h = ap (λ (b : Bool). if b then shown_at place o else []) h
 
@@ -73,7 +75,7 @@ none_shown place Stalled h = refl
 none_stalled : (q place : ℕ) (s : Step) (o : Outcome) → is_stalled o ≡ true → given_to q place s o ≡ []
 none_stalled q place s o h = ap (λ ns. if is_turn_of q s then ns else []) (none_shown place o h) ∙ same (is_turn_of q s)
   where
-    same : (b : Bool) → (let e : List Notice = [] in if b then e else e) ≡ []
+    same : (b : Bool) → (let e : List PassEvent = [] in if b then e else e) ≡ []
     same true = refl
     same false = refl
 
@@ -90,12 +92,13 @@ module _ (opening : MachineLists) (first : List Step) where
   abbrev low : ℕ
   low = length first
 
-  pub long : (count : ℕ) (steps : List Step) (rows : List Row) → Fits opening first count steps rows →
+  -- If rows fit the steps, the first steps and those after them are together as many as all steps.
+  pub long : (count : ℕ) (steps : List Step) (rows : List PassState) → Fits opening first count steps rows →
       (low + length (drop low steps) ≡ length steps) × (low ≤ length steps)
   long count steps rows h = let n = ap length h.begins in let m = length-append first (drop low steps) in (omega arith, omega arith)
 
   -- the machine after the first steps and the others is that after all
-  here_is : (count : ℕ) (steps : List Step) (rows : List Row) → Fits opening first count steps rows →
+  here_is : (count : ℕ) (steps : List Step) (rows : List PassState) → Fits opening first count steps rows →
       all_after opening.config opening.code (machine_after opening first) (drop low steps) ≡ machine_after opening steps
   here_is count steps rows h =
       sym (all_after-append opening.config opening.code (machine_of opening (λ p. [])) first (drop low steps)) ∙ ap (machine_after opening) (sym h.begins)
@@ -116,36 +119,38 @@ module _ (opening : MachineLists) (first : List Step) where
       }
 
   -- the list of a processor with one step more
-  list_more : (count : ℕ) (steps : List Step) (rows : List Row) (q : ℕ) (s : Step) → Fits opening first count steps rows →
-      notices_since opening first q (steps ++ s ∷ []) ≡ notices_since opening first q steps ++ given_to q (length steps) s (answer_after opening steps s)
+  list_more : (count : ℕ) (steps : List Step) (rows : List PassState) (q : ℕ) (s : Step) → Fits opening first count steps rows →
+      pass_events_since opening first q (steps ++ s ∷ []) ≡ pass_events_since opening first q steps
+      ++ given_to q (length steps) s (answer_after opening steps s)
   list_more count steps rows q s h =
       let n = long count steps rows h in
       let rest : List Step = drop low steps in
-      let M : Machine Told = machine_after opening first in
-      ap (notices_of opening.config opening.code q low M) (drop-append-le low steps (s ∷ []) n.1)
-      ∙ notices_pushed opening.config opening.code q low M rest s
-      ∙ (λ i. notices_of opening.config opening.code q low M rest
+      let M : Machine ObservedCore = machine_after opening first in
+      ap (pass_events_of opening.config opening.code q low M) (drop-append-le low steps (s ∷ []) n.1)
+      ∙ pass_events_pushed opening.config opening.code q low M rest s
+      ∙ (λ i. pass_events_of opening.config opening.code q low M rest
       ++ given_to q (n.0 i) s (outcome_of opening.config opening.code (here_is count steps rows h i) s))
 
   -- the row of a processor that the step is not of
-  row_more : (count : ℕ) (steps : List Step) (rows : List Row) (q : ℕ) (s : Step) (r : Row) → Fits opening first count steps rows → is_turn_of q s ≡ false →
+  row_more : (count : ℕ) (steps : List Step) (rows : List PassState) (q : ℕ) (s : Step) (r : PassState) → Fits opening first count steps rows →
+      is_turn_of q s ≡ false →
       RowFits opening first steps q r → RowFits opening first (steps ++ s ∷ []) q r
   row_more count steps rows q s r h off f =
       record {
-        notices = f.notices ∙ sym (append-nil (notices_since opening first q steps))
-            ∙ ap (λ ns. notices_since opening first q steps ++ ns) (sym (none_of q (length steps) s (answer_after opening steps s) off))
+        pass_events = f.pass_events ∙ sym (append-nil (pass_events_since opening first q steps))
+            ∙ ap (λ ns. pass_events_since opening first q steps ++ ns) (sym (none_of q (length steps) s (answer_after opening steps s) off))
             ∙ sym (list_more count steps rows q s h);
         last = last_more steps q s r.last off f.last;
       }
 
-  answered_at : (count : ℕ) (steps : List Step) (rows : List Row) (p : ℕ) (r : Row) (s : Step) (o : Outcome) (b : Bool) → is_stalled o ≡ b
+  answered_at : (count : ℕ) (steps : List Step) (rows : List PassState) (p : ℕ) (r : PassState) (s : Step) (o : Outcome) (b : Bool) → is_stalled o ≡ b
       → Fits opening first count steps rows → slice_get rows p ≡ Some r → is_poke s ≡ false → is_named opening.config s ≡ true →
       ((q : ℕ) → is_turn_of q s ≡ true → q ≡ p) →
       o ≡ answer_after opening steps s
-      → Fits opening first count (if b then steps else steps ++ s ∷ []) (slice_set rows p (told p r s o (length steps)))
+      → Fits opening first count (if b then steps else steps ++ s ∷ []) (slice_set rows p (with_answer p r s o (length steps)))
   answered_at count steps rows p r s o true is h at may name own out =
       let n = long count steps rows h in
-      let new = told p r s o (length steps) in
+      let new = with_answer p r s o (length steps) in
       let none : counted o ≡ 0 = ap (λ (b : Bool). if b then 0 else 1) is in
       let old = (h.each p r at) in
       let sum = steps_of-set rows p r new at in
@@ -158,7 +163,7 @@ module _ (opening : MachineLists) (first : List Step) where
         many = length-slice_set rows p new ∙ h.many;
         each = each-set (RowFits opening first steps) rows p new
             (record {
-              notices = ap (λ ns. r.notices ++ ns) (none_stalled p (length steps) s o is) ∙ append-nil r.notices ∙ old.notices;
+              pass_events = ap (λ ns. r.pass_events ++ ns) (none_stalled p (length steps) s o is) ∙ append-nil r.pass_events ∙ old.pass_events;
               last = record {
                 low = n.1;
                 high = omega arith;
@@ -173,7 +178,7 @@ module _ (opening : MachineLists) (first : List Step) where
       }
   answered_at count steps rows p r s o false is h at may name own out =
       let n = long count steps rows h in
-      let new = told p r s o (length steps) in
+      let new = with_answer p r s o (length steps) in
       let one : counted o ≡ 1 = ap (λ (b : Bool). if b then 0 else 1) is in
       let old = (h.each p r at) in
       let sum = steps_of-set rows p r new at in
@@ -192,8 +197,8 @@ module _ (opening : MachineLists) (first : List Step) where
         many = length-slice_set rows p new ∙ h.many;
         each = each-set (RowFits opening first now) rows p new
             (record {
-              notices = ap (λ ns. ns ++ given_to p (length steps) s o) old.notices
-                  ∙ ap (λ x. notices_since opening first p steps ++ given_to p (length steps) s x) out ∙ sym (list_more count steps rows p s h);
+              pass_events = ap (λ ns. ns ++ given_to p (length steps) s o) old.pass_events
+                  ∙ ap (λ x. pass_events_since opening first p steps ++ given_to p (length steps) s x) out ∙ sym (list_more count steps rows p s h);
               last = record {
                 low = n.1;
                 high = omega arith;
@@ -206,13 +211,16 @@ module _ (opening : MachineLists) (first : List Step) where
         total = omega arith;
       }
 
-  pub answered : (count : ℕ) (steps : List Step) (rows : List Row) (p : ℕ) (r : Row) (s : Step) (o : Outcome)
+  -- If a step that is no poke, that the machine has, and that is no turn of another than p, is answered,
+  -- the rows with p's answer fit the steps in which it is entered.
+  pub answered : (count : ℕ) (steps : List Step) (rows : List PassState) (p : ℕ) (r : PassState) (s : Step) (o : Outcome)
       → Fits opening first count steps rows → slice_get rows p ≡ Some r → is_poke s ≡ false → is_named opening.config s ≡ true →
       ((q : ℕ) → is_turn_of q s ≡ true → q ≡ p) →
       o ≡ answer_after opening steps s
-      → Fits opening first count (entered steps s o) (slice_set rows p (told p r s o (length steps)))
+      → Fits opening first count (entered steps s o) (slice_set rows p (with_answer p r s o (length steps)))
   answered count steps rows p r s o = answered_at count steps rows p r s o (is_stalled o) refl
 
+-- If the last answer of p fits the steps, the place after all steps can be that of the next answer.
 pub follows_last : (opening : MachineLists) (from : ℕ) (steps : List Step) (p : ℕ) (l : Option Answer) → LastFits opening from steps p l →
     Follows l (length steps)
 follows_last opening from steps p None f = tt
@@ -221,7 +229,8 @@ follows_last opening from steps p (Some a) f = f.high
 -- ---- the passes of all processors
 
 -- their rows, in order
-pub rows_are : (rows : List Row) (hs : List Held) → length rows ≡ length hs → ((k : ℕ) (h : Held) → slice_get hs k ≡ Some h → slice_get rows k ≡ Some h.row) →
+pub rows_are : (rows : List PassState) (hs : List Held) → length rows ≡ length hs →
+    ((k : ℕ) (h : Held) → slice_get hs k ≡ Some h → slice_get rows k ≡ Some h.row) →
     rows ≡ rows_of hs
 rows_are [] [] e f = refl
 rows_are [] (h ∷ hs) e f = absurd (omega arith)
@@ -257,7 +266,7 @@ new_at (suc n) k h e = ⊎_elim
     (omega arith, sym (ap (λ (x : Held). x.row) t.1)))
     (get-end (new_passes n) (held n new_row) h k e)
 
-get-rows_of : (hs : List Held) (k : ℕ) (r : Row) → slice_get (rows_of hs) k ≡ Some r → (h : Held) × (slice_get hs k ≡ Some h) × (h.row ≡ r)
+get-rows_of : (hs : List Held) (k : ℕ) (r : PassState) → slice_get (rows_of hs) k ≡ Some r → (h : Held) × (slice_get hs k ≡ Some h) × (h.row ≡ r)
 get-rows_of [] k r e = absurd (cc)
 get-rows_of (h ∷ hs) zero r e = (h, refl, cc)
 get-rows_of (h ∷ hs) (suc k) r e = get-rows_of hs k r e
@@ -282,22 +291,27 @@ starts opening first count =
       each = λ p r e.
           let g = get-rows_of (new_passes count) p r e in
           let is : r ≡ new_row = sym g.2 ∙ (new_at count p g.0 g.1).1 in
-          subst (λ (x : Row). RowFits opening first first p x)
-          (sym is) record { notices = sym (ap (notices_of opening.config opening.code p (length first) (machine_after opening first)) none); last = tt };
+          subst (λ (x : PassState). RowFits opening first first p x)
+          (sym is) record {
+            pass_events = sym (ap (pass_events_of opening.config opening.code p (length first) (machine_after opening first)) none);
+            last = tt;
+          };
       total = let z = steps_of-new count in omega arith;
     }
 
 -- none of them has a core that is lent
-pub new_loans : (count n p : ℕ) (r : Row) → slice_get (rows_of (new_passes count)) p ≡ Some r → r.lent ≡ most_of (lent_at (replicate n None) p)
+pub new_loans : (count n p : ℕ) (r : PassState) → slice_get (rows_of (new_passes count)) p ≡ Some r → r.lent ≡ most_of (lent_at (replicate n None) p)
 new_loans count n p r e =
     let g = get-rows_of (new_passes count) p r e in
-    ap (λ (x : Row). x.lent) (sym g.2 ∙ (new_at count p g.0 g.1).1) ∙ ap most_of (sym (replicate_none n p))
+    ap (λ (x : PassState). x.lent) (sym g.2 ∙ (new_at count p g.0 g.1).1) ∙ ap most_of (sym (replicate_none n p))
 
+-- A list stays the same if what is at a place is put there.
 pub set_back : {A : Type 0} (xs : List A) (i : ℕ) (d v : A) → i < length xs → v ≡ get_or xs i d → slice_set xs i v ≡ xs
 set_back [] i d v h e = refl
 set_back (x ∷ xs) zero d v h e = ap (λ y. y ∷ xs) e
 set_back (x ∷ xs) (suc i) d v h e = ap (λ ys. x ∷ ys) (set_back xs i d v (omega arith) e)
 
+-- If something is found at a place of a list, reading there with a default gives it.
 pub get_is : {A : Type 0} (xs : List A) (i : ℕ) (d v : A) → slice_get xs i ≡ Some v → v ≡ get_or xs i d
 get_is [] i d v e = absurd (cc)
 get_is (x ∷ xs) zero d v e = cc

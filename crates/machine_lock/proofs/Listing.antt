@@ -1,4 +1,4 @@
--- A processor's list has the events that the outcomes of the steps tell of it.
+-- A processor's list has the events that the outcomes of the steps have for it.
 use Rattle.std.proofs.Common.{◌≡◌, ℕ, suc, cond, Bool, true, false, List, [], ◌∷◌, ◌++◌, refl, sym, ap}
 use Rattle.std.proofs.Common.{◌∙◌, subst, append_assoc, inl, inr, eqb, ◌==◌, ◌≢◌, ◌⊎◌, eq-eqb, ne_eqb}
 use Rattle.std.specs.Prelude.{map, if◌then◌else◌}
@@ -9,20 +9,20 @@ use Rattle.flat_machine.specs.declared.event.Event.{Event}
 use Rattle.flat_machine.specs.declared.event.Event.TheVariants as event
 use Rattle.machine_steps.specs.messages.Places.{put}
 use Rattle.machine_steps.specs.machine_theory.Theory.{Machine}
-use Rattle.machine_steps.specs.machine_theory.Processors.{Told}
+use Rattle.machine_steps.specs.machine_theory.Processors.{ObservedCore}
 use Rattle.machine_steps.specs.machine_theory.Steps.{outcome_of, after, with_shown}
 use Rattle.steps.specs.declared.step.Step.{Step}
 use Rattle.steps.specs.declared.step.Step.TheVariants as step
 use Rattle.steps.specs.declared.step.Outcome.{Outcome}
 use Rattle.steps.specs.declared.step.Outcome.TheVariants.{Retired, Issued, Stopped, Moved, Combined, Served, Answered, Poked, Stalled}
-use Rattle.machine_steps.specs.Laws.{told_after}
-use Rattle.machine_lock.specs.declared.row.Notice.{Notice}
-use Rattle.machine_lock.specs.Lists.{notices_of, given_to}
+use Rattle.machine_steps.specs.Laws.{shown_after}
+use Rattle.machine_lock.specs.declared.row.PassEvent.{PassEvent}
+use Rattle.machine_lock.specs.Lists.{pass_events_of, given_to}
 
-abbrev events : List Notice → List Event
+abbrev events : List PassEvent → List Event
 events ns = map (λ n. n.event) ns
 
--- what stands behind the events of p, where a turn of q shows this one
+-- what stands after the events of p, where a turn of q shows this one
 behind : (shown : ℕ → List Event) (q p place : ℕ) (e : Event) →
     put shown q (shown q ++ e ∷ []) p ≡ shown p ++ events (if q == p then record { event = e; place = place } ∷ [] else [])
 unfolding put
@@ -57,18 +57,19 @@ step_is shown p place (step.Serve m) o = sym (append-nil (shown p))
 step_is shown p place (step.Down s w) o = sym (append-nil (shown p))
 step_is shown p place (step.Poke poke) o = sym (append-nil (shown p))
 
-pub listed_behind : (c : Config) (code : List ℕ) (p place : ℕ) (M : Machine Told) (steps : List Step) (shown : ℕ → List Event) →
-    told_after c code M steps shown p ≡ shown p ++ events (notices_of c code p place M steps)
-unfolding told_after
+pub listed_behind : (c : Config) (code : List ℕ) (p place : ℕ) (M : Machine ObservedCore) (steps : List Step) (shown : ℕ → List Event) →
+    shown_after c code M steps shown p ≡ shown p ++ events (pass_events_of c code p place M steps)
+unfolding shown_after
 listed_behind c code p place M [] shown = sym (append-nil (shown p))
 listed_behind c code p place M (s ∷ ss) shown =
     let o : Outcome = outcome_of c code M s in
-    let rest = notices_of c code p (suc place) (after c code M s) ss in
+    let rest = pass_events_of c code p (suc place) (after c code M s) ss in
     listed_behind c code p (suc place) (after c code M s) ss (with_shown shown s o)
     ∙ ap (λ es. es ++ events rest) (step_is shown p place s o)
     ∙ append_assoc (shown p) (events (given_to p place s o)) (events rest)
     ∙ ap (λ es. shown p ++ es) (sym (map-append (λ n. n.event) (given_to p place s o) rest))
 
-pub events_are_listed : (c : Config) (code : List ℕ) (p place : ℕ) (M : Machine Told) (steps : List Step) →
-    events (notices_of c code p place M steps) ≡ told_after c code M steps (λ q. []) p
+-- A processor's list has the events that the outcomes of the steps have for it, in their order.
+pub events_are_listed : (c : Config) (code : List ℕ) (p place : ℕ) (M : Machine ObservedCore) (steps : List Step) →
+    events (pass_events_of c code p place M steps) ≡ shown_after c code M steps (λ q. []) p
 events_are_listed c code p place M steps = sym (listed_behind c code p place M steps (λ q. []))

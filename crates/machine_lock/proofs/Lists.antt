@@ -8,37 +8,39 @@ use native.Mathlib.Decide.{ℕ_discrete}
 use Rattle.std.proofs.lemmas.List.Folds.{list_all-append}
 use Rattle.flat_machine.specs.declared.config.Config.{Config}
 use Rattle.machine_steps.specs.machine_theory.Theory.{Machine}
-use Rattle.machine_steps.specs.machine_theory.Processors.{Told}
+use Rattle.machine_steps.specs.machine_theory.Processors.{ObservedCore}
 use Rattle.machine_steps.specs.machine_theory.Steps.{outcome_of, after}
 use Rattle.steps.specs.declared.step.Step.{Step}
 use Rattle.machine_steps.specs.Runs.{all_after}
-use Rattle.machine_lock.specs.Lists.{notices_of, given_to}
+use Rattle.machine_lock.specs.Lists.{pass_events_of, given_to}
 
-pub all_after-append : (c : Config) (code : List ℕ) (M : Machine Told) (xs ys : List Step) →
+pub all_after-append : (c : Config) (code : List ℕ) (M : Machine ObservedCore) (xs ys : List Step) →
     all_after c code M (xs ++ ys) ≡ all_after c code (all_after c code M xs) ys
 unfolding all_after
 all_after-append c code M [] ys = refl
 all_after-append c code M (x ∷ xs) ys = all_after-append c code (after c code M x) xs ys
 
-pub notices_joined : (c : Config) (code : List ℕ) (p place : ℕ) (M : Machine Told) (xs ys : List Step) →
-    notices_of c code p place M (xs ++ ys) ≡ notices_of c code p place M xs ++ notices_of c code p (place + length xs) (all_after c code M xs) ys
+-- The list over steps and more steps is that over the steps, and then that over the others, from their place on.
+pub pass_events_joined : (c : Config) (code : List ℕ) (p place : ℕ) (M : Machine ObservedCore) (xs ys : List Step) →
+    pass_events_of c code p place M (xs ++ ys) ≡ pass_events_of c code p place M xs ++ pass_events_of c code p (place + length xs) (all_after c code M xs) ys
 unfolding all_after
-notices_joined c code p place M [] ys = ap (λ k. notices_of c code p k M ys) (omega arith)
-notices_joined c code p place M (x ∷ xs) ys =
-    let rest = notices_joined c code p (suc place) (after c code M x) xs ys in
+pass_events_joined c code p place M [] ys = ap (λ k. pass_events_of c code p k M ys) (omega arith)
+pass_events_joined c code p place M (x ∷ xs) ys =
+    let rest = pass_events_joined c code p (suc place) (after c code M x) xs ys in
     let n : suc place + length xs ≡ place + length (x ∷ xs) = omega arith in
-    let M' : Machine Told = all_after c code (after c code M x) xs in
+    let M' : Machine ObservedCore = all_after c code (after c code M x) xs in
     ap (λ ns. given_to p place x (outcome_of c code M x) ++ ns)
-    (rest ∙ ap (λ k. notices_of c code p (suc place) (after c code M x) xs ++ notices_of c code p k M' ys) n)
-    ∙ sym (append_assoc (given_to p place x (outcome_of c code M x)) (notices_of c code p (suc place) (after c code M x) xs)
-    (notices_of c code p (place + length (x ∷ xs)) M' ys))
+    (rest ∙ ap (λ k. pass_events_of c code p (suc place) (after c code M x) xs ++ pass_events_of c code p k M' ys) n)
+    ∙ sym (append_assoc (given_to p place x (outcome_of c code M x)) (pass_events_of c code p (suc place) (after c code M x) xs)
+    (pass_events_of c code p (place + length (x ∷ xs)) M' ys))
 
-pub notices_pushed : (c : Config) (code : List ℕ) (p place : ℕ) (M : Machine Told) (xs : List Step) (s : Step) →
-    notices_of c code p place M (xs ++ s ∷ []) ≡ notices_of c code p place M xs
+-- The list over steps and one more is that over the steps, and then what the last one gives.
+pub pass_events_pushed : (c : Config) (code : List ℕ) (p place : ℕ) (M : Machine ObservedCore) (xs : List Step) (s : Step) →
+    pass_events_of c code p place M (xs ++ s ∷ []) ≡ pass_events_of c code p place M xs
     ++ given_to p (place + length xs) s (outcome_of c code (all_after c code M xs) s)
-notices_pushed c code p place M xs s =
-    notices_joined c code p place M xs (s ∷ [])
-    ∙ ap (λ ns. notices_of c code p place M xs ++ ns) (append-nil (given_to p (place + length xs) s (outcome_of c code (all_after c code M xs) s)))
+pass_events_pushed c code p place M xs s =
+    pass_events_joined c code p place M xs (s ∷ [])
+    ∙ ap (λ ns. pass_events_of c code p place M xs ++ ns) (append-nil (given_to p (place + length xs) s (outcome_of c code (all_after c code M xs) s)))
 
 -- ---- tests of all steps
 

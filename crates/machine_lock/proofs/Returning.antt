@@ -15,19 +15,20 @@ use Rattle.machine_log.specs.declared.lent.Lent.{Lent}
 use Rattle.machine_lock.specs.Lists.{is_of_network, is_turn_of}
 use Rattle.machine_lock.specs.Passes.{most_of}
 use Rattle.machine_steps.specs.machine_theory.Loans.{IsOfOthers, turns_of}
-use Rattle.machine_lock.specs.declared.row.Row.{Row}
-use Rattle.machine_lock.specs.Rows.{Fits, RowFits, told, told_all, with_loan}
+use Rattle.machine_lock.specs.declared.row.PassState.{PassState}
+use Rattle.machine_lock.specs.Rows.{Fits, RowFits, with_answer, with_retirements, with_loan}
 use Rattle.machine_lock.proofs.Fitting.{answered, steps_of-set}
 use Rattle.machine_lock.proofs.Lists.{each-set, length-slice_set, set-same}
 
-get_set_here : (rows : List Row) (p : ℕ) (x : Row) → p < length rows → slice_get (slice_set rows p x) p ≡ Some x
+get_set_here : (rows : List PassState) (p : ℕ) (x : PassState) → p < length rows → slice_get (slice_set rows p x) p ≡ Some x
 get_set_here [] p x inside = absurd (omega arith)
 get_set_here (y ∷ ys) zero x inside = refl
 get_set_here (y ∷ ys) (suc p) x inside = get_set_here ys p x (omega arith)
 
 module _ (opening : MachineLists) (first : List Step) (count : ℕ) where
   -- where a row says something else of loans
-  pub loan_fits : (steps : List Step) (rows : List Row) (p : ℕ) (r : Row) (lent : Option ℕ) → Fits opening first count steps rows → slice_get rows p ≡ Some r →
+  pub loan_fits : (steps : List Step) (rows : List PassState) (p : ℕ) (r : PassState) (lent : Option ℕ) → Fits opening first count steps rows →
+      slice_get rows p ≡ Some r →
       Fits opening first count steps (slice_set rows p (with_loan r lent))
   loan_fits steps rows p r lent h at =
       let sum = steps_of-set rows p r (with_loan r lent) at in
@@ -39,48 +40,49 @@ module _ (opening : MachineLists) (first : List Step) (count : ℕ) where
         named = h.named;
         many = length-slice_set rows p (with_loan r lent) ∙ h.many;
         each = each-set (RowFits opening first steps) rows p (with_loan r lent)
-            (let old = h.each p r at in record { notices = old.notices; last = old.last }) (λ q x other e. h.each q x e);
+            (let old = h.each p r at in record { pass_events = old.pass_events; last = old.last }) (λ q x other e. h.each q x e);
         total = omega (arith, sum, total);
       }
 
   -- where turns of p retire these instructions, one after another
-  pub told_fits : (steps : List Step) (rows : List Row) (p : ℕ) (r : Row) (taken : List Retired) → Fits opening first count steps rows →
+  pub answer_fits : (steps : List Step) (rows : List PassState) (p : ℕ) (r : PassState) (taken : List Retired) → Fits opening first count steps rows →
       slice_get rows p ≡ Some r → is_named opening.config (step.Turn p) ≡ true → AreAnswered opening steps p taken →
-      Fits opening first count (steps ++ turns_of p (length taken)) (slice_set rows p (told_all p r (length steps) taken))
-  told_fits steps rows p r [] h at named answers =
-      subst (λ (x : List Step × List Row). Fits opening first count x.0 x.1) (λ i. (sym (append-nil steps) i, sym (set-same rows p r at) i)) h
-  told_fits steps rows p r (retired ∷ later) h at named answers =
-      let once = told p r (step.Turn p) (outcome.Retired retired) (length steps) in
+      Fits opening first count (steps ++ turns_of p (length taken)) (slice_set rows p (with_retirements p r (length steps) taken))
+  answer_fits steps rows p r [] h at named answers =
+      subst (λ (x : List Step × List PassState). Fits opening first count x.0 x.1) (λ i. (sym (append-nil steps) i, sym (set-same rows p r at) i)) h
+  answer_fits steps rows p r (retired ∷ later) h at named answers =
+      let once = with_answer p r (step.Turn p) (outcome.Retired retired) (length steps) in
       let one = answered opening first count steps rows p r (step.Turn p) (outcome.Retired retired) h at refl named (λ q own. sym (eqb-true p q own))
       (sym answers.0) in
       let inside = slice_get_within rows p r at in
-      let more = told_fits (steps ++ step.Turn p ∷ []) (slice_set rows p once) p once later one (get_set_here rows p once inside) named answers.1 in
+      let more = answer_fits (steps ++ step.Turn p ∷ []) (slice_set rows p once) p once later one (get_set_here rows p once inside) named answers.1 in
       let place : length (steps ++ step.Turn p ∷ []) ≡ suc (length steps) = length-append steps (step.Turn p ∷ []) ∙ omega arith in
-      subst (λ (x : List Step × List Row). Fits opening first count x.0 x.1)
+      subst (λ (x : List Step × List PassState). Fits opening first count x.0 x.1)
       (λ i. (
         append_assoc steps (step.Turn p ∷ []) (turns_of p (length later)) i,
-        (set-set rows p once (told_all p once (length (steps ++ step.Turn p ∷ [])) later)
-            ∙ ap (λ n. slice_set rows p (told_all p once n later)) place) i,
+        (set-set rows p once (with_retirements p once (length (steps ++ step.Turn p ∷ [])) later)
+            ∙ ap (λ n. slice_set rows p (with_retirements p once n later)) place) i,
       )) more
 
   -- where a core comes back, and turns of p have retired these instructions
-  pub back_fits : (steps : List Step) (rows : List Row) (p : ℕ) (r : Row) (taken : List Retired) → Fits opening first count steps rows →
+  pub back_fits : (steps : List Step) (rows : List PassState) (p : ℕ) (r : PassState) (taken : List Retired) → Fits opening first count steps rows →
       slice_get rows p ≡ Some r → is_named opening.config (step.Turn p) ≡ true → AreAnswered opening steps p taken →
-      Fits opening first count (steps ++ turns_of p (length taken)) (slice_set rows p (with_loan (told_all p r (length steps) taken) None))
+      Fits opening first count (steps ++ turns_of p (length taken)) (slice_set rows p (with_loan (with_retirements p r (length steps) taken) None))
   back_fits steps rows p r taken h at named answers =
-      let t = told_all p r (length steps) taken in
+      let t = with_retirements p r (length steps) taken in
       let inside = slice_get_within rows p r at in
       subst (λ rows. Fits opening first count (steps ++ turns_of p (length taken)) rows) (set-set rows p t (with_loan t None))
-      (loan_fits (steps ++ turns_of p (length taken)) (slice_set rows p t) p t None (told_fits steps rows p r taken h at named answers)
+      (loan_fits (steps ++ turns_of p (length taken)) (slice_set rows p t) p t None (answer_fits steps rows p r taken h at named answers)
       (get_set_here rows p t inside))
 
 -- ---- loans
 
 -- what the rows say of loans is what is known of them
-abbrev pub SayLoans : List Row → List (Option Lent) → Type 0
-SayLoans rows lent = (p : ℕ) (r : Row) → slice_get rows p ≡ Some r → r.lent ≡ most_of (lent_at lent p)
+abbrev pub SayLoans : List PassState → List (Option Lent) → Type 0
+SayLoans rows lent = (p : ℕ) (r : PassState) → slice_get rows p ≡ Some r → r.lent ≡ most_of (lent_at lent p)
 
-pub say_set : (rows : List Row) (lent lent' : List (Option Lent)) (p : ℕ) (new : Row) → SayLoans rows lent → (
+-- If the row of p and what is known of its loan are replaced, and these agree, the rows say what is known of all loans.
+pub say_set : (rows : List PassState) (lent lent' : List (Option Lent)) (p : ℕ) (new : PassState) → SayLoans rows lent → (
     (q : ℕ) → (q ≡ p → ⊥) → lent_at lent' q ≡ lent_at lent q) → new.lent ≡ most_of (lent_at lent' p) → SayLoans (slice_set rows p new) lent'
 say_set rows lent lent' p new say others here = each-set (λ q r. r.lent ≡ most_of (lent_at lent' q)) rows p new here
     (λ q r other e. say q r e ∙ ap most_of (sym (others q other)))
@@ -101,10 +103,10 @@ net_others lent (step.Serve m) net q l e = tt
 net_others lent (step.Down s w) net q l e = tt
 net_others lent (step.Poke poke) net q l e = absurd (cc)
 
--- told rows say the same of loans
-pub told_lent : (p : ℕ) (r : Row) (place : ℕ) (taken : List Retired) → (told_all p r place taken).lent ≡ r.lent
-told_lent p r place [] = refl
-told_lent p r place (retired ∷ later) = told_lent p (told p r (step.Turn p) (outcome.Retired retired) place) (suc place) later
+-- rows with further answers say the same of loans
+pub with_retirements_lent : (p : ℕ) (r : PassState) (place : ℕ) (taken : List Retired) → (with_retirements p r place taken).lent ≡ r.lent
+with_retirements_lent p r place [] = refl
+with_retirements_lent p r place (retired ∷ later) = with_retirements_lent p (with_answer p r (step.Turn p) (outcome.Retired retired) place) (suc place) later
 
 -- what others do gives nothing to a processor whose core is lent
 pub lent_quiet : (lent : List (Option Lent)) (s : Step) (p most : ℕ) → OfOthers lent s → Some most ≡ most_of (lent_at lent p) → is_turn_of p s ≡ false
@@ -123,6 +125,7 @@ lent_quiet lent s p most others e = at (lent_at lent p) refl e
 
 -- ---- what is known of loans, where one is made and comes back
 
+-- After what is known of the core of p is removed, p has no loan.
 pub none_here : (lent : List (Option Lent)) (p : ℕ) → lent_at (slice_set lent p None) p ≡ None
 none_here [] zero = refl
 none_here [] (suc p) = refl

@@ -3,19 +3,19 @@ use Rattle.std.proofs.Common.{ℕ, suc, Bool, true, false, List, [], ◌∷◌, 
 use Rattle.std.specs.Prelude.{if◌then◌else◌}
 use Rattle.flat_machine.specs.declared.config.Config.{Config}
 use Rattle.machine_steps.specs.machine_theory.Theory.{Machine}
-use Rattle.machine_steps.specs.machine_theory.Processors.{Told}
+use Rattle.machine_steps.specs.machine_theory.Processors.{ObservedCore}
 use Rattle.machine_steps.specs.machine_theory.Steps.{outcome_of, after}
 use Rattle.steps.specs.declared.step.Step.{Step}
 use Rattle.steps.specs.declared.step.Outcome.{Outcome}
 use Rattle.steps.specs.declared.step.Outcome.TheVariants.{Retired, Issued, Stopped, Moved, Combined, Served, Answered, Poked, Stalled}
-use Rattle.machine_lock.specs.declared.row.Notice.{Notice}
-use Rattle.machine_lock.specs.Lists.{notices_of, is_turn_of, shown_at, IsRising}
+use Rattle.machine_lock.specs.declared.row.PassEvent.{PassEvent}
+use Rattle.machine_lock.specs.Lists.{pass_events_of, is_turn_of, shown_at, IsRising}
 
-lower : (low : ℕ) (ns : List Notice) → IsRising (suc low) ns → IsRising low ns
+lower : (low : ℕ) (ns : List PassEvent) → IsRising (suc low) ns → IsRising low ns
 lower low [] h = tt
 lower low (n ∷ ns) h = (let a = h.0 in omega arith, h.1)
 
-shown : (o : Outcome) (place : ℕ) (ns : List Notice) → IsRising (suc place) ns → IsRising place (shown_at place o ++ ns)
+shown : (o : Outcome) (place : ℕ) (ns : List PassEvent) → IsRising (suc place) ns → IsRising place (shown_at place o ++ ns)
 shown (Retired retired) place ns h = (omega arith, h)
 shown (Stopped cause) place ns h = (omega arith, h)
 shown Issued place ns h = lower place ns h
@@ -26,12 +26,14 @@ shown (Answered to) place ns h = lower place ns h
 shown Poked place ns h = lower place ns h
 shown Stalled place ns h = lower place ns h
 
-joins : (b : Bool) (o : Outcome) (place : ℕ) (ns : List Notice) → IsRising (suc place) ns → IsRising place ((if b then shown_at place o else []) ++ ns)
+joins : (b : Bool) (o : Outcome) (place : ℕ) (ns : List PassEvent) → IsRising (suc place) ns → IsRising place ((if b then shown_at place o else []) ++ ns)
 joins true o place ns h = shown o place ns h
 joins false o place ns h = lower place ns h
 
-pub places_rise : (c : Config) (code : List ℕ) (p place : ℕ) (M : Machine Told) (steps : List Step) → IsRising place (notices_of c code p place M steps)
+-- The places rise along the list of a processor, from the place of the first step on.
+pub places_rise : (c : Config) (code : List ℕ) (p place : ℕ) (M : Machine ObservedCore) (steps : List Step) →
+    IsRising place (pass_events_of c code p place M steps)
 places_rise c code p place M [] = tt
 places_rise c code p place M (s ∷ ss) =
-    joins (is_turn_of p s) (outcome_of c code M s) place (notices_of c code p (suc place) (after c code M s) ss)
+    joins (is_turn_of p s) (outcome_of c code M s) place (pass_events_of c code p (suc place) (after c code M s) ss)
     (places_rise c code p (suc place) (after c code M s) ss)

@@ -15,6 +15,7 @@ takes_more : (s : Setting) (code : List ℕ) (a b d : Processor) (first more : L
 takes_more s code a b d [] more one two = subst (λ x. TakesLocal s code x more d) one two
 takes_more s code a b d (retired ∷ later) more (next, here, rest) two = (next, here, takes_more s code next b d later more rest two)
 
+-- A core on loan that has run on by itself, and has retired no more than it may, is on loan still.
 pub loan_goes_on : (code : List ℕ) (l : Lent) (old new : CoreState) (before after : RetirementList) (end : LocalEnd) → IsLoan code l old before →
     HasRunLocally code old new before after end → length after.items ≤ after.most → before.most ≡ l.most → IsLoan code l new after
 loan_goes_on code l old new before after end is run few most = record {
@@ -25,6 +26,7 @@ loan_goes_on code l old new before after end is run few most = record {
   few = subst (λ n. length after.items ≤ n) (run.most ∙ most) few;
 }
 
+-- A core that is as it was lent, and has retired nothing, is on loan.
 pub loan_begins : (code : List ℕ) (l : Lent) (core : CoreState) (retired : RetirementList) → retired.items ≡ [] → core ≡ l.core → IsLoan code l core retired
 loan_begins code l core retired none same = record {
   turns = subst (λ items. TakesLocal l.core.setting code l.core.state items core.state) (sym none) (ap (λ (c : CoreState). c.state) same);

@@ -8,34 +8,34 @@ use Rattle.std.proofs.lemmas.List.{map-append}
 use Rattle.std.proofs.lemmas.List.Sums.{sum_by-append}
 use Rattle.flat_machine.specs.declared.config.Config.{Config}
 use Rattle.machine_steps.specs.machine_theory.Theory.{Machine}
-use Rattle.machine_steps.specs.machine_theory.Processors.{Told}
+use Rattle.machine_steps.specs.machine_theory.Processors.{ObservedCore}
 use Rattle.machine_steps.specs.machine_theory.Steps.{outcome_of, after}
 use Rattle.steps.specs.declared.step.Step.{Step}
 use Rattle.steps.specs.declared.step.Step.TheVariants as step
 use Rattle.steps.specs.declared.step.Outcome.{Outcome}
 use Rattle.machine_steps.specs.Machines.{MachineLists}
-use Rattle.machine_lock.specs.declared.row.Notice.{Notice}
-use Rattle.machine_lock.specs.Lists.{notices_of, all_notices, given_to, given, shown_at, is_turn_below, turns_below}
-use Rattle.machine_lock.specs.Rows.{machine_after, notices_since, all_since, Fits}
+use Rattle.machine_lock.specs.declared.row.PassEvent.{PassEvent}
+use Rattle.machine_lock.specs.Lists.{pass_events_of, all_pass_events, given_to, given, shown_at, is_turn_below, turns_below}
+use Rattle.machine_lock.specs.Rows.{machine_after, pass_events_since, all_since, Fits}
 use Rattle.machine_lock.specs.Passes.{Held, rows_of, IsWhole, all_stored}
 
 both : (a b : Bool) → (a && b) ≡ true → (a ≡ true) × (b ≡ true)
 both true b e = (refl, e)
 both false b e = cc
 
-abbrev of : ℕ → List Notice → List (ℕ × Notice)
+abbrev of : ℕ → List PassEvent → List (ℕ × PassEvent)
 of p ns = map (λ n. (p, n)) ns
 
 -- the lists of as many processors, from p on
-abbrev lists : (p many : ℕ) → (ℕ → List Notice) → List (ℕ × Notice)
+abbrev lists : (p many : ℕ) → (ℕ → List PassEvent) → List (ℕ × PassEvent)
 lists p zero f = []
 lists p (suc many) f = of p (f p) ++ lists (suc p) many f
 
-module _ (test : ℕ × Notice → Bool) where
-  abbrev times : List (ℕ × Notice) → ℕ
+module _ (test : ℕ × PassEvent → Bool) where
+  abbrev times : List (ℕ × PassEvent) → ℕ
   times es = count_by test es
 
-  times-append : (xs ys : List (ℕ × Notice)) → times (xs ++ ys) ≡ times xs + times ys
+  times-append : (xs ys : List (ℕ × PassEvent)) → times (xs ++ ys) ≡ times xs + times ys
   times-append xs ys = sum_by-append (λ x. cond (test x) 1 0) xs ys
 
   -- of empty lists, of lists that are joined
@@ -43,7 +43,7 @@ module _ (test : ℕ × Notice → Bool) where
   none p zero = refl
   none p (suc many) = none (suc p) many
 
-  joined : (p many : ℕ) (f g : ℕ → List Notice) → times (lists p many (λ q. f q ++ g q)) ≡ times (lists p many f) + times (lists p many g)
+  joined : (p many : ℕ) (f g : ℕ → List PassEvent) → times (lists p many (λ q. f q ++ g q)) ≡ times (lists p many f) + times (lists p many g)
   joined p zero f g = refl
   joined p (suc many) f g =
       let rest = joined (suc p) many f g in
@@ -55,17 +55,17 @@ module _ (test : ℕ × Notice → Bool) where
       omega arith
 
   -- of lists of which one alone has anything
-  abbrev only : ℕ → List Notice → ℕ → List Notice
+  abbrev only : ℕ → List PassEvent → ℕ → List PassEvent
   only q ns p = if q == p then ns else []
 
-  above : (p many q : ℕ) (ns : List Notice) → q < p → times (lists p many (only q ns)) ≡ 0
+  above : (p many q : ℕ) (ns : List PassEvent) → q < p → times (lists p many (only q ns)) ≡ 0
   above p zero q ns h = refl
   above p (suc many) q ns h =
       let rest = above (suc p) many q ns (omega arith) in
       let no : only q ns p ≡ [] = ap (λ b. if b then ns else []) (ne_eqb q p (λ e. omega arith)) in
       ap (λ ms. times (of p ms ++ lists (suc p) many (only q ns))) no ∙ rest
 
-  one : (p many q : ℕ) (ns : List Notice) → p ≤ q → q < p + many → times (lists p many (only q ns)) ≡ times (of q ns)
+  one : (p many q : ℕ) (ns : List PassEvent) → p ≤ q → q < p + many → times (lists p many (only q ns)) ≡ times (of q ns)
   one p zero q ns low high = absurd (omega arith)
   one p (suc many) q ns low high = by (λ less. one (suc p) many q ns less (omega arith)) (cases_eq p q)
     where
@@ -92,26 +92,26 @@ module _ (test : ℕ × Notice → Bool) where
   step_gives count place (step.Poke poke) o h = none 0 count
 
   -- what all give
-  pub steps_give : (c : Config) (code : List ℕ) (count place : ℕ) (M : Machine Told) (steps : List Step) → turns_below count steps ≡ true →
-      times (lists 0 count (λ p. notices_of c code p place M steps)) ≡ times (all_notices c code place M steps)
+  pub steps_give : (c : Config) (code : List ℕ) (count place : ℕ) (M : Machine ObservedCore) (steps : List Step) → turns_below count steps ≡ true →
+      times (lists 0 count (λ p. pass_events_of c code p place M steps)) ≡ times (all_pass_events c code place M steps)
   steps_give c code count place M [] h = none 0 count
   steps_give c code count place M (s ∷ ss) h =
       let parts = both (is_turn_below count s) (turns_below count ss) h in
       let o : Outcome = outcome_of c code M s in
       let here = step_gives count place s o parts.0 in
       let rest = steps_give c code count (suc place) (after c code M s) ss parts.1 in
-      let a = joined 0 count (λ p. given_to p place s o) (λ p. notices_of c code p (suc place) (after c code M s) ss) in
-      let b = times-append (given place s o) (all_notices c code (suc place) (after c code M s) ss) in
+      let a = joined 0 count (λ p. given_to p place s o) (λ p. pass_events_of c code p (suc place) (after c code M s) ss) in
+      let b = times-append (given place s o) (all_pass_events c code (suc place) (after c code M s) ss) in
       omega arith
 
 -- the lists of the passes, in order
-stored_are : (hs : List Held) (p : ℕ) (f : ℕ → List Notice) →
-    ((k : ℕ) (h : Held) → slice_get hs k ≡ Some h → (h.processor ≡ p + k) × (h.row.notices ≡ f (p + k))) → all_stored hs ≡ lists p (length hs) f
+stored_are : (hs : List Held) (p : ℕ) (f : ℕ → List PassEvent) →
+    ((k : ℕ) (h : Held) → slice_get hs k ≡ Some h → (h.processor ≡ p + k) × (h.row.pass_events ≡ f (p + k))) → all_stored hs ≡ lists p (length hs) f
 stored_are [] p f is = refl
 stored_are (h ∷ hs) p f is =
     let here = is zero h refl in
     let zero_more : p + zero ≡ p = omega arith in
-    let first : of h.processor h.row.notices ≡ of p (f p) = (λ i. of ((here.0 ∙ zero_more) i) ((here.1 ∙ ap f zero_more) i)) in
+    let first : of h.processor h.row.pass_events ≡ of p (f p) = (λ i. of ((here.0 ∙ zero_more) i) ((here.1 ∙ ap f zero_more) i)) in
     let rest = stored_are hs (suc p) f (λ k x e.
     let there = is (suc k) x e in
     let n : p + suc k ≡ suc p + k = omega arith in
@@ -123,16 +123,17 @@ get-rows [] k h e = absurd (cc)
 get-rows (x ∷ hs) zero h e = let is : x ≡ h = cc in ap (λ (y : Held). Some y.row) is
 get-rows (x ∷ hs) (suc k) h e = get-rows hs k h e
 
+-- Whatever test entries are counted by, as many are in the lists of the passes as the steps after the first ones gave.
 pub totals_agree : (opening : MachineLists) (first : List Step) (count : ℕ) (steps : List Step) (hs : List Held) → IsWhole count hs →
     Fits opening first count steps (rows_of hs) →
-    (test : ℕ × Notice → Bool) → count_by test (all_stored hs) ≡ count_by test (all_since opening first steps)
+    (test : ℕ × PassEvent → Bool) → count_by test (all_stored hs) ≡ count_by test (all_since opening first steps)
 totals_agree opening first count steps hs whole fits test =
-    let f : ℕ → List Notice = (λ p. notices_since opening first p steps) in
+    let f : ℕ → List PassEvent = (λ p. pass_events_since opening first p steps) in
     let are = stored_are hs 0 f (λ k h e.
     let own = whole.own k h e in
     let row = fits.each k h.row (get-rows hs k h e) in
     let z : 0 + k ≡ k = omega arith in
-    (own ∙ sym z, row.notices ∙ ap f (sym z))) in
+    (own ∙ sym z, row.pass_events ∙ ap f (sym z))) in
     ap (λ es. count_by test es) are
     ∙ ap (λ n. count_by test (lists 0 n f)) whole.many
     ∙ steps_give test opening.config opening.code count (length first) (machine_after opening first) (drop (length first) steps) fits.turns

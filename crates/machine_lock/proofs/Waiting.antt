@@ -1,22 +1,29 @@
--- Rounds behind which a processor waits, and one more behind them.
+-- Rounds after which a processor waits, and one more after them.
 use Rattle.std.proofs.Common.{◌≡◌, ℕ, zero, suc, ◌+◌, ◌-◌, ◌≤◌, ◌<◌, List, [], ◌∷◌, ◌++◌, length}
 use Rattle.std.proofs.Common.{take, drop, true, false, Bool, refl, sym, ap, ◌∙◌, subst, arith}
 use Rattle.std.specs.Prelude.{Option, Result, Ok, Err, IfOk, OnErr, None, Some, is_some, slice_get, if◌then◌else◌}
 use Rattle.std.proofs.lemmas.List.{append-nil}
 use Rattle.std.proofs.Math.Seq.{take-add}
 use Rattle.flat_machine.specs.declared.config.Config.{Config}
+use Rattle.steps.specs.Answers.{is_stalled}
+use Rattle.machine_steps.specs.Machines.{MachineLists}
+use Rattle.machine_steps.specs.Runs.{answer_after}
+use Rattle.machine_log.specs.Logs.{entered}
 use Rattle.steps.specs.declared.step.Step.{Step}
 use Rattle.steps.specs.declared.step.Step.TheVariants.{Turn}
 use Rattle.steps.specs.declared.step.Step.TheVariants as step
 use Rattle.steps.specs.declared.step.Outcome.{Outcome}
 use Rattle.steps.specs.declared.step.Outcome.TheVariants.{Stalled}
 use Rattle.machine_log.specs.declared.refusal.LockRefusal.{LockRefusal}
-use Rattle.machine_lock.specs.declared.desk.Round.{Round}
-use Rattle.machine_lock.specs.declared.row.Notice.{Notice}
-use Rattle.machine_lock.specs.declared.row.Row.{Row}
+use Rattle.machine_lock.specs.declared.locked_state.Round.{Round}
+use Rattle.machine_lock.specs.declared.locked_state.Rounds.{Rounds}
+use Rattle.machine_lock.specs.declared.row.PassEvent.{PassEvent}
+use Rattle.machine_lock.specs.declared.row.PassState.{PassState}
 use Rattle.machine_lock.specs.Lists.{is_net, is_of_network, is_turn_of}
-use Rattle.machine_lock.specs.Rows.{answer, row, told}
-use Rattle.machine_lock.specs.Passes.{Held, held, TurnAndStep, GoesOnWith, HaveGone, HaveWaited, IsTold, IsTurned, leaves_waiting}
+use Rattle.machine_lock.specs.Rows.{answer, row, with_answer, Follows}
+use Rattle.machine_lock.specs.Passes.{Held, held, Moment, moment, TurnAndStep, GoesOnWith, HaveGone, HaveWaited}
+use Rattle.machine_lock.specs.Passes.{HasAnswered, IsTurned, LockedStateModel, UnderLock}
+use Rattle.machine_lock.specs.Passes.{has_stalled, idle_of, leaves_waiting}
 
 -- none, where it is not some
 pub is_none : (l : Option ℕ) → is_some l ≡ false → l ≡ None
@@ -33,7 +40,7 @@ of_net c (step.Poke poke) e = absurd (cc)
 
 -- ---- the parts of a list
 
--- what stands before a place, what stands there, and what stands behind it
+-- what stands before a place, what stands there, and what stands after it
 parts : (xs : List Step) (n : ℕ) (x : Step) → slice_get xs n ≡ Some x → xs ≡ take n xs ++ x ∷ drop (suc n) xs
 parts [] n x e = absurd (cc)
 parts (y ∷ xs) zero x e = let same : y ≡ x = cc in λ i. same i ∷ xs
@@ -72,114 +79,158 @@ within xs zero q less = let all : q < length xs = less in omega (arith, all)
 within [] (suc n) q less = absurd (omega (arith, less))
 within (x ∷ xs) (suc n) q less = let below = within xs n q less in omega (arith, below)
 
+-- A place among the steps after the first n is, n places later, a place among all steps.
 pub within_both : (xs : List Step) (n q : ℕ) → q < length (take (length xs - n) (drop n xs)) → n + q < length xs
 within_both xs n q less = within xs n q (subst (λ l. q < length l) (behind xs n) less)
 
 -- ---- answers that stalled
 
-nothing : (b : Bool) (none : List Notice) → none ≡ [] → (if b then none else []) ≡ []
+nothing : (b : Bool) (none : List PassEvent) → none ≡ [] → (if b then none else []) ≡ []
 nothing true none e = e
 nothing false none e = refl
 
 -- Such an answer is stored as the last one, and nothing else is.
-told_stalled : (p : ℕ) (r : Row) (s : Step) (place : ℕ) → told p r s Stalled place ≡ row r.notices r.steps (Some (answer s Stalled place)) r.lent
-told_stalled p r s place =
-    let none = ap (λ ns. r.notices ++ ns) (nothing (is_turn_of p s) [] refl) ∙ append-nil r.notices in
+with_stall : (p : ℕ) (r : PassState) (s : Step) (place : ℕ) → with_answer p r s Stalled place ≡ row r.pass_events r.steps (Some (answer s Stalled place)) r.lent
+with_stall p r s place =
+    let none = ap (λ ns. r.pass_events ++ ns) (nothing (is_turn_of p s) [] refl) ∙ append-nil r.pass_events in
     let steps : r.steps + 0 ≡ r.steps = omega arith in
     λ i. row (none i) (steps i) (Some (answer s Stalled place)) r.lent
 
--- What is told at its place behind such an answer is told as without that.
-module _ (from : ℕ) (old new : Held) (s : Step) (o : Outcome) (t : IsTold from old s o new) (before : Step) where
-  abbrev stalled : Held
-  stalled = held old.processor (told old.processor old.row before Stalled t.place)
+module _ (opening : MachineLists) (old : Moment) where
+  -- the moment after a step that stalls
+  abbrev stalled : Step → Moment
+  stalled s = moment old.log (held old.pass.processor (with_answer old.pass.processor old.pass.row s Stalled (length old.log)))
 
-  stalls : IsTold from old before Stalled stalled
-  stalls = record { place = t.place; low = t.low; follows = t.follows; pass = refl }
+  stalls : (s : Step) → answer_after opening old.log s ≡ Stalled → Follows old.pass.row.last (length old.log) → HasAnswered opening old s Stalled (stalled s)
+  stalls s e follows = record { answer = sym e; log = refl; follows = follows; pass = refl }
 
-  behind_stall : IsTold from stalled s o new
-  behind_stall = record {
-    place = t.place;
-    low = t.low;
-    follows = (let none : t.place + 0 ≤ t.place = omega arith in none);
-    pass = t.pass ∙ ap (λ r. held old.processor (told old.processor r s o t.place)) (sym (told_stalled old.processor old.row before t.place));
+  -- An answer after such a one leaves the pass as without it.
+  after_stall : (new : Moment) (s : Step) (o : Outcome) (t : HasAnswered opening old s o new) (before : Step) → HasAnswered opening (stalled before) s o new
+  after_stall new s o t before = record {
+    answer = t.answer;
+    log = t.log;
+    follows = (let none : length old.log + 0 ≤ length old.log = omega arith in none);
+    pass = t.pass
+        ∙ ap (λ r. held old.pass.processor (with_answer old.pass.processor r s o (length old.log)))
+        (sym (with_stall old.pass.processor old.pass.row before (length old.log)));
   }
 
 -- ---- rounds
 
-module _ (from : ℕ) (c : Config) where
-  -- A round goes on as it is answered.
-  pub goes_on : (old new : Held) (answer : Result Round LockRefusal) (s : Step) → IfOk answer (λ r. TurnAndStep from c old r.turn s r.net new) →
-      OnErr answer (new ≡ old) → GoesOnWith from c old answer s new
-  goes_on old new (Ok r) s told same = told
-  goes_on old new (Err refusal) s told same = same
+at_most_one : (b : Bool) (n : ℕ) → n ≤ 1 → (if b then n else 0) ≤ 1
+at_most_one true n less = less
+at_most_one false n less = omega arith
 
-  waited_more : (old between new : Held) (earlier : List Step) (s : Step) (answer : Result Round LockRefusal) → HaveWaited from c old earlier between →
-      leaves_waiting answer ≡ true → GoesOnWith from c between answer s new → HaveWaited from c old (earlier ++ s ∷ []) new
-  waited_more old between new [] s answer w waits on = (answer, new, waits, subst (λ h. GoesOnWith from c h answer s new) w on, refl)
-  waited_more old between new (x ∷ earlier) s answer w waits on = (w.0, w.1, w.2, w.3, waited_more w.1 between new earlier s answer w.4 waits on)
+-- A round counts at most once as one that found nothing.
+pub idle_few : (answer : Result Round LockRefusal) → idle_of answer ≤ 1
+idle_few (Ok r) = at_most_one (is_stalled r.turn) _ (at_most_one (has_stalled r.net) 1 (omega arith))
+idle_few (Err refusal) = omega arith
+
+-- A refused round leaves all as it was.
+pub locked_state_same : (answer : Result Round LockRefusal) (a b : Held) (x y : LockedStateModel) → OnErr answer ((a ≡ b) × (x ≡ y)) →
+    OnErr answer (moment x.log.steps a ≡ moment y.log.steps b)
+locked_state_same (Ok r) a b x y same = tt
+locked_state_same (Err refusal) a b x y same = λ i. moment (same.1 i).log.steps (same.0 i)
+
+module _ (opening : MachineLists) where
+  -- A round goes on as it is answered.
+  pub goes_on : (old new : Moment) (answer : Result Round LockRefusal) (s : Step) → IfOk answer (λ r. TurnAndStep opening old r.turn s r.net new) →
+      OnErr answer (new ≡ old) → GoesOnWith opening old answer s new
+  goes_on old new (Ok r) s has_answered same = has_answered
+  goes_on old new (Err refusal) s has_answered same = same
+
+  waited_more : (old between new : Moment) (earlier : List Step) (idle : ℕ) (s : Step) (answer : Result Round LockRefusal) →
+      HaveWaited opening old earlier idle between → leaves_waiting answer ≡ true → GoesOnWith opening between answer s new →
+      HaveWaited opening old (earlier ++ s ∷ []) (idle + idle_of answer) new
+  waited_more old between new [] idle s answer w waits on =
+      let none = w.0 in
+      let sum : idle + idle_of answer ≡ idle_of answer + 0 = omega (arith, none) in
+      (answer, new, 0, waits, sum, subst (λ h. GoesOnWith opening h answer s new) w.1 on, (refl, refl))
+  waited_more old between new (x ∷ earlier) idle s answer w waits on =
+      let first = idle_of w.0 in
+      let rest = w.2 in
+      let more = idle_of answer in
+      let before : idle ≡ first + rest = w.4 in
+      let sum : idle + more ≡ first + (rest + more) = omega (arith, before) in
+      (w.0, w.1, rest + more, w.3, sum, w.5, waited_more w.1 between new earlier rest s answer w.6 waits on)
 
   -- Rounds that wait go on with others.
-  waited_on : (old between new : Held) (earlier later : List Step) → HaveWaited from c old earlier between → HaveWaited from c between later new →
-      HaveWaited from c old (earlier ++ later) new
-  waited_on old between new [] later w on = subst (λ h. HaveWaited from c h later new) w on
-  waited_on old between new (s ∷ earlier) later w on = (w.0, w.1, w.2, w.3, waited_on w.1 between new earlier later w.4 on)
+  waited_on : (old between new : Moment) (earlier later : List Step) (i j : ℕ) → HaveWaited opening old earlier i between →
+      HaveWaited opening between later j new → HaveWaited opening old (earlier ++ later) (i + j) new
+  waited_on old between new [] later i j w on =
+      let none = w.0 in
+      let sum : j ≡ i + j = omega (arith, none) in
+      subst (λ n. HaveWaited opening old later n new) sum (subst (λ h. HaveWaited opening h later j new) w.1 on)
+  waited_on old between new (s ∷ earlier) later i j w on =
+      let first = idle_of w.0 in
+      let rest = w.2 in
+      let before : i ≡ first + rest = w.4 in
+      let sum : i + j ≡ first + (rest + j) = omega (arith, before) in
+      (w.0, w.1, rest + j, w.3, sum, w.5, waited_on w.1 between new earlier later rest j w.6 on)
 
-  pub waited_both : (old between new : Held) (steps : List Step) (n m : ℕ) → HaveWaited from c old (take n steps) between →
-      HaveWaited from c between (take m (take (length steps - n) (drop n steps))) new → HaveWaited from c old (take (n + m) steps) new
-  waited_both old between new steps n m w on =
-      subst (λ l. HaveWaited from c old l new) (sym (take-add n m steps))
-      (waited_on old between new (take n steps) (take m (drop n steps)) w (subst (λ l. HaveWaited from c between (take m l) new) (behind steps n) on))
+  -- If rounds with the first n steps left the processor waiting, and then those with the next m, so did those
+  -- with the first n + m. The rounds that found nothing add up.
+  pub waited_both : (old between new : Moment) (steps : List Step) (n m i j : ℕ) → HaveWaited opening old (take n steps) i between →
+      HaveWaited opening between (take m (take (length steps - n) (drop n steps))) j new → HaveWaited opening old (take (n + m) steps) (i + j) new
+  waited_both old between new steps n m i j w on =
+      subst (λ l. HaveWaited opening old l (i + j) new) (sym (take-add n m steps))
+      (waited_on old between new (take n steps) (take m (drop n steps)) i j w
+      (subst (λ l. HaveWaited opening between (take m l) j new) (behind steps n) on))
 
-  -- a round whose turn stalls, and whose step of the network is answered so
-  abbrev stalling : Outcome → Result Round LockRefusal
-  stalling o = Ok (record { turn = Stalled; net = Some (Ok o) })
+  -- a round whose turn and step of the network stall
+  abbrev idle_round : Result Round LockRefusal
+  idle_round = Ok (record { turn = Stalled; net = Some (Ok Stalled) })
 
-  stalls_round : (old new : Held) (s : Step) (o : Outcome) → old.row.lent ≡ None → is_net c s ≡ true → IsTold from old s o new →
-      GoesOnWith from c old (stalling o) s new
-  stalls_round old new s o home net t = record {
-    between = stalled from old new s o t (Turn old.processor);
-    turn_is = subst (λ lent. IsTurned lent from old Stalled (stalled from old new s o t (Turn old.processor))) (sym home)
-        (stalls from old new s o t (Turn old.processor));
-    net_is = (refl, net, behind_stall from old new s o t (Turn old.processor));
-  }
-
-  -- Where the last of some steps of the network is told, the pass is as behind rounds with all of them whose turns have stalled, and
-  -- whose other steps have.
-  pub stood_by : (old new : Held) (steps : List Step) (n : ℕ) (s : Step) (o : Outcome) → old.row.lent ≡ None →
-      ((k : ℕ) (x : Step) → k < suc n → slice_get steps k ≡ Some x → is_net c x ≡ true) → slice_get steps n ≡ Some s → IsTold from old s o new →
-      HaveWaited from c old (take (suc n) steps) new
-  stood_by old new [] n s o home moves here t = absurd (cc)
-  stood_by old new (x ∷ later) zero s o home moves here t =
+  -- If the last of some steps of the network is stored, the pass is as after rounds with all of them that find nothing.
+  pub idle_rounds_are_skipped : (old new : Moment) (steps : List Step) (n : ℕ) (s : Step) → old.pass.row.lent ≡ None →
+      answer_after opening old.log (Turn old.pass.processor) ≡ Stalled →
+      ((k : ℕ) (x : Step) → k < suc n → slice_get steps k ≡ Some x → is_net opening.config x ≡ true) →
+      ((k : ℕ) (x : Step) → k < suc n → slice_get steps k ≡ Some x → answer_after opening old.log x ≡ Stalled) →
+      slice_get steps n ≡ Some s → HasAnswered opening old s Stalled new → HaveWaited opening old (take (suc n) steps) (suc n) new
+  idle_rounds_are_skipped old new [] n s home turn moves skipped here t = absurd (cc)
+  idle_rounds_are_skipped old new (x ∷ later) zero s home turn moves skipped here t =
       let same : x ≡ s = cc in
-      (stalling o, new, refl, stalls_round old new x o home (moves 0 x (omega arith) refl) (subst (λ y. IsTold from old y o new) (sym same) t), refl)
-  stood_by old new (x ∷ later) (suc n) s o home moves here t =
-      let turned = stalled from old new s o t (Turn old.processor) in
-      let t' = behind_stall from old new s o t (Turn old.processor) in
-      let moved = stalled from turned new s o t' x in
-      let net = moves 0 x (omega arith) refl in
-      let round : GoesOnWith from c old (stalling Stalled) x moved = record {
+      let turned = stalled opening old (Turn old.pass.processor) in
+      let has_answered = subst (λ y. HasAnswered opening turned y Stalled new) (sym same) (after_stall opening old new s Stalled t (Turn old.pass.processor)) in
+      let round : GoesOnWith opening old idle_round x new = record {
         between = turned;
-        turn_is = subst (λ lent. IsTurned lent from old Stalled turned) (sym home) (stalls from old new s o t (Turn old.processor));
-        net_is = (refl, net, stalls from turned new s o t' x);
-      } in (
-        stalling Stalled,
+        turn_is = subst (λ lent. IsTurned lent opening old Stalled turned) (sym home) (stalls opening old (Turn old.pass.processor) turn t.follows);
+        net_is = (refl, moves 0 x (omega arith) refl, has_answered);
+      } in
+      (idle_round, new, 0, refl, refl, round, (refl, refl))
+  idle_rounds_are_skipped old new (x ∷ later) (suc n) s home turn moves skipped here t =
+      let turned = stalled opening old (Turn old.pass.processor) in
+      let t' = after_stall opening old new s Stalled t (Turn old.pass.processor) in
+      let moved = stalled opening turned x in
+      let round : GoesOnWith opening old idle_round x moved = record {
+        between = turned;
+        turn_is = subst (λ lent. IsTurned lent opening old Stalled turned) (sym home) (stalls opening old (Turn old.pass.processor) turn t.follows);
+        net_is = (refl, moves 0 x (omega arith) refl, stalls opening turned x (skipped 0 x (omega arith) refl) t'.follows);
+      } in
+      let sum : suc (suc n) ≡ 1 + suc n = omega arith in (
+        idle_round,
         moved,
+        suc n,
         refl,
+        sum,
         round,
-        stood_by moved new later n s o home (λ k y less at. moves (suc k) y (omega (arith, less)) at) here (behind_stall from turned new s o t' x),
+        idle_rounds_are_skipped moved new later n s home turn (λ k y less at. moves (suc k) y (omega (arith, less)) at)
+            (λ k y less at. skipped (suc k) y (omega (arith, less)) at) here (after_stall opening turned new s Stalled t' x),
       )
 
-  module _ (old between new : Held) (steps : List Step) (n : ℕ) (s : Step) (answer : Result Round LockRefusal)
-      (waited : HaveWaited from c old (take n steps) between)
-      (here : slice_get steps n ≡ Some s) (on : GoesOnWith from c between answer s new) where
+  module _ (old between new : Moment) (steps : List Step) (n idle : ℕ) (s : Step) (answer : Result Round LockRefusal)
+      (waited : HaveWaited opening old (take n steps) idle between)
+      (here : slice_get steps n ≡ Some s) (on : GoesOnWith opening between answer s new) where
     -- Where it waits again, the rounds go on.
-    pub waits_again : leaves_waiting answer ≡ true → HaveWaited from c old (take (n + 1) steps) new
+    pub waits_again : leaves_waiting answer ≡ true → HaveWaited opening old (take (n + 1) steps) (idle + idle_of answer) new
     waits_again waits =
-        subst (λ l. HaveWaited from c old l new) (sym (one_more steps n s here) ∙ ap (λ m. take m steps) (let next : suc n ≡ n + 1 = omega arith in next))
-        (waited_more old between new (take n steps) s answer waited waits on)
+        subst (λ l. HaveWaited opening old l (idle + idle_of answer) new)
+        (sym (one_more steps n s here) ∙ ap (λ m. take m steps) (let next : suc n ≡ n + 1 = omega arith in next))
+        (waited_more old between new (take n steps) idle s answer waited waits on)
 
     -- Else they are over, and where no step is left.
-    pub are_over : n < length steps → (leaves_waiting answer ≡ true → n + 1 ≡ length steps) → HaveGone from c old steps (n + 1) answer new
+    pub are_over : n < length steps → (leaves_waiting answer ≡ true → n + 1 ≡ length steps) →
+        HaveGone opening old steps (record { gone = n + 1; idle = idle + idle_of answer; answer = answer }) new
     are_over less over = record {
       earlier = take n steps;
       last = s;
@@ -187,7 +238,20 @@ module _ (from : ℕ) (c : Config) where
       steps_are = parts steps n s here;
       count = (let many = count steps n (omega (arith, less)) in omega (arith, many));
       between = between;
+      idle_earlier = idle;
       waited = waited;
       round = on;
+      idle = refl;
       over = λ waits. none_behind steps (suc n) (let all = over waits in omega (arith, all));
     }
+
+-- ---- what a call does under the lock
+
+module _ (first : List Step) (old new : Held) (log log_after : List Step) (begins : log ≡ first ++ drop (length first) log) where
+  pub under_lock : (Does : Moment → Moment → Type 0) → Does (moment log old) (moment log_after new) → UnderLock first old new Does
+  under_lock Does does = record { log = log; log_after = log_after; begins = begins; does = does }
+
+  pub under_lock_ok : {A : Type 0} {E : Type 0} (answer : Result A E) (Does : A → Moment → Moment → Type 0) →
+      IfOk answer (λ x. Does x (moment log old) (moment log_after new)) → IfOk answer (λ x. UnderLock first old new (Does x))
+  under_lock_ok (Ok x) Does does = under_lock (Does x) does
+  under_lock_ok (Err e) Does does = tt

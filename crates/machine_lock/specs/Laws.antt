@@ -4,30 +4,33 @@ use Rattle.flat_machine.specs.declared.event.Cause.{Cause}
 use Rattle.flat_machine.specs.declared.event.Event.TheVariants.{Stopped}
 use Rattle.flat_machine.specs.declared.config.Config.{Config}
 use Rattle.machine_steps.specs.machine_theory.Theory as theory
-use Rattle.machine_steps.specs.machine_theory.Processors.{Told}
+use Rattle.machine_steps.specs.machine_theory.Processors.{ObservedCore}
 use Rattle.steps.specs.declared.step.Step.{Step}
 use Rattle.machine_steps.specs.Runs.{all_after}
-use Rattle.machine_steps.specs.Laws.{told_after}
-use Rattle.machine_lock.specs.declared.row.Notice.{Notice}
-use Rattle.machine_lock.specs.Lists.{no_poke, notices_of, IsRising}
+use Rattle.machine_steps.specs.Laws.{shown_after}
+use Rattle.machine_lock.specs.declared.row.PassEvent.{PassEvent}
+use Rattle.machine_lock.specs.Lists.{no_poke, pass_events_of, IsRising}
 
 -- The places rise along the list of each processor, from the place of the first step on.
 abbrev pub PlacesRise : Type 0
-PlacesRise = (c : Config) (code : List ℕ) (p place : ℕ) (M : theory.Machine Told) (steps : List Step) → IsRising place (notices_of c code p place M steps)
+PlacesRise = (c : Config) (code : List ℕ) (p place : ℕ) (M : theory.Machine ObservedCore) (steps : List Step) →
+    IsRising place (pass_events_of c code p place M steps)
 
 -- The list over steps and more steps is that over the steps, and then that over the others, from their place on.
 abbrev pub ListsAreJoined : Type 0
-ListsAreJoined = (c : Config) (code : List ℕ) (p place : ℕ) (M : theory.Machine Told) (steps more : List Step) →
-    notices_of c code p place M (steps ++ more) ≡ notices_of c code p place M steps
-    ++ notices_of c code p (place + length steps) (all_after c code M steps) more
+ListsAreJoined = (c : Config) (code : List ℕ) (p place : ℕ) (M : theory.Machine ObservedCore) (steps more : List Step) →
+    pass_events_of c code p place M (steps ++ more) ≡ pass_events_of c code p place M steps
+    ++ pass_events_of c code p (place + length steps) (all_after c code M steps) more
 
--- A processor's list has the events that the outcomes of the steps tell of it, in their order.
+-- A processor's list has the events that the outcomes of the steps have for it, in their order.
 abbrev pub EventsAreListed : Type 0
-EventsAreListed = (c : Config) (code : List ℕ) (p place : ℕ) (M : theory.Machine Told) (steps : List Step) →
-    map (λ n. n.event) (notices_of c code p place M steps) ≡ told_after c code M steps (λ q. []) p
+EventsAreListed = (c : Config) (code : List ℕ) (p place : ℕ) (M : theory.Machine ObservedCore) (steps : List Step) →
+    map (λ n. n.event) (pass_events_of c code p place M steps) ≡ shown_after c code M steps (λ q. []) p
 
--- A processor whose list ends with its stop has no reference open behind the steps, where no poke is among them.
+-- A processor whose list ends with its stop has no reference open after the steps, where no poke is among them.
 abbrev pub StoppedAreShut : Type 0
-StoppedAreShut = (c : Config) (code : List ℕ) (p place : ℕ) (M : theory.Machine Told) (steps : List Step) (before : List Notice) (at : ℕ) (why : Cause) →
-    no_poke steps ≡ true → notices_of c code p place M steps ≡ before ++ record { event = Stopped why; place = at } ∷ [] →
+StoppedAreShut = (c : Config) (code : List ℕ) (p place : ℕ) (M : theory.Machine ObservedCore) (steps : List Step)
+    (before : List PassEvent) (at : ℕ) (why : Cause) →
+    no_poke steps ≡ true →
+    pass_events_of c code p place M steps ≡ before ++ record { event = Stopped why; place = at } ∷ [] →
     (all_after c code M steps).is_open p ≡ false

@@ -1,18 +1,20 @@
 -- What the outcomes of steps give each processor: its retirements and its stop, each with its place among the steps.
-use Rattle.std.specs.Prelude.{◌≡◌, ℕ, suc, ◌≤◌, ◌==◌, nat_lt, Bool, true, false, not, List, [], ◌∷◌, ◌++◌, map, if◌then◌else◌}
+use Rattle.std.specs.Prelude.{◌≡◌, ℕ, suc, ◌≤◌, ◌==◌, nat_lt, Bool, true, false, not, List, [], ◌∷◌, ◌++◌, map}
+use Rattle.std.specs.Prelude.{if◌then◌else◌}
 use Rattle.std.specs.List.{list_all}
 use Rattle.flat_machine.specs.declared.config.Config.{Config}
 use Rattle.flat_machine.specs.declared.event.Event.TheVariants as event
 use Rattle.machine_steps.specs.machine_theory.Theory as theory
-use Rattle.machine_steps.specs.machine_theory.Processors.{Told}
+use Rattle.machine_steps.specs.machine_theory.Processors.{ObservedCore}
 use Rattle.machine_steps.specs.machine_theory.Steps.{outcome_of, after}
 use Rattle.steps.specs.declared.step.Step.{Step}
 use Rattle.steps.specs.declared.step.Step.TheVariants as step
 use Rattle.steps.specs.declared.step.Outcome.{Outcome}
-use Rattle.steps.specs.declared.step.Outcome.TheVariants.{Retired, Issued, Stopped, Moved, Combined, Served, Answered, Poked, Stalled}
+use Rattle.steps.specs.declared.step.Outcome.TheVariants.{Retired, Issued, Stopped, Moved, Combined, Served, Answered}
+use Rattle.steps.specs.declared.step.Outcome.TheVariants.{Poked, Stalled}
 use Rattle.machine_steps.specs.Machines.{MachineLists, machine_of}
 use Rattle.machine_log.specs.Logs.{is_named}
-use Rattle.machine_lock.specs.declared.row.Notice.{Notice}
+use Rattle.machine_lock.specs.declared.row.PassEvent.{PassEvent}
 
 -- ---- kinds of steps
 
@@ -47,10 +49,10 @@ abbrev pub Stalls : MachineLists → Step → Type 0
 Stalls m s = outcome_of m.config m.code (machine_of m (λ p. [])) s ≡ Stalled
 
 -- a step of the network that the machine has and that would stall
-abbrev pub IsQuietMove : MachineLists → Step → Type 0
-IsQuietMove m s = (is_net m.config s ≡ true) × Stalls m s
+abbrev pub IsIdleMove : MachineLists → Step → Type 0
+IsIdleMove m s = (is_net m.config s ≡ true) × Stalls m s
 
--- a turn of one of so many processors, or no turn
+-- a turn of one of this many processors, or no turn
 abbrev pub is_turn_below : ℕ → Step → Bool
 is_turn_below count (step.Turn p) = nat_lt p count
 is_turn_below count (step.Up s w) = true
@@ -86,7 +88,7 @@ is_stop Stalled = false
 -- ---- what a turn gives
 
 -- the retirement or the stop that a turn at this place answered, if it answered one
-abbrev pub shown_at : (place : ℕ) → Outcome → List Notice
+abbrev pub shown_at : (place : ℕ) → Outcome → List PassEvent
 shown_at place (Retired retired) = record { event = event.Retired retired; place = place } ∷ []
 shown_at place (Stopped cause) = record { event = event.Stopped cause; place = place } ∷ []
 shown_at place Issued = []
@@ -98,11 +100,11 @@ shown_at place Poked = []
 shown_at place Stalled = []
 
 -- what a step at this place gives the processor p
-abbrev pub given_to : (p place : ℕ) → Step → Outcome → List Notice
+abbrev pub given_to : (p place : ℕ) → Step → Outcome → List PassEvent
 given_to p place s o = if is_turn_of p s then shown_at place o else []
 
 -- what it gives, with the processor that it gives it
-abbrev pub given : (place : ℕ) → Step → Outcome → List (ℕ × Notice)
+abbrev pub given : (place : ℕ) → Step → Outcome → List (ℕ × PassEvent)
 given place (step.Turn p) o = map (λ n. (p, n)) (shown_at place o)
 given place (step.Up s w) o = []
 given place (step.Serve m) o = []
@@ -110,16 +112,20 @@ given place (step.Down s w) o = []
 given place (step.Poke poke) o = []
 
 -- what the steps give p, the first of which is at this place and is taken by the machine M
-abbrev pub notices_of : Config → (code : List ℕ) → (p place : ℕ) → theory.Machine Told → List Step → List Notice
-notices_of c code p place M [] = []
-notices_of c code p place M (s ∷ ss) = given_to p place s (outcome_of c code M s) ++ notices_of c code p (suc place) (after c code M s) ss
+abbrev pub pass_events_of : Config → (code : List ℕ) → (p place : ℕ) → theory.Machine ObservedCore → List Step →
+    List PassEvent
+pass_events_of c code p place M [] = []
+pass_events_of c code p place M (s ∷ ss) = given_to p place s (outcome_of c code M s)
+    ++ pass_events_of c code p (suc place) (after c code M s) ss
 
 -- what they give all processors
-abbrev pub all_notices : Config → (code : List ℕ) → (place : ℕ) → theory.Machine Told → List Step → List (ℕ × Notice)
-all_notices c code place M [] = []
-all_notices c code place M (s ∷ ss) = given place s (outcome_of c code M s) ++ all_notices c code (suc place) (after c code M s) ss
+abbrev pub all_pass_events : Config → (code : List ℕ) → (place : ℕ) → theory.Machine ObservedCore → List Step →
+    List (ℕ × PassEvent)
+all_pass_events c code place M [] = []
+all_pass_events c code place M (s ∷ ss) = given place s (outcome_of c code M s)
+    ++ all_pass_events c code (suc place) (after c code M s) ss
 
 -- Each place is above the one before it, and the first is not below this one.
-abbrev pub IsRising : (low : ℕ) → List Notice → Type 0
+abbrev pub IsRising : (low : ℕ) → List PassEvent → Type 0
 IsRising low [] = Unit {0}
 IsRising low (n ∷ ns) = (low ≤ n.place) × IsRising (suc n.place) ns

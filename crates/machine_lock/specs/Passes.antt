@@ -1,6 +1,6 @@
--- What contracts see of a pass and of the desk.
+-- What contracts see of a pass and of the locked state.
 use Rattle.std.specs.Prelude.{◌≡◌, ℕ, zero, suc, ◌≤◌, ◌^◌, ◌↔◌, Bool, true, false, List, [], ◌∷◌, ◌++◌, length}
-use Rattle.std.specs.Prelude.{map, count_by, slice_get, Option, Some, None, Result, Ok, Err, if◌then◌else◌}
+use Rattle.std.specs.Prelude.{◌+◌, drop, map, count_by, slice_get, Option, Some, None, Result, Ok, Err, if◌then◌else◌}
 use Rattle.flat_machine.specs.declared.config.Config.{Config}
 use Rattle.flat_machine.specs.declared.event.Retired.{Retired}
 use Rattle.hart.specs.State.{CoreState}
@@ -9,28 +9,38 @@ use Rattle.steps.specs.declared.step.Step.TheVariants.{Turn}
 use Rattle.steps.specs.declared.step.Outcome.{Outcome}
 use Rattle.steps.specs.declared.step.Outcome.TheVariants.{Stalled}
 use Rattle.steps.specs.declared.step.Outcome.TheVariants as outcome
-use Rattle.machine_steps.specs.Machines.{MachineLists}
+use Rattle.steps.specs.Answers.{is_stalled}
+pub use Rattle.machine_steps.specs.Machines.{MachineLists}
 use Rattle.machine_steps.specs.Runs.{answer_after}
+use Rattle.machine_steps.specs.machine_theory.Loans.{turns_of}
 use Rattle.machine_log.specs.Logs.{Log, entered}
 use Rattle.machine_log.specs.declared.refusal.LockRefusal.{LockRefusal}
 use Rattle.machine_log.specs.declared.refusal.LockRefusal.TheVariants.{NotFree, Unnamed}
 use Rattle.hart.specs.LocalRuns.{HasRunLocally, RetirementList, TakesLocal}
 use Rattle.hart.specs.declared.run.LocalEnd.{LocalEnd}
-use Rattle.machine_log.specs.Lendings.{lent_at}
+use Rattle.machine_log.specs.Lendings.{AreAnswered, lent_at}
 use Rattle.machine_log.specs.declared.lent.Lent.{Lent}
-use Rattle.machine_lock.specs.declared.desk.Round.{Round}
-use Rattle.machine_lock.specs.declared.row.Notice.{Notice}
-use Rattle.machine_lock.specs.declared.row.Row.{Row}
-use Rattle.machine_lock.specs.declared.stored.Stored.{Stored}
+use Rattle.machine_lock.specs.declared.locked_state.Round.{Round}
+use Rattle.machine_lock.specs.declared.locked_state.Rounds.{Rounds}
+use Rattle.machine_lock.specs.declared.row.PassEvent.{PassEvent}
+use Rattle.machine_lock.specs.declared.row.PassState.{PassState}
+use Rattle.machine_lock.specs.declared.stored.PassStateVec.{PassStateVec}
 use Rattle.machine_lock.specs.Lists.{is_net, is_stop}
-use Rattle.machine_lock.specs.Rows.{row, new_row, told, told_all, with_loan, Follows, all_since, Fits}
+use Rattle.machine_lock.specs.Rows.{row, new_row, with_answer, with_retirements, with_loan, Follows, all_since, Fits}
 
 -- a machine that is none
 abbrev pub no_machine : MachineLists
 no_machine = record {
   config = record { k = 0; c = 0; b = 0; r = 0; shared_words = 0 };
   image = record { layout = record { entry = 0; code = []; local = []; shared = [] }; shared_words = 0 };
-  network = record { k = 0; c = 0; b = 0; r = 0; pool = record { cells = 0; requests = []; replies = [] }; switches = [] };
+  network = record {
+    k = 0;
+    c = 0;
+    b = 0;
+    r = 0;
+    pool = record { cells = 0; requests = []; replies = [] };
+    switches = [];
+  };
   ports = [];
   modules = [];
   code = [];
@@ -39,50 +49,73 @@ no_machine = record {
 -- ---- a pass
 
 -- the row that a pass stores
-abbrev pub row_of : Stored → Row
-row_of s = row s.notices.items s.steps s.last s.lent
+abbrev pub row_of : PassStateVec → PassState
+row_of s = row s.pass_events.items s.steps s.last s.lent
 
 pub record Held : Type 0 where
   pub processor : ℕ
-  pub row : Row
+  pub row : PassState
 
-abbrev pub held : (processor : ℕ) → Row → Held
+abbrev pub held : (processor : ℕ) → PassState → Held
 held processor row = record { processor = processor; row = row }
 
--- A call with the pass asked for this step and was answered so: the answer has a place, not below `from` and behind the last answer before it.
-pub record IsTold (from : ℕ) (old : Held) (s : Step) (o : Outcome) (new : Held) : Type 0 where
-  pub place : ℕ
-  pub low : from ≤ place
-  pub follows : Follows old.row.last place
-  pub pass : new ≡ held old.processor (told old.processor old.row s o place)
+-- the steps of the log, and what a pass stores, at one time
+pub record Moment : Type 0 where
+  pub log : List Step
+  pub pass : Held
 
--- A turn of the pass's processor was asked for, and answered so: it was told to the pass. While the core is lent, it stalls, and the pass
--- is not told.
-abbrev pub IsTurned : (lent : Option ℕ) → (from : ℕ) → (old : Held) → Outcome → (new : Held) → Type 0
-IsTurned None from old o new = IsTold from old (Turn old.processor) o new
-IsTurned (Some most) from old o new = (o ≡ Stalled) × (new ≡ old)
+abbrev pub moment : List Step → Held → Moment
+moment log pass = record { log = log; pass = pass }
 
--- Behind a turn that answered so a step of the network was asked for, unless the turn had stopped the processor: it was told to the
--- pass, or refused, which left the pass as it was.
-abbrev pub IsAsked : (from : ℕ) → Config → (turn : Outcome) → Held → Step → Option (Result Outcome LockRefusal) → Held → Type 0
-IsAsked from c turn old s None new = (is_stop turn ≡ true) × (new ≡ old)
-IsAsked from c turn old s (Some (Ok o)) new = (is_stop turn ≡ false) × (is_net c s ≡ true) × IsTold from old s o new
-IsAsked from c turn old s (Some (Err e)) new = (is_stop turn ≡ false) × ((e ≡ Unnamed) ↔ (is_net c s ≡ false)) × (e ≡ NotFree → ⊥) × (new ≡ old)
+-- What a call does to a pass, from the moment when it gets the lock to that when it gives it back, is this. The log
+-- began with these steps.
+pub record UnderLock (first : List Step) (old new : Held) (Does : Moment → Moment → Type 0) : Type 0 where
+  pub log : List Step
+  pub log_after : List Step
+  pub begins : log ≡ first ++ drop (length first) log
+  pub does : Does (moment log old) (moment log_after new)
+
+-- A step was asked for, and answered as the machine of this opening does after the steps of the log. It is entered,
+-- unless it stalled, and the pass stores the answer, with the place.
+pub record HasAnswered (opening : MachineLists) (old : Moment) (s : Step) (o : Outcome) (new : Moment) : Type 0 where
+  pub answer : o ≡ answer_after opening old.log s
+  pub log : new.log ≡ entered old.log s o
+  pub follows : Follows old.pass.row.last (length old.log)
+  pub pass : new.pass ≡ held old.pass.processor (with_answer old.pass.processor old.pass.row s o (length old.log))
+
+-- A turn of the pass's processor was asked for, and answered so. While the core is lent, it stalls, and nothing is
+-- changed.
+abbrev pub IsTurned : (lent : Option ℕ) → (opening : MachineLists) → (old : Moment) → Outcome → (new : Moment) → Type 0
+IsTurned None opening old o new = HasAnswered opening old (Turn old.pass.processor) o new
+IsTurned (Some most) opening old o new = (o ≡ Stalled) × (new ≡ old)
+
+-- After a turn that answered so a step of the network was asked for, unless the turn had stopped the processor: it was
+-- answered, or refused, and then nothing is changed.
+abbrev pub IsAsked : (opening : MachineLists) → (turn : Outcome) → Moment → Step →
+    Option (Result Outcome LockRefusal) → Moment → Type 0
+IsAsked opening turn old s None new = (is_stop turn ≡ true) × (new ≡ old)
+IsAsked opening turn old s (Some (Ok o)) new = (is_stop turn ≡ false) × (is_net opening.config s ≡ true)
+    × HasAnswered opening old s o new
+IsAsked opening turn old s (Some (Err e)) new =
+    (is_stop turn ≡ false) × ((e ≡ Unnamed) ↔ (is_net opening.config s ≡ false)) × (e ≡ NotFree → ⊥) × (new ≡ old)
 
 -- A turn was asked for, and then a step of the network.
-pub record TurnAndStep (from : ℕ) (c : Config) (old : Held) (turn : Outcome) (s : Step) (net : Option (Result Outcome LockRefusal)) (new : Held) : Type 0 where
-  pub between : Held
-  pub turn_is : IsTurned old.row.lent from old turn between
-  pub net_is : IsAsked from c turn between s net new
+pub record TurnAndStep (opening : MachineLists) (old : Moment) (turn : Outcome) (s : Step)
+    (net : Option (Result Outcome LockRefusal)) (new : Moment) :
+    Type 0 where
+  pub between : Moment
+  pub turn_is : IsTurned old.pass.row.lent opening old turn between
+  pub net_is : IsAsked opening turn between s net new
 
 -- ---- rounds
 
 -- A turn was asked for, and then a step of the network; or the turn was refused.
-abbrev pub GoesOnWith : (from : ℕ) → Config → (old : Held) → (answer : Result Round LockRefusal) → Step → (new : Held) → Type 0
-GoesOnWith from c old (Ok r) s new = TurnAndStep from c old r.turn s r.net new
-GoesOnWith from c old (Err refusal) s new = new ≡ old
+abbrev pub GoesOnWith : (opening : MachineLists) → (old : Moment) → (answer : Result Round LockRefusal) → Step →
+    (new : Moment) → Type 0
+GoesOnWith opening old (Ok r) s new = TurnAndStep opening old r.turn s r.net new
+GoesOnWith opening old (Err refusal) s new = new ≡ old
 
--- a turn behind which its processor waits: it has begun a reference, or stalled
+-- a turn after which its processor waits: it has begun a reference, or stalled
 abbrev pub is_waiting : Outcome → Bool
 is_waiting outcome.Issued = true
 is_waiting outcome.Stalled = true
@@ -99,29 +132,46 @@ is_answered None = false
 is_answered (Some (Ok o)) = true
 is_answered (Some (Err refusal)) = false
 
--- a round behind which its processor waits, and in which nothing was refused
+-- a round after which its processor waits, and in which nothing was refused
 abbrev pub leaves_waiting : Result Round LockRefusal → Bool
 leaves_waiting (Ok r) = if is_waiting r.turn then is_answered r.net else false
 leaves_waiting (Err refusal) = false
 
--- Rounds were gone through with these steps, one behind the other, and each left the processor waiting.
-abbrev pub HaveWaited : (from : ℕ) → Config → (old : Held) → List Step → (new : Held) → Type 0
-HaveWaited from c old [] new = new ≡ old
-HaveWaited from c old (s ∷ later) new = (answer : Result Round LockRefusal) × (between : Held) × (leaves_waiting answer ≡ true)
-    × GoesOnWith from c old answer s between × HaveWaited from c between later new
+-- a step of the network that stalled
+abbrev pub has_stalled : Option (Result Outcome LockRefusal) → Bool
+has_stalled None = false
+has_stalled (Some (Ok o)) = is_stalled o
+has_stalled (Some (Err refusal)) = false
 
--- Rounds were gone through with the first of these steps, so many. All but the last left the processor waiting. The last was answered so,
--- and did not, where steps are left.
-pub record HaveGone (from : ℕ) (c : Config) (old : Held) (steps : List Step) (gone : ℕ) (answer : Result Round LockRefusal) (new : Held) : Type 0 where
+-- 1 for a round that finds nothing: its turn stalls, and so does its step of the network
+abbrev pub idle_of : Result Round LockRefusal → ℕ
+idle_of (Ok r) = if is_stalled r.turn then (if has_stalled r.net then 1 else 0) else 0
+idle_of (Err refusal) = 0
+
+-- Rounds were gone through with these steps, one after another, and each left the processor waiting. This many found
+-- nothing.
+abbrev pub HaveWaited : (opening : MachineLists) → (old : Moment) → List Step → (idle : ℕ) → (new : Moment) → Type 0
+HaveWaited opening old [] idle new = (idle ≡ 0) × (new ≡ old)
+HaveWaited opening old (s ∷ later) idle new = (answer : Result Round LockRefusal) × (between : Moment) × (rest : ℕ)
+    × (leaves_waiting answer ≡ true)
+    × (idle ≡ idle_of answer + rest) × GoesOnWith opening old answer s between
+    × HaveWaited opening between later rest new
+
+-- Rounds were gone through with the first of these steps, as many as the answer says. All but the last left the
+-- processor waiting. The last was answered so, and did not, where steps are left.
+pub record HaveGone (opening : MachineLists) (old : Moment) (steps : List Step) (rounds : Rounds)
+    (new : Moment) : Type 0 where
   pub earlier : List Step
   pub last : Step
   pub later : List Step
   pub steps_are : steps ≡ earlier ++ last ∷ later
-  pub count : gone ≡ suc (length earlier)
-  pub between : Held
-  pub waited : HaveWaited from c old earlier between
-  pub round : GoesOnWith from c between answer last new
-  pub over : leaves_waiting answer ≡ true → later ≡ []
+  pub count : rounds.gone ≡ suc (length earlier)
+  pub between : Moment
+  pub idle_earlier : ℕ
+  pub waited : HaveWaited opening old earlier idle_earlier between
+  pub round : GoesOnWith opening between rounds.answer last new
+  pub idle : rounds.idle ≡ idle_earlier + idle_of rounds.answer
+  pub over : leaves_waiting rounds.answer ≡ true → later ≡ []
 
 -- ---- a loan
 
@@ -145,7 +195,7 @@ pub record HasGoneOn (code : List ℕ) (old new : LoanState) (end : LocalEnd) : 
   pub run : HasRunLocally code old.core new.core (record { most = old.record_is.most; items = old.retired })
       (record { most = new.record_is.most; items = new.retired }) end
 
--- The core is lent on this pass, for so many instructions at most, and has taken none.
+-- The core is lent on this pass, for this many instructions at most, and has taken none.
 pub record IsLentOn (old : Held) (most : ℕ) (loan : LoanState) (new : Held) : Type 0 where
   pub processor : loan.processor ≡ old.processor
   pub most_is : loan.record_is.most ≡ most
@@ -158,23 +208,25 @@ pub record IsLoanOf (pass : Held) (loan : LoanState) : Type 0 where
   pub processor : loan.processor ≡ pass.processor
   pub lent : pass.row.lent ≡ Some loan.record_is.most
 
--- The loan is back: a turn was entered for each instruction that it has retired, and the pass is told of them.
-pub record IsReturned (from : ℕ) (old : Held) (retired : List Retired) (new : Held) : Type 0 where
-  pub place : ℕ
-  pub low : from ≤ place
-  pub follows : Follows old.row.last place
-  pub pass : new ≡ held old.processor (with_loan (told_all old.processor old.row place retired) None)
+-- The loan is back: turns that retire what it has retired are entered, and the pass stores them.
+pub record IsReturned (opening : MachineLists) (old : Moment) (retired : List Retired) (new : Moment) : Type 0 where
+  pub answered : AreAnswered opening old.log old.pass.processor retired
+  pub log : new.log ≡ old.log ++ turns_of old.pass.processor (length retired)
+  pub follows : Follows old.pass.row.last (length old.log)
+  pub pass : new.pass
+      ≡ held old.pass.processor (with_loan (with_retirements old.pass.processor old.pass.row
+      (length old.log) retired) None)
 
--- Behind it rounds were gone through.
-pub record HasEnded (from : ℕ) (c : Config) (old : Held) (retired : List Retired) (steps : List Step) (gone : ℕ) (answer : Result Round LockRefusal)
-    (new : Held) : Type 0 where
-  pub between : Held
-  pub back : IsReturned from old retired between
-  pub rounds : HaveGone from c between steps gone answer new
+-- After it rounds were gone through.
+pub record HasEnded (opening : MachineLists) (old : Moment) (retired : List Retired) (steps : List Step)
+    (rounds : Rounds) (new : Moment) : Type 0 where
+  pub between : Moment
+  pub back : IsReturned opening old retired between
+  pub rounds_are : HaveGone opening between steps rounds new
 
 -- ---- the passes of all processors
 
-abbrev pub rows_of : List Held → List Row
+abbrev pub rows_of : List Held → List PassState
 rows_of hs = map (λ h. h.row) hs
 
 -- They are those of all processors, in order.
@@ -188,20 +240,22 @@ new_passes zero = []
 new_passes (suc n) = new_passes n ++ held n new_row ∷ []
 
 -- what stands in their lists, with the processor in whose list it stands
-abbrev pub all_stored : List Held → List (ℕ × Notice)
+abbrev pub all_stored : List Held → List (ℕ × PassEvent)
 all_stored [] = []
-all_stored (h ∷ hs) = map (λ n. (h.processor, n)) h.row.notices ++ all_stored hs
+all_stored (h ∷ hs) = map (λ n. (h.processor, n)) h.row.pass_events ++ all_stored hs
 
--- However entries are told apart, as many stand in the passes' lists as the steps behind the first ones gave.
+-- Whatever property entries are counted by, as many stand in the passes' lists as the steps after the first ones gave.
 abbrev pub TotalsAgree : MachineLists → (first : List Step) → List Step → List Held → Type 0
-TotalsAgree opening first steps hs = (test : ℕ × Notice → Bool) → count_by test (all_stored hs) ≡ count_by test (all_since opening first steps)
+TotalsAgree opening first steps hs = (test : ℕ × PassEvent → Bool) →
+    count_by test (all_stored hs) ≡ count_by test (all_since opening first steps)
 
--- ---- the desk
+-- ---- the locked state
 
--- the log, as it is with all cores back as they were lent, what every pass stores, and what is known of the cores that are away
-pub record Sheet : Type 0 where
+-- the log, as it is with all cores back as they were lent, what every pass stores, and what is known of the cores that
+-- are away
+pub record LockedStateModel : Type 0 where
   pub log : Log
-  pub rows : List Row
+  pub rows : List PassState
   pub lent : List (Option Lent)
 
 -- how many instructions a core is lent for
@@ -209,20 +263,22 @@ abbrev pub most_of : Option Lent → Option ℕ
 most_of None = None
 most_of (Some l) = Some l.most
 
--- The log has answered a step at this place, and the row of p was told.
-pub record IsAnswered (old : Log) (p : ℕ) (r : Row) (s : Step) (place : ℕ) (new : Log) (r' : Row) : Type 0 where
+-- The log has answered a step at this place, and the row of p has the answer.
+pub record IsAnswered (old : Log) (p : ℕ) (r : PassState) (s : Step) (place : ℕ) (new : Log)
+    (r' : PassState) : Type 0 where
   pub outcome : Outcome
   pub answer : outcome ≡ answer_after old.opening old.steps s
   pub opening : new.opening ≡ old.opening
   pub config : new.machine.config ≡ old.machine.config
   pub steps : new.steps ≡ entered old.steps s outcome
-  pub row : r' ≡ told p r s outcome place
+  pub row : r' ≡ with_answer p r s outcome place
 
--- What always holds under the lock: the log is of this opening, which has so many processors, and the rows fit its steps.
-pub record IsAgreed (opens : MachineLists) (first : List Step) (many : ℕ) (s : Sheet) : Type 0 where
+-- What always holds under the lock: the log is of this opening, which has this many processors, and the rows fit its
+-- steps.
+pub record IsAgreed (opens : MachineLists) (first : List Step) (many : ℕ) (s : LockedStateModel) : Type 0 where
   pub opening : s.log.opening ≡ opens
   pub config : s.log.machine.config ≡ opens.config
   pub count : many ≡ 2 ^ opens.config.k
   pub fits : Fits opens first many s.log.steps s.rows
-  -- a core is away exactly where its pass says so
-  pub loans : (p : ℕ) (r : Row) → slice_get s.rows p ≡ Some r → r.lent ≡ most_of (lent_at s.lent p)
+  -- a core is away exactly if its pass says so
+  pub loans : (p : ℕ) (r : PassState) → slice_get s.rows p ≡ Some r → r.lent ≡ most_of (lent_at s.lent p)

@@ -31,7 +31,7 @@ pub fn is_stop(outcome: &Outcome) -> bool
     matches!(outcome, Outcome::Stopped(_))
 }
 
-/// Whether its processor waits behind such a turn: it has begun a reference, or stalled.
+/// Whether its processor waits after such a turn: it has begun a reference, or stalled.
 pub fn is_waiting(outcome: &Outcome) -> bool
     ensures { result ≡ is_waiting outcome.now }
 {

@@ -9,13 +9,14 @@ pub fn places_rise()
 {}
 
 /// The list over some steps and then others is the list over the ones, and then the list over the others.
-#[tactic(auto, using(crate::proofs::Lists::notices_joined))]
+#[tactic(auto, using(crate::proofs::Lists::pass_events_joined))]
 pub fn lists_are_joined()
     ensures joined { ListsAreJoined }
 {}
 
-/// A processor's list has the events that the outcomes of the steps tell of it. So by the law
-/// [`machine_steps::runs_are_serialized`] they are events that the flat machine shows by the serial order, in that order.
+/// A processor's list has the events that the outcomes of the steps have for it. So by the law
+/// [`machine_steps::runs_are_serialized`] they are events that the flat machine shows by the serial order, in that
+/// order.
 #[tactic(auto, using(crate::proofs::Listing::events_are_listed))]
 pub fn events_are_listed()
     ensures listed { EventsAreListed }

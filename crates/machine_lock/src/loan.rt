@@ -31,14 +31,20 @@ impl<N: Run> Model for Loan<N> {
 
     ghost Value = { LoanState };
 
-    ghost view = { λ l. record { processor = l.processor; record_is = l.record; core = l.core; retired = l.retired.items } };
+    ghost view = { λ l. record {
+      processor = l.processor;
+      record_is = l.record;
+      core = l.core;
+      retired = l.retired.items;
+    } };
 
-    ghost invariant = { λ l. (arc_value l.code ≡ N.opening.code) × (l.retired.most ≡ l.record.most) × IsLoan N.opening.code l.record l.core l.retired };
+    ghost invariant = { λ l. (arc_value l.code ≡ N.opening.code) × (l.retired.most ≡ l.record.most)
+        × IsLoan N.opening.code l.record l.core l.retired };
 }
 
 impl<N: Run> Loan<N> {
-    /// Takes local instructions, up to the first that gives the console a byte. It ends before an instruction that is not local,
-    /// and where as many are taken as the core was lent for, in all calls. No memory is taken.
+    /// Takes local instructions, up to the first that gives the console a byte. It ends before an instruction that is
+    /// not local, and where as many are taken as the core was lent for, in all calls. No memory is taken.
     #[inline(always)]
     pub fn run_local(&mut self) -> LocalEnd
         ensures { HasGoneOn N.opening.code self.old self.new result }

@@ -2,20 +2,20 @@
 
 ghost use Rattle.std.specs.Prelude.{◌≡◌, is_some};
 
-use crate::row::{Answer, Notice, Row};
+use crate::row::{Answer, PassEvent, PassState};
 use crate::run::Run;
-use crate::stored::Stored;
-use ghost_map::Claim;
+use crate::stored::PassStateVec;
+use ghost_map::Fragment;
 use std::marker::Model;
 
-/// The pass of one processor: its retirements and its stop, how many steps the calls with it have entered, and their last
-/// answer. Contracts see it as the processor's number and that row, which is the row that is known under the lock. Where the
-/// core is lent, there is room for what it may retire.
+/// The pass of one processor: its retirements and its stop, how many steps the calls with it have entered, and their
+/// last answer. Contracts see it as the processor's number and that row, which is the row that is known under the
+/// lock. Where the core is lent, there is room for what it may retire.
 #[derive(Drop)]
 pub struct Pass<N: Run> {
     pub(crate) processor: u8,
-    pub(crate) stored: Stored,
-    pub(crate) claim: Claim<Row, N>,
+    pub(crate) stored: PassStateVec,
+    pub(crate) fragment: Fragment<PassState, N>,
 }
 
 impl<N: Run> Model for Pass<N> {
@@ -26,13 +26,14 @@ impl<N: Run> Model for Pass<N> {
 
     ghost view = { λ p. held p.processor (row_of p.stored) };
 
-    ghost invariant = { λ p. (p.claim ≡ (p.processor, row_of p.stored) ∷ [])
-        × ((most : ℕ) → p.stored.lent ≡ Some most → vec_len p.stored.notices + most ≤ vec_capacity p.stored.notices) };
+    ghost invariant = { λ p. (p.fragment ≡ (p.processor, row_of p.stored) ∷ [])
+        × ((most : ℕ) → p.stored.lent ≡ Some most →
+        vec_len p.stored.pass_events + most ≤ vec_capacity p.stored.pass_events) };
 }
 
 impl<N: Run> Pass<N> {
-    /// Makes room for what so many turns can give, if there is memory for it. So nothing is asked of the allocator for it under
-    /// the lock.
+    /// Makes room for what this many turns can give, if there is memory for it. So nothing is asked of the allocator
+    /// for it under the lock.
     pub(crate) fn make_room(&mut self, turns: usize)
         ensures { self.new ≡ self.old }
     {
@@ -61,10 +62,10 @@ impl<N: Run> Pass<N> {
     }
 
     /// The processor's retirements and its stop, in order, each with its place in the log.
-    pub fn notices(&self) -> &[Notice]
-        ensures { result.now ≡ self.now.row.notices }
+    pub fn pass_events(&self) -> &[PassEvent]
+        ensures { result.now ≡ self.now.row.pass_events }
     {
-        self.stored.notices.as_slice()
+        self.stored.pass_events.as_slice()
     }
 
     /// How many steps the calls with this pass have entered.

@@ -6,7 +6,7 @@ use steps::{Outcome, Step};
 
 /// A retirement or a stop of a processor, with its place: how many steps the log had before it.
 #[derive(Clone, Copy, Debug, PartialEq, Eq, Drop)]
-pub struct Notice {
+pub struct PassEvent {
     pub event: Event,
     pub place: u32,
 }
@@ -21,8 +21,8 @@ pub struct Answer {
 
 /// All that a pass stores: its processor's retirements and its stop, how many steps its calls have entered, the last
 /// answer, and for how many instructions its processor's core is lent, where it is. No value of it is made.
-pub struct Row {
-    pub notices: LinkedList<Notice>,
+pub struct PassState {
+    pub pass_events: LinkedList<PassEvent>,
     pub steps: u32,
     pub last: Option<Answer>,
     pub lent: Option<u32>,

@@ -1,11 +1,11 @@
 //! What names a run of threads.
 
-use crate::row::Row;
+use crate::row::PassState;
 use ghost_map::{Naming, Next};
 use std::marker::Brand;
 
-/// A run of threads on a logged machine: its table of rows, the machine's opening, the steps that were taken before, and how many
-/// processors there are. Each call of a program picks them, in proofs alone.
+/// A run of threads on a logged machine: its table of rows, the machine's opening, the steps that were taken before,
+/// and how many processors there are. Each call of a program picks them, in proofs alone.
 pub trait Run: Naming {
     ghost use Rattle.std.specs.Prelude.{ℕ, List};
     ghost use Rattle.machine_steps.specs.Machines.{MachineLists};
@@ -29,7 +29,7 @@ impl Run for Brand {
     ghost count = { 0 };
 }
 
-impl Next<Row> for Brand {
+impl Next<PassState> for Brand {
     ghost use Rattle.machine_lock.specs.Rows.{new_row};
 
     ghost next = { new_row };

@@ -1,17 +1,20 @@
 //! The lock, and the calls of threads.
 
-ghost use Rattle.std.specs.Prelude.{◌≡◌, ◌≤◌, ◌^◌, ◌↔◌, length, is_some, true, false, None, Ok, Err, IfOk, IfErr, OnOk, OnErr};
+ghost use Rattle.std.specs.Prelude.{◌≡◌, ◌≤◌, ◌^◌, ◌↔◌, length, is_some, true, false, None, Ok, Err, IfOk, IfErr, OnOk};
+ghost use Rattle.std.specs.Prelude.{OnErr};
 ghost use Rattle.machine_lock.specs.Lists.{is_net};
 ghost use Rattle.machine_lock.specs.Rows.{Fits};
-ghost use Rattle.machine_lock.specs.Passes.{HasEnded, HaveGone, IsLentOn, IsLoanOf, IsReturned, IsTold, IsTurned, IsWhole, TotalsAgree, new_passes, rows_of};
+ghost use Rattle.machine_lock.specs.Passes.{HasEnded, HaveGone, IsLentOn, IsLoanOf, IsReturned, HasAnswered, IsTurned};
+ghost use Rattle.machine_lock.specs.Passes.{UnderLock};
+ghost use Rattle.machine_lock.specs.Passes.{IsWhole, TotalsAgree, new_passes, rows_of};
 
-use crate::desk::{Desk, Rounds};
 use crate::loan::Loan;
+use crate::locked_state::{LockedState, Rounds};
 use crate::pass::Pass;
-use crate::row::Row;
+use crate::row::PassState;
 use crate::run::Run;
-use crate::stored::Stored;
-use ghost_map::{Keeper, Room};
+use crate::stored::PassStateVec;
+use ghost_map::{Authority, NewTable};
 use hart::Retirements;
 use machine_log::{Lending, LockRefusal, Logged};
 use std::alloc::Global;
@@ -21,33 +24,35 @@ use std::sync::{Mutex, MutexGuard, Wait};
 use std::thread::yield_now;
 use steps::{Outcome, Step};
 
-/// How often a thread looks for the lock, before it lets other threads run. Between two looks it waits, and each time twice as long.
+/// How often a thread looks for the lock, before it lets other threads run. Between two looks it waits, and each time
+/// twice as long.
 const LOOKS: u32 = 4;
 
-/// How long it waits behind its first look, in turns of a loop that does nothing: one to ten microseconds, by the processor. The machine's memory takes
-/// longer to come from one processor of the host to another than a round does, so it is better that who has it goes through many.
+/// How long it waits after its first look, in turns of a loop that does nothing: one to ten microseconds, by the
+/// processor. The machine's memory takes longer to come from one processor of the host to another than a round does,
+/// so it is better that who has it goes through many.
 const WAIT: u32 = 256;
 
 /// How often it then lets others run, before it sleeps until it is called.
 const YIELDS: u32 = 16;
 
-/// A logged machine that threads share. A call waits for the lock, and then takes one step or goes through rounds, or lends a core or takes
-/// one back.
+/// A logged machine that threads share. A call waits for the lock, and then takes one step or goes through rounds, or
+/// lends a core or takes one back.
 #[derive(Drop)]
 pub struct Shared<N: Run> {
-    desk: Mutex<Desk<N>>,
+    locked_state: Mutex<LockedState<N>>,
 }
 
 impl<N: Run> Shared<N> {
-    /// Puts a logged machine under a lock, with a pass for each processor, in order. The room is for the table of rows, which
-    /// proofs speak of.
+    /// Puts a logged machine under a lock, with a pass for each processor, in order. The room is for the table of
+    /// rows, which proofs speak of.
     ///
     /// # Errors
     ///
     /// [`LockRefusal::Memory`] where there is no memory for the passes; the logged machine is handed back as it was.
     pub fn new(
         alloc: Global,
-        room: Room<Row>,
+        room: NewTable<PassState>,
         logged: Logged,
     ) -> Result<(Shared<N>, Vec<Pass<N>>), (Logged, LockRefusal)>
         requires room { room ≡ N.table }
@@ -59,7 +64,7 @@ impl<N: Run> Shared<N> {
         ensures err { IfErr result (λ e. (e.0 ≡ logged) × (e.1 ≡ LockRefusal.Memory)) }
     {
         let count = logged.machine().config().processors();
-        let mut keeper: Keeper<Row, N> = Keeper::open(room);
+        let mut authority: Authority<PassState, N> = Authority::open(room);
         let mut passes = Vec::new(alloc);
         if passes.reserve(count as usize).is_err() {
             return Err((logged, LockRefusal::Memory));
@@ -69,31 +74,33 @@ impl<N: Run> Shared<N> {
             Err(logged) => return Err((logged, LockRefusal::Memory)),
         };
         for p in 0..count {
-            let claim = keeper.hire::<Brand>();
+            let fragment = authority.allocate::<Brand>();
             passes.push_reserved(Pass {
                 processor: p,
-                stored: Stored {
-                    notices: Vec::new(alloc),
+                stored: PassStateVec {
+                    pass_events: Vec::new(alloc),
                     steps: 0,
                     last: None,
                     lent: None,
                 },
-                claim,
+                fragment,
             });
         }
-        let desk = Mutex::new(Desk { lending, keeper });
-        Ok((Shared { desk }, passes))
+        let locked_state = Mutex::new(LockedState { lending, authority });
+        Ok((Shared { locked_state }, passes))
     }
 
-    /// Takes one turn of the pass's processor, and enters it in the log unless it stalled. The answer is told to the pass. While the
-    /// core is lent, it stalls, and the pass is not told.
+    /// Takes one turn of the pass's processor, and enters it in the log unless it stalled. The pass stores the answer.
+    /// While the core is lent, it stalls, and the pass stores nothing.
     ///
     /// # Errors
     ///
-    /// [`LockRefusal::Full`] where the log has [`steps::MAX_STEPS`] steps with those that are promised, else [`LockRefusal::Memory`]
-    /// where there is no memory for a place in the pass or in the log. Each leaves all as it was.
+    /// [`LockRefusal::Full`] where the log has [`steps::MAX_STEPS`] steps with those that are promised, else
+    /// [`LockRefusal::Memory`] where there is no memory for a place in the pass or in the log. Each leaves all as it
+    /// was.
     pub fn turn<R: Wait>(&self, rt: &R, pass: &mut Pass<N>) -> Result<Outcome, LockRefusal>
-        ensures told { IfOk result (λ o. IsTurned pass.old.row.lent (length N.first) pass.old o pass.new) }
+        ensures answered { IfOk result (λ o. UnderLock N.first pass.old pass.new
+            (λ from to. IsTurned pass.old.row.lent N.opening from o to)) }
         ensures named { result ≡ Err LockRefusal.Unnamed → ⊥ }
         ensures not_free { result ≡ Err LockRefusal.NotFree → ⊥ }
         ensures lent { is_some pass.old.row.lent ≡ true → result ≡ Ok Outcome.Stalled }
@@ -101,11 +108,13 @@ impl<N: Run> Shared<N> {
         ensures processor { pass.new.processor ≡ pass.old.processor }
     {
         pass.make_room(1);
-        self.take(rt).turn(pass)
+        let mut locked_state = self.take(rt);
+        locked_state.is_agreed();
+        locked_state.turn(pass)
     }
 
-    /// Lends the core of the pass's processor: it can take so many local instructions at most, without the lock. As many places are
-    /// promised in the log.
+    /// Lends the core of the pass's processor: it can take this many local instructions at most, without the lock. As
+    /// many places are promised in the log.
     ///
     /// # Errors
     ///
@@ -134,8 +143,9 @@ impl<N: Run> Shared<N> {
         self.take(rt).lend(pass, most, list)
     }
 
-    /// Takes a loan back that was lent on the pass: a turn of the processor is entered for each instruction that it has retired, and told
-    /// to the pass. The places that were promised beyond these are free again. No memory is taken.
+    /// Takes a loan back that was lent on the pass: a turn of the processor is entered for each instruction that it
+    /// has retired, and stored to the pass. The places that were promised beyond these are free again. No memory is
+    /// taken.
     ///
     /// # Errors
     ///
@@ -148,54 +158,64 @@ impl<N: Run> Shared<N> {
         loan: Loan<N>,
     ) -> Result<(), Loan<N>>
         requires { IsLoanOf pass.old loan }
-        ensures back { OnOk result (IsReturned (length N.first) pass.old loan.retired pass.new) }
+        ensures back { OnOk result (UnderLock N.first pass.old pass.new
+            (λ from to. IsReturned N.opening from loan.retired to)) }
         ensures handed { IfErr result (λ handed. handed ≡ loan) }
         ensures err { OnErr result (pass.new ≡ pass.old) }
         ensures processor { pass.new.processor ≡ pass.old.processor }
     {
-        self.take(rt).give_back(pass, loan)
+        let mut locked_state = self.take(rt);
+        locked_state.is_agreed();
+        locked_state.give_back(pass, loan)
     }
 
-    /// Takes one move of the network, or one service by a module, and enters it in the log unless it stalled. The answer is
-    /// told to the pass.
+    /// Takes one move of the network, or one service by a module, and enters it in the log unless it stalled. The pass
+    /// stores the answer.
     ///
     /// # Errors
     ///
-    /// [`LockRefusal::Unnamed`] where the step is a turn or a poke, or the machine has not each place that it names, else
-    /// [`LockRefusal::Full`] where the log has [`steps::MAX_STEPS`] steps, else [`LockRefusal::Memory`] where there is no memory
-    /// for a place in the log. Each leaves all as it was.
+    /// [`LockRefusal::Unnamed`] where the step is a turn or a poke, or the machine has not each place that it names,
+    /// else [`LockRefusal::Full`] where the log has [`steps::MAX_STEPS`] steps, else [`LockRefusal::Memory`] where
+    /// there is no memory for a place in the log. Each leaves all as it was.
     pub fn net<R: Wait>(
         &self,
         rt: &R,
         pass: &mut Pass<N>,
         step: Step,
     ) -> Result<Outcome, LockRefusal>
-        ensures told { IfOk result (λ o. IsTold (length N.first) pass.old step o pass.new) }
+        ensures answered { IfOk result (λ o. UnderLock N.first pass.old pass.new
+            (λ from to. HasAnswered N.opening from step o to)) }
         ensures unnamed { (result ≡ Err LockRefusal.Unnamed) ↔ (is_net N.opening.config step ≡ false) }
         ensures not_free { result ≡ Err LockRefusal.NotFree → ⊥ }
         ensures err { OnErr result (pass.new ≡ pass.old) }
         ensures processor { pass.new.processor ≡ pass.old.processor }
     {
-        self.take(rt).net(pass, step)
+        let mut locked_state = self.take(rt);
+        locked_state.is_agreed();
+        locked_state.net(pass, step)
     }
 
-    /// Goes through rounds, with no other thread's step between them. A round takes a turn of the pass's processor, as [`Shared::turn`] does and
-    /// then, unless that has stopped the processor, the next of these steps, as [`Shared::net`] does. They end with one that does not leave the
-    /// processor waiting, since its turn has retired an instruction or stopped it, or something was refused, and where no step is left.
+    /// Goes through rounds, with no other thread's step between them. A round takes a turn of the pass's processor, as
+    /// [`Shared::turn`] does and then, unless that has stopped the processor, the next of these steps, as
+    /// [`Shared::net`] does. They end with one that does not leave the processor waiting, since its turn has retired
+    /// an instruction or stopped it, or something was refused, and where no step is left.
     #[inline(always)]
     pub fn rounds<R: Wait>(&self, rt: &R, pass: &mut Pass<N>, steps: &[Step]) -> Rounds
         requires some { 1 ≤ length steps.now }
-        ensures told { HaveGone (length N.first) N.opening.config pass.old steps.now result.gone result.answer pass.new }
+        ensures answered { UnderLock N.first pass.old pass.new
+            (λ from to. HaveGone N.opening from steps.now result to) }
         ensures named { result.answer ≡ Err LockRefusal.Unnamed → ⊥ }
         ensures not_free { result.answer ≡ Err LockRefusal.NotFree → ⊥ }
         ensures processor { pass.new.processor ≡ pass.old.processor }
     {
         pass.make_room(1);
-        self.take(rt).rounds(pass, steps)
+        let mut locked_state = self.take(rt);
+        locked_state.is_agreed();
+        locked_state.rounds(pass, steps)
     }
 
-    /// Takes a loan back, as [`Shared::give_back`] does, and then goes through rounds, as [`Shared::rounds`] does, with no other thread's step
-    /// between them.
+    /// Takes a loan back, as [`Shared::give_back`] does, and then goes through rounds, as [`Shared::rounds`] does,
+    /// with no other thread's step between them.
     ///
     /// # Errors
     ///
@@ -210,47 +230,50 @@ impl<N: Run> Shared<N> {
     ) -> Result<Rounds, Loan<N>>
         requires loan { IsLoanOf pass.old loan }
         requires some { 1 ≤ length steps.now }
-        ensures told { IfOk result (λ r. HasEnded (length N.first) N.opening.config pass.old loan.retired steps.now r.gone r.answer pass.new) }
+        ensures answered { IfOk result (λ rounds.
+            UnderLock N.first pass.old pass.new (λ from to. HasEnded N.opening from loan.retired steps.now rounds to)) }
         ensures handed { IfErr result (λ handed. handed ≡ loan) }
         ensures err { OnErr result (pass.new ≡ pass.old) }
         ensures processor { pass.new.processor ≡ pass.old.processor }
     {
-        let mut desk = self.take(rt);
-        desk.give_back(pass, loan)?;
-        Ok(desk.rounds(pass, steps))
+        let mut locked_state = self.take(rt);
+        locked_state.is_agreed();
+        locked_state.give_back(pass, loan)?;
+        Ok(locked_state.rounds(pass, steps))
     }
 
-    /// The desk, once no other thread has it.
+    /// The locked state, once no other thread has it.
     #[inline(always)]
-    fn take<R: Wait>(&self, rt: &R) -> MutexGuard<'_, Desk<N>> {
-        match self.desk.try_lock() {
-            Some(desk) => desk,
+    fn take<R: Wait>(&self, rt: &R) -> MutexGuard<'_, LockedState<N>> {
+        match self.locked_state.try_lock() {
+            Some(locked_state) => locked_state,
             None => self.wait(rt),
         }
     }
 
-    /// The desk, which another thread has. It is soon given back, so a thread looks again before it sleeps: to be called costs more than a
-    /// step.
+    /// The locked state, which another thread has. It is soon given back, so a thread looks again before it sleeps: to
+    /// be called costs more than a step.
     #[inline(never)]
-    fn wait<R: Wait>(&self, rt: &R) -> MutexGuard<'_, Desk<N>> {
+    fn wait<R: Wait>(&self, rt: &R) -> MutexGuard<'_, LockedState<N>> {
         for look in 0..LOOKS {
             for _ in 0..WAIT << look {
                 spin_loop();
             }
-            if let Some(desk) = self.desk.try_lock() {
-                return desk;
+            if let Some(locked_state) = self.locked_state.try_lock() {
+                return locked_state;
             }
         }
         for _ in 0..YIELDS {
             yield_now();
-            if let Some(desk) = self.desk.try_lock() {
-                return desk;
+            if let Some(locked_state) = self.locked_state.try_lock() {
+                return locked_state;
             }
         }
-        self.desk.lock(rt)
+        self.locked_state.lock(rt)
     }
 
-    /// The logged machine, once all passes are back, in their order. A core that is still lent is put back as it was lent.
+    /// The logged machine, once all passes are back, in their order. A core that is still lent is put back as it was
+    /// lent.
     pub fn gather(self, mut passes: Vec<Pass<N>>) -> (Logged, Vec<Pass<N>>)
         requires { IsWhole N.count passes.items }
         ensures passes { result.1.items ≡ passes.items }
@@ -258,11 +281,11 @@ impl<N: Run> Shared<N> {
         ensures fits { Fits N.opening N.first N.count result.0.steps (rows_of passes.items) }
         ensures totals { TotalsAgree N.opening N.first result.0.steps passes.items }
     {
-        let Shared { desk } = self;
-        let mut desk = desk.into_inner();
+        let Shared { locked_state } = self;
+        let mut locked_state = locked_state.into_inner();
         for pass in passes.iter_mut() {
-            desk.meet(pass);
+            locked_state.sync_row(pass);
         }
-        (desk.into_logged(), passes)
+        (locked_state.into_logged(), passes)
     }
 }

@@ -1,67 +1,68 @@
-//! What a pass stores, and how it is told of an answer.
+//! What a pass stores, and how it stores an answer.
 
 ghost use Rattle.std.specs.Prelude.{◌≡◌, ℕ, ◌<◌, ◌≤◌, ◌+◌, ◌^◌, ◌++◌, true, length, Some, vec_len, vec_capacity};
 ghost use Rattle.machine_lock.specs.Lists.{given_to, is_turn_of};
-ghost use Rattle.machine_lock.specs.Rows.{counted, told, told_all};
+ghost use Rattle.machine_lock.specs.Rows.{counted, with_answer, with_retirements};
 ghost use Rattle.machine_lock.specs.Passes.{row_of};
 
 use crate::kinds::{counts, is_turn_of};
-use crate::row::{Answer, Notice};
+use crate::row::{Answer, PassEvent};
 use flat_machine::{Cause, Event, Retired};
 use steps::{Outcome, Step};
 
-/// What a pass stores: the [`crate::Row`] of its processor.
+/// What a pass stores: the [`crate::PassState`] of its processor.
 #[derive(Drop)]
-pub struct Stored {
-    pub(crate) notices: Vec<Notice>,
+pub struct PassStateVec {
+    pub(crate) pass_events: Vec<PassEvent>,
     pub(crate) steps: u32,
     pub(crate) last: Option<Answer>,
     pub(crate) lent: Option<u32>,
 }
 
-/// What a notice is written over with that is to come.
-const BLANK: Notice = Notice {
+/// What a event is written over with that is to come.
+const BLANK: PassEvent = PassEvent {
     event: Event::Stopped(Cause::Halt(0)),
     place: 0,
 };
 
-impl Stored {
-    /// Makes room for so many notices more, if there is memory for them.
-    pub(crate) fn make_room(&mut self, notices: usize)
+impl PassStateVec {
+    /// Makes room for this many events more, if there is memory for them.
+    pub(crate) fn make_room(&mut self, pass_events: usize)
         ensures row { row_of self.new ≡ row_of self.old }
-        ensures capacity { vec_capacity self.old.notices ≤ vec_capacity self.new.notices }
+        ensures capacity { vec_capacity self.old.pass_events ≤ vec_capacity self.new.pass_events }
     {
-        let _ = self.notices.reserve(notices);
+        let _ = self.pass_events.reserve(pass_events);
     }
 
-    /// Makes room for so many notices more, if there is memory for them, and writes there: the system gives memory where it is first
-    /// written, which takes as long as a dozen notices, and is not to be waited for under the lock.
-    pub(crate) fn make_warm_room(&mut self, notices: usize)
+    /// Makes room for this many events more, if there is memory for them, and writes there: the system gives memory
+    /// where it is first written, which takes as long as a dozen events, and is not to be waited for under the lock.
+    pub(crate) fn make_warm_room(&mut self, pass_events: usize)
         ensures row { row_of self.new ≡ row_of self.old }
-        ensures capacity { vec_capacity self.old.notices ≤ vec_capacity self.new.notices }
+        ensures capacity { vec_capacity self.old.pass_events ≤ vec_capacity self.new.pass_events }
     {
-        let count = self.notices.len();
-        if self.notices.reserve(notices).is_ok() {
-            let _ = self.notices.resize(count + notices, BLANK);
-            self.notices.truncate(count);
+        let count = self.pass_events.len();
+        if self.pass_events.reserve(pass_events).is_ok() {
+            let _ = self.pass_events.resize(count + pass_events, BLANK);
+            self.pass_events.truncate(count);
         }
     }
 
-    /// Whether there is room for so many notices more.
+    /// Whether there is room for this many events more.
     #[inline(always)]
-    pub(crate) fn has_room_for(&self, notices: usize) -> bool
-        ensures { result ≡ true → vec_len self.now.notices + notices ≤ vec_capacity self.now.notices }
+    pub(crate) fn has_room_for(&self, pass_events: usize) -> bool
+        ensures { result ≡ true → vec_len self.now.pass_events + pass_events ≤ vec_capacity self.now.pass_events }
     {
-        self.notices.capacity() - self.notices.len() >= notices
+        self.pass_events.capacity() - self.pass_events.len() >= pass_events
     }
 
     /// Whether there is room for what the step can give.
     #[inline(always)]
     pub(crate) fn has_room(&self, step: Step) -> bool
-        ensures { result ≡ true → (p : ℕ) → is_turn_of p step ≡ true → vec_len self.now.notices < vec_capacity self.now.notices }
+        ensures { result ≡ true → (p : ℕ) → is_turn_of p step ≡ true →
+            vec_len self.now.pass_events < vec_capacity self.now.pass_events }
     {
         match step {
-            Step::Turn(_) => self.notices.len() < self.notices.capacity(),
+            Step::Turn(_) => self.pass_events.len() < self.pass_events.capacity(),
             _ => true,
         }
     }
@@ -79,13 +80,14 @@ impl Stored {
 
     /// Stores an answer to a call with the pass of this processor. There is room for what it gave.
     #[inline(always)]
-    pub(crate) fn tell(&mut self, processor: u8, step: Step, outcome: &Outcome, place: u32)
-        requires room { (p : ℕ) → is_turn_of p step ≡ true → vec_len self.old.notices < vec_capacity self.old.notices }
+    pub(crate) fn store_answer(&mut self, processor: u8, step: Step, outcome: &Outcome, place: u32)
+        requires room { (p : ℕ) → is_turn_of p step ≡ true →
+            vec_len self.old.pass_events < vec_capacity self.old.pass_events }
         requires steps { self.old.steps + 1 < 2 ^ 32 }
-        ensures row { row_of self.new ≡ told processor (row_of self.old) step outcome.now place }
-        ensures capacity { vec_capacity self.new.notices ≡ vec_capacity self.old.notices }
+        ensures row { row_of self.new ≡ with_answer processor (row_of self.old) step outcome.now place }
+        ensures capacity { vec_capacity self.new.pass_events ≡ vec_capacity self.old.pass_events }
     {
-        append(&mut self.notices, processor, step, outcome, place);
+        append(&mut self.pass_events, processor, step, outcome, place);
         self.steps += counts(outcome);
         let outcome = *outcome;
         self.last = Some(Answer {
@@ -96,18 +98,18 @@ impl Stored {
     }
 }
 
-impl Stored {
+impl PassStateVec {
     /// Stores that turns of this processor have retired these instructions, from a place on. There is room for them.
     #[inline(always)]
-    pub(crate) fn tell_all(&mut self, processor: u8, retired: &[Retired], place: u32)
-        requires room { vec_len self.old.notices + length retired.now ≤ vec_capacity self.old.notices }
+    pub(crate) fn store_retirements(&mut self, processor: u8, retired: &[Retired], place: u32)
+        requires room { vec_len self.old.pass_events + length retired.now ≤ vec_capacity self.old.pass_events }
         requires steps { self.old.steps + length retired.now < 2 ^ 32 }
         requires places { place + length retired.now < 2 ^ 32 }
-        ensures { row_of self.new ≡ told_all processor (row_of self.old) place retired.now }
+        ensures { row_of self.new ≡ with_retirements processor (row_of self.old) place retired.now }
     {
         let mut place = place;
         for &retired in retired {
-            self.tell(
+            self.store_answer(
                 processor,
                 Step::Turn(processor),
                 &Outcome::Retired(retired),
@@ -120,20 +122,26 @@ impl Stored {
 
 // Appends what the step gave the processor. There is room for it.
 #[inline(always)]
-fn append(notices: &mut Vec<Notice>, processor: u8, step: Step, outcome: &Outcome, place: u32)
-    requires room { (p : ℕ) → is_turn_of p step ≡ true → vec_len notices.old < vec_capacity notices.old }
-    ensures given { notices.new.items ≡ notices.old.items ++ given_to processor place step outcome.now }
-    ensures capacity { vec_capacity notices.new ≡ vec_capacity notices.old }
+fn append(
+    pass_events: &mut Vec<PassEvent>,
+    processor: u8,
+    step: Step,
+    outcome: &Outcome,
+    place: u32,
+)
+    requires room { (p : ℕ) → is_turn_of p step ≡ true → vec_len pass_events.old < vec_capacity pass_events.old }
+    ensures given { pass_events.new.items ≡ pass_events.old.items ++ given_to processor place step outcome.now }
+    ensures capacity { vec_capacity pass_events.new ≡ vec_capacity pass_events.old }
 {
     if !is_turn_of(processor, step) {
         return;
     }
     match *outcome {
-        Outcome::Retired(retired) => notices.push_reserved(Notice {
+        Outcome::Retired(retired) => pass_events.push_reserved(PassEvent {
             event: Event::Retired(retired),
             place,
         }),
-        Outcome::Stopped(cause) => notices.push_reserved(Notice {
+        Outcome::Stopped(cause) => pass_events.push_reserved(PassEvent {
             event: Event::Stopped(cause),
             place,
         }),

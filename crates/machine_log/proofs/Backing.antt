@@ -6,6 +6,7 @@ use Rattle.machine_theory.specs.Processors.{no_port, port_at}
 use Rattle.machine_log.specs.Lendings.{all_back, lent_at, promised, with_lent}
 use Rattle.machine_log.specs.declared.lent.Lent.{Lent}
 
+-- With all cores back there are as many ports as before.
 pub back_length : (ports : List PortState) (lent : List (Option Lent)) → length (all_back ports lent) ≡ length ports
 unfolding all_back
 back_length [] lent = refl
@@ -16,6 +17,7 @@ none_there : (p : ℕ) → lent_at [] p ≡ None
 none_there zero = refl
 none_there (suc p) = refl
 
+-- With all cores back, a port has its core as it was lent, and is as before if its core was not away.
 pub back_at : (ports : List PortState) (lent : List (Option Lent)) (p : ℕ) → length lent ≡ length ports →
     port_at (all_back ports lent) p ≡ with_lent (port_at ports p) (lent_at lent p)
 unfolding all_back
@@ -42,6 +44,7 @@ back_none [] lent none = refl
 back_none (port ∷ ports) [] none = refl
 back_none (port ∷ ports) (l ∷ lent) none = ap₂ (λ (x : PortState) xs. x ∷ xs) (ap (with_lent port) (none 0)) (back_none ports lent (λ p. none (suc p)))
 
+-- In a list of `None`, no core is known to be away.
 pub replicate_none : (n p : ℕ) → lent_at (replicate n None) p ≡ None
 replicate_none zero p = none_there p
 replicate_none (suc n) zero = refl
@@ -73,6 +76,7 @@ found_at {X} xs i place d x same within is = is ∙ ap (λ j. slice_index_or xs 
 
 -- ---- promises
 
+-- If no core is away, no steps are promised.
 pub none_promised : (n : ℕ) → promised (replicate n None) ≡ 0
 unfolding promised
 none_promised zero = refl

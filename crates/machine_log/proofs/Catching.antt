@@ -22,14 +22,14 @@ use Rattle.machine_steps.proofs.Lemmas.messages.{put_other, put_same}
 use Rattle.machine_steps.proofs.Lemmas.{away_shut, core_put, count_small, home_running, put_is_machine, outcome_there}
 use Rattle.machine_steps.specs.machine_ports.Ports.{PortState, is_away}
 use Rattle.machine_theory.specs.Theory as theory
-use Rattle.machine_theory.specs.Processors.{Told, no_port, open_at, port_at, setting_of, told_at}
+use Rattle.machine_theory.specs.Processors.{ObservedCore, no_port, open_at, port_at, setting_of, observed_at}
 use Rattle.machine_theory.specs.Steps.{after, machine_of_parts, outcome_of}
 use Rattle.machine_steps.specs.Machines.{MachineLists, IsMachine, machine_of, with_core_at}
 use Rattle.machine_steps.proofs.Lemmas.machine_ports.{retires_stays}
 use Rattle.machine_steps.specs.Laws.{ReplaysAreJoined}
 use Rattle.machine_steps.specs.Runs.{NoneStalls, all_after, events_of, IsReplay}
 use Rattle.machine_theory.specs.Laws.{LocalTurnsCatchUp}
-use Rattle.machine_theory.specs.Loans.{after_all, answers_of, told_of, turns_of, with_core}
+use Rattle.machine_theory.specs.Loans.{after_all, answers_of, outcomes_of, turns_of, with_core}
 use Rattle.hart.specs.LocalRuns.{TakesLocal}
 use Rattle.machine_log.specs.Lendings.{AreAnswered, IsLending, lent_at, whole, with_lent, LendingLog}
 use Rattle.machine_log.specs.declared.lent.Lent.{Lent}
@@ -48,20 +48,20 @@ words_kept c p code before after (retired ∷ later) few within bytes words (nex
 
 -- ---- many steps
 
-all_same : (c : Config) (code : List ℕ) (ss : List Step) (M : theory.Machine Told) → after_all c code M ss ≡ all_after c code M ss
+all_same : (c : Config) (code : List ℕ) (ss : List Step) (M : theory.Machine ObservedCore) → after_all c code M ss ≡ all_after c code M ss
 unfolding all_after theory.machine_after after
 all_same c code [] M = refl
 all_same c code (s ∷ ss) M = all_same c code ss (after c code M s)
 
 -- what retires does not stall
-none_stalls : (c : Config) (code : List ℕ) (ss : List Step) (M : theory.Machine Told) (taken : List retirement.Retired) →
-    answers_of c code M ss ≡ told_of taken →
+none_stalls : (c : Config) (code : List ℕ) (ss : List Step) (M : theory.Machine ObservedCore) (taken : List retirement.Retired) →
+    answers_of c code M ss ≡ outcomes_of taken →
     NoneStalls c code M ss
 none_stalls c code [] M taken e = tt
 none_stalls c code (s ∷ ss) M [] e = absurd (cc)
 none_stalls c code (s ∷ ss) M (retired ∷ later) e =
     let first : outcome_of c code M s ≡ outcome.Retired retired = cc in
-    let rest : answers_of c code (after c code M s) ss ≡ told_of later = cc in
+    let rest : answers_of c code (after c code M s) ss ≡ outcomes_of later = cc in
     ((λ stalls. let no : outcome.Retired retired ≡ outcome.Stalled = sym first ∙ stalls in absurd (cc)), none_stalls c code ss (after c code M s) later rest)
 
 module _ (catches : LocalTurnsCatchUp) (V : MachineLists) (is : IsMachine V) (p : ℕ) (within : p < 2 ^ V.config.k) (shut : open_at V.ports p ≡ false)
@@ -71,14 +71,14 @@ module _ (catches : LocalTurnsCatchUp) (V : MachineLists) (is : IsMachine V) (p 
   turns = turns_of p (length taken)
 
   module _ (shown : ℕ → List Event) where
-    abbrev M : theory.Machine Told
+    abbrev M : theory.Machine ObservedCore
     M = machine_of V shown
 
     -- the core that has gone on
-    abbrev gone : Told
+    abbrev gone : ObservedCore
     gone = record { state = core.state; events = shown p ++ map event.Retired taken }
 
-    caught : (answers_of V.config V.code M turns ≡ told_of taken) × (after_all V.config V.code M turns ≡ with_core M p gone)
+    caught : (answers_of V.config V.code M turns ≡ outcomes_of taken) × (after_all V.config V.code M turns ≡ with_core M p gone)
     unfolding machine_of_parts
     caught = catches V.config V.code M p taken core.state within shut local
 
@@ -90,25 +90,26 @@ module _ (catches : LocalTurnsCatchUp) (V : MachineLists) (is : IsMachine V) (p 
     later = events_of (with_core M p gone)
 
     stands : (q : ℕ) → (q ≡ p) ⊎ (q ≡ p → ⊥) →
-        put {X = Told} (told_at V.ports later) p (record { state = core.state; events = later p }) q ≡ put {X = Told} (told_at V.ports shown) p gone q
+        put {X = ObservedCore} (observed_at V.ports later) p (record { state = core.state; events = later p }) q
+        ≡ put {X = ObservedCore} (observed_at V.ports shown) p gone q
     unfolding machine_of_parts
     stands q (inl same) =
-        ap (put {X = Told} (told_at V.ports later) p (record { state = core.state; events = later p })) same
-        ∙ put_same (told_at V.ports later) p (record { state = core.state; events = later p })
-        ∙ ap (λ (g : Told). record { state = core.state; events = g.events }) (put_same (told_at V.ports shown) p gone)
-        ∙ sym (put_same (told_at V.ports shown) p gone) ∙ ap (put {X = Told} (told_at V.ports shown) p gone) (sym same)
+        ap (put {X = ObservedCore} (observed_at V.ports later) p (record { state = core.state; events = later p })) same
+        ∙ put_same (observed_at V.ports later) p (record { state = core.state; events = later p })
+        ∙ ap (λ (g : ObservedCore). record { state = core.state; events = g.events }) (put_same (observed_at V.ports shown) p gone)
+        ∙ sym (put_same (observed_at V.ports shown) p gone) ∙ ap (put {X = ObservedCore} (observed_at V.ports shown) p gone) (sym same)
     stands q (inr other) =
-        put_other (told_at V.ports later) p (record { state = core.state; events = later p }) q other
-        ∙ ap (λ (g : Told). record { state = (port_at V.ports q).core.state; events = g.events }) (put_other (told_at V.ports shown) p gone q other)
-        ∙ sym (put_other (told_at V.ports shown) p gone q other)
+        put_other (observed_at V.ports later) p (record { state = core.state; events = later p }) q other
+        ∙ ap (λ (g : ObservedCore). record { state = (port_at V.ports q).core.state; events = g.events }) (put_other (observed_at V.ports shown) p gone q other)
+        ∙ sym (put_other (observed_at V.ports shown) p gone q other)
 
     there : machine_of (with_core_at V p core) later ≡ with_core M p gone
     unfolding machine_of_parts
     there = core_put V is p within core later
-        ∙ ap (λ (f : ℕ → Told). record { net = M.net; mem = M.mem; core = f; is_open = M.is_open }) (fun_ext (λ q. stands q (cases_eq q p)))
+        ∙ ap (λ (f : ℕ → ObservedCore). record { net = M.net; mem = M.mem; core = f; is_open = M.is_open }) (fun_ext (λ q. stands q (cases_eq q p)))
 
     pub run_there : machine_of (with_core_at V p core) (events_of (all_after V.config V.code M turns)) ≡ all_after V.config V.code M turns
-    run_there = ap (λ (N : theory.Machine Told). machine_of (with_core_at V p core) (events_of N)) behind_is ∙ there ∙ sym behind_is
+    run_there = ap (λ (N : theory.Machine ObservedCore). machine_of (with_core_at V p core) (events_of N)) behind_is ∙ there ∙ sym behind_is
 
   pub turns_replay : IsReplay V turns (with_core_at V p core)
   turns_replay = record {
@@ -116,8 +117,8 @@ module _ (catches : LocalTurnsCatchUp) (V : MachineLists) (is : IsMachine V) (p 
     moved = none_stalls V.config V.code turns (machine_of V (λ q. [])) taken (caught (λ q. [])).0;
   }
 
-  pub turns_told : answers_of V.config V.code (machine_of V (λ q. [])) turns ≡ told_of taken
-  turns_told = (caught (λ q. [])).0
+  pub turns_answered : answers_of V.config V.code (machine_of V (λ q. [])) turns ≡ outcomes_of taken
+  turns_answered = (caught (λ q. [])).0
 
 -- ---- one turn after another
 
@@ -129,7 +130,7 @@ module _ (catches : LocalTurnsCatchUp) (joined : ReplaysAreJoined) (opening : Ma
   each_answers V steps p setting last (retired ∷ later) is within shut same replay (next, one, more) =
       let core : CoreState = record { setting = setting; state = next } in
       let first : TakesLocal (setting_of V.config p) V.code (port_at V.ports p).core.state (retired ∷ []) next = (next, one, refl) in
-      let told = turns_told catches V is p within shut core (retired ∷ []) first in
+      let fact = turns_answered catches V is p within shut core (retired ∷ []) first in
       let here : outcome_of V.config V.code (machine_of V (λ q. [])) (step.Turn p) ≡ outcome.Retired retired = cc in
       let words = words_kept V.config p V.code (port_at V.ports p).core.state next (retired ∷ []) is.limits.stages within is.code (is.ports.words p) first in
       let runs = home_running V.config V.ports is.ports p one.runs in
@@ -151,12 +152,16 @@ module _ (catches : LocalTurnsCatchUp) (joined : ReplaysAreJoined) (opening : Ma
 pub record ComesBack (opening m : MachineLists) (steps : List Step) (capacity : ℕ) (lent : List (Option Lent)) (p : ℕ) (l : Lent) (core : CoreState)
     (taken : List retirement.Retired) : Type 0 where
   pub catches : LocalTurnsCatchUp
+  -- One replay after another is a replay.
   pub joined : ReplaysAreJoined
   pub is : IsLending opening m steps capacity lent
+  -- The core of p is away, and was lent as l says.
   pub away : IsAway m lent p l
+  -- The core that comes back has the setting with which it was lent.
   pub setting : core.setting ≡ l.core.setting
   pub home : is_away core.state ≡ false
   pub local : TakesLocal l.core.setting m.code l.core.state taken core.state
+  -- It has taken no more instructions than were promised.
   pub few : length taken ≤ l.most
 
 -- as a call finds it
@@ -200,14 +205,17 @@ module _ {opening m : MachineLists} {steps : List Step} {capacity : ℕ} {lent :
   local_there = subst (λ (x : Setting × Processor). TakesLocal x.0 m.code x.1 taken core.state)
       (λ i. (setting_is i, sym (ap (λ (x : PortState). x.core.state) port_is) i)) b.local
 
+  -- The core that comes back has words.
   pub core_words : HasWords core.state
   core_words = words_kept m.config p m.code l.core.state core.state taken b.is.sound.limits.stages b.away.within b.is.sound.code
       (b.is.away p l b.away.known).words
       (subst (λ s. TakesLocal s m.code l.core.state taken core.state) setting_is b.local)
 
+  -- A turn for each instruction taken leads the machine with all cores back to the one with this core at p.
   pub back_replay : IsReplay V (turns_of p (length taken)) (with_core_at V p core)
   back_replay = turns_replay b.catches V b.is.kept.sound p b.away.within shut core taken local_there
 
+  -- A turn for each instruction taken, after the steps of the log, retires it.
   pub back_answered : AreAnswered opening steps p taken
   back_answered =
       each_answers b.catches b.joined opening V steps p core.setting core.state taken b.is.kept.sound b.away.within shut
@@ -221,15 +229,17 @@ module _ {opening m : MachineLists} {steps : List Step} {capacity : ℕ} {lent :
   entered : length (steps ++ turns_of p (length taken)) ≡ length steps + length taken
   entered = length-append steps (turns_of p (length taken)) ∙ ap (λ n. length steps + n) (length-replicate (length taken) _)
 
+  -- If the core is put in, the machine with all cores back has it at p.
   pub whole_returned : (m' : MachineLists) → m' ≡ with_core_at m p core → whole m' (slice_set lent p None) ≡ with_core_at V p core
   whole_returned m' same = ap (λ x. whole x (slice_set lent p None)) same ∙ whole_set m lent long p core None
 
+  -- If the core is put in and a turn is entered for each instruction taken, the log is kept with one core fewer away.
   pub returned : (m' : MachineLists) (steps' : List Step) (capacity' : ℕ) → m' ≡ with_core_at m p core → IsMachine m' →
       steps' ≡ steps ++ turns_of p (length taken) → capacity' ≡ capacity → length steps ≤ capacity →
       IsLending opening m' steps' capacity' (slice_set lent p None)
   returned m' steps' capacity' same sound s c fits =
       let less = promise_less lent p l b.away.known in
-      let places = b.is.places in
+      let capacity_left = b.is.capacity_left in
       let room = b.is.room in
       let few = b.few in
       let count : length steps' ≡ length steps + length taken = ap length s ∙ entered in
@@ -243,4 +253,4 @@ module _ {opening m : MachineLists} {steps : List Step} {capacity : ℕ} {lent :
             (b.joined opening V (with_core_at V p core) steps (turns_of p (length taken)) b.is.kept.replay back_replay);
         room = omega (arith, count, less, room, few);
       })
-      (λ k f. absurd (cc)) (omega (arith, count, less, places, few, c, fits)) (omega (arith, count, less, room, few)))
+      (λ k f. absurd (cc)) (omega (arith, count, less, capacity_left, few, c, fits)) (omega (arith, count, less, room, few)))

@@ -13,7 +13,7 @@ use Rattle.flat_machine.specs.State.{is_running}
 use Rattle.machine_steps.specs.machine_ports.Ports.{PortState, is_away, no_processor}
 use Rattle.machine_theory.specs.Processors.{no_port, open_at, port_at}
 use Rattle.machine_steps.specs.Machines.{MachineLists, IsMachine, away_at, is_free, is_there, with_core_at, without_core_at}
-use Rattle.machine_log.specs.Logs.{IsKept}
+use Rattle.machine_log.specs.Logs.{IsWellFormed}
 use Rattle.machine_log.proofs.Taking.{kept_home}
 use Rattle.machine_log.specs.Lendings.{IsLending, IsLent, LendingLog, all_back, lent_at, may_lend, promised, whole, with_lent}
 use Rattle.machine_log.specs.declared.lent.Lent.{Lent}
@@ -37,6 +37,8 @@ other_core port None core = refl
 other_core port (Some k) core = refl
 
 module _ (m : MachineLists) (lent : List (Option Lent)) (same : length lent ≡ length m.ports) (p : ℕ) (core : CoreState) (l : Option Lent) where
+  -- With all cores back, a machine in which the core of p and what is known of it are replaced
+  -- is the one before with the core that counts at p.
   pub whole_set : whole (with_core_at m p core) (slice_set lent p l) ≡ with_core_at (whole m lent) p (counting core l)
   whole_set = ap (λ ports. record m { ports = ports })
       (back_set m.ports lent p (record (port_at m.ports p) { core = core }) l same
@@ -58,6 +60,7 @@ back_port m lent p same = back_at m.ports lent p same
 
 module _ (opening m : MachineLists) (steps : List Step) (capacity : ℕ) (lent : List (Option Lent)) (is : IsLending opening m steps capacity lent)
     (p : ℕ) (within : p < 2 ^ m.config.k) (core : CoreState) (l : Option Lent) where
+  -- The list of what is known of cores is as long as that of the ports.
   pub as_long : length lent ≡ length m.ports
   as_long = is.all ∙ sym is.sound.ports.all
 
@@ -66,15 +69,16 @@ module _ (opening m : MachineLists) (steps : List Step) (capacity : ℕ) (lent :
 
   -- it goes on to hold
   pub lends_so : (steps' : List Step) (capacity' : ℕ) → IsMachine (with_core_at m p core) →
-      IsKept (record { opening = opening; steps = steps'; machine = with_core_at (whole m lent) p (counting core l) }) →
+      IsWellFormed (record { opening = opening; steps = steps'; machine = with_core_at (whole m lent) p (counting core l) }) →
       ((k : Lent) → l ≡ Some k → IsLent (with_core_at m p core) p k) → promised (slice_set lent p l) ≤ capacity' - length steps' →
       length steps' + promised (slice_set lent p l) ≤ 4194304 → IsLending opening (with_core_at m p core) steps' capacity' (slice_set lent p l)
-  lends_so steps' capacity' sound kept here places room = record {
+  lends_so steps' capacity' sound kept here capacity_left room = record {
     sound = sound;
-    kept = subst (λ (x : MachineLists). IsKept (record { opening = opening; steps = steps'; machine = x })) (sym (whole_set m lent as_long p core l)) kept;
+    kept = subst (λ (x : MachineLists). IsWellFormed (record { opening = opening; steps = steps'; machine = x }))
+        (sym (whole_set m lent as_long p core l)) kept;
     all = length-set lent p l ∙ is.all;
     away = λ q k e. at q k e (cases_eq q p);
-    places = places;
+    capacity_left = capacity_left;
     room = room;
   }
     where
@@ -89,19 +93,23 @@ module _ (opening m : MachineLists) (steps : List Step) (capacity : ℕ) (lent :
 
 -- the core of p is away, and this is known of it
 pub record IsAway (m : MachineLists) (lent : List (Option Lent)) (p : ℕ) (l : Lent) : Type 0 where
+  -- The machine has this processor.
   pub within : p < 2 ^ m.config.k
+  -- The core is known to be away, and how it was lent.
   pub known : lent_at lent p ≡ Some l
 
 -- as a call finds it
 module _ {opening m : MachineLists} {steps : List Step} {capacity : ℕ} {lent : List (Option Lent)} (is : IsLending opening m steps capacity lent)
     {x : LendingLog} (view : record { log = record { opening = opening; steps = steps; machine = whole m lent }; lent = lent } ≡ x)
     {p : ℕ} (there : p < 2 ^ x.log.machine.config.k) where
+  -- If the list of a log that lends has an entry for the core of p, the core is away.
   pub known_away : {l : Lent} → lent_at x.lent p ≡ Some l → IsAway m lent p l
-  known_away told = record {
+  known_away fact = record {
     within = subst (λ (y : LendingLog). p < 2 ^ y.log.machine.config.k) (sym view) there;
-    known = ap (λ (y : LendingLog). lent_at y.lent p) view ∙ told;
+    known = ap (λ (y : LendingLog). lent_at y.lent p) view ∙ fact;
   }
 
+  -- If an entry for the core of p is found by its place in the list, the core is away.
   pub found_away : {place : ℕ} {found : Option Lent} {l : Lent} → place ≡ p → found ≡ slice_index_or lent place found → Some l ≡ found → IsAway m lent p l
   found_away {place} {found} {l} same at some =
       let within : p < 2 ^ m.config.k = subst (λ (y : LendingLog). p < 2 ^ y.log.machine.config.k) (sym view) there in
@@ -118,20 +126,22 @@ module _ {opening m : MachineLists} {steps : List Step} {capacity : ℕ} {lent :
       ap (with_core_at (whole m lent) p) (sym (ap (λ (x : PortState). x.core) (back_port m lent p long ∙ ap (with_lent (port_at m.ports p)) away.known)))
       ∙ same_core (whole m lent) p
 
+  -- If a core is put back as it was lent, the machine with all cores back is the same.
   pub whole_back : (m' : MachineLists) → m' ≡ with_core_at m p l.core → whole m' (slice_set lent p None) ≡ whole m lent
   whole_back m' same = ap (λ x. whole x (slice_set lent p None)) same ∙ whole_set m lent long p l.core None ∙ stands_so
 
+  -- If a core is put back as it was lent, the log is kept with one core fewer away.
   pub brought_back : (m' : MachineLists) → m' ≡ with_core_at m p l.core → IsMachine m' → IsLending opening m' steps capacity (slice_set lent p None)
   brought_back m' same sound =
       let less = promise_less lent p l away.known in
-      let places = is.places in
+      let capacity_left = is.capacity_left in
       let room = is.room in
       subst (λ x. IsLending opening x steps capacity (slice_set lent p None)) (sym same)
       (lends_so opening m steps capacity lent is p away.within l.core None steps capacity (subst IsMachine same sound)
-      (subst (λ (x : MachineLists). IsKept (record { opening = opening; steps = steps; machine = x })) (sym stands_so) is.kept)
-      (λ k f. absurd (cc)) (omega (arith, less, places)) (omega (arith, less, room)))
+      (subst (λ (x : MachineLists). IsWellFormed (record { opening = opening; steps = steps; machine = x })) (sym stands_so) is.kept)
+      (λ k f. absurd (cc)) (omega (arith, less, capacity_left)) (omega (arith, less, room)))
 
--- where none of so many is known to be away, all cores are back
+-- where none of this many is known to be away, all cores are back
 pub back_all : {opening m : MachineLists} {steps : List Step} {capacity : ℕ} {lent : List (Option Lent)} {x : LendingLog} {size : Config} {end n : ℕ} →
     IsLending opening m steps capacity lent → record { log = record { opening = opening; steps = steps; machine = whole m lent }; lent = lent } ≡ x →
     x.log.machine.config ≡ size → end ≡ 2 ^ size.k → end ≤ n → ((q : ℕ) → q < n → lent_at x.lent q ≡ None) → whole m lent ≡ m
@@ -172,7 +182,7 @@ module _ {opening m : MachineLists} {steps : List Step} {capacity : ℕ} {lent :
 
   -- as a call finds it
   pub found_free : {x : LendingLog} {b : Bool} → view ≡ x → (p : ℕ) → b ≡ may_lend x p → b ≡ true → is_free m p ≡ true
-  found_free same p told may = sym (free_is p) ∙ ap (λ (x : LendingLog). may_lend x p) same ∙ sym told ∙ may
+  found_free same p fact may = sym (free_is p) ∙ ap (λ (x : LendingLog). may_lend x p) same ∙ sym fact ∙ may
 
   module _ (p : ℕ) (free : is_free m p ≡ true) where
     parts : (is_there m p ≡ true) × (runs p ≡ true)
@@ -181,6 +191,7 @@ module _ {opening m : MachineLists} {steps : List Step} {capacity : ℕ} {lent :
     there_parts : (nat_lt p (2 ^ m.config.k) ≡ true) × (not (away_at m p) ≡ true)
     there_parts = and_parts (nat_lt p (2 ^ m.config.k)) (not (away_at m p)) parts.0
 
+    -- The machine has a processor that is free.
     pub free_within : p < 2 ^ m.config.k
     free_within = ltb-true p (2 ^ m.config.k) there_parts.0
 
@@ -210,18 +221,20 @@ module _ {opening m : MachineLists} {steps : List Step} {capacity : ℕ} {lent :
       stands_still : with_core_at (whole m lent) p l.core ≡ whole m lent
       stands_still = ap (with_core_at (whole m lent) p) (core_is ∙ sym free_core) ∙ same_core (whole m lent) p
 
+      -- If the core of p is taken out and known as it is, the machine with all cores back is the same.
       pub whole_out : (m' : MachineLists) → m' ≡ without_core_at m p → whole m' (slice_set lent p (Some l)) ≡ whole m lent
       whole_out m' same =
           ap (λ x. whole x (slice_set lent p (Some l))) same ∙ whole_set m lent long_enough p none (Some l) ∙ stands_still
 
+      -- If the core of p is lent with room for the steps promised to it, the log is kept with one core more away.
       pub lent_out : (m' : MachineLists) (capacity' : ℕ) → m' ≡ without_core_at m p → IsMachine m' → promised lent + l.most ≤ capacity' - length steps →
           length steps + (promised lent + l.most) ≤ 4194304 → IsLending opening m' steps capacity' (slice_set lent p (Some l))
-      lent_out m' capacity' same sound places room =
+      lent_out m' capacity' same sound capacity_left room =
           let more = promise_more lent p l (subst (λ n. p < n) (sym is.all) free_within) free_unlent in
           subst (λ x. IsLending opening x steps capacity' (slice_set lent p (Some l))) (sym same)
           (lends_so opening m steps capacity lent is p free_within none (Some l) steps capacity' (subst IsMachine same sound)
-          (subst (λ (x : MachineLists). IsKept (record { opening = opening; steps = steps; machine = x })) (sym stands_still) is.kept)
-          (λ k e. subst (IsLent (with_core_at m p none) p) (some_is e) here) (omega (arith, more, places)) (omega (arith, more, room)))
+          (subst (λ (x : MachineLists). IsWellFormed (record { opening = opening; steps = steps; machine = x })) (sym stands_still) is.kept)
+          (λ k e. subst (IsLent (with_core_at m p none) p) (some_is e) here) (omega (arith, more, capacity_left)) (omega (arith, more, room)))
         where
           some_is : {k : Lent} → Some l ≡ Some k → l ≡ k
           some_is e = cc

@@ -15,7 +15,7 @@ use Rattle.machine_steps.proofs.Lemmas.messages.{put_other, put_same}
 use Rattle.machine_steps.proofs.Lemmas.{past_end}
 use Rattle.machine_steps.specs.machine_ports.Ports.{PortState, is_away}
 use Rattle.machine_theory.specs.Theory as theory
-use Rattle.machine_theory.specs.Processors.{Told, open_at, port_at, told_at, word_at}
+use Rattle.machine_theory.specs.Processors.{ObservedCore, open_at, port_at, observed_at, word_at}
 use Rattle.machine_theory.specs.Steps.{after, machine_of_parts, outcome_of, with_shown, IsStepOf}
 use Rattle.machine_steps.specs.Machines.{MachineLists, IsStep, machine_of}
 use Rattle.machine_theory.specs.Laws.{OthersDoNotNotice}
@@ -27,42 +27,43 @@ use Rattle.machine_log.proofs.Backing.{back_at}
 -- ---- cores that are put in
 
 -- they change nothing else
-cores_alone : (M : theory.Machine Told) (cores : List (ℕ × Told)) →
+cores_alone : (M : theory.Machine ObservedCore) (cores : List (ℕ × ObservedCore)) →
     with_cores M cores ≡ record { net = M.net; mem = M.mem; core = (with_cores M cores).core; is_open = M.is_open }
 cores_alone M [] = refl
 cores_alone M ((p, core) ∷ more) =
-    ap (λ (N : theory.Machine Told). record { net = N.net; mem = N.mem; core = put (with_cores M more).core p core; is_open = N.is_open }) (cores_alone M more)
+    ap (λ (N : theory.Machine ObservedCore). record { net = N.net; mem = N.mem; core = put (with_cores M more).core p core; is_open = N.is_open })
+    (cores_alone M more)
 
 module _ (lent : List (Option Lent)) (shown : ℕ → List Event) where
   -- a lent core, whose processor has shown these events
-  abbrev told_lent : ℕ → Lent → Told
-  told_lent p l = record { state = l.core.state; events = shown p }
+  abbrev observed_lent : ℕ → Lent → ObservedCore
+  observed_lent p l = record { state = l.core.state; events = shown p }
 
-  -- in front of others, if it is lent
-  abbrev behind : ℕ → Option Lent → List (ℕ × Told) → List (ℕ × Told)
+  -- before others, if it is lent
+  abbrev behind : ℕ → Option Lent → List (ℕ × ObservedCore) → List (ℕ × ObservedCore)
   behind p None cores = cores
-  behind p (Some l) cores = (p, told_lent p l) ∷ cores
+  behind p (Some l) cores = (p, observed_lent p l) ∷ cores
 
   -- the lent cores of the first n processors
-  pub cores_of : ℕ → List (ℕ × Told)
+  pub cores_of : ℕ → List (ℕ × ObservedCore)
   cores_of zero = []
   cores_of (suc n) = behind n (lent_at lent n) (cores_of n)
 
   -- what stands at p: the lent core, if there is one
-  abbrev standing : Told → ℕ → Option Lent → Told
+  abbrev standing : ObservedCore → ℕ → Option Lent → ObservedCore
   standing g p None = g
-  standing g p (Some l) = told_lent p l
+  standing g p (Some l) = observed_lent p l
 
-  module _ (M : theory.Machine Told) where
-    behind_here : (p : ℕ) (l : Option Lent) (cores : List (ℕ × Told)) →
+  module _ (M : theory.Machine ObservedCore) where
+    behind_here : (p : ℕ) (l : Option Lent) (cores : List (ℕ × ObservedCore)) →
         (with_cores M (behind p l cores)).core p ≡ standing ((with_cores M cores).core p) p l
     behind_here p None cores = refl
-    behind_here p (Some l) cores = put_same (with_cores M cores).core p (told_lent p l)
+    behind_here p (Some l) cores = put_same (with_cores M cores).core p (observed_lent p l)
 
-    behind_there : (p q : ℕ) (l : Option Lent) (cores : List (ℕ × Told)) → q ≢ p →
+    behind_there : (p q : ℕ) (l : Option Lent) (cores : List (ℕ × ObservedCore)) → q ≢ p →
         (with_cores M (behind p l cores)).core q ≡ (with_cores M cores).core q
     behind_there p q None cores apart = refl
-    behind_there p q (Some l) cores apart = put_other (with_cores M cores).core p (told_lent p l) q apart
+    behind_there p q (Some l) cores apart = put_other (with_cores M cores).core p (observed_lent p l) q apart
 
     -- past the first n the cores are the machine's
     later_stand : (n q : ℕ) → n ≤ q → (with_cores M (cores_of n)).core q ≡ M.core q
@@ -90,21 +91,21 @@ module _ (lent : List (Option Lent)) (shown : ℕ → List Event) where
 
 module _ (c : Config) (net : Net) (ports : List PortState) (modules : List (List ℕ)) (lent : List (Option Lent)) (same : length lent ≡ length ports)
     (shown : ℕ → List Event) where
-  abbrev M : theory.Machine Told
+  abbrev M : theory.Machine ObservedCore
   M = machine_of_parts c net ports modules shown
 
   core_is : (q : ℕ) (l : Option Lent) → lent_at lent q ≡ l →
-      told_at (all_back ports lent) shown q ≡ standing lent shown (told_at ports shown q) q l
+      observed_at (all_back ports lent) shown q ≡ standing lent shown (observed_at ports shown q) q l
   core_is q None e = ap (λ (port : PortState). record { state = port.core.state; events = shown q })
       (back_at ports lent q same ∙ ap (with_lent (port_at ports q)) e)
   core_is q (Some l) e =
       ap (λ (port : PortState). record { state = port.core.state; events = shown q }) (back_at ports lent q same ∙ ap (with_lent (port_at ports q)) e)
 
-  cores_are : (q : ℕ) → told_at (all_back ports lent) shown q ≡ (with_cores M (cores_of lent shown (length lent))).core q
+  cores_are : (q : ℕ) → observed_at (all_back ports lent) shown q ≡ (with_cores M (cores_of lent shown (length lent))).core q
   unfolding machine_of_parts
   cores_are q = at (cases_lt q (length lent))
     where
-      at : (q < length lent) ⊎ (length lent ≤ q) → told_at (all_back ports lent) shown q ≡ (with_cores M (cores_of lent shown (length lent))).core q
+      at : (q < length lent) ⊎ (length lent ≤ q) → observed_at (all_back ports lent) shown q ≡ (with_cores M (cores_of lent shown (length lent))).core q
       at (inl within) = core_is q (lent_at lent q) refl ∙ sym (first_stand lent shown M (length lent) q within)
       at (inr past) = core_is q None (past_end lent q None past) ∙ sym (later_stand lent shown M (length lent) q past)
 
@@ -115,15 +116,15 @@ module _ (c : Config) (net : Net) (ports : List PortState) (modules : List (List
   pub back_is : machine_of_parts c net (all_back ports lent) modules shown ≡ with_cores M (cores_of lent shown (length lent))
   unfolding machine_of_parts
   back_is =
-      ap₂ (λ (f : ℕ → Told) (b : ℕ → Bool). record { net = net; mem = word_at c.k modules; core = f; is_open = b }) (fun_ext cores_are)
+      ap₂ (λ (f : ℕ → ObservedCore) (b : ℕ → Bool). record { net = net; mem = word_at c.k modules; core = f; is_open = b }) (fun_ext cores_are)
       (fun_ext (λ q. ap (λ (port : PortState). port.is_open) (back_at ports lent q same) ∙ open_is q (lent_at lent q)))
       ∙ sym (cores_alone M (cores_of lent shown (length lent)))
 
 -- ---- a step
 
-module _ (laws : OthersDoNotNotice) (c : Config) (code : List ℕ) (M : theory.Machine Told) (lent : List (Option Lent)) (shown : ℕ → List Event)
+module _ (laws : OthersDoNotNotice) (c : Config) (code : List ℕ) (M : theory.Machine ObservedCore) (lent : List (Option Lent)) (shown : ℕ → List Event)
     (s : Step) (others : OfOthers lent s) where
-  abbrev Unnoticed : List (ℕ × Told) → Type 0
+  abbrev Unnoticed : List (ℕ × ObservedCore) → Type 0
   Unnoticed cores =
       (outcome_of c code (with_cores M cores) s ≡ outcome_of c code M s) × (after c code (with_cores M cores) s ≡ with_cores (after c code M s) cores)
 
@@ -135,7 +136,7 @@ module _ (laws : OthersDoNotNotice) (c : Config) (code : List ℕ) (M : theory.M
       at : (l : Option Lent) → lent_at lent n ≡ l → Unnoticed (cores_of lent shown n) → Unnoticed (behind lent shown n l (cores_of lent shown n))
       at None e h = h
       at (Some l) e h =
-          let core = told_lent lent shown n l in
+          let core = observed_lent lent shown n l in
           let one = laws c code (with_cores M (cores_of lent shown n)) n core s (others n l e) in
           (one.0 ∙ h.0, one.1 ∙ ap (λ N. with_core N n core) h.1)
 
@@ -149,7 +150,7 @@ shown_alike lent shown shown' same (suc n) = at (lent_at lent n) refl (shown_ali
     at : (l : Option Lent) → lent_at lent n ≡ l → cores_of lent shown' n ≡ cores_of lent shown n →
         behind lent shown' n l (cores_of lent shown' n) ≡ behind lent shown n l (cores_of lent shown n)
     at None e h = h
-    at (Some l) e h = ap₂ (λ es (cores : List (ℕ × Told)). (n, record { state = l.core.state; events = es }) ∷ cores) (same n l e) h
+    at (Some l) e h = ap₂ (λ es (cores : List (ℕ × ObservedCore)). (n, record { state = l.core.state; events = es }) ∷ cores) (same n l e) h
 
 -- a step of others shows nothing of p
 shown_so : (p : ℕ) (shown : ℕ → List Event) (s : Step) (o : Outcome) → IsOfOthers p s → with_shown shown s o p ≡ shown p
@@ -170,10 +171,10 @@ shown_so p shown (step.Poke poke) o apart = absurd apart
 module _ (laws : OthersDoNotNotice) (c : Config) (code : List ℕ) (net net' : Net) (ports ports' : List PortState) (modules modules' : List (List ℕ))
     (lent : List (Option Lent)) (same : length lent ≡ length ports) (same' : length lent ≡ length ports') (s : Step) (o : Outcome)
     (others : OfOthers lent s) where
-  before : (ℕ → List Event) → theory.Machine Told
+  before : (ℕ → List Event) → theory.Machine ObservedCore
   before shown = machine_of_parts c net ports modules shown
 
-  behind_it : (ℕ → List Event) → theory.Machine Told
+  behind_it : (ℕ → List Event) → theory.Machine ObservedCore
   behind_it shown = machine_of_parts c net' ports' modules' shown
 
   pub parts_back : IsStepOf c code net ports modules s o net' ports' modules' →
@@ -199,6 +200,7 @@ module _ (laws : OthersDoNotNotice) (m m' : MachineLists) (lent : List (Option L
   away_is x None x' stays = stays
   away_is x (Some l) x' stays = refl
 
+  -- A step of others, taken while cores are away, is the same step of the machine with all cores back.
   pub step_back : IsStep m s o m' → IsStep (whole m lent) s o (whole m' lent)
   step_back st = record {
     config = st.config;

@@ -14,7 +14,7 @@ use Rattle.machine_theory.specs.Processors.{port_at, setting_of, sizes_of}
 use Rattle.machine_steps.specs.Machines.{MachineLists, AreModules, ArePorts, IsMachine, IsStep, machine_of}
 use Rattle.machine_steps.proofs.Lemmas.{parts_kept, stalled_keeps, outcome_there}
 use Rattle.machine_steps.specs.Runs.{answer_after}
-use Rattle.machine_log.specs.Logs.{HasTaken, IsEntered, IsKept, entered}
+use Rattle.machine_log.specs.Logs.{HasTaken, IsEntered, IsWellFormed, entered}
 use Rattle.machine_log.proofs.Taking.{entered_one, kept_after}
 use Rattle.machine_theory.specs.Laws.{OthersDoNotNotice}
 use Rattle.machine_log.specs.Lendings.{IsLending, IsLent, OfOthers, all_back, lent_at, promised, whole, with_lent}
@@ -114,35 +114,38 @@ module _ (laws : OthersDoNotNotice) (opening m m' : MachineLists) (steps : List 
   -- it goes on to hold
   pub lends_on : (steps' : List Step) (capacity' : ℕ) → steps' ≡ entered steps s o → promised lent ≤ capacity' - length steps' →
       length steps' + promised lent ≤ 4194304 → IsLending opening m' steps' capacity' lent
-  lends_on steps' capacity' e places room = record {
+  lends_on steps' capacity' e capacity_left room = record {
     sound = sound';
     kept = kept_after (record { opening = opening; steps = steps; machine = whole m lent }) (whole m' lent) steps' 1 is.kept
         (subst (IsEntered (whole m lent) steps 1 (whole m' lent)) (sym e) entered_there) (omega (arith, room));
     all = is.all ∙ ap (λ (c : Config). 2 ^ c.k) (sym st.config);
     away = still;
-    places = places;
+    capacity_left = capacity_left;
     room = room;
   }
 
+  -- The log, as it is with all cores back, has taken the step.
   pub taken_there : (steps' : List Step) → steps' ≡ entered steps s o →
       HasTaken (record { opening = opening; steps = steps; machine = whole m lent }) s o (record { opening = opening; steps = steps'; machine = whole m' lent })
   taken_there steps' e = record { opening = refl; step = step_there; steps = e; stalled = stalled_there }
 
+  -- The outcome is what the machine answers to the step after the steps of the log.
   pub answer_there : o ≡ answer_after opening steps s
   answer_there = step_there.step.outcome ∙ sym (outcome_there opening (whole m lent) steps is.kept.replay.run s)
 
 -- ---- none is lent
 
-pub lends_none : (opening m : MachineLists) (steps : List Step) (capacity n : ℕ) → IsKept (record { opening = opening; steps = steps; machine = m }) →
+-- A well-formed log is kept as one that lends, if no core is away.
+pub lends_none : (opening m : MachineLists) (steps : List Step) (capacity n : ℕ) → IsWellFormed (record { opening = opening; steps = steps; machine = m }) →
     n ≡ 2 ^ m.config.k → IsLending opening m steps capacity (replicate n None)
 lends_none opening m steps capacity n kept count =
     let none : promised (replicate n None) ≡ 0 = none_promised n in
     let room = kept.room in
     record {
       sound = kept.sound;
-      kept = subst (λ (x : MachineLists). IsKept (record { opening = opening; steps = steps; machine = x })) (sym (whole_none m n)) kept;
+      kept = subst (λ (x : MachineLists). IsWellFormed (record { opening = opening; steps = steps; machine = x })) (sym (whole_none m n)) kept;
       all = length-replicate n None ∙ count;
       away = λ p l e. let nothing : None ≡ Some l = sym (replicate_none n p) ∙ e in absurd (cc);
-      places = omega (arith, none);
+      capacity_left = omega (arith, none);
       room = omega (arith, none, room);
     }

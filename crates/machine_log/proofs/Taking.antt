@@ -19,10 +19,11 @@ use Rattle.machine_theory.specs.Processors.{is_lawful_poke}
 use Rattle.machine_steps.specs.Runs.{flat_state, IsReplay}
 use Rattle.machine_steps.specs.Whole.{IsPoked}
 use Rattle.machine_steps.proofs.Lemmas.{replay_begins, replay_joined, replay_kept, replay_more, run_home, stalled_is}
-use Rattle.machine_log.specs.Logs.{Log, entered, IsKept, IsEntered, ArePoked, places_of}
+use Rattle.machine_log.specs.Logs.{Log, entered, IsWellFormed, IsEntered, ArePoked, places_of}
 
 -- ---- stalls
 
+-- An outcome that is not stalled is not `Stalled`.
 pub moving_is : (o : Outcome) → is_stalled o ≡ false → o ≡ Stalled → ⊥
 moving_is o moves e = true≢false (sym (ap is_stalled e) ∙ moves)
 
@@ -43,6 +44,7 @@ entered_stalled steps s o stalls = ap (λ b. if b then steps else steps ++ s ∷
 pub entered_none : (m : MachineLists) (steps : List Step) (most : ℕ) → IsMachine m → IsEntered m steps most m steps
 entered_none m steps most is = record { sound = is; more = []; is = sym (append-nil steps); count = omega arith; replay = λ opening r. r }
 
+-- A step that a machine takes enters one step at most: none if it stalls.
 pub entered_one : (m new : MachineLists) (steps : List Step) (s : Step) (o : Outcome) → IsMachine new → IsStep m s o new →
     (o ≡ Stalled → (shown : ℕ → List Event) → machine_of new shown ≡ machine_of m shown) →
     IsEntered m steps 1 new (entered steps s o)
@@ -92,20 +94,20 @@ entered_length m new steps steps' most e =
 
 -- a log is kept where it is new
 pub kept_new : (opening m : MachineLists) (steps : List Step) → IsMachine m → IsIdle m → AreHome m → opening ≡ m → steps ≡ [] →
-    IsKept (record { opening = opening; steps = steps; machine = m })
+    IsWellFormed (record { opening = opening; steps = steps; machine = m })
 kept_new opening m steps is idle home same none =
-    subst (λ (o : MachineLists). IsKept (record { opening = o; steps = steps; machine = m })) (sym same)
-    (subst (λ xs. IsKept (record { opening = m; steps = xs; machine = m })) (sym none)
+    subst (λ (o : MachineLists). IsWellFormed (record { opening = o; steps = steps; machine = m })) (sym same)
+    (subst (λ xs. IsWellFormed (record { opening = m; steps = xs; machine = m })) (sym none)
     (record { opens = is; idle = idle; home = home; sound = is; replay = replay_begins m; room = omega arith }))
 
 -- and where its machine's steps are entered, and there is room for them
-pub kept_after : (l : Log) (new : MachineLists) (steps' : List Step) (most : ℕ) → IsKept l → IsEntered l.machine l.steps most new steps' →
-    length steps' ≤ 4194304 → IsKept (record { opening = l.opening; steps = steps'; machine = new })
+pub kept_after : (l : Log) (new : MachineLists) (steps' : List Step) (most : ℕ) → IsWellFormed l → IsEntered l.machine l.steps most new steps' →
+    length steps' ≤ 4194304 → IsWellFormed (record { opening = l.opening; steps = steps'; machine = new })
 kept_after l new steps' most k e room =
     record { opens = k.opens; idle = k.idle; home = k.home; sound = e.sound; replay = e.replay l.opening k.replay; room = room }
 
 -- no core is away in its machine either
-pub kept_home : (l : Log) → IsKept l → AreHome l.machine
+pub kept_home : (l : Log) → IsWellFormed l → AreHome l.machine
 kept_home l k = run_home l.opening l.machine l.steps k.replay.run k.home
 
 -- ---- pokes
@@ -114,10 +116,12 @@ flat_more : (F : FlatState) (xs : List Entry) (e : Entry) → flat_run F (xs ++ 
 flat_more F [] e = refl
 flat_more F (x ∷ xs) e = flat_more (flat_step F x) xs e
 
+-- If no reference is open, a machine that has written no pokes is as it was.
 pub poked_none : (m : MachineLists) (steps : List Step) → IsMachine m → IsIdle m → ArePoked m steps [] m steps
 poked_none m steps is idle = record { is = sym (append-nil steps); replay = replay_begins m; idle = idle; flat = refl; entered = entered_none m steps 0 is }
 
 module _ (old m new : MachineLists) (steps steps' steps2 : List Step) (done : List Poke) (q : Poke) (o : Outcome) (d : ArePoked old steps done m steps') where
+  -- If one lawful poke more is written and entered, the pokes written are those before and then this one.
   pub poked_more : is_lawful_poke old.config q ≡ true → IsStep m (step.Poke q) o new → IsPoked m q o new → steps2 ≡ entered steps' (step.Poke q) o →
       IsEntered m steps' 1 new steps2 → ArePoked old steps (done ++ q ∷ []) new steps2
   poked_more lawful st w is e =

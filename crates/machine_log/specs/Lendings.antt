@@ -13,7 +13,7 @@ use Rattle.machine_theory.specs.Processors.{open_at, port_at, setting_of}
 use Rattle.machine_steps.specs.Machines.{MachineLists, IsMachine, away_at, with_core_at}
 use Rattle.machine_steps.specs.Runs.{answer_after, IsReplay}
 use Rattle.machine_theory.specs.Loans.{IsOfOthers, turns_of}
-use Rattle.machine_log.specs.Logs.{Log, IsKept}
+use Rattle.machine_log.specs.Logs.{Log, IsWellFormed}
 use Rattle.machine_log.specs.declared.lent.Lent.{Lent}
 
 -- what is known of the core of processor p; None where it is not away
@@ -56,14 +56,15 @@ pub record IsLent (m : MachineLists) (p : ℕ) (l : Lent) : Type 0 where
   pub words : HasWords l.core.state
   pub home : is_away l.core.state ≡ false
 
--- The log is kept, as if no core were away; the cores that are away are those that are known; and there is room for the steps
--- that are promised.
-pub record IsLending (opening m : MachineLists) (steps : List Step) (capacity : ℕ) (lent : List (Option Lent)) : Type 0 where
+-- The log is kept, as if no core were away; the cores that are away are those that are known; and there is room for
+-- the steps that are promised.
+pub record IsLending (opening m : MachineLists) (steps : List Step) (capacity : ℕ)
+    (lent : List (Option Lent)) : Type 0 where
   pub sound : IsMachine m
-  pub kept : IsKept (record { opening = opening; steps = steps; machine = whole m lent })
+  pub kept : IsWellFormed (record { opening = opening; steps = steps; machine = whole m lent })
   pub all : length lent ≡ 2 ^ m.config.k
   pub away : (p : ℕ) (l : Lent) → lent_at lent p ≡ Some l → IsLent m p l
-  pub places : promised lent ≤ capacity - length steps
+  pub capacity_left : promised lent ≤ capacity - length steps
   pub room : length steps + promised lent ≤ 4194304
 
 -- ---- steps while cores are away
@@ -74,19 +75,21 @@ OfOthers lent s = (p : ℕ) (l : Lent) → lent_at lent p ≡ Some l → IsOfOth
 
 -- ---- lending
 
--- whether the core of processor p can be lent: it is there and not away, and its processor runs and has no reference open
+-- whether the core of processor p can be lent: it is there and not away, and its processor runs and has no reference
+-- open
 abbrev pub may_lend : LendingLog → (p : ℕ) → Bool
 may_lend l p = nat_lt p (2 ^ l.log.machine.config.k) && (not (is_some (lent_at l.lent p))
     && (is_running (port_at l.log.machine.ports p).core.state.status && not (open_at l.log.machine.ports p)))
 
--- Turns of processor p, one after another behind these steps, retire these instructions.
+-- Turns of processor p, one after another after these steps, retire these instructions.
 abbrev pub AreAnswered : (opening : MachineLists) → (steps : List Step) → (p : ℕ) → List Retired → Type 0
 AreAnswered opening steps p [] = Unit {0}
 AreAnswered opening steps p (retired ∷ later) =
-    (answer_after opening steps (step.Turn p) ≡ outcome.Retired retired) × AreAnswered opening (steps ++ step.Turn p ∷ []) p later
+    (answer_after opening steps (step.Turn p) ≡ outcome.Retired retired)
+    × AreAnswered opening (steps ++ step.Turn p ∷ []) p later
 
--- The core of processor p has come back, as it is after these local instructions since it was lent: a turn was entered for each,
--- which retires it.
+-- The core of processor p has come back, as it is after these local instructions since it was lent: a turn was entered
+-- for each, which retires it.
 pub record IsBack (old : LendingLog) (p : ℕ) (core : CoreState) (taken : List Retired) (new : LendingLog) : Type 0 where
   pub opening : new.log.opening ≡ old.log.opening
   pub machine : new.log.machine ≡ with_core_at old.log.machine p core

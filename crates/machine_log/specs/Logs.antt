@@ -1,5 +1,6 @@
 -- A machine with the log of its steps.
-use Rattle.std.specs.Prelude.{◌≡◌, ℕ, ◌+◌, ◌-◌, ◌≤◌, ◌^◌, min, Bool, true, ◌&&◌, nat_lt, All, List, [], ◌∷◌, ◌++◌, length, map, if◌then◌else◌}
+use Rattle.std.specs.Prelude.{◌≡◌, ℕ, ◌+◌, ◌-◌, ◌≤◌, ◌^◌, min, Bool, true, ◌&&◌, nat_lt, All, List, [], ◌∷◌, ◌++◌}
+use Rattle.std.specs.Prelude.{length, map, if◌then◌else◌}
 use Rattle.flat_machine.specs.declared.config.Config.{Config}
 use Rattle.flat_machine.specs.declared.event.Event.{Event}
 use Rattle.flat_machine.specs.declared.poke.Poke.{Poke}
@@ -26,20 +27,21 @@ pub record Log : Type 0 where
 abbrev pub opened : MachineLists → Log
 opened m = record { opening = m; steps = []; machine = m }
 
--- A log with room for so many steps more: they can be entered without memory, and the log stays within its limit.
-pub record RoomyLog : Type 0 where
+-- A log with room for this many steps more: they can be entered without memory, and the log stays within its limit.
+pub record ReservedLogModel : Type 0 where
   pub log : Log
-  pub places : ℕ
+  pub capacity_left : ℕ
 
 -- how many steps more a list with this capacity can hold, where a log has 4,194,304 at most
 abbrev pub places_of : (capacity : ℕ) → List Step → ℕ
 places_of capacity steps = min capacity 4194304 - length steps
 
 -- Each step that was entered has taken one place, and no place was lost otherwise.
-abbrev pub KeepsPlaces : (old new : RoomyLog) → Type 0
-KeepsPlaces old new = length new.log.steps + new.places ≡ length old.log.steps + old.places
+abbrev pub KeepsCapacity : (old new : ReservedLogModel) → Type 0
+KeepsCapacity old new = length new.log.steps + new.capacity_left ≡ length old.log.steps + old.capacity_left
 
--- The numbers that a step names are of a machine of this size: a processor, module or wire below 2 ^ k, a stage below k.
+-- The numbers that a step names are of a machine of this size: a processor, module or wire below 2 ^ k, a stage below
+-- k.
 abbrev pub is_named : Config → Step → Bool
 is_named c (step.Turn p) = nat_lt p (2 ^ c.k)
 is_named c (step.Up s w) = nat_lt s c.k && nat_lt w (2 ^ c.k)
@@ -53,9 +55,9 @@ is_named c (step.Poke (poke.Shared address value)) = true
 abbrev pub entered : List Step → Step → Outcome → List Step
 entered steps s o = if is_stalled o then steps else steps ++ s ∷ []
 
--- What always holds of a log: no reference is open in its opening and no core is away, and its machine is the replay of the
--- opening over the steps, each of which did something.
-pub record IsKept (l : Log) : Type 0 where
+-- What always holds of a log: no reference is open in its opening and no core is away, and its machine is the replay
+-- of the opening over the steps, each of which did something.
+pub record IsWellFormed (l : Log) : Type 0 where
   pub opens : IsMachine l.opening
   pub idle : IsIdle l.opening
   pub home : AreHome l.opening
@@ -70,7 +72,7 @@ pub record HasTaken (old : Log) (s : Step) (o : Outcome) (new : Log) : Type 0 wh
   pub steps : new.steps ≡ entered old.steps s o
   pub stalled : o ≡ Stalled → (shown : ℕ → List Event) → machine_of new.machine shown ≡ machine_of old.machine shown
 
--- The log has the steps that it had, and then more: so many at most.
+-- The log has the steps that it had, and then more: this many at most.
 pub record IsLonger (old new : Log) (most : ℕ) : Type 0 where
   pub opening : new.opening ≡ old.opening
   pub more : List Step
@@ -91,8 +93,10 @@ pub record HasPoked (old : Log) (pokes : List Poke) (new : Log) : Type 0 where
 
 -- ---- a machine whose steps are entered in a list
 
--- It has taken steps, so many at most, and they came to stand at the end of the list. So what was a replay still is one.
-pub record IsEntered (machine : MachineLists) (steps : List Step) (most : ℕ) (machine' : MachineLists) (steps' : List Step) : Type 0 where
+-- It has taken steps, this many at most, and they came to stand at the end of the list. So what was a replay still is
+-- one.
+pub record IsEntered (machine : MachineLists) (steps : List Step) (most : ℕ) (machine' : MachineLists)
+    (steps' : List Step) : Type 0 where
   pub sound : IsMachine machine'
   pub more : List Step
   pub is : steps' ≡ steps ++ more
@@ -100,7 +104,8 @@ pub record IsEntered (machine : MachineLists) (steps : List Step) (most : ℕ) (
   pub replay : (opening : MachineLists) → IsReplay opening steps machine → IsReplay opening steps' machine'
 
 -- It has written these pokes, and they came to stand at the end of the list.
-pub record ArePoked (machine : MachineLists) (steps : List Step) (pokes : List Poke) (machine' : MachineLists) (steps' : List Step) : Type 0 where
+pub record ArePoked (machine : MachineLists) (steps : List Step) (pokes : List Poke) (machine' : MachineLists)
+    (steps' : List Step) : Type 0 where
   pub is : steps' ≡ steps ++ map step.Poke pokes
   pub replay : IsReplay machine (map step.Poke pokes) machine'
   pub idle : IsIdle machine'

@@ -10,7 +10,7 @@ ghost use Rattle.machine_steps.specs.Whole.{one_steps, IsOne, IsPoked};
 ghost use Rattle.machine_log.specs.Logs.{entered, AreLawful, ArePoked, IsEntered};
 
 use flat_machine::Poke;
-use machine_steps::{Machine, machine_is_sound};
+use machine_steps::{Machine, machine_is_well_formed};
 use steps::{Outcome, Step};
 
 /// Takes a step, and enters it in a list unless it stalls. There is room for it.
@@ -19,8 +19,10 @@ pub fn enter(machine: &mut Machine, steps: &mut Vec<Step>, step: Step) -> Outcom
     requires room { length steps.old.items < vec_capacity steps.old }
     ensures step { IsStep machine.old step result machine.new }
     ensures answer { result ≡ outcome_of machine.old.config machine.old.code (machine_of machine.old (λ p. [])) step }
-    ensures poked { IsIdle machine.old → AreHome machine.old → (poke : Poke) → step ≡ Step.Poke poke → IsPoked machine.old poke result machine.new }
-    ensures stalled { result ≡ Outcome.Stalled → (shown : ℕ → List Event) → machine_of machine.new shown ≡ machine_of machine.old shown }
+    ensures poked { IsIdle machine.old → AreHome machine.old → (poke : Poke) → step ≡ Step.Poke poke →
+        IsPoked machine.old poke result machine.new }
+    ensures stalled { result ≡ Outcome.Stalled → (shown : ℕ → List Event) →
+        machine_of machine.new shown ≡ machine_of machine.old shown }
     ensures steps { steps.new.items ≡ entered steps.old.items step result }
     ensures entered { IsEntered machine.old steps.old.items 1 machine.new steps.new.items }
     ensures capacity { vec_capacity steps.new ≡ vec_capacity steps.old }
@@ -42,8 +44,8 @@ pub(crate) fn one(machine: &mut Machine, steps: &mut Vec<Step>, p: u8) -> Outcom
     ensures entered { IsEntered machine.old steps.old.items (2 * machine.old.config.k + 3) machine.new steps.new.items }
     ensures capacity { vec_capacity steps.new ≡ vec_capacity steps.old }
 {
-    let Ok(outcome) = machine.one_noted(p, steps);
-    machine_is_sound(machine);
+    let Ok(outcome) = machine.one_observed(p, steps);
+    machine_is_well_formed(machine);
     outcome
 }
 
@@ -52,11 +54,12 @@ pub(crate) fn drain(machine: &mut Machine, steps: &mut Vec<Step>) -> u32
     requires room { length steps.old.items + drain_bound machine.old.config ≤ vec_capacity steps.old }
     ensures drained { IsDrained machine.old result machine.new }
     ensures steps { steps.new.items ≡ steps.old.items ++ drain_steps machine.old }
-    ensures entered { IsEntered machine.old steps.old.items (drain_bound machine.old.config) machine.new steps.new.items }
+    ensures entered { IsEntered machine.old steps.old.items (drain_bound machine.old.config) machine.new
+        steps.new.items }
     ensures capacity { vec_capacity steps.new ≡ vec_capacity steps.old }
 {
-    let Ok(moves) = machine.drain_noted(steps);
-    machine_is_sound(machine);
+    let Ok(moves) = machine.drain_observed(steps);
+    machine_is_well_formed(machine);
     moves
 }
 
@@ -70,7 +73,7 @@ pub(crate) fn pokes(machine: &mut Machine, steps: &mut Vec<Step>, pokes: &[Poke]
     ensures poked { ArePoked machine.old steps.old.items pokes.now machine.new steps.new.items }
     ensures capacity { vec_capacity steps.new ≡ vec_capacity steps.old }
 {
-    machine_is_sound(machine);
+    machine_is_well_formed(machine);
     for poke in pokes {
         enter(machine, steps, Step::Poke(*poke));
     }

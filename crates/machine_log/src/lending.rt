@@ -7,7 +7,7 @@ ghost use Rattle.machine_theory.specs.Processors.{port_at};
 ghost use Rattle.machine_theory.specs.Steps.{outcome_of};
 ghost use Rattle.machine_steps.specs.Machines.{is_free, machine_of, without_core_at};
 ghost use Rattle.machine_steps.specs.Runs.{answer_after, IsReplay};
-ghost use Rattle.machine_log.specs.Logs.{HasTaken, IsKept, is_named};
+ghost use Rattle.machine_log.specs.Logs.{HasTaken, IsWellFormed, is_named};
 ghost use Rattle.machine_theory.specs.Loans.{turns_of};
 ghost use Rattle.hart.specs.LocalRuns.{TakesLocal};
 ghost use Rattle.std.specs.Vec.{vec_capacity};
@@ -21,7 +21,7 @@ use crate::refusal::LockRefusal;
 use flat_machine::{Retired, Status};
 use hart::{Core, core_has_registers};
 use local_memory::Code;
-use machine_steps::{Machine, machine_is_sound, runs_are_joined};
+use machine_steps::{Machine, machine_is_well_formed, runs_are_joined};
 use machine_theory::{local_turns_catch_up, others_do_not_notice};
 use std::alloc::{AllocError, Global};
 use std::marker::Model;
@@ -54,13 +54,15 @@ impl Model for Lending {
       lent = l.lent.items;
     } };
 
-    ghost invariant = { λ l. IsLending l.opening.value l.machine l.steps.items (vec_capacity l.steps) l.lent.items × (l.promises ≡ promised l.lent.items) };
+    ghost invariant = { λ l. IsLending l.opening.value l.machine l.steps.items (vec_capacity l.steps) l.lent.items
+        × (l.promises ≡ promised l.lent.items) };
 }
 
 impl Lending {
     /// A log none of whose cores is lent. Where there is no memory, the log is handed back as it was.
     pub fn new(alloc: Global, logged: Logged) -> Result<Self, Logged>
-        ensures lending { IfOk result (λ l. l ≡ record { log = logged; lent = replicate (2 ^ logged.machine.config.k) None }) }
+        ensures lending { IfOk result (λ l. l
+            ≡ record { log = logged; lent = replicate (2 ^ logged.machine.config.k) None }) }
         ensures refused { IfErr result (λ l. l ≡ logged) }
     {
         let count = logged.machine().config().processors();
@@ -90,8 +92,10 @@ impl Lending {
     /// The machine, without the cores that are away. A step of others answers as it would with all cores back.
     pub fn machine(&self) -> &Machine
         ensures config { result.now.config ≡ self.now.log.machine.config }
-        ensures answers { (s : Step) → OfOthers self.now.lent s → outcome_of result.now.config result.now.code (machine_of result.now (λ p. [])) s
-            ≡ outcome_of self.now.log.machine.config self.now.log.machine.code (machine_of self.now.log.machine (λ p. [])) s }
+        ensures answers { (s : Step) → OfOthers self.now.lent s →
+            outcome_of result.now.config result.now.code (machine_of result.now (λ p. [])) s
+            ≡ outcome_of self.now.log.machine.config self.now.log.machine.code
+            (machine_of self.now.log.machine (λ p. [])) s }
     {
         others_do_not_notice();
         &self.machine
@@ -144,7 +148,8 @@ impl Lending {
         ensures taken { IfOk result (λ o. HasTaken self.old.log step o self.new.log) }
         ensures answer { IfOk result (λ o. o ≡ answer_after self.old.log.opening self.old.log.steps step) }
         ensures lent { self.new.lent ≡ self.old.lent }
-        ensures full { (result ≡ Err LockRefusal.Full) ↔ (4194304 ≤ length self.old.log.steps + promised self.old.lent) }
+        ensures full { (result ≡ Err LockRefusal.Full)
+            ↔ (4194304 ≤ length self.old.log.steps + promised self.old.lent) }
         ensures named { result ≡ Err LockRefusal.Unnamed → ⊥ }
         ensures not_free { result ≡ Err LockRefusal.NotFree → ⊥ }
         ensures refused { OnErr result (self.new ≡ self.old) }
@@ -170,7 +175,7 @@ impl Lending {
         is_free(&self.machine, p)
     }
 
-    /// Lends the core of a processor for so many instructions at most, and promises as many places in the log.
+    /// Lends the core of a processor for this many instructions at most, and promises as many places in the log.
     /// The record of the loan comes with it; another one is kept.
     ///
     /// # Errors
@@ -181,9 +186,13 @@ impl Lending {
     /// the records or the places. Each leaves all as it was.
     #[inline(always)]
     pub fn lend(&mut self, p: u8, most: u32) -> Result<(Core, Lent), LockRefusal>
-        ensures loan { IfOk result (λ loan. (loan.1 ≡ record { core = (port_at self.old.log.machine.ports p).core; most = most }) × (loan.0 ≡ loan.1.core)) }
+        ensures loan { IfOk result (λ loan. (loan.1
+            ≡ record { core = (port_at self.old.log.machine.ports p).core; most = most }) × (loan.0 ≡ loan.1.core)) }
         ensures lent { OnOk result (self.new ≡ record self.old {
-          lent = slice_set self.old.lent p (Some (record { core = (port_at self.old.log.machine.ports p).core; most = most }));
+          lent = slice_set self.old.lent p (Some (record {
+            core = (port_at self.old.log.machine.ports p).core;
+            most = most;
+          }));
         }) }
         ensures unlent { OnOk result (lent_at self.old.lent p ≡ None) }
         ensures free { (result ≡ Err LockRefusal.NotFree) ↔ (may_lend self.old p ≡ false) }
@@ -207,7 +216,7 @@ impl Lending {
             return Err(LockRefusal::Memory);
         };
         let core = taken_out(&mut self.machine, p);
-        machine_is_sound(&self.machine);
+        machine_is_well_formed(&self.machine);
         self.lent[usize::from(p)] = Some(kept);
         self.promises = promises;
         Ok((core, given))
@@ -233,7 +242,8 @@ impl Lending {
         requires few { length taken.now ≤ lent.most }
         ensures back { OnOk result (IsBack self.old p core taken.now self.new) }
         ensures refused { OnErr result (self.new ≡ self.old) }
-        ensures differs { IfErr result (λ handed. (handed.0 ≡ core) × (handed.1 ≡ lent) × (lent_at self.old.lent p ≡ Some lent → ⊥)) }
+        ensures differs { IfErr result (λ handed. (handed.0 ≡ core) × (handed.1 ≡ lent)
+            × (lent_at self.old.lent p ≡ Some lent → ⊥)) }
     {
         if !self.is_record(p, &lent) {
             return Err((core, lent));
@@ -242,7 +252,7 @@ impl Lending {
         runs_are_joined();
         core_has_registers(&core);
         self.machine.put_core(p, core);
-        machine_is_sound(&self.machine);
+        machine_is_well_formed(&self.machine);
         self.promises -= lent.most as usize;
         let kept = self.lent[usize::from(p)].take();
         put_by(&mut self.spares, p, kept, lent);
@@ -286,12 +296,12 @@ impl Lending {
             return;
         };
         self.machine.put_core(p, core);
-        machine_is_sound(&self.machine);
+        machine_is_well_formed(&self.machine);
         self.promises -= most as usize;
     }
 }
 
-/// Enters so many turns of a processor. There is room for them.
+/// Enters this many turns of a processor. There is room for them.
 #[inline(always)]
 fn enter_turns(steps: &mut Vec<Step>, p: u8, count: usize)
     requires room { length steps.old.items + count ≤ vec_capacity steps.old }
@@ -321,7 +331,8 @@ fn records(
     spare: Option<(Core, Core)>,
 ) -> Result<(Lent, Lent), AllocError>
     requires { is_free machine.now p ≡ true }
-    ensures { IfOk result (λ both. (both.0 ≡ record { core = (port_at machine.now.ports p).core; most = most }) × (both.1 ≡ both.0)) }
+    ensures { IfOk result (λ both. (both.0 ≡ record { core = (port_at machine.now.ports p).core; most = most })
+        × (both.1 ≡ both.0)) }
 {
     let Some(core) = machine.core(p) else {
         unreachable!()
@@ -379,8 +390,8 @@ fn taken_out(machine: &mut Machine, p: u8) -> Core
 }
 
 /// What holds of every log that lends: each proof about one may cite it, at the cost of nothing.
-pub fn lending_is_kept(lending: &Lending)
-    ensures kept { IsKept lending.now.log }
+pub fn lending_is_well_formed(lending: &Lending)
+    ensures kept { IsWellFormed lending.now.log }
     ensures room { length lending.now.log.steps + promised lending.now.lent ≤ 4194304 }
     ensures all { length lending.now.lent ≡ 2 ^ lending.now.log.machine.config.k }
 {

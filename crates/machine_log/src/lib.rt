@@ -1,14 +1,14 @@
 //! A machine with the log of its steps, which can lend its cores.
 //!
-//! The machine of a log is always the replay of its opening over the steps in the log, none of which stalled, and one serial
-//! order of whole instructions explains what it did ([`Logged::machine`]). A log that has made room for steps
-//! ([`Logged::room`]) takes and enters them without a refusal ([`Roomy`]). So a caller that has to take many steps or none asks
-//! for room first.
+//! The machine of a log is always the replay of its opening over the steps in the log, none of which stalled, and one
+//! serial order of whole instructions explains what it did ([`Logged::machine`]). A log that has made room for steps
+//! ([`Logged::room`]) takes and enters them without a refusal ([`ReservedLog`]). So a caller that has to take many
+//! steps or none asks for room first.
 //!
-//! [`Lending`] is such a log that lends cores. While a core is away the machine goes on without it. What is said of the log is
-//! said as if each core that is away stood in its place, as it was lent: no other step notices which core stands there. When a
-//! core comes back that has taken local instructions by itself, a turn of its processor is entered for each of them.
-//! `specs/Lendings.antt` says what the machine with all cores back is.
+//! [`Lending`] is such a log that lends cores. While a core is away the machine goes on without it. What is said of
+//! the log is said as if each core that is away stood in its place, as it was lent: no other step notices which core
+//! stands there. When a core comes back that has taken local instructions by itself, a turn of its processor is
+//! entered for each of them. `specs/Lendings.antt` says what the machine with all cores back is.
 //!
 //! [`replay`] takes the steps of a trace.
 #![tactic(auto)]
@@ -19,12 +19,12 @@ mod lent;
 mod log;
 mod refusal;
 mod replaying;
-mod roomy;
+mod reserved;
 
 pub use entering::enter;
-pub use lending::{Lending, lending_is_kept};
+pub use lending::{Lending, lending_is_well_formed};
 pub use lent::Lent;
-pub use log::{Logged, log_is_kept, names};
+pub use log::{Logged, log_is_well_formed, names};
 pub use refusal::LockRefusal;
-pub use replaying::{StalledStep, replay, replay_noted};
-pub use roomy::{Roomy, roomy_is_kept};
+pub use replaying::{StalledStep, replay, replay_observed};
+pub use reserved::{ReservedLog, reserved_log_is_well_formed};

@@ -1,17 +1,18 @@
 //! The log of a machine's steps.
 
-ghost use Rattle.std.specs.Prelude.{◌≡◌, ◌≤◌, ◌<◌, ◌+◌, ◌*◌, ◌^◌, ◌↔◌, ◌++◌, [], length, nat_lt, true, false, Err, IfOk, OnOk, OnErr};
+ghost use Rattle.std.specs.Prelude.{◌≡◌, ◌≤◌, ◌<◌, ◌+◌, ◌*◌, ◌^◌, ◌↔◌, ◌++◌, [], length, nat_lt, true, false, Err};
+ghost use Rattle.std.specs.Prelude.{IfOk, OnOk, OnErr};
 ghost use Rattle.std.specs.Borrow.{sem};
 ghost use Rattle.flat_machine.specs.Limits.{IsWithinLimits};
 ghost use Rattle.machine_steps.specs.Machines.{AreHome, IsIdle};
 ghost use Rattle.machine_steps.specs.Draining.{drain_bound, drain_steps, IsDrained};
 ghost use Rattle.machine_steps.specs.Runs.{answer_after, IsReplay, IsSerialized};
 ghost use Rattle.machine_steps.specs.Whole.{one_steps, IsOne, IsPoked};
-ghost use Rattle.machine_log.specs.Logs.{is_named, opened, AreLawful, HasPoked, HasTaken, IsKept, IsLonger};
+ghost use Rattle.machine_log.specs.Logs.{is_named, opened, AreLawful, HasPoked, HasTaken, IsWellFormed, IsLonger};
 ghost use Rattle.machine_log.specs.Lending.{LendsRoom};
 
 use crate::refusal::LockRefusal;
-use crate::roomy::{Roomy, roomy_is_kept};
+use crate::reserved::{ReservedLog, reserved_log_is_well_formed};
 use flat_machine::{Config, Poke};
 use machine_steps::Machine;
 use std::alloc::Global;
@@ -22,7 +23,7 @@ use steps::{Outcome, Step};
 /// A machine with the log of its steps: its opening, the steps since, and the machine after them.
 #[derive(Drop)]
 pub struct Logged {
-    log: Roomy,
+    log: ReservedLog,
 }
 
 impl Model for Logged {
@@ -42,17 +43,17 @@ impl Logged {
         ensures { result ≡ opened machine }
     {
         Logged {
-            log: Roomy::new(alloc, machine),
+            log: ReservedLog::new(alloc, machine),
         }
     }
 
     /// The log of a machine that stands after these steps since its opening.
     pub fn of_parts(machine: Machine, steps: Vec<Step>, opening: Snapshot<Machine>) -> Self
-        requires kept { IsKept (record { opening = opening.value; steps = steps.items; machine = machine }) }
+        requires kept { IsWellFormed (record { opening = opening.value; steps = steps.items; machine = machine }) }
         ensures { result ≡ record { opening = opening.value; steps = steps.items; machine = machine } }
     {
         Logged {
-            log: Roomy::of_parts(machine, steps, opening),
+            log: ReservedLog::of_parts(machine, steps, opening),
         }
     }
 
@@ -61,7 +62,7 @@ impl Logged {
         ensures machine { result.0 ≡ self.machine }
         ensures steps { result.1.items ≡ self.steps }
         ensures opening { result.2.value ≡ self.opening }
-        ensures kept { IsKept self }
+        ensures kept { IsWellFormed self }
     {
         self.log.into_parts()
     }
@@ -71,7 +72,7 @@ impl Logged {
     pub fn machine(&self) -> &Machine
         ensures machine { result.now ≡ self.now.machine }
         ensures home { AreHome result.now }
-        ensures kept { IsKept self.now }
+        ensures kept { IsWellFormed self.now }
         ensures replay { IsReplay self.now.opening self.now.steps self.now.machine }
         ensures explained { IsSerialized self.now.opening self.now.steps self.now.machine }
     {
@@ -103,10 +104,12 @@ impl Logged {
     pub fn step(&mut self, step: Step) -> Result<Outcome, LockRefusal>
         ensures taken { IfOk result (λ o. HasTaken self.old step o self.new) }
         ensures answer { IfOk result (λ o. o ≡ answer_after self.old.opening self.old.steps step) }
-        ensures poked { IfOk result (λ o. IsIdle self.old.machine → (poke : Poke) → step ≡ Step.Poke poke → IsPoked self.old.machine poke o self.new.machine) }
+        ensures poked { IfOk result (λ o. IsIdle self.old.machine → (poke : Poke) → step ≡ Step.Poke poke →
+            IsPoked self.old.machine poke o self.new.machine) }
         ensures unnamed { (result ≡ Err LockRefusal.Unnamed) ↔ (is_named self.old.machine.config step ≡ false) }
         ensures not_free { result ≡ Err LockRefusal.NotFree → ⊥ }
-        ensures full { (result ≡ Err LockRefusal.Full) ↔ ((is_named self.old.machine.config step ≡ true) × (4194304 ≤ length self.old.steps)) }
+        ensures full { (result ≡ Err LockRefusal.Full)
+            ↔ ((is_named self.old.machine.config step ≡ true) × (4194304 ≤ length self.old.steps)) }
         ensures refused { OnErr result (self.new ≡ self.old) }
     {
         if !self.names(&step) {
@@ -122,10 +125,10 @@ impl Logged {
     ///
     /// [`LockRefusal::Full`] where the log would pass [`steps::MAX_STEPS`] steps with them, else
     /// [`LockRefusal::Memory`] where there is no memory. Each leaves all as it was.
-    pub fn room(&mut self, extra: u32) -> Result<&mut Roomy, LockRefusal>
+    pub fn room(&mut self, extra: u32) -> Result<&mut ReservedLog, LockRefusal>
         ensures* lends { sem 𝓛 (LendsRoom self.entry result) }
-        ensures places { IfOk result (λ roomy. extra ≤ roomy.now.places) }
-        ensures log { IfOk result (λ roomy. roomy.now.log ≡ self.old) }
+        ensures capacity_left { IfOk result (λ reserved. extra ≤ reserved.now.capacity_left) }
+        ensures log { IfOk result (λ reserved. reserved.now.log ≡ self.old) }
         ensures full { (result ≡ Err LockRefusal.Full) ↔ (4194304 < length self.old.steps + extra) }
         ensures named { result ≡ Err LockRefusal.Unnamed → ⊥ }
         ensures not_free { result ≡ Err LockRefusal.NotFree → ⊥ }
@@ -145,7 +148,8 @@ impl Logged {
         ensures drained { IfOk result (λ count. IsDrained self.old.machine count self.new.machine) }
         ensures entered { OnOk result (self.new.steps ≡ self.old.steps ++ drain_steps self.old.machine) }
         ensures opening { self.new.opening ≡ self.old.opening }
-        ensures full { (result ≡ Err LockRefusal.Full) ↔ (4194304 < length self.old.steps + drain_bound self.old.machine.config) }
+        ensures full { (result ≡ Err LockRefusal.Full)
+            ↔ (4194304 < length self.old.steps + drain_bound self.old.machine.config) }
         ensures named { result ≡ Err LockRefusal.Unnamed → ⊥ }
         ensures not_free { result ≡ Err LockRefusal.NotFree → ⊥ }
         ensures refused { OnErr result (self.new ≡ self.old) }
@@ -165,13 +169,16 @@ impl Logged {
     /// [`LockRefusal::Memory`] where there is no memory for them. Each leaves all as it was.
     pub fn one(&mut self, p: u8) -> Result<Outcome, LockRefusal>
         ensures whole { IfOk result (λ o. IsIdle self.old.machine → IsOne self.old.machine p o self.new.machine) }
-        ensures busy { IfOk result (λ o. (IsIdle self.old.machine → ⊥) → (o ≡ Outcome.Stalled) × (self.new ≡ self.old)) }
-        ensures entered { OnOk result (IsIdle self.old.machine → self.new.steps ≡ self.old.steps ++ one_steps self.old.machine p) }
+        ensures busy { IfOk result (λ o. (IsIdle self.old.machine → ⊥) →
+            (o ≡ Outcome.Stalled) × (self.new ≡ self.old)) }
+        ensures entered { OnOk result (IsIdle self.old.machine →
+            self.new.steps ≡ self.old.steps ++ one_steps self.old.machine p) }
         ensures longer { OnOk result (IsLonger self.old self.new (2 * self.old.machine.config.k + 3)) }
         ensures unnamed { (result ≡ Err LockRefusal.Unnamed) ↔ (nat_lt p (2 ^ self.old.machine.config.k) ≡ false) }
         ensures not_free { result ≡ Err LockRefusal.NotFree → ⊥ }
         ensures full { (result ≡ Err LockRefusal.Full)
-            ↔ ((p < 2 ^ self.old.machine.config.k) × (4194304 < length self.old.steps + (2 * self.old.machine.config.k + 3))) }
+            ↔ ((p < 2 ^ self.old.machine.config.k)
+            × (4194304 < length self.old.steps + (2 * self.old.machine.config.k + 3))) }
         ensures refused { OnErr result (self.new ≡ self.old) }
     {
         let config = self.machine().config();
@@ -212,24 +219,24 @@ pub fn names(config: Config, step: &Step) -> bool
     requires { IsWithinLimits config }
     ensures { result ≡ is_named config step.now }
 {
-    let places = config.processors();
+    let capacity_left = config.processors();
     match *step {
-        Step::Turn(place) | Step::Serve(place) => place < places,
+        Step::Turn(place) | Step::Serve(place) => place < capacity_left,
         Step::Up { stage, wire } | Step::Down { stage, wire } => {
-            stage < config.k && wire < places
+            stage < config.k && wire < capacity_left
         }
         Step::Poke(Poke::Register { processor, .. } | Poke::Local { processor, .. }) => {
-            processor < places
+            processor < capacity_left
         }
         Step::Poke(Poke::Shared { .. }) => true,
     }
 }
 
 /// What holds of every log: each proof about one may cite it, at the cost of nothing.
-pub fn log_is_kept(log: &Logged)
-    ensures kept { IsKept log.now }
+pub fn log_is_well_formed(log: &Logged)
+    ensures kept { IsWellFormed log.now }
     ensures home { AreHome log.now.machine }
     ensures replay { IsReplay log.now.opening log.now.steps log.now.machine }
 {
-    roomy_is_kept(&log.log);
+    reserved_log_is_well_formed(&log.log);
 }

@@ -11,8 +11,8 @@ pub enum LockRefusal {
     /// The log would pass [`steps::MAX_STEPS`] steps, with those that are promised to loans.
     #[error("L2")]
     Full,
-    /// The machine has no processor, module, wire or stage of a number that was named, or the call does not take steps of
-    /// this kind.
+    /// The machine has no processor, module, wire or stage of a number that was named, or the call does not take steps
+    /// of this kind.
     #[error("L3")]
     Unnamed,
     /// A core is not lent: its processor has a reference open, does not run, or its core is lent already.

@@ -6,8 +6,8 @@ ghost use Rattle.machine_steps.specs.Noting.{AreNoted};
 ghost use Rattle.machine_steps.specs.Runs.{IsReplay, IsSerialized};
 ghost use Rattle.machine_log.specs.Replays.{StallsAt};
 
-use machine_steps::{Machine, machine_is_sound};
-use steps::{Nobody, Notes, Step};
+use machine_steps::{Machine, machine_is_well_formed};
+use steps::{NoObserver, Step, StepObserver};
 use thiserror::Error;
 
 /// A step of a trace stalls, so the trace is none of this machine's.
@@ -28,33 +28,36 @@ pub fn replay(machine: &mut Machine, steps: &[Step]) -> Result<(), StalledStep>
     ensures stalled { IfErr result (λ e. StallsAt machine.old steps.now e.place machine.new) }
     ensures serialized { IsIdle machine.old → OnOk result (IsSerialized machine.old steps.now machine.new) }
 {
-    let Ok(replayed) = replay_noted(machine, steps, &mut Nobody);
+    let Ok(replayed) = replay_observed(machine, steps, &mut NoObserver);
     replayed
 }
 
-/// Takes the steps of a trace, as [`replay`] does, and tells each to the notes. Answers what `replay` does.
+/// Takes the steps of a trace, as [`replay`] does, and says each to the notes. Answers what `replay` does.
 ///
 /// # Errors
 ///
 /// That of the notes, where a step could not be noted. The machine has taken it, and those before.
-pub fn replay_noted<N: Notes>(
+pub fn replay_observed<N: StepObserver>(
     machine: &mut Machine,
     steps: &[Step],
-    notes: &mut N,
+    observer: &mut N,
 ) -> Result<Result<(), StalledStep>, N::Refusal>
-    requires room { N.has_room notes.old (length steps.now) }
+    requires room { N.has_room observer.old (length steps.now) }
     ensures replay { IfOk result (λ replayed. OnOk replayed (IsReplay machine.old steps.now machine.new)) }
-    ensures stalled { IfOk result (λ replayed. IfErr replayed (λ e. StallsAt machine.old steps.now e.place machine.new)) }
-    ensures serialized { IsIdle machine.old → IfOk result (λ replayed. OnOk replayed (IsSerialized machine.old steps.now machine.new)) }
-    ensures noted { IfOk result (λ replayed. OnOk replayed (AreNoted N.noted machine.old steps.now notes.old notes.new)) }
+    ensures stalled { IfOk result (λ replayed. IfErr replayed
+        (λ e. StallsAt machine.old steps.now e.place machine.new)) }
+    ensures serialized { IsIdle machine.old →
+        IfOk result (λ replayed. OnOk replayed (IsSerialized machine.old steps.now machine.new)) }
+    ensures observed { IfOk result (λ replayed. OnOk replayed
+        (AreNoted N.observed machine.old steps.now observer.old observer.new)) }
 {
-    machine_is_sound(machine);
+    machine_is_well_formed(machine);
     for (place, step) in steps.iter().enumerate() {
         let outcome = machine.apply(*step);
         if outcome.is_stalled() {
             return Ok(Err(StalledStep { place }));
         }
-        notes.note(*step, &outcome)?;
+        observer.observe(*step, &outcome)?;
     }
     Ok(Ok(()))
 }

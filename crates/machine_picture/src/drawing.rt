@@ -1,10 +1,10 @@
 //! The picture.
 
+use crate::draw::Draw;
 use crate::elements::{Point, push_box, push_line, push_text};
 use crate::layout::{END_WIDTH, ROW_HEIGHT, SWITCH_WIDTH, left_of, top_of, wire_into, wires_of};
-use crate::places::{Kind, Place};
-use crate::queues::queue_text;
-use crate::scene::{Scene, Shown};
+use crate::queues::{records_text, replies_text, requests_text};
+use crate::view::{MachineView, ProcessorView};
 use command_io::{push_status, push_word};
 use flat_machine::Config;
 use std::alloc::{AllocError, Global};
@@ -30,33 +30,37 @@ const LEGEND: [&str; 4] = [
     "0{0 1}: the message that 0 leads, for 0 and 1",
 ];
 
-/// The picture of a machine, as an SVG.
-///
-/// # Errors
-///
-/// [`AllocError`] where there is no memory for it.
-pub fn picture(alloc: Global, scene: &Scene<'_>) -> Result<String, AllocError> {
-    let mut text = String::new(alloc);
-    push_head(&mut text, scene)?;
-    push_lines(&mut text, scene)?;
-    for p in 0..wires_of(scene.config.k) {
-        push_processor(alloc, &mut text, scene, p)?;
+/// A picture, as an SVG: from left to right the processors, the stages of switches with their queues and wait records,
+/// and the modules. No contract says what it shows of a view.
+#[derive(Clone, Copy, Debug, Drop)]
+pub struct Svg;
+
+impl Draw for Svg {
+    ghost draws = { λ svg view text. Unit {0} };
+
+    fn draw(&self, alloc: Global, view: &MachineView) -> Result<String, AllocError> {
+        let mut text = String::new(alloc);
+        push_head(&mut text, view)?;
+        push_lines(&mut text, view)?;
+        for p in 0..wires_of(view.config.k) {
+            push_processor(alloc, &mut text, view, p)?;
+        }
+        for stage in 0..view.config.k {
+            push_stage(alloc, &mut text, view, stage)?;
+        }
+        for m in 0..wires_of(view.config.k) {
+            push_module(alloc, &mut text, view, m)?;
+        }
+        push_legend(&mut text, view)?;
+        text.push_str("</svg>\n")?;
+        Ok(text)
     }
-    for stage in 0..scene.config.k {
-        push_stage(alloc, &mut text, scene, stage)?;
-    }
-    for m in 0..wires_of(scene.config.k) {
-        push_module(alloc, &mut text, scene, m)?;
-    }
-    push_legend(&mut text, scene)?;
-    text.push_str("</svg>\n")?;
-    Ok(text)
 }
 
 /// The beginning, and a line that says what machine it is.
-fn push_head(text: &mut String, scene: &Scene<'_>) -> Result<(), AllocError> {
-    let Config { k, c, b, .. } = scene.config;
-    let steps = scene.steps;
+fn push_head(text: &mut String, view: &MachineView) -> Result<(), AllocError> {
+    let Config { k, c, b, r, .. } = view.config;
+    let steps = view.steps;
     let width = left_of(k) + END_WIDTH + 10;
     let height = top_of(wires_of(k)) + 70;
     write!(
@@ -67,14 +71,14 @@ fn push_head(text: &mut String, scene: &Scene<'_>) -> Result<(), AllocError> {
     text.push_str(STYLE)?;
     write!(
         text,
-        "<text x=\"10\" y=\"15\">the machine behind {steps} steps; k {k} c {c} b {b}</text>"
+        "<text x=\"10\" y=\"15\">the machine behind {steps} steps; k {k} c {c} b {b} r {r}</text>"
     )?;
     text.push('\n')
 }
 
 /// What stands where, below the rows.
-fn push_legend(text: &mut String, scene: &Scene<'_>) -> Result<(), AllocError> {
-    let mut y = top_of(wires_of(scene.config.k)) + 18;
+fn push_legend(text: &mut String, view: &MachineView) -> Result<(), AllocError> {
+    let mut y = top_of(wires_of(view.config.k)) + 18;
     for line in &LEGEND {
         let at = Point { x: PROCESSORS, y };
         push_text(text, at, 2 * END_WIDTH + 60, "legend", line)?;
@@ -83,13 +87,13 @@ fn push_legend(text: &mut String, scene: &Scene<'_>) -> Result<(), AllocError> {
     Ok(())
 }
 
-/// The wires: between the stages they are shuffled, and behind the last one they go straight to the modules.
-fn push_lines(text: &mut String, scene: &Scene<'_>) -> Result<(), AllocError> {
-    let wires = wires_of(scene.config.k);
-    for stage in 0..scene.config.k {
+/// The wires: between the stages they are shuffled, and after the last one they go straight to the modules.
+fn push_lines(text: &mut String, view: &MachineView) -> Result<(), AllocError> {
+    let wires = wires_of(view.config.k);
+    for stage in 0..view.config.k {
         push_wires(text, stage, wires, true)?;
     }
-    push_wires(text, scene.config.k, wires, false)
+    push_wires(text, view.config.k, wires, false)
 }
 
 /// The wires before a stage, or before the modules.
@@ -122,7 +126,7 @@ fn right_before(stage: u8) -> u32 {
 fn push_processor(
     alloc: Global,
     text: &mut String,
-    scene: &Scene<'_>,
+    view: &MachineView,
     processor: u8,
 ) -> Result<(), AllocError> {
     let top = top_of(processor);
@@ -131,7 +135,7 @@ fn push_processor(
         y: top + 2,
     };
     push_box(text, corner, END_WIDTH, ROW_HEIGHT - 4)?;
-    let Some(shown) = scene.processors.get(usize::from(processor)) else {
+    let Some(shown) = view.processors.as_slice().get(usize::from(processor)) else {
         return Ok(());
     };
     let at = Point {
@@ -140,53 +144,86 @@ fn push_processor(
     };
     let line = processor_text(alloc, processor, shown)?;
     push_text(text, at, END_WIDTH - 8, "processor", line.as_str())?;
-    let place = Place {
-        kind: Kind::Request,
-        depth: 0,
-        wire: processor,
-    };
     let at = Point {
         x: PROCESSORS + END_WIDTH - 4,
         y: top + 41,
     };
-    push_queue(alloc, text, scene, place, at)
+    push_requests(alloc, text, view, (0, processor), at)
 }
 
 /// What a processor does, where it stands, and the word to which it refers.
-fn processor_text(alloc: Global, processor: u8, shown: &Shown) -> Result<String, AllocError> {
+fn processor_text(
+    alloc: Global,
+    processor: u8,
+    shown: &ProcessorView,
+) -> Result<String, AllocError> {
     let mut line = String::new(alloc);
     write!(line, "{processor} ")?;
     push_status(alloc, &mut line, shown.status)?;
     line.push(' ')?;
     push_word(alloc, &mut line, shown.pc)?;
-    if let Some(word) = &shown.referred {
+    if let Some(word) = &shown.word {
         write!(line, " word {}", word.number)?;
     }
     Ok(line)
 }
 
-/// The messages of a place, in the style of their kind.
-fn push_queue(
+/// The requests at the place of a depth and a wire.
+fn push_requests(
     alloc: Global,
     text: &mut String,
-    scene: &Scene<'_>,
-    place: Place,
+    view: &MachineView,
+    (depth, wire): (u8, u8),
     at: Point,
 ) -> Result<(), AllocError> {
-    let queue = queue_text(alloc, scene, place)?;
-    let class = match place.kind {
-        Kind::Request => "request",
-        Kind::Reply => "reply",
-        Kind::Record => "record",
-    };
-    push_text(text, at, SWITCH_WIDTH - 8, class, queue.as_str())
+    match view.place(depth, wire) {
+        Some(place) => {
+            let queue = requests_text(alloc, place.requests.as_slice())?;
+            push_text(text, at, SWITCH_WIDTH - 8, "request", queue.as_str())
+        }
+        None => Ok(()),
+    }
+}
+
+/// The wait records of the output that goes to the place of a depth and a wire.
+fn push_records(
+    alloc: Global,
+    text: &mut String,
+    view: &MachineView,
+    (depth, wire): (u8, u8),
+    at: Point,
+) -> Result<(), AllocError> {
+    match view.place(depth, wire) {
+        Some(place) => {
+            let queue = records_text(alloc, place.records.as_slice())?;
+            push_text(text, at, SWITCH_WIDTH - 8, "record", queue.as_str())
+        }
+        None => Ok(()),
+    }
+}
+
+/// The replies at the place of a depth and a wire.
+fn push_replies(
+    alloc: Global,
+    text: &mut String,
+    view: &MachineView,
+    (depth, wire): (u8, u8),
+    at: Point,
+) -> Result<(), AllocError> {
+    match view.place(depth, wire) {
+        Some(place) => {
+            let queue = replies_text(alloc, place.replies.as_slice())?;
+            push_text(text, at, SWITCH_WIDTH - 8, "reply", queue.as_str())
+        }
+        None => Ok(()),
+    }
 }
 
 /// The switches of a stage: its name, a box for each two rows, and what stands in each row.
 fn push_stage(
     alloc: Global,
     text: &mut String,
-    scene: &Scene<'_>,
+    view: &MachineView,
     stage: u8,
 ) -> Result<(), AllocError> {
     let at = Point {
@@ -195,7 +232,7 @@ fn push_stage(
     };
     let title = format!(in alloc; "stage {stage}")?;
     push_text(text, at, SWITCH_WIDTH, "stage", title.as_str())?;
-    for row in 0..wires_of(scene.config.k) {
+    for row in 0..wires_of(view.config.k) {
         if row % 2 == 0 {
             let corner = Point {
                 x: left_of(stage),
@@ -203,7 +240,7 @@ fn push_stage(
             };
             push_box(text, corner, SWITCH_WIDTH, 2 * ROW_HEIGHT - 4)?;
         }
-        push_row(alloc, text, scene, stage, row)?;
+        push_row(alloc, text, view, stage, row)?;
     }
     Ok(())
 }
@@ -212,54 +249,50 @@ fn push_stage(
 fn push_row(
     alloc: Global,
     text: &mut String,
-    scene: &Scene<'_>,
+    view: &MachineView,
     stage: u8,
     row: u8,
 ) -> Result<(), AllocError> {
     let (left, top) = (left_of(stage), top_of(row));
-    let wires = wires_of(scene.config.k);
-    let depth = stage.saturating_add(1);
-    let rows = [
-        (Kind::Reply, stage, wire_into(wires, row), 4, 15),
-        (Kind::Record, depth, row, 75, 28),
-        (Kind::Request, depth, row, 146, 41),
-    ];
-    for (kind, depth, wire, right, down) in rows {
-        let place = Place { kind, depth, wire };
-        let at = Point {
-            x: left + right,
-            y: top + down,
-        };
-        push_queue(alloc, text, scene, place, at)?;
-    }
-    Ok(())
+    let before = (stage, wire_into(wires_of(view.config.k), row));
+    let behind = (stage.saturating_add(1), row);
+    let at = Point {
+        x: left + 4,
+        y: top + 15,
+    };
+    push_replies(alloc, text, view, before, at)?;
+    let at = Point {
+        x: left + 75,
+        y: top + 28,
+    };
+    push_records(alloc, text, view, behind, at)?;
+    let at = Point {
+        x: left + 146,
+        y: top + 41,
+    };
+    push_requests(alloc, text, view, behind, at)
 }
 
 /// A module: its number, a word of it to which a processor refers, and the reply that it sends.
 fn push_module(
     alloc: Global,
     text: &mut String,
-    scene: &Scene<'_>,
+    view: &MachineView,
     module: u8,
 ) -> Result<(), AllocError> {
-    let left = left_of(scene.config.k);
+    let left = left_of(view.config.k);
     let top = top_of(module);
     let corner = Point {
         x: left,
         y: top + 2,
     };
     push_box(text, corner, END_WIDTH, ROW_HEIGHT - 4)?;
-    let place = Place {
-        kind: Kind::Reply,
-        depth: scene.config.k,
-        wire: module,
-    };
     let at = Point {
         x: left + 4,
         y: top + 15,
     };
-    push_queue(alloc, text, scene, place, at)?;
-    let line = module_text(alloc, scene, module)?;
+    push_replies(alloc, text, view, (view.config.k, module), at)?;
+    let line = module_text(alloc, view, module)?;
     let at = Point {
         x: left + 4,
         y: top + 41,
@@ -268,12 +301,12 @@ fn push_module(
 }
 
 /// A module's number, and the word that the first processor refers to whose reference is to this module.
-fn module_text(alloc: Global, scene: &Scene<'_>, module: u8) -> Result<String, AllocError> {
-    let wires = u32::from(wires_of(scene.config.k));
+fn module_text(alloc: Global, view: &MachineView, module: u8) -> Result<String, AllocError> {
+    let wires = u32::from(wires_of(view.config.k));
     let mut line = String::new(alloc);
     write!(line, "module {module}")?;
-    for shown in scene.processors {
-        if let Some(word) = &shown.referred
+    for shown in view.processors.as_slice() {
+        if let Some(word) = &shown.word
             && word.number % wires == u32::from(module)
         {
             write!(line, " word {} = ", word.number)?;

@@ -34,7 +34,7 @@ pub fn wire_into(wires: u8, row: u8) -> u8 {
     (row / 2).saturating_add(half)
 }
 
-/// The left side of the boxes of a stage; of the modules, for the stage behind the last.
+/// The left side of the boxes of a stage; of the modules, for the stage after the last.
 pub fn left_of(stage: u8) -> u32
     ensures { result ≤ 100000 }
 {

@@ -1,31 +1,43 @@
 //! The texts of messages.
 
-use crate::layout::wires_of;
-use crate::places::{Kind, Place, Told, told_at};
-use crate::scene::Scene;
+use crate::view::{ReplyView, RequestView};
+use messages::Record;
 use std::alloc::{AllocError, Global};
 use std::fmt::Write;
 
-/// The messages of a place. The first of a queue stands where it goes out: a request to the right, a reply to the left.
-pub fn queue_text(alloc: Global, scene: &Scene<'_>, place: Place) -> Result<String, AllocError> {
+/// Requests, the first to go on at the right.
+pub fn requests_text(alloc: Global, requests: &[RequestView]) -> Result<String, AllocError> {
     let mut text = String::new(alloc);
-    for position in 0..64 {
-        let Some(told) = told_at(scene.network, place, position) else {
-            break;
-        };
-        let message = told_text(alloc, scene, told)?;
-        text = beside(alloc, place.kind, text, message)?;
+    for shown in requests {
+        let message = message_text(alloc, shown.request.leader, shown.group.as_slice())?;
+        text = beside(alloc, &message, &text)?;
     }
     Ok(text)
 }
 
-/// What stands there, and one message more.
-fn beside(alloc: Global, kind: Kind, text: String, message: String) -> Result<String, AllocError> {
-    let (left, right) = if kind == Kind::Request {
-        (message, text)
-    } else {
-        (text, message)
-    };
+/// Replies, the first to go on at the left.
+pub fn replies_text(alloc: Global, replies: &[ReplyView]) -> Result<String, AllocError> {
+    let mut text = String::new(alloc);
+    for shown in replies {
+        let message = message_text(alloc, shown.reply.leader, shown.group.as_slice())?;
+        text = beside(alloc, &text, &message)?;
+    }
+    Ok(text)
+}
+
+/// Records, the oldest at the left: into whose request whose was combined.
+pub fn records_text(alloc: Global, records: &[Record]) -> Result<String, AllocError> {
+    let mut text = String::new(alloc);
+    for record in records {
+        let Record { leader, second, .. } = *record;
+        let joined = format!(in alloc; "{leader}+{second}")?;
+        text = beside(alloc, &text, &joined)?;
+    }
+    Ok(text)
+}
+
+/// Two texts, one beside the other.
+fn beside(alloc: Global, left: &String, right: &String) -> Result<String, AllocError> {
     let mut both = String::new(alloc);
     both.push_str(left.as_str())?;
     if !left.is_empty() && !right.is_empty() {
@@ -35,32 +47,23 @@ fn beside(alloc: Global, kind: Kind, text: String, message: String) -> Result<St
     Ok(both)
 }
 
-/// A message: who leads it, and, where that are more, for whom it stands. Of a record, into whose request whose was combined.
-fn told_text(alloc: Global, scene: &Scene<'_>, told: Told) -> Result<String, AllocError> {
-    match told {
-        Told::Record(leader, second) => Ok(format!(in alloc; "{leader}+{second}")?),
-        Told::Message(leader) => message_text(alloc, scene, leader),
-    }
-}
-
-/// The message of a leader.
-fn message_text(alloc: Global, scene: &Scene<'_>, leader: u8) -> Result<String, AllocError> {
+/// The message of a leader: who leads it, and, where that are more, for whom it stands.
+fn message_text(alloc: Global, leader: u8, group: &[u8]) -> Result<String, AllocError> {
     let mut text = String::new(alloc);
     write!(text, "{leader}")?;
-    let group = group_text(alloc, scene, leader)?;
-    if group.as_str() != text.as_str() {
+    if group.len() > 1 {
         text.push('{')?;
-        text.push_str(group.as_str())?;
+        text.push_str(members_text(alloc, group)?.as_str())?;
         text.push('}')?;
     }
     Ok(text)
 }
 
-/// For whom the message of a leader stands.
-fn group_text(alloc: Global, scene: &Scene<'_>, leader: u8) -> Result<String, AllocError> {
+/// The members of a group, by their numbers.
+fn members_text(alloc: Global, group: &[u8]) -> Result<String, AllocError> {
     let mut text = String::new(alloc);
-    for p in 0..wires_of(scene.network.stages()) {
-        if scene.leaders.of_processor(p) == leader {
+    for p in 0..64_u8 {
+        if group.contains(&p) {
             if !text.is_empty() {
                 text.push(' ')?;
             }

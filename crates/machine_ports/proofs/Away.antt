@@ -80,10 +80,12 @@ module _ (s : Setting) (code : List ℕ) (p : Processor) where
   stays : (t : Turn) → turn_of s code p ≡ t → Stays p t
   stays t is = subst (Stays p) is (turn_stays s code p (fetched code p.pc))
 
+  -- A turn that retires leaves a core at home that is at home, and away if it is away.
   pub retires_stays : (after : Processor) (retired : Retired) → turn_of s code p ≡ Retires after retired → is_away after ≡ is_away p
   unfolding Stays
   retires_stays after retired is = stays (Retires after retired) is
 
+  -- A turn that reaches a shared word leaves a core at home or away, as it was, whatever it finds there.
   pub reaches_stays : (word : ℕ) (change : ℕ → ℕ) (after : ℕ → Processor × Retired) (found : ℕ) → turn_of s code p ≡ Reaches word change after →
       is_away (after found).0 ≡ is_away p
   unfolding Stays
@@ -91,6 +93,7 @@ module _ (s : Setting) (code : List ℕ) (p : Processor) where
 
 -- ---- writes from outside
 
+-- A poke of a register or pc leaves a core at home that is at home, and away if it is away.
 pub register_stays : (register value : ℕ) (p : Processor) → is_away (with_poked_register register value p) ≡ is_away p
 register_stays register value p = by (eqb register 32)
   where

@@ -14,14 +14,17 @@ use Rattle.hart.proofs.Lemmas.{add_meaning, and_meaning, load_meaning, max_meani
 use Rattle.hart.proofs.Lemmas.{min_meaning, minu_meaning, or_meaning, swap_meaning, xor_meaning}
 use Rattle.flat_machine.specs.Operations.{amo_value}
 
+-- The function of a load is in range.
 pub load_range : IsInRange load_phi
 unfolding load_phi
 load_range = (omega arith, omega arith)
 
+-- The function of a load leaves each word as it is.
 pub load_means : (x : ℕ) → x < 2 ^ 32 → apply load_phi x ≡ x
 unfolding load_phi
 load_means x h = load_meaning x h
 
+-- The function of a store within a word is in range.
 pub store_range : (size offset v : ℕ) → offset + size ≤ 4 → IsInRange (store_phi size offset v)
 unfolding store_phi
 store_range size offset v inside =
@@ -38,6 +41,7 @@ least_first v h = grind (arith, ints)
 greatest_last : (v : ℕ) → v < 2 ^ 32 → cast_signed w32 v ≤ℤ pos (2 ^ 31 - 1)
 greatest_last v h = grind (arith, ints)
 
+-- The function of an atomic operation with a word is in range.
 pub amo_range : (op : AmoOp) (v : ℕ) → v < 2 ^ 32 → IsInRange (amo_phi op v)
 unfolding amo_phi
 amo_range amo.Add v h = h
@@ -50,6 +54,7 @@ amo_range amo.Max v h = record { lo_fits = read_sfits w32 v; hi_fits = record { 
 amo_range amo.Minu v h = record { ordered = omega arith; hi_fits = h }
 amo_range amo.Maxu v h = record { ordered = omega arith; hi_fits = omega arith }
 
+-- The function of an atomic operation means what the operation makes of a word.
 pub amo_means : (op : AmoOp) (v x : ℕ) → v < 2 ^ 32 → x < 2 ^ 32 → apply (amo_phi op v) x ≡ amo_value op x v
 unfolding amo_phi
 amo_means amo.Add v x small h = add_meaning v x

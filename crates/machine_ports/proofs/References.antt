@@ -129,6 +129,8 @@ unfolding Means
 turn_means s code p (Ok i) h = performed_means s code p i (effect_of s p.pc p.registers i) (effect_stores s p.pc p.registers i h.registers)
 turn_means s code p (Err fault) h = tt
 
+-- If a processor's next turn refers to a word, the function of the reference is in range and means what becomes
+-- of the word, and the word is one that there is.
 pub reference_means : (s : Setting) (code : List ℕ) (p : Processor) (word : ℕ) (change : ℕ → ℕ) (after : ℕ → Processor × Retired) →
     HasWords p → turn_of s code p ≡ Reaches word change after →
     IsInRange (reference_phi s code p) × ((x : ℕ) → x < 2 ^ 32 → apply (reference_phi s code p) x ≡ change x) × (word < s.shared_words)
@@ -139,11 +141,14 @@ reference_means s code p word change after h reaches = subst (Means s (phi_of_in
 
 module _ (s : Setting) (code : List ℕ) (p : Processor) (word : ℕ) (change : ℕ → ℕ) (after : ℕ →
     Processor × Retired) (h : HasWords p) (reaches : turn_of s code p ≡ Reaches word change after) where
+  -- The function of the reference is in range.
   pub reference_in_range : IsInRange (reference_phi s code p)
   reference_in_range = (reference_means s code p word change after h reaches).0
 
+  -- The function of the reference means what becomes of the word.
   pub reference_means_change : (x : ℕ) → x < 2 ^ 32 → apply (reference_phi s code p) x ≡ change x
   reference_means_change = (reference_means s code p word change after h reaches).1
 
+  -- The word of the reference is one that there is.
   pub reference_is_there : word < s.shared_words
   reference_is_there = (reference_means s code p word change after h reaches).2

@@ -47,8 +47,8 @@ with_state p state = record p { core = record p.core { state = state } }
 abbrev pub turn : PortState → (code : List ℕ) → Turn
 turn p code = turn_of p.core.setting code p.core.state
 
--- The function of a reference, by the table of instructions and functions. What refers to no word has none; the identity
--- stands for it.
+-- The function of a reference, by the table of instructions and functions. What refers to no word has none; the
+-- identity stands for it.
 abbrev pub phi_of_effect : Effect → Phi
 phi_of_effect (does.Load op rd address) = load_phi
 phi_of_effect (does.Store op address value) = store_phi (store_size op) (address % 4) value
@@ -63,9 +63,10 @@ phi_of_insn s p (Err fault) = Add 0
 unfoldable pub reference_phi : Setting → (code : List ℕ) → Processor → Phi
 reference_phi s code p = phi_of_insn s p (fetched code p.pc)
 
--- What the turn of a port does that is not open, and the port after it: an instruction is done or stops the processor, or a
--- reference opens the port.
+-- What the turn of a port does that is not open, and the port after it: an instruction is done or stops the processor,
+-- or a reference opens the port.
 abbrev pub begun : PortState → (code : List ℕ) → Turn → Begun × PortState
 begun p code (Retires after retired) = (Retired retired, with_state p after)
-begun p code (Reaches word change after) = (Referred word (reference_phi p.core.setting code p.core.state), record p { is_open = true })
+begun p code (Reaches word change after) =
+    (Referred word (reference_phi p.core.setting code p.core.state), record p { is_open = true })
 begun p code (Stops cause) = (Stopped cause, with_state p (record p.core.state { status = status_of cause }))

@@ -12,10 +12,14 @@ ghost use Rattle.machine_ports.specs.Ports.{reference_phi};
 /// The function of a reference is in range and means what the turn makes of the word, and the word
 /// is one that there is.
 pub fn references_mean_their_changes()
-    ensures in_range { (s : Setting) (code : List ℕ) (p : Processor) (word : ℕ) (change : ℕ → ℕ) (after : ℕ → Processor × Retired) → HasWords p →
+    ensures in_range { (s : Setting) (code : List ℕ) (p : Processor) (word : ℕ) (change : ℕ → ℕ) (after : ℕ →
+        Processor × Retired) → HasWords p →
         turn_of s code p ≡ Reaches word change after → IsInRange (reference_phi s code p) }
-    ensures meaning { (s : Setting) (code : List ℕ) (p : Processor) (word : ℕ) (change : ℕ → ℕ) (after : ℕ → Processor × Retired) → HasWords p →
-        turn_of s code p ≡ Reaches word change after → (x : ℕ) → x < 2 ^ 32 → apply (reference_phi s code p) x ≡ change x }
-    ensures there { (s : Setting) (code : List ℕ) (p : Processor) (word : ℕ) (change : ℕ → ℕ) (after : ℕ → Processor × Retired) → HasWords p →
+    ensures meaning { (s : Setting) (code : List ℕ) (p : Processor) (word : ℕ) (change : ℕ → ℕ) (after : ℕ →
+        Processor × Retired) → HasWords p →
+        turn_of s code p ≡ Reaches word change after → (x : ℕ) → x < 2 ^ 32 →
+        apply (reference_phi s code p) x ≡ change x }
+    ensures there { (s : Setting) (code : List ℕ) (p : Processor) (word : ℕ) (change : ℕ → ℕ) (after : ℕ →
+        Processor × Retired) → HasWords p →
         turn_of s code p ≡ Reaches word change after → word < s.shared_words }
 {}

@@ -1,6 +1,7 @@
 //! A port.
 
-ghost use Rattle.std.specs.Prelude.{◌≡◌, ℕ, ◌<◌, ◌≤◌, ◌^◌, ◌%◌, true, false, List, length, IfOk, Some, None, if◌then◌else◌, slice_get, slice_index};
+ghost use Rattle.std.specs.Prelude.{◌≡◌, ℕ, ◌<◌, ◌≤◌, ◌^◌, ◌%◌, true, false, List, length, IfOk, Some, None};
+ghost use Rattle.std.specs.Prelude.{if◌then◌else◌, slice_get, slice_index};
 ghost use Rattle.std.specs.Option.{option_copied};
 ghost use Rattle.flat_machine.specs.State.{is_running, status_of};
 ghost use Rattle.flat_machine.specs.Flat.{is_lawful_register, with_poked_byte, with_poked_register};
@@ -164,7 +165,9 @@ impl Port {
     pub fn poke_register(&mut self, register: u8, value: u32) -> bool
         requires home { is_away self.old.core.state ≡ false }
         ensures lawful { result ≡ is_lawful_register register value }
-        ensures written { self.new ≡ (if is_lawful_register register value then with_state self.old (with_poked_register register value self.old.core.state)
+        ensures written { self.new
+            ≡ (if is_lawful_register register value
+            then with_state self.old (with_poked_register register value self.old.core.state)
             else self.old) }
     {
         let Some(core) = &mut self.core else {
@@ -183,7 +186,9 @@ impl Port {
     pub fn poke_byte(&mut self, address: u32, value: u8) -> bool
         requires home { is_away self.old.core.state ≡ false }
         ensures lawful { result ≡ in_local address }
-        ensures written { self.new ≡ (if in_local address then with_state self.old (with_poked_byte address value self.old.core.state) else self.old) }
+        ensures written { self.new
+            ≡ (if in_local address then with_state self.old (with_poked_byte address value self.old.core.state)
+            else self.old) }
     {
         if address / REGION_BYTES != LOCAL_START / REGION_BYTES {
             return false;

@@ -4,7 +4,7 @@ use Rattle.flat_machine.specs.declared.config.Config.{Config}
 use Rattle.machine_theory.specs.Theory as theory
 use Rattle.steps.specs.declared.step.Step.{Step}
 use Rattle.steps.specs.declared.step.Outcome.{Outcome}
-use Rattle.machine_theory.specs.Processors.{Told}
+use Rattle.machine_theory.specs.Processors.{ObservedCore}
 use Rattle.machine_theory.specs.Steps.{outcome_of, after}
 use Rattle.machine_steps.specs.Machines.{MachineLists, machine_of, IsStep}
 use Rattle.machine_steps.specs.Runs.{all_after, IsRun}
@@ -17,33 +17,36 @@ answers_none : (m : MachineLists) → answers_of m [] ≡ []
 unfolding answers_of answers_from
 answers_none m = refl
 
+-- A machine is the run of itself over no step, with no answers.
 pub answers_begin : (m : MachineLists) → IsRun m [] m × (answers_of m [] ≡ [])
 answers_begin m = ((replay_begins m).run, answers_none m)
 
 -- what a step does that is taken next
-answered_more : (c : Config) (code : List ℕ) (M : theory.Machine Told) (done : List Step) (s : Step) →
+answered_more : (c : Config) (code : List ℕ) (M : theory.Machine ObservedCore) (done : List Step) (s : Step) →
     answers_from c code M (done ++ s ∷ []) ≡ answers_from c code M done ++ answer s (outcome_of c code (all_after c code M done) s) ∷ []
 unfolding answers_from all_after
 answered_more c code M [] s = refl
 answered_more c code M (x ∷ done) s = ap (λ xs. answer x (outcome_of c code M x) ∷ xs) (answered_more c code (after c code M x) done s)
 
 module _ (old m new : MachineLists) (done : List Step) (s : Step) (o : Outcome) (r : IsRun old done m) (is : IsStep m s o new) where
-  told_more : answers_of old (done ++ s ∷ []) ≡ answers_of old done ++ answer s o ∷ []
+  more_answers : answers_of old (done ++ s ∷ []) ≡ answers_of old done ++ answer s o ∷ []
   unfolding answers_of
-  told_more =
+  more_answers =
       answered_more old.config old.code (machine_of old (λ p. [])) done s
       ∙ ap (λ o. answers_from old.config old.code (machine_of old (λ p. [])) done ++ answer s o ∷ [])
       (outcome_there old m done r s ∙ sym is.step.outcome)
 
+-- A step that is taken next, and its outcome, stand at the end of the run and of its answers.
 pub answers_more : (opening mid new : MachineLists) (done : List Step) (s : Step) (o : Outcome) → IsRun opening done mid → IsStep mid s o new →
     IsRun opening (done ++ s ∷ []) new × (answers_of opening (done ++ s ∷ []) ≡ answers_of opening done ++ answer s o ∷ [])
-answers_more opening mid new done s o r is = (run_more opening mid new done s o r is, told_more opening mid new done s o r is)
+answers_more opening mid new done s o r is = (run_more opening mid new done s o r is, more_answers opening mid new done s o r is)
 
-counted_from : (c : Config) (code : List ℕ) (M : theory.Machine Told) (steps : List Step) → length (answers_from c code M steps) ≡ length steps
+counted_from : (c : Config) (code : List ℕ) (M : theory.Machine ObservedCore) (steps : List Step) → length (answers_from c code M steps) ≡ length steps
 unfolding answers_from
 counted_from c code M [] = refl
 counted_from c code M (s ∷ steps) = ap suc (counted_from c code (after c code M s) steps)
 
+-- There is one answer for each step.
 pub answers_counted : (m : MachineLists) (steps : List Step) → length (answers_of m steps) ≡ length steps
 unfolding answers_of
 answers_counted m steps = counted_from m.config m.code (machine_of m (λ p. [])) steps

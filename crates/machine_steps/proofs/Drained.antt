@@ -12,7 +12,7 @@ use Rattle.machine_theory.proofs.Lemmas.serialization.{bound as distances_bound,
 use Rattle.machine_theory.proofs.Lemmas.serialization.{drain_is_short, drained, idle_names_none, steady_after}
 use Rattle.steps.specs.declared.step.Step.{Step}
 use Rattle.steps.specs.declared.step.Outcome.{Outcome}
-use Rattle.machine_theory.specs.Processors.{Told, sizes_of, program}
+use Rattle.machine_theory.specs.Processors.{ObservedCore, sizes_of, program}
 use Rattle.machine_theory.specs.Steps.{named, outcome_of, after, machine_of_parts}
 use Rattle.machine_steps.specs.Machines.{MachineLists, machine_of, IsIdle, IsMachine, IsStep}
 use Rattle.machine_steps.specs.Runs.{all_after, events_of, IsRun}
@@ -26,10 +26,12 @@ pub some_none : (o : Option theory.Step) → some_step o ≡ None → o ≡ None
 some_none None e = refl
 some_none (Some st) e = absurd (cc)
 
+-- If an option of the theory's steps turns into a step, it has a step of the theory that turns into that step.
 pub named_step : (o : Option theory.Step) (s : Step) → some_step o ≡ Some s → (st : theory.Step) × (o ≡ Some st) × (step_of st ≡ s)
 named_step None s e = absurd (cc)
 named_step (Some st) s e = (st, refl, (let same : step_of st ≡ s = cc in same))
 
+-- A step of the theory is the same after it is turned into a machine's step and back.
 pub named_again : (st : theory.Step) → named (step_of st) ≡ st
 named_again (theory.Turn p) = refl
 named_again (theory.Up s w) = refl
@@ -50,7 +52,7 @@ module _ (m : MachineLists) (is : IsMachine m) where
   pub goes_on : (s : Step) → drain_step m ≡ Some s → BringsNearer m s
   unfolding outcome_of after machine_of_parts
   goes_on s names =
-      let M : theory.Machine Told = machine_of m (λ p. []) in
+      let M : theory.Machine ObservedCore = machine_of m (λ p. []) in
       let n = named_step (draining.drain_step (sizes_of m.config) M) s names in
       let d = subst (DrainIs (sizes_of m.config) (program m.config m.code) M) n.1
       (drain_is (sizes_of m.config) (program m.config m.code) M is.role is.steady room) in
@@ -66,10 +68,12 @@ module _ (m : MachineLists) (is : IsMachine m) where
         nearer = nearer;
       }
 
+  -- The next step of a drain, if there is one, does something and brings open references nearer to their ends.
   pub named_goes_on : (o : Option Step) → o ≡ drain_step m → IfSome o (BringsNearer m)
   named_goes_on None e = tt
   named_goes_on (Some s) e = goes_on s (sym e)
 
+  -- If a drain has no next step, no reference is open.
   pub none_idle : drain_step m ≡ None → IsIdle m
   unfolding machine_of_parts
   none_idle e =
@@ -79,6 +83,7 @@ module _ (m : MachineLists) (is : IsMachine m) where
       let shut = subst (DrainIs (sizes_of m.config) (program m.config m.code) (machine_of m (λ p. []))) none d in
       λ p within. shut p
 
+  -- If no reference is open, a drain has no next step.
   pub idle_none : IsIdle m → drain_step m ≡ None
   unfolding machine_of_parts
   idle_none idle = ap some_step (idle_names_none (sizes_of m.config) (program m.config m.code) (machine_of m (λ p. [])) is.role is.steady idle)
@@ -89,23 +94,28 @@ no_tail : (xs ys : List Step) → length (xs ++ ys) ≤ length xs → xs ++ ys �
 no_tail xs [] few = append-nil xs
 no_tail xs (y ∷ ys) few = let all = length-append xs (y ∷ ys) in absurd (omega (arith, all, few))
 
--- A drain of at most so many steps has taken these. Those that are still to come are named from where the machine stands.
+-- A drain of at most this many steps has taken these. Those that are still to come are named from where the machine stands.
 pub record IsUnderWay (old : MachineLists) (bound : ℕ) (done : List Step) (m : MachineLists) : Type 0 where
+  -- how many steps may still come
   pub left : ℕ
+  -- with those that were taken they are the bound
   pub split : length done + left ≡ bound
+  -- the steps that were taken are a run
   pub run : IsRun old done m
+  -- the steps of the drain are those that were taken, and those from where they lead
   pub rest : first_steps bound old ≡ done ++ map step_of
       (draining.drain_steps (sizes_of old.config) (program old.config old.code) left (all_after old.config old.code (machine_of old (λ p. [])) done))
 
+-- A drain begins with no step taken.
 pub drain_begins : (bound : ℕ) (m : MachineLists) → IsUnderWay m bound [] m
 unfolding all_after
 drain_begins bound m = record { left = bound; split = omega arith; run = run_begins m; rest = refl }
 
 module _ (old m : MachineLists) (bound : ℕ) (done : List Step) (d : IsUnderWay old bound done m) where
-  abbrev M0 : theory.Machine Told
+  abbrev M0 : theory.Machine ObservedCore
   M0 = machine_of old (λ p. [])
 
-  abbrev here : theory.Machine Told
+  abbrev here : theory.Machine ObservedCore
   here = all_after old.config old.code M0 done
 
   -- the step that is named is the theory's
@@ -114,7 +124,7 @@ module _ (old m : MachineLists) (bound : ℕ) (done : List Step) (d : IsUnderWay
   same_next = ap (draining.drain_step (sizes_of old.config)) (sym (d.run.after (λ p. [])))
       ∙ ap (λ c. draining.drain_step (sizes_of c) (machine_of m (events_of here))) (sym d.run.config)
 
-  abbrev after_named : theory.Step → theory.Machine Told
+  abbrev after_named : theory.Step → theory.Machine ObservedCore
   after_named st = (theory.step (sizes_of old.config) (program old.config old.code) here st).machine
 
   next_rest : (st : theory.Step) (n : ℕ) → draining.drain_step (sizes_of old.config) here ≡ Some st →
@@ -139,6 +149,7 @@ module _ (old m : MachineLists) (bound : ℕ) (done : List Step) (d : IsUnderWay
   after_is st s e =
       ap after_named (sym (named_again st)) ∙ ap (λ t. after_named (named t)) e ∙ sym (all_after_more old.config old.code M0 done s)
 
+  -- If the next step of a drain is taken within its bound, the drain is under way with that step at the end.
   pub drain_goes_on : (s : Step) (o : Outcome) (new : MachineLists) → length done < bound → drain_step m ≡ Some s → IsStep m s o new →
       IsUnderWay old bound (done ++ s ∷ []) new
   drain_goes_on s o new within names is =
@@ -174,7 +185,7 @@ module _ (old m : MachineLists) (bound : ℕ) (done : List Step) (d : IsUnderWay
       let rest : List Step = map step_of (draining.drain_steps (sizes_of old.config) (program old.config old.code) d.left here) in
       d.rest ∙ no_tail done rest (subst (λ xs. length xs ≤ length done) d.rest few)
 
-  machine_is : (ts : List theory.Step) (M : theory.Machine Told) →
+  machine_is : (ts : List theory.Step) (M : theory.Machine ObservedCore) →
       all_after old.config old.code M (map step_of ts) ≡ theory.machine_after (sizes_of old.config) (program old.config old.code) ts M
   unfolding all_after after theory.machine_after
   machine_is [] M = refl
@@ -183,19 +194,19 @@ module _ (old m : MachineLists) (bound : ℕ) (done : List Step) (d : IsUnderWay
       ∙ machine_is ts (theory.step (sizes_of old.config) (program old.config old.code) M t).machine
 
   -- and a drain of more steps takes no other
-  abbrev drained_from : ℕ → theory.Machine Told → List theory.Step
+  abbrev drained_from : ℕ → theory.Machine ObservedCore → List theory.Step
   drained_from n K = draining.drain_steps (sizes_of old.config) (program old.config old.code) n K
 
-  abbrev after_theory : theory.Machine Told → theory.Step → theory.Machine Told
+  abbrev after_theory : theory.Machine ObservedCore → theory.Step → theory.Machine ObservedCore
   after_theory K st = (theory.step (sizes_of old.config) (program old.config old.code) K st).machine
 
-  abbrev drained_by : ℕ → theory.Machine Told → Option theory.Step → List theory.Step
+  abbrev drained_by : ℕ → theory.Machine ObservedCore → Option theory.Step → List theory.Step
   drained_by n K o = elim o [ Some st ↦ st ∷ drained_from n (after_theory K st) | None ↦ [] ]
 
-  abbrev Ended : List theory.Step → theory.Machine Told → Type 0
+  abbrev Ended : List theory.Step → theory.Machine ObservedCore → Type 0
   Ended steps K = theory.drain_step (sizes_of old.config) (theory.machine_after (sizes_of old.config) (program old.config old.code) steps K) ≡ None
 
-  all_longer : (n N : ℕ) (M : theory.Machine Told) → n ≤ N → Ended (drained_from n M) M → drained_from N M ≡ drained_from n M
+  all_longer : (n N : ℕ) (M : theory.Machine ObservedCore) → n ≤ N → Ended (drained_from n M) M → drained_from N M ≡ drained_from n M
   unfolding draining.drain_steps theory.machine_after
   all_longer zero zero M few e = refl
   all_longer zero (suc N) M few e = ap (drained_by N M) e
@@ -218,7 +229,7 @@ module _ (old m : MachineLists) (bound : ℕ) (done : List Step) (d : IsUnderWay
       let there : here ≡ theory.machine_after (sizes_of old.config) (program old.config old.code) all M0 =
       ap (all_after old.config old.code M0) (sym e) ∙ machine_is all M0 in
       let shut = drained (sizes_of old.config) (program old.config old.code) bound M0 is.role f is.steady (room old is) are enough in
-      λ p within. ap (λ (M : theory.Machine Told). M.is_open p) (d.run.after (λ p. []) ∙ there) ∙ shut p
+      λ p within. ap (λ (M : theory.Machine ObservedCore). M.is_open p) (d.run.after (λ p. []) ∙ there) ∙ shut p
 
 -- ---- a whole drain
 
@@ -245,6 +256,7 @@ module _ (old m : MachineLists) (done : List Step) (d : IsUnderWay old (drain_bo
 
 -- ---- how many steps a drain takes
 
+-- A drain takes no more steps than its bound.
 pub drain_is_bounded : (m : MachineLists) → length (drain_steps m) ≤ drain_bound m.config
 drain_is_bounded m =
     let all = draining.drain_steps (sizes_of m.config) (program m.config m.code) (drain_bound m.config) (machine_of m (λ p. [])) in
@@ -259,7 +271,7 @@ pub steps_short : (m : MachineLists) → IsMachine m → (n : ℕ) (f : ℕ → 
 steps_short m is n f are enough few =
     let z = sizes_of m.config in
     let P = program m.config m.code in
-    let M : theory.Machine Told = machine_of m (λ p. []) in
+    let M : theory.Machine ObservedCore = machine_of m (λ p. []) in
     let some = draining.drain_steps z P n M in
     let all = draining.drain_steps z P (drain_bound m.config) M in
     let s = steady_after z P some M is.role is.steady in

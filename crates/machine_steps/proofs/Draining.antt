@@ -83,6 +83,7 @@ module _ (z : Sizes) (net : Net) where
   abbrev pub up_at : ℕ → Bool
   up_at s = some_wire (net.requests s) (wires z)
 
+  -- The next step down is from stage s and wire w if no stage below s has a reply and w is the first wire with one.
   pub down_found : (s d w : ℕ) (r : Option ℕ) → least down_at s ≡ None → r ≡ least (λ w. is_any (net.replies d w)) (wires z) → d ≡ s + 1 → r ≡ Some w →
       s < z.k → Some (step.Down s w) ≡ some_step (down_step z net)
   down_found s d w r none is same some within =
@@ -92,15 +93,18 @@ module _ (z : Sizes) (net : Net) where
       sym (ap some_step (ap (λ o. elim o [ Some s ↦ first_wire (net.replies (suc s)) (wires z) (Down s) | None ↦ None ]) stage
       ∙ ap (λ o. elim o [ Some w ↦ Some (Down s w) | None ↦ None ]) at))
 
+  -- If no stage below s has a reply for a step down, and s has none, then none up to s has one.
   pub down_more : (s d : ℕ) (r : Option ℕ) → least down_at s ≡ None → r ≡ least (λ w. is_any (net.replies d w)) (wires z) → d ≡ s + 1 → r ≡ None →
       least down_at (s + 1) ≡ None
   down_more s d r none is same fails =
       least_more down_at s none (ap is_some (ap (λ e. least (λ w. is_any (net.replies e w)) (wires z)) (let e : suc s ≡ d = omega arith in e) ∙ sym is ∙ fails))
 
+  -- If no stage has a reply for a step down, there is no step down.
   pub down_none : (s : ℕ) → least down_at s ≡ None → s ≡ z.k → None ≡ some_step (down_step z net)
   down_none s none end = sym (ap some_step (ap (λ o. elim o [ Some s ↦ first_wire (net.replies (suc s)) (wires z) (Down s) | None ↦ None ])
       (sym (ap (least down_at) end) ∙ none)))
 
+  -- The next step up is from stage s and wire w if no stage above s has a request and w is the first wire with one.
   pub up_found : (s j w : ℕ) (r : Option ℕ) → greatest up_at z.k ≡ greatest up_at j → j ≡ s + 1 → r ≡ least (λ w. is_any (net.requests s w)) (wires z) →
       r ≡ Some w → Some (step.Up s w) ≡ some_step (up_step z net)
   up_found s j w r so_far same is some =
@@ -109,10 +113,12 @@ module _ (z : Sizes) (net : Net) where
       sym (ap some_step (ap (λ o. elim o [ Some s ↦ first_wire (net.requests s) (wires z) (Up s) | None ↦ None ]) stage
       ∙ ap (λ o. elim o [ Some w ↦ Some (Up s w) | None ↦ None ]) at))
 
+  -- If no stage above s has a request for a step up, and s has none, the greatest that has one, if any, is below s.
   pub up_more : (s j : ℕ) (r : Option ℕ) → greatest up_at z.k ≡ greatest up_at j → j ≡ s + 1 → r ≡ least (λ w. is_any (net.requests s w)) (wires z) →
       r ≡ None → greatest up_at z.k ≡ greatest up_at s
   up_more s j r so_far same is fails = greatest_more up_at z.k s j so_far (let e : j ≡ suc s = omega arith in e) (ap is_some (sym is ∙ fails))
 
+  -- If no stage has a request for a step up, there is no step up.
   pub up_none : (j : ℕ) → greatest up_at z.k ≡ greatest up_at j → j ≡ 0 → None ≡ some_step (up_step z net)
   unfolding greatest
   up_none j so_far end =

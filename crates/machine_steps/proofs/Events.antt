@@ -1,4 +1,4 @@
--- The events that outcomes tell of are those that processors have shown, and the flat machine shows the same.
+-- The events that outcomes say of are those that processors have shown, and the flat machine shows the same.
 use Rattle.std.proofs.Common.{◌≡◌, ℕ, ◌^◌, ◌≤◌, cond, eqb, Bool, true, false, List, [], ◌∷◌, ◌++◌, length}
 use Rattle.std.proofs.Common.{nat_lt, inl, inr, Option, Some, None, refl, sym, ap, ◌∙◌, arith}
 use Rattle.std.specs.Prelude.{◌&&◌, map, if◌then◌else◌}
@@ -34,28 +34,28 @@ use Rattle.machine_theory.specs.serialization.Order.{from_machine}
 use Rattle.steps.specs.declared.step.Step.{Step}
 use Rattle.steps.specs.declared.step.Step.TheVariants as step
 use Rattle.steps.specs.declared.step.Outcome.{Outcome}
-use Rattle.machine_theory.specs.Processors.{Told, sizes_of, kind_of, next, program, may_poke, retired_by, alone_by, changed}
-use Rattle.machine_theory.specs.Steps.{named, taken, answer_of, told_of_turn, told_of_reply, outcome_of, after, with_shown}
+use Rattle.machine_theory.specs.Processors.{ObservedCore, sizes_of, kind_of, next, program, may_poke, retired_by, alone_by, changed}
+use Rattle.machine_theory.specs.Steps.{named, taken, answer_of, outcome_of_turn, outcome_of_reply, outcome_of, after, with_shown}
 use Rattle.machine_theory.specs.Explained.{IsExplained, flat_after}
 use Rattle.machine_theory.proofs.Lemmas.{runs_are_explained}
 use Rattle.machine_steps.specs.Machines.{MachineLists, machine_of, IsIdle, IsMachine}
 use Rattle.machine_steps.specs.Openings.{flat_state}
 use Rattle.machine_steps.specs.Runs.{all_after, events_of, IsRun, passed}
-use Rattle.machine_steps.specs.Laws.{told_after, told_of_steps, shown_in_order, AreTold}
+use Rattle.machine_steps.specs.Laws.{shown_after, events_of_steps, shown_in_order, AreShown}
 use Rattle.machine_steps.proofs.IdleMachines.{opens}
 use Rattle.machine_steps.proofs.Running.{passes_machine, shown_is}
 use Rattle.machine_steps.proofs.Whole.{open_same}
 
 -- ---- one step
 
-abbrev shown_by : (ℕ → Told) → ℕ → List Event
+abbrev shown_by : (ℕ → ObservedCore) → ℕ → List Event
 shown_by f q = (f q).events
 
-picked : (b : Bool) (g h : Told) → (cond b g h).events ≡ cond b g.events h.events
+picked : (b : Bool) (g h : ObservedCore) → (cond b g h).events ≡ cond b g.events h.events
 picked true g h = refl
 picked false g h = refl
 
-put_shown : (f : ℕ → Told) (p : ℕ) (g : Told) → shown_by (put f p g) ≡ put (shown_by f) p g.events
+put_shown : (f : ℕ → ObservedCore) (p : ℕ) (g : ObservedCore) → shown_by (put f p g) ≡ put (shown_by f) p g.events
 unfolding put
 put_shown f p g = fun_ext (λ q. picked (eqb q p) g (f q))
 
@@ -64,14 +64,14 @@ put_own f p =
     fun_ext (λ q. elim (cases_eq q p) [ inl same ↦ ap (put f p (f p)) same ∙ put_same f p (f p) ∙ ap f (sym same) | inr other ↦ put_other f p (f p) q other ])
 
 -- a processor that shows nothing
-put_silent : (f : ℕ → Told) (p : ℕ) (g : Told) → g.events ≡ (f p).events → shown_by (put f p g) ≡ shown_by f
+put_silent : (f : ℕ → ObservedCore) (p : ℕ) (g : ObservedCore) → g.events ≡ (f p).events → shown_by (put f p g) ≡ shown_by f
 put_silent f p g e = put_shown f p g ∙ ap (put (shown_by f) p) e ∙ put_own (shown_by f) p
 
-module _ (c : Config) (code : List ℕ) (M : Machine Told) where
+module _ (c : Config) (code : List ℕ) (M : Machine ObservedCore) where
   abbrev answer : theory.Outcome → Outcome
   answer = answer_of (λ p. next c code p (M.core p).state)
 
-  abbrev Tells : Step → Result Told → Type 0
+  abbrev Tells : Step → Result ObservedCore → Type 0
   Tells s r = events_of r.machine ≡ with_shown (events_of M) s (answer r.outcome)
 
   still : (s : Step) → Tells s (stalled M)
@@ -81,12 +81,12 @@ module _ (c : Config) (code : List ℕ) (M : Machine Told) where
   still (step.Down s w) = refl
   still (step.Poke q) = refl
 
-  either : (s : Step) (b : Bool) (r : Result Told) → Tells s r → Tells s (if b then r else stalled M)
+  either : (s : Step) (b : Bool) (r : Result ObservedCore) → Tells s r → Tells s (if b then r else stalled M)
   either s true r t = t
   either s false r t = still s
 
   replied : (p : ℕ) (o : Option (Processor × retirement.Retired)) →
-      shown_by (put M.core p (retired_by (M.core p) o)) ≡ with_shown (events_of M) (step.Turn p) (told_of_reply o)
+      shown_by (put M.core p (retired_by (M.core p) o)) ≡ with_shown (events_of M) (step.Turn p) (outcome_of_reply o)
   replied p None = put_silent M.core p (M.core p) refl
   replied p (Some done) = put_shown M.core p (retired_by (M.core p) (Some done))
 
@@ -94,7 +94,7 @@ module _ (c : Config) (code : List ℕ) (M : Machine Told) where
   retires p [] = refl
   retires p (y ∷ ys) = replied p (after_reply (next c code p (M.core p).state) y.value)
 
-  alone : (p : ℕ) (t : Turn) → shown_by (put M.core p (alone_by (M.core p) t)) ≡ with_shown (events_of M) (step.Turn p) (told_of_turn t)
+  alone : (p : ℕ) (t : Turn) → shown_by (put M.core p (alone_by (M.core p) t)) ≡ with_shown (events_of M) (step.Turn p) (outcome_of_turn t)
   alone p (Retires later retired) = put_shown M.core p (alone_by (M.core p) (Retires later retired))
   alone p (Stops cause) = put_shown M.core p (alone_by (M.core p) (Stops cause))
   alone p (Reaches word change later) = put_silent M.core p (M.core p) refl
@@ -145,49 +145,56 @@ module _ (c : Config) (code : List ℕ) (M : Machine Told) where
 
 -- ---- a list of steps
 
-pub steps_tell : (c : Config) (code : List ℕ) (M : Machine Told) (steps : List Step) →
-    told_after c code M steps (events_of M) ≡ events_of (all_after c code M steps)
-unfolding told_after all_after
+-- The events shown before some steps, and those that their outcomes tell of, are those shown after the steps.
+pub steps_tell : (c : Config) (code : List ℕ) (M : Machine ObservedCore) (steps : List Step) →
+    shown_after c code M steps (events_of M) ≡ events_of (all_after c code M steps)
+unfolding shown_after all_after
 steps_tell c code M [] = refl
-steps_tell c code M (s ∷ ss) = ap (told_after c code (after c code M s) ss) (sym (step_tells c code M s)) ∙ steps_tell c code (after c code M s) ss
+steps_tell c code M (s ∷ ss) = ap (shown_after c code (after c code M s) ss) (sym (step_tells c code M s)) ∙ steps_tell c code (after c code M s) ss
 
 module _ (opening : MachineLists) (steps : List Step) (machine : MachineLists) (is : IsMachine opening) (idle : IsIdle opening)
     (r : IsRun opening steps machine) where
-  abbrev h : Passed Told
+  abbrev h : Passed ObservedCore
   h = passed opening steps
 
-  told_is : (p : ℕ) → told_of_steps opening steps p ≡ events_of h.machine p
-  told_is p =
-      let M : Machine Told = machine_of opening (λ q. []) in
-      ap (λ shown. told_after opening.config opening.code M steps shown p) (sym (shown_is opening (λ q. [])))
+  events_are_these : (p : ℕ) → events_of_steps opening steps p ≡ events_of h.machine p
+  events_are_these p =
+      let M : Machine ObservedCore = machine_of opening (λ q. []) in
+      ap (λ shown. shown_after opening.config opening.code M steps shown p) (sym (shown_is opening (λ q. [])))
       ∙ ap (λ (f : ℕ → List Event). f p) (steps_tell opening.config opening.code M steps)
-      ∙ ap (λ (K : Machine Told). events_of K p) (sym (passes_machine opening.config opening.code steps (from_machine M)))
+      ∙ ap (λ (K : Machine ObservedCore). events_of K p) (sym (passes_machine opening.config opening.code steps (from_machine M)))
 
   explained : IsExplained opening.config opening.code (flat_state opening) h
   explained =
       (runs_are_explained opening.config opening.code).moments (machine_of opening (λ p. [])) (flat_state opening) (map named steps) (opens opening is idle)
 
-  unserved_same : (p : ℕ) → h.served p ≡ None → told_of_steps opening steps p ≡ shown_in_order opening steps p
-  unserved_same p none = told_is p ∙ ap (λ (g : Told). g.events) (explained.unserved p none)
+  unserved_same : (p : ℕ) → h.served p ≡ None → events_of_steps opening steps p ≡ shown_in_order opening steps p
+  unserved_same p none = events_are_these p ∙ ap (λ (g : ObservedCore). g.events) (explained.unserved p none)
 
   -- what the flat machine has shown of a processor, with what it retires next
   abbrev Later : ℕ → Type 0
-  Later p = (later : List Event) × (shown_in_order opening steps p ≡ told_of_steps opening steps p ++ later) × (length later ≤ 1)
+  Later p = (later : List Event) × (shown_in_order opening steps p ≡ events_of_steps opening steps p ++ later) × (length later ≤ 1)
 
   retired_later : (p : ℕ) (o : Option (Processor × retirement.Retired)) →
       (flat_after opening.config opening.code (flat_state opening) h.order).core p ≡ retired_by (h.machine.core p) o → Later p
-  retired_later p None e = ([], ap (λ (g : Told). g.events) e ∙ sym (told_is p) ∙ sym (append-nil (told_of_steps opening steps p)), omega arith)
+  retired_later p None e = (
+    [],
+    ap (λ (g : ObservedCore). g.events) e ∙ sym (events_are_these p)
+        ∙ sym (append-nil (events_of_steps opening steps p)),
+    omega arith,
+  )
   retired_later p (Some done) e =
-      (event.Retired done.1 ∷ [], ap (λ (g : Told). g.events) e ∙ ap (λ es. es ++ event.Retired done.1 ∷ []) (sym (told_is p)), omega arith)
+      (event.Retired done.1 ∷ [], ap (λ (g : ObservedCore). g.events) e ∙ ap (λ es. es ++ event.Retired done.1 ∷ []) (sym (events_are_these p)), omega arith)
 
   later_at : (p : ℕ) (served : Option ℕ) → h.served p ≡ served → Later p
-  later_at p None e = ([], sym (unserved_same p e) ∙ sym (append-nil (told_of_steps opening steps p)), omega arith)
+  later_at p None e = ([], sym (unserved_same p e) ∙ sym (append-nil (events_of_steps opening steps p)), omega arith)
   later_at p (Some place) e =
       let found = explained.served p place e in
       retired_later p (after_reply (next opening.config opening.code p (h.machine.core p).state) found.0) found.2
 
-  pub events_are_told : AreTold opening steps machine
-  events_are_told = record {
+  -- The outcomes of a run that begins where no reference is open tell of the events that the flat machine shows.
+  pub events_are_shown : AreShown opening steps machine
+  events_are_shown = record {
     shut = λ p shut. unserved_same p (explained.shut p (sym (open_same opening machine steps r p) ∙ shut));
     any = λ p. later_at p (h.served p) refl;
   }

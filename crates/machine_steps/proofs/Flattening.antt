@@ -20,6 +20,7 @@ past_end [] i d l = refl
 past_end (x ∷ xs) zero d l = absurd (omega arith)
 past_end (x ∷ xs) (suc i) d l = past_end xs i d (omega arith)
 
+-- A list has no element past its end.
 pub none_past : {X : Type 0} (xs : List X) (i : ℕ) → length xs ≤ i → slice_get xs i ≡ None
 none_past [] i l = refl
 none_past (x ∷ xs) zero l = absurd (omega arith)
@@ -38,9 +39,11 @@ module _ (m : MachineLists) (is : IsMachine m) where
 
   -- ---- processors
 
+  -- Each processor of the flat machine is the one at the port of its number.
   pub state_at : (p : ℕ) → slice_index_or (flat_state m).processors p no_processor ≡ (port_at m.ports p).core.state
   state_at p = get_or-map state m.ports p no_port
 
+  -- The flat machine has 2^k processors.
   pub count_is : length (flat_state m).processors ≡ 2 ^ m.config.k
   count_is = length-map m.ports state ∙ is.ports.all
 
@@ -49,6 +52,7 @@ module _ (m : MachineLists) (is : IsMachine m) where
 
   -- ---- words
 
+  -- Each shared word of the flat machine is the one in the modules.
   pub word_is : (i : ℕ) → slice_index (flat_state m).shared i ≡ word_at m.config.k m.modules i
   word_is i = at (cases_lt i m.config.shared_words)
     where
@@ -60,6 +64,7 @@ module _ (m : MachineLists) (is : IsMachine m) where
 
   -- ---- all of it
 
+  -- The flat machine that a machine's parts make has the machine's size, and its values are in range.
   pub sound : IsSoundFlat m.config m.code (flat_state m)
   sound =
       let small = count_small m.config.k is.limits.stages in

@@ -53,6 +53,7 @@ group_more [] v none all (suc p) = refl
 group_more (g ∷ gs) v none all zero = all zero
 group_more (g ∷ gs) v none all (suc p) = group_more gs v none (λ q. all (suc q)) p
 
+-- An empty group at the end of the list does not change how many wait.
 pub count_more : (gs : List (ArrayVec ℕ)) (v : ArrayVec ℕ) → v.items ≡ [] → count_in (gs ++ v ∷ []) ≡ count_in gs
 count_more [] v none = ap (λ (l : List ℕ). length l + 0) none
 count_more (g ∷ gs) v none = ap (λ (n : ℕ). length g.items + n) (count_more gs v none)
@@ -60,15 +61,19 @@ count_more (g ∷ gs) v none = ap (λ (n : ℕ). length g.items + n) (count_more
 -- ---- entered
 
 module _ (gs : List (ArrayVec ℕ)) (es : List Entry) where
+  -- A stall changes neither the groups nor the order.
   pub enters_nothing : IsEntered gs es theory.Stalled gs es
   enters_nothing = record { places = refl; group = refl; order = sym (append-nil es); count = omega arith }
 
+  -- An advance of a processor puts its entry at the end of the order.
   pub enters_one : (p : ℕ) → IsEntered gs es (theory.Advanced p) gs (es ++ entry.Processor p ∷ [])
   enters_one p = record { places = refl; group = refl; order = refl; count = (let n = length-append es (entry.Processor p ∷ []) in omega (arith, n)) }
 
+  -- A poke is put at the end of the order.
   pub enters_poke : (q : Poke) → IsEntered gs es (theory.Poked q) gs (es ++ entry.Poke q ∷ [])
   enters_poke q = record { places = refl; group = refl; order = refl; count = (let n = length-append es (entry.Poke q ∷ []) in omega (arith, n)) }
 
+  -- After an issue the processor alone waits in its group, and the order is the same.
   pub enters_issue : (p : ℕ) (v : ArrayVec ℕ) → p < length gs → v.items ≡ p ∷ [] → IsEntered gs es (theory.Issued p) (slice_set gs p v) es
   enters_issue p v within is = record {
     places = length-set gs p v;
@@ -77,6 +82,7 @@ module _ (gs : List (ArrayVec ℕ)) (es : List Entry) where
     count = (let n = count_set gs p v within in let one : length v.items ≡ 1 = ap length is in omega (arith, n, one));
   }
 
+  -- A served leader's group is put at the end of the order, and waits no more.
   pub enters_served : (p : ℕ) (v : ArrayVec ℕ) (es' : List Entry) → p < length gs → v.items ≡ [] → es' ≡ es ++ map entry.Processor (group_in gs p) →
       IsEntered gs es (theory.Served p) (slice_set gs p v) es'
   enters_served p v es' within none is = record {
@@ -98,6 +104,7 @@ module _ (gs : List (ArrayVec ℕ)) (es : List Entry) where
     | inr n ↦ put_other (put f p x) p z q n ∙ put_other f p x q n ∙ sym (put_other (put f p y) p z q n ∙ put_other f p y q n)
   ])
 
+  -- After a combination the second leader's group waits at the end of the first one's, if no group has more than 64.
   pub enters_combined : (p q : ℕ) (v w : ArrayVec ℕ) → p < length gs → q < length gs →
       (length (group_in gs p) + length (group_in gs q) ≤ 64 → v.items ≡ group_in gs p ++ group_in gs q) → w.items ≡ [] →
       ((i : ℕ) → length (joined (group_in gs) p q i) ≤ 64)

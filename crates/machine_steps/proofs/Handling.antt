@@ -38,7 +38,7 @@ use Rattle.machine_theory.proofs.Lemmas.{goes_up, no_module, no_place, no_reques
 use Rattle.machine_theory.proofs.Lemmas.{no_wire_down, no_wire_up, not_home, not_idle, ports_stay, refers}
 use Rattle.machine_theory.proofs.Lemmas.{register_poked, rests, serves, slot_free, unlawful, unnamed, word_poked}
 use Rattle.machine_theory.proofs.Lemmas.{word_there}
-use Rattle.machine_theory.specs.Turning.{IsBegun, IsFinishedBy, told_of_up, told_of_down}
+use Rattle.machine_theory.specs.Turning.{IsBegun, IsFinishedBy, outcome_of_up, outcome_of_down}
 use Rattle.machine_steps.specs.Machines.{MachineLists, AreHome, ArePorts, AreModules, IsIdle, IsMachine, IsStep}
 use Rattle.machine_steps.specs.Serving.{DoesNothing, IsExecuted}
 use Rattle.machine_steps.proofs.Keeping.{parts_kept, begun_kept, finished_kept, home_set, ports_set, modules_set, module_there, place_there}
@@ -89,32 +89,38 @@ module _ (m : MachineLists) (is : IsMachine m) where
   pub on_a_wire : (w : ℕ) → w < length m.ports → w < 2 ^ m.network.k
   on_a_wire w within = subst (λ k. w < 2 ^ k) (sym k_is) (subst (λ n. w < n) is.ports.all within)
 
+  -- A move up stalls if there is no such stage.
   pub up_no_stage : (s w : ℕ) → m.network.k ≤ s → IsStep m (step.Up s w) Stalled m
   up_no_stage s w past = same (step.Up s w) (no_stage_up c m.code (net_of m.network) m.ports m.modules s w (subst (λ k. k ≤ s) k_is past))
 
+  -- A move up stalls if there is no such wire.
   pub up_no_wire : (s w : ℕ) → length m.ports ≤ w → IsStep m (step.Up s w) Stalled m
   up_no_wire s w past = same (step.Up s w) (no_wire_up c m.code (net_of m.network) m.ports m.modules s w (subst (λ n. n ≤ w) is.ports.all past))
 
+  -- A move down stalls if there is no such stage.
   pub down_no_stage : (s w : ℕ) → m.network.k ≤ s → IsStep m (step.Down s w) Stalled m
   down_no_stage s w past = same (step.Down s w) (no_stage_down c m.code (net_of m.network) m.ports m.modules s w (subst (λ k. k ≤ s) k_is past))
 
+  -- A move down stalls if there is no such wire.
   pub down_no_wire : (s w : ℕ) → length m.ports ≤ w → IsStep m (step.Down s w) Stalled m
   down_no_wire s w past = same (step.Down s w) (no_wire_down c m.code (net_of m.network) m.ports m.modules s w (subst (λ n. n ≤ w) is.ports.all past))
 
+  -- A move up in the network is a step, and leaves a machine.
   pub up_done : (s w : ℕ) (r : UpMove) (net' : NetworkLists) → w < 2 ^ m.network.k → r ≡ (moved_up (network.sizes_of m.network) (net_of m.network) s w).0 →
       net_of net' ≡ (moved_up (network.sizes_of m.network) (net_of m.network) s w).1 →
-      network.sizes_of net' ≡ network.sizes_of m.network → Done m (step.Up s w) (told_of_up r) (with_network m net')
+      network.sizes_of net' ≡ network.sizes_of m.network → Done m (step.Up s w) (outcome_of_up r) (with_network m net')
   up_done s w r net' within outcome after sizes =
-      done (step.Up s w) (told_of_up r) net' m.ports m.modules sizes is.ports is.modules
+      done (step.Up s w) (outcome_of_up r) net' m.ports m.modules sizes is.ports is.modules
       (goes_up c m.code (net_of m.network) m.ports m.modules s w r (net_of net') (subst (λ k. w < 2 ^ k) k_is within)
       (outcome ∙ ap (λ z. (moved_up z (net_of m.network) s w).0) is.sizes) (after ∙ ap (λ z. (moved_up z (net_of m.network) s w).1) is.sizes))
 
+  -- A move down in the network is a step, and leaves a machine.
   pub down_done : (s w : ℕ) (r : DownMove) (net' : NetworkLists) → w < 2 ^ m.network.k →
       r ≡ (moved_down (network.sizes_of m.network) (net_of m.network) s w).0 →
       net_of net' ≡ (moved_down (network.sizes_of m.network) (net_of m.network) s w).1 →
-      network.sizes_of net' ≡ network.sizes_of m.network → Done m (step.Down s w) (told_of_down r) (with_network m net')
+      network.sizes_of net' ≡ network.sizes_of m.network → Done m (step.Down s w) (outcome_of_down r) (with_network m net')
   down_done s w r net' within outcome after sizes =
-      done (step.Down s w) (told_of_down r) net' m.ports m.modules sizes is.ports is.modules
+      done (step.Down s w) (outcome_of_down r) net' m.ports m.modules sizes is.ports is.modules
       (goes_down c m.code (net_of m.network) m.ports m.modules s w r (net_of net') (subst (λ k. w < 2 ^ k) k_is within)
       (outcome ∙ ap (λ z. (moved_down z (net_of m.network) s w).0) is.sizes) (after ∙ ap (λ z. (moved_down z (net_of m.network) s w).1) is.sizes))
 
@@ -123,16 +129,20 @@ module _ (m : MachineLists) (is : IsMachine m) where
   inside : (p : ℕ) → p < 2 ^ c.k → p < length m.ports
   inside p within = subst (λ n. p < n) (sym is.ports.all) within
 
+  -- A turn stalls if there is no such processor.
   pub turn_unnamed : (p : ℕ) → length m.ports ≤ p → IsStep m (step.Turn p) Stalled m
   turn_unnamed p past = same (step.Turn p) (unnamed c m.code (net_of m.network) m.ports m.modules p (subst (λ n. n ≤ p) is.ports.all past))
 
+  -- A turn stalls if the processor has no reference open and does not run.
   pub turn_rests : (p : ℕ) → p < length m.ports → (port_at m.ports p).is_open ≡ false → is_running (port_at m.ports p).core.state.status ≡ false →
       IsStep m (step.Turn p) Stalled m
   turn_rests p within shut rest = same (step.Turn p) (rests c m.code (net_of m.network) m.ports m.modules p (subst (λ n. p < n) is.ports.all within) shut rest)
 
+  -- A processor that has a reference open is at an instruction that refers to a word.
   pub turn_refers : (p : ℕ) → p < 2 ^ c.k → (port_at m.ports p).is_open ≡ true → IsReference (turn (port_at m.ports p) m.code)
   turn_refers p within opened = refers c m.code (net_of m.network) m.ports m.modules (λ q. []) is.role is.steady p opened (is.ports.settings p within)
 
+  -- If a processor has no reference open, no request is on its wire.
   pub turn_slot_free : (p : ℕ) → (port_at m.ports p).is_open ≡ false → (net_of m.network).requests 0 p ≡ []
   turn_slot_free p shut = slot_free c m.code (net_of m.network) m.ports m.modules (λ q. []) is.role is.steady p shut
 
@@ -166,6 +176,7 @@ module _ (m : MachineLists) (is : IsMachine m) where
 
   -- ---- services
 
+  -- A service stalls if there is no such module.
   pub serve_unnamed : (i : ℕ) → length m.modules ≤ i → IsStep m (step.Serve i) Stalled m
   serve_unnamed i past = same (step.Serve i) (no_module c m.code (net_of m.network) m.ports m.modules i (subst (λ n. n ≤ i) is.modules.all past))
 
@@ -237,9 +248,11 @@ module _ (m : MachineLists) (is : IsMachine m) where
 
   -- ---- pokes
 
+  -- A poke stalls if a reference is open.
   pub poke_busy : (q : Poke) → (IsIdle m → ⊥) → IsStep m (step.Poke q) Stalled m
   poke_busy q busy = same (step.Poke q) (not_idle c m.code (net_of m.network) m.ports m.modules q busy)
 
+  -- A poke stalls if a core is away.
   pub poke_away : (q : Poke) → (AreHome m → ⊥) → IsStep m (step.Poke q) Stalled m
   poke_away q away = same (step.Poke q) (not_home c m.code (net_of m.network) m.ports m.modules q away)
 
@@ -251,16 +264,19 @@ module _ (m : MachineLists) (is : IsMachine m) where
     refused : (q : Poke) → is_lawful_poke c q ≡ false → IsStep m (step.Poke q) Stalled m
     refused q e = same (step.Poke q) (unlawful c m.code (net_of m.network) m.ports m.modules idle home q e)
 
+    -- A poke of a register stalls if there is no such processor.
     pub register_unnamed : (p register value : ℕ) → length m.ports ≤ p → IsStep m (step.Poke (poke.Register p register value)) Stalled m
     register_unnamed p register value past =
         refused (poke.Register p register value) (and_false
         (nat_lt value (2 ^ 32)) _ (ap (λ b. b && is_lawful_register register value) (le-ltb p (2 ^ c.k) (subst (λ n. n ≤ p) is.ports.all past))))
 
+    -- A poke of local memory stalls if there is no such processor.
     pub local_unnamed : (p address value : ℕ) → length m.ports ≤ p → IsStep m (step.Poke (poke.Local p address value)) Stalled m
     local_unnamed p address value past =
         refused (poke.Local p address value) (and_false
         (nat_lt value 256) _ (ap (λ b. b && in_local address) (le-ltb p (2 ^ c.k) (subst (λ n. n ≤ p) is.ports.all past))))
 
+    -- A poke of shared memory stalls if the address is not in it.
     pub shared_unnamed : (address value : ℕ) → in_shared c.shared_words address ≡ false → IsStep m (step.Poke (poke.Shared address value)) Stalled m
     shared_unnamed address value out = refused (poke.Shared address value) (and_false (nat_lt value 256) _ out)
 
@@ -334,6 +350,7 @@ module _ (m : MachineLists) (is : IsMachine m) where
 pub step_by : {m now new : MachineLists} {s : Step} {o o' : Outcome} → m ≡ now → o' ≡ o → IsStep m s o new → IsStep now s o' new
 step_by {m} {now} {new} {s} {o} {o'} e f st = subst (λ a. IsStep a s o' new) e (subst (λ b. IsStep m s b new) (sym f) st)
 
+-- A step that leaves a machine as it is does so to the same machine in other words.
 pub same_by : {m now : MachineLists} {s : Step} {o : Outcome} → m ≡ now → IsStep m s o m → IsStep now s o now
 same_by {m} {now} {s} {o} e st = subst (λ a. IsStep a s o a) e st
 
@@ -344,11 +361,13 @@ same_default [] i d e within = absurd (omega arith)
 same_default (x ∷ xs) zero d e within = refl
 same_default (x ∷ xs) (suc i) d e within = same_default xs i d e (omega arith)
 
+-- What is read at a place within a list is the element there, whatever is read past the end.
 pub found : {X : Type 0} (xs : List X) (i place : ℕ) (d x : X) → place ≡ i → i < length xs → x ≡ slice_index_or xs place x → x ≡ slice_index_or xs i d
 found xs i place d x same within is = is ∙ ap (λ j. slice_index_or xs j x) same ∙ same_default xs i x d within
 
 module _ (m : MachineLists) (is : IsMachine m) (p place : ℕ) (same : place ≡ p) (within : p < 2 ^ m.config.k) (port : PortState) (at : port
     ≡ slice_index_or m.ports place port) where
+  -- The port that is read at the place is that of processor p.
   pub port_is : port ≡ port_at m.ports p
   port_is = found m.ports p place no_port port same (subst (λ n. p < n) (sym is.ports.all) within) at
 
@@ -356,10 +375,12 @@ module _ (m : MachineLists) (is : IsMachine m) (p place : ℕ) (same : place ≡
   there s o net' port' d = subst (λ i. Done m s o (with_port m net' i port')) (sym same) d
 
   module _ (code : List ℕ) (code_is : code ≡ m.code) where
+    -- If that port is open, its processor is at an instruction that refers to a word.
     pub port_refers : (port_at m.ports p).is_open ≡ true → IsReference (turn port code)
     port_refers opened = subst (λ code. IsReference (turn port code)) (sym code_is)
         (subst (λ (q : PortState). IsReference (turn q m.code)) (sym port_is) (turn_refers m is p within opened))
 
+    -- A turn that is begun at that port is a step, and leaves a machine.
     pub begin_there : (port' : PortState) (o : Outcome) (net' : NetworkLists) → (port_at m.ports p).is_open ≡ false →
         is_running (port_at m.ports p).core.state.status ≡ true →
         port' ≡ (begun port code (turn port code)).1 → IsBegun p port code (turn port code) (net_of m.network) o (net_of net') →
@@ -371,6 +392,7 @@ module _ (m : MachineLists) (is : IsMachine m) (p place : ℕ) (same : place ≡
         (subst (λ code. IsBegun p (port_at m.ports p) code (turn (port_at m.ports p) code) (net_of m.network) o (net_of net')) code_is
         (subst (λ (q : PortState). IsBegun p q code (turn q code) (net_of m.network) o (net_of net')) port_is b)) sizes)
 
+    -- A turn that is finished at that port is a step, and leaves a machine.
     pub finish_there : (port' : PortState) (o : Outcome) (net' : NetworkLists) → (port_at m.ports p).is_open ≡ true →
         IsFinishedBy p (turn port code) port (net_of m.network) (slice_get ((net_of m.network).replies 0 p) 0) o port' (net_of net') →
         network.sizes_of net' ≡ network.sizes_of m.network →
@@ -381,6 +403,7 @@ module _ (m : MachineLists) (is : IsMachine m) (p place : ℕ) (same : place ≡
         (subst (λ code. IsFinishedBy p (turn (port_at m.ports p) code) (port_at m.ports p) (net_of m.network) reply o port' (net_of net')) code_is
         (subst (λ (q : PortState). IsFinishedBy p (turn q code) q (net_of m.network) reply o port' (net_of net')) port_is f)) sizes)
 
+  -- A poke of a register at that port, lawful or not, is a step, and leaves a machine.
   pub register_there : (register value : ℕ) (port' : PortState) (o : Outcome) (written : Bool) → IsIdle m → AreHome m → value < 2 ^ 32 →
       written ≡ is_lawful_register register value →
       port' ≡ (if is_lawful_register register value then with_state port (with_poked_register register value port.core.state) else port) →
@@ -391,6 +414,7 @@ module _ (m : MachineLists) (is : IsMachine m) (p place : ℕ) (same : place ≡
       (becomes ∙ ap (λ (q : PortState). if is_lawful_register register value then with_state q (with_poked_register register value q.core.state)
       else q) port_is) answers)
 
+  -- A poke of local memory at that port, lawful or not, is a step, and leaves a machine.
   pub local_there : (address value : ℕ) (port' : PortState) (o : Outcome) (written : Bool) → IsIdle m → AreHome m → value < 256 → written ≡ in_local address →
       port' ≡ (if in_local address then with_state port (with_poked_byte address value port.core.state) else port) →
       o ≡ (if written then Poked else Stalled) → Done m (step.Poke (poke.Local p address value)) o (with_port m m.network place port')
@@ -404,9 +428,11 @@ module _ (m : MachineLists) (is : IsMachine m) (i place : ℕ) (same : place ≡
   pub words_are : words ≡ slice_index_or m.modules i []
   words_are = found m.modules i place [] words same (subst (λ n. i < n) (sym is.modules.all) within) at
 
+  -- The place of the first request at a module is within the module.
   pub request_place : (x : Request) → slice_get ((net_of m.network).requests m.network.k i) 0 ≡ Some x → x.word / 2 ^ m.network.k < length words
   request_place x e = subst (λ (xs : List ℕ). x.word / 2 ^ m.network.k < length xs) (sym words_are) (serve_place m is i within x e)
 
+  -- A service of that module is a step, and leaves a machine, whether its reply slot is free or not.
   pub serve_there : (words' : List ℕ) (o : Outcome) (net' : NetworkLists) →
       ((net_of m.network).replies m.network.k i ≡ [] →
       IsExecuted (network.sizes_of m.network) i (net_of m.network) words (slice_get ((net_of m.network).requests m.network.k i) 0) o
@@ -426,6 +452,7 @@ module _ (m : MachineLists) (is : IsMachine m) (i place : ℕ) (same : place ≡
           serve_full m is i within words' o net' some
           (subst (λ (xs : List ℕ). DoesNothing (net_of m.network) xs o (net_of net') words') words_are (full some)) sizes
 
+  -- A poke of a byte of a shared word in that module is a step, and leaves a machine.
   pub shared_there : (address value : ℕ) (phi : Phi) (words' : List ℕ) → IsIdle m → AreHome m → value < 256 → 2 ^ 31 ≤ address →
       (address - 2 ^ 31) / 4 < m.config.shared_words → i ≡ (address - 2 ^ 31) / 4 % 2 ^ m.config.k →
       ((x : ℕ) → x < 2 ^ 32 → apply phi x ≡ with_part 1 (address % 4) x value) →
@@ -449,8 +476,10 @@ module _ (m : MachineLists) (is : IsMachine m) (i place : ℕ) (same : place ≡
 
 -- ---- addresses that are not of shared memory
 
+-- An address below 2^31 is not in shared memory.
 pub below : (address words : ℕ) → address < 2 ^ 31 → in_shared words address ≡ false
 below address words less = ap (λ b. b && nat_lt address (2 ^ 31 + 4 * words)) (lt-leb (2 ^ 31) address less)
 
+-- An address past the last shared word is not in shared memory.
 pub beyond : (address words : ℕ) → 2 ^ 31 ≤ address → words ≤ (address - 2 ^ 31) / 4 → in_shared words address ≡ false
 beyond address words start past = ap₂ (λ a b. a && b) (le-leb (2 ^ 31) address start) (le-ltb address (2 ^ 31 + 4 * words) (omega arith))

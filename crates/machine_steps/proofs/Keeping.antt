@@ -27,7 +27,7 @@ use Rattle.machine_steps.specs.Parts.{places_of}
 use Rattle.machine_steps.proofs.Parts.{quotient_small}
 use Rattle.machine_theory.specs.Processors.{setting_of, port_at, no_port, word_at}
 use Rattle.machine_theory.specs.Steps.{IsStepOf, with_shown}
-use Rattle.machine_theory.proofs.Lemmas.{retold, stays_steady, words_set}
+use Rattle.machine_theory.proofs.Lemmas.{observed_again, stays_steady, words_set}
 use Rattle.machine_steps.specs.Machines.{MachineLists, ArePorts, AreModules, IsMachine}
 
 -- ---- a port changes
@@ -42,6 +42,8 @@ module _ (c : Config) (ports : List PortState) (all : ArePorts c ports) (p : ℕ
   there : (q : ℕ) → (q ≡ p → ⊥) → port_at (slice_set ports p x) q ≡ port_at ports q
   there q other = get_or-set_other ports p q x no_port other
 
+  -- The ports stay what they must be if a port gets a core of the same setting that has words, and of which
+  -- nothing is left if it is away.
   pub ports_set : x.core.setting ≡ (port_at ports p).core.setting → HasWords x.core.state →
       (is_away x.core.state ≡ true → x.core.state ≡ no_processor) → ArePorts c (slice_set ports p x)
   ports_set setting words rest = record {
@@ -75,6 +77,7 @@ module _ (c : Config) (ports : List PortState) (all : ArePorts c ports) (p : ℕ
 -- ---- a core that is at home
 
 module _ (c : Config) (ports : List PortState) (all : ArePorts c ports) (p : ℕ) where
+  -- A core is at home if it is not what is left of one that is away.
   pub home_unless : ((port_at ports p).core.state ≡ no_processor → ⊥) → is_away (port_at ports p).core.state ≡ false
   home_unless some = at (is_away (port_at ports p).core.state) refl
     where
@@ -93,6 +96,7 @@ module _ (c : Config) (ports : List PortState) (all : ArePorts c ports) (p : ℕ
 
 -- ---- what a turn leaves of a port
 
+-- If there are at most 6 stages, there are at most 64 wires.
 pub count_small : (k : ℕ) → k ≤ 6 → 2 ^ k ≤ 64
 count_small k few = pow-le-pow_right {n = 2} (omega arith) few
 
@@ -149,12 +153,15 @@ module _ (c : Config) (modules : List (List ℕ)) (all : AreModules c modules) (
   within : number < 2 ^ c.k
   within = subst (λ n. n < 2 ^ c.k) is (mod_below word (2 ^ c.k) (pow_pos c.k))
 
+  -- The module of a shared word is one of the modules.
   pub module_there : number < length modules
   module_there = subst (λ n. number < n) (sym all.all) within
 
+  -- The place of a shared word is within its module.
   pub place_there : word / 2 ^ c.k < length (slice_index_or modules number [])
   place_there = subst (λ n. word / 2 ^ c.k < n) (sym (all.places number within)) (quotient_small word c.shared_words (2 ^ c.k) (pow_pos c.k) inside)
 
+  -- The modules stay what they must be if a shared word becomes another word.
   pub modules_set : v < 2 ^ 32 → AreModules c (slice_set modules number (slice_set (slice_index_or modules number []) (word / 2 ^ c.k) v))
   modules_set small =
       let w = words_set c.k modules number word v is module_there place_there in
@@ -186,6 +193,7 @@ module _ (config : Config) (code : List ℕ) (image : ImageContents) where
   abbrev machine : NetworkLists → List PortState → List (List ℕ) → MachineLists
   machine net ports modules = record { config = config; image = image; network = net; ports = ports; modules = modules; code = code }
 
+  -- What a step leaves is a machine if the network keeps its sizes and the ports and modules are what they must be.
   pub parts_kept : (net net' : NetworkLists) (ports ports' : List PortState) (modules modules' : List (List ℕ)) (s : Step) (o : Outcome) →
       IsMachine (machine net ports modules) →
       IsStepOf config code (net_of net) ports modules s o (net_of net') ports' modules' → network.sizes_of net' ≡ network.sizes_of net →
@@ -199,5 +207,5 @@ module _ (config : Config) (code : List ℕ) (image : ImageContents) where
         modules = modules_are;
         code = m.code;
         role = steady.0;
-        steady = retold config code (net_of net') ports' modules' (with_shown (λ p. []) s o) (λ p. []) steady.0 steady.1;
+        steady = observed_again config code (net_of net') ports' modules' (with_shown (λ p. []) s o) (λ p. []) steady.0 steady.1;
       }

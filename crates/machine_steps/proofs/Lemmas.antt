@@ -7,7 +7,7 @@ pub use Rattle.machine_steps.proofs.Keeping.{count_small, home_running, parts_ke
 -- Cores that are taken out and put in, and what is read where cores are at home.
 pub use Rattle.machine_steps.proofs.Lending.{away_shut, core_put, home_there, put_is_machine, there_unless}
 -- A step that stalls changes nothing.
-pub use Rattle.machine_steps.proofs.Stalling.{keeps, retell, retold, stalled_keeps}
+pub use Rattle.machine_steps.proofs.Stalling.{keeps, observe_as, observed_again, stalled_keeps}
 -- What a machine opens with is the opening of its image.
 pub use Rattle.machine_steps.proofs.Parts.{quotient_small, the_opening}
 -- The next step of a drain, and where a drain ends.
@@ -18,7 +18,7 @@ pub use Rattle.machine_steps.proofs.IdleMachines.{opens}
 pub use Rattle.machine_steps.proofs.Lone.{FirstTurn, IsAnswered, IsAsking, IsLone, Named, drain_named, first_turn, goes_on as lone_goes_on, starts}
 -- Runs and replays, one after another.
 pub use Rattle.machine_steps.proofs.Cutting.{all_joined, replay_joined}
--- Steps that are noted as they are taken, and the events that their outcomes tell of.
+-- Steps that are noted as they are taken, and the events that their outcomes say of.
 pub use Rattle.machine_steps.proofs.Noting.{listed, noted_behind, noted_more}
 pub use Rattle.machine_steps.proofs.Events.{steps_tell}
 -- All machines that open on one image are one.

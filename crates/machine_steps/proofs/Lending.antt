@@ -9,7 +9,7 @@ use Rattle.machine_ports.specs.Ports.{PortState, is_away, no_processor, with_sta
 use Rattle.omega_network.specs.Networks.{net_of}
 use Rattle.machine_theory.specs.serialization.Steadiness.{Steady}
 use Rattle.machine_theory.specs.Theory as theory
-use Rattle.machine_theory.specs.Processors.{Told, sizes_of, program, port_at, open_at, setting_of, word_at}
+use Rattle.machine_theory.specs.Processors.{ObservedCore, sizes_of, program, port_at, open_at, setting_of, word_at}
 use Rattle.machine_theory.specs.Cores as cores
 use Rattle.machine_theory.specs.Steps.{machine_of_parts}
 use Rattle.machine_theory.proofs.Lemmas.{core_changed, open_kept, steady_with}
@@ -35,13 +35,16 @@ module _ (m : MachineLists) (is : IsMachine m) (p : ℕ) (within : p < 2 ^ m.con
     abbrev port : PortState
     port = record (port_at m.ports p) { core = core }
 
+    -- A machine with another core at a port is, in the theory, the machine with that core put in.
     pub core_put : (shown : ℕ → List Event) →
         machine_of (with_core_at m p core) shown ≡ cores.with_core (machine_of m shown) p (record { state = core.state; events = shown p })
     unfolding machine_of_parts
     core_put shown =
-        ap₂ (λ (f : ℕ → Told) (b : ℕ → Bool). record { net = net_of m.network; mem = word_at m.config.k m.modules; core = f; is_open = b })
+        ap₂ (λ (f : ℕ → ObservedCore) (b : ℕ → Bool). record { net = net_of m.network; mem = word_at m.config.k m.modules; core = f; is_open = b })
         (core_changed m.ports p port inside shown) (open_kept m.ports p port inside refl)
 
+    -- A machine with another core at a port is a machine if no reference is open there, the setting is the same,
+    -- the core has words, and nothing is left of it if it is away.
     pub put_is_machine : open_at m.ports p ≡ false → core.setting ≡ (port_at m.ports p).core.setting → HasWords core.state →
         (is_away core.state ≡ true → core.state ≡ no_processor) → IsMachine (with_core_at m p core)
     unfolding machine_of_parts
@@ -52,7 +55,7 @@ module _ (m : MachineLists) (is : IsMachine m) (p : ℕ) (within : p < 2 ^ m.con
       modules = is.modules;
       code = is.code;
       role = is.role;
-      steady = subst (λ (M : theory.Machine Told). Steady (sizes_of m.config) (program m.config m.code) M is.role) (sym (core_put (λ q. [])))
+      steady = subst (λ (M : theory.Machine ObservedCore). Steady (sizes_of m.config) (program m.config m.code) M is.role) (sym (core_put (λ q. [])))
           (steady_with (sizes_of m.config) (program m.config m.code) (machine_of m (λ q. [])) is.role p (record { state = core.state; events = [] }) is.steady
           shut);
     }
@@ -83,6 +86,7 @@ module _ (m : MachineLists) (is : IsMachine m) (p place : ℕ) (same : place ≡
         machine_of left shown ≡ cores.with_core (machine_of m shown) p (record { state = core.state; events = shown p })
     put_there shown = ap (λ (n : MachineLists). machine_of n shown) left_is ∙ core_put m is p within core shown
 
+    -- If a core of the processor's setting, with words and 32 registers, is put where one is away, a machine is left.
     pub put_keeps : away_at m p ≡ true → core.setting ≡ setting_of m.config p → HasWords core.state → length core.state.registers ≡ 32 → IsMachine left
     put_keeps away setting words registers = subst IsMachine (sym left_is)
         (put_is_machine m is p within core (away_shut m is p within away) (setting ∙ sym (is.ports.settings p within)) words
@@ -100,6 +104,7 @@ module _ (m : MachineLists) (is : IsMachine m) (p place : ℕ) (same : place ≡
     unfolding machine_of_parts
     taken_there shown = put_there none becomes_none shown
 
+    -- If a core is taken out where no reference is open, a machine is left.
     pub taken_keeps : port.is_open ≡ false → IsMachine left
     taken_keeps shut = subst IsMachine (sym (left_is none becomes_none))
         (put_is_machine m is p within none (ap (λ (q : PortState). q.is_open) (sym found_port) ∙ shut) refl

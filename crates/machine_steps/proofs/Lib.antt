@@ -7,7 +7,7 @@ pub mod Opening
 pub mod Stalling
 mod Poking
 mod Seeing
-mod Telling
+mod AnsweringSeconds
 pub mod Lending
 pub mod Parts
 pub mod IdleMachines

@@ -6,10 +6,12 @@ use Rattle.flat_machine.specs.Memory.{number_at, is_aligned}
 use Rattle.hart.specs.State.{CoreState}
 use Rattle.local_memory.specs.Accesses.{load_of}
 
+-- The number of one byte is that byte.
 pub number_of_byte : (bytes : List ℕ) (place : ℕ) → number_at bytes place 1 ≡ slice_index bytes place
 unfolding number_at
 number_of_byte bytes place = omega arith
 
+-- Each address is aligned for an access of one byte.
 pub byte_is_aligned : (address : ℕ) → is_aligned 1 address ≡ true
 byte_is_aligned address = let e : address % 1 ≡ 0 = omega arith in rw e refl
 

@@ -17,7 +17,7 @@ use Rattle.messages.specs.Moves.{accepted, up_from, moved_up, push_all, has_room
 use Rattle.messages.specs.Moves.{moved_down, injected, module_taken, module_replied, port_taken}
 use Rattle.omega_wires.specs.Wires.{wire_after, wire_before}
 use Rattle.omega_wires.proofs.Lemmas.{path_zero}
-use Rattle.machine_theory.specs.network_theory.Roles.{Role, Idle, Asking, Told}
+use Rattle.machine_theory.specs.network_theory.Roles.{Role, Idle, Asking, Replying}
 use Rattle.messages.proofs.Lemmas.{In-append_right, In-put2, Joins, combination_joins, put_other, put_same}
 use Rattle.machine_theory.proofs.Lemmas.network_theory.{pop_request_unnamed}
 use Rattle.machine_theory.specs.serialization.Program.{Kind, Rests, Alone, Refers, word_of, path_of}
@@ -74,6 +74,7 @@ module _ (Core : Type 0) (M : Machine Core) where
       (first_named (M.net.requests z.k) (wires z) Serve (λ w e. tt))
       (up_named z (greatest (λ s. some_wire (M.net.requests s) (wires z)) z.k))))
 
+  -- The next step of a drain is no poke, and a turn only if its processor has a reply on its wire.
   pub drain_named : (z : Sizes) (st : Step) → drain_step z M ≡ Some st → Named M st
   drain_named z st e = subst (AllNamed M) e (all_named z)
 
@@ -85,6 +86,7 @@ FirstTurn z P M p =
     ((step z P M (Turn p) ≡ stalled M) × ((nat_lt p (wires z) ≡ false) ⊎ (P.kind p (M.core p) ≡ Rests)))
     ⊎ ((step z P M (Turn p) ≡ advance P M p) ⊎ (step z P M (Turn p) ≡ issue P M p))
 
+-- If a processor has no reference open, its turn stalls, is one of its own, or sends a request.
 pub first_turn : {Core : Type 0} → (z : Sizes) (P : Program Core) (M : Machine Core) (p : ℕ) → M.is_open p ≡ false → FirstTurn z P M p
 first_turn {Core} z P M p shut = by (nat_lt p (wires z)) refl (P.kind p (M.core p)) refl
   where
@@ -102,14 +104,20 @@ first_turn {Core} z P M p shut = by (nat_lt p (wires z)) refl (P.kind p (M.core 
 module _ (Core : Type 0) (z : Sizes) (P : Program Core) (p : ℕ) where
   -- p's request is under way: no reply is yet, and the order has no entry
   pub record IsAsking (h : Passed Core) : Type 0 where
+    -- p has a reference open
     pub opened : h.machine.is_open p ≡ true
+    -- no reply is in the network
     pub no_reply : (d w : ℕ) (y : Reply) → In y (h.machine.net.replies d w) → ⊥
+    -- p waits in its own group, and no other waits
     pub group : h.group ≡ put {X = List ℕ} (λ q. []) p (p ∷ [])
+    -- the order has no entry
     pub order : h.order ≡ []
 
   -- it was served: no request is under way any more, and the order is p's entry
   pub record IsAnswered (h : Passed Core) : Type 0 where
+    -- no request is in the network
     pub no_request : (d w : ℕ) (x : Request) → In x (h.machine.net.requests d w) → ⊥
+    -- the order is p's entry alone
     pub order : h.order ≡ P.entry.turn p ∷ []
 
   abbrev pub Stage : Passed Core → Type 0
@@ -119,13 +127,18 @@ module _ (Core : Type 0) (z : Sizes) (P : Program Core) (p : ℕ) where
   OthersShut M = (q : ℕ) → (q ≡ p → ⊥) → M.is_open q ≡ false
 
   pub record IsLone (h : Passed Core) : Type 0 where
+    -- the role of each processor
     pub role : ℕ → Role
+    -- the machine is steady with these roles
     pub steady : Steady z P h.machine role
+    -- no other processor has a reference open
     pub others : OthersShut h.machine
+    -- p's request is under way, or was served
     pub stage : Stage h
 
   -- ---- it begins
 
+  -- If no reference is open and p's turn sends a request, p's reference is alone after it.
   pub starts : (M : Machine Core) (role : ℕ → Role) → Steady z P M role → ((q : ℕ) → M.is_open q ≡ false) → step z P M (Turn p) ≡ issue P M p →
       IsLone (pass z P (from_machine M) (Turn p))
   unfolding injected
@@ -137,7 +150,7 @@ module _ (Core : Type 0) (z : Sizes) (P : Program Core) (p : ℕ) where
         others = subst (λ (r : Result Core). OthersShut r.machine) (sym e) (λ q n. put_other M.is_open p true q n ∙ shut q);
         stage = subst (λ (r : Result Core). Stage (passed_by P.entry (from_machine M) r)) (sym e) (inl (record {
           opened = put_same M.is_open p true;
-          no_reply = λ d w y m. (let c : Told d ≡ Idle = sym (ok.placed.replies d w y m).told ∙ (ok.shut y.leader).0 (shut y.leader) in cc);
+          no_reply = λ d w y m. (let c : Replying d ≡ Idle = sym (ok.placed.replies d w y m).replying ∙ (ok.shut y.leader).0 (shut y.leader) in cc);
           group = refl;
           order = refl;
         }));
@@ -290,9 +303,13 @@ module _ (Core : Type 0) (z : Sizes) (P : Program Core) (p : ℕ) where
 
     -- the reply on its wire is p's, and p retires
     pub record Retires (q : ℕ) (r : Result Core) : Type 0 where
+      -- the turn is p's
       pub is : q ≡ p
+      -- no other processor has a reference open after it
       pub others : OthersShut r.machine
+      -- and p has none any more
       pub shut : r.machine.is_open p ≡ false
+      -- p's request is under way, or was served
       pub stage : Stage (passed_by P.entry h r)
 
     taken_stage : (q : ℕ) (y : Reply) (ys : List Reply) → IsAnswered h → Stage (passed_by P.entry h (retire_from P M q (y ∷ ys)))
@@ -311,20 +328,20 @@ module _ (Core : Type 0) (z : Sizes) (P : Program Core) (p : ℕ) where
         here : In y (M.net.replies 0 q)
         here = subst (In y) (sym e) (inl refl)
 
-        told : lone.role q ≡ Told 0
-        told =
+        replying : lone.role q ≡ Replying 0
+        replying =
             let at = lone.steady.placed.replies 0 q y here in
             let leads : y.leader ≡ q = sym (path_zero z.k y.leader (word_of P M.core y.leader % wires z)) ∙ at.wire in
-            ap lone.role (sym leads) ∙ at.told
+            ap lone.role (sym leads) ∙ at.replying
 
         is : q ≡ p
-        is = is_p q (Told 0) told (λ c. cc)
+        is = is_p q (Replying 0) replying (λ c. cc)
 
         within : q < wires z
-        within = elim (lone.steady.small q) [ inl i ↦ absurd (let c : Told 0 ≡ Idle = sym told ∙ i in cc) | inr l ↦ l ]
+        within = elim (lone.steady.small q) [ inl i ↦ absurd (let c : Replying 0 ≡ Idle = sym replying ∙ i in cc) | inr l ↦ l ]
 
         opened : M.is_open q ≡ true
-        opened = elim (cases_Bool (M.is_open q)) [ inl o ↦ o | inr c ↦ absurd (let c : Told 0 ≡ Idle = sym told ∙ (lone.steady.shut q).0 c in cc) ]
+        opened = elim (cases_Bool (M.is_open q)) [ inl o ↦ o | inr c ↦ absurd (let c : Replying 0 ≡ Idle = sym replying ∙ (lone.steady.shut q).0 c in cc) ]
 
         taken : step z P M (Turn q) ≡ retire_from P M q (y ∷ ys)
         taken = ap (λ b. if b then turned P M q (M.is_open q) else stalled M) (lt-ltb q (wires z) within) ∙ ap (turned P M q) opened ∙ ap (retire_from P M q) e
@@ -357,6 +374,7 @@ module _ (Core : Type 0) (z : Sizes) (P : Program Core) (p : ℕ) where
     kept (Serve m) named = (fine_kept (Serve m) (serve_fine m), ap (λ (b : ℕ → Bool). b p) (serve_fine m).0)
     kept (Down s w) named = (fine_kept (Down s w) (down_fine s w), ap (λ (b : ℕ → Bool). b p) (down_fine s w).0)
 
+    -- After the next step of a drain p's reference is alone still, and only p's own turn closes it.
     pub goes_on : (st : Step) → drain_step z M ≡ Some st → IsLone (pass z P h st) × After st
     goes_on st e = kept st (drain_named Core M z st e)
 

@@ -4,13 +4,13 @@ use Rattle.std.proofs.lemmas.List.{append-nil, append_assoc}
 use Rattle.flat_machine.specs.declared.config.Config.{Config}
 use Rattle.omega_network.specs.Networks.{net_of}
 use Rattle.machine_theory.specs.Theory as theory
-use Rattle.machine_theory.specs.Processors.{Told}
+use Rattle.machine_theory.specs.Processors.{ObservedCore}
 use Rattle.machine_theory.specs.Steps.{outcome_of, after, machine_of_parts}
 use Rattle.steps.specs.declared.step.Step.{Step}
 use Rattle.steps.specs.declared.step.Step.TheVariants as step
 use Rattle.steps.specs.declared.step.Outcome.{Outcome}
 use Rattle.steps.specs.declared.step.Outcome.TheVariants.{Retired, Issued, Stopped, Moved, Combined, Served, Answered, Poked, Stalled}
-use Rattle.steps.specs.Notes.{IsListed}
+use Rattle.steps.specs.StepObserver.{IsListed}
 use Rattle.machine_steps.specs.Machines.{MachineLists, machine_of, IsIdle, IsMachine, IsStep}
 use Rattle.machine_steps.specs.Runs.{all_after, IsRun, IsReplay}
 use Rattle.machine_steps.specs.Draining.{drain_step, BringsNearer, drain_bound, drain_steps, IsDrained}
@@ -23,20 +23,21 @@ use Rattle.machine_steps.proofs.Whole.{IsGoingHome, home_begins, home_goes_on, h
 -- ---- one after another
 
 module _ {N : Type 0} (R : N → Step → Outcome → N → Type 0) where
-  more_from : (c : Config) (code : List ℕ) (M : theory.Machine Told) (xs : List Step) (s : Step) (n mid n' : N) → AreNotedFrom R c code M xs n mid →
+  more_from : (c : Config) (code : List ℕ) (M : theory.Machine ObservedCore) (xs : List Step) (s : Step) (n mid n' : N) → AreNotedFrom R c code M xs n mid →
       R mid s (outcome_of c code (all_after c code M xs) s) n' → AreNotedFrom R c code M (xs ++ s ∷ []) n n'
   unfolding all_after
   more_from c code M [] s n mid n' none one = (n', subst (λ x. R x s (outcome_of c code M s) n') none one, refl)
   more_from c code M (x ∷ xs) s n mid n' all one = (all.0, all.1, more_from c code (after c code M x) xs s all.0 mid n' all.2 one)
 
+  -- If the steps of a run are noted, and the step that is taken next, then the longer run's steps are noted.
   pub noted_more : (old m new : MachineLists) (done : List Step) (s : Step) (o : Outcome) (n mid n' : N) → IsRun old done m → IsStep m s o new →
       AreNoted R old done n mid → R mid s o n' → AreNoted R old (done ++ s ∷ []) n n'
   noted_more old m new done s o n mid n' r is all one =
       more_from old.config old.code (machine_of old (λ p. [])) done s n mid n' all
       (subst (λ x. R mid s x n') (is.step.outcome ∙ sym (outcome_there old m done r s)) one)
 
-  -- Whatever machines have shown before, the same is noted of them: so what is noted of steps behind others is noted from there.
-  noted_alike : (c : Config) (code : List ℕ) (M K : theory.Machine Told) (xs : List Step) (n n' : N) → Alikes M K → AreNotedFrom R c code M xs n n' →
+  -- Whatever machines have shown before, the same is noted of them: so what is noted of steps after others is noted from there.
+  noted_alike : (c : Config) (code : List ℕ) (M K : theory.Machine ObservedCore) (xs : List Step) (n n' : N) → Alikes M K → AreNotedFrom R c code M xs n n' →
       AreNotedFrom R c code K xs n n'
   noted_alike c code M K [] n n' alike none = none
   noted_alike c code M K (x ∷ xs) n n' alike all = (
@@ -45,6 +46,7 @@ module _ {N : Type 0} (R : N → Step → Outcome → N → Type 0) where
     noted_alike c code (after c code M x) (after c code K x) xs all.0 n' (after_alikes c code M K x alike) all.2,
   )
 
+  -- What is noted of steps from where a run ends is noted of them after the steps of the run.
   pub noted_behind : (opening mid : MachineLists) (steps more : List Step) (n n' : N) → IsRun opening steps mid → AreNoted R mid more n n' →
       AreNotedFrom R opening.config opening.code (all_after opening.config opening.code (machine_of opening (λ p. [])) steps) more n n'
   noted_behind opening mid steps more n n' r all =
@@ -83,57 +85,69 @@ module _ {N : Type 0} (items : N → List Step) (capacity : N → ℕ) where
   abbrev Lists : N → Step → Outcome → N → Type 0
   Lists n s o n' = IsListed (items n) (capacity n) s (items n') (capacity n')
 
-  listed_from : (c : Config) (code : List ℕ) (M : theory.Machine Told) (xs : List Step) (n n' : N) → AreNotedFrom Lists c code M xs n n' →
+  listed_from : (c : Config) (code : List ℕ) (M : theory.Machine ObservedCore) (xs : List Step) (n n' : N) → AreNotedFrom Lists c code M xs n n' →
       (items n' ≡ items n ++ xs) × (capacity n' ≡ capacity n)
   listed_from c code M [] n n' same = (ap items same ∙ sym (append-nil (items n)), ap capacity same)
   listed_from c code M (x ∷ xs) n n' all =
       let rest = listed_from c code (after c code M x) xs all.0 n' all.2 in
       (rest.0 ∙ ap (λ l. l ++ xs) all.1.0 ∙ append_assoc (items n) (x ∷ []) xs, rest.1 ∙ all.1.1)
 
+  -- If steps are noted in a list, they stand at its end, and its capacity is the same.
   pub listed : (m : MachineLists) (xs : List Step) (n n' : N) → AreNoted Lists m xs n n' → (items n' ≡ items n ++ xs) × (capacity n' ≡ capacity n)
   listed m xs n n' all = listed_from m.config m.code (machine_of m (λ p. [])) xs n n' all
 
 module _ {N : Type 0} (R : N → Step → Outcome → N → Type 0) where
   -- ---- a drain
 
-  -- So many steps of a drain are taken, and noted.
+  -- This many steps of a drain are taken, and noted.
   pub record IsNotedHome (old : MachineLists) (n : N) (i : ℕ) (m : MachineLists) (last : Outcome) (n' : N) : Type 0 where
+    -- the steps that were taken
     pub tail : List Step
+    -- they are of a drain that is going home
     pub home : IsGoingHome old tail i m last
+    -- each of them did something
     pub replay : IsReplay old tail m
-    pub noted : AreNoted R old tail n n'
+    -- each of them is noted
+    pub observed : AreNoted R old tail n n'
 
+  -- A drain begins with no step taken, and none noted.
   pub noting_begins : (m : MachineLists) (n : N) → IsMachine m → IsNotedHome m n 0 m Issued n
-  noting_begins m n is = record { tail = []; home = home_begins m is; replay = replay_begins m; noted = refl }
+  noting_begins m n is = record { tail = []; home = home_begins m is; replay = replay_begins m; observed = refl }
 
   module _ (old : MachineLists) (n : N) (i : ℕ) (m : MachineLists) (last : Outcome) (n' : N) (b : IsNotedHome old n i m last n') where
+    -- If the next step of a drain is taken and noted, one step more of the drain is taken and noted.
     pub noting_goes_on : (s : Step) (o : Outcome) (new : MachineLists) (n2 : N) → IsMachine new → i < drain_bound old.config → drain_step m ≡ Some s →
         BringsNearer m s → IsStep m s o new → R n' s o n2 → IsNotedHome old n (i + 1) new o n2
     noting_goes_on s o new n2 is within names goes st one = record {
       tail = b.tail ++ s ∷ [];
       home = home_goes_on old b.tail i m last b.home s o new is within names st;
       replay = replay_more old m new b.tail s o b.replay st (λ stalls. goes.moves (sym st.step.outcome ∙ stalls));
-      noted = noted_more R old m new b.tail s o n n' n2 b.replay.run st b.noted one;
+      observed = noted_more R old m new b.tail s o n n' n2 b.replay.run st b.observed one;
     }
 
     pub record IsNotedAtHome : Type 0 where
+      -- the machine is drained
       pub drained : IsDrained old i m
+      -- if p alone had sent a request, its instruction is whole
       pub home : (before : MachineLists) (p : ℕ) → IsSent before p old → IsOne before p last m
+      -- each step of the drain did something
       pub replay : IsReplay old (drain_steps old) m
-      pub noted : AreNoted R old (drain_steps old) n n'
+      -- each step of the drain is noted
+      pub observed : AreNoted R old (drain_steps old) n n'
 
     at_home : (drain_steps old ≡ b.tail) × IsDrained old i m × ((before : MachineLists) (p : ℕ) → IsSent before p old → IsOne before p last m) → IsNotedAtHome
     at_home e = record {
       drained = e.1;
       home = e.2;
       replay = subst (λ xs. IsReplay old xs m) (sym e.0) b.replay;
-      noted = subst (λ xs. AreNoted R old xs n n') (sym e.0) b.noted;
+      observed = subst (λ xs. AreNoted R old xs n n') (sym e.0) b.observed;
     }
 
     -- It ends where the drain names no step any more, and where as many were taken as there are.
     pub noting_stops : drain_step m ≡ None → IsIdle m → IsNotedAtHome
     noting_stops none idle = at_home (home_now old b.tail i m last b.home none idle)
 
+    -- A drain is at its end, with all steps noted, if at least as many were taken as it has.
     pub noting_is_over : IsMachine old → length (drain_steps old) ≤ i → IsNotedAtHome
     noting_is_over is few = at_home (home_in_time old b.tail i m last b.home is few)
 
@@ -143,11 +157,11 @@ module _ {N : Type 0} (R : N → Step → Outcome → N → Type 0) where
   pub sent_noted : (m : MachineLists) (p : ℕ) (sent : MachineLists) (n mid n' : N) → IsSent m p sent → R n (step.Turn p) Issued mid →
       AreNoted R sent (drain_steps sent) mid n' → AreNoted R m (one_steps m p) n n'
   sent_noted m p sent n mid n' s one rest =
-      let M : theory.Machine Told = machine_of m (λ q. []) in
+      let M : theory.Machine ObservedCore = machine_of m (λ q. []) in
       let there : machine_of sent (λ q. []) ≡ after m.config m.code M (step.Turn p) =
       ap (λ c. machine_of_parts c (net_of sent.network) sent.ports sent.modules (λ q. [])) s.turn.config ∙ s.turn.step.after (λ q. []) in
       let tail : AreNotedFrom R m.config m.code (after m.config m.code M (step.Turn p)) (drain_steps sent) mid n' =
-      subst (λ (x : Config × List ℕ × theory.Machine Told). AreNotedFrom R x.0 x.1 x.2 (drain_steps sent) mid n')
+      subst (λ (x : Config × List ℕ × theory.Machine ObservedCore). AreNotedFrom R x.0 x.1 x.2 (drain_steps sent) mid n')
       (λ i. (s.turn.config i, s.turn.code i, there i)) rest in
       subst (λ xs. AreNoted R m xs n n') (sym (steps_back m p sent s))
       (mid, subst (λ x. R n (step.Turn p) x mid) s.turn.step.outcome one, tail)

@@ -24,7 +24,7 @@ use Rattle.machine_theory.specs.serialization.Steadiness.{Steady}
 use Rattle.machine_theory.proofs.Lemmas.serialization.{steady_start}
 use Rattle.machine_steps.specs.Parts.{opening_port, opening_ports, opening_word, opening_module, opening_modules, places_of}
 use Rattle.machine_steps.proofs.Parts.{the_opening}
-use Rattle.machine_theory.specs.Processors.{Told, sizes_of, program, no_port, port_at, told_at, open_at, word_at}
+use Rattle.machine_theory.specs.Processors.{ObservedCore, sizes_of, program, no_port, port_at, observed_at, open_at, word_at}
 use Rattle.machine_theory.specs.Steps.{machine_of_parts}
 use Rattle.machine_steps.specs.Machines.{ArePorts, AreModules, IsMachine}
 use Rattle.machine_steps.specs.Openings.{IsOpening}
@@ -155,10 +155,11 @@ module _ (c : Config) (layout : Layout) (limits : IsWithinLimits c) (placed : Is
     steady : (code : List ℕ) → Steady (sizes_of c) (program c code) (machine_of_parts c (net_of net) ports modules (λ p. [])) (λ p. Idle)
     unfolding machine_of_parts
     steady code =
-        subst (λ (M : theory.Machine Told). Steady (sizes_of c) (program c code) M (λ p. Idle))
-        (λ i. record { net = sym net_is i; mem = word_at c.k modules; core = told_at ports (λ p. []); is_open = fun_ext (λ p. sym (ports_shut p)) i })
-        (steady_start (sizes_of c) (program c code) (word_at c.k modules) (told_at ports (λ p. [])))
+        subst (λ (M : theory.Machine ObservedCore). Steady (sizes_of c) (program c code) M (λ p. Idle))
+        (λ i. record { net = sym net_is i; mem = word_at c.k modules; core = observed_at ports (λ p. []); is_open = fun_ext (λ p. sym (ports_shut p)) i })
+        (steady_start (sizes_of c) (program c code) (word_at c.k modules) (observed_at ports (λ p. [])))
 
+    -- An empty network of this size and the opening's ports, modules and code are a machine if the layout is of bytes.
     pub new_is_machine : (image : ImageContents) → network.sizes_of net ≡ sizes_of c → AreBelow 256 layout.code → AreBelow 256 layout.local →
         AreBelow 256 layout.shared →
         IsMachine (record { config = c; image = image; network = net; ports = ports; modules = modules; code = region_of_bytes layout.code })
@@ -172,6 +173,7 @@ module _ (c : Config) (layout : Layout) (limits : IsWithinLimits c) (placed : Is
       steady = steady (region_of_bytes layout.code);
     }
 
+    -- The machine that they make opens on the image of the layout.
     pub new_opens : IsOpening c (record { layout = layout; shared_words = c.shared_words })
         (record {
           config = c;

@@ -35,37 +35,39 @@ use Rattle.steps.specs.declared.step.Step.{Step}
 use Rattle.steps.specs.declared.step.Step.TheVariants as step
 use Rattle.steps.specs.declared.step.Outcome.{Outcome}
 use Rattle.machine_ports.specs.Ports.{PortState}
-use Rattle.machine_theory.specs.Processors.{Told, no_port, sizes_of, kind_of, next, program, may_poke, port_at}
+use Rattle.machine_theory.specs.Processors.{ObservedCore, no_port, sizes_of, kind_of, next, program, may_poke, port_at}
 use Rattle.machine_theory.specs.Flatness.{IsGood}
-use Rattle.machine_theory.specs.Steps.{named, taken, answer_of, told_of_turn, told_of_reply, outcome_of, after, machine_of_parts}
+use Rattle.machine_theory.specs.Steps.{named, taken, answer_of, outcome_of_turn, outcome_of_reply, outcome_of, after, machine_of_parts}
 use Rattle.machine_theory.proofs.Lemmas.{keeps}
 use Rattle.machine_steps.specs.Machines.{MachineLists, machine_of, IsIdle, IsMachine, IsStep}
 use Rattle.machine_steps.specs.Runs.{all_after, events_of, IsRun, passed}
-use Rattle.machine_steps.specs.Ordering.{told_by, turn_tells, is_open_at, group_in, IsEntered}
+use Rattle.machine_steps.specs.Ordering.{outcome_by, turn_tells, is_open_at, group_in, IsEntered}
 use Rattle.machine_steps.proofs.Keeping.{count_small}
 use Rattle.machine_steps.proofs.Flattening.{past_end}
 use Rattle.machine_steps.proofs.Running.{run_begins, run_more, passes_machine}
 
--- ---- what an outcome tells is what the theory's does
+-- ---- what an outcome says is what the theory's does
 
 -- both enter the same
 pub record Same (a b : theory.Outcome) : Type 0 where
+  -- they change all groups alike
   pub group : (g : ℕ → List ℕ) → group_after g a ≡ group_after g b
+  -- they put the same segment into the order
   pub segment_is : (g : ℕ → List ℕ) → segment g a ≡ segment g b
 
 same_itself : (a : theory.Outcome) → Same a a
 same_itself a = record { group = λ g. refl; segment_is = λ g. refl }
 
-module _ (c : Config) (code : List ℕ) (M : Machine Told) where
+module _ (c : Config) (code : List ℕ) (M : Machine ObservedCore) where
   abbrev turns : ℕ → Turn
   turns p = next c code p (M.core p).state
 
   abbrev answer : theory.Outcome → Outcome
   answer = answer_of turns
 
-  -- what is told of a result of the step
-  abbrev Tells : Step → (was_open : Bool) → Result Told → Type 0
-  Tells s was_open r = Same (told_by s was_open (answer r.outcome)) r.outcome
+  -- what is said of a result of the step
+  abbrev Tells : Step → (was_open : Bool) → Result ObservedCore → Type 0
+  Tells s was_open r = Same (outcome_by s was_open (answer r.outcome)) r.outcome
 
   tells_stalled : (s : Step) (was_open : Bool) → Tells s was_open (stalled M)
   tells_stalled (step.Turn p) true = same_itself theory.Stalled
@@ -75,21 +77,21 @@ module _ (c : Config) (code : List ℕ) (M : Machine Told) where
   tells_stalled (step.Down s w) o = same_itself theory.Stalled
   tells_stalled (step.Poke q) o = same_itself theory.Stalled
 
-  either : (s : Step) (o : Bool) (b : Bool) (r : Result Told) → Tells s o r → Tells s o (if b then r else stalled M)
+  either : (s : Step) (o : Bool) (b : Bool) (r : Result ObservedCore) → Tells s o r → Tells s o (if b then r else stalled M)
   either s o true r k = k
   either s o false r k = tells_stalled s o
 
   after_reply_tells : (p found : ℕ) (done : Outcome) → turn_tells p true done ≡ theory.Stalled → Same (turn_tells p true done) (theory.Retired p found)
   after_reply_tells p found done e = record { group = λ g. ap (group_after g) e; segment_is = λ g. ap (segment g) e }
 
-  reply_stalls : (p : ℕ) (t : Turn) (found : ℕ) → turn_tells p true (told_of_reply (after_reply t found)) ≡ theory.Stalled
-  reply_stalls p t found = elim (after_reply t found) as (λ o. turn_tells p true (told_of_reply o) ≡ theory.Stalled) [ Some done ↦ refl | None ↦ refl ]
+  reply_stalls : (p : ℕ) (t : Turn) (found : ℕ) → turn_tells p true (outcome_of_reply (after_reply t found)) ≡ theory.Stalled
+  reply_stalls p t found = elim (after_reply t found) as (λ o. turn_tells p true (outcome_of_reply o) ≡ theory.Stalled) [ Some done ↦ refl | None ↦ refl ]
 
   retired : (p : ℕ) (ys : List Reply) → Tells (step.Turn p) true (retire_from (program c code) M p ys)
   retired p [] = tells_stalled (step.Turn p) true
-  retired p (y ∷ ys) = after_reply_tells p y.value (told_of_reply (after_reply (turns p) y.value)) (reply_stalls p (turns p) y.value)
+  retired p (y ∷ ys) = after_reply_tells p y.value (outcome_of_reply (after_reply (turns p) y.value)) (reply_stalls p (turns p) y.value)
 
-  alone : (p : ℕ) (runs : Bool) (t : Turn) → kind_of runs t ≡ Alone → turn_tells p false (told_of_turn t) ≡ theory.Advanced p
+  alone : (p : ℕ) (runs : Bool) (t : Turn) → kind_of runs t ≡ Alone → turn_tells p false (outcome_of_turn t) ≡ theory.Advanced p
   alone p true (Retires after retired) k = refl
   alone p true (Stops cause) k = refl
   alone p true (Reaches word change after) k = absurd (cc)
@@ -143,19 +145,20 @@ module _ (c : Config) (code : List ℕ) (M : Machine Told) where
 
 module _ (c : Config) (code : List ℕ) where
   -- a machine whose processors have shown other events
-  abbrev retell : (shown : ℕ → List Event) → Machine Told → Machine Told
-  retell shown M = record { net = M.net; mem = M.mem; core = λ p. record { state = (M.core p).state; events = shown p }; is_open = M.is_open }
+  abbrev observe_as : (shown : ℕ → List Event) → Machine ObservedCore → Machine ObservedCore
+  observe_as shown M = record { net = M.net; mem = M.mem; core = λ p. record { state = (M.core p).state; events = shown p }; is_open = M.is_open }
 
-  abbrev Alike : Result Told → Result Told → Type 0
+  abbrev Alike : Result ObservedCore → Result ObservedCore → Type 0
   Alike r r' = r.outcome ≡ r'.outcome
 
-  alike_if : (M M' : Machine Told) (b : Bool) (r r' : Result Told) → Alike r r' → Alike (if b then r else stalled M) (if b then r' else stalled M')
+  alike_if : (M M' : Machine ObservedCore) (b : Bool) (r r' : Result ObservedCore) → Alike r r' →
+      Alike (if b then r else stalled M) (if b then r' else stalled M')
   alike_if M M' true r r' e = e
   alike_if M M' false r r' e = refl
 
-  module _ (M : Machine Told) (shown : ℕ → List Event) where
-    abbrev M' : Machine Told
-    M' = retell shown M
+  module _ (M : Machine ObservedCore) (shown : ℕ → List Event) where
+    abbrev M' : Machine ObservedCore
+    M' = observe_as shown M
 
     alike_turn : (p : ℕ) (b : Bool) → Alike (turned (program c code) M p b) (turned (program c code) M' p b)
     alike_turn p true = by (M.net.replies 0 p)
@@ -248,7 +251,7 @@ module _ (old : MachineLists) (is : IsMachine old) (idle : IsIdle old) where
 
 -- ---- one step more
 
-passes_more : (z : Sizes) (P : Program Told) (xs : List theory.Step) (st : theory.Step) (h : Passed Told) →
+passes_more : (z : Sizes) (P : Program ObservedCore) (xs : List theory.Step) (st : theory.Step) (h : Passed ObservedCore) →
     passes z P (xs ++ st ∷ []) h ≡ pass z P (passes z P xs h) st
 unfolding passes
 passes_more z P [] st h = refl
@@ -262,11 +265,16 @@ passed_more old done s =
 
 -- The machine stands after the steps done, whose outcomes gave these groups and entries.
 pub record IsOrdered (old : MachineLists) (done : List Step) (m : MachineLists) (groups : List (ArrayVec ℕ)) (entries : List Entry) : Type 0 where
+  -- the steps are a run
   pub run : IsRun old done m
+  -- the groups are those of the theory's run
   pub group : group_in groups ≡ (passed old done).group
+  -- the entries are the order of the theory's run
   pub order : entries ≡ (passed old done).order
+  -- there are groups for 256 leaders
   pub leaders : length groups ≡ 256
 
+-- Before the first step the groups are empty, and the order has no entries.
 pub order_begins : (old : MachineLists) (groups : List (ArrayVec ℕ)) (entries : List Entry) → length groups ≡ 256 → ((p : ℕ) → group_in groups p ≡ []) →
     entries ≡ [] → IsOrdered old [] old groups entries
 unfolding passes
@@ -274,14 +282,14 @@ order_begins old groups entries leaders none empty = record { run = run_begins o
 
 module _ (old m : MachineLists) (done : List Step) (groups : List (ArrayVec ℕ)) (entries : List Entry) (d : IsOrdered old done m groups entries) (s : Step)
     (o : Outcome) (new : MachineLists) (is : IsStep m s o new) where
-  abbrev h : Passed Told
+  abbrev h : Passed ObservedCore
   h = passed old done
 
-  abbrev M : Machine Told
+  abbrev M : Machine ObservedCore
   M = machine_of m (events_of h.machine)
 
-  abbrev told : theory.Outcome
-  told = told_by s (is_open_at m s) o
+  abbrev fact : theory.Outcome
+  fact = outcome_by s (is_open_at m s) o
 
   -- the machine is the theory's
   machine_is : M ≡ h.machine
@@ -303,30 +311,31 @@ module _ (old m : MachineLists) (done : List Step) (groups : List (ArrayVec ℕ)
   outcome_is =
       is.step.outcome ∙ ap (answer_of (λ p. next m.config m.code p (M.core p).state)) (alike m.config m.code (machine_of m (λ p. [])) (events_of h.machine) s)
 
-  -- what is told enters the same as the theory's outcome
-  same : Same told (theory.step (sizes_of old.config) (program old.config old.code) h.machine (named s)).outcome
+  -- what is reported enters the same as the theory's outcome
+  same : Same fact (theory.step (sizes_of old.config) (program old.config old.code) h.machine (named s)).outcome
   same =
-      let here : Same told (taken m.config m.code M s).outcome = subst (λ b. Same (told_by s b o) (taken m.config m.code M s).outcome) (sym (open_is s))
-      (subst (λ a. Same (told_by s (opened m.config m.code M s) a) (taken m.config m.code M s).outcome) (sym outcome_is) (tells m.config m.code M s)) in
-      subst (λ N. Same told (taken old.config old.code N s).outcome) machine_is
-      (subst (λ code. Same told (taken old.config code M s).outcome) d.run.code (subst (λ c. Same told (taken c m.code M s).outcome) d.run.config here))
+      let here : Same fact (taken m.config m.code M s).outcome = subst (λ b. Same (outcome_by s b o) (taken m.config m.code M s).outcome) (sym (open_is s))
+      (subst (λ a. Same (outcome_by s (opened m.config m.code M s) a) (taken m.config m.code M s).outcome) (sym outcome_is) (tells m.config m.code M s)) in
+      subst (λ N. Same fact (taken old.config old.code N s).outcome) machine_is
+      (subst (λ code. Same fact (taken old.config code M s).outcome) d.run.code (subst (λ c. Same fact (taken c m.code M s).outcome) d.run.config here))
 
-  group_is : group_after (group_in groups) told ≡ (passed old (done ++ s ∷ [])).group
-  group_is = ap (λ g. group_after g told) d.group ∙ same.group h.group ∙ sym (ap (λ (x : Passed Told). x.group) (passed_more old done s))
+  group_is : group_after (group_in groups) fact ≡ (passed old (done ++ s ∷ [])).group
+  group_is = ap (λ g. group_after g fact) d.group ∙ same.group h.group ∙ sym (ap (λ (x : Passed ObservedCore). x.group) (passed_more old done s))
 
   -- no group outgrows the processors
-  pub few_after : IsMachine old → IsIdle old → (p : ℕ) → length (group_after (group_in groups) told p) ≤ 64
+  pub few_after : IsMachine old → IsIdle old → (p : ℕ) → length (group_after (group_in groups) fact p) ≤ 64
   few_after machine idle p = subst (λ g. length (g p) ≤ 64) (sym group_is) (few_wait old machine idle (done ++ s ∷ []) p)
 
-  pub order_goes_on : (groups' : List (ArrayVec ℕ)) (entries' : List Entry) → IsEntered groups entries told groups' entries' →
+  -- If the outcome of the next step is entered, the groups and entries are those of the longer run.
+  pub order_goes_on : (groups' : List (ArrayVec ℕ)) (entries' : List Entry) → IsEntered groups entries fact groups' entries' →
       IsOrdered old (done ++ s ∷ []) new groups' entries'
   order_goes_on groups' entries' e = record {
     run = run_more old m new done s o d.run is;
     group = e.group ∙ group_is;
     order =
         e.order
-        ∙ ap₂ (λ es g. es ++ segment g told) d.order d.group
+        ∙ ap₂ (λ es g. es ++ segment g fact) d.order d.group
         ∙ ap (λ l. h.order ++ l) (same.segment_is h.group)
-        ∙ sym (ap (λ (x : Passed Told). x.order) (passed_more old done s));
+        ∙ sym (ap (λ (x : Passed ObservedCore). x.order) (passed_more old done s));
     leaders = e.places ∙ d.leaders;
   }

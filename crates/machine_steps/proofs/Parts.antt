@@ -52,6 +52,7 @@ module _ (c : Config) (shared : List ℕ) where
   words_are start zero l = refl
   words_are start (suc count) l = ap₂ (λ w ws. w ∷ ws) (word_is start (omega arith)) (words_are (start + 1) count (omega arith))
 
+-- The processors and words that a machine opens with are those of the flat machine that opens on the layout.
 pub the_opening : (c : Config) (layout : Layout) → AreTheOpening c layout
 the_opening c layout = record {
   processors = states_are c layout (range_with_len 0 (2 ^ c.k)) ∙ ap (λ n. replicate n (opening_processor layout)) (length-range_with_len 0 (2 ^ c.k));
@@ -60,13 +61,16 @@ the_opening c layout = record {
 
 -- ---- loops
 
+-- The opening's ports for one processor more have its port at their end.
 pub one_port_more : (c : Config) (layout : Layout) (n : ℕ) → opening_ports c layout (n + 1) ≡ opening_ports c layout n ++ opening_port c layout n ∷ []
 one_port_more c layout n = map-range_with_len_more (opening_port c layout) 0 n n (omega arith)
 
+-- The opening's modules with one more have it at their end.
 pub one_module_more : (c : Config) (shared : List ℕ) (n : ℕ) →
     opening_modules c shared (n + 1) ≡ opening_modules c shared n ++ opening_module c shared (places_of c) n ∷ []
 one_module_more c shared n = map-range_with_len_more (opening_module c shared (places_of c)) 0 n n (omega arith)
 
+-- A module of the opening with one place more has the word of that place at its end.
 pub one_word_more : (c : Config) (shared : List ℕ) (number n : ℕ) →
     opening_module c shared (n + 1) number ≡ opening_module c shared n number ++ opening_word c shared number n ∷ []
 one_word_more c shared number n = map-range_with_len_more (opening_word c shared number) 0 n n (omega arith)

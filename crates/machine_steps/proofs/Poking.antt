@@ -12,7 +12,7 @@ use Rattle.machine_theory.specs.Theory as theory
 use Rattle.steps.specs.declared.step.Step.TheVariants as step
 use Rattle.steps.specs.declared.step.Outcome.{Outcome}
 use Rattle.steps.specs.declared.step.Outcome.TheVariants.{Poked, Stalled}
-use Rattle.machine_theory.specs.Processors.{Told, next, program, open_at, port_at, is_lawful_poke, poked_words, poked_processors}
+use Rattle.machine_theory.specs.Processors.{ObservedCore, next, program, open_at, port_at, is_lawful_poke, poked_words, poked_processors}
 use Rattle.machine_theory.specs.FlatSizes.{HasSize}
 use Rattle.machine_theory.specs.Steps.{taken, answer_of, outcome_of, after, machine_of_parts}
 use Rattle.machine_theory.proofs.Lemmas.{home_all, lawful_same, parts_of, shut_all, size_written, written_agrees}
@@ -26,7 +26,7 @@ module _ (old : MachineLists) (q : Poke) (o : Outcome) (new : MachineLists) (is 
   abbrev c : Config
   c = old.config
 
-  abbrev M : theory.Machine Told
+  abbrev M : theory.Machine ObservedCore
   M = machine_of old (λ p. [])
 
   abbrev F : FlatState
@@ -36,7 +36,7 @@ module _ (old : MachineLists) (q : Poke) (o : Outcome) (new : MachineLists) (is 
   lawful = is_lawful_poke c q
 
   -- what is done, where the poke is lawful or not
-  abbrev done : Bool → theory.Result Told
+  abbrev done : Bool → theory.Result ObservedCore
   done b = if b then theory.poked (program c old.code) M q else theory.stalled M
 
   does : taken c old.code M (step.Poke q) ≡ done lawful
@@ -50,14 +50,14 @@ module _ (old : MachineLists) (q : Poke) (o : Outcome) (new : MachineLists) (is 
 
   answer_is : o ≡ (if lawful then Poked else Stalled)
   unfolding outcome_of
-  answer_is = st.step.outcome ∙ ap (λ (r : theory.Result Told). answer_of (λ p. next c old.code p (M.core p).state) r.outcome) does ∙ answered lawful
+  answer_is = st.step.outcome ∙ ap (λ (r : theory.Result ObservedCore). answer_of (λ p. next c old.code p (M.core p).state) r.outcome) does ∙ answered lawful
 
   -- the machine after it
   leaves : machine_of new (λ p. []) ≡ (done lawful).machine
   unfolding after
   leaves =
       ap (λ c. machine_of_parts c (net_of new.network) new.ports new.modules (λ p. [])) st.config ∙ st.step.after (λ p. [])
-      ∙ ap (λ (r : theory.Result Told). r.machine) does
+      ∙ ap (λ (r : theory.Result ObservedCore). r.machine) does
 
   open_kept : (b : Bool) (p : ℕ) → (done b).machine.is_open p ≡ M.is_open p
   open_kept true p = refl
@@ -65,17 +65,17 @@ module _ (old : MachineLists) (q : Poke) (o : Outcome) (new : MachineLists) (is 
 
   idle_after : IsIdle new
   unfolding machine_of_parts
-  idle_after p within = ap (λ (N : theory.Machine Told). N.is_open p) leaves ∙ open_kept lawful p ∙ all_shut old is idle p
+  idle_after p within = ap (λ (N : theory.Machine ObservedCore). N.is_open p) leaves ∙ open_kept lawful p ∙ all_shut old is idle p
 
   -- ---- the flat machine
 
   -- the words and the processors of a machine
-  abbrev parts : theory.Machine Told → (ℕ → ℕ) × (ℕ → Told)
+  abbrev parts : theory.Machine ObservedCore → (ℕ → ℕ) × (ℕ → ObservedCore)
   parts N = (N.mem, N.core)
 
   before : parts M ≡ parts_of F (λ p. [])
   unfolding machine_of_parts
-  before = ap₂ (λ (f : ℕ → ℕ) (g : ℕ → Told). (f, g)) (fun_ext (λ i. sym (word_is old is i)))
+  before = ap₂ (λ (f : ℕ → ℕ) (g : ℕ → ObservedCore). (f, g)) (fun_ext (λ i. sym (word_is old is i)))
       (fun_ext (λ p. ap (λ s. record { state = s; events = [] }) (sym (state_at old is p))))
 
   -- the flat machine after it
@@ -84,7 +84,8 @@ module _ (old : MachineLists) (q : Poke) (o : Outcome) (new : MachineLists) (is 
 
   parts_are : (b : Bool) → lawful ≡ b → parts (done b).machine ≡ parts_of (next_flat b) (λ p. [])
   parts_are true e =
-      ap (λ (x : (ℕ → ℕ) × (ℕ → Told)). (poked_words q x.0, poked_processors q x.1)) before ∙ written_agrees c old.code F (λ p. []) q (sound old is).size e
+      ap (λ (x : (ℕ → ℕ) × (ℕ → ObservedCore)). (poked_words q x.0, poked_processors q x.1)) before
+      ∙ written_agrees c old.code F (λ p. []) q (sound old is).size e
   parts_are false e = before
 
   size_is : (b : Bool) → HasSize c old.code (next_flat b)
@@ -102,7 +103,8 @@ module _ (old : MachineLists) (q : Poke) (o : Outcome) (new : MachineLists) (is 
       let all : parts (machine_of new (λ p. [])) ≡ parts_of (next_flat lawful) (λ p. []) = ap parts leaves ∙ parts_are lawful refl in
       flat_is new is' (next_flat lawful) (subst (λ (x : Config). HasSize x new.code (next_flat lawful)) (sym st.config)
       (subst (λ code. HasSize c code (next_flat lawful)) (sym st.code) (size_is lawful)))
-      (λ p. ap (λ (x : (ℕ → ℕ) × (ℕ → Told)). (x.1 p).state) all) (λ i. ap (λ (x : (ℕ → ℕ) × (ℕ → Told)). x.0 i) all)
+      (λ p. ap (λ (x : (ℕ → ℕ) × (ℕ → ObservedCore)). (x.1 p).state) all) (λ i. ap (λ (x : (ℕ → ℕ) × (ℕ → ObservedCore)). x.0 i) all)
 
+  -- If no reference is open and no core away, a lawful poke is a step of the flat machine, and another changes nothing.
   pub poke_whole : IsPoked old q o new
   poke_whole = record { answer = answer_is; idle = idle_after; flat = flat_after ∙ flat_by lawful refl }

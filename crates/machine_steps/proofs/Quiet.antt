@@ -9,7 +9,7 @@ use Rattle.messages.specs.Moves.{moved_up, moved_down, up_from, down_from}
 use Rattle.machine_theory.specs.serialization.Machine.{retire_from, turned}
 use Rattle.machine_theory.specs.Theory.{stalled, went_up, went_down, serve_from}
 use Rattle.machine_theory.specs.Theory as theory
-use Rattle.machine_theory.specs.Processors.{Told, sizes_of, next, open_at, program}
+use Rattle.machine_theory.specs.Processors.{ObservedCore, sizes_of, next, open_at, program}
 use Rattle.machine_theory.specs.Steps.{answer_of, outcome_of, machine_of_parts}
 use Rattle.omega_network.specs.Networks.{net_of}
 use Rattle.machine_steps.specs.Machines.{MachineLists, machine_of}
@@ -17,7 +17,7 @@ use Rattle.steps.specs.declared.step.Step.TheVariants as step
 use Rattle.steps.specs.declared.step.Outcome.{Outcome}
 use Rattle.steps.specs.declared.step.Outcome.TheVariants.{Stalled}
 
-module _ (c : Config) (code : List ℕ) (M : theory.Machine Told) where
+module _ (c : Config) (code : List ℕ) (M : theory.Machine ObservedCore) where
   abbrev answers : theory.Outcome → Outcome
   answers = answer_of (λ p. next c code p (M.core p).state)
 
@@ -63,19 +63,23 @@ module _ (c : Config) (code : List ℕ) (M : theory.Machine Told) where
       ∙ down_same (nat_lt w (2 ^ c.k)) (nat_lt s c.k)
 
 module _ (m : MachineLists) where
+  -- If a processor has a reference open and no reply on its wire, its turn stalls.
   pub turn_stalls : (p : ℕ) → open_at m.ports p ≡ true → (net_of m.network).replies 0 p ≡ [] →
       outcome_of m.config m.code (machine_of m (λ p. [])) (step.Turn p) ≡ Stalled
   unfolding machine_of_parts
   turn_stalls p opened none = turn_from_none m.config m.code (machine_of m (λ p. [])) p opened none
 
+  -- If no request is on the wire, a move up from it stalls.
   pub up_stalls : (s w : ℕ) → (net_of m.network).requests s w ≡ [] → outcome_of m.config m.code (machine_of m (λ p. [])) (step.Up s w) ≡ Stalled
   unfolding machine_of_parts
   up_stalls s w none = up_from_none m.config m.code (machine_of m (λ p. [])) s w none
 
+  -- If no request is at a module, its service stalls.
   pub serve_stalls : (w : ℕ) → (net_of m.network).requests m.config.k w ≡ [] → outcome_of m.config m.code (machine_of m (λ p. [])) (step.Serve w) ≡ Stalled
   unfolding machine_of_parts
   serve_stalls w none = serve_from_none m.config m.code (machine_of m (λ p. [])) w none
 
+  -- If no reply is on the wire after the stage, a move down from it stalls.
   pub down_stalls : (s w : ℕ) → (net_of m.network).replies (suc s) w ≡ [] → outcome_of m.config m.code (machine_of m (λ p. [])) (step.Down s w) ≡ Stalled
   unfolding machine_of_parts
   down_stalls s w none = down_from_none m.config m.code (machine_of m (λ p. [])) s w none

@@ -34,6 +34,7 @@ module _ (m : MachineLists) (k : ℕ) where
   pub there_within : is_there m k ≡ true → k < 2 ^ m.config.k
   there_within there = ltb-true k (2 ^ m.config.k) (and_parts (nat_lt k (2 ^ m.config.k)) (not (away_at m k)) there).0
 
+  -- If a processor is there, the test of this changes nothing of the byte that it sees.
   pub seen_there : (address : ℕ) → is_there m k ≡ true →
       byte_seen (flat_state m) k address ≡ (if is_there m k then byte_seen (flat_state m) k address else None)
   seen_there address there = ap (λ b. if b then byte_seen (flat_state m) k address else None) (sym there)

@@ -23,23 +23,23 @@ use Rattle.steps.specs.declared.step.Step.{Step}
 use Rattle.steps.specs.declared.step.Step.TheVariants as step
 use Rattle.steps.specs.declared.step.Outcome.{Outcome}
 use Rattle.steps.specs.declared.step.Outcome.TheVariants.{Stalled}
-use Rattle.machine_theory.specs.Processors.{Told, sizes_of, kind_of, next, program, may_poke}
-use Rattle.machine_theory.specs.Steps.{taken, answer_of, told_of_turn, told_of_reply, outcome_of, after, with_shown, machine_of_parts}
+use Rattle.machine_theory.specs.Processors.{ObservedCore, sizes_of, kind_of, next, program, may_poke}
+use Rattle.machine_theory.specs.Steps.{taken, answer_of, outcome_of_turn, outcome_of_reply, outcome_of, after, with_shown, machine_of_parts}
 use Rattle.machine_theory.proofs.Lemmas.{reaches_of, runs_by}
 use Rattle.machine_steps.specs.Machines.{MachineLists, machine_of, IsMachine, IsStep}
 
 -- what a step answers that stalls
-abbrev pub Keeps : (answer : theory.Outcome → Outcome) → Machine Told → Result Told → Type 0
+abbrev pub Keeps : (answer : theory.Outcome → Outcome) → Machine ObservedCore → Result ObservedCore → Type 0
 Keeps answer M r = answer r.outcome ≡ Stalled → r.machine ≡ M
 
-module _ (c : Config) (code : List ℕ) (M : Machine Told) (refers : (p : ℕ) → M.is_open p ≡ true → (program c code).kind p (M.core p) ≡ Refers) where
+module _ (c : Config) (code : List ℕ) (M : Machine ObservedCore) (refers : (p : ℕ) → M.is_open p ≡ true → (program c code).kind p (M.core p) ≡ Refers) where
   abbrev pub turns : ℕ → Turn
   turns p = next c code p (M.core p).state
 
   abbrev pub answer : theory.Outcome → Outcome
   answer = answer_of turns
 
-  either : (b : Bool) (r : Result Told) → Keeps answer M r → Keeps answer M (if b then r else stalled M)
+  either : (b : Bool) (r : Result ObservedCore) → Keeps answer M r → Keeps answer M (if b then r else stalled M)
   either true r k = k
   either false r k = λ e. refl
 
@@ -48,11 +48,11 @@ module _ (c : Config) (code : List ℕ) (M : Machine Told) (refers : (p : ℕ) �
   retired p (y ∷ ys) opened e =
       let runs = runs_by (is_running (M.core p).state.status) (turns p) Refers (refers p opened) (λ no. cc) in
       let r = reaches_of (turns p) runs.1 in
-      let told : told_of_reply (after_reply (Reaches r.word r.change r.after) y.value) ≡ Stalled =
-      ap (λ t. told_of_reply (after_reply t y.value)) (sym r.is) ∙ e in
+      let fact : outcome_of_reply (after_reply (Reaches r.word r.change r.after) y.value) ≡ Stalled =
+      ap (λ t. outcome_of_reply (after_reply t y.value)) (sym r.is) ∙ e in
       absurd (cc)
 
-  alone : (runs : Bool) (t : Turn) → kind_of runs t ≡ Alone → told_of_turn t ≡ Stalled → ⊥
+  alone : (runs : Bool) (t : Turn) → kind_of runs t ≡ Alone → outcome_of_turn t ≡ Stalled → ⊥
   alone true (Retires after retired) k e = cc
   alone true (Stops cause) k e = cc
   alone true (Reaches word change after) k e = cc
@@ -82,6 +82,7 @@ module _ (c : Config) (code : List ℕ) (M : Machine Told) (refers : (p : ℕ) �
   serves m (x ∷ rest) (y ∷ ys) e = refl
   serves m (x ∷ rest) [] e = absurd (cc)
 
+  -- A step that stalls leaves the theory's machine as it is.
   pub keeps : (s : Step) → Keeps answer M (taken c code M s)
   keeps (step.Turn p) = either (nat_lt p (2 ^ c.k)) (turned (program c code) M p (M.is_open p)) (turn p (M.is_open p) refl)
   keeps (step.Up s w) = either (nat_lt w (2 ^ c.k)) (went_up M (moved_up (sizes_of c) M.net s w)) (goes_up (moved_up (sizes_of c) M.net s w))
@@ -98,21 +99,23 @@ shown_stalled shown (step.Down s w) = refl
 shown_stalled shown (step.Poke q) = refl
 
 -- a machine whose processors have shown other events
-abbrev pub retell : (shown : ℕ → List Event) → Machine Told → Machine Told
-retell shown M = record { net = M.net; mem = M.mem; core = λ p. record { state = (M.core p).state; events = shown p }; is_open = M.is_open }
+abbrev pub observe_as : (shown : ℕ → List Event) → Machine ObservedCore → Machine ObservedCore
+observe_as shown M = record { net = M.net; mem = M.mem; core = λ p. record { state = (M.core p).state; events = shown p }; is_open = M.is_open }
 
-pub retold : (m : MachineLists) (shown : ℕ → List Event) → retell shown (machine_of m (λ p. [])) ≡ machine_of m shown
+-- A machine that has shown nothing, with other shown events, is the machine that has shown these.
+pub observed_again : (m : MachineLists) (shown : ℕ → List Event) → observe_as shown (machine_of m (λ p. [])) ≡ machine_of m shown
 unfolding machine_of_parts
-retold m shown = refl
+observed_again m shown = refl
 
+-- A step that stalls leaves a machine as it is, whatever it has shown.
 pub stalled_keeps : (old new : MachineLists) (s : Step) (o : Outcome) → IsMachine old → IsStep old s o new → o ≡ Stalled → (shown : ℕ → List Event) →
     machine_of new shown ≡ machine_of old shown
 unfolding outcome_of after
 stalled_keeps old new s o is st e shown =
-    let M : Machine Told = machine_of old (λ p. []) in
+    let M : Machine ObservedCore = machine_of old (λ p. []) in
     let leaves : machine_of new (with_shown (λ p. []) s o) ≡ (taken old.config old.code M s).machine =
     ap (λ c. machine_of_parts c (net_of new.network) new.ports new.modules (with_shown (λ p. []) s o)) st.config ∙ st.step.after (λ p. []) in
     let same : machine_of new (λ p. []) ≡ M =
     ap (machine_of new) (sym (ap (with_shown (λ p. []) s) e ∙ shown_stalled (λ p. []) s)) ∙ leaves
     ∙ keeps old.config old.code M is.steady.refers s (sym st.step.outcome ∙ e) in
-    sym (retold new shown) ∙ ap (retell shown) same ∙ retold old shown
+    sym (observed_again new shown) ∙ ap (observe_as shown) same ∙ observed_again old shown

@@ -29,9 +29,9 @@ use Rattle.steps.specs.declared.step.Step.{Step}
 use Rattle.steps.specs.declared.step.Step.TheVariants as step
 use Rattle.steps.specs.declared.step.Outcome.{Outcome}
 use Rattle.steps.specs.declared.step.Outcome.TheVariants.{Retired, Issued, Stopped, Moved, Combined, Served, Answered, Poked, Stalled}
-use Rattle.machine_theory.specs.Processors.{Told, sizes_of, next, kind_of, program, no_processor, port_at, open_at}
+use Rattle.machine_theory.specs.Processors.{ObservedCore, sizes_of, next, kind_of, program, no_processor, port_at, open_at}
 use Rattle.machine_theory.specs.Flatness.{with_events}
-use Rattle.machine_theory.specs.Steps.{named, answer_of, told_of_turn, told_of_reply, outcome_of, after, with_shown, machine_of_parts}
+use Rattle.machine_theory.specs.Steps.{named, answer_of, outcome_of_turn, outcome_of_reply, outcome_of, after, with_shown, machine_of_parts}
 use Rattle.machine_theory.proofs.Lemmas.{read_found}
 use Rattle.machine_steps.specs.Machines.{MachineLists, machine_of, IsIdle, IsMachine, IsStep}
 use Rattle.machine_steps.specs.Openings.{flat_state}
@@ -75,21 +75,21 @@ shown_turn shown p (Answered to) e = e
 shown_turn shown p Poked e = e
 shown_turn shown p Stalled e = e
 
--- where an outcome tells of no event, it is that of a step that did nothing
+-- where an outcome says of no event, it is that of a step that did nothing
 abbrev pub Tells : Outcome → Type 0
 Tells o = event_of o ≡ None → o ≡ Stalled
 
-turn_tells : (t : Turn) → Tells (told_of_turn t)
+turn_tells : (t : Turn) → Tells (outcome_of_turn t)
 turn_tells (Retires later retired) e = absurd (cc)
 turn_tells (Reaches word change later) e = refl
 turn_tells (Stops cause) e = absurd (cc)
 
-reply_tells : (o : Option (Processor × retirement.Retired)) → Tells (told_of_reply o)
+reply_tells : (o : Option (Processor × retirement.Retired)) → Tells (outcome_of_reply o)
 reply_tells None e = refl
 reply_tells (Some done) e = absurd (cc)
 
 -- so is that of a turn of a processor that is open
-module _ (c : Config) (code : List ℕ) (M : theory.Machine Told) (p : ℕ) where
+module _ (c : Config) (code : List ℕ) (M : theory.Machine ObservedCore) (p : ℕ) where
   abbrev answer : theory.Outcome → Outcome
   answer = answer_of (λ q. next c code q (M.core q).state)
 
@@ -109,7 +109,7 @@ module _ (c : Config) (code : List ℕ) (M : theory.Machine Told) (p : ℕ) wher
 
 -- ---- a step more
 
-passes_more : (c : Config) (code : List ℕ) (xs : List Step) (s : Step) (h : Passed Told) →
+passes_more : (c : Config) (code : List ℕ) (xs : List Step) (s : Step) (h : Passed ObservedCore) →
     passes (sizes_of c) (program c code) (map named (xs ++ s ∷ [])) h
     ≡ pass (sizes_of c) (program c code) (passes (sizes_of c) (program c code) (map named xs) h) (named s)
 unfolding passes
@@ -122,11 +122,12 @@ pub run_reaches : (old new : MachineLists) (steps : List Step) → IsRun old ste
 run_reaches old new steps r =
     let e : (passed old steps).machine ≡ all_after old.config old.code (machine_of old (λ p. [])) steps =
     passes_machine old.config old.code steps (from_machine (machine_of old (λ p. []))) in
-    subst (λ (M : theory.Machine Told). machine_of new (events_of M) ≡ M) (sym e) (r.after (λ p. []))
+    subst (λ (M : theory.Machine ObservedCore). machine_of new (events_of M) ≡ M) (sym e) (r.after (λ p. []))
 
+-- After a run the same processors have a reference open as after the theory's run.
 pub open_same : (old new : MachineLists) (steps : List Step) → IsRun old steps new → (q : ℕ) → open_at new.ports q ≡ (passed old steps).machine.is_open q
 unfolding machine_of_parts
-open_same old new steps r q = ap (λ (M : theory.Machine Told). M.is_open q) (run_reaches old new steps r)
+open_same old new steps r q = ap (λ (M : theory.Machine ObservedCore). M.is_open q) (run_reaches old new steps r)
 
 -- ---- the end
 
@@ -166,7 +167,7 @@ module _ (old : MachineLists) (p : ℕ) (o : Outcome) (new : MachineLists) (step
 -- where the turn has sent a request, the instruction's steps are the turn and those of a drain
 pub steps_back : (before : MachineLists) (p : ℕ) (sent : MachineLists) → IsSent before p sent → one_steps before p ≡ step.Turn p ∷ drain_steps sent
 steps_back before p sent s =
-    let M : theory.Machine Told = machine_of before (λ q. []) in
+    let M : theory.Machine ObservedCore = machine_of before (λ q. []) in
     let same : steps_home before.config before.code (drain_bound before.config) (after before.config before.code M (step.Turn p)) ≡ drain_steps sent =
     ap (steps_home before.config before.code (drain_bound before.config)) (sym (s.turn.step.after (λ q. [])))
     ∙ ap₂ (λ (c : Config) code. steps_home c code (drain_bound c) (machine_of_parts c (net_of sent.network) sent.ports sent.modules (λ q. [])))
@@ -175,13 +176,17 @@ steps_back before p sent s =
 
 -- since p's turn these steps were taken
 pub record IsComingBack (before : MachineLists) (p : ℕ) (tail : List Step) (m : MachineLists) (last : Outcome) : Type 0 where
+  -- p's turn and these steps are a replay
   pub replay : IsReplay before (step.Turn p ∷ tail) m
-  pub lone : IsLone Told (sizes_of before.config) (program before.config before.code) p (passed before (step.Turn p ∷ tail))
+  -- after these steps no other reference is open
+  pub lone : IsLone ObservedCore (sizes_of before.config) (program before.config before.code) p (passed before (step.Turn p ∷ tail))
   -- the last of them did something
   pub moves : last ≡ Stalled → ⊥
-  -- as long as it is open, nothing is shown; then it is what the last step tells of
+  -- as long as it is open, nothing is shown; then it is what the last step says of
   pub silent : (passed before (step.Turn p ∷ tail)).machine.is_open p ≡ true → events_of (passed before (step.Turn p ∷ tail)).machine p ≡ []
-  pub told : (passed before (step.Turn p ∷ tail)).machine.is_open p ≡ false → events_of (passed before (step.Turn p ∷ tail)).machine p ≡ list_of (event_of last)
+  -- once p's reference is closed, p has shown what the last step tells of
+  pub fact : (passed before (step.Turn p ∷ tail)).machine.is_open p ≡ false → events_of (passed before (step.Turn p ∷ tail)).machine p ≡ list_of (event_of last)
+  -- and if the last step tells of nothing, it stalled
   pub tells : (passed before (step.Turn p ∷ tail)).machine.is_open p ≡ false → Tells last
 
 module _ (before : MachineLists) (p : ℕ) (tail : List Step) (m : MachineLists) (last : Outcome) (b : IsComingBack before p tail m last) where
@@ -191,7 +196,7 @@ module _ (before : MachineLists) (p : ℕ) (tail : List Step) (m : MachineLists)
   abbrev way : IsRun before done m
   way = b.replay.run
 
-  abbrev h : Passed Told
+  abbrev h : Passed ObservedCore
   h = passed before done
 
   same_next : theory.drain_step (sizes_of before.config) h.machine ≡ draining.drain_step (sizes_of m.config) (machine_of m (λ p. []))
@@ -204,7 +209,7 @@ module _ (before : MachineLists) (p : ℕ) (tail : List Step) (m : MachineLists)
   open_there e = open_same before m done way p ∙ e
 
   module _ (s : Step) (o : Outcome) (new : MachineLists) (sound : IsMachine m) (names_s : drain_step m ≡ Some s) (is : IsStep m s o new) where
-    abbrev h' : Passed Told
+    abbrev h' : Passed ObservedCore
     h' = passed before (done ++ s ∷ [])
 
     moves_on : o ≡ Stalled → ⊥
@@ -219,31 +224,32 @@ module _ (before : MachineLists) (p : ℕ) (tail : List Step) (m : MachineLists)
         let leaves = is.step.after (events_of h.machine) in
         let same : after m.config m.code (machine_of m (events_of h.machine)) s ≡ after before.config before.code h.machine s =
         ap₂ (λ c code. after c code (machine_of m (events_of h.machine)) s) way.config way.code
-        ∙ ap (λ (M : theory.Machine Told). after before.config before.code M s) (run_reaches before m done way) in
-        ap (λ (g : Passed Told). events_of g.machine) more ∙ sym (ap events_of (leaves ∙ same))
+        ∙ ap (λ (M : theory.Machine ObservedCore). after before.config before.code M s) (run_reaches before m done way) in
+        ap (λ (g : Passed ObservedCore). events_of g.machine) more ∙ sym (ap events_of (leaves ∙ same))
 
     module _ (st : theory.Step) (e : draining.drain_step (sizes_of before.config) h.machine ≡ Some st) (names : step_of st ≡ s) where
       now : h' ≡ pass (sizes_of before.config) (program before.config before.code) h st
       now = more ∙ ap (pass (sizes_of before.config) (program before.config before.code) h) (ap named (sym names) ∙ named_again st)
 
       opened : h.machine.is_open p ≡ true
-      opened = is_open_yet Told (sizes_of before.config) (program before.config before.code) p h b.lone st e
+      opened = is_open_yet ObservedCore (sizes_of before.config) (program before.config before.code) p h b.lone st e
 
-      goes : IsLone Told (sizes_of before.config) (program before.config before.code) p (pass (sizes_of before.config) (program before.config before.code) h st)
-          × After Told (sizes_of before.config) (program before.config before.code) p h b.lone st
-      goes = goes_on Told (sizes_of before.config) (program before.config before.code) p h b.lone st e
+      goes : IsLone ObservedCore (sizes_of before.config) (program before.config before.code) p
+          (pass (sizes_of before.config) (program before.config before.code) h st)
+          × After ObservedCore (sizes_of before.config) (program before.config before.code) p h b.lone st
+      goes = goes_on ObservedCore (sizes_of before.config) (program before.config before.code) p h b.lone st e
 
       shown_by : (t : Step) → t ≡ s → events_of h'.machine p ≡ with_shown (events_of h.machine) t o p
       shown_by t same = ap (λ (f : ℕ → List Event). f p) shown_now ∙ ap (λ u. with_shown (events_of h.machine) u o p) (sym same)
 
       back : (h'.machine.is_open p ≡ true → events_of h'.machine p ≡ []) → (h'.machine.is_open p ≡ false → events_of h'.machine p ≡ list_of (event_of o)) →
           (h'.machine.is_open p ≡ false → Tells o) → IsComingBack before p (tail ++ s ∷ []) new o
-      back silent told tells = record {
+      back silent fact tells = record {
         replay = replay_more before m new done s o b.replay is moves_on;
         moves = moves_on;
-        lone = subst (IsLone Told (sizes_of before.config) (program before.config before.code) p) (sym now) goes.0;
+        lone = subst (IsLone ObservedCore (sizes_of before.config) (program before.config before.code) p) (sym now) goes.0;
         silent = silent;
-        told = told;
+        fact = fact;
         tells = tells;
       }
 
@@ -266,12 +272,12 @@ module _ (before : MachineLists) (p : ℕ) (tail : List Step) (m : MachineLists)
       where
         open_of : (st : theory.Step) (e : draining.drain_step (sizes_of before.config) h.machine ≡ Some st) (names : step_of st ≡ s) →
             (pass (sizes_of before.config) (program before.config before.code) h st).machine.is_open p ≡ h.machine.is_open p → h'.machine.is_open p ≡ true
-        open_of st e names same = ap (λ (g : Passed Told). g.machine.is_open p) (now st e names) ∙ same ∙ opened st e names
+        open_of st e names same = ap (λ (g : Passed ObservedCore). g.machine.is_open p) (now st e names) ∙ same ∙ opened st e names
 
         by : (st : theory.Step) (e : draining.drain_step (sizes_of before.config) h.machine ≡ Some st) (names : step_of st ≡ s) →
-            After Told (sizes_of before.config) (program before.config before.code) p h b.lone st → IsComingBack before p (tail ++ s ∷ []) new o
+            After ObservedCore (sizes_of before.config) (program before.config before.code) p h b.lone st → IsComingBack before p (tail ++ s ∷ []) new o
         by (theory.Turn q) e names a =
-            closes (theory.Turn q) e names q names a.0 (ap (λ (g : Passed Told). g.machine.is_open p) (now (theory.Turn q) e names) ∙ a.1)
+            closes (theory.Turn q) e names q names a.0 (ap (λ (g : Passed ObservedCore). g.machine.is_open p) (now (theory.Turn q) e names) ∙ a.1)
         by (theory.Poke q) e names a = absurd a
         by (theory.Up i w) e names a = stays (theory.Up i w) e names (open_of (theory.Up i w) e names a) (shown_by (theory.Up i w) e names (step.Up i w) names)
         by (theory.Serve i) e names a =
@@ -290,13 +296,13 @@ module _ (before : MachineLists) (p : ℕ) (tail : List Step) (m : MachineLists)
       let shut : h.machine.is_open p ≡ false = sym (open_same before m done way p) ∙ all_shut m is' idle' p in
       by shut b.lone.stage
     where
-      by : h.machine.is_open p ≡ false → IsAsking Told (sizes_of before.config) (program before.config before.code) p h
-          ⊎ IsAnswered Told (sizes_of before.config) (program before.config before.code) p h → IsOne before p last m
+      by : h.machine.is_open p ≡ false → IsAsking ObservedCore (sizes_of before.config) (program before.config before.code) p h
+          ⊎ IsAnswered ObservedCore (sizes_of before.config) (program before.config before.code) p h → IsOne before p last m
       by shut (inl a) = absurd (true≢false (sym a.opened ∙ shut))
       by shut (inr a) =
           is_one before p last m done s.machine s.idle is' idle' way
           (subst (λ xs. IsReplay before xs m) (sym (steps_back before p sent s ∙ ap (λ xs. step.Turn p ∷ xs) all)) b.replay)
-          (λ e. absurd (b.moves e)) a.order (b.told shut) (b.tells shut)
+          (λ e. absurd (b.moves e)) a.order (b.fact shut) (b.tells shut)
 
 -- ---- a turn
 
@@ -308,7 +314,7 @@ rests (Reaches word change after) true e = absurd (cc)
 rests (Stops cause) true e = absurd (cc)
 
 module _ (old : MachineLists) (p : ℕ) (is : IsMachine old) (idle : IsIdle old) where
-  abbrev M : theory.Machine Told
+  abbrev M : theory.Machine ObservedCore
   M = machine_of old (λ p. [])
 
   abbrev c : Config
@@ -348,12 +354,12 @@ module _ (old : MachineLists) (p : ℕ) (is : IsMachine old) (idle : IsIdle old)
     run : IsRun old (step.Turn p ∷ []) new
     run = run_more old old new [] (step.Turn p) o (run_begins old) st
 
-    answers : (r : theory.Result Told) → theory.step (sizes_of c) (program c old.code) M (theory.Turn p) ≡ r →
+    answers : (r : theory.Result ObservedCore) → theory.step (sizes_of c) (program c old.code) M (theory.Turn p) ≡ r →
         o ≡ answer_of (λ q. next c old.code q (M.core q).state) r.outcome
     unfolding outcome_of
-    answers r e = st.step.outcome ∙ ap (λ (r : theory.Result Told). answer_of (λ q. next c old.code q (M.core q).state) r.outcome) e
+    answers r e = st.step.outcome ∙ ap (λ (r : theory.Result ObservedCore). answer_of (λ q. next c old.code q (M.core q).state) r.outcome) e
 
-    passes_to : (r : theory.Result Told) → theory.step (sizes_of c) (program c old.code) M (theory.Turn p) ≡ r →
+    passes_to : (r : theory.Result ObservedCore) → theory.step (sizes_of c) (program c old.code) M (theory.Turn p) ≡ r →
         passed old (step.Turn p ∷ []) ≡ passed_by (from_machine M) r
     unfolding passes
     passes_to r e = ap (passed_by (from_machine M)) e
@@ -378,12 +384,13 @@ module _ (old : MachineLists) (p : ℕ) (is : IsMachine old) (idle : IsIdle old)
 
     shown_is_that : events_of (passed old (step.Turn p ∷ [])).machine p ≡ list_of (event_of o)
     unfolding passes after machine_of_parts
-    shown_is_that = sym (ap (λ (M : theory.Machine Told). events_of M p) (st.step.after (λ q. []))) ∙ shown_turn (λ q. []) p o refl
+    shown_is_that = sym (ap (λ (M : theory.Machine ObservedCore). events_of M p) (st.step.after (λ q. []))) ∙ shown_turn (λ q. []) p o refl
 
-    idle_by : (r : theory.Result Told) → theory.step (sizes_of c) (program c old.code) M (theory.Turn p) ≡ r → r.machine.is_open ≡ M.is_open → IsIdle new
+    idle_by : (r : theory.Result ObservedCore) → theory.step (sizes_of c) (program c old.code) M (theory.Turn p) ≡ r → r.machine.is_open ≡ M.is_open →
+        IsIdle new
     idle_by r e same q within =
         open_same old new (step.Turn p ∷ []) run q
-        ∙ ap (λ (h : Passed Told). h.machine.is_open q) (passes_to r e) ∙ ap (λ (f : ℕ → Bool). f q) same ∙ shut q
+        ∙ ap (λ (h : Passed ObservedCore). h.machine.is_open q) (passes_to r e) ∙ ap (λ (f : ℕ → Bool). f q) same ∙ shut q
 
     -- the turn of a processor that sends no request is the whole instruction
     pub turn_whole : IsMachine new → (o ≡ Issued → ⊥) → IsOne old p o new
@@ -393,14 +400,14 @@ module _ (old : MachineLists) (p : ℕ) (is : IsMachine old) (idle : IsIdle old)
         by (inl (e, why)) =
             let none = no_step why in
             is_none old p o new (step.Turn p ∷ []) is idle is' (idle_by (theory.stalled M) e refl) run (taken_whole other) nothing_stalled
-            (ap (λ (h : Passed Told). h.order) (passes_to (theory.stalled M) e)) none.0 none.1 (answers (theory.stalled M) e)
+            (ap (λ (h : Passed ObservedCore). h.order) (passes_to (theory.stalled M) e)) none.0 none.1 (answers (theory.stalled M) e)
         by (inr (inl e)) =
             is_one old p o new (step.Turn p ∷ []) is idle is' (idle_by (theory.advance (program c old.code) M p) e refl) run (taken_whole other) nothing_stalled
-            (ap (λ (h : Passed Told). h.order) (passes_to (theory.advance (program c old.code) M p) e)) shown_is_that
+            (ap (λ (h : Passed ObservedCore). h.order) (passes_to (theory.advance (program c old.code) M p) e)) shown_is_that
             (subst Tells (sym (answers (theory.advance (program c old.code) M p) e)) (turn_tells (next c old.code p (M.core p).state)))
         by (inr (inr e)) = absurd (other (answers (theory.issue (program c old.code) M p) e))
 
-    tells : (t : Turn) → Issued ≡ told_of_turn t → ⊥
+    tells : (t : Turn) → Issued ≡ outcome_of_turn t → ⊥
     tells (Retires after retired) e = cc
     tells (Reaches word change after) e = cc
     tells (Stops cause) e = cc
@@ -412,11 +419,11 @@ module _ (old : MachineLists) (p : ℕ) (is : IsMachine old) (idle : IsIdle old)
     on_way issued e = record {
       replay = moved (λ f. let no : Issued ≡ Stalled = sym issued ∙ f in cc);
       moves = λ f. cc;
-      lone = starts Told (sizes_of c) (program c old.code) p M is.role is.steady shut e;
-      silent = λ f. ap (λ (h : Passed Told). events_of h.machine p) (passes_to (theory.issue (program c old.code) M p) e);
-      told = λ f. absurd (true≢false (sym (ap (λ (h : Passed Told). h.machine.is_open p) (passes_to (theory.issue (program c old.code) M p) e)
+      lone = starts ObservedCore (sizes_of c) (program c old.code) p M is.role is.steady shut e;
+      silent = λ f. ap (λ (h : Passed ObservedCore). events_of h.machine p) (passes_to (theory.issue (program c old.code) M p) e);
+      fact = λ f. absurd (true≢false (sym (ap (λ (h : Passed ObservedCore). h.machine.is_open p) (passes_to (theory.issue (program c old.code) M p) e)
           ∙ put_same M.is_open p true) ∙ f));
-      tells = λ f. absurd (true≢false (sym (ap (λ (h : Passed Told). h.machine.is_open p) (passes_to (theory.issue (program c old.code) M p) e)
+      tells = λ f. absurd (true≢false (sym (ap (λ (h : Passed ObservedCore). h.machine.is_open p) (passes_to (theory.issue (program c old.code) M p) e)
           ∙ put_same M.is_open p true) ∙ f));
     }
 
@@ -433,6 +440,7 @@ begins_back before p m s = sent_comes_back before p s.machine s.idle Issued m s.
 
 -- ---- and is back in time
 
+-- 2k + 2 is at most 2^k times as much.
 pub few_moves : (k : ℕ) → 2 * k + 2 ≤ 2 ^ k * (2 * k + 2)
 few_moves k = let some = pow_pos k in at (2 ^ k) some
   where
@@ -447,7 +455,7 @@ sent_is_short before p m sent is =
     let z = sizes_of m.config in
     let P = program m.config m.code in
     let b = begins_back before p m sent in
-    let M : theory.Machine Told = machine_of m (λ q. []) in
+    let M : theory.Machine ObservedCore = machine_of m (λ q. []) in
     let f = distances_are z P M is.role is.steady in
     let others : (q : ℕ) → (q ≡ p → ⊥) → M.is_open q ≡ false = (λ q n. open_same before m (step.Turn p ∷ []) b.replay.run q ∙ b.lone.others q n) in
     let near = bound_alone z P M is.role is.steady p others f.0 f.1 in
@@ -455,13 +463,18 @@ sent_is_short before p m sent is =
 
 -- ---- as a loop brings it back
 
--- These steps of a drain were taken, so many. Where p alone had sent a request, it is coming back.
+-- These steps of a drain were taken, this many. Where p alone had sent a request, it is coming back.
 pub record IsGoingHome (sent : MachineLists) (tail : List Step) (i : ℕ) (m : MachineLists) (last : Outcome) : Type 0 where
+  -- a drain is under way that has taken these steps
   pub under_way : IsUnderWay sent (drain_bound sent.config) tail m
+  -- there are i of them
   pub count : length tail ≡ i
+  -- what they lead to is a machine
   pub sound : IsMachine m
+  -- if p alone had sent a request, its reference is coming back
   pub coming : (before : MachineLists) (p : ℕ) → IsSent before p sent → IsComingBack before p tail m last
 
+-- A drain begins with no step taken.
 pub home_begins : (m : MachineLists) → IsMachine m → IsGoingHome m [] 0 m Issued
 home_begins m is = record {
   under_way = drain_begins (drain_bound m.config) m;
@@ -471,6 +484,7 @@ home_begins m is = record {
 }
 
 module _ (sent : MachineLists) (tail : List Step) (i : ℕ) (m : MachineLists) (last : Outcome) (b : IsGoingHome sent tail i m last) where
+  -- If the next step of a drain is taken, the drain goes on with one step more.
   pub home_goes_on : (s : Step) (o : Outcome) (new : MachineLists) → IsMachine new → i < drain_bound sent.config → drain_step m ≡ Some s → IsStep m s o new →
       IsGoingHome sent (tail ++ s ∷ []) (i + 1) new o
   home_goes_on s o new is' within names is = record {
@@ -495,6 +509,7 @@ module _ (sent : MachineLists) (tail : List Step) (i : ℕ) (m : MachineLists) (
   pub home_now : drain_step m ≡ None → IsIdle m → AtHome
   home_now none idle = at_home (all_taken sent m (drain_bound sent.config) tail b.under_way none) (drain_stops sent m tail b.under_way none idle)
 
+  -- If at least as many steps were taken as a drain has, these are all of its steps, and the reference is back.
   pub home_in_time : IsMachine sent → length (drain_steps sent) ≤ i → AtHome
   home_in_time is few =
       let n = b.count in

@@ -5,13 +5,13 @@ use Rattle.machine_theory.specs.Theory as theory
 use Rattle.steps.specs.declared.step.Step.{Step}
 use Rattle.steps.specs.declared.step.Outcome.{Outcome}
 use Rattle.steps.specs.Answered.{Answer, answer}
-use Rattle.machine_theory.specs.Processors.{Told}
+use Rattle.machine_theory.specs.Processors.{ObservedCore}
 use Rattle.machine_theory.specs.Steps.{outcome_of, after}
 use Rattle.machine_steps.specs.Machines.{MachineLists, machine_of, IsStep}
 use Rattle.machine_steps.specs.Runs.{IsRun}
 
 -- each of the steps with its outcome, on the machine that has taken those before it
-unfoldable pub answers_from : Config → (code : List ℕ) → theory.Machine Told → List Step → List Answer
+unfoldable pub answers_from : Config → (code : List ℕ) → theory.Machine ObservedCore → List Step → List Answer
 answers_from c code M [] = []
 answers_from c code M (s ∷ ss) = answer s (outcome_of c code M s) ∷ answers_from c code (after c code M s) ss
 
@@ -26,8 +26,10 @@ AnswersBegin = (m : MachineLists) → IsRun m [] m × (answers_of m [] ≡ [])
 
 -- A step that is taken next, and what it did, stand at the end.
 abbrev pub AnswersGoOn : Type 0
-AnswersGoOn = (opening mid new : MachineLists) (done : List Step) (s : Step) (o : Outcome) → IsRun opening done mid → IsStep mid s o new →
-    IsRun opening (done ++ s ∷ []) new × (answers_of opening (done ++ s ∷ []) ≡ answers_of opening done ++ answer s o ∷ [])
+AnswersGoOn = (opening mid new : MachineLists) (done : List Step) (s : Step) (o : Outcome) → IsRun opening done mid →
+    IsStep mid s o new →
+    IsRun opening (done ++ s ∷ []) new
+    × (answers_of opening (done ++ s ∷ []) ≡ answers_of opening done ++ answer s o ∷ [])
 
 -- There is one for each step.
 abbrev pub AnswersAreCounted : Type 0

@@ -10,7 +10,7 @@ use Rattle.steps.specs.declared.step.Step.{Step}
 use Rattle.machine_theory.specs.serialization.Steadiness.{total}
 use Rattle.steps.specs.declared.step.Step.TheVariants as step
 use Rattle.steps.specs.declared.step.Outcome.TheVariants.{Stalled}
-use Rattle.machine_theory.specs.Processors.{Told, sizes_of, program}
+use Rattle.machine_theory.specs.Processors.{ObservedCore, sizes_of, program}
 use Rattle.machine_theory.specs.Steps.{outcome_of, after}
 use Rattle.machine_steps.specs.Machines.{MachineLists, machine_of, IsIdle}
 use Rattle.machine_steps.specs.Runs.{IsRun}
@@ -27,12 +27,13 @@ abbrev pub some_step : Option theory.Step → Option Step
 some_step None = None
 some_step (Some st) = Some (step_of st)
 
--- The step that a drain takes next, by the network: the turn of the smallest processor with a reply on its wire; else a reply
--- goes down, the smallest stage first, and then the smallest wire; else the smallest module with a request serves; else a
--- request goes up, the greatest stage first, and then the smallest wire.
+-- The step that a drain takes next, by the network: the turn of the smallest processor with a reply on its wire; else
+-- a reply goes down, the smallest stage first, and then the smallest wire; else the smallest module with a request
+-- serves; else a request goes up, the greatest stage first, and then the smallest wire.
 abbrev pub step_in : Sizes → Net → Option Step
 step_in z net =
-    some_step (draining.or_else (draining.first_wire (net.replies 0) (wires z) theory.Turn) (draining.or_else (draining.down_step z net)
+    some_step (draining.or_else (draining.first_wire (net.replies 0) (wires z) theory.Turn)
+    (draining.or_else (draining.down_step z net)
     (draining.or_else (draining.first_wire (net.requests z.k) (wires z) theory.Serve) (draining.up_step z net))))
 
 -- that of a network
@@ -43,7 +44,7 @@ network_step n = step_in (network.sizes_of n) (network.net_of n)
 abbrev pub drain_step : MachineLists → Option Step
 drain_step m = some_step (draining.drain_step (sizes_of m.config) (machine_of m (λ p. [])))
 
--- It does something, and brings the references that are open nearer to their ends: whatever the distances of all of them are
+-- It does something, and brings the references that are open nearer to their ends: for any distances of all of them are
 -- before and after it, their sum falls.
 pub record BringsNearer (m : MachineLists) (s : Step) : Type 0 where
   pub moves : outcome_of m.config m.code (machine_of m (λ p. [])) s ≡ Stalled → ⊥
@@ -56,8 +57,8 @@ pub record BringsNearer (m : MachineLists) (s : Step) : Type 0 where
 abbrev pub drain_bound : Config → ℕ
 drain_bound c = 2 ^ c.k * (2 * c.k + 2)
 
--- the steps of a drain, one after another, and at most so many
-abbrev pub steps_home : Config → (code : List ℕ) → (bound : ℕ) → theory.Machine Told → List Step
+-- the steps of a drain, one after another, and at most this many
+abbrev pub steps_home : Config → (code : List ℕ) → (bound : ℕ) → theory.Machine ObservedCore → List Step
 steps_home c code bound M = map step_of (draining.drain_steps (sizes_of c) (program c code) bound M)
 
 abbrev pub first_steps : ℕ → MachineLists → List Step

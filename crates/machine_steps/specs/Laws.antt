@@ -1,5 +1,6 @@
 -- What holds of all runs, stated of machines. Each value of `Machine` is one (`IsMachine`).
-use Rattle.std.specs.Prelude.{◌≡◌, ℕ, ◌^◌, ◌<◌, ◌≤◌, false, List, [], ◌∷◌, ◌++◌, length, Some, None, slice_get, slice_index}
+use Rattle.std.specs.Prelude.{◌≡◌, ℕ, ◌^◌, ◌<◌, ◌≤◌, false, List, [], ◌∷◌, ◌++◌, length, Some, None, slice_get}
+use Rattle.std.specs.Prelude.{slice_index}
 use Rattle.flat_machine.specs.declared.config.Config.{Config}
 use Rattle.flat_machine.specs.declared.event.Event.{Event}
 use Rattle.flat_machine.specs.Flat.{flat_events}
@@ -7,7 +8,7 @@ use Rattle.machine_theory.specs.Theory as theory
 use Rattle.steps.specs.declared.step.Step.{Step}
 use Rattle.steps.specs.declared.step.Outcome.{Outcome}
 use Rattle.steps.specs.declared.step.Outcome.TheVariants.{Stalled}
-use Rattle.machine_theory.specs.Processors.{Told, port_at, open_at, word_at}
+use Rattle.machine_theory.specs.Processors.{ObservedCore, port_at, open_at, word_at}
 use Rattle.machine_theory.specs.Flatness.{with_events}
 use Rattle.machine_theory.specs.Steps.{outcome_of, after, with_shown}
 use Rattle.machine_steps.specs.Machines.{MachineLists, away_at, machine_of, AreHome, IsIdle, IsMachine, IsStep}
@@ -61,42 +62,50 @@ AnswersAreOfTheSteps = (opening machine : MachineLists) (steps : List Step) → 
 
 -- Whatever steps a machine takes, the same cores are away:
 abbrev pub CoresStay : Type 0
-CoresStay = (opening machine : MachineLists) (steps : List Step) → IsRun opening steps machine → (p : ℕ) → away_at machine p ≡ away_at opening p
+CoresStay = (opening machine : MachineLists) (steps : List Step) → IsRun opening steps machine → (p : ℕ) →
+    away_at machine p ≡ away_at opening p
 
 -- if none was before, then none is after them.
 abbrev pub CoresStayHome : Type 0
-CoresStayHome = (opening machine : MachineLists) (steps : List Step) → IsRun opening steps machine → AreHome opening → AreHome machine
+CoresStayHome = (opening machine : MachineLists) (steps : List Step) → IsRun opening steps machine → AreHome opening →
+    AreHome machine
 
 -- ---- serialization
 
 -- Whatever steps a machine takes in which no reference is open, one serial order of whole instructions explains them.
 abbrev pub RunsAreSerialized : Type 0
 RunsAreSerialized = (opening : MachineLists) (steps : List Step) (machine : MachineLists) →
-    IsMachine opening → IsIdle opening → IsMachine machine → IsRun opening steps machine → IsSerialized opening steps machine
+    IsMachine opening → IsIdle opening → IsMachine machine → IsRun opening steps machine →
+    IsSerialized opening steps machine
 
--- the events that processors have shown, with those that the outcomes of these steps tell of
-unfoldable pub told_after : Config → (code : List ℕ) → theory.Machine Told → List Step → (shown : ℕ → List Event) → ℕ → List Event
-told_after c code M [] shown = shown
-told_after c code M (s ∷ ss) shown = told_after c code (after c code M s) ss (with_shown shown s (outcome_of c code M s))
+-- the events that processors have shown, with those that the outcomes of these steps say of
+unfoldable pub shown_after : Config → (code : List ℕ) → theory.Machine ObservedCore → List Step →
+    (shown : ℕ → List Event) → ℕ → List Event
+shown_after c code M [] shown = shown
+shown_after c code M (s ∷ ss) shown =
+    shown_after c code (after c code M s) ss (with_shown shown s (outcome_of c code M s))
 
--- the events that the outcomes of a machine's steps tell of, by processor
-abbrev pub told_of_steps : MachineLists → List Step → ℕ → List Event
-told_of_steps m steps = told_after m.config m.code (machine_of m (λ p. [])) steps (λ p. [])
+-- the events that the outcomes of a machine's steps say of, by processor
+abbrev pub events_of_steps : MachineLists → List Step → ℕ → List Event
+events_of_steps m steps = shown_after m.config m.code (machine_of m (λ p. [])) steps (λ p. [])
 
 -- the events that the flat machine shows by the serial order, by processor
 abbrev pub shown_in_order : MachineLists → List Step → ℕ → List Event
 shown_in_order m steps = with_events (λ p. []) (flat_events (flat_state m) (passed m steps).order)
 
--- The outcomes of steps tell of the events that the flat machine shows.
-pub record AreTold (opening : MachineLists) (steps : List Step) (machine : MachineLists) : Type 0 where
-  -- of a processor that has no reference open they tell all of them, in their order
-  pub shut : (p : ℕ) → open_at machine.ports p ≡ false → told_of_steps opening steps p ≡ shown_in_order opening steps p
+-- The outcomes of steps say of the events that the flat machine shows.
+pub record AreShown (opening : MachineLists) (steps : List Step) (machine : MachineLists) : Type 0 where
+  -- of a processor that has no reference open they say all of them, in their order
+  pub shut : (p : ℕ) → open_at machine.ports p ≡ false →
+      events_of_steps opening steps p ≡ shown_in_order opening steps p
   -- and of every processor all, or all but the last
-  pub any : (p : ℕ) → (later : List Event) × (shown_in_order opening steps p ≡ told_of_steps opening steps p ++ later) × (length later ≤ 1)
+  pub any : (p : ℕ) →
+      (later : List Event) × (shown_in_order opening steps p ≡ events_of_steps opening steps p ++ later)
+      × (length later ≤ 1)
 
-abbrev pub EventsAreTold : Type 0
-EventsAreTold = (opening : MachineLists) (steps : List Step) (machine : MachineLists) →
-    IsMachine opening → IsIdle opening → IsRun opening steps machine → AreTold opening steps machine
+abbrev pub EventsAreShown : Type 0
+EventsAreShown = (opening : MachineLists) (steps : List Step) (machine : MachineLists) →
+    IsMachine opening → IsIdle opening → IsRun opening steps machine → AreShown opening steps machine
 
 -- ---- the flat machine that a machine's parts make
 

@@ -4,7 +4,7 @@ pub mod Openings
 pub mod Serving
 pub mod Poking
 pub mod Seeing
-pub mod Telling
+pub mod AnsweringSeconds
 pub mod Parts
 pub mod Standing
 pub mod Runs

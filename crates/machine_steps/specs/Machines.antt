@@ -1,5 +1,6 @@
 -- What a contract sees of a `Machine`, and what holds of every machine.
-use Rattle.std.specs.Prelude.{◌≡◌, ℕ, ◌^◌, ◌<◌, ◌≤◌, Bool, true, false, ◌&&◌, not, List, [], length, nat_lt, slice_index_or, slice_set}
+use Rattle.std.specs.Prelude.{◌≡◌, ℕ, ◌^◌, ◌<◌, ◌≤◌, Bool, true, false, ◌&&◌, not, List, [], length, nat_lt}
+use Rattle.std.specs.Prelude.{slice_index_or, slice_set}
 use Rattle.flat_machine.specs.declared.config.Config.{Config}
 use Rattle.flat_machine.specs.declared.event.Event.{Event}
 use Rattle.flat_machine.specs.State.{is_running}
@@ -16,7 +17,7 @@ use Rattle.steps.specs.declared.step.Outcome.{Outcome}
 use Rattle.hart.specs.State.{CoreState}
 use Rattle.machine_ports.specs.Ports.{PortState, is_away, no_processor}
 use Rattle.machine_steps.specs.Parts.{places_of}
-use Rattle.machine_theory.specs.Processors.{Told, sizes_of, setting_of, program, port_at, open_at, word_at}
+use Rattle.machine_theory.specs.Processors.{ObservedCore, sizes_of, setting_of, program, port_at, open_at, word_at}
 use Rattle.machine_theory.specs.Steps.{machine_of_parts, IsStepOf}
 
 pub record MachineLists : Type 0 where
@@ -28,7 +29,7 @@ pub record MachineLists : Type 0 where
   pub code : List ℕ
 
 -- the machine, whose processors have shown these events
-abbrev pub machine_of : MachineLists → (shown : ℕ → List Event) → theory.Machine Told
+abbrev pub machine_of : MachineLists → (shown : ℕ → List Event) → theory.Machine ObservedCore
 machine_of m shown = machine_of_parts m.config (net_of m.network) m.ports m.modules shown
 
 -- No reference is open.
@@ -63,8 +64,8 @@ without_core_at m p = with_core_at m p (record (port_at m.ports p).core { state 
 
 -- ---- what holds of every machine
 
--- The ports of all processors, each of which knows its number, and has words in its registers and bytes in its memory. Where
--- a core is away, nothing of it is left.
+-- The ports of all processors, each of which knows its number, and has words in its registers and bytes in its memory.
+-- Where a core is away, nothing of it is left.
 pub record ArePorts (c : Config) (ports : List PortState) : Type 0 where
   pub all : length ports ≡ 2 ^ c.k
   pub settings : (p : ℕ) → p < 2 ^ c.k → (port_at ports p).core.setting ≡ setting_of c p
@@ -89,9 +90,17 @@ pub record IsMachine (m : MachineLists) : Type 0 where
   pub steady : Steady (sizes_of m.config) (program m.config m.code) (machine_of m (λ p. [])) role
 
 -- These parts make a machine.
-abbrev pub ArePartsOfOne : Config → ImageContents → NetworkLists → (ports : List PortState) → (modules : List (List ℕ)) → (code : List ℕ) → Type 0
+abbrev pub ArePartsOfOne : Config → ImageContents → NetworkLists → (ports : List PortState) →
+    (modules : List (List ℕ)) → (code : List ℕ) → Type 0
 ArePartsOfOne config image network ports modules code =
-    IsMachine (record { config = config; image = image; network = network; ports = ports; modules = modules; code = code })
+    IsMachine (record {
+      config = config;
+      image = image;
+      network = network;
+      ports = ports;
+      modules = modules;
+      code = code;
+    })
 
 -- ---- a step
 
@@ -101,4 +110,5 @@ pub record IsStep (old : MachineLists) (s : Step) (o : Outcome) (new : MachineLi
   pub image : new.image ≡ old.image
   pub code : new.code ≡ old.code
   pub cores : (p : ℕ) → away_at new p ≡ away_at old p
-  pub step : IsStepOf old.config old.code (net_of old.network) old.ports old.modules s o (net_of new.network) new.ports new.modules
+  pub step : IsStepOf old.config old.code (net_of old.network) old.ports old.modules s o
+      (net_of new.network) new.ports new.modules

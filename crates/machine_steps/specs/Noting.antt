@@ -2,18 +2,21 @@
 use Rattle.std.specs.Prelude.{◌≡◌, ℕ, List, [], ◌∷◌}
 use Rattle.flat_machine.specs.declared.config.Config.{Config}
 use Rattle.machine_theory.specs.Theory as theory
-use Rattle.machine_theory.specs.Processors.{Told}
+use Rattle.machine_theory.specs.Processors.{ObservedCore}
 use Rattle.machine_theory.specs.Steps.{outcome_of, after}
 use Rattle.machine_steps.specs.Machines.{MachineLists, machine_of}
 use Rattle.steps.specs.declared.step.Step.{Step}
 use Rattle.steps.specs.declared.step.Outcome.{Outcome}
 
 -- Each of the steps is noted with what the machine answers to it, one after another.
-abbrev pub AreNotedFrom : {N : Type 0} → (noted : N → Step → Outcome → N → Type 0) → Config → (code : List ℕ) → theory.Machine Told →
+abbrev pub AreNotedFrom : {N : Type 0} → (observed : N → Step → Outcome → N → Type 0) → Config → (code : List ℕ) →
+    theory.Machine ObservedCore →
     List Step → (old new : N) → Type 0
-AreNotedFrom noted c code M [] old new = new ≡ old
-AreNotedFrom noted c code M (s ∷ ss) old new = (mid : _) × noted old s (outcome_of c code M s) mid × AreNotedFrom noted c code (after c code M s) ss mid new
+AreNotedFrom observed c code M [] old new = new ≡ old
+AreNotedFrom observed c code M (s ∷ ss) old new = (mid : _) × observed old s (outcome_of c code M s) mid
+    × AreNotedFrom observed c code (after c code M s) ss mid new
 
 -- that of steps which a machine takes
-abbrev pub AreNoted : {N : Type 0} → (noted : N → Step → Outcome → N → Type 0) → MachineLists → List Step → (old new : N) → Type 0
-AreNoted noted m steps old new = AreNotedFrom noted m.config m.code (machine_of m (λ p. [])) steps old new
+abbrev pub AreNoted : {N : Type 0} → (observed : N → Step → Outcome → N → Type 0) → MachineLists → List Step →
+    (old new : N) → Type 0
+AreNoted observed m steps old new = AreNotedFrom observed m.config m.code (machine_of m (λ p. [])) steps old new

@@ -11,7 +11,7 @@ use Rattle.messages.specs.Network.{empty_net}
 use Rattle.machine_theory.specs.Theory as theory
 use Rattle.machine_ports.specs.Ports.{PortState}
 use Rattle.machine_steps.specs.Parts.{opening_ports, opening_modules}
-use Rattle.machine_theory.specs.Processors.{Told, word_at}
+use Rattle.machine_theory.specs.Processors.{ObservedCore, word_at}
 use Rattle.machine_theory.specs.Steps.{machine_of_parts}
 use Rattle.machine_steps.specs.Machines.{MachineLists, machine_of, AreHome, IsIdle}
 
@@ -24,11 +24,12 @@ flat_state m = record {
 }
 
 -- the one machine of this size that opens on a layout, whose processors have shown these events: its network is empty
-abbrev pub opening_machine : Config → Layout → (shown : ℕ → List Event) → theory.Machine Told
-opening_machine c layout shown = machine_of_parts c empty_net (opening_ports c layout (2 ^ c.k)) (opening_modules c layout.shared (2 ^ c.k)) shown
+abbrev pub opening_machine : Config → Layout → (shown : ℕ → List Event) → theory.Machine ObservedCore
+opening_machine c layout shown =
+    machine_of_parts c empty_net (opening_ports c layout (2 ^ c.k)) (opening_modules c layout.shared (2 ^ c.k)) shown
 
--- The machine of this size that opens on an image: no reference is open and no core away, and its processors, words and code
--- are those that the image means. All machines that open on an image are one.
+-- The machine of this size that opens on an image: no reference is open and no core away, and its processors, words
+-- and code are those that the image means. All machines that open on an image are one.
 pub record IsOpening (c : Config) (image : ImageContents) (m : MachineLists) : Type 0 where
   pub config : m.config ≡ c
   pub image_is : m.image ≡ image

@@ -12,9 +12,9 @@ use Rattle.steps.specs.declared.step.Outcome.TheVariants.{Retired, Issued, Stopp
 use Rattle.machine_theory.specs.Processors.{open_at}
 use Rattle.machine_steps.specs.Machines.{MachineLists}
 
--- ---- what an outcome tells the order
+-- ---- what an outcome says the order
 
--- A reference is entered where it is served, so its retirement tells nothing more.
+-- A reference is entered where it is served, so its retirement says nothing more.
 abbrev pub turn_tells : ℕ → (was_open : Bool) → Outcome → theory.Outcome
 turn_tells p was_open Issued = theory.Issued p
 turn_tells p true (Retired retired) = theory.Stalled
@@ -31,12 +31,12 @@ abbrev pub poke_tells : Poke → Outcome → theory.Outcome
 poke_tells q Poked = theory.Poked q
 poke_tells q _ = theory.Stalled
 
-abbrev pub told_by : Step → (was_open : Bool) → Outcome → theory.Outcome
-told_by (step.Turn p) was_open o = turn_tells p was_open o
-told_by (step.Up s w) was_open o = move_tells o
-told_by (step.Serve m) was_open o = move_tells o
-told_by (step.Down s w) was_open o = move_tells o
-told_by (step.Poke q) was_open o = poke_tells q o
+abbrev pub outcome_by : Step → (was_open : Bool) → Outcome → theory.Outcome
+outcome_by (step.Turn p) was_open o = turn_tells p was_open o
+outcome_by (step.Up s w) was_open o = move_tells o
+outcome_by (step.Serve m) was_open o = move_tells o
+outcome_by (step.Down s w) was_open o = move_tells o
+outcome_by (step.Poke q) was_open o = poke_tells q o
 
 -- whether the step is a turn of a processor that is open
 abbrev pub is_open_at : MachineLists → Step → Bool
@@ -60,8 +60,10 @@ abbrev pub count_in : List (ArrayVec ℕ) → ℕ
 count_in [] = 0
 count_in (group ∷ groups) = length group.items + count_in groups
 
--- The outcome is entered: the groups and the order go on, and the order and those who wait are one more together at most.
-pub record IsEntered (groups : List (ArrayVec ℕ)) (entries : List Entry) (o : theory.Outcome) (groups' : List (ArrayVec ℕ))
+-- The outcome is entered: the groups and the order go on, and the order and those who wait are one more together at
+-- most.
+pub record IsEntered (groups : List (ArrayVec ℕ)) (entries : List Entry) (o : theory.Outcome)
+    (groups' : List (ArrayVec ℕ))
     (entries' : List Entry) : Type 0 where
   pub places : length groups' ≡ length groups
   pub group : group_in groups' ≡ group_after (group_in groups) o

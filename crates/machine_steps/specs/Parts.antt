@@ -34,5 +34,7 @@ opening_modules c shared count = map (opening_module c shared (places_of c)) (ra
 
 -- The ports' processors and the modules' words are those of the flat machine that opens on the layout.
 pub record AreTheOpening (c : Config) (layout : Layout) : Type 0 where
-  pub processors : map (λ (p : PortState). p.core.state) (opening_ports c layout (2 ^ c.k)) ≡ (opening c layout).processors
-  pub shared : map (word_at c.k (opening_modules c layout.shared (2 ^ c.k))) (range_with_len 0 c.shared_words) ≡ (opening c layout).shared
+  pub processors : map (λ (p : PortState). p.core.state) (opening_ports c layout (2 ^ c.k))
+      ≡ (opening c layout).processors
+  pub shared : map (word_at c.k (opening_modules c layout.shared (2 ^ c.k))) (range_with_len 0 c.shared_words)
+      ≡ (opening c layout).shared

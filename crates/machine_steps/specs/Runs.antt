@@ -9,7 +9,7 @@ use Rattle.machine_theory.specs.serialization.Serialization.{EachServedOnce}
 use Rattle.steps.specs.declared.step.Step.{Step}
 use Rattle.steps.specs.declared.step.Outcome.{Outcome}
 use Rattle.steps.specs.declared.step.Outcome.TheVariants.{Stalled}
-use Rattle.machine_theory.specs.Processors.{Told, sizes_of, program}
+use Rattle.machine_theory.specs.Processors.{ObservedCore, sizes_of, program}
 use Rattle.machine_theory.specs.Steps.{named, outcome_of, after}
 use Rattle.machine_steps.specs.Machines.{MachineLists, machine_of, IsIdle}
 pub use Rattle.machine_steps.specs.Openings.{flat_state, opening_machine, IsOpening}
@@ -20,17 +20,17 @@ pub use Rattle.machine_theory.specs.Explained.{IsExplained}
 -- ---- runs
 
 -- the machine after a list of steps
-unfoldable pub all_after : Config → List ℕ → theory.Machine Told → List Step → theory.Machine Told
+unfoldable pub all_after : Config → List ℕ → theory.Machine ObservedCore → List Step → theory.Machine ObservedCore
 all_after c code M [] = M
 all_after c code M (s ∷ ss) = all_after c code (after c code M s) ss
 
 -- Each of the steps does something.
-abbrev pub NoneStalls : Config → (code : List ℕ) → theory.Machine Told → List Step → Type 0
+abbrev pub NoneStalls : Config → (code : List ℕ) → theory.Machine ObservedCore → List Step → Type 0
 NoneStalls c code M [] = Unit {0}
 NoneStalls c code M (s ∷ ss) = (outcome_of c code M s ≡ Stalled → ⊥) × NoneStalls c code (after c code M s) ss
 
 -- the machine that these steps leave
-abbrev pub machine_after : (opening : MachineLists) → (done : List Step) → theory.Machine Told
+abbrev pub machine_after : (opening : MachineLists) → (done : List Step) → theory.Machine ObservedCore
 machine_after m done = all_after m.config m.code (machine_of m (λ p. [])) done
 
 -- what a step answers on it
@@ -38,16 +38,18 @@ abbrev pub answer_after : (opening : MachineLists) → (done : List Step) → St
 answer_after m done s = outcome_of m.config m.code (machine_after m done) s
 
 -- what a machine's processors have shown
-abbrev pub events_of : theory.Machine Told → ℕ → List Event
+abbrev pub events_of : theory.Machine ObservedCore → ℕ → List Event
 events_of M p = (M.core p).events
 
--- The machine keeps its size, its image and its code, and stands after the steps, whatever its processors have shown before.
+-- The machine keeps its size, its image and its code, and stands after the steps, whatever its processors have shown
+-- before.
 pub record IsRun (old : MachineLists) (steps : List Step) (new : MachineLists) : Type 0 where
   pub config : new.config ≡ old.config
   pub image : new.image ≡ old.image
   pub code : new.code ≡ old.code
   pub after : (shown : ℕ → List Event) →
-      machine_of new (events_of (all_after old.config old.code (machine_of old shown) steps)) ≡ all_after old.config old.code (machine_of old shown) steps
+      machine_of new (events_of (all_after old.config old.code (machine_of old shown) steps))
+      ≡ all_after old.config old.code (machine_of old shown) steps
 
 -- The machine stands after the steps, each of which did something.
 pub record IsReplay (old : MachineLists) (steps : List Step) (new : MachineLists) : Type 0 where
@@ -57,7 +59,7 @@ pub record IsReplay (old : MachineLists) (steps : List Step) (new : MachineLists
 -- ---- the theorem
 
 -- after a list of steps: the machine, and what the outcomes gave
-abbrev pub passed : MachineLists → List Step → Passed Told
+abbrev pub passed : MachineLists → List Step → Passed ObservedCore
 passed m steps = ran (sizes_of m.config) (program m.config m.code) (machine_of m (λ p. [])) (map named steps)
 
 -- One serial order of whole instructions explains what a machine did since no reference was open in it.
@@ -67,7 +69,10 @@ pub record IsSerialized (old : MachineLists) (steps : List Step) (new : MachineL
   -- the flat machine, which takes the order so far, explains it
   pub explained : IsExplained old.config old.code (flat_state old) (passed old steps)
   -- each reference is served once, between its issue and its retirement
-  pub once : EachServedOnce (outcomes (sizes_of old.config) (program old.config old.code) (map named steps) (machine_of old (λ p. [])))
+  pub once : EachServedOnce (outcomes (sizes_of old.config) (program old.config old.code) (map named steps)
+      (machine_of old (λ p. [])))
   -- where no reference is open, the machine is the flat machine after the order, which has shown the same events
   pub flat : IsIdle new → flat_state new ≡ flat_run (flat_state old) (passed old steps).order
-  pub shown : IsIdle new → (p : ℕ) → events_of (passed old steps).machine p ≡ with_events (λ p. []) (flat_events (flat_state old) (passed old steps).order) p
+  pub shown : IsIdle new → (p : ℕ) →
+      events_of (passed old steps).machine p
+      ≡ with_events (λ p. []) (flat_events (flat_state old) (passed old steps).order) p

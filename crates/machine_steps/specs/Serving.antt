@@ -1,5 +1,6 @@
 -- What a module does with the first request that stands at it.
-use Rattle.std.specs.Prelude.{◌≡◌, ℕ, ◌/◌, ◌^◌, ◌<◌, List, [], length, Option, Some, None, slice_get, slice_index, slice_set}
+use Rattle.std.specs.Prelude.{◌≡◌, ℕ, ◌/◌, ◌^◌, ◌<◌, List, [], length, Option, Some, None, slice_get, slice_index}
+use Rattle.std.specs.Prelude.{slice_set}
 use Rattle.hart.specs.phi_algebra.Functions.{apply}
 use Rattle.messages.specs.declared.message.Request.{Request}
 use Rattle.messages.specs.declared.message.Reply.{Reply}
@@ -14,13 +15,17 @@ use Rattle.steps.specs.declared.step.Outcome.TheVariants.{Served, Stalled}
 abbrev pub DoesNothing : Net → List ℕ → Outcome → Net → List ℕ → Type 0
 DoesNothing net memory o net' memory' = (o ≡ Stalled) × (net' ≡ net) × (memory' ≡ memory)
 
--- The request is executed at its place, where a word comes to stand again, and the word before goes into the reply slot.
+-- The request is executed at its place, where a word comes to stand again, and the word before goes into the reply
+-- slot.
 abbrev pub IsExecuted : Sizes → ℕ → Net → List ℕ → Option Request → Outcome → Net → List ℕ → Type 0
 IsExecuted z m net memory None o net' memory' = DoesNothing net memory o net' memory'
 IsExecuted z m net memory (Some x) o net' memory' =
     let place = x.word / 2 ^ z.k in
     (o ≡ Served x.leader)
-    × (net' ≡ module_replied z (module_taken z net m) m (record { leader = x.leader; value = slice_index memory place }))
+    × (net' ≡ module_replied z (module_taken z net m) m (record {
+      leader = x.leader;
+      value = slice_index memory place;
+    }))
     × (memory' ≡ slice_set memory place (apply x.phi (slice_index memory place)))
     × (apply x.phi (slice_index memory place) < 2 ^ 32)
 
@@ -42,8 +47,8 @@ IsFree n m = (net_of n).replies n.k m ≡ []
 abbrev pub HasItsWord : NetworkLists → (m : ℕ) → (memory : List ℕ) → Type 0
 HasItsWord n m memory = (x : Request) → request_at n m ≡ Some x → x.word / 2 ^ n.k < length memory
 
--- Once the module has taken its request, nothing is on its way to this processor: no message is led by it, and no record has it
--- as its second.
+-- Once the module has taken its request, nothing is on its way to this processor: no message is led by it, and no
+-- record has it as its second.
 pub record MayBeAnswered (n : NetworkLists) (m leader : ℕ) : Type 0 where
   pub within : leader < 2 ^ n.k
   pub unnamed : Unnamed (module_taken (sizes_of n) (net_of n) m) leader

@@ -10,7 +10,7 @@ use Rattle.steps.specs.declared.step.Step.{Step}
 use Rattle.steps.specs.declared.step.Step.TheVariants as step
 use Rattle.steps.specs.declared.step.Outcome.{Outcome}
 use Rattle.steps.specs.declared.step.Outcome.TheVariants.{Retired, Issued, Stopped, Stalled}
-use Rattle.machine_theory.specs.Processors.{Told}
+use Rattle.machine_theory.specs.Processors.{ObservedCore}
 use Rattle.machine_theory.specs.Steps.{outcome_of, after}
 use Rattle.machine_steps.specs.Machines.{MachineLists, machine_of, IsIdle, IsMachine, IsStep}
 use Rattle.machine_steps.specs.Openings.{flat_state}
@@ -18,25 +18,27 @@ pub use Rattle.machine_steps.specs.Poking.{IsPoked}
 use Rattle.machine_steps.specs.Runs.{IsReplay}
 use Rattle.machine_steps.specs.Draining.{drain_bound, steps_home}
 
--- the event that an outcome tells of
+-- the event that an outcome says of
 abbrev pub event_of : Outcome → Option Event
 event_of (Retired retired) = Some (event.Retired retired)
 event_of (Stopped cause) = Some (event.Stopped cause)
 event_of _ = None
 
--- The steps that a turn leads to: the turn, and where it sends a request, all steps of a drain after it; none where it stalls.
-abbrev pub steps_from : Config → (code : List ℕ) → theory.Machine Told → (turn : Step) → Outcome → List Step
+-- The steps that a turn leads to: the turn, and where it sends a request, all steps of a drain after it; none where it
+-- stalls.
+abbrev pub steps_from : Config → (code : List ℕ) → theory.Machine ObservedCore → (turn : Step) → Outcome → List Step
 steps_from c code M turn Stalled = []
 steps_from c code M turn Issued = turn ∷ steps_home c code (drain_bound c) (after c code M turn)
 steps_from c code M turn _ = turn ∷ []
 
 -- the steps of processor p's next instruction, whole
 abbrev pub one_steps : MachineLists → ℕ → List Step
-one_steps m p = steps_from m.config m.code (machine_of m (λ q. [])) (step.Turn p) (outcome_of m.config m.code (machine_of m (λ q. [])) (step.Turn p))
+one_steps m p = steps_from m.config m.code (machine_of m (λ q. [])) (step.Turn p)
+    (outcome_of m.config m.code (machine_of m (λ q. [])) (step.Turn p))
 
--- One step of the flat machine: processor p's next instruction, whole. The machine has taken the steps of it, no reference is
--- open, it is the flat machine after that step, and the outcome tells of the step's event. A processor that is not there, or
--- does not run, has none: that is what is answered, and no step is taken.
+-- One step of the flat machine: processor p's next instruction, whole. The machine has taken the steps of it, no
+-- reference is open, it is the flat machine after that step, and the outcome says of the step's event. A processor
+-- that is not there, or does not run, has none: that is what is answered, and no step is taken.
 pub record IsOne (old : MachineLists) (p : ℕ) (o : Outcome) (new : MachineLists) : Type 0 where
   pub replay : IsReplay old (one_steps old p) new
   pub idle : IsIdle new

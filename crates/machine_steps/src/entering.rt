@@ -4,7 +4,8 @@ ghost use Rattle.std.specs.Prelude.{◌≡◌, ◌≤◌, ◌<◌, ◌+◌, ◌+
 ghost use Rattle.std.specs.Vec.{vec_capacity};
 ghost use Rattle.flat_machine.specs.declared.poke.Entry.TheVariants as entry;
 ghost use Rattle.machine_theory.specs.Theory as theory;
-ghost use Rattle.machine_steps.specs.Ordering.{told_by, group_in, count_in, IsEntered, turn_tells, move_tells, poke_tells};
+ghost use Rattle.machine_steps.specs.Ordering.{outcome_by, group_in, count_in, IsEntered, turn_tells, move_tells};
+ghost use Rattle.machine_steps.specs.Ordering.{poke_tells};
 ghost use Rattle.machine_theory.specs.Order.{group_after};
 
 use arrayvec::ArrayVec;
@@ -61,9 +62,11 @@ impl SerialOrder {
     /// Enters what a step did. It was a turn of a processor that was open, or not.
     pub fn enter(&mut self, step: Step, was_open: bool, outcome: Outcome)
         requires leaders { length self.old.groups.items ≡ 256 }
-        requires few { (p : ℕ) → length (group_after (group_in self.old.groups.items) (told_by step was_open outcome) p) ≤ 64 }
+        requires few { (p : ℕ) →
+            length (group_after (group_in self.old.groups.items) (outcome_by step was_open outcome) p) ≤ 64 }
         requires room { length self.old.entries.items + count_in self.old.groups.items < vec_capacity self.old.entries }
-        ensures entered { IsEntered self.old.groups.items self.old.entries.items (told_by step was_open outcome) self.new.groups.items self.new.entries.items }
+        ensures entered { IsEntered self.old.groups.items self.old.entries.items
+            (outcome_by step was_open outcome) self.new.groups.items self.new.entries.items }
         ensures capacity { vec_capacity self.new.entries ≡ vec_capacity self.old.entries }
     {
         match step {
@@ -78,7 +81,8 @@ impl SerialOrder {
     fn enter_turn(&mut self, p: u8, was_open: bool, outcome: Outcome)
         requires leaders { length self.old.groups.items ≡ 256 }
         requires room { length self.old.entries.items + count_in self.old.groups.items < vec_capacity self.old.entries }
-        ensures entered { IsEntered self.old.groups.items self.old.entries.items (turn_tells p was_open outcome) self.new.groups.items self.new.entries.items }
+        ensures entered { IsEntered self.old.groups.items self.old.entries.items
+            (turn_tells p was_open outcome) self.new.groups.items self.new.entries.items }
         ensures capacity { vec_capacity self.new.entries ≡ vec_capacity self.old.entries }
     {
         match outcome {
@@ -93,7 +97,8 @@ impl SerialOrder {
     #[tactic(auto, using(crate::proofs::Grouping::enters_nothing, crate::proofs::Grouping::enters_poke))]
     fn enter_poke(&mut self, poke: Poke, outcome: Outcome)
         requires room { length self.old.entries.items + count_in self.old.groups.items < vec_capacity self.old.entries }
-        ensures entered { IsEntered self.old.groups.items self.old.entries.items (poke_tells poke outcome) self.new.groups.items self.new.entries.items }
+        ensures entered { IsEntered self.old.groups.items self.old.entries.items
+            (poke_tells poke outcome) self.new.groups.items self.new.entries.items }
         ensures capacity { vec_capacity self.new.entries ≡ vec_capacity self.old.entries }
     {
         if matches!(outcome, Outcome::Poked) {
@@ -107,7 +112,8 @@ impl SerialOrder {
         requires leaders { length self.old.groups.items ≡ 256 }
         requires few { (p : ℕ) → length (group_after (group_in self.old.groups.items) (move_tells outcome) p) ≤ 64 }
         requires room { length self.old.entries.items + count_in self.old.groups.items < vec_capacity self.old.entries }
-        ensures entered { IsEntered self.old.groups.items self.old.entries.items (move_tells outcome) self.new.groups.items self.new.entries.items }
+        ensures entered { IsEntered self.old.groups.items self.old.entries.items
+            (move_tells outcome) self.new.groups.items self.new.entries.items }
         ensures capacity { vec_capacity self.new.entries ≡ vec_capacity self.old.entries }
     {
         match outcome {
@@ -121,7 +127,8 @@ impl SerialOrder {
     #[tactic(auto, using(crate::proofs::Grouping::enters_issue))]
     fn begin(&mut self, p: u8)
         requires leaders { length self.old.groups.items ≡ 256 }
-        ensures entered { IsEntered self.old.groups.items self.old.entries.items (theory.Issued p) self.new.groups.items self.new.entries.items }
+        ensures entered { IsEntered self.old.groups.items self.old.entries.items
+            (theory.Issued p) self.new.groups.items self.new.entries.items }
         ensures entries { self.new.entries ≡ self.old.entries }
     {
         self.groups[usize::from(p)] = one(p);
@@ -131,8 +138,10 @@ impl SerialOrder {
     #[tactic(auto, using(crate::proofs::Grouping::enters_combined))]
     fn join(&mut self, first: u8, second: u8)
         requires leaders { length self.old.groups.items ≡ 256 }
-        requires few { (p : ℕ) → length (group_after (group_in self.old.groups.items) (theory.Combined first second) p) ≤ 64 }
-        ensures entered { IsEntered self.old.groups.items self.old.entries.items (theory.Combined first second) self.new.groups.items self.new.entries.items }
+        requires few { (p : ℕ) →
+            length (group_after (group_in self.old.groups.items) (theory.Combined first second) p) ≤ 64 }
+        ensures entered { IsEntered self.old.groups.items self.old.entries.items
+            (theory.Combined first second) self.new.groups.items self.new.entries.items }
         ensures entries { self.new.entries ≡ self.old.entries }
     {
         let (first, second) = (usize::from(first), usize::from(second));
@@ -148,7 +157,8 @@ impl SerialOrder {
     fn serve(&mut self, leader: u8)
         requires leaders { length self.old.groups.items ≡ 256 }
         requires room { length self.old.entries.items + count_in self.old.groups.items ≤ vec_capacity self.old.entries }
-        ensures entered { IsEntered self.old.groups.items self.old.entries.items (theory.Served leader) self.new.groups.items self.new.entries.items }
+        ensures entered { IsEntered self.old.groups.items self.old.entries.items
+            (theory.Served leader) self.new.groups.items self.new.entries.items }
         ensures capacity { vec_capacity self.new.entries ≡ vec_capacity self.old.entries }
     {
         let group = mem::replace(&mut self.groups[usize::from(leader)], Group::new());

@@ -1,7 +1,7 @@
 //! What holds of all runs. Each law is the contract of a function that does nothing.
 
 ghost use Rattle.machine_steps.specs.Laws.{AnswersAreOfTheSteps, AnswersForgetEvents, CoresStay, CoresStayHome};
-ghost use Rattle.machine_steps.specs.Laws.{EventsAreTold, FlatProcessorsAreRead, FlatWordsAreRead, ReplaysAreCut};
+ghost use Rattle.machine_steps.specs.Laws.{EventsAreShown, FlatProcessorsAreRead, FlatWordsAreRead, ReplaysAreCut};
 ghost use Rattle.machine_steps.specs.Laws.{ReplaysAreJoined, ReplaysBegin, RunsAreJoined, RunsAreSerialized};
 ghost use Rattle.machine_steps.specs.Laws.{StallsAreNotEntered, StepsAreEntered};
 
@@ -37,12 +37,12 @@ pub fn cores_stay_home()
 
 /// From a machine in which no reference is open, one serial order of whole instructions explains
 /// whatever steps it takes; and each machine that they reach in which none is open either is the flat
-/// machine after that order. The outcomes of the steps tell of the events that the flat machine shows
-/// by that order: of a processor that has no reference open they tell all of them, in their order, and
+/// machine after that order. The outcomes of the steps say of the events that the flat machine shows
+/// by that order: of a processor that has no reference open they say all of them, in their order, and
 /// of each other all but the last at most.
 pub fn runs_are_serialized()
     ensures each { RunsAreSerialized }
-    ensures events { EventsAreTold }
+    ensures events { EventsAreShown }
 {}
 
 /// The flat machine that a machine's parts make has the processors at its ports and the words in its

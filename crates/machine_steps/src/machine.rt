@@ -15,10 +15,11 @@ ghost use Rattle.flat_machine.specs.Words.{part_of};
 ghost use Rattle.omega_wires.specs.Members.{members};
 ghost use Rattle.omega_network.specs.Networks.{net_of};
 ghost use Rattle.machine_theory.specs.serialization.Steadiness.{Few};
-ghost use Rattle.machine_theory.specs.Processors.{is_lawful_poke, no_processor, open_at, port_at, setting_of, word_at, sizes_of};
+ghost use Rattle.machine_theory.specs.Processors.{is_lawful_poke, no_processor, open_at, port_at, setting_of, word_at};
+ghost use Rattle.machine_theory.specs.Processors.{sizes_of};
 ghost use Rattle.machine_theory.specs.Cores.{with_core, without};
 ghost use Rattle.machine_theory.specs.Steps.{outcome_of};
-ghost use Rattle.machine_theory.specs.Turning.{told_of_down, told_of_up};
+ghost use Rattle.machine_theory.specs.Turning.{outcome_of_down, outcome_of_up};
 ghost use Rattle.flat_machine.specs.State.{is_running};
 ghost use Rattle.machine_steps.specs.Machines.{MachineLists, AreHome, IsIdle, IsMachine, IsStep, away_at, is_free};
 ghost use Rattle.machine_steps.specs.Machines.{is_there, machine_of, with_core_at, without_core_at};
@@ -26,7 +27,7 @@ ghost use Rattle.machine_steps.specs.Openings.{flat_state, IsOpening};
 ghost use Rattle.machine_steps.specs.Poking.{IsPoked};
 ghost use Rattle.machine_steps.specs.Readers.{local_byte_at, register_at, registers_at, shared_byte_at};
 ghost use Rattle.machine_steps.specs.Seeing.{byte_seen};
-ghost use Rattle.machine_steps.specs.Telling.{TellsAll};
+ghost use Rattle.machine_steps.specs.AnsweringSeconds.{AnswersAllSeconds};
 
 use crate::error::NewError;
 use crate::modules::new_modules;
@@ -41,7 +42,7 @@ use hart::{Core, core_has_registers};
 use local_memory::Code;
 use machine_ports::Port;
 use memory_module::Module;
-use messages::{DownMove, UpMove, seconds_are_told};
+use messages::{DownMove, UpMove, seconds_are_answered};
 use omega_network::IndexedNetwork;
 use omega_wires::{WireSet, module_of};
 use std::alloc::{AllocError, Global};
@@ -76,7 +77,8 @@ impl Model for Machine {
       code = arc_value m.code;
     } };
 
-    ghost invariant = { λ m. ArePartsOfOne m.config m.image m.network m.ports.items m.modules.items (arc_value m.code) };
+    ghost invariant = { λ m. ArePartsOfOne m.config m.image m.network m.ports.items m.modules.items
+        (arc_value m.code) };
 }
 
 impl Machine {
@@ -89,7 +91,8 @@ impl Machine {
     /// read for another number of shared words; else [`NewError::Memory`] where there is no memory.
     pub fn new(alloc: Global, image: Image, config: Config) -> Result<Self, NewError>
         ensures opening { IfOk result (λ m. IsOpening config image m) }
-        ensures refused { (result ≡ Err NewError.Config) ↔ ((IsWithinLimits config × (image.shared_words ≡ config.shared_words)) → ⊥) }
+        ensures refused { (result ≡ Err NewError.Config)
+            ↔ ((IsWithinLimits config × (image.shared_words ≡ config.shared_words)) → ⊥) }
     {
         if !config.is_within_limits() || image.shared_words() != config.shared_words {
             return Err(NewError::Config);
@@ -126,7 +129,8 @@ impl Machine {
     /// Where a processor stands: the address of its next instruction. None where the machine has no
     /// processor of this number, or its core is away.
     pub fn pc(&self, processor: u8) -> Option<u32>
-        ensures value { result ≡ (if is_there self.now processor then Some (port_at self.now.ports processor).core.state.pc else None) }
+        ensures value { result
+            ≡ (if is_there self.now processor then Some (port_at self.now.ports processor).core.state.pc else None) }
         ensures none { IfNone result ((port_at self.now.ports processor).core.state ≡ no_processor) }
     {
         Some(self.core(processor)?.pc())
@@ -153,7 +157,9 @@ impl Machine {
     /// What a processor is doing. None where the machine has no processor of this number, or its core is
     /// away.
     pub fn status(&self, processor: u8) -> Option<Status>
-        ensures value { result ≡ (if is_there self.now processor then Some (port_at self.now.ports processor).core.state.status else None) }
+        ensures value { result
+            ≡ (if is_there self.now processor then Some (port_at self.now.ports processor).core.state.status
+            else None) }
         ensures none { IfNone result ((port_at self.now.ports processor).core.state ≡ no_processor) }
     {
         Some(self.core(processor)?.status())
@@ -169,7 +175,9 @@ impl Machine {
 
     /// A shared word, as its module holds it. None where shared memory has no word of this number.
     pub fn word(&self, number: u32) -> Option<u32>
-        ensures { result ≡ (if nat_lt number self.now.config.shared_words then Some (word_at self.now.config.k self.now.modules number) else None) }
+        ensures { result
+            ≡ (if nat_lt number self.now.config.shared_words
+            then Some (word_at self.now.config.k self.now.modules number) else None) }
     {
         if number >= self.config.shared_words {
             return None;
@@ -188,7 +196,8 @@ impl Machine {
 
     /// Whether a processor has a reference open. None where the machine has no processor of this number.
     pub fn is_open(&self, processor: u8) -> Option<bool>
-        ensures { result ≡ (if nat_lt processor (2 ^ self.now.config.k) then Some (open_at self.now.ports processor) else None) }
+        ensures { result
+            ≡ (if nat_lt processor (2 ^ self.now.config.k) then Some (open_at self.now.ports processor) else None) }
     {
         match self.ports.get(usize::from(processor)) {
             Some(port) => Some(port.is_open()),
@@ -200,9 +209,10 @@ impl Machine {
     /// code. None where the machine has no processor of this number, its core is away, or there is no
     /// byte.
     pub fn seen(&self, processor: u8, address: u32) -> Option<u8>
-        ensures { result ≡ (if is_there self.now processor then byte_seen (flat_state self.now) processor address else None) }
+        ensures { result
+            ≡ (if is_there self.now processor then byte_seen (flat_state self.now) processor address else None) }
     {
-        machine_is_sound(self);
+        machine_is_well_formed(self);
         if !self.is_there(processor) {
             return None;
         }
@@ -258,7 +268,8 @@ impl Machine {
     #[inline(always)]
     pub fn request_wires(&self, stage: u8) -> WireSet
         requires { stage ≤ self.now.config.k }
-        ensures exact { (w : ℕ) → w < 2 ^ self.now.config.k → members result w ≡ is_some (slice_get ((net_of self.now.network).requests stage w) 0) }
+        ensures exact { (w : ℕ) → w < 2 ^ self.now.config.k →
+            members result w ≡ is_some (slice_get ((net_of self.now.network).requests stage w) 0) }
         ensures few { (w : ℕ) → 2 ^ self.now.config.k ≤ w → members result w ≡ false }
     {
         self.network.request_wires(stage)
@@ -268,7 +279,8 @@ impl Machine {
     #[inline(always)]
     pub fn reply_wires(&self, stage: u8) -> WireSet
         requires { stage ≤ self.now.config.k }
-        ensures exact { (w : ℕ) → w < 2 ^ self.now.config.k → members result w ≡ is_some (slice_get ((net_of self.now.network).replies stage w) 0) }
+        ensures exact { (w : ℕ) → w < 2 ^ self.now.config.k →
+            members result w ≡ is_some (slice_get ((net_of self.now.network).replies stage w) 0) }
         ensures few { (w : ℕ) → 2 ^ self.now.config.k ≤ w → members result w ≡ false }
     {
         self.network.reply_wires(stage)
@@ -277,7 +289,8 @@ impl Machine {
     /// The core of a processor. None where the machine has no processor of this number, or its core is
     /// away.
     pub fn core(&self, processor: u8) -> Option<&Core>
-        ensures value { option_copied result ≡ (if is_there self.now processor then Some (port_at self.now.ports processor).core else None) }
+        ensures value { option_copied result
+            ≡ (if is_there self.now processor then Some (port_at self.now.ports processor).core else None) }
         ensures none { IfNone result ((port_at self.now.ports processor).core.state ≡ no_processor) }
     {
         match self.ports.get(usize::from(processor)) {
@@ -298,7 +311,8 @@ impl Machine {
 
     /// Whether the core of a processor is away. None where the machine has no processor of this number.
     pub fn is_away(&self, processor: u8) -> Option<bool>
-        ensures { result ≡ (if nat_lt processor (2 ^ self.now.config.k) then Some (away_at self.now processor) else None) }
+        ensures { result
+            ≡ (if nat_lt processor (2 ^ self.now.config.k) then Some (away_at self.now processor) else None) }
     {
         match self.ports.get(usize::from(processor)) {
             Some(port) => Some(port.is_away()),
@@ -318,8 +332,10 @@ impl Machine {
     /// where the machine has no processor of this number, or the processor has a reference open, does not
     /// run, or its core is away already. Then nothing changes.
     pub fn take_core(&mut self, processor: u8) -> Option<Core>
-        ensures core { result ≡ (if is_free self.old processor then Some (port_at self.old.ports processor).core else None) }
-        ensures away { self.new ≡ (if is_free self.old processor then without_core_at self.old processor else self.old) }
+        ensures core { result
+            ≡ (if is_free self.old processor then Some (port_at self.old.ports processor).core else None) }
+        ensures away { self.new
+            ≡ (if is_free self.old processor then without_core_at self.old processor else self.old) }
         ensures machine { is_free self.old processor ≡ true →
             (shown : ℕ → List Event) → machine_of self.new shown ≡ without (machine_of self.old shown) processor }
     {
@@ -341,7 +357,9 @@ impl Machine {
         requires words { HasWords core.state }
         ensures put { self.new ≡ with_core_at self.old processor core }
         ensures machine { (shown : ℕ → List Event) →
-            machine_of self.new shown ≡ with_core (machine_of self.old shown) processor (record { state = core.state; events = shown processor }) }
+            machine_of self.new shown
+            ≡ with_core (machine_of self.old shown) processor
+            (record { state = core.state; events = shown processor }) }
     {
         core_has_registers(&core);
         self.ports[usize::from(processor)].put_core(core);
@@ -362,16 +380,18 @@ impl Machine {
     pub fn apply(&mut self, step: Step) -> Outcome
         ensures step { IsStep self.old step result self.new }
         ensures outcome { result ≡ outcome_of self.old.config self.old.code (machine_of self.old (λ p. [])) step }
-        ensures stalled { result ≡ Outcome.Stalled → (shown : ℕ → List Event) → machine_of self.new shown ≡ machine_of self.old shown }
-        ensures poked { IsIdle self.old → AreHome self.old → (poke : Poke) → step ≡ Step.Poke poke → IsPoked self.old poke result self.new }
+        ensures stalled { result ≡ Outcome.Stalled → (shown : ℕ → List Event) →
+            machine_of self.new shown ≡ machine_of self.old shown }
+        ensures poked { IsIdle self.old → AreHome self.old → (poke : Poke) → step ≡ Step.Poke poke →
+            IsPoked self.old poke result self.new }
         ensures few { Few (sizes_of self.new.config) (net_of self.new.network) }
-        ensures told { TellsAll self.old step result }
+        ensures answered { AnswersAllSeconds self.old step result }
         ensures sound { IsMachine self.new }
     {
-        machine_is_sound(self);
-        seconds_are_told();
+        machine_is_well_formed(self);
+        seconds_are_answered();
         let outcome = self.take(step);
-        machine_is_sound(self);
+        machine_is_well_formed(self);
         outcome
     }
 
@@ -512,7 +532,7 @@ impl Machine {
         if place >= self.ports.len() {
             return Outcome::Stalled;
         }
-        told(self.ports[place].poke_register(register, value))
+        poke_outcome(self.ports[place].poke_register(register, value))
     }
 
     /// Writes a byte of local memory.
@@ -525,7 +545,7 @@ impl Machine {
         if place >= self.ports.len() {
             return Outcome::Stalled;
         }
-        told(self.ports[place].poke_byte(address, value))
+        poke_outcome(self.ports[place].poke_byte(address, value))
     }
 
     /// Writes a byte of shared memory.
@@ -534,7 +554,7 @@ impl Machine {
         requires home { AreHome self.old }
         ensures { IsStep self.old (Step.Poke (pokes.Shared address value)) result self.new }
     {
-        machine_is_sound(self);
+        machine_is_well_formed(self);
         if address < SHARED_START {
             return Outcome::Stalled;
         }
@@ -572,7 +592,7 @@ fn is_lawful_register(register: u8, value: u32) -> bool
 
 /// What a step answers that moved a request.
 fn up_outcome(moved: UpMove) -> Outcome
-    ensures { result ≡ told_of_up moved }
+    ensures { result ≡ outcome_of_up moved }
 {
     match moved {
         UpMove::Moved => Outcome::Moved,
@@ -583,7 +603,7 @@ fn up_outcome(moved: UpMove) -> Outcome
 
 /// What a step answers that moved a reply.
 fn down_outcome(moved: DownMove) -> Outcome
-    ensures { result ≡ told_of_down moved }
+    ensures { result ≡ outcome_of_down moved }
 {
     match moved {
         DownMove::Moved => Outcome::Moved,
@@ -593,7 +613,7 @@ fn down_outcome(moved: DownMove) -> Outcome
 }
 
 /// What a poke answers that is written, and one that is not.
-fn told(is_written: bool) -> Outcome
+fn poke_outcome(is_written: bool) -> Outcome
     ensures { result ≡ (if is_written then Outcome.Poked else Outcome.Stalled) }
 {
     if is_written {
@@ -603,7 +623,7 @@ fn told(is_written: bool) -> Outcome
     }
 }
 
-/// The opening of a machine, or want of memory.
+/// The opening of a machine, or out of memory.
 fn made(alloc: Global, image: Image, config: Config) -> Result<Machine, AllocError>
     requires limits { IsWithinLimits config }
     requires words { image.shared_words ≡ config.shared_words }
@@ -633,7 +653,7 @@ fn made(alloc: Global, image: Image, config: Config) -> Result<Machine, AllocErr
 }
 
 /// What holds of every machine: each proof about a machine may cite it, at the cost of nothing.
-pub fn machine_is_sound(machine: &Machine)
+pub fn machine_is_well_formed(machine: &Machine)
     ensures { IsMachine machine.now }
 {
     let _ = &machine.config;

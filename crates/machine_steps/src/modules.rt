@@ -61,7 +61,7 @@ fn word_of(bytes: &[u8], number: u32) -> u32
     low + 65_536 * high
 }
 
-/// The byte at a place, and zero behind the last.
+/// The byte at a place, and zero after the last.
 fn byte_of(bytes: &[u8], place: usize) -> u32
     ensures value { result ≡ slice_index bytes.now place }
     ensures small { result < 256 }

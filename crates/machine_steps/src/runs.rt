@@ -7,9 +7,9 @@ ghost use Rattle.machine_steps.specs.Noting.{AreNoted};
 ghost use Rattle.machine_steps.specs.Runs.{IsReplay, IsRun, IsSerialized};
 ghost use Rattle.machine_steps.specs.Whole.{one_steps, IsOne, IsSent};
 
-use crate::machine::{Machine, machine_is_sound};
+use crate::machine::{Machine, machine_is_well_formed};
 use crate::searching::next_step;
-use steps::{Nobody, Notes, Outcome, Step};
+use steps::{NoObserver, Outcome, Step, StepObserver};
 
 impl Machine {
     /// Applies each of these steps in turn.
@@ -17,11 +17,11 @@ impl Machine {
         ensures run { IsRun self.old steps.now self.new }
         ensures serialized { IsIdle self.old → IsSerialized self.old steps.now self.new }
     {
-        machine_is_sound(self);
+        machine_is_well_formed(self);
         for step in steps {
             self.apply(*step);
         }
-        machine_is_sound(self);
+        machine_is_well_formed(self);
     }
 
     /// The step that a drain takes next. None where no reference is open.
@@ -30,7 +30,7 @@ impl Machine {
         ensures goes_on { IfSome result (BringsNearer self.now) }
         ensures none { (result ≡ None) ↔ IsIdle self.now }
     {
-        machine_is_sound(self);
+        machine_is_well_formed(self);
         next_step(self.network())
     }
 
@@ -39,23 +39,23 @@ impl Machine {
     pub fn drain(&mut self) -> u32
         ensures { IsDrained self.old result self.new }
     {
-        let Ok(moves) = self.drain_noted(&mut Nobody);
+        let Ok(moves) = self.drain_observed(&mut NoObserver);
         moves
     }
 
-    /// Drains the machine, as [`Machine::drain`] does, and tells each step to the notes.
+    /// Drains the machine, as [`Machine::drain`] does, and says each step to the notes.
     ///
     /// # Errors
     ///
     /// That of the notes, where a step could not be noted. The machine has taken it, and those before.
-    pub fn drain_noted<N: Notes>(&mut self, notes: &mut N) -> Result<u32, N::Refusal>
-        requires room { N.has_room notes.old (drain_bound self.old.config) }
+    pub fn drain_observed<N: StepObserver>(&mut self, observer: &mut N) -> Result<u32, N::Refusal>
+        requires room { N.has_room observer.old (drain_bound self.old.config) }
         ensures drained { IfOk result (λ moves. IsDrained self.old moves self.new) }
         ensures replay { OnOk result (IsReplay self.old (drain_steps self.old) self.new) }
-        ensures noted { OnOk result (AreNoted N.noted self.old (drain_steps self.old) notes.old notes.new) }
+        ensures observed { OnOk result (AreNoted N.observed self.old (drain_steps self.old) observer.old observer.new) }
     {
         let bound = self.drain_bound();
-        Ok(bring_home(self, bound, notes)?.0)
+        Ok(drain_within(self, bound, observer)?.0)
     }
 
     /// How many steps a drain takes at most: `2^k * (2k + 2)`.
@@ -75,24 +75,30 @@ impl Machine {
         ensures whole { IsIdle self.old → IsOne self.old p result self.new }
         ensures busy { (IsIdle self.old → ⊥) → (result ≡ Outcome.Stalled) × (self.new ≡ self.old) }
     {
-        let Ok(outcome) = self.one_noted(p, &mut Nobody);
+        let Ok(outcome) = self.one_observed(p, &mut NoObserver);
         outcome
     }
 
-    /// Takes one instruction of a processor, whole, as [`Machine::one`] does, and tells its steps to the notes:
+    /// Takes one instruction of a processor, whole, as [`Machine::one`] does, and says its steps to the notes:
     /// `2k + 3` at most.
     ///
     /// # Errors
     ///
     /// That of the notes, where a step could not be noted. The machine has taken it, and those before.
-    pub fn one_noted<N: Notes>(&mut self, p: u8, notes: &mut N) -> Result<Outcome, N::Refusal>
-        requires room { N.has_room notes.old (2 * self.old.config.k + 3) }
+    pub fn one_observed<N: StepObserver>(
+        &mut self,
+        p: u8,
+        observer: &mut N,
+    ) -> Result<Outcome, N::Refusal>
+        requires room { N.has_room observer.old (2 * self.old.config.k + 3) }
         ensures whole { IfOk result (λ o. IsIdle self.old → IsOne self.old p o self.new) }
-        ensures noted { OnOk result (IsIdle self.old → AreNoted N.noted self.old (one_steps self.old p) notes.old notes.new) }
+        ensures observed { OnOk result (IsIdle self.old →
+            AreNoted N.observed self.old (one_steps self.old p) observer.old observer.new) }
         ensures few { OnOk result (IsIdle self.old → length (one_steps self.old p) ≤ 2 * self.old.config.k + 3) }
-        ensures busy { IfOk result (λ o. (IsIdle self.old → ⊥) → (o ≡ Outcome.Stalled) × (self.new ≡ self.old) × (notes.new ≡ notes.old)) }
+        ensures busy { IfOk result (λ o. (IsIdle self.old → ⊥) →
+            (o ≡ Outcome.Stalled) × (self.new ≡ self.old) × (observer.new ≡ observer.old)) }
     {
-        machine_is_sound(self);
+        machine_is_well_formed(self);
         if !self.is_idle() {
             return Ok(Outcome::Stalled);
         }
@@ -102,50 +108,56 @@ impl Machine {
         if outcome.is_stalled() {
             return Ok(outcome);
         }
-        notes.note(turn, &outcome)?;
+        observer.observe(turn, &outcome)?;
         match outcome {
-            Outcome::Issued => Ok(bring_home(self, bound, notes)?.1),
+            Outcome::Issued => Ok(drain_within(self, bound, observer)?.1),
             whole => Ok(whole),
         }
     }
 }
 
-/// Takes steps until no reference is open, tells them to the notes, and answers how many, and what the last
+/// Takes steps until no reference is open, says them to the notes, and answers how many, and what the last
 /// of them answered: where one processor alone has sent a request, what it retires. There are no more than
-/// so many.
-fn bring_home<N: Notes>(
+/// this many.
+fn drain_within<N: StepObserver>(
     machine: &mut Machine,
     bound: u32,
-    notes: &mut N,
+    observer: &mut N,
 ) -> Result<(u32, Outcome), N::Refusal>
     requires enough { length (drain_steps machine.old) ≤ bound }
     requires few { bound ≤ drain_bound machine.old.config }
-    requires room { N.has_room notes.old bound }
+    requires room { N.has_room observer.old bound }
     ensures drained { IfOk result (λ done. IsDrained machine.old done.0 machine.new) }
-    ensures home { IfOk result (λ done. (before : MachineLists) (p : ℕ) → IsSent before p machine.old → IsOne before p done.1 machine.new) }
+    ensures home { IfOk result (λ done. (before : MachineLists) (p : ℕ) → IsSent before p machine.old →
+        IsOne before p done.1 machine.new) }
     ensures replay { OnOk result (IsReplay machine.old (drain_steps machine.old) machine.new) }
-    ensures noted { OnOk result (AreNoted N.noted machine.old (drain_steps machine.old) notes.old notes.new) }
+    ensures observed { OnOk result (AreNoted N.observed machine.old
+        (drain_steps machine.old) observer.old observer.new) }
 {
-    machine_is_sound(machine);
+    machine_is_well_formed(machine);
     let mut last = Outcome::Issued;
     for moves in 0..bound {
         let Some(step) = machine.drain_step() else {
             return Ok((moves, last));
         };
-        last = take(machine, step, notes)?;
+        last = take(machine, step, observer)?;
     }
     Ok((bound, last))
 }
 
-/// Takes a step, and tells it to the notes.
-fn take<N: Notes>(machine: &mut Machine, step: Step, notes: &mut N) -> Result<Outcome, N::Refusal>
-    requires room { (more : ℕ) × N.has_room notes.old (more + 1) }
+/// Takes a step, and reports it to the notes.
+fn take<N: StepObserver>(
+    machine: &mut Machine,
+    step: Step,
+    observer: &mut N,
+) -> Result<Outcome, N::Refusal>
+    requires room { (more : ℕ) × N.has_room observer.old (more + 1) }
     ensures step { IfOk result (λ outcome. IsStep machine.old step outcome machine.new) }
-    ensures noted { IfOk result (λ outcome. N.noted notes.old step outcome notes.new) }
-    ensures room { OnOk result ((more : ℕ) → N.has_room notes.old (more + 1) → N.has_room notes.new more) }
+    ensures observed { IfOk result (λ outcome. N.observed observer.old step outcome observer.new) }
+    ensures room { OnOk result ((more : ℕ) → N.has_room observer.old (more + 1) → N.has_room observer.new more) }
     ensures sound { IsMachine machine.new }
 {
     let outcome = machine.apply(step);
-    notes.note(step, &outcome)?;
+    observer.observe(step, &outcome)?;
     Ok(outcome)
 }

@@ -2,7 +2,8 @@
 
 ghost use Rattle.std.specs.Prelude.{◌≡◌, ◌<◌, ◌≤◌, ◌^◌, ◌/◌, Some, length};
 ghost use Rattle.omega_network.specs.Networks.{net_of, sizes_of};
-ghost use Rattle.machine_steps.specs.Serving.{request_at, HasItsWord, IsExecuted, IsFree, DoesNothing, IsServed, MayBeAnswered, MayReply};
+ghost use Rattle.machine_steps.specs.Serving.{request_at, HasItsWord, IsExecuted, IsFree, DoesNothing, IsServed};
+ghost use Rattle.machine_steps.specs.Serving.{MayBeAnswered, MayReply};
 
 use memory_module::Module;
 use messages::{Reply, Request};
@@ -18,7 +19,8 @@ pub(crate) fn execute(memory: &mut Module, network: &mut IndexedNetwork, m: u8) 
     requires place { HasItsWord network.old m memory.old }
     requires leader { MayReply network.old m }
     ensures executed { IsFree network.old m → IsServed m network.old memory.old result network.new memory.new }
-    ensures full { (IsFree network.old m → ⊥) → DoesNothing (net_of network.old) memory.old result (net_of network.new) memory.new }
+    ensures full { (IsFree network.old m → ⊥) →
+        DoesNothing (net_of network.old) memory.old result (net_of network.new) memory.new }
     ensures sizes { sizes_of network.new ≡ sizes_of network.old }
 {
     if !network.module_is_free(m) {
@@ -40,7 +42,8 @@ fn serve(memory: &mut Module, network: &mut IndexedNetwork, m: u8, request: Requ
     requires place { request.word / 2 ^ network.old.k < length memory.old }
     requires leader { MayBeAnswered network.old m request.leader }
     requires free { IsFree network.old m }
-    ensures executed { IsExecuted (sizes_of network.old) m (net_of network.old) memory.old (Some request) result (net_of network.new) memory.new }
+    ensures executed { IsExecuted (sizes_of network.old) m (net_of network.old) memory.old (Some request) result
+        (net_of network.new) memory.new }
     ensures sizes { sizes_of network.new ≡ sizes_of network.old }
 {
     let k = network.stages();

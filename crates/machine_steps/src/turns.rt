@@ -25,7 +25,8 @@ pub(crate) fn begin(port: &mut Port, network: &mut IndexedNetwork, code: &Code, 
     requires free { (net_of network.old).requests 0 p ≡ [] }
     requires unnamed { Names (net_of network.old) p → ⊥ }
     ensures port { port.new ≡ (begun port.old code.now (turn port.old code.now)).1 }
-    ensures begun { IsBegun p port.old code.now (turn port.old code.now) (net_of network.old) result (net_of network.new) }
+    ensures begun { IsBegun p port.old code.now (turn port.old code.now) (net_of network.old) result
+        (net_of network.new) }
     ensures sizes { sizes_of network.new ≡ sizes_of network.old }
 {
     match port.begin(code) {
@@ -49,7 +50,8 @@ pub(crate) fn begin(port: &mut Port, network: &mut IndexedNetwork, code: &Code, 
 pub(crate) fn finish(port: &mut Port, network: &mut IndexedNetwork, code: &Code, p: u8) -> Outcome
     requires reference { IsReference (turn port.old code.now) }
     requires there { p < 2 ^ network.old.k }
-    ensures finished { IsFinishedBy p (turn port.old code.now) port.old (net_of network.old) (reply_at network.old p) result port.new (net_of network.new) }
+    ensures finished { IsFinishedBy p (turn port.old code.now) port.old (net_of network.old)
+        (reply_at network.old p) result port.new (net_of network.new) }
     ensures sizes { sizes_of network.new ≡ sizes_of network.old }
 {
     let Some(reply) = network.port_reply(p) else {
@@ -70,7 +72,8 @@ fn retire(
     requires reference { IsReference (turn port.old code.now) }
     requires there { p < 2 ^ network.old.k }
     requires first { reply_at network.old p ≡ Some reply }
-    ensures finished { IsFinished p (turn port.old code.now) port.old (net_of network.old) reply result port.new (net_of network.new) }
+    ensures finished { IsFinished p (turn port.old code.now) port.old (net_of network.old) reply result port.new
+        (net_of network.new) }
     ensures sizes { sizes_of network.new ≡ sizes_of network.old }
 {
     network.port_take(p);

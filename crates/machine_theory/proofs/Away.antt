@@ -25,37 +25,39 @@ use Rattle.serialization.specs.Machine.{Machine, all_shut, begin, poked, retire_
 use Rattle.steps.specs.declared.step.Step.{Step}
 use Rattle.steps.specs.declared.step.Step.TheVariants as step
 use Rattle.machine_theory.specs.Theory.{Result, stalled, went_up, went_down, serve_from}
-use Rattle.machine_theory.specs.Processors.{Told, sizes_of, setting_of, alone_by, retired_by, changed, may_poke, next, poked_processors, port_at, program}
+use Rattle.machine_theory.specs.Processors.{ObservedCore, sizes_of, setting_of, alone_by, retired_by, changed, may_poke}
+use Rattle.machine_theory.specs.Processors.{next, poked_processors, port_at, program}
 use Rattle.steps.specs.declared.step.Outcome.{Outcome}
 use Rattle.machine_theory.specs.Steps.{after, machine_of_parts, IsStepOf}
 
 -- the core of processor p is away
-abbrev pub away_in : Machine Told → (p : ℕ) → Bool
+abbrev pub away_in : Machine ObservedCore → (p : ℕ) → Bool
 away_in M p = is_away (M.core p).state
 
 -- The cores stand where they stood.
-abbrev Stay : (old new : ℕ → Told) → Type 0
+abbrev Stay : (old new : ℕ → ObservedCore) → Type 0
 Stay old new = (p : ℕ) → is_away (new p).state ≡ is_away (old p).state
 
 -- so they do where one goes on that stays
-put_stay : (core : ℕ → Told) (q : ℕ) (g : Told) → is_away g.state ≡ is_away (core q).state → Stay core (put core q g)
+put_stay : (core : ℕ → ObservedCore) (q : ℕ) (g : ObservedCore) → is_away g.state ≡ is_away (core q).state → Stay core (put core q g)
 put_stay core q g same p = at (cases_eq p q)
   where
     at : (p ≡ q) ⊎ (p ≡ q → ⊥) → is_away (put core q g p).state ≡ is_away (core p).state
     at (inl e) =
-        ap (λ i. is_away (put core q g i).state) e ∙ ap (λ (h : Told). is_away h.state) (put_same core q g) ∙ same ∙ ap (λ i. is_away (core i).state) (sym e)
-    at (inr other) = ap (λ (h : Told). is_away h.state) (put_other core q g p other)
+        ap (λ i. is_away (put core q g i).state) e ∙ ap (λ (h : ObservedCore). is_away h.state) (put_same core q g) ∙ same
+        ∙ ap (λ i. is_away (core i).state) (sym e)
+    at (inr other) = ap (λ (h : ObservedCore). is_away h.state) (put_other core q g p other)
 
-module _ (c : Config) (code : List ℕ) (M : Machine Told) where
-  abbrev StayBy : Result Told → Type 0
+module _ (c : Config) (code : List ℕ) (M : Machine ObservedCore) where
+  abbrev StayBy : Result ObservedCore → Type 0
   StayBy r = Stay M.core r.machine.core
 
-  alone_stays : (p : ℕ) (g : Told) (t : Turn) → next c code p g.state ≡ t → is_away (alone_by g t).state ≡ is_away g.state
+  alone_stays : (p : ℕ) (g : ObservedCore) (t : Turn) → next c code p g.state ≡ t → is_away (alone_by g t).state ≡ is_away g.state
   alone_stays p g (Retires later retired) e = retires_stays (setting_of c p) code g.state later retired e
   alone_stays p g (Reaches word change later) e = refl
   alone_stays p g (Stops cause) e = refl
 
-  retired_stays : (p : ℕ) (g : Told) (found : ℕ) (t : Turn) → next c code p g.state ≡ t →
+  retired_stays : (p : ℕ) (g : ObservedCore) (found : ℕ) (t : Turn) → next c code p g.state ≡ t →
       is_away (retired_by g (after_reply t found)).state ≡ is_away g.state
   retired_stays p g found (Retires later retired) e = refl
   retired_stays p g found (Reaches word change later) e = reaches_stays (setting_of c p) code g.state word change later found e
@@ -99,10 +101,11 @@ module _ (c : Config) (code : List ℕ) (M : Machine Told) where
   poke_stays (poke.Shared address value) = λ p. refl
 
   -- what is done at a place, or nothing where there is none
-  either : (b : Bool) (r : Result Told) → StayBy r → StayBy (if b then r else stalled M)
+  either : (b : Bool) (r : Result ObservedCore) → StayBy r → StayBy (if b then r else stalled M)
   either true r stays = stays
   either false r stays = λ p. refl
 
+  -- After a step each core is away if it was, and at home if it was.
   pub cores_stay : (s : Step) (p : ℕ) → away_in (after c code M s) p ≡ away_in M p
   unfolding after
   cores_stay (step.Turn p) = either (nat_lt p (wires (sizes_of c))) (turned (program c code) M p (M.is_open p)) (turn_stays p (M.is_open p))
@@ -118,4 +121,4 @@ pub ports_stay : (c : Config) (code : List ℕ) (net net' : Net) (ports ports' :
     IsStepOf c code net ports modules s o net' ports' modules' → (p : ℕ) → is_away (port_at ports' p).core.state ≡ is_away (port_at ports p).core.state
 unfolding machine_of_parts
 ports_stay c code net net' ports ports' modules modules' s o is p =
-    ap (λ (M : Machine Told). away_in M p) (is.after (λ q. [])) ∙ cores_stay c code (machine_of_parts c net ports modules (λ q. [])) s p
+    ap (λ (M : Machine ObservedCore). away_in M p) (is.after (λ q. [])) ∙ cores_stay c code (machine_of_parts c net ports modules (λ q. [])) s p

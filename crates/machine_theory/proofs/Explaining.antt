@@ -15,7 +15,7 @@ use Rattle.serialization.specs.Order.{FlatMachine, flat_of, from_machine, ran, o
 use Rattle.serialization.specs.Serialization.{Begins, FindsAt, EachServedOnce}
 use Rattle.machine_theory.specs.Theory.{Step}
 use Rattle.machine_theory.specs.Order.{Passed}
-use Rattle.machine_theory.specs.Processors.{Told, no_processor, sizes_of, program}
+use Rattle.machine_theory.specs.Processors.{ObservedCore, no_processor, sizes_of, program}
 use Rattle.machine_theory.proofs.Reading.{found_within}
 use Rattle.machine_theory.specs.FlatSizes.{IsSoundFlat}
 use Rattle.machine_theory.specs.Flatness.{read_flat, AreLawful, IsGood}
@@ -49,16 +49,16 @@ module _ (c : Config) (code : List ℕ) where
           past_all (x ∷ xs) zero l = absurd (omega arith)
           past_all (x ∷ xs) (suc i) l = past_all xs i (omega arith)
 
-  begins : (M : Machine Told) (F : FlatState) → Opens c code M F → Begins (sizes_of c) (program c code) IsGood M
+  begins : (M : Machine ObservedCore) (F : FlatState) → Opens c code M F → Begins (sizes_of c) (program c code) IsGood M
   begins M F o = record {
     role = o.role;
     steady = o.steady;
     idle = o.idle;
-    good_cores = λ p. subst (λ (f : FlatMachine Told). IsGood p (f.core p)) (sym o.reads) (good_flat F o.sound p);
-    words = λ a. subst (λ (f : FlatMachine Told). f.mem a < 2 ^ 32) (sym o.reads) (o.sound.ranges.shared a);
+    good_cores = λ p. subst (λ (f : FlatMachine ObservedCore). IsGood p (f.core p)) (sym o.reads) (good_flat F o.sound p);
+    words = λ a. subst (λ (f : FlatMachine ObservedCore). f.mem a < 2 ^ 32) (sym o.reads) (o.sound.ranges.shared a);
   }
 
-  module _ (M : Machine Told) (F : FlatState) (o : Opens c code M F) where
+  module _ (M : Machine ObservedCore) (F : FlatState) (o : Opens c code M F) where
     agrees : (es : List Entry) → AreLawful c es → flat_run (program c code) (flat_of M) es ≡ flat_after c code F es
     agrees es lawful =
         ap (λ f. flat_run (program c code) f es) o.reads ∙ run_agrees c code (means_change c code o.few (bytes_of F o.sound)) es F (λ p. []) lawful o.sound
@@ -67,7 +67,8 @@ module _ (c : Config) (code : List ℕ) where
     before_lawful [] ys a = tt
     before_lawful (x ∷ xs) ys a = (a.0, before_lawful xs ys a.1)
 
-    finds : (order : List Entry) → AreLawful c order → (core : ℕ → Told) (p place found : ℕ) → FindsAt (program c code) (flat_of M) order core p place found →
+    finds : (order : List Entry) → AreLawful c order → (core : ℕ → ObservedCore) (p place found : ℕ) →
+        FindsAt (program c code) (flat_of M) order core p place found →
         Finds c code F order p place found (core p)
     finds order lawful core p place found f =
         let a = before_lawful f.before (entry.Processor p ∷ f.later) (subst (AreLawful c) f.is lawful) in
@@ -76,22 +77,27 @@ module _ (c : Config) (code : List ℕ) where
           later = f.later;
           is = f.is;
           at_place = f.at_place;
-          word = f.found ∙ ap (λ (g : FlatMachine Told). g.mem ((program c code).word_of p (core p))) (agrees f.before a);
+          word = f.found ∙ ap (λ (g : FlatMachine ObservedCore). g.mem ((program c code).word_of p (core p))) (agrees f.before a);
         }
 
     explained : (steps : List Step) → IsExplained c code F (ran (sizes_of c) (program c code) M steps)
     explained steps =
-        let h : Passed Told = ran (sizes_of c) (program c code) M steps in
+        let h : Passed ObservedCore = ran (sizes_of c) (program c code) M steps in
         let lawful : AreLawful c h.order = order_lawful c code steps (from_machine M) tt in
         let m = at_the_moment (sizes_of c) (program c code) IsGood (flat_of M) h
         (follows (sizes_of c) (program c code) IsGood (keeps c code o.few (bytes_of F o.sound)) M (begins M F o) steps) in
         let same = agrees h.order lawful in
         record {
-          words = λ i. m.words i ∙ ap (λ (g : FlatMachine Told). g.mem i) same;
+          words = λ i. m.words i ∙ ap (λ (g : FlatMachine ObservedCore). g.mem i) same;
           shut = m.shut;
-          unserved = λ p none. sym (m.unserved p none) ∙ ap (λ (g : FlatMachine Told). g.core p) same;
+          unserved = λ p none. sym (m.unserved p none) ∙ ap (λ (g : FlatMachine ObservedCore). g.core p) same;
           served = λ p place e. let s =
-              m.served p place e in (s.0, finds h.order lawful h.machine.core p place s.0 s.1, sym (ap (λ (g : FlatMachine Told). g.core p) same) ∙ s.2);
+              m.served p place e in (
+                s.0,
+                finds h.order lawful h.machine.core p place s.0 s.1,
+                sym (ap (λ (g : FlatMachine ObservedCore). g.core p) same)
+                    ∙ s.2,
+              );
           retires = λ p found e. let r = m.retires p found e in (r.0, r.1, finds h.order lawful h.machine.core p r.0 found r.2);
         }
 
@@ -110,6 +116,7 @@ opens_on c code F few sound = record {
   reads = refl;
 }
 
+-- Every run from an idle machine is explained by its serial order, in which each reference is served once.
 pub runs_are_explained : (c : Config) (code : List ℕ) → RunsAreExplained c code
 runs_are_explained c code = record {
   opens = λ F few sound. opens_on c code F few sound;

@@ -23,15 +23,17 @@ use Rattle.serialization.specs.messages.Places.{put}
 use Rattle.serialization.specs.messages.Queues.{applied}
 use Rattle.serialization.specs.Order as theory
 use Rattle.serialization.specs.Order.{FlatMachine, flat_turn}
-use Rattle.machine_theory.specs.Processors.{Told, no_processor, setting_of, kind_of, kind_of_turn, alone_by, word_by, retired_by, is_lawful_poke, next, program}
+use Rattle.machine_theory.specs.Processors.{ObservedCore, no_processor, setting_of, kind_of, kind_of_turn, alone_by}
+use Rattle.machine_theory.specs.Processors.{word_by, retired_by, is_lawful_poke, next, program}
 use Rattle.machine_theory.specs.FlatSizes.{HasSize, IsSoundFlat}
 use Rattle.machine_theory.proofs.ServeSteps.{applied_word}
 use Rattle.machine_theory.proofs.FlatPokes.{lawful_same, lawful_writes, size_written, written_agrees}
-use Rattle.machine_theory.proofs.Reading.{read_found, read_none, read_set, told_set}
+use Rattle.machine_theory.proofs.Reading.{read_found, read_none, read_set, observed_set}
 use Rattle.machine_theory.specs.Flatness.{read_flat, with_events, IsLawful, AreLawful}
 
 -- What a reference's function does to a word is what the turn makes of it, and the word is there.
 pub record MeansChange (c : Config) (code : List ℕ) (j : ℕ) (p : Processor) : Type 0 where
+  -- the word that the turn reaches is a shared word, and the function does to each word what the turn does
   pub change : (word : ℕ) (change : ℕ → ℕ) (after : ℕ → Processor × retirement.Retired) → next c code j p ≡ Reaches word change after →
       (word < c.shared_words) × ((x : ℕ) → x < 2 ^ 32 → apply (reference_phi (setting_of c j) code p) x ≡ change x)
 
@@ -45,13 +47,13 @@ module _ (c : Config) (code : List ℕ) where
       ≡ read_flat (with_taken F j (taken p F.shared t)) (put shown j (shown j ++ (taken p F.shared t).2 ∷ []))
   turn_agrees F shown j p within size means words (Retires after retired) e =
       ap (λ t. record { mem = slice_index F.shared; core = put (read_flat F shown).core j (alone_by (record { state = p; events = shown j }) t) }) e
-      ∙ ap (λ f. record { mem = slice_index F.shared; core = f }) (sym (told_set F.processors j after shown (shown j ++ event.Retired retired ∷ []) within))
+      ∙ ap (λ f. record { mem = slice_index F.shared; core = f }) (sym (observed_set F.processors j after shown (shown j ++ event.Retired retired ∷ []) within))
   turn_agrees F shown j p within size means words (Stops cause) e =
       ap (λ t. record { mem = slice_index F.shared; core = put (read_flat F shown).core j (alone_by (record { state = p; events = shown j }) t) }) e
       ∙ ap (λ f. record { mem = slice_index F.shared; core = f })
-      (sym (told_set F.processors j (record p { status = status_of cause }) shown (shown j ++ event.Stopped cause ∷ []) within))
+      (sym (observed_set F.processors j (record p { status = status_of cause }) shown (shown j ++ event.Stopped cause ∷ []) within))
   turn_agrees F shown j p within size means words (Reaches word change after) e =
-      let g : Told = record { state = p; events = shown j } in
+      let g : ObservedCore = record { state = p; events = shown j } in
       let old : ℕ = slice_index F.shared word in
       let m = means.change word change after e in
       let there : word < length F.shared = subst (λ n. word < n) (sym size.shared) m.0 in
@@ -63,7 +65,7 @@ module _ (c : Config) (code : List ℕ) where
       }) e
       ∙ ap₂ (λ f h. record { mem = f; core = h })
       (ap (put (slice_index F.shared) word) value ∙ sym (read_set F.shared word (change old) 0 there))
-      (sym (told_set F.processors j (after old).0 shown (shown j ++ event.Retired (after old).1 ∷ []) within))
+      (sym (observed_set F.processors j (after old).0 shown (shown j ++ event.Retired (after old).1 ∷ []) within))
 
   step_processor : (F : FlatState) (shown : ℕ → List Event) (j : ℕ) → HasSize c code F →
       ((p : Processor) → slice_get F.processors j ≡ Some p → MeansChange c code j p) → ((w : ℕ) → slice_index F.shared w < 2 ^ 32) →
@@ -72,7 +74,7 @@ module _ (c : Config) (code : List ℕ) where
   unfolding flat_step flat_event
   step_processor F shown j size means words = at (slice_get F.processors j) refl
     where
-      f : FlatMachine Told
+      f : FlatMachine ObservedCore
       f = read_flat F shown
 
       runs : (p : Processor) → slice_get F.processors j ≡ Some p → (b : Bool) → is_running p.status ≡ b →
@@ -103,7 +105,7 @@ module _ (c : Config) (code : List ℕ) where
       theory.flat_step (program c code) (read_flat F shown) (entry.Poke q) ≡ read_flat (flat_step F (entry.Poke q)) shown
   unfolding flat_step
   step_poke F shown q size h =
-      ap (λ (x : (ℕ → ℕ) × (ℕ → Told)). record { mem = x.0; core = x.1 }) (written_agrees c code F shown q size h)
+      ap (λ (x : (ℕ → ℕ) × (ℕ → ObservedCore)). record { mem = x.0; core = x.1 }) (written_agrees c code F shown q size h)
       ∙ ap (λ b. read_flat (if b then written F q else F) shown) (sym (lawful_same c code F q size h))
 
   -- ---- sizes
@@ -167,6 +169,7 @@ module _ (c : Config) (code : List ℕ) where
         ∙ ap (read_flat (flat_run (flat_step F e) es))
         (sym (with_events_append shown (with_processor_number e (flat_event F e)) (flat_events (flat_step F e) es)))
 
+    -- A sound flat machine is sound after each list of lawful entries.
     pub run_sound : (es : List Entry) (F : FlatState) → AreLawful c es → IsSoundFlat c code F → IsSoundFlat c code (flat_run F es)
     run_sound [] F lawful h = h
     run_sound (e ∷ es) F lawful h = run_sound es (flat_step F e) lawful.1 (sound_kept F e lawful.0 h)

@@ -13,20 +13,20 @@ use Rattle.machine_ports.specs.flat_machine.Memory.{in_local, in_shared}
 use Rattle.machine_ports.specs.flat_machine.Laws.{WritesWords}
 use Rattle.machine_ports.specs.flat_machine.Words.{with_part}
 use Rattle.serialization.specs.messages.Places.{put}
-use Rattle.machine_theory.specs.Processors.{Told, no_processor, are_home, changed, may_poke, poked_processors, poked_words, is_lawful_poke}
+use Rattle.machine_theory.specs.Processors.{ObservedCore, no_processor, are_home, changed, may_poke, poked_processors, poked_words, is_lawful_poke}
 use Rattle.machine_theory.specs.FlatSizes.{HasSize}
-use Rattle.machine_theory.proofs.Reading.{read_set, found_within, told_changed}
+use Rattle.machine_theory.proofs.Reading.{read_set, found_within, observed_changed}
 
 -- the processors of a flat machine, which have shown these events
-abbrev pub cores_of : FlatState → (shown : ℕ → List Event) → ℕ → Told
+abbrev pub cores_of : FlatState → (shown : ℕ → List Event) → ℕ → ObservedCore
 cores_of F shown = λ p. record { state = slice_index_or F.processors p no_processor; events = shown p }
 
 -- its words and its processors
-abbrev pub parts_of : FlatState → (shown : ℕ → List Event) → (ℕ → ℕ) × (ℕ → Told)
+abbrev pub parts_of : FlatState → (shown : ℕ → List Event) → (ℕ → ℕ) × (ℕ → ObservedCore)
 parts_of F shown = (slice_index F.shared, cores_of F shown)
 
 -- what may be poked is lawful
-pub may_is_lawful : (c : Config) (core : ℕ → Told) (q : Poke) → may_poke c core q ≡ true → is_lawful_poke c q ≡ true
+pub may_is_lawful : (c : Config) (core : ℕ → ObservedCore) (q : Poke) → may_poke c core q ≡ true → is_lawful_poke c q ≡ true
 may_is_lawful c core q h = (and_parts (are_home (2 ^ c.k) (λ p. (core p).state)) (is_lawful_poke c q) h).1
 
 module _ (c : Config) (code : List ℕ) where
@@ -34,12 +34,14 @@ module _ (c : Config) (code : List ℕ) where
 
   -- a change of one processor
   processor_changed : (F : FlatState) (shown : ℕ → List Event) (j : ℕ) (change : Processor → Processor) → j < length F.processors →
-      (slice_index F.shared, put {X = Told} (cores_of F shown) j (changed change (cores_of F shown j)))
+      (slice_index F.shared, put {X = ObservedCore} (cores_of F shown) j (changed change (cores_of F shown j)))
       ≡ parts_of (with_processor F j change (slice_get F.processors j)) shown
   processor_changed F shown j change within =
-      ap (λ (f : ℕ → Told). (slice_index F.shared, f)) (sym (told_changed F.processors j (change (slice_index_or F.processors j no_processor)) shown within))
+      ap (λ (f : ℕ → ObservedCore). (slice_index F.shared, f))
+      (sym (observed_changed F.processors j (change (slice_index_or F.processors j no_processor)) shown within))
       ∙ ap (λ o. parts_of (with_processor F j change o) shown) (sym (found_within F.processors j no_processor within))
 
+  -- A poke that is lawful for the machine's size is lawful for a flat machine of that size.
   pub lawful_same : (F : FlatState) (q : Poke) → HasSize c code F → is_lawful_poke c q ≡ true → is_lawful F q ≡ true
   lawful_same F (poke.Register j register value) size h = ap (λ n. nat_lt j n && is_lawful_register register value) size.processors
       ∙ (and_parts (nat_lt value (2 ^ 32)) (nat_lt j (2 ^ c.k) && is_lawful_register register value) h).1
@@ -55,6 +57,7 @@ module _ (c : Config) (code : List ℕ) where
   lawful_writes (poke.Local j address value) h = ltb-true value 256 (and_parts (nat_lt value 256) (nat_lt j (2 ^ c.k) && in_local address) h).0
   lawful_writes (poke.Shared address value) h = ltb-true value 256 (and_parts (nat_lt value 256) (in_shared c.shared_words address) h).0
 
+  -- A lawful poke does to the words and cores what it does to a flat machine of that size.
   pub written_agrees : (F : FlatState) (shown : ℕ → List Event) (q : Poke) → HasSize c code F → is_lawful_poke c q ≡ true →
       (poked_words q (slice_index F.shared), poked_processors q (cores_of F shown)) ≡ parts_of (written F q) shown
   written_agrees F shown (poke.Register j register value) size h =
@@ -81,6 +84,7 @@ module _ (c : Config) (code : List ℕ) where
   size_changed F j change (Some p) size =
       record { processors = length-set F.processors j (change p) ∙ size.processors; shared = size.shared; code_is = size.code_is }
 
+  -- A flat machine has the same size after a write.
   pub size_written : (F : FlatState) (q : Poke) → HasSize c code F → HasSize c code (written F q)
   size_written F (poke.Register j register value) size = size_changed F j (with_poked_register register value) (slice_get F.processors j) size
   size_written F (poke.Local j address value) size = size_changed F j (with_poked_byte address value) (slice_get F.processors j) size

@@ -19,7 +19,7 @@ use Rattle.machine_ports.proofs.Lemmas.{reference_means}
 use Rattle.serialization.specs.messages.Places.{put}
 use Rattle.serialization.proofs.Lemmas.messages.{put_other, put_same}
 use Rattle.serialization.specs.Program.{Keeps, Alone, Refers}
-use Rattle.machine_theory.specs.Processors.{Told, setting_of, kind_of, alone_by, retired_by, changed}
+use Rattle.machine_theory.specs.Processors.{ObservedCore, setting_of, kind_of, alone_by, retired_by, changed}
 use Rattle.machine_theory.specs.Processors.{poked_processors, poked_words, is_lawful_poke, next, program}
 use Rattle.machine_theory.proofs.FlatPokes.{may_is_lawful}
 use Rattle.machine_theory.proofs.TurnKinds.{reaches_of, runs_by}
@@ -30,27 +30,28 @@ module _ (c : Config) (code : List ℕ) (few : c.k ≤ 6) (bytes : AreBelow 256 
   count_small : 2 ^ c.k < 2 ^ 32
   count_small = let most : 2 ^ c.k ≤ 2 ^ 6 = pow-le-pow_right {n = 2} (omega arith) few in omega (arith, most)
 
-  number_small : (p : ℕ) (g : Told) → IsGood p g → is_running g.state.status ≡ true → p < 2 ^ 8
+  number_small : (p : ℕ) (g : ObservedCore) → IsGood p g → is_running g.state.status ≡ true → p < 2 ^ 8
   number_small p g h runs = by_reason h.1
     where
       by_reason : (p < 2 ^ 8) ⊎ (is_running g.state.status ≡ false) → p < 2 ^ 8
       by_reason (inl small) = small
       by_reason (inr rests) = let c : true ≡ false = sym runs ∙ rests in absurd (cc)
 
-  turn_leaves : (p : ℕ) (g : Told) → IsGood p g → is_running g.state.status ≡ true → LeavesWords (next c code p g.state)
+  turn_leaves : (p : ℕ) (g : ObservedCore) → IsGood p g → is_running g.state.status ≡ true → LeavesWords (next c code p g.state)
   turn_leaves p g h runs = let small = number_small p g h runs in turn_words (setting_of c p) code g.state (omega arith) count_small bytes h.0
 
+  -- If a processor has words, its reference's function does to a word what its turn does.
   pub means_change : (p : ℕ) (state : Processor) → HasWords state → MeansChange c code p state
   means_change p state h = record { change = λ word change after e. let m = reference_means (setting_of c p) code state word change after h e in (m.2, m.1) }
 
-  phi_kept : (p : ℕ) (g : Told) → IsGood p g → kind_of (is_running g.state.status) (next c code p g.state) ≡ Refers →
+  phi_kept : (p : ℕ) (g : ObservedCore) → IsGood p g → kind_of (is_running g.state.status) (next c code p g.state) ≡ Refers →
       IsInRange (reference_phi (setting_of c p) code g.state)
   phi_kept p g h e =
       let runs = runs_by (is_running g.state.status) (next c code p g.state) Refers e (λ no. cc) in
       let r = reaches_of (next c code p g.state) runs.1 in
       (reference_means (setting_of c p) code g.state r.word r.change r.after h.0 r.is).0
 
-  alone_kept : (p : ℕ) (g : Told) → IsGood p g → kind_of (is_running g.state.status) (next c code p g.state) ≡ Alone →
+  alone_kept : (p : ℕ) (g : ObservedCore) → IsGood p g → kind_of (is_running g.state.status) (next c code p g.state) ≡ Alone →
       IsGood p (alone_by g (next c code p g.state))
   alone_kept p g h e =
       let runs = runs_by (is_running g.state.status) (next c code p g.state) Alone e (λ no. cc) in
@@ -65,7 +66,7 @@ module _ (c : Config) (code : List ℕ) (few : c.k ≤ 6) (bytes : AreBelow 256 
       )
       by_turn (Reaches word change after) leaves = h
 
-  retire_kept : (p : ℕ) (g : Told) (v : ℕ) → IsGood p g → kind_of (is_running g.state.status) (next c code p g.state) ≡ Refers → v < 2 ^ 32 →
+  retire_kept : (p : ℕ) (g : ObservedCore) (v : ℕ) → IsGood p g → kind_of (is_running g.state.status) (next c code p g.state) ≡ Refers → v < 2 ^ 32 →
       IsGood p (retired_by g (after_reply (next c code p g.state) v))
   retire_kept p g v h e small =
       let runs = runs_by (is_running g.state.status) (next c code p g.state) Refers e (λ no. cc) in
@@ -79,7 +80,7 @@ module _ (c : Config) (code : List ℕ) (few : c.k ≤ 6) (bytes : AreBelow 256 
 
   -- ---- pokes
 
-  changed_kept : (j : ℕ) (change : Processor → Processor) (core : ℕ → Told) → ((s : Processor) → HasWords s → HasWords (change s)) →
+  changed_kept : (j : ℕ) (change : Processor → Processor) (core : ℕ → ObservedCore) → ((s : Processor) → HasWords s → HasWords (change s)) →
       ((s : Processor) → is_running (change s).status ≡ is_running s.status) →
       ((p : ℕ) → IsGood p (core p)) → (p : ℕ) → IsGood p (put core j (changed change (core j)) p)
   changed_kept j change core words status h p = at (cases_eq p j)
@@ -92,10 +93,10 @@ module _ (c : Config) (code : List ℕ) (few : c.k ≤ 6) (bytes : AreBelow 256 
       good = (words (core p).state (h p).0, still (h p).1)
 
       at : (p ≡ j) ⊎ (p ≡ j → ⊥) → IsGood p (put core j (changed change (core j)) p)
-      at (inl same) = subst (λ (g : Told). IsGood p g)
+      at (inl same) = subst (λ (g : ObservedCore). IsGood p g)
           (ap (λ i. changed change (core i)) same ∙ sym (put_same core j (changed change (core j))) ∙ ap (put core j (changed change (core j))) (sym same))
           good
-      at (inr other) = subst (λ (g : Told). IsGood p g) (sym (put_other core j (changed change (core j)) p other)) (h p)
+      at (inr other) = subst (λ (g : ObservedCore). IsGood p g) (sym (put_other core j (changed change (core j)) p other)) (h p)
 
   register_status : (register value : ℕ) (s : Processor) → is_running (with_poked_register register value s).status ≡ is_running s.status
   register_status register value s = at (eqb register 32)
@@ -105,7 +106,8 @@ module _ (c : Config) (code : List ℕ) (few : c.k ≤ 6) (bytes : AreBelow 256 
       at true = refl
       at false = refl
 
-  poked_core_kept : (q : Poke) (core : ℕ → Told) → is_lawful_poke c q ≡ true → ((p : ℕ) → IsGood p (core p)) → (p : ℕ) → IsGood p (poked_processors q core p)
+  poked_core_kept : (q : Poke) (core : ℕ → ObservedCore) → is_lawful_poke c q ≡ true → ((p : ℕ) → IsGood p (core p)) → (p : ℕ) →
+      IsGood p (poked_processors q core p)
   poked_core_kept (poke.Register j register value) core lawful h =
       let small : value < 2 ^ 32 =
       ltb-true value (2 ^ 32) (and_parts (nat_lt value (2 ^ 32)) (nat_lt j (2 ^ c.k) && is_lawful_register register value) lawful).0 in
@@ -125,6 +127,7 @@ module _ (c : Config) (code : List ℕ) (few : c.k ≤ 6) (bytes : AreBelow 256 
           (with_part_small 1 (address % 4) (mem ((address - 2 ^ 31) / 4)) value (omega arith) (h ((address - 2 ^ 31) / 4)))
       at (inr other) = subst (λ v. v < 2 ^ 32) (sym (put_other mem ((address - 2 ^ 31) / 4) _ a other)) (h a)
 
+  -- The program of the machine keeps good cores good, and words below 2^32.
   pub keeps : Keeps (program c code) IsGood
   keeps = record {
     phi = phi_kept;

@@ -21,7 +21,7 @@ use Rattle.serialization.specs.Machine.{retire_from, begin, turned, all_shut, po
 use Rattle.serialization.specs.Order.{pass, passes}
 use Rattle.machine_theory.specs.Theory.{Result, Step, Outcome, stalled, went_up, went_down, serve_from}
 use Rattle.machine_theory.specs.Order.{Passed, segment}
-use Rattle.machine_theory.specs.Processors.{Told, sizes_of, program, is_lawful_poke, may_poke}
+use Rattle.machine_theory.specs.Processors.{ObservedCore, sizes_of, program, is_lawful_poke, may_poke}
 use Rattle.machine_theory.proofs.FlatPokes.{may_is_lawful}
 use Rattle.machine_theory.specs.Flatness.{AreLawful}
 
@@ -29,51 +29,51 @@ module _ (c : Config) (code : List ℕ) where
   Lawful : Outcome → Type 0
   Lawful o = (q : pokes.Poke) → o ≡ Poked q → is_lawful_poke c q ≡ true
 
-  up_lawful : (M : Machine Told) (r : UpMove × Net) → Lawful (went_up M r).outcome
+  up_lawful : (M : Machine ObservedCore) (r : UpMove × Net) → Lawful (went_up M r).outcome
   unfolding Lawful
   up_lawful M (up.Stalled, net) q e = absurd (cc)
   up_lawful M (up.Moved, net) q e = absurd (cc)
   up_lawful M (up.Combined a b, net) q e = absurd (cc)
 
-  down_lawful : (M : Machine Told) (r : DownMove × Net) → Lawful (went_down M r).outcome
+  down_lawful : (M : Machine ObservedCore) (r : DownMove × Net) → Lawful (went_down M r).outcome
   unfolding Lawful
   down_lawful M (down.Stalled, net) q e = absurd (cc)
   down_lawful M (down.Moved, net) q e = absurd (cc)
   down_lawful M (down.Answered a, net) q e = absurd (cc)
 
-  serve_lawful : (M : Machine Told) (m : ℕ) (xs : List Request) (ys : List Reply) → Lawful (serve_from (sizes_of c) M m xs ys).outcome
+  serve_lawful : (M : Machine ObservedCore) (m : ℕ) (xs : List Request) (ys : List Reply) → Lawful (serve_from (sizes_of c) M m xs ys).outcome
   unfolding Lawful
   serve_lawful M m [] ys q e = absurd (cc)
   serve_lawful M m (x ∷ xs) [] q e = absurd (cc)
   serve_lawful M m (x ∷ xs) (y ∷ ys) q e = absurd (cc)
 
-  retire_lawful : (M : Machine Told) (p : ℕ) (xs : List Reply) → Lawful (retire_from (program c code) M p xs).outcome
+  retire_lawful : (M : Machine ObservedCore) (p : ℕ) (xs : List Reply) → Lawful (retire_from (program c code) M p xs).outcome
   unfolding Lawful
   retire_lawful M p [] q e = absurd (cc)
   retire_lawful M p (y ∷ ys) q e = absurd (cc)
 
-  begin_lawful : (M : Machine Told) (p : ℕ) (k : Kind) → Lawful (begin (program c code) M p k).outcome
+  begin_lawful : (M : Machine ObservedCore) (p : ℕ) (k : Kind) → Lawful (begin (program c code) M p k).outcome
   unfolding Lawful
   begin_lawful M p Rests q e = absurd (cc)
   begin_lawful M p Alone q e = absurd (cc)
   begin_lawful M p Refers q e = absurd (cc)
 
-  turn_lawful : (M : Machine Told) (p : ℕ) (o : Bool) → Lawful (turned (program c code) M p o).outcome
+  turn_lawful : (M : Machine ObservedCore) (p : ℕ) (o : Bool) → Lawful (turned (program c code) M p o).outcome
   turn_lawful M p true = retire_lawful M p (M.net.replies 0 p)
   turn_lawful M p false = begin_lawful M p ((program c code).kind p (M.core p))
 
-  stalled_lawful : (M : Machine Told) → Lawful (stalled M).outcome
+  stalled_lawful : (M : Machine ObservedCore) → Lawful (stalled M).outcome
   unfolding Lawful
   stalled_lawful M q e = absurd (cc)
 
-  poke_lawful : (M : Machine Told) (r : pokes.Poke) (b : Bool) → (all_shut (wires (sizes_of c)) M.is_open && may_poke c M.core r) ≡ b →
+  poke_lawful : (M : Machine ObservedCore) (r : pokes.Poke) (b : Bool) → (all_shut (wires (sizes_of c)) M.is_open && may_poke c M.core r) ≡ b →
       Lawful (if b then poked (program c code) M r else stalled M).outcome
   unfolding Lawful
   poke_lawful M r true e q f = let same : r ≡ q =
       cc in ap (is_lawful_poke c) (sym same) ∙ may_is_lawful c M.core r (and_parts (all_shut (wires (sizes_of c)) M.is_open) (may_poke c M.core r) e).1
   poke_lawful M r false e q f = absurd (cc)
 
-  step_lawful : (M : Machine Told) (st : Step) → Lawful (step (sizes_of c) (program c code) M st).outcome
+  step_lawful : (M : Machine ObservedCore) (st : Step) → Lawful (step (sizes_of c) (program c code) M st).outcome
   step_lawful M (Turn p) = at (nat_lt p (wires (sizes_of c)))
     where
       at : (b : Bool) → Lawful (if b then turned (program c code) M p (M.is_open p) else stalled M).outcome
@@ -116,7 +116,8 @@ module _ (c : Config) (code : List ℕ) where
   segment_lawful group (Poked q) h = (h q refl, tt)
   segment_lawful group Stalled h = tt
 
-  pub order_lawful : (steps : List Step) (h : Passed Told) → AreLawful c h.order → AreLawful c (passes (sizes_of c) (program c code) steps h).order
+  -- If all pokes of an order are lawful, so are those of the order after any steps.
+  pub order_lawful : (steps : List Step) (h : Passed ObservedCore) → AreLawful c h.order → AreLawful c (passes (sizes_of c) (program c code) steps h).order
   unfolding passes
   order_lawful [] h a = a
   order_lawful (st ∷ steps) h a = order_lawful steps (pass (sizes_of c) (program c code) h st)

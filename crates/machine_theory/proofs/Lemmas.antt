@@ -13,11 +13,11 @@ pub use Rattle.machine_theory.proofs.PortSets.{core_changed, open_kept, put_self
 -- Cores that are put in their places: of two the last counts, and what is true of the messages stays true.
 pub use Rattle.machine_theory.proofs.Putting.{last_counts, put_swap, put_twice, stays_put, steady_with}
 -- Lists, read as functions of places.
-pub use Rattle.machine_theory.proofs.Reading.{found_within, read_found, read_none, read_set, told_set}
+pub use Rattle.machine_theory.proofs.Reading.{found_within, read_found, read_none, read_set, observed_set}
 -- Services are steps of the machine.
 pub use Rattle.machine_theory.proofs.ServeSteps.{applied_word, no_module, no_place, no_request, serves, words_set}
 -- What a steady machine has where: that its handlers find things as they need them, and that it stays steady.
-pub use Rattle.machine_theory.proofs.Standing.{at_its_module, refers, retold, slot_free, stays_steady, word_there}
+pub use Rattle.machine_theory.proofs.Standing.{at_its_module, refers, observed_again, slot_free, stays_steady, word_there}
 -- What the kind of a processor's turn says of the turn.
 pub use Rattle.machine_theory.proofs.TurnKinds.{reaches_of, runs_by}
 -- Turns are steps of the machine.

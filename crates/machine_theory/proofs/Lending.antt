@@ -7,14 +7,14 @@ use Rattle.machine_ports.specs.flat_machine.Turns.{Turn}
 use Rattle.serialization.specs.messages.Places.{put}
 use Rattle.serialization.specs.Machine.{Advanced, Answered, Combined, Issued, Machine, Moved, Poked, Retired, Served, Stalled}
 use Rattle.machine_theory.specs.Theory as theory
-use Rattle.machine_theory.specs.Processors.{Told, next, program, setting_of, sizes_of}
+use Rattle.machine_theory.specs.Processors.{ObservedCore, next, program, setting_of, sizes_of}
 use Rattle.machine_theory.specs.Steps.{named, answer_of, taken, outcome_of, after}
 use Rattle.serialization.proofs.Lemmas.messages.{put_other}
 use Rattle.steps.specs.declared.step.Step.{Step}
 use Rattle.steps.specs.declared.step.Step.TheVariants as step
 use Rattle.machine_ports.specs.hart.LocalRuns.{TakesLocal}
 use Rattle.machine_theory.specs.Loans.{with_core, with_cores, away, without, gone_on, IsOfOthers, AreOfOthers}
-use Rattle.machine_theory.specs.Loans.{AreOfAllOthers, turns_of, after_all, answers_of, told_of}
+use Rattle.machine_theory.specs.Loans.{AreOfAllOthers, turns_of, after_all, answers_of, outcomes_of}
 use Rattle.machine_theory.proofs.Putting.{last_counts}
 use Rattle.machine_theory.proofs.Noticing.{IsAnothers, TellsNotOf, not_noticed, tells_not, open_kept, core_kept}
 use Rattle.machine_theory.proofs.CatchingUp.{catch_up}
@@ -29,27 +29,28 @@ module _ (c : Config) (code : List ℕ) (p : ℕ) where
 
   -- ---- one step
 
-  -- what is told of other processors depends on their turns alone
-  told_so : (f g : ℕ → Turn) → ((q : ℕ) → q ≢ p → f q ≡ g q) → (o : theory.Outcome) → TellsNotOf p o → answer_of f o ≡ answer_of g o
-  told_so f g same (Issued q) apart = refl
-  told_so f g same (Advanced q) apart = ap (λ t. answer_of (λ j. t) (Advanced q)) (same q apart)
-  told_so f g same (Retired q value) apart = ap (λ t. answer_of (λ j. t) (Retired q value)) (same q apart)
-  told_so f g same Moved apart = refl
-  told_so f g same (Combined first second) apart = refl
-  told_so f g same (Served leader) apart = refl
-  told_so f g same (Answered to) apart = refl
-  told_so f g same (Poked poke) apart = refl
-  told_so f g same Stalled apart = refl
+  -- what is said of other processors depends on their turns alone
+  fact_so : (f g : ℕ → Turn) → ((q : ℕ) → q ≢ p → f q ≡ g q) → (o : theory.Outcome) → TellsNotOf p o → answer_of f o ≡ answer_of g o
+  fact_so f g same (Issued q) apart = refl
+  fact_so f g same (Advanced q) apart = ap (λ t. answer_of (λ j. t) (Advanced q)) (same q apart)
+  fact_so f g same (Retired q value) apart = ap (λ t. answer_of (λ j. t) (Retired q value)) (same q apart)
+  fact_so f g same Moved apart = refl
+  fact_so f g same (Combined first second) apart = refl
+  fact_so f g same (Served leader) apart = refl
+  fact_so f g same (Answered to) apart = refl
+  fact_so f g same (Poked poke) apart = refl
+  fact_so f g same Stalled apart = refl
 
-  pub step_not_noticed : (M : theory.Machine Told) (core : Told) (s : Step) → IsOfOthers p s →
+  -- A step of others answers and leaves the same whatever core p has, and leaves that core.
+  pub step_not_noticed : (M : theory.Machine ObservedCore) (core : ObservedCore) (s : Step) → IsOfOthers p s →
       (outcome_of c code (with_core M p core) s ≡ outcome_of c code M s) × (after c code (with_core M p core) s ≡ with_core (after c code M s) p core)
   unfolding outcome_of after
   step_not_noticed M core s other = (
-    ap (λ (r : theory.Result Told). answer_of (λ q. next c code q (put M.core p core q).state) r.outcome) same
-        ∙ told_so (λ q. next c code q (put M.core p core q).state) (λ q. next c code q (M.core q).state)
-        (λ q apart. ap (λ (g : Told). next c code q g.state) (put_other M.core p core q apart)) (taken c code M s).outcome
+    ap (λ (r : theory.Result ObservedCore). answer_of (λ q. next c code q (put M.core p core q).state) r.outcome) same
+        ∙ fact_so (λ q. next c code q (put M.core p core q).state) (λ q. next c code q (M.core q).state)
+        (λ q apart. ap (λ (g : ObservedCore). next c code q g.state) (put_other M.core p core q apart)) (taken c code M s).outcome
         (tells_not (sizes_of c) (program c code) M p (named s) (others_named s other)),
-    ap (λ (r : theory.Result Told). r.machine) same,
+    ap (λ (r : theory.Result ObservedCore). r.machine) same,
   )
     where
       same : taken c code (with_core M p core) s
@@ -58,11 +59,12 @@ module _ (c : Config) (code : List ℕ) (p : ℕ) where
 
   -- ---- many
 
-  step_first : (M : theory.Machine Told) (s : Step) (ss : List Step) → after_all c code M (s ∷ ss) ≡ after_all c code (after c code M s) ss
+  step_first : (M : theory.Machine ObservedCore) (s : Step) (ss : List Step) → after_all c code M (s ∷ ss) ≡ after_all c code (after c code M s) ss
   unfolding after theory.machine_after
   step_first M s ss = refl
 
-  pub run_not_noticed : (M : theory.Machine Told) (core : Told) (ss : List Step) → AreOfOthers p ss →
+  -- Steps of others answer and leave the same whatever core p has, and leave that core.
+  pub run_not_noticed : (M : theory.Machine ObservedCore) (core : ObservedCore) (ss : List Step) → AreOfOthers p ss →
       (answers_of c code (with_core M p core) ss ≡ answers_of c code M ss)
       × (after_all c code (with_core M p core) ss ≡ with_core (after_all c code M ss) p core)
   unfolding theory.machine_after
@@ -75,7 +77,8 @@ module _ (c : Config) (code : List ℕ) (p : ℕ) where
             ∙ ap (λ m. with_core m p core) (sym (step_first M s ss)),
       )
 
-  pub kept : (M : theory.Machine Told) (ss : List Step) → AreOfOthers p ss →
+  -- Steps of others leave p's core as it is, and p open or not as it was.
+  pub kept : (M : theory.Machine ObservedCore) (ss : List Step) → AreOfOthers p ss →
       ((after_all c code M ss).core p ≡ M.core p) × ((after_all c code M ss).is_open p ≡ M.is_open p)
   unfolding theory.machine_after after
   kept M [] others = (refl, refl)
@@ -86,7 +89,7 @@ module _ (c : Config) (code : List ℕ) (p : ℕ) where
         rest.1 ∙ open_kept (sizes_of c) (program c code) M p (named s) other,
       )
 
-  joined : (M : theory.Machine Told) (ss more : List Step) →
+  joined : (M : theory.Machine ObservedCore) (ss more : List Step) →
       (after_all c code M (ss ++ more) ≡ after_all c code (after_all c code M ss) more)
       × (answers_of c code M (ss ++ more) ≡ answers_of c code M ss ++ answers_of c code (after_all c code M ss) more)
   unfolding theory.machine_after after
@@ -97,26 +100,29 @@ module _ (c : Config) (code : List ℕ) (p : ℕ) where
 
   -- ---- a loan
 
-  pub loans : (M : theory.Machine Told) (ss : List Step) (taken : List retirement.Retired) (last : Processor) → p < 2 ^ c.k → M.is_open p ≡ false →
+  -- If p is not open and its next instructions are local, they may be taken while others step: put back, the core
+  -- is where those steps and then p's turns leave it, and both answer the same.
+  pub loans : (M : theory.Machine ObservedCore) (ss : List Step) (taken : List retirement.Retired) (last : Processor) → p < 2 ^ c.k → M.is_open p ≡ false →
       AreOfOthers p ss → TakesLocal (setting_of c p) code (M.core p).state taken last →
       (after_all c code M (ss ++ turns_of p (length taken)) ≡ with_core (after_all c code (without M p) ss) p (gone_on (M.core p) taken last))
-      × (answers_of c code M (ss ++ turns_of p (length taken)) ≡ answers_of c code (without M p) ss ++ told_of taken)
+      × (answers_of c code M (ss ++ turns_of p (length taken)) ≡ answers_of c code (without M p) ss ++ outcomes_of taken)
   loans M ss taken last there shut others run =
       let turns = turns_of p (length taken) in
-      let then : theory.Machine Told = after_all c code M ss in
-      let g : Told = gone_on (M.core p) taken last in
+      let then : theory.Machine ObservedCore = after_all c code M ss in
+      let g : ObservedCore = gone_on (M.core p) taken last in
       let stays = kept M ss others in
       let both = joined M ss turns in
       let lent = run_not_noticed M (away (M.core p)) ss others in
       let caught = catch_up c code p then taken last there (stays.1 ∙ shut)
-      (subst (λ (h : Told). TakesLocal (setting_of c p) code h.state taken last) (sym stays.0) run) in (
+      (subst (λ (h : ObservedCore). TakesLocal (setting_of c p) code h.state taken last) (sym stays.0) run) in (
         both.0 ∙ caught.1 ∙ ap (λ h. with_core then p (gone_on h taken last)) stays.0
             ∙ sym (last_counts then p (away (M.core p)) g) ∙ ap (λ m. with_core m p g) (sym lent.1),
         both.1 ∙ ap₂ (λ os more. os ++ more) (sym lent.0) caught.0,
       )
 
 -- cores of several processors
-pub several_not_noticed : (c : Config) (code : List ℕ) (M : theory.Machine Told) (cores : List (ℕ × Told)) (ss : List Step) → AreOfAllOthers cores ss →
+pub several_not_noticed : (c : Config) (code : List ℕ) (M : theory.Machine ObservedCore) (cores : List (ℕ × ObservedCore)) (ss : List Step) →
+    AreOfAllOthers cores ss →
     (answers_of c code (with_cores M cores) ss ≡ answers_of c code M ss)
     × (after_all c code (with_cores M cores) ss ≡ with_cores (after_all c code M ss) cores)
 several_not_noticed c code M [] ss others = (refl, refl)

@@ -22,9 +22,9 @@ use Rattle.steps.specs.declared.step.Step.TheVariants as step
 use Rattle.steps.specs.declared.step.Outcome.{Outcome}
 use Rattle.steps.specs.declared.step.Outcome.TheVariants.{Moved, Combined, Answered, Stalled}
 use Rattle.machine_theory.specs.Theory.{Result, stalled, went_up, went_down}
-use Rattle.machine_theory.specs.Processors.{Told, next, port_at, sizes_of}
+use Rattle.machine_theory.specs.Processors.{ObservedCore, next, port_at, sizes_of}
 use Rattle.machine_theory.specs.Steps.{IsStepOf, answer_of, machine_of_parts, taken, with_shown}
-use Rattle.machine_theory.specs.Turning.{told_of_up, told_of_down}
+use Rattle.machine_theory.specs.Turning.{outcome_of_up, outcome_of_down}
 use Rattle.machine_theory.proofs.TurnSteps.{stalls, step_of}
 
 -- ---- a move that stalls changes nothing
@@ -78,11 +78,11 @@ down_stalls z net s w =
 -- ---- steps
 
 module _ (c : Config) (code : List ℕ) (net : Net) (ports : List PortState) (modules : List (List ℕ)) where
-  abbrev M : (ℕ → List Event) → Machine Told
+  abbrev M : (ℕ → List Event) → Machine ObservedCore
   M shown = machine_of_parts c net ports modules shown
 
   -- a move answers the kind r of what it did, and leaves n
-  module _ {Kind : Type 0} (st : Step) (w : ℕ) (went : Machine Told → Kind × Net → Result Told) (moved : Kind × Net)
+  module _ {Kind : Type 0} (st : Step) (w : ℕ) (went : Machine ObservedCore → Kind × Net → Result ObservedCore) (moved : Kind × Net)
       (takes : (shown : ℕ → List Event) → taken c code (M shown) st ≡ (if nat_lt w (2 ^ c.k) then went (M shown) moved else stalled (M shown))) where
     goes : (r : Kind) (n : Net) (o : Outcome) → w < 2 ^ c.k → r ≡ moved.0 → n ≡ moved.1 →
         o ≡ answer_of (λ p. next c code p (port_at ports p).core.state) (went (M (λ p. [])) (r, n)).outcome →
@@ -102,7 +102,7 @@ module _ (c : Config) (code : List ℕ) (net : Net) (ports : List PortState) (mo
 
     no_stage : ((shown : ℕ → List Event) → went (M shown) moved ≡ stalled (M shown)) → IsStepOf c code net ports modules st Stalled net ports modules
     no_stage past = stalls c code net ports modules st
-        (λ shown. takes shown ∙ ap (λ (r : Result Told). if nat_lt w (2 ^ c.k) then r else stalled (M shown)) (past shown)
+        (λ shown. takes shown ∙ ap (λ (r : Result ObservedCore). if nat_lt w (2 ^ c.k) then r else stalled (M shown)) (past shown)
         ∙ one_of (nat_lt w (2 ^ c.k)) (stalled (M shown)))
       where
         one_of : {X : Type 0} (b : Bool) (x : X) → (if b then x else x) ≡ x
@@ -117,8 +117,9 @@ module _ (c : Config) (code : List ℕ) (net : Net) (ports : List PortState) (mo
     unfolding machine_of_parts
     takes_up shown = refl
 
+    -- On a wire of the network, a step up answers and leaves what the move up does.
     pub goes_up : (r : UpMove) (net' : Net) → w < 2 ^ c.k → r ≡ up_move.0 → net' ≡ up_move.1 →
-        IsStepOf c code net ports modules (step.Up s w) (told_of_up r) net' ports modules
+        IsStepOf c code net ports modules (step.Up s w) (outcome_of_up r) net' ports modules
     unfolding machine_of_parts
     goes_up up.Stalled n within outcome after = goes (step.Up s w) w went_up up_move takes_up up.Stalled n Stalled within outcome after refl
         (λ shown. ap (λ n. machine_of_parts c n ports modules shown) (after ∙ up_stalls (sizes_of c) net s w (sym outcome)))
@@ -127,11 +128,13 @@ module _ (c : Config) (code : List ℕ) (net : Net) (ports : List PortState) (mo
     goes_up (up.Combined first second) n within outcome after =
         goes (step.Up s w) w went_up up_move takes_up (up.Combined first second) n (Combined first second) within outcome after refl (λ shown. refl)
 
+    -- A step up stalls if there is no such stage.
     pub no_stage_up : c.k ≤ s → IsStepOf c code net ports modules (step.Up s w) Stalled net ports modules
     unfolding moved_up
     no_stage_up past = no_stage (step.Up s w) w went_up up_move takes_up
         (λ shown. ap (λ b. went_up (M shown) (if b then up_from (sizes_of c) net s w (net.requests s w) else (up.Stalled, net))) (le-ltb s c.k past))
 
+    -- A step up stalls if there is no such wire.
     pub no_wire_up : 2 ^ c.k ≤ w → IsStepOf c code net ports modules (step.Up s w) Stalled net ports modules
     no_wire_up = no_wire (step.Up s w) w went_up up_move takes_up
 
@@ -143,8 +146,9 @@ module _ (c : Config) (code : List ℕ) (net : Net) (ports : List PortState) (mo
     unfolding machine_of_parts
     takes_down shown = refl
 
+    -- On a wire of the network, a step down answers and leaves what the move down does.
     pub goes_down : (r : DownMove) (net' : Net) → w < 2 ^ c.k → r ≡ down_move.0 → net' ≡ down_move.1 →
-        IsStepOf c code net ports modules (step.Down s w) (told_of_down r) net' ports modules
+        IsStepOf c code net ports modules (step.Down s w) (outcome_of_down r) net' ports modules
     unfolding machine_of_parts
     goes_down down.Stalled n within outcome after = goes (step.Down s w) w went_down down_move takes_down down.Stalled n Stalled within outcome after refl
         (λ shown. ap (λ n. machine_of_parts c n ports modules shown) (after ∙ down_stalls (sizes_of c) net s w (sym outcome)))
@@ -153,11 +157,13 @@ module _ (c : Config) (code : List ℕ) (net : Net) (ports : List PortState) (mo
     goes_down (down.Answered to) n within outcome after =
         goes (step.Down s w) w went_down down_move takes_down (down.Answered to) n (Answered to) within outcome after refl (λ shown. refl)
 
+    -- A step down stalls if there is no such stage.
     pub no_stage_down : c.k ≤ s → IsStepOf c code net ports modules (step.Down s w) Stalled net ports modules
     unfolding moved_down
     no_stage_down past = no_stage (step.Down s w) w went_down down_move takes_down
         (λ shown. ap (λ b. went_down (M shown) (if b then down_from (sizes_of c) net s w (net.replies (suc s) w) else (down.Stalled, net)))
         (le-ltb s c.k past))
 
+    -- A step down stalls if there is no such wire.
     pub no_wire_down : 2 ^ c.k ≤ w → IsStepOf c code net ports modules (step.Down s w) Stalled net ports modules
     no_wire_down = no_wire (step.Down s w) w went_down down_move takes_down

@@ -82,6 +82,7 @@ module _ {Core Pokes Entry : Type 0} (z : Sizes) (P : Program Core Pokes Entry) 
   serve_so m (x ∷ rest) (y ∷ ys) = refl
   serve_so m (x ∷ rest) [] = refl
 
+  -- A step of others gives the same with another core in p's place, and leaves that core there.
   pub not_noticed : (s : Step Pokes) → IsAnothers p s → step z P (with_core M p core) s ≡ with_core_too (step z P M s)
   not_noticed (Turn q) apart = turn_so q apart (nat_lt q (wires z))
   not_noticed (Up s w) other = by (nat_lt w (wires z))
@@ -104,9 +105,9 @@ module _ {Core Pokes Entry : Type 0} (z : Sizes) (P : Program Core Pokes Entry) 
       by false = refl
   not_noticed (Poke poke) other = absurd other
 
--- ---- of whom it tells
+-- ---- of whom it says
 
--- the outcome tells of no turn of the processor that its core has to say more of
+-- the outcome says of no turn of the processor that its core has to say more of
 abbrev pub TellsNotOf : {Pokes : Type 0} → (p : ℕ) → Outcome Pokes → Type 0
 TellsNotOf p (Issued q) = Unit {0}
 TellsNotOf p (Advanced q) = q ≢ p
@@ -152,6 +153,7 @@ module _ {Core Pokes Entry : Type 0} (z : Sizes) (P : Program Core Pokes Entry) 
   serve_not m (x ∷ rest) (y ∷ ys) = tt
   serve_not m (x ∷ rest) [] = tt
 
+  -- A step of others answers neither that p has advanced nor that a reference of p has retired.
   pub tells_not : (s : Step Pokes) → IsAnothers p s → TellsNotOf p (step z P M s).outcome
   tells_not (Turn q) apart = turn_not q apart (nat_lt q (wires z))
   tells_not (Up s w) other = by (nat_lt w (wires z))
@@ -211,6 +213,7 @@ module _ {Core Pokes Entry : Type 0} (z : Sizes) (P : Program Core Pokes Entry) 
   serve_open m (x ∷ rest) (y ∷ ys) = refl
   serve_open m (x ∷ rest) [] = refl
 
+  -- A step of others leaves p open or not as it was.
   pub open_kept : (s : Step Pokes) → IsAnothers p s → (step z P M s).machine.is_open p ≡ M.is_open p
   open_kept (Turn q) apart = turn_open q apart (nat_lt q (wires z))
   open_kept (Up s w) other = by (nat_lt w (wires z))

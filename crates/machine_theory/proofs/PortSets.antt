@@ -7,7 +7,7 @@ use Rattle.machine_ports.specs.flat_machine.declared.event.Event.{Event}
 use Rattle.machine_ports.specs.Ports.{PortState}
 use Rattle.serialization.specs.messages.Places.{put}
 use Rattle.serialization.proofs.Lemmas.messages.{put_other, put_same}
-use Rattle.machine_theory.specs.Processors.{Told, port_at, told_at, open_at, no_port}
+use Rattle.machine_theory.specs.Processors.{ObservedCore, port_at, observed_at, open_at, no_port}
 
 -- what is written where it stood already
 pub put_self : {X : Type 0} (f : ℕ → X) (p : ℕ) → put f p (f p) ≡ f
@@ -26,41 +26,42 @@ module _ (ports : List PortState) (p : ℕ) (x : PortState) (within : p < length
 
   -- the processor with more events
   pub core_set : (shown : ℕ → List Event) (events : List Event) →
-      told_at (slice_set ports p x) (put shown p events)
-      ≡ put {X = Told} (told_at ports shown) p (record { state = x.core.state; events = events })
+      observed_at (slice_set ports p x) (put shown p events)
+      ≡ put {X = ObservedCore} (observed_at ports shown) p (record { state = x.core.state; events = events })
   core_set shown events = fun_ext (λ q. at q (cases_eq q p))
     where
-      f : ℕ → Told
-      f = told_at ports shown
+      f : ℕ → ObservedCore
+      f = observed_at ports shown
 
       at : (q : ℕ) → (q ≡ p) ⊎ (q ≡ p → ⊥) → record { state = (port_at (slice_set ports p x) q).core.state; events = put shown p events q }
-          ≡ put {X = Told} f p (record { state = x.core.state; events = events }) q
+          ≡ put {X = ObservedCore} f p (record { state = x.core.state; events = events }) q
       at q (inl e) =
           ap (λ j. record { state = (port_at (slice_set ports p x) j).core.state; events = put shown p events j }) e
           ∙ ap₂ (λ (s : PortState) es. record { state = s.core.state; events = es }) here (put_same shown p events)
           ∙ sym (put_same f p (record { state = x.core.state; events = events }))
-          ∙ ap (put {X = Told} f p (record { state = x.core.state; events = events })) (sym e)
+          ∙ ap (put {X = ObservedCore} f p (record { state = x.core.state; events = events })) (sym e)
       at q (inr n) =
           ap₂ (λ (s : PortState) es. record { state = s.core.state; events = es }) (there q n) (put_other shown p events q n)
           ∙ sym (put_other f p (record { state = x.core.state; events = events }) q n)
 
   -- the processor with the events that it had
   pub core_changed : (shown : ℕ → List Event) →
-      told_at (slice_set ports p x) shown
-      ≡ put {X = Told} (told_at ports shown) p (record { state = x.core.state; events = shown p })
+      observed_at (slice_set ports p x) shown
+      ≡ put {X = ObservedCore} (observed_at ports shown) p (record { state = x.core.state; events = shown p })
   core_changed shown =
-      ap (told_at (slice_set ports p x)) (sym (put_self shown p))
+      ap (observed_at (slice_set ports p x)) (sym (put_self shown p))
       ∙ core_set shown (shown p)
 
   -- the processor as it was
   pub core_kept : (shown : ℕ → List Event) → x.core.state ≡ (port_at ports p).core.state →
-      told_at (slice_set ports p x) shown
-      ≡ (told_at ports shown)
+      observed_at (slice_set ports p x) shown
+      ≡ (observed_at ports shown)
   core_kept shown same =
       core_changed shown
-      ∙ ap (λ s. put {X = Told} (told_at ports shown) p (record { state = s; events = shown p })) same
-      ∙ put_self (told_at ports shown) p
+      ∙ ap (λ s. put {X = ObservedCore} (observed_at ports shown) p (record { state = s; events = shown p })) same
+      ∙ put_self (observed_at ports shown) p
 
+  -- If a port is replaced, its reference is open if that of the new port is, and the others are as before.
   pub open_set : open_at (slice_set ports p x) ≡ put {X = Bool} (open_at ports) p x.is_open
   open_set = fun_ext (λ q. at q (cases_eq q p))
     where
@@ -72,5 +73,6 @@ module _ (ports : List PortState) (p : ℕ) (x : PortState) (within : p < length
           ∙ ap (put {X = Bool} f p x.is_open) (sym e)
       at q (inr n) = ap (λ (s : PortState). s.is_open) (there q n) ∙ sym (put_other f p x.is_open q n)
 
+  -- If a port is replaced by one that is open if it was, the same references are open as before.
   pub open_kept : x.is_open ≡ (port_at ports p).is_open → open_at (slice_set ports p x) ≡ (open_at ports)
   open_kept same = open_set ∙ ap (put {X = Bool} (open_at ports) p) same ∙ put_self (open_at ports) p

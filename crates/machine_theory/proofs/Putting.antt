@@ -24,6 +24,7 @@ module _ {X : Type 0} where
       at q (inl e) = ap f e ∙ here ∙ sym (ap g e)
       at q (inr n) = others q n
 
+  -- Of two values that are put in the same place, the last counts.
   pub put_twice : (f : ℕ → X) (p : ℕ) (x y : X) → put (put f p x) p y ≡ put f p y
   put_twice f p x y = by_place (put (put f p x) p y) (put f p y) p
       (put_same (put f p x) p y ∙ sym (put_same f p y))
@@ -40,9 +41,11 @@ module _ {X : Type 0} where
       at j n (inr m) = put_other f p x j m ∙ sym (put_other f q y j n) ∙ sym (put_other (put f q y) p x j m)
 
 module _ {Core : Type 0} where
+  -- Of two cores that are put in the same place, the last counts.
   pub last_counts : (M : Machine Core) (p : ℕ) (first second : Core) → with_core (with_core M p first) p second ≡ with_core M p second
   last_counts M p first second = ap (λ f. record { net = M.net; mem = M.mem; core = f; is_open = M.is_open }) (put_twice M.core p first second)
 
+  -- A machine is as before if a processor's own core is put in its place.
   pub stays_put : (M : Machine Core) (p : ℕ) → with_core M p (M.core p) ≡ M
   stays_put M p = ap (λ f. record { net = M.net; mem = M.mem; core = f; is_open = M.is_open }) (put_self M.core p)
 

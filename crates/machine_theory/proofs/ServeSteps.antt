@@ -21,7 +21,7 @@ use Rattle.serialization.specs.Machine.{Machine}
 use Rattle.steps.specs.declared.step.Step.TheVariants as step
 use Rattle.steps.specs.declared.step.Outcome.TheVariants.{Served, Stalled}
 use Rattle.machine_theory.specs.Theory.{stalled, serve_from}
-use Rattle.machine_theory.specs.Processors.{Told, sizes_of, word_at, told_at, open_at}
+use Rattle.machine_theory.specs.Processors.{ObservedCore, sizes_of, word_at, observed_at, open_at}
 use Rattle.machine_theory.specs.Steps.{taken, machine_of_parts, IsStepOf}
 use Rattle.machine_theory.proofs.TurnSteps.{stalls, step_of}
 
@@ -68,7 +68,7 @@ words_set k modules number word v is there place = fun_ext (λ a. at a (cases_eq
     at a (inr n) = elsewhere a n (cases_eq (a % 2 ^ k) number) ∙ sym (put_other (word_at k modules) word v a n)
 
 module _ (c : Config) (code : List ℕ) (net : Net) (ports : List PortState) (modules : List (List ℕ)) where
-  abbrev M : (ℕ → List Event) → Machine Told
+  abbrev M : (ℕ → List Event) → Machine ObservedCore
   M shown = machine_of_parts c net ports modules shown
 
   -- where nothing is served, nothing changes
@@ -83,11 +83,13 @@ module _ (c : Config) (code : List ℕ) (net : Net) (ports : List PortState) (mo
   served_is m within shown =
       ap (λ b. if b then serve_from (sizes_of c) (M shown) m (net.requests c.k m) (net.replies c.k m) else stalled (M shown)) (lt-ltb m (2 ^ c.k) within)
 
+  -- A serve step stalls if its module has no request.
   pub no_request : (m : ℕ) → m < 2 ^ c.k → net.requests c.k m ≡ [] → IsStepOf c code net ports modules (step.Serve m) Stalled net ports modules
   unfolding machine_of_parts
   no_request m within none = stalls c code net ports modules (step.Serve m) (λ shown.
       served_is m within shown ∙ ap (λ xs. serve_from (sizes_of c) (M shown) m xs (net.replies c.k m)) none)
 
+  -- A serve step stalls if there is still a reply at its module.
   pub no_place : (m : ℕ) → m < 2 ^ c.k → (net.replies c.k m ≡ [] → ⊥) → IsStepOf c code net ports modules (step.Serve m) Stalled net ports modules
   unfolding machine_of_parts
   no_place m within full = stalls c code net ports modules (step.Serve m) (λ shown.
@@ -121,5 +123,5 @@ module _ (c : Config) (code : List ℕ) (net : Net) (ports : List PortState) (mo
         result = λ shown. serve_from (sizes_of c) (M shown) m (x ∷ rest) [];
         is = λ shown. served_is m within shown ∙ ap₂ (λ xs ys. serve_from (sizes_of c) (M shown) m xs ys) asks free;
         answers = refl;
-        leaves = λ shown. ap₂ (λ n f. record { net = n; mem = f; core = told_at ports shown; is_open = open_at ports }) reply written;
+        leaves = λ shown. ap₂ (λ n f. record { net = n; mem = f; core = observed_at ports shown; is_open = open_at ports }) reply written;
       })

@@ -20,7 +20,7 @@ use Rattle.serialization.specs.Steadiness.{Steady}
 use Rattle.serialization.proofs.Lemmas.{goes_step}
 use Rattle.steps.specs.declared.step.Step.{Step}
 use Rattle.steps.specs.declared.step.Outcome.{Outcome}
-use Rattle.machine_theory.specs.Processors.{Told, sizes_of, setting_of, word_by, next, program, port_at, open_at}
+use Rattle.machine_theory.specs.Processors.{ObservedCore, sizes_of, setting_of, word_by, next, program, port_at, open_at}
 use Rattle.machine_theory.specs.Steps.{named, with_shown, after, machine_of_parts, IsStepOf}
 use Rattle.machine_theory.proofs.TurnKinds.{Reached, reaches_of, runs_by}
 
@@ -29,9 +29,9 @@ module _ (c : Config) (code : List ℕ) (net : Net) (ports : List PortState) (mo
   SteadyAs shown role = Steady (sizes_of c) (program c code) (machine_of_parts c net ports modules shown) role
 
   -- events that were shown make no difference
-  pub retold : (shown shown' : ℕ → List Event) (role : ℕ → Role) → SteadyAs shown role → SteadyAs shown' role
+  pub observed_again : (shown shown' : ℕ → List Event) (role : ℕ → Role) → SteadyAs shown role → SteadyAs shown' role
   unfolding machine_of_parts
-  retold shown shown' role s =
+  observed_again shown shown' role s =
       record { placed = s.placed; worded = s.worded; marked = s.marked; few = s.few; stands = s.stands; shut = s.shut; small = s.small; refers = s.refers }
 
   module _ (shown : ℕ → List Event) (role : ℕ → Role) (s : SteadyAs shown role) where
@@ -45,6 +45,7 @@ module _ (c : Config) (code : List ℕ) (net : Net) (ports : List PortState) (mo
     is_reference : (t : Turn) → Reached t → IsReference t
     is_reference t r = subst IsReference (sym r.is) tt
 
+    -- In a steady machine, the turn of an open processor is a reference if its port has the setting of its number.
     pub refers : (p : ℕ) → open_at ports p ≡ true → (port_at ports p).core.setting ≡ setting_of c p → IsReference (turn (port_at ports p) code)
     refers p opened setting = subst IsReference (ap (λ s. turn_of s code (port_at ports p).core.state) (sym setting))
         (is_reference (next c code p (port_at ports p).core.state) (reaches p opened).1)
@@ -84,6 +85,7 @@ module _ (c : Config) (code : List ℕ) (net : Net) (ports : List PortState) (mo
         opened x asks true e = e
         opened x asks false e = let f : Asking c.k ≡ Idle = sym asks ∙ (s.shut x.leader).0 e in absurd (cc)
 
+    -- In a steady machine whose processors have words, the first request at a module is for a shared word.
     pub word_there : (m : ℕ) (x : Request) (rest : List Request) → net.requests c.k m ≡ x ∷ rest → ((p : ℕ) → HasWords (port_at ports p).core.state) →
         x.word < c.shared_words
     word_there m x rest e words =
@@ -100,4 +102,4 @@ module _ (c : Config) (code : List ℕ) (net : Net) (ports : List PortState) (mo
   unfolding after
   stays_steady role s o net' ports' modules' steady is =
       let g = goes_step (sizes_of c) (program c code) (machine_of_parts c net ports modules (λ p. [])) role (named s) steady in
-      (g.0, subst (λ (M : Machine Told). Steady (sizes_of c) (program c code) M g.0) (sym (is.after (λ p. []))) g.1)
+      (g.0, subst (λ (M : Machine ObservedCore). Steady (sizes_of c) (program c code) M g.0) (sym (is.after (λ p. []))) g.1)

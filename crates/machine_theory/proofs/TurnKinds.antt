@@ -8,11 +8,16 @@ use Rattle.machine_theory.specs.Processors.{kind_of, kind_of_turn}
 
 -- a turn that refers reaches a word
 pub record Reached (t : Turn) : Type 0 where
+  -- the word that it reaches
   pub word : ℕ
+  -- what it does to the word
   pub change : ℕ → ℕ
+  -- what the processor becomes and what retires, by the word found
   pub after : ℕ → Processor × retirement.Retired
+  -- the turn is that reference
   pub is : t ≡ Reaches word change after
 
+-- A turn whose kind is to refer reaches a word.
 pub reaches_of : (t : Turn) → kind_of_turn t ≡ Refers → Reached t
 reaches_of (Reaches word change after) e = record { word = word; change = change; after = after; is = refl }
 reaches_of (Retires after retired) e = absurd (cc)

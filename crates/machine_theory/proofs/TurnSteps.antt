@@ -20,9 +20,9 @@ use Rattle.steps.specs.declared.step.Step.TheVariants as step
 use Rattle.steps.specs.declared.step.Outcome.{Outcome}
 use Rattle.steps.specs.declared.step.Outcome.TheVariants.{Retired, Issued, Stalled}
 use Rattle.machine_theory.specs.Theory.{Result, stalled}
-use Rattle.machine_theory.specs.Processors.{Told, shows, setting_of, kind_of, kind_of_turn, alone_by, word_by}
-use Rattle.machine_theory.specs.Processors.{retired_by, next, program, port_at, told_at, open_at, word_at}
-use Rattle.machine_theory.specs.Steps.{taken, told_of_turn, told_of_reply, answer_of, outcome_of, after, with_shown, machine_of_parts, IsStepOf}
+use Rattle.machine_theory.specs.Processors.{ObservedCore, shows, setting_of, kind_of, kind_of_turn, alone_by, word_by}
+use Rattle.machine_theory.specs.Processors.{retired_by, next, program, port_at, observed_at, open_at, word_at}
+use Rattle.machine_theory.specs.Steps.{taken, outcome_of_turn, outcome_of_reply, answer_of, outcome_of, after, with_shown, machine_of_parts, IsStepOf}
 use Rattle.machine_theory.specs.Turning.{IsBegun, IsFinished, IsFinishedBy}
 use Rattle.machine_theory.proofs.PortSets.{core_set, core_kept, open_set, open_kept}
 
@@ -30,17 +30,22 @@ module _ (c : Config) (code : List ℕ) where
   -- a step by its result
   pub record Takes (net : Net) (ports : List PortState) (modules : List (List ℕ)) (s : Step) (o : Outcome) (net' : Net) (ports' : List PortState)
       (modules' : List (List ℕ)) : Type 0 where
-    pub result : (shown : ℕ → List Event) → Result Told
+    -- what the step gives, by the events shown before
+    pub result : (shown : ℕ → List Event) → Result ObservedCore
+    -- the machine of the old parts takes the step with that result
     pub is : (shown : ℕ → List Event) → taken c code (machine_of_parts c net ports modules shown) s ≡ result shown
+    -- the answer is that of the result
     pub answers : o ≡ answer_of (λ p. next c code p (port_at ports p).core.state) (result (λ p. [])).outcome
+    -- the machine of the new parts, with the event of the step, is that of the result
     pub leaves : (shown : ℕ → List Event) → machine_of_parts c net' ports' modules' (with_shown shown s o) ≡ (result shown).machine
 
+  -- If a step has this result, its answer and the new parts are those of the machine step.
   pub step_of : (net net' : Net) (ports ports' : List PortState) (modules modules' : List (List ℕ)) (s : Step) (o : Outcome) →
       Takes net ports modules s o net' ports' modules' → IsStepOf c code net ports modules s o net' ports' modules'
   unfolding outcome_of after machine_of_parts
   step_of net net' ports ports' modules modules' s o t = record {
-    outcome = t.answers ∙ ap (λ (r : Result Told). answer_of (λ p. next c code p (port_at ports p).core.state) r.outcome) (sym (t.is (λ p. [])));
-    after = λ shown. t.leaves shown ∙ ap (λ (r : Result Told). r.machine) (sym (t.is shown));
+    outcome = t.answers ∙ ap (λ (r : Result ObservedCore). answer_of (λ p. next c code p (port_at ports p).core.state) r.outcome) (sym (t.is (λ p. [])));
+    after = λ shown. t.leaves shown ∙ ap (λ (r : Result ObservedCore). r.machine) (sym (t.is shown));
   }
 
   none_shown : (s : Step) (shown : ℕ → List Event) → with_shown shown s Stalled ≡ shown
@@ -62,16 +67,18 @@ module _ (c : Config) (code : List ℕ) where
   })
 
   module _ (net : Net) (ports : List PortState) (modules : List (List ℕ)) where
-    abbrev M : (ℕ → List Event) → Machine Told
+    abbrev M : (ℕ → List Event) → Machine ObservedCore
     M shown = machine_of_parts c net ports modules shown
 
     -- ---- a number that names no processor, and one that rests
 
+    -- A turn of a number that names no processor stalls.
     pub unnamed : (p : ℕ) → 2 ^ c.k ≤ p → IsStepOf c code net ports modules (step.Turn p) Stalled net ports modules
     unfolding machine_of_parts
     unnamed p past = stalls net ports modules (step.Turn p)
         (λ shown. ap (λ b. if b then turned (program c code) (M shown) p ((M shown).is_open p) else stalled (M shown)) (le-ltb p (2 ^ c.k) past))
 
+    -- A turn of a processor that neither runs nor is open stalls.
     pub rests : (p : ℕ) → p < 2 ^ c.k → (port_at ports p).is_open ≡ false → is_running (port_at ports p).core.state.status ≡ false →
         IsStepOf c code net ports modules (step.Turn p) Stalled net ports modules
     unfolding machine_of_parts
@@ -97,21 +104,26 @@ module _ (c : Config) (code : List ℕ) where
 
       alone_takes : (t : Turn) (after : Processor) (shown_event : Event) (o : Outcome) → next c code p state ≡ t → kind_of_turn t ≡ Alone →
           ((events : List Event) → alone_by (record { state = state; events = events }) t
-          ≡ shows (record { state = state; events = events }) after shown_event) → o ≡ told_of_turn t →
+          ≡ shows (record { state = state; events = events }) after shown_event) → o ≡ outcome_of_turn t →
           ((shown : ℕ → List Event) → with_shown shown (step.Turn p) o ≡ put shown p (shown p ++ shown_event ∷ [])) →
           (net' : Net) → net' ≡ net → IsStepOf c code net ports modules (step.Turn p) o net' (slice_set ports p (with_state (port_at ports p) after)) modules
       unfolding machine_of_parts
-      alone_takes t after shown_event o e alone by answers told net' same =
+      alone_takes t after shown_event o e alone by answers fact net' same =
           step_of net net' ports (slice_set ports p (with_state (port_at ports p) after)) modules modules (step.Turn p) o (record {
             result = λ shown. begin (program c code) (M shown) p Alone;
             is = λ shown. turned_is t e shown ∙ ap (begin (program c code) (M shown) p) alone;
-            answers = answers ∙ ap told_of_turn (sym e);
+            answers = answers ∙ ap outcome_of_turn (sym e);
             leaves = λ shown.
-                ap₂ (λ n (h : ℕ → List Event). machine_of_parts c n (slice_set ports p (with_state (port_at ports p) after)) modules h) same (told shown)
-                ∙ ap₂ (λ (f : ℕ → Told) (b : ℕ → Bool). record { net = net; mem = word_at c.k modules; core = f; is_open = b })
+                ap₂ (λ n (h : ℕ → List Event). machine_of_parts c n (slice_set ports p (with_state (port_at ports p) after)) modules h) same (fact shown)
+                ∙ ap₂ (λ (f : ℕ → ObservedCore) (b : ℕ → Bool). record { net = net; mem = word_at c.k modules; core = f; is_open = b })
                 (core_set ports p (with_state (port_at ports p) after) inside shown (shown p ++ shown_event ∷ []))
                 (open_kept ports p (with_state (port_at ports p) after) inside refl)
-                ∙ ap (λ g. record { net = net; mem = word_at c.k modules; core = put {X = Told} (told_at ports shown) p g; is_open = open_at ports })
+                ∙ ap (λ g. record {
+                  net = net;
+                  mem = word_at c.k modules;
+                  core = put {X = ObservedCore} (observed_at ports shown) p g;
+                  is_open = open_at ports;
+                })
                 (sym (by (shown p)) ∙ ap (alone_by (record { state = state; events = shown p })) (sym e));
           })
 
@@ -128,7 +140,7 @@ module _ (c : Config) (code : List ℕ) where
                 ap (λ n. machine_of_parts c n (slice_set ports p (record { core = (port_at ports p).core; is_open = true })) modules shown)
                 (sent ∙ ap (λ w. injected net (record { leader = p; word = w; phi = reference_phi (setting_of c p) code state; marks = 0 }))
                 (sym names ∙ ap word_by (sym e)))
-                ∙ ap₂ (λ (f : ℕ → Told) (b : ℕ → Bool). record {
+                ∙ ap₂ (λ (f : ℕ → ObservedCore) (b : ℕ → Bool). record {
                   net = injected net
                       (record { leader = p; word = word_by (next c code p state); phi = reference_phi (setting_of c p) code state; marks = 0 });
                   mem =
@@ -155,6 +167,7 @@ module _ (c : Config) (code : List ℕ) where
           (refers_takes (Reaches word change later) word net' e refl refl
           (b.1 ∙ ap (λ s. injected net (record { leader = p; word = word; phi = reference_phi s code state; marks = 0 })) setting))
 
+      -- A turn that a port begins is the machine step, if the processor runs and is not open.
       pub begins : (port port' : PortState) (o : Outcome) (net' : Net) → port ≡ port_at ports p → port.core.setting ≡ setting_of c p →
           port' ≡ (begun port code (turn port code)).1 →
           IsBegun p port code (turn port code) net o net' → IsStepOf c code net ports modules (step.Turn p) o net' (slice_set ports p port') modules
@@ -196,16 +209,16 @@ module _ (c : Config) (code : List ℕ) where
           (step_of net net' ports (slice_set ports p new) modules modules (step.Turn p) (Retired f.done.1) (record {
             result = λ shown. retire_from (program c code) (M shown) p (y ∷ rest);
             is = λ shown. finished_is (y ∷ rest) e shown;
-            answers = ap told_of_reply (sym by);
+            answers = ap outcome_of_reply (sym by);
             leaves = λ shown.
                 ap (λ n. machine_of_parts c n (slice_set ports p new) modules (put shown p (shown p ++ event.Retired f.done.1 ∷ []))) f.network
-                ∙ ap₂ (λ (g : ℕ → Told) (b : ℕ → Bool). record { net = port_taken net p; mem = word_at c.k modules; core = g; is_open = b })
+                ∙ ap₂ (λ (g : ℕ → ObservedCore) (b : ℕ → Bool). record { net = port_taken net p; mem = word_at c.k modules; core = g; is_open = b })
                 (core_set ports p new inside shown (shown p ++ event.Retired f.done.1 ∷ []))
                 (open_set ports p new inside)
                 ∙ ap (λ r. record {
                   net = port_taken net p;
                   mem = word_at c.k modules;
-                  core = put {X = Told} (told_at ports shown) p (retired_by (record { state = port.core.state; events = shown p }) r);
+                  core = put {X = ObservedCore} (observed_at ports shown) p (retired_by (record { state = port.core.state; events = shown p }) r);
                   is_open =
                       put {X = Bool} (open_at ports) p false;
                 }) (sym by);
@@ -222,11 +235,12 @@ module _ (c : Config) (code : List ℕ) where
             answers = refl;
             leaves = λ shown.
                 ap (λ n. machine_of_parts c n (slice_set ports p port') modules shown) kept
-                ∙ ap₂ (λ (g : ℕ → Told) (b : ℕ → Bool). record { net = net; mem = word_at c.k modules; core = g; is_open = b })
+                ∙ ap₂ (λ (g : ℕ → ObservedCore) (b : ℕ → Bool). record { net = net; mem = word_at c.k modules; core = g; is_open = b })
                 (core_kept ports p port' inside shown (ap (λ (q : PortState). q.core.state) stays))
                 (open_kept ports p port' inside (ap (λ (q : PortState). q.is_open) stays));
           }))
 
+      -- A turn that a port finishes, or in which it waits for its reply, is the machine step, if the processor is open.
       pub finishes : (port port' : PortState) (o : Outcome) (net' : Net) → port ≡ port_at ports p → port.core.setting ≡ setting_of c p →
           IsFinishedBy p (turn port code) port net (slice_get (net.replies 0 p) 0) o port' net' →
           IsStepOf c code net ports modules (step.Turn p) o net' (slice_set ports p port') modules

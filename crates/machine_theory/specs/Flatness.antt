@@ -8,10 +8,10 @@ use Rattle.machine_ports.specs.flat_machine.State.{FlatState, is_running}
 use Rattle.machine_ports.specs.flat_machine.Laws.{HasWords}
 use Rattle.serialization.specs.messages.Places.{put}
 use Rattle.serialization.specs.Order.{FlatMachine}
-use Rattle.machine_theory.specs.Processors.{Told, no_processor, is_lawful_poke}
+use Rattle.machine_theory.specs.Processors.{ObservedCore, no_processor, is_lawful_poke}
 
 -- the flat machine, whose processors have shown these events
-abbrev pub read_flat : FlatState → (shown : ℕ → List Event) → FlatMachine Told
+abbrev pub read_flat : FlatState → (shown : ℕ → List Event) → FlatMachine ObservedCore
 read_flat F shown = record {
   mem = slice_index F.shared;
   core = λ p. record { state = slice_index_or F.processors p no_processor; events = shown p };
@@ -33,5 +33,5 @@ AreLawful c [] = Unit {0}
 AreLawful c (e ∷ es) = IsLawful c e × AreLawful c es
 
 -- A core whose words are words. That of a processor past the machine's does not run.
-abbrev pub IsGood : ℕ → Told → Type 0
+abbrev pub IsGood : ℕ → ObservedCore → Type 0
 IsGood p g = HasWords g.state × ((p < 2 ^ 8) ⊎ (is_running g.state.status ≡ false))

@@ -6,7 +6,7 @@ use Rattle.machine_ports.specs.flat_machine.declared.event.Retired as retirement
 use Rattle.machine_ports.specs.flat_machine.State.{Processor}
 use Rattle.machine_theory.specs.Theory as theory
 pub use Rattle.machine_theory.specs.Cores.{with_core, away, without}
-use Rattle.machine_theory.specs.Processors.{Told, program, sizes_of}
+use Rattle.machine_theory.specs.Processors.{ObservedCore, program, sizes_of}
 use Rattle.machine_theory.specs.Steps.{named, outcome_of, after}
 use Rattle.steps.specs.declared.step.Step.{Step}
 use Rattle.steps.specs.declared.step.Step.TheVariants as step
@@ -21,7 +21,7 @@ with_cores M [] = M
 with_cores M ((p, core) ∷ more) = with_core (with_cores M more) p core
 
 -- a processor that has gone on to another state, and has shown these instructions since
-abbrev pub gone_on : Told → List retirement.Retired → Processor → Told
+abbrev pub gone_on : ObservedCore → List retirement.Retired → Processor → ObservedCore
 gone_on g taken state = record { state = state; events = g.events ++ map event.Retired taken }
 
 -- ---- steps
@@ -40,23 +40,23 @@ AreOfOthers p [] = Unit {0}
 AreOfOthers p (s ∷ ss) = IsOfOthers p s × AreOfOthers p ss
 
 -- They are neither turns of any of these processors nor writes from outside.
-abbrev pub AreOfAllOthers : List (ℕ × Told) → List Step → Type 0
+abbrev pub AreOfAllOthers : List (ℕ × ObservedCore) → List Step → Type 0
 AreOfAllOthers [] ss = Unit {0}
 AreOfAllOthers ((p, core) ∷ more) ss = AreOfOthers p ss × AreOfAllOthers more ss
 
--- so many turns of processor p
+-- this many turns of processor p
 abbrev pub turns_of : (p count : ℕ) → List Step
 turns_of p count = replicate count (step.Turn p)
 
 -- the machine after these steps,
-abbrev pub after_all : Config → (code : List ℕ) → theory.Machine Told → List Step → theory.Machine Told
+abbrev pub after_all : Config → (code : List ℕ) → theory.Machine ObservedCore → List Step → theory.Machine ObservedCore
 after_all c code M ss = theory.machine_after (sizes_of c) (program c code) (map named ss) M
 
 -- and what they answer, one after another
-abbrev pub answers_of : Config → (code : List ℕ) → theory.Machine Told → List Step → List Outcome
+abbrev pub answers_of : Config → (code : List ℕ) → theory.Machine ObservedCore → List Step → List Outcome
 answers_of c code M [] = []
 answers_of c code M (s ∷ ss) = outcome_of c code M s ∷ answers_of c code (after c code M s) ss
 
 -- what turns answer in which these instructions retire
-abbrev pub told_of : List retirement.Retired → List Outcome
-told_of taken = map outcome.Retired taken
+abbrev pub outcomes_of : List retirement.Retired → List Outcome
+outcomes_of taken = map outcome.Retired taken

@@ -32,7 +32,13 @@ setting_of c p = record { number = p; processors = 2 ^ c.k; shared_words = c.sha
 
 -- what is read where no port is
 abbrev pub no_port : PortState
-no_port = record { core = record { setting = record { number = 0; processors = 0; shared_words = 0 }; state = no_processor }; is_open = false }
+no_port = record {
+  core = record {
+    setting = record { number = 0; processors = 0; shared_words = 0 };
+    state = no_processor;
+  };
+  is_open = false;
+}
 
 abbrev pub port_at : List PortState → ℕ → PortState
 port_at ports p = slice_index_or ports p no_port
@@ -42,18 +48,18 @@ abbrev pub word_at : (k : ℕ) → List (List ℕ) → ℕ → ℕ
 word_at k modules i = slice_index (slice_index_or modules (i % 2 ^ k) []) (i / 2 ^ k)
 
 -- a processor, and the events that it has shown
-pub record Told : Type 0 where
+pub record ObservedCore : Type 0 where
   pub state : Processor
   pub events : List Event
 
 -- the processor at a port, which has shown these events; and whether its reference is open
-abbrev pub told_at : List PortState → (shown : ℕ → List Event) → ℕ → Told
-told_at ports shown p = record { state = (port_at ports p).core.state; events = shown p }
+abbrev pub observed_at : List PortState → (shown : ℕ → List Event) → ℕ → ObservedCore
+observed_at ports shown p = record { state = (port_at ports p).core.state; events = shown p }
 
 abbrev pub open_at : List PortState → ℕ → Bool
 open_at ports p = (port_at ports p).is_open
 
-abbrev pub shows : Told → Processor → Event → Told
+abbrev pub shows : ObservedCore → Processor → Event → ObservedCore
 shows g after shown = record { state = after; events = g.events ++ shown ∷ [] }
 
 -- ---- turns
@@ -67,7 +73,7 @@ abbrev pub kind_of : Bool → Turn → Kind
 kind_of runs turn = if runs then kind_of_turn turn else Rests
 
 -- the processor after a turn that needs no shared word
-abbrev pub alone_by : Told → Turn → Told
+abbrev pub alone_by : ObservedCore → Turn → ObservedCore
 alone_by g (Retires after retired) = shows g after (event.Retired retired)
 alone_by g (Stops cause) = shows g (record g.state { status = status_of cause }) (event.Stopped cause)
 alone_by g (Reaches word change after) = g
@@ -79,7 +85,7 @@ word_by (Retires after retired) = 0
 word_by (Stops cause) = 0
 
 -- the processor after a reference
-abbrev pub retired_by : Told → Option (Processor × retirement.Retired) → Told
+abbrev pub retired_by : ObservedCore → Option (Processor × retirement.Retired) → ObservedCore
 retired_by g None = g
 retired_by g (Some done) = shows g done.0 (event.Retired done.1)
 
@@ -92,19 +98,21 @@ are_home (suc n) states = not (is_away (states n)) && are_home n states
 
 -- The value is a word or a byte, the processor is there, and so is what is written.
 abbrev pub is_lawful_poke : Config → Poke → Bool
-is_lawful_poke c (poke.Register p register value) = nat_lt value (2 ^ 32) && (nat_lt p (2 ^ c.k) && is_lawful_register register value)
+is_lawful_poke c (poke.Register p register value) = nat_lt value (2 ^ 32)
+    && (nat_lt p (2 ^ c.k) && is_lawful_register register value)
 is_lawful_poke c (poke.Local p address value) = nat_lt value 256 && (nat_lt p (2 ^ c.k) && in_local address)
 is_lawful_poke c (poke.Shared address value) = nat_lt value 256 && in_shared c.shared_words address
 
 -- a lawful poke is done where no core is away
-abbrev pub may_poke : Config → (ℕ → Told) → Poke → Bool
+abbrev pub may_poke : Config → (ℕ → ObservedCore) → Poke → Bool
 may_poke c core q = are_home (2 ^ c.k) (λ p. (core p).state) && is_lawful_poke c q
 
-abbrev pub changed : (Processor → Processor) → Told → Told
+abbrev pub changed : (Processor → Processor) → ObservedCore → ObservedCore
 changed change g = record { state = change g.state; events = g.events }
 
-abbrev pub poked_processors : Poke → (ℕ → Told) → ℕ → Told
-poked_processors (poke.Register p register value) core = put core p (changed (with_poked_register register value) (core p))
+abbrev pub poked_processors : Poke → (ℕ → ObservedCore) → ℕ → ObservedCore
+poked_processors (poke.Register p register value) core =
+    put core p (changed (with_poked_register register value) (core p))
 poked_processors (poke.Local p address value) core = put core p (changed (with_poked_byte address value) (core p))
 poked_processors (poke.Shared address value) core = core
 
@@ -121,7 +129,7 @@ module _ (c : Config) (code : List ℕ) where
   abbrev pub next : ℕ → Processor → Turn
   next p state = turn_of (setting_of c p) code state
 
-  abbrev pub program : Program Told
+  abbrev pub program : Program ObservedCore
   program = record {
     kind = λ p g. kind_of (is_running g.state.status) (next p g.state);
     alone = λ p g. alone_by g (next p g.state);

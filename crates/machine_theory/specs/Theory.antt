@@ -17,13 +17,19 @@ pub use Rattle.serialization.specs.Machine.{Moved, Combined, Served, Answered, P
 pub use Rattle.serialization.specs.Machine.{issue, advance, begin, turned, poked, step}
 unfoldable pub use Rattle.serialization.specs.Machine.{machine_after}
 
--- an entry of the flat machine tells of a turn or of a poke
+-- an entry of the flat machine says of a turn or of a poke
 abbrev pub content_of : Entry → Content pokes.Poke
 content_of (entry.Processor p) = TurnOf p
 content_of (entry.Poke q) = PokeOf q
 
 abbrev pub entries : Entries pokes.Poke Entry
-entries = record { turn = entry.Processor; poke = entry.Poke; content = content_of; of_turn = λ p. refl; of_poke = λ q. refl }
+entries = record {
+  turn = entry.Processor;
+  poke = entry.Poke;
+  content = content_of;
+  of_turn = λ p. refl;
+  of_poke = λ q. refl;
+}
 
 abbrev pub Program : Type 0 → Type 0
 Program Core = program.Program Core pokes.Poke Entry

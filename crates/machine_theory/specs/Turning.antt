@@ -20,10 +20,17 @@ abbrev pub IsBegun : ℕ → PortState → (code : List ℕ) → Turn → Net �
 IsBegun p port code (Retires after retired) net o net' = (o ≡ Retired retired) × (net' ≡ net)
 IsBegun p port code (Stops cause) net o net' = (o ≡ Stopped cause) × (net' ≡ net)
 IsBegun p port code (Reaches word change after) net o net' =
-    (o ≡ Issued) × (net' ≡ injected net (record { leader = p; word = word; phi = reference_phi port.core.setting code port.core.state; marks = 0 }))
+    (o ≡ Issued)
+    × (net' ≡ injected net (record {
+      leader = p;
+      word = word;
+      phi = reference_phi port.core.setting code port.core.state;
+      marks = 0;
+    }))
 
 -- A turn that a port finishes with a reply: what the processor becomes by it.
-pub record IsFinished (p : ℕ) (turn : Turn) (old : PortState) (net : Net) (reply : Reply) (o : Outcome) (new : PortState) (net' : Net) : Type 0 where
+pub record IsFinished (p : ℕ) (turn : Turn) (old : PortState) (net : Net) (reply : Reply) (o : Outcome)
+    (new : PortState) (net' : Net) : Type 0 where
   pub done : Processor × retirement.Retired
   pub by : after_reply turn reply.value ≡ Some done
   pub outcome : o ≡ Retired done.1
@@ -39,12 +46,12 @@ IsFinishedBy p turn old net (Some reply) o new net' = IsFinished p turn old net 
 -- ---- moves
 
 -- What a move answers is what its step does.
-abbrev pub told_of_up : UpMove → Outcome
-told_of_up up.Moved = Moved
-told_of_up (up.Combined first second) = Combined first second
-told_of_up up.Stalled = Stalled
+abbrev pub outcome_of_up : UpMove → Outcome
+outcome_of_up up.Moved = Moved
+outcome_of_up (up.Combined first second) = Combined first second
+outcome_of_up up.Stalled = Stalled
 
-abbrev pub told_of_down : DownMove → Outcome
-told_of_down down.Moved = Moved
-told_of_down (down.Answered to) = Answered to
-told_of_down down.Stalled = Stalled
+abbrev pub outcome_of_down : DownMove → Outcome
+outcome_of_down down.Moved = Moved
+outcome_of_down (down.Answered to) = Answered to
+outcome_of_down down.Stalled = Stalled

@@ -22,7 +22,7 @@ impl Model for Module {
 }
 
 impl Module {
-    /// A module of so many words, which are all zero.
+    /// A module of this many words, which are all zero.
     ///
     /// # Errors
     ///

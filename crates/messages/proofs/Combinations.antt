@@ -20,6 +20,7 @@ first_is r x e es = refl
 abbrev pub NoneBefore : ℕ → Request → List Request → ℕ → Type 0
 NoneBefore r x queue i = (j : ℕ) (e : Request) → j < i → slice_get queue j ≡ Some e → joint r x e ≡ None
 
+-- A request is combined with an entry of a queue if it combines with it, and with no entry before it.
 pub combined_at : (r : ℕ) (x : Request) (queue : List Request) (i : ℕ) (e : Request) (phi : Phi) → slice_get queue i ≡ Some e → NoneBefore r x queue i →
     joint r x e ≡ Some phi
     → combined_in r x queue ≡ Some (record { queue = set queue i (merged e phi); made = record_of x e })
@@ -33,6 +34,7 @@ combined_at r x (d ∷ ds) (suc i) e phi at before is =
     first_is r x d ds ∙ ap (with_first r x d ds) (before 0 d (omega arith) refl)
     ∙ ap (behind d) (combined_at r x ds i e phi at (λ j y below there. before (suc j) y (omega arith) there) is)
 
+-- A request that combines with no entry of a queue is not combined.
 pub combined_nowhere : (r : ℕ) (x : Request) (queue : List Request) → NoneBefore r x queue (length queue) → combined_in r x queue ≡ None
 unfolding combined_in
 combined_nowhere r x [] before = refl

@@ -3,5 +3,5 @@ pub mod Places
 pub mod Combinations
 pub mod Joining
 pub mod Answering
-pub mod Told
+pub mod AnsweredSeconds
 pub mod Lemmas

@@ -15,12 +15,14 @@ one_of_both : {X : Type 0} (b : Bool) (x : X) → (if b then x else x) ≡ x
 one_of_both true x = refl
 one_of_both false x = refl
 
+-- A move up from a wire with no request stalls, and the network is as before.
 pub nothing_moves_up : NothingMovesUp
 unfolding moved_up
 nothing_moves_up z net s w none =
     ap (λ (q : List Request). if◌then◌else◌ {A = UpMove × Net} (nat_lt s z.k) (up_from z net s w q) (up.Stalled, net)) none
     ∙ one_of_both (nat_lt s z.k) (up.Stalled, net)
 
+-- A move down from a wire with no reply stalls, and the network is as before.
 pub nothing_moves_down : NothingMovesDown
 unfolding moved_down
 nothing_moves_down z net s w none =

@@ -6,10 +6,12 @@ use Rattle.std.proofs.lemmas.List.{map-append}
 use mathlib.Core.Path.{fun_ext}
 use Rattle.messages.specs.Places.{put, put2, In, Distinct, ApartBy}
 
+-- After x is put at a depth and wire, x is there.
 pub put2_same : {X : Type 0} (f : ℕ → ℕ → X) (d w : ℕ) (x : X) → put2 f d w x d w ≡ x
 unfolding put2
 put2_same f d w x = simp (eq-eqb d d refl, eq-eqb w w refl)
 
+-- After x is put at a depth and wire, each other place is as before.
 pub put2_other : {X : Type 0} (f : ℕ → ℕ → X) (d w : ℕ) (x : X) (d' w' : ℕ) → (d' ≡ d → w' ≡ w → ⊥) → put2 f d w x d' w' ≡ f d' w'
 unfolding put2
 put2_other f d w x d' w' away = go (eqb d' d) (eqb w' w) refl refl
@@ -76,10 +78,12 @@ module _ {X : Type 0} where
       go d' w' away (inl h) = (λ i. put2 (put2 f e v y) d w x (h.0 i) (h.1 i)) ∙ put2_same (put2 f e v y) d w x ∙ sym h.2
       go d' w' away (inr h) = put2_other (put2 f e v y) d w x d' w' h.0 ∙ put2_other f e v y d' w' away ∙ sym h.1
 
+-- After x is put at p, x is there.
 pub put_same : {X : Type 0} (f : ℕ → X) (p : ℕ) (x : X) → put f p x p ≡ x
 unfolding put
 put_same f p x = simp (eq-eqb p p refl)
 
+-- After x is put at p, each other place is as before.
 pub put_other : {X : Type 0} (f : ℕ → X) (p : ℕ) (x : X) (q : ℕ) → (q ≡ p → ⊥) → put f p x q ≡ f q
 unfolding put
 put_other f p x q n = simp (ne_eqb q p n)

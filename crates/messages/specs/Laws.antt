@@ -15,11 +15,13 @@ abbrev pub NothingMovesUp : Type 0
 NothingMovesUp = (z : Sizes) (net : Net) (s w : ℕ) → net.requests s w ≡ [] → moved_up z net s w ≡ (up.Stalled, net)
 
 abbrev pub NothingMovesDown : Type 0
-NothingMovesDown = (z : Sizes) (net : Net) (s w : ℕ) → net.replies (suc s) w ≡ [] → moved_down z net s w ≡ (down.Stalled, net)
+NothingMovesDown = (z : Sizes) (net : Net) (s w : ℕ) → net.replies (suc s) w ≡ [] →
+    moved_down z net s w ≡ (down.Stalled, net)
 
--- Where the leader of the first reply has three records at most, a move of the reply that is answered with more than it tells all of
--- their seconds, in the order of the records.
-abbrev pub SecondsAreTold : Type 0
-SecondsAreTold = (z : Sizes) (net : Net) (s w : ℕ) (x : Reply) (to : Seconds) → slice_get (net.replies (suc s) w) 0 ≡ Some x →
+-- Where the leader of the first reply has three records at most, a move of the reply that is answered with more than
+-- it says all of their seconds, in the order of the records.
+abbrev pub SecondsAreAnswered : Type 0
+SecondsAreAnswered = (z : Sizes) (net : Net) (s w : ℕ) (x : Reply) (to : Seconds) →
+    slice_get (net.replies (suc s) w) 0 ≡ Some x →
     length (records_of x.leader (net.records s w)) ≤ 3 → (moved_down z net s w).0 ≡ down.Answered to →
     seconds_of to ≡ map (λ (e : Record). e.second) (records_of x.leader (net.records s w))

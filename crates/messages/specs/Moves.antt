@@ -1,5 +1,6 @@
 -- The moves of messages: what each answers, and the network after it.
-use Rattle.std.specs.Prelude.{ℕ, suc, ◌%◌, Bool, true, ◌&&◌, nat_lt, nat_le, List, [], ◌∷◌, ◌++◌, length, drop, Option, Some, None, if◌then◌else◌}
+use Rattle.std.specs.Prelude.{ℕ, suc, ◌%◌, Bool, true, ◌&&◌, nat_lt, nat_le, List, [], ◌∷◌, ◌++◌, length, drop, Option}
+use Rattle.std.specs.Prelude.{Some, None, if◌then◌else◌}
 use Rattle.omega_wires.specs.Wires.{wire_after, wire_before}
 use Rattle.messages.specs.declared.message.Request.{Request}
 use Rattle.messages.specs.declared.message.Reply.{Reply}
@@ -9,7 +10,7 @@ use Rattle.messages.specs.declared.moves.UpMove.TheVariants as up
 use Rattle.messages.specs.declared.moves.DownMove.{DownMove}
 use Rattle.messages.specs.declared.moves.DownMove.TheVariants as down
 use Rattle.messages.specs.Queues.{Combination, combination, unmarked, answers, records_of, records_but}
-use Rattle.messages.specs.Seconds.{seconds_told}
+use Rattle.messages.specs.Seconds.{answered_seconds}
 use Rattle.messages.specs.Network.{Sizes, wires, Net, put_requests, put_records, put_replies}
 
 -- ---- up
@@ -33,7 +34,8 @@ accepted z net taken s w x (Some j) = combined taken s w j
 
 -- the request x, taken out of its place, is offered to output w of stage s
 abbrev pub offered : Sizes → Net → Net → ℕ → ℕ → Request → UpMove × Net
-offered z net taken s w x = accepted z net taken s w x (combination z.b z.r x (taken.requests (suc s) w) (taken.records s w))
+offered z net taken s w x =
+    accepted z net taken s w x (combination z.b z.r x (taken.requests (suc s) w) (taken.records s w))
 
 abbrev pub up_from : Sizes → Net → ℕ → ℕ → List Request → UpMove × Net
 up_from z net s w [] = (up.Stalled, net)
@@ -45,10 +47,11 @@ moved_up z net s w = if nat_lt s z.k then up_from z net s w (net.requests s w) e
 
 -- ---- down
 
--- replies are put behind those before stage s, each on its leader's wire
+-- replies are put after those before stage s, each on its leader's wire
 unfoldable pub push_all : (wire : ℕ → ℕ) → ℕ → List Reply → Net → Net
 push_all wire s [] net = net
-push_all wire s (y ∷ ys) net = push_all wire s ys (put_replies net s (wire y.leader) (net.replies s (wire y.leader) ++ y ∷ []))
+push_all wire s (y ∷ ys) net =
+    push_all wire s ys (put_replies net s (wire y.leader) (net.replies s (wire y.leader) ++ y ∷ []))
 
 -- whether each of these replies, now put, has its place within c
 abbrev pub has_room : (c : ℕ) → (wire : ℕ → ℕ) → ℕ → Net → List Reply → Bool
@@ -57,17 +60,20 @@ has_room c wire s net (y ∷ ys) = nat_le (length (net.replies s (wire y.leader)
 
 abbrev pub answered : List Record → DownMove
 answered [] = down.Moved
-answered (e ∷ es) = down.Answered (seconds_told e es)
+answered (e ∷ es) = down.Answered (answered_seconds e es)
 
 -- the reply x, taken out of its place, is answered at output w of stage s: all its replies are put, or none is
 abbrev pub answer : Sizes → Net → Net → ℕ → ℕ → Reply → List Record → DownMove × Net
 answer z net taken s w x records =
-    let all = push_all (wire_before z.k s w) s (answers records x) (put_records taken s w (records_but x.leader (taken.records s w))) in
-    if has_room z.c (wire_before z.k s w) s all (answers records x) then (answered records, all) else (down.Stalled, net)
+    let all = push_all (wire_before z.k s w) s (answers records x)
+    (put_records taken s w (records_but x.leader (taken.records s w))) in
+    if has_room z.c (wire_before z.k s w) s all (answers records x) then (answered records, all)
+    else (down.Stalled, net)
 
 abbrev pub down_from : Sizes → Net → ℕ → ℕ → List Reply → DownMove × Net
 down_from z net s w [] = (down.Stalled, net)
-down_from z net s w (x ∷ rest) = answer z net (put_replies net (suc s) w rest) s w x (records_of x.leader (net.records s w))
+down_from z net s w (x ∷ rest) =
+    answer z net (put_replies net (suc s) w rest) s w x (records_of x.leader (net.records s w))
 
 -- the first reply on wire w after stage s is answered at that output
 unfoldable pub moved_down : Sizes → Net → (s w : ℕ) → DownMove × Net

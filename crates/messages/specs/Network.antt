@@ -17,9 +17,10 @@ pub record Sizes : Type 0 where
 abbrev pub wires : Sizes → ℕ
 wires z = 2 ^ z.k
 
--- Places go by depth and wire. `requests 0 w` is the slot of processor w, and `requests (d + 1) w` the queue at output w of
--- stage d: both stand before the stage of their depth, and at depth k before module w. `records s w` is the wait buffer of
--- output w of stage s. `replies d w` stands before stage d on wire w, and at depth k it is the slot of module w.
+-- Places go by depth and wire. `requests 0 w` is the slot of processor w, and `requests (d + 1) w` the queue at output
+-- w of stage d: both stand before the stage of their depth, and at depth k before module w. `records s w` is the wait
+-- buffer of output w of stage s. `replies d w` stands before stage d on wire w, and at depth k it is the slot of
+-- module w.
 pub record Net : Type 0 where
   pub requests : ℕ → ℕ → List Request
   pub records : ℕ → ℕ → List Record

@@ -1,5 +1,6 @@
 -- What an output of a switch does with a request that comes, and with a reply that comes back.
-use Rattle.std.specs.Prelude.{ℕ, suc, ◌^◌, ◌%◌, ◌==◌, ◌&&◌, not, List, [], ◌∷◌, filter, map, length, nat_lt, Option, Some, None, if◌then◌else◌}
+use Rattle.std.specs.Prelude.{ℕ, suc, ◌^◌, ◌%◌, ◌==◌, ◌&&◌, not, List, [], ◌∷◌, filter, map, length, nat_lt, Option}
+use Rattle.std.specs.Prelude.{Some, None, if◌then◌else◌}
 use Rattle.phi_algebra.specs.declared.phi.Phi.{Phi}
 use Rattle.phi_algebra.specs.Functions.{apply}
 use Rattle.phi_algebra.specs.Composition.{composed}
@@ -7,20 +8,20 @@ use Rattle.messages.specs.declared.message.Request.{Request}
 use Rattle.messages.specs.declared.message.Reply.{Reply}
 use Rattle.messages.specs.declared.message.Record.{Record}
 
--- The function's value at a word. A number stands for the word that it is modulo 2^32, so that what is said of values needs
--- no premise on them.
+-- The function's value at a word. A number stands for the word that it is modulo 2^32, so that what is said of values
+-- needs no premise on them.
 unfoldable pub applied : Phi → ℕ → ℕ
 applied phi y = apply phi (y % 2 ^ 32)
 
 -- ---- a request comes to a queue
 
--- a combination: the queue after it, and the record that tells the replies apart later
+-- a combination: the queue after it, and the record that distinguishes the replies later
 pub record Combination : Type 0 where
   pub queue : List Request
   pub made : Record
 
--- the function of the entry and the request together, where the two combine: the entry was combined fewer than r times in
--- this queue, has the same word, and its function composes with the request's
+-- the function of the entry and the request together, where the two combine: the entry was combined fewer than r times
+-- in this queue, has the same word, and its function composes with the request's
 unfoldable pub joint : (r : ℕ) → (request entry : Request) → Option Phi
 joint r x e = if nat_lt e.marks r && (e.word == x.word) then composed e.phi x.phi else None
 

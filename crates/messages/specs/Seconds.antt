@@ -10,9 +10,9 @@ seconds_of (One p) = p ∷ []
 seconds_of (Two p q) = p ∷ q ∷ []
 seconds_of (Three p q v) = p ∷ q ∷ v ∷ []
 
--- Who is told, where a leader has these records: all of their seconds, up to three. No buffer has more, as an entry is combined three
--- times at most.
-abbrev pub seconds_told : Record → List Record → Seconds
-seconds_told e [] = One e.second
-seconds_told e (f ∷ []) = Two e.second f.second
-seconds_told e (f ∷ g ∷ rest) = Three e.second f.second g.second
+-- Who sees it, where a leader has these records: all of their seconds, up to three. No buffer has more, as an entry is
+-- combined three times at most.
+abbrev pub answered_seconds : Record → List Record → Seconds
+answered_seconds e [] = One e.second
+answered_seconds e (f ∷ []) = Two e.second f.second
+answered_seconds e (f ∷ g ∷ rest) = Three e.second f.second g.second

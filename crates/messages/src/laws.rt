@@ -1,6 +1,6 @@
 //! What holds of every move of a message. It is the contract of a function that does nothing.
 
-ghost use Rattle.messages.specs.Laws.{NothingMovesDown, NothingMovesUp, SecondsAreTold};
+ghost use Rattle.messages.specs.Laws.{NothingMovesDown, NothingMovesUp, SecondsAreAnswered};
 
 /// Where no message stands, a move stalls, and the network is as before.
 #[inline(always)]
@@ -9,8 +9,9 @@ pub fn moves_of_nothing_stall()
     ensures down { NothingMovesDown }
 {}
 
-/// Where the leader of a reply has three records at most, what a move of the reply answers tells all of their seconds, in their order.
+/// Where the leader of a reply has three records at most, what a move of the reply answers says all of their seconds,
+/// in their order.
 #[inline(always)]
-pub fn seconds_are_told()
-    ensures { SecondsAreTold }
+pub fn seconds_are_answered()
+    ensures { SecondsAreAnswered }
 {}

@@ -12,11 +12,13 @@ pub applied_small : (f : Phi) (x : ℕ) → IsInRange f → applied f x < 2 ^ 32
 unfolding applied
 applied_small f x p = value_small f (x % 2 ^ 32) p (mod_below x (2 ^ 32) (omega arith))
 
+-- The composition of two functions in range does to a word what the first does, and then the second.
 pub composed_law : (f g h : Phi) → IsInRange f → IsInRange g → composed f g ≡ Some h → (x : ℕ) → applied h x ≡ applied g (applied f x)
 unfolding applied
 composed_law f g h p q e x =
     meaning_of f g h e p q (x % 2 ^ 32) (mod_below x (2 ^ 32) (omega arith))
     ∙ ap (apply g) (sym (mod-eq_of_lt (applied_small f x p)))
 
+-- The composition of two functions in range is in range.
 pub composed_in_range : (f g h : Phi) → IsInRange f → IsInRange g → composed f g ≡ Some h → IsInRange h
 composed_in_range f g h p q e = range_of f g h e p q

@@ -8,19 +8,21 @@ use Rattle.messages.specs.Queues.{Combination, merged, record_of, records_of, re
 use Rattle.messages.specs.Network.{Net, put_records}
 use Rattle.messages.specs.Naming.{Unnamed}
 use Rattle.messages.specs.Moves.{combined}
-use Rattle.network_theory.specs.Roles.{Role, Idle, Waiting, Told, Placed, RecordPlaced}
+use Rattle.network_theory.specs.Roles.{Role, Idle, Waiting, Replying, Placed, RecordPlaced}
 use Rattle.network_theory.specs.Meaning.{Means, joined}
 use Rattle.network_theory.specs.Changes.{CombiningKeepsPlaces, CombiningJoinsGroups, AnsweringKeepsPlaces, AnsweringGivesEachItsOwn}
 use Rattle.messages.proofs.Lemmas.{ApartBy-filter, In-filter, In-map_from, In-put2, combination_joins, from_answers}
 use Rattle.network_theory.proofs.Roles.{combine, drop_records, drop_records_unnamed, placed_push_all, below_role, unnamed_fewer, not_led, seconds}
 use Rattle.network_theory.proofs.Meaning.{means_combine, means_drop, means_push_all, answers_mean}
 
+-- If a request is combined, its leader waits at that stage, and each message and record is where its role says.
 pub combining_places : CombiningKeepsPlaces
 combining_places k path role net b r s w x j e ok free near on =
     let J = combination_joins b r x (net.requests (suc s) w) (net.records s w) j e in
     subst (λ (i : Combination). Placed k path (put role x.leader (Waiting s i.made.leader)) (combined net s w i).1) (sym J.is)
     (combine k path role net s w J.front J.behind J.entry (merged J.entry J.function) (record_of x J.entry) ok J.was refl refl free near on)
 
+-- Messages keep their meanings if a request is combined: the entry then stands for both groups.
 pub combining_meaning : CombiningJoinsGroups
 combining_meaning own word path group owed k role net b r s w x j e placed ok free ask =
     let J = combination_joins b r x (net.requests (suc s) w) (net.records s w) j e in
@@ -28,8 +30,10 @@ combining_meaning own word path group owed k role net b r s w x j e placed ok fr
     (means_combine own word path group owed k role net s w J.front J.behind J.entry (merged J.entry J.function) x
     (record_of x J.entry) placed ok J.was free ask J.law refl refl refl refl refl)
 
+-- After a reply is answered, the leaders of its replies reply before that stage, and each message and record
+-- is where its role says.
 pub answering_places : AnsweringKeepsPlaces
-answering_places k path wire role net s w x ok l free told on way =
+answering_places k path wire role net s w x ok l free replying on way =
     let p : ℕ = x.leader in
     let rs : List Record = records_of p (net.records s w) in
     let left : List Record = records_but p (net.records s w) in
@@ -43,7 +47,7 @@ answering_places k path wire role net s w x ok l free told on way =
     let below_p : (t v : ℕ) (r : Record) → In r (net'.records t v) → r.leader ≡ p → t < s
     = (λ t v r m g. elim (In-put2 net.records s w left t v r m) [
       | inl h ↦ absurd (not_led r.leader p g ((In-filter (λ (e : Record). not (e.leader == p)) r (net.records s w) h.2).1))
-      | inr h ↦ (let b : t < suc s = below_role k path role net p (Told (suc s)) ok told t v r h.1 g in
+      | inr h ↦ (let b : t < suc s = below_role k path role net p (Replying (suc s)) ok replying t v r h.1 g in
           elim (cases_eq t s) [
             | inl same ↦ absurd (h.0 same (sym ((ok.records t v r h.1).wire) ∙ ap₂ (λ i j. path i (suc j)) g same ∙ on))
             | inr n ↦ omega arith
@@ -54,7 +58,7 @@ answering_places k path wire role net s w x ok l free told on way =
     = (λ y m. elim (from_answers x y rs m) [
       | inl a ↦ (
         subst (Unnamed net') (sym a) (unnamed_fewer net s w left p free sub),
-        back y.leader (Told (suc s)) (ap role a ∙ told) (λ c. cc) (ap (λ j. path j (suc s)) a ∙ on),
+        back y.leader (Replying (suc s)) (ap role a ∙ replying) (λ c. cc) (ap (λ j. path j (suc s)) a ∙ on),
         (λ t v r i g. below_p t v r i (g ∙ a)),
       )
       | inr a ↦ (let g = known a.0 a.1 in (
@@ -66,20 +70,21 @@ answering_places k path wire role net s w x ok l free told on way =
     let apart : ApartBy (λ (y : Reply). y.leader) ys = (
       (λ m. let g = In-map_from (λ (r : Record). r.second) p rs (subst (In p) (seconds x rs) m) in
           let f = known g.0 g.1 in
-          let c : Waiting s g.0.leader ≡ Told (suc s) = sym f.0.waits ∙ ap role g.2 ∙ told in cc),
+          let c : Waiting s g.0.leader ≡ Replying (suc s) = sym f.0.waits ∙ ap role g.2 ∙ replying in cc),
       subst Distinct (sym (seconds x rs)) (ApartBy-filter (λ (r : Record). r.second) (λ (e : Record). e.leader == p) (net.records s w) (ok.records_apart s w)),
     ) in
     placed_push_all k path wire s ys role net' placed (omega arith) apart each
 
 -- who answers was no idle processor
-pub answers_led : (k : ℕ) (path : ℕ → ℕ → ℕ) (role : ℕ → Role) (net : Net) (s w : ℕ) (x : Reply) → Placed k path role net → role x.leader ≡ Told (suc s)
+pub answers_led : (k : ℕ) (path : ℕ → ℕ → ℕ) (role : ℕ → Role) (net : Net) (s w : ℕ) (x : Reply) → Placed k path role net → role x.leader ≡ Replying (suc s)
     → (y : Reply) → In y (answers (records_of x.leader (net.records s w)) x) → role y.leader ≡ Idle → ⊥
-answers_led k path role net s w x ok told y m i = elim (from_answers x y (records_of x.leader (net.records s w)) m) [
-  | inl a ↦ (let c : Told (suc s) ≡ Idle = sym told ∙ ap role (sym a) ∙ i in cc)
+answers_led k path role net s w x ok replying y m i = elim (from_answers x y (records_of x.leader (net.records s w)) m) [
+  | inl a ↦ (let c : Replying (suc s) ≡ Idle = sym replying ∙ ap role (sym a) ∙ i in cc)
   | inr a ↦ (let g = In-filter (λ (e : Record). e.leader == x.leader) a.0 (net.records s w) a.1 in
       let c : Waiting s a.0.leader ≡ Idle = sym ((ok.records s w a.0 g.0).waits) ∙ ap role (sym a.2) ∙ i in cc)
 ]
 
+-- Messages keep their meanings if a reply that gives each what it is owed is answered.
 pub answering_meaning : AnsweringGivesEachItsOwn
 answering_meaning own word path group owed wire net s w x ok free means on =
     let left : List Record = records_but x.leader (net.records s w) in

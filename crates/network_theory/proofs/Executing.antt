@@ -22,6 +22,7 @@ put_itself {X} f a i = go (cases_eq i a)
     go (inl e) = ap (put f a (f a)) e ∙ put_same f a (f a) ∙ ap f (sym e)
     go (inr n) = put_other f a (f a) i n
 
+-- Two functions that agree everywhere still agree after both get the same value at the same place.
 pub put_agree : {X : Type 0} (f g : ℕ → X) (a : ℕ) (x : X) (i : ℕ) → ((j : ℕ) → f j ≡ g j) → put f a x i ≡ put g a x i
 put_agree {X} f g a x i h = go (cases_eq i a)
   where

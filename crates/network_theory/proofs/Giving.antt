@@ -105,25 +105,30 @@ gives_unnamed R p others (suc s) q y m n i same = elim (In-append m (gives R q s
       gives_unnamed R p others s r.0.second (applied r.0.phi y) m (others q s r.0 r.1) r.2 same)
 ]
 
+-- Processors find the same if each of them has the same function.
 pub finds_agree : (own now : ℕ → Phi) (js : List ℕ) → ((j : ℕ) → In j js → now j ≡ own j) → (y : ℕ) → finds now js y ≡ finds own js y
 unfolding finds
 finds_agree own now [] h y = refl
 finds_agree own now (j ∷ js) h y = ap (λ z. (j, y) ∷ finds now js (applied z y)) (h j (inl refl))
     ∙ ap (λ z. (j, y) ∷ z) (finds_agree own now js (λ i m. h i (inr m)) (applied (own j) y))
 
+-- Processors leave the same word if each of them has the same function.
 pub leaves_agree : (own now : ℕ → Phi) (js : List ℕ) → ((j : ℕ) → In j js → now j ≡ own j) → (y : ℕ) → leaves now js y ≡ leaves own js y
 unfolding leaves
 leaves_agree own now [] h y = refl
 leaves_agree own now (j ∷ js) h y = ap (λ z. leaves now js (applied z y)) (h j (inl refl)) ∙ leaves_agree own now js (λ i m. h i (inr m)) (applied (own j) y)
 
+-- A single processor leaves what its function makes of the word.
 pub leaves_one : (own : ℕ → Phi) (p y : ℕ) → leaves own (p ∷ []) y ≡ applied (own p) y
 unfolding leaves
 leaves_one own p y = refl
 
+-- A single processor finds the word as it is.
 pub finds_one : (own : ℕ → Phi) (p y : ℕ) → finds own (p ∷ []) y ≡ (p, y) ∷ []
 unfolding finds
 finds_one own p y = refl
 
+-- A reply at depth 0 gives its value to its leader alone.
 pub gives_first : (R : ℕ → ℕ → List Record) (p y : ℕ) → gives R p 0 y ≡ (p, y) ∷ []
 unfolding gives
 gives_first R p y = refl

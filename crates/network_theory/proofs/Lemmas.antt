@@ -18,7 +18,7 @@ pub use Rattle.network_theory.proofs.Records.{records_drop_other, records_none, 
 -- How single changes keep the places.
 pub use Rattle.network_theory.proofs.Roles.{below_role, combine, not_idle, not_led, others_request, placed_change}
 pub use Rattle.network_theory.proofs.Roles.{placed_nowhere, pop_reply, pop_reply_unnamed, pop_request}
-pub use Rattle.network_theory.proofs.Roles.{pop_request_unnamed, push_reply, push_request, small_put, told_other}
+pub use Rattle.network_theory.proofs.Roles.{pop_request_unnamed, push_reply, push_request, small_put, replying_other}
 pub use Rattle.network_theory.proofs.Roles.{unnamed_idle}
 -- Lemmas of lower crates, passed on to those above.
 pub use Rattle.omega_wires.proofs.Lemmas as omega_wires

@@ -14,7 +14,7 @@ use Rattle.messages.specs.Network.{Net, put_requests, put_records, put_replies, 
 use Rattle.messages.specs.Naming.{Unnamed}
 use Rattle.messages.specs.Moves.{push_all}
 use Rattle.network_theory.specs.Giving.{gives, finds, leaves}
-use Rattle.network_theory.specs.Roles.{Role, Idle, Asking, Told, Placed}
+use Rattle.network_theory.specs.Roles.{Role, Idle, Asking, Replying, Placed}
 use Rattle.network_theory.specs.Changes.{ServingExecutesTheGroup, ServingEndsTheGroup}
 use Rattle.network_theory.specs.Meaning.{RequestMeans, ReplyMeans, Means, Groups, execute_all, joined}
 use Rattle.network_theory.proofs.Algebra.{composed_law, composed_in_range}
@@ -34,6 +34,7 @@ request_led own word group R d x h = In-finds own (group x.leader) 0 (x.leader, 
 
 -- the joined groups
 
+-- After q's group joins p's, p's group is its own members and then q's, if p and q differ.
 pub joined_first : (group : ℕ → List ℕ) (p q : ℕ) → (p ≡ q → ⊥) → joined group p q p ≡ group p ++ group q
 unfolding joined
 joined_first group p q n = put_other (put group p (group p ++ group q)) q [] p n ∙ put_same group p (group p ++ group q)
@@ -56,6 +57,7 @@ from_joined group p q i j n m = go (cases_eq i p) (cases_eq i q)
     go (inr a) (inl e) = absurd (subst (In j) (ap (joined group p q) e ∙ joined_second group p q) m)
     go (inr a) (inr b) = inr (a, b, subst (In j) (joined_other group p q i a b) m)
 
+-- Groups are still groups after q's joins p's, if p and q differ, have the same word, and are in their own.
 pub groups_joined : (word : ℕ → ℕ) (open_now : ℕ → Bool) (group : ℕ → List ℕ) (owed : ℕ → Option ℕ) (p q : ℕ) → Groups word open_now group owed → (p ≡ q → ⊥)
     → word q ≡ word p → In p (group p) → In q (group q) → Groups word open_now (joined group p q) owed
 groups_joined word open_now group owed p q ok n same mp mq = record {
@@ -109,6 +111,7 @@ request_further own word group R d x y h none el ew ep = record {
   answers = λ v. ap (λ l. gives R l (suc d) v) el ∙ gives_further R x.leader d v none ∙ h.answers v ∙ ap (λ l. finds own (group l) v) (sym el);
 }
 
+-- Messages keep their meanings if the first request of a queue is taken out.
 pub means_pop_request : (own : ℕ → Phi) (word : ℕ → ℕ) (path : ℕ → ℕ → ℕ) (group : ℕ → List ℕ) (owed : ℕ → Option ℕ) (net : Net) (d w : ℕ) (x : Request)
     (rest : List Request)
     → Means own word path group owed net → net.requests d w ≡ x ∷ rest → Means own word path group owed (put_requests net d w rest)
@@ -117,6 +120,7 @@ means_pop_request own word path group owed net d w x rest ok e = record {
   replies = ok.replies;
 }
 
+-- Messages keep their meanings if a queue gets one more request, which has its meaning there.
 pub means_push_request : (own : ℕ → Phi) (word : ℕ → ℕ) (path : ℕ → ℕ → ℕ) (group : ℕ → List ℕ) (owed : ℕ → Option ℕ) (net : Net) (d w : ℕ) (x : Request)
     → Means own word path group owed net → RequestMeans own word group (records_on path net.records) d x
     → Means own word path group owed (put_requests net d w (net.requests d w ++ x ∷ []))
@@ -202,6 +206,7 @@ means_combine own word path group owed k role net s w front behind x y a z place
       replies = λ d' w' b m g i. ok.replies d' w' b m g (subst (In g) (gives_frame R S p same others d' b.leader b.value (lone.replies d' w' b m)) i);
     }
 
+-- Messages keep their meanings if the first reply of a queue is taken out.
 pub means_pop_reply : (own : ℕ → Phi) (word : ℕ → ℕ) (path : ℕ → ℕ → ℕ) (group : ℕ → List ℕ) (owed : ℕ → Option ℕ) (net : Net) (d w : ℕ) (x : Reply)
     (rest : List Reply)
     → Means own word path group owed net → net.replies d w ≡ x ∷ rest → Means own word path group owed (put_replies net d w rest)
@@ -218,6 +223,7 @@ means_push_reply own word path group owed net d w x ok h = record {
   replies = each_pushed (λ d' w'. ReplyMeans owed (records_on path net.records) d') net.replies d w x h ok.replies;
 }
 
+-- Messages keep their meanings if replies are put before stage s, and each gives what is owed.
 pub means_push_all : (own : ℕ → Phi) (word : ℕ → ℕ) (path : ℕ → ℕ → ℕ) (group : ℕ → List ℕ) (owed : ℕ → Option ℕ) (wire : ℕ → ℕ) (s : ℕ) (ys : List Reply)
     (net : Net)
     → Means own word path group owed net → ((y : Reply) → In y ys → ReplyMeans owed (records_on path net.records) s y)
@@ -282,6 +288,7 @@ means_serve own word open_now path group f net d w x y ok grp h free yl yv =
     (λ g i. executed_owed own word f (group p) a (λ j m. grp.one_word p j p m (request_led own word group R d x h)) (grp.distinct p) g
     (subst (In g) ((λ j. gives R (yl j) d y.value) ∙ h.answers y.value ∙ ap (finds own (group p)) (yv ∙ ap f.mem h.word_is)) i))
 
+-- Groups are still groups after one of them is executed and emptied.
 pub groups_serve : ServingEndsTheGroup
 groups_serve own word open_now group f p ok = record {
   opened = λ i j m. ok.opened i j ((from i j m).1);
@@ -325,6 +332,7 @@ means_change own own' word word' open_now path path' group owed owed' net p ok f
           same_owed g.0 (gives_unnamed R p others d x.leader x.value g n j) ∙ ok.replies d w x m g j;
     }
 
+-- If p is in no group, groups are still groups after p's word, its debt and whether it is open change.
 pub groups_change : (word word' : ℕ → ℕ) (open_now open' : ℕ → Bool) (group : ℕ → List ℕ) (owed owed' : ℕ → Option ℕ) (p : ℕ)
     → Groups word open_now group owed → ((i : ℕ) → In p (group i) → ⊥)
     → ((q : ℕ) → (q ≡ p → ⊥) → word' q ≡ word q) → ((q : ℕ) → (q ≡ p → ⊥) → owed' q ≡ owed q) → ((q : ℕ) → (q ≡ p → ⊥) → open' q ≡ open_now q)
@@ -373,6 +381,7 @@ groups_issue word open_now group owed p ok shut none = record {
       | inr n ↦ inr (n, subst (In j) (put_other group p (p ∷ []) i n) m)
     ]
 
+-- Messages keep their meanings if an unnamed processor issues its request, and its group is itself alone.
 pub means_issue : (own : ℕ → Phi) (word : ℕ → ℕ) (path : ℕ → ℕ → ℕ) (group : ℕ → List ℕ) (owed : ℕ → Option ℕ) (net : Net) (p w : ℕ) (x : Request)
     → Means own word path group owed net → Unnamed net p → x.leader ≡ p → x.word ≡ word p → x.phi ≡ own p → IsInRange x.phi
     → Means own word path (put group p (p ∷ [])) owed (put_requests net 0 w (net.requests 0 w ++ x ∷ []))
@@ -394,5 +403,5 @@ pub means_nothing : (k : ℕ) (path : ℕ → ℕ → ℕ) (role : ℕ → Role)
     (owed : ℕ → Option ℕ) → Placed k path role net → ((p : ℕ) → role p ≡ Idle) → Means own word path' group owed net
 means_nothing k path role net own word path' group owed ok idle = record {
   requests = λ d w x m. absurd (let h = (ok.requests d w x m).asks in let c : Asking d ≡ Idle = sym h ∙ idle x.leader in cc);
-  replies = λ d w x m. absurd (let h = (ok.replies d w x m).told in let c : Told d ≡ Idle = sym h ∙ idle x.leader in cc);
+  replies = λ d w x m. absurd (let h = (ok.replies d w x m).replying in let c : Replying d ≡ Idle = sym h ∙ idle x.leader in cc);
 }

@@ -50,7 +50,7 @@ with_replies z goes net d w xs ok these = record {
   replies = λ e v x m. elim (In-put2 net.replies d w xs e v x m) [ inl h ↦ rw (h.0, h.1) (these x h.2) | inr h ↦ ok.replies e v x h.1 ];
 }
 
--- what holds of each of a list holds of each of a part of it, and with one more behind
+-- what holds of each of a list holds of each of a part of it, and with one more after
 each_behind : {X : Type 0} (P : X → Type 0) (xs : List X) (y : X) → ((x : X) → In x xs → P x) → P y → (x : X) → In x (xs ++ y ∷ []) → P x
 each_behind P xs y each last x m = elim (In-append x xs (y ∷ []) m) [
   | inl o ↦ each x o
@@ -64,6 +64,7 @@ In-drop x (y ∷ xs) m = inr m
 
 -- ---- at the ends
 
+-- An empty network keeps to the paths.
 pub empty_networks : EmptyNetworksKeepToPaths
 empty_networks z goes net none = record {
   requests = λ d w x m. absurd (subst (In x) ((none d w).0) m);
@@ -71,6 +72,7 @@ empty_networks z goes net none = record {
   replies = λ d w x m. absurd (subst (In x) ((none d w).2) m);
 }
 
+-- A network still keeps to the paths if the references of those that it names still go where they went.
 pub others_do_not_count : OthersDoNotCount
 others_do_not_count z goes goes' net ok same = record {
   requests = λ d w x m. let h = ok.requests d w x m in record {
@@ -100,6 +102,7 @@ others_do_not_count z goes goes' net ok same = record {
   };
 }
 
+-- A network keeps to the paths if a processor injects a request to a module that its reference goes to.
 pub injecting : InjectingKeepsToPaths
 unfolding injected path
 injecting z goes net x ok small there =
@@ -107,6 +110,7 @@ injecting z goes net x ok small there =
     (each_behind (RequestOnPath z.k goes 0 x.leader) (net.requests 0 x.leader) x (ok.requests 0 x.leader)
     (record { goes_there = there; wire = refl; deep = omega arith; processor = small }))
 
+-- A network keeps to the paths if a module takes a request, and if it replies to one whose reference goes there.
 pub serving : PathEndsAtTheModule → ServingKeepsToPaths
 unfolding module_taken module_replied
 serving path_ends z goes net m ok = (
@@ -117,6 +121,7 @@ serving path_ends z goes net m ok = (
       (record { from_module = m; a_module = small; goes_there = there; wire = path_ends z.k x.leader m led small; deep = omega arith; processor = led })),
 )
 
+-- A network keeps to the paths if a port takes its reply.
 pub taking : TakingKeepsToPaths
 unfolding port_taken
 taking z goes net p ok = with_replies z goes net 0 p (drop 1 (net.replies 0 p)) ok (λ x i. ok.replies 0 p x (In-drop x (net.replies 0 p) i))
@@ -162,6 +167,7 @@ on_together z goes net s w x j ok on J =
     (with_requests z goes net (suc s) w queue ok each)
     (each_behind (RecordOnPath z.k goes s w) (net.records s w) made (ok.records s w) kept))
 
+-- A network keeps to the paths if a request moves up, or is combined.
 pub moving_up : MovingUpKeepsToPaths
 unfolding moved_up path
 moving_up z goes net s w ok = go (nat_lt s z.k) refl
@@ -219,6 +225,7 @@ goes_back same_way k goes s w p m y l led small m_small there on = record {
   processor = rw led small;
 }
 
+-- A network keeps to the paths if a reply moves down, with its replies to the seconds.
 pub moving_down : RepliesGoBackTheSameWay → MovingDownKeepsToPaths
 unfolding moved_down
 moving_down same_way z goes net s w ok = go (nat_lt s z.k) refl
@@ -259,12 +266,14 @@ moving_down same_way z goes net s w ok = go (nat_lt s z.k) refl
 
 -- ---- arrivals
 
+-- A request at a module is for a word there, and its leader's reference goes there.
 pub requests_arrive : PathEndsAtTheModule → RequestsArrive
 requests_arrive path_ends z goes net m x ok i =
     let h = ok.requests z.k m x i in
     let is : x.word % 2 ^ z.k ≡ m = sym (path_ends z.k x.leader (x.word % 2 ^ z.k) h.processor (mod_below x.word (2 ^ z.k) (pow_pos z.k))) ∙ h.wire in
     (is, subst (λ v. v < 2 ^ z.k) is (mod_below x.word (2 ^ z.k) (pow_pos z.k)), h.processor, subst (λ v. goes x.leader v ≡ true) is h.goes_there)
 
+-- A reply on a processor's wire at depth 0 is that processor's.
 pub replies_arrive : RepliesArrive
 unfolding path
 replies_arrive z goes net p x ok i =

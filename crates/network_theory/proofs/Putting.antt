@@ -17,7 +17,7 @@ module _ {X : Type 0} (P : ℕ → ℕ → X → Type 0) (f : ℕ → ℕ → Li
       → (d' w' : ℕ) (x : X) → In x (put2 f d w xs d' w') → P d' w' x
   each_fewer xs sub each = each_put xs (λ x m. each d w x (sub x m)) (λ d' w' x n m. each d' w' x m)
 
-  -- one more behind those that were there
+  -- one more after those that were there
   pub each_pushed : (x : X) → P d w x → ((d' w' : ℕ) (y : X) → In y (f d' w') → P d' w' y)
       → (d' w' : ℕ) (y : X) → In y (put2 f d w (f d w ++ x ∷ []) d' w') → P d' w' y
   each_pushed x here each = each_put (f d w ++ x ∷ [])

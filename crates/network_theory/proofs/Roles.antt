@@ -10,7 +10,7 @@ use Rattle.messages.specs.Queues.{applied, records_but}
 use Rattle.messages.specs.Network.{Net, put_requests, put_records, put_replies}
 use Rattle.messages.specs.Naming.{Unnamed}
 use Rattle.messages.specs.Moves.{push_all}
-use Rattle.network_theory.specs.Roles.{Role, Idle, Asking, Waiting, Told, depth, Placed, RequestPlaced, RecordPlaced, ReplyPlaced, told_all}
+use Rattle.network_theory.specs.Roles.{Role, Idle, Asking, Waiting, Replying, depth, Placed, RequestPlaced, RecordPlaced, ReplyPlaced, replying_all}
 use Rattle.messages.proofs.Lemmas.{ApartBy-filter, ApartBy-middle, ApartBy-push, ApartBy-same, In-append}
 use Rattle.messages.proofs.Lemmas.{In-append_left, In-append_right, In-filter, In-map, each_put2, put_other, put_same}
 use Rattle.network_theory.proofs.Putting.{each_fewer, each_pushed, each_put}
@@ -43,7 +43,7 @@ new_role k path role net p r ok free below = record {
     deep = h.deep;
   };
   replies = λ d w x m. let h = ok.replies d w x m in record {
-    told = put_other role p r x.leader (free.replies d w x m) ∙ h.told;
+    replying = put_other role p r x.leader (free.replies d w x m) ∙ h.replying;
     wire = h.wire;
     deep = h.deep;
   };
@@ -85,7 +85,7 @@ others_request k path role net d w front behind x ok e =
       requests = none_left (λ (z : Request). z.leader) net.requests d w ok.requests_apart path role Asking (λ i j same. cc)
           (λ d' w' y m. let q = ok.requests d' w' y m in (q.asks, q.wire)) front behind x e;
       records = λ s' w' y m same. let q = ok.records s' w' y m in let f = sym q.waits ∙ ap role same ∙ p.asks in cc;
-      replies = λ d' w' y m same. let q = ok.replies d' w' y m in let f = sym q.told ∙ ap role same ∙ p.asks in cc;
+      replies = λ d' w' y m same. let q = ok.replies d' w' y m in let f = sym q.replying ∙ ap role same ∙ p.asks in cc;
     }
 
 -- the first request of a place goes
@@ -127,14 +127,14 @@ push_request k path role net d w x ok free below on deep =
 pub push_reply : (k : ℕ) (path : ℕ → ℕ → ℕ) (role : ℕ → Role) (net : Net) (d w : ℕ) (x : Reply)
     → Placed k path role net → Unnamed net x.leader → ((s w : ℕ) (z : Record) → In z (net.records s w) → z.leader ≡ x.leader → s < d) → path x.leader d ≡ w
     → d ≤ k
-    → Placed k path (put role x.leader (Told d)) (put_replies net d w (net.replies d w ++ x ∷ []))
+    → Placed k path (put role x.leader (Replying d)) (put_replies net d w (net.replies d w ++ x ∷ []))
 push_reply k path role net d w x ok free below on deep =
-    let role' = put role x.leader (Told d) in
-    let others = new_role k path role net x.leader (Told d) ok free below in
+    let role' = put role x.leader (Replying d) in
+    let others = new_role k path role net x.leader (Replying d) ok free below in
     record {
       requests = others.requests;
       records = others.records;
-      replies = each_pushed (ReplyPlaced k path role') net.replies d w x (record { told = put_same role x.leader (Told d); wire = on; deep = deep })
+      replies = each_pushed (ReplyPlaced k path role') net.replies d w x (record { replying = put_same role x.leader (Replying d); wire = on; deep = deep })
           others.replies;
       requests_apart = ok.requests_apart;
       records_apart = ok.records_apart;
@@ -153,15 +153,16 @@ pop_reply k path role net d w x rest ok e = record {
   replies_apart = apart_popped (λ (z : Reply). z.leader) net.replies d w ok.replies_apart x rest e;
 }
 
+-- After the first reply of a queue is taken out, the network does not name its leader.
 pub pop_reply_unnamed : (k : ℕ) (path : ℕ → ℕ → ℕ) (role : ℕ → Role) (net : Net) (d w : ℕ) (x : Reply) (rest : List Reply)
     → Placed k path role net → net.replies d w ≡ x ∷ rest → Unnamed (put_replies net d w rest) x.leader
 pop_reply_unnamed k path role net d w x rest ok e =
     let p = ok.replies d w x (rw e (inl refl)) in
     record {
-      requests = λ d' w' y m same. let q = ok.requests d' w' y m in let f = sym q.asks ∙ ap role same ∙ p.told in cc;
-      records = λ s' w' y m same. let q = ok.records s' w' y m in let f = sym q.waits ∙ ap role same ∙ p.told in cc;
-      replies = none_left (λ (z : Reply). z.leader) net.replies d w ok.replies_apart path role Told (λ i j same. cc)
-          (λ d' w' y m. let q = ok.replies d' w' y m in (q.told, q.wire)) [] rest x e;
+      requests = λ d' w' y m same. let q = ok.requests d' w' y m in let f = sym q.asks ∙ ap role same ∙ p.replying in cc;
+      records = λ s' w' y m same. let q = ok.records s' w' y m in let f = sym q.waits ∙ ap role same ∙ p.replying in cc;
+      replies = none_left (λ (z : Reply). z.leader) net.replies d w ok.replies_apart path role Replying (λ i j same. cc)
+          (λ d' w' y m. let q = ok.replies d' w' y m in (q.replying, q.wire)) [] rest x e;
     }
 
 -- ---- combining, and records
@@ -227,6 +228,7 @@ drop_records k path role net s w p ok = record {
       (ApartBy-filter (λ (b : Record). b.second) (λ (x : Record). not (x.leader == p)) (net.records s w) (ok.records_apart s w)) ok.records_apart;
 }
 
+-- Two equal numbers do not pass the test that they differ.
 pub not_led : (a b : ℕ) → a ≡ b → not (a == b) ≡ true → ⊥
 not_led a b e f = true≢false (sym f ∙ ap not (eq-eqb a b e))
 
@@ -237,7 +239,7 @@ drop_records_unnamed k path role net s w p z ok here led =
     let r = ok.records s w z here in
     record {
       requests = λ d' w' y m same. let q = ok.requests d' w' y m in let f = sym q.asks ∙ ap role same ∙ r.waits in cc;
-      replies = λ d' w' y m same. let q = ok.replies d' w' y m in let f = sym q.told ∙ ap role same ∙ r.waits in cc;
+      replies = λ d' w' y m same. let q = ok.replies d' w' y m in let f = sym q.replying ∙ ap role same ∙ r.waits in cc;
       records = each_put (λ t v a. a.second ≡ z.second → ⊥) net.records s w (records_but p (net.records s w))
           (λ a m same.
           let g = In-filter (λ (e : Record). not (e.leader == p)) a (net.records s w) m in
@@ -262,12 +264,12 @@ pub placed_push_all : (k : ℕ) (path : ℕ → ℕ → ℕ) (wire : ℕ → ℕ
     → Placed k path role net → s ≤ k → ApartBy (λ (y : Reply). y.leader) ys
     → ((y : Reply) → In y ys
     → Unnamed net y.leader × (path y.leader s ≡ wire y.leader) × ((t v : ℕ) (z : Record) → In z (net.records t v) → z.leader ≡ y.leader → t < s))
-    → Placed k path (told_all s ys role) (push_all wire s ys net)
-unfolding push_all told_all
+    → Placed k path (replying_all s ys role) (push_all wire s ys net)
+unfolding push_all replying_all
 placed_push_all k path wire s [] role net ok deep apart each = ok
 placed_push_all k path wire s (y ∷ ys) role net ok deep apart each =
     let h = each y (inl refl) in
-    placed_push_all k path wire s ys (put role y.leader (Told s)) (put_replies net s (wire y.leader) (net.replies s (wire y.leader) ++ y ∷ []))
+    placed_push_all k path wire s ys (put role y.leader (Replying s)) (put_replies net s (wire y.leader) (net.replies s (wire y.leader) ++ y ∷ []))
     (push_reply k path role net s (wire y.leader) y ok h.0 h.2 h.1 deep) deep apart.1
     (λ x m. let g = each x (inr m) in (
       unnamed_push_reply net s (wire y.leader) y x.leader g.0
@@ -291,7 +293,7 @@ placed_change k path path' role r net p ok free none same =
         wire_second = same x.second (suc s) (free.records s w x m) ∙ q.wire_second;
         deep = q.deep;
       };
-      replies = λ d w x m. let q = h.replies d w x m in record { told = q.told; wire = same x.leader d (free.replies d w x m) ∙ q.wire; deep = q.deep };
+      replies = λ d w x m. let q = h.replies d w x m in record { replying = q.replying; wire = same x.leader d (free.replies d w x m) ∙ q.wire; deep = q.deep };
       requests_apart = h.requests_apart;
       records_apart = h.records_apart;
       replies_apart = h.replies_apart;
@@ -304,12 +306,14 @@ pub unnamed_idle : (k : ℕ) (path : ℕ → ℕ → ℕ) (role : ℕ → Role) 
 unnamed_idle k path role net p ok idle = record {
   requests = λ d w x m e. let h = ok.requests d w x m in let f = sym h.asks ∙ ap role e ∙ idle in cc;
   records = λ s w x m e. let h = ok.records s w x m in let f = sym h.waits ∙ ap role e ∙ idle in cc;
-  replies = λ d w x m e. let h = ok.replies d w x m in let f = sym h.told ∙ ap role e ∙ idle in cc;
+  replies = λ d w x m e. let h = ok.replies d w x m in let f = sym h.replying ∙ ap role e ∙ idle in cc;
 }
 
+-- An idle processor is not one whose role is another than idle.
 pub not_idle : (role : ℕ → Role) (p q : ℕ) (r : Role) → role p ≡ r → (r ≡ Idle → ⊥) → role q ≡ Idle → q ≡ p → ⊥
 not_idle role p q r is n idle e = n (sym is ∙ ap role (sym e) ∙ idle)
 
+-- If the processors that are not idle are below n, they still are after one below n gets a role.
 pub small_put : (role : ℕ → Role) (n p : ℕ) (r : Role) → ((q : ℕ) → (role q ≡ Idle) ⊎ (q < n)) → p < n → (q : ℕ) → (put role p r q ≡ Idle) ⊎ (q < n)
 small_put role n p r small l q = elim (cases_eq q p) [
   | inl e ↦ inr (subst (λ j. j < n) (sym e) l)
@@ -322,12 +326,13 @@ pub placed_nowhere : (k : ℕ) (path path' : ℕ → ℕ → ℕ) (role : ℕ �
 placed_nowhere k path path' role net ok idle = record {
   requests = λ d w x m. absurd (let h = (ok.requests d w x m).asks in let c : Asking d ≡ Idle = sym h ∙ idle x.leader in cc);
   records = λ s w x m. absurd (let h = (ok.records s w x m).waits in let c : Waiting s x.leader ≡ Idle = sym h ∙ idle x.second in cc);
-  replies = λ d w x m. absurd (let h = (ok.replies d w x m).told in let c : Told d ≡ Idle = sym h ∙ idle x.leader in cc);
+  replies = λ d w x m. absurd (let h = (ok.replies d w x m).replying in let c : Replying d ≡ Idle = sym h ∙ idle x.leader in cc);
   requests_apart = ok.requests_apart;
   records_apart = ok.records_apart;
   replies_apart = ok.replies_apart;
 }
 
+-- An unnamed processor is still unnamed if an output keeps only records that it had.
 pub unnamed_fewer : (net : Net) (s w : ℕ) (xs : List Record) (p : ℕ) → Unnamed net p → ((a : Record) → In a xs → In a (net.records s w))
     → Unnamed (put_records net s w xs) p
 unnamed_fewer net s w xs p free sub = record {
@@ -336,12 +341,14 @@ unnamed_fewer net s w xs p free sub = record {
   records = each_fewer (λ t v a. a.second ≡ p → ⊥) net.records s w xs sub free.records;
 }
 
-pub told_other : (s : ℕ) (ys : List Reply) (role : ℕ → Role) (q : ℕ) → ((y : Reply) → In y ys → y.leader ≡ q → ⊥) → told_all s ys role q ≡ role q
-unfolding told_all
-told_other s [] role q n = refl
-told_other s (y ∷ ys) role q n = told_other s ys (put role y.leader (Told s)) q (λ x m. n x (inr m))
-    ∙ put_other role y.leader (Told s) q (λ e. n y (inl refl) (sym e))
+-- If a processor leads none of the replies that are put, its role is as before.
+pub replying_other : (s : ℕ) (ys : List Reply) (role : ℕ → Role) (q : ℕ) → ((y : Reply) → In y ys → y.leader ≡ q → ⊥) → replying_all s ys role q ≡ role q
+unfolding replying_all
+replying_other s [] role q n = refl
+replying_other s (y ∷ ys) role q n = replying_other s ys (put role y.leader (Replying s)) q (λ x m. n x (inr m))
+    ∙ put_other role y.leader (Replying s) q (λ e. n y (inl refl) (sym e))
 
+-- The replies to the seconds of records have these seconds as their leaders, in the same order.
 pub seconds : (x : Reply) (rs : List Record) → map (λ (y : Reply). y.leader) (map (λ (r : Record). record {
   leader = r.second;
   value = applied r.phi x.value;

@@ -9,7 +9,7 @@ use Rattle.messages.specs.Queues.{Combination, combination, records_of, records_
 use Rattle.messages.specs.Network.{Net, put_records, put_replies, records_on}
 use Rattle.messages.specs.Naming.{Unnamed}
 use Rattle.messages.specs.Moves.{combined, push_all}
-use Rattle.network_theory.specs.Roles.{Role, Idle, Waiting, Told, depth, Placed, told_all}
+use Rattle.network_theory.specs.Roles.{Role, Idle, Waiting, Replying, depth, Placed, replying_all}
 use Rattle.network_theory.specs.Meaning.{RequestMeans, ReplyMeans, Means, Groups, Executed, execute_all, joined}
 
 -- ---- combining
@@ -25,47 +25,57 @@ CombiningKeepsPlaces =
 -- The entry then stands for both groups.
 abbrev pub CombiningJoinsGroups : Type 0
 CombiningJoinsGroups =
-    (own : ℕ → Phi) (word : ℕ → ℕ) (path : ℕ → ℕ → ℕ) (group : ℕ → List ℕ) (owed : ℕ → Option ℕ) (k : ℕ) (role : ℕ → Role) (net : Net) (b r s w : ℕ)
+    (own : ℕ → Phi) (word : ℕ → ℕ) (path : ℕ → ℕ → ℕ) (group : ℕ → List ℕ) (owed : ℕ → Option ℕ) (k : ℕ) (role : ℕ →
+    Role) (net : Net) (b r s w : ℕ)
     (x : Request) (j : Combination) →
     combination b r x (net.requests (suc s) w) (net.records s w) ≡ Some j →
-    Placed k path role net → Means own word path group owed net → Unnamed net x.leader → RequestMeans own word group (records_on path net.records) s x →
+    Placed k path role net → Means own word path group owed net → Unnamed net x.leader →
+    RequestMeans own word group (records_on path net.records) s x →
     Means own word path (joined group j.made.leader j.made.second) owed (combined net s w j).1
 
 -- ---- answering
 
 -- the replies to a reply at output w of stage s, each on its leader's wire, and the records gone
 abbrev pub answered_net : (wire : ℕ → ℕ) → (s w : ℕ) → Reply → Net → Net
-answered_net wire s w x net = push_all wire s (answers (records_of x.leader (net.records s w)) x) (put_records net s w (records_but x.leader (net.records s w)))
+answered_net wire s w x net =
+    push_all wire s (answers (records_of x.leader (net.records s w)) x)
+    (put_records net s w (records_but x.leader (net.records s w)))
 
 abbrev pub answered_roles : (s w : ℕ) → Reply → Net → (ℕ → Role) → ℕ → Role
-answered_roles s w x net role = told_all s (answers (records_of x.leader (net.records s w)) x) role
+answered_roles s w x net role = replying_all s (answers (records_of x.leader (net.records s w)) x) role
 
 abbrev pub AnsweringKeepsPlaces : Type 0
 AnsweringKeepsPlaces =
     (k : ℕ) (path : ℕ → ℕ → ℕ) (wire : ℕ → ℕ) (role : ℕ → Role) (net : Net) (s w : ℕ) (x : Reply) →
-    Placed k path role net → s < k → Unnamed net x.leader → role x.leader ≡ Told (suc s) → path x.leader (suc s) ≡ w →
+    Placed k path role net → s < k → Unnamed net x.leader → role x.leader ≡ Replying (suc s) →
+    path x.leader (suc s) ≡ w →
     ((q : ℕ) → (role q ≡ Idle → ⊥) → path q (suc s) ≡ w → path q s ≡ wire q) →
     Placed k path (answered_roles s w x net role) (answered_net wire s w x net)
 
 -- Where the reply gives each what it is owed, so do the replies to it.
 abbrev pub AnsweringGivesEachItsOwn : Type 0
 AnsweringGivesEachItsOwn =
-    (own : ℕ → Phi) (word : ℕ → ℕ) (path : ℕ → ℕ → ℕ) (group : ℕ → List ℕ) (owed : ℕ → Option ℕ) (wire : ℕ → ℕ) (net : Net) (s w : ℕ) (x : Reply) →
-    Means own word path group owed net → Unnamed net x.leader → ReplyMeans owed (records_on path net.records) (suc s) x → path x.leader (suc s) ≡ w →
+    (own : ℕ → Phi) (word : ℕ → ℕ) (path : ℕ → ℕ → ℕ) (group : ℕ → List ℕ) (owed : ℕ → Option ℕ) (wire : ℕ →
+    ℕ) (net : Net) (s w : ℕ) (x : Reply) →
+    Means own word path group owed net → Unnamed net x.leader →
+    ReplyMeans owed (records_on path net.records) (suc s) x → path x.leader (suc s) ≡ w →
     Means own word path group owed (answered_net wire s w x net)
 
 -- ---- serving
 
--- The reply to a request at its module, with the word there, gives to each of its group what it finds when they go one after
--- another on the flat side.
+-- The reply to a request at its module, with the word there, gives to each of its group what it finds when they go one
+-- after another on the flat side.
 abbrev pub ServingExecutesTheGroup : Type 0
 ServingExecutesTheGroup =
-    (own : ℕ → Phi) (word : ℕ → ℕ) (open_now : ℕ → Bool) (path : ℕ → ℕ → ℕ) (group : ℕ → List ℕ) (f : Executed) (net : Net) (d w : ℕ) (x : Request)
+    (own : ℕ → Phi) (word : ℕ → ℕ) (open_now : ℕ → Bool) (path : ℕ → ℕ → ℕ) (group : ℕ →
+    List ℕ) (f : Executed) (net : Net) (d w : ℕ) (x : Request)
     (y : Reply) →
-    Means own word path group f.owed net → Groups word open_now group f.owed → RequestMeans own word group (records_on path net.records) d x
+    Means own word path group f.owed net → Groups word open_now group f.owed →
+    RequestMeans own word group (records_on path net.records) d x
     → Unnamed net x.leader →
     y.leader ≡ x.leader → y.value ≡ f.mem x.word →
-    Means own word path (put group x.leader []) (execute_all own word f (group x.leader)).owed (put_replies net d w (net.replies d w ++ y ∷ []))
+    Means own word path (put group x.leader []) (execute_all own word f (group x.leader)).owed
+    (put_replies net d w (net.replies d w ++ y ∷ []))
 
 abbrev pub ServingEndsTheGroup : Type 0
 ServingEndsTheGroup =

@@ -4,8 +4,8 @@ use Rattle.messages.specs.phi_algebra.declared.phi.Phi.{Phi}
 use Rattle.messages.specs.declared.message.Record.{Record}
 use Rattle.messages.specs.Queues.{applied}
 
--- Who gets what where the leader p gets y at depth d, in order: what p gives below stage d - 1, and then what the second of
--- each record of p there gives. `R p s` is the records of p at stage s.
+-- Who gets what where the leader p gets y at depth d, in order: what p gives below stage d - 1, and then what the
+-- second of each record of p there gives. `R p s` is the records of p at stage s.
 unfoldable pub gives : (R : ℕ → ℕ → List Record) → ℕ → ℕ → ℕ → List (ℕ × ℕ)
 gives R p zero y = (p, y) ∷ []
 gives R p (suc s) y = gives R p s y ++ flat_map (λ x. gives R x.second s (applied x.phi y)) (R p s)

@@ -1,7 +1,7 @@
 -- What the messages stand for.
 --
--- `own p` and `word p` are the function and the word of p's open reference, `group p` is whom p's request stands for, and
--- `owed p` is what p's reference found, once it is served and until it retires.
+-- `own p` and `word p` are the function and the word of p's open reference, `group p` is whom p's request stands for,
+-- and `owed p` is what p's reference found, once it is served and until it retires.
 use Rattle.std.specs.Prelude.{◌≡◌, ℕ, List, [], ◌∷◌, ◌++◌, Option, Some, None, Bool, true}
 use Rattle.messages.specs.phi_algebra.declared.phi.Phi.{Phi}
 use Rattle.messages.specs.phi_algebra.Functions.{IsInRange}
@@ -13,9 +13,10 @@ use Rattle.messages.specs.Queues.{applied}
 use Rattle.messages.specs.Network.{Net, records_on}
 use Rattle.network_theory.specs.Giving.{gives, finds, leaves}
 
--- A request at depth d means that its leader's group goes one after another: its function is theirs together, and a reply
--- to it gives to each what it finds.
-pub record RequestMeans (own : ℕ → Phi) (word : ℕ → ℕ) (group : ℕ → List ℕ) (R : ℕ → ℕ → List Record) (d : ℕ) (x : Request) : Type 0 where
+-- A request at depth d means that its leader's group goes one after another: its function is theirs together, and a
+-- reply to it gives to each what it finds.
+pub record RequestMeans (own : ℕ → Phi) (word : ℕ → ℕ) (group : ℕ → List ℕ) (R : ℕ → ℕ →
+    List Record) (d : ℕ) (x : Request) : Type 0 where
   pub word_is : x.word ≡ word x.leader
   pub in_range : IsInRange x.phi
   pub function : (y : ℕ) → applied x.phi y ≡ leaves own (group x.leader) y
@@ -25,8 +26,10 @@ pub record RequestMeans (own : ℕ → Phi) (word : ℕ → ℕ) (group : ℕ �
 abbrev pub ReplyMeans : (owed : ℕ → Option ℕ) → (R : ℕ → ℕ → List Record) → ℕ → Reply → Type 0
 ReplyMeans owed R d x = (m : ℕ × ℕ) → In m (gives R x.leader d x.value) → owed m.0 ≡ Some m.1
 
-pub record Means (own : ℕ → Phi) (word : ℕ → ℕ) (path : ℕ → ℕ → ℕ) (group : ℕ → List ℕ) (owed : ℕ → Option ℕ) (net : Net) : Type 0 where
-  pub requests : (d w : ℕ) (x : Request) → In x (net.requests d w) → RequestMeans own word group (records_on path net.records) d x
+pub record Means (own : ℕ → Phi) (word : ℕ → ℕ) (path : ℕ → ℕ → ℕ) (group : ℕ → List ℕ) (owed : ℕ →
+    Option ℕ) (net : Net) : Type 0 where
+  pub requests : (d w : ℕ) (x : Request) → In x (net.requests d w) →
+      RequestMeans own word group (records_on path net.records) d x
   pub replies : (d w : ℕ) (x : Reply) → In x (net.replies d w) → ReplyMeans owed (records_on path net.records) d x
 
 -- The groups are of open references that are not served, each to one word, and each processor is in one group, once.
@@ -37,14 +40,18 @@ pub record Groups (word : ℕ → ℕ) (open_now : ℕ → Bool) (group : ℕ �
   pub home : (p q j : ℕ) → In j (group p) → In j (group q) → p ≡ q
   pub distinct : (p : ℕ) → Distinct (group p)
 
--- The flat side, as far as the network goes: the shared words, and what each executed and not yet retired reference found.
+-- The flat side, as far as the network goes: the shared words, and what each executed and not yet retired reference
+-- found.
 pub record Executed : Type 0 where
   pub mem : ℕ → ℕ
   pub owed : ℕ → Option ℕ
 
 -- j's reference is executed at once
 abbrev pub execute : (ℕ → Phi) → (ℕ → ℕ) → Executed → ℕ → Executed
-execute own word f j = record { mem = put f.mem (word j) (applied (own j) (f.mem (word j))); owed = put f.owed j (Some (f.mem (word j))) }
+execute own word f j = record {
+  mem = put f.mem (word j) (applied (own j) (f.mem (word j)));
+  owed = put f.owed j (Some (f.mem (word j)));
+}
 
 unfoldable pub execute_all : (ℕ → Phi) → (ℕ → ℕ) → Executed → List ℕ → Executed
 execute_all own word f [] = f

@@ -1,7 +1,7 @@
 -- Messages keep to their paths.
 --
--- `goes p m` tells whether processor p has a reference to module m that is on its way, there or back. Where each processor has
--- one reference at a time, there is one such m at most.
+-- `goes p m` says whether processor p has a reference to module m that is on its way, there or back. Where each
+-- processor has one reference at a time, there is one such m at most.
 use Rattle.std.specs.Prelude.{◌≡◌, ℕ, suc, ◌<◌, ◌≤◌, ◌%◌, ◌^◌, Bool, true}
 use Rattle.omega_wires.specs.Wires.{path}
 use Rattle.messages.specs.declared.message.Request.{Request}
@@ -61,27 +61,33 @@ InjectingKeepsToPaths = (z : Sizes) (goes : ℕ → ℕ → Bool) (net : Net) (x
     x.leader < wires z → goes x.leader (x.word % wires z) ≡ true → KeepToPaths z goes (injected net x)
 
 abbrev pub MovingUpKeepsToPaths : Type 0
-MovingUpKeepsToPaths = (z : Sizes) (goes : ℕ → ℕ → Bool) (net : Net) (s w : ℕ) → KeepToPaths z goes net → KeepToPaths z goes (moved_up z net s w).1
+MovingUpKeepsToPaths = (z : Sizes) (goes : ℕ → ℕ → Bool) (net : Net) (s w : ℕ) → KeepToPaths z goes net →
+    KeepToPaths z goes (moved_up z net s w).1
 
 abbrev pub MovingDownKeepsToPaths : Type 0
-MovingDownKeepsToPaths = (z : Sizes) (goes : ℕ → ℕ → Bool) (net : Net) (s w : ℕ) → KeepToPaths z goes net → KeepToPaths z goes (moved_down z net s w).1
+MovingDownKeepsToPaths = (z : Sizes) (goes : ℕ → ℕ → Bool) (net : Net) (s w : ℕ) → KeepToPaths z goes net →
+    KeepToPaths z goes (moved_down z net s w).1
 
 -- A module takes its request, and replies to a processor whose reference goes there.
 abbrev pub ServingKeepsToPaths : Type 0
 ServingKeepsToPaths = (z : Sizes) (goes : ℕ → ℕ → Bool) (net : Net) (m : ℕ) → KeepToPaths z goes net →
     KeepToPaths z goes (module_taken z net m)
-    × ((x : Reply) → m < wires z → x.leader < wires z → goes x.leader m ≡ true → KeepToPaths z goes (module_replied z net m x))
+    × ((x : Reply) → m < wires z → x.leader < wires z → goes x.leader m ≡ true →
+    KeepToPaths z goes (module_replied z net m x))
 
 abbrev pub TakingKeepsToPaths : Type 0
-TakingKeepsToPaths = (z : Sizes) (goes : ℕ → ℕ → Bool) (net : Net) (p : ℕ) → KeepToPaths z goes net → KeepToPaths z goes (port_taken net p)
+TakingKeepsToPaths = (z : Sizes) (goes : ℕ → ℕ → Bool) (net : Net) (p : ℕ) → KeepToPaths z goes net →
+    KeepToPaths z goes (port_taken net p)
 
 -- ---- where messages arrive
 
 -- A request at a module is for a word of that module, and its leader's reference goes there: the module may reply.
 abbrev pub RequestsArrive : Type 0
-RequestsArrive = (z : Sizes) (goes : ℕ → ℕ → Bool) (net : Net) (m : ℕ) (x : Request) → KeepToPaths z goes net → In x (net.requests z.k m) →
+RequestsArrive = (z : Sizes) (goes : ℕ → ℕ → Bool) (net : Net) (m : ℕ) (x : Request) → KeepToPaths z goes net →
+    In x (net.requests z.k m) →
     (x.word % wires z ≡ m) × (m < wires z) × (x.leader < wires z) × (goes x.leader m ≡ true)
 
 -- A reply on a processor's wire is that processor's.
 abbrev pub RepliesArrive : Type 0
-RepliesArrive = (z : Sizes) (goes : ℕ → ℕ → Bool) (net : Net) (p : ℕ) (x : Reply) → KeepToPaths z goes net → In x (net.replies 0 p) → x.leader ≡ p
+RepliesArrive = (z : Sizes) (goes : ℕ → ℕ → Bool) (net : Net) (p : ℕ) (x : Reply) → KeepToPaths z goes net →
+    In x (net.replies 0 p) → x.leader ≡ p

@@ -6,27 +6,29 @@ use Rattle.messages.specs.declared.message.Record.{Record}
 use Rattle.messages.specs.Places.{In, ApartBy, put}
 use Rattle.messages.specs.Network.{Net}
 
--- Where the one place is that names a processor: nowhere, a request or a reply that it leads at a depth, or a record at a
--- stage, whose second it is, of a leader.
+-- Where the one place is that names a processor: nowhere, a request or a reply that it leads at a depth, or a record
+-- at a stage, whose second it is, of a leader.
 pub data Role : Type 0 where
   Idle : Role
   Asking : (depth : ℕ) → Role
   Waiting : (stage leader : ℕ) → Role
-  Told : (depth : ℕ) → Role
+  Replying : (depth : ℕ) → Role
 
 abbrev pub depth : Role → ℕ
 depth Idle = 0
 depth (Asking d) = d
 depth (Waiting s p) = s
-depth (Told d) = d
+depth (Replying d) = d
 
--- `path p d` is the wire of p's messages before stage d. A request stands where its leader's role says, and on its path.
+-- `path p d` is the wire of p's messages before stage d. A request stands where its leader's role says, and on its
+-- path.
 pub record RequestPlaced (k : ℕ) (path : ℕ → ℕ → ℕ) (role : ℕ → Role) (d w : ℕ) (x : Request) : Type 0 where
   pub asks : role x.leader ≡ Asking d
   pub wire : path x.leader d ≡ w
   pub deep : d ≤ k
 
--- So does a record, at an output on the paths of both of its processors. Its leader is further on: the reply will come here.
+-- So does a record, at an output on the paths of both of its processors. Its leader is further on: the reply will come
+-- here.
 pub record RecordPlaced (k : ℕ) (path : ℕ → ℕ → ℕ) (role : ℕ → Role) (s w : ℕ) (x : Record) : Type 0 where
   pub waits : role x.second ≡ Waiting s x.leader
   pub beyond : s < depth (role x.leader)
@@ -35,7 +37,7 @@ pub record RecordPlaced (k : ℕ) (path : ℕ → ℕ → ℕ) (role : ℕ → R
   pub deep : s < k
 
 pub record ReplyPlaced (k : ℕ) (path : ℕ → ℕ → ℕ) (role : ℕ → Role) (d w : ℕ) (x : Reply) : Type 0 where
-  pub told : role x.leader ≡ Told d
+  pub replying : role x.leader ≡ Replying d
   pub wire : path x.leader d ≡ w
   pub deep : d ≤ k
 
@@ -49,6 +51,6 @@ pub record Placed (k : ℕ) (path : ℕ → ℕ → ℕ) (role : ℕ → Role) (
   pub replies_apart : (d w : ℕ) → ApartBy (λ (x : Reply). x.leader) (net.replies d w)
 
 -- the roles after these replies were put at depth s
-unfoldable pub told_all : ℕ → List Reply → (ℕ → Role) → ℕ → Role
-told_all s [] role = role
-told_all s (y ∷ ys) role = told_all s ys (put role y.leader (Told s))
+unfoldable pub replying_all : ℕ → List Reply → (ℕ → Role) → ℕ → Role
+replying_all s [] role = role
+replying_all s (y ∷ ys) role = replying_all s ys (put role y.leader (Replying s))

@@ -15,9 +15,11 @@ use Rattle.combining_switch.specs.Switches.{SwitchState, no_output, output_of, r
 use Rattle.omega_network.specs.Networks.{IsNetwork, NetworkLists, half, net_of, on_wire, place, records_behind, replies_before, requests_before, switch_at}
 use Rattle.omega_network.proofs.Switches.{half_of_wire, one_place, switch_kept, switch_put, with_pool, with_switch}
 
+-- A wire that is one of the network has its own messages.
 pub inside : {X : Type 0} (k w : ℕ) (xs : List X) → w < 2 ^ k → on_wire k w xs ≡ xs
 inside k w xs l = ap (λ (b : Bool). if b then xs else []) (lt-ltb w (2 ^ k) l)
 
+-- A wire that is not one of the network has no messages.
 pub outside : {X : Type 0} (k w : ℕ) (xs : List X) → 2 ^ k ≤ w → on_wire k w xs ≡ []
 outside k w xs l = ap (λ (b : Bool). if b then xs else []) (le-ltb w (2 ^ k) l)
 
@@ -46,6 +48,7 @@ module _ {X : Type 0} (queues : List (List X)) (k d w : ℕ) (xs : List X) (wire
 -- ---- a queue
 
 module _ (n : NetworkLists) (d w : ℕ) (wire : w < 2 ^ n.k) where
+  -- If a queue of requests is replaced in the pool, it is replaced at its place, and nothing else changes.
   pub requests_put : (xs : List Request) → place n.k d w < length n.pool.requests →
       net_of (with_pool n (with_requests n.pool (place n.k d w) xs)) ≡ put_requests (net_of n) d w xs
   unfolding requests_before records_behind replies_before
@@ -55,6 +58,7 @@ module _ (n : NetworkLists) (d w : ℕ) (wire : w < 2 ^ n.k) where
     replies = replies_before n;
   }
 
+  -- If a queue of replies is replaced in the pool, it is replaced at its place, and nothing else changes.
   pub replies_put : (ys : List Reply) → place n.k d w < length n.pool.replies →
       net_of (with_pool n (with_replies n.pool (place n.k d w) ys)) ≡ put_replies (net_of n) d w ys
   unfolding requests_before records_behind replies_before
@@ -98,6 +102,7 @@ module _ (n : NetworkLists) (is : IsNetwork n) (s w : ℕ) (stage : s < n.k) (wi
   put : switch_at new s (w / 2) ≡ changed
   put = switch_put n s (w / 2) changed stage number is.all_switches
 
+  -- If a switch's records at an output are replaced, they are replaced at the place of the wire, and nowhere else.
   pub records_put : records_behind new ≡ put2 (records_behind n) s w es
   unfolding records_behind
   records_put = is_put2 (records_behind n) (records_behind new) s w es
@@ -117,20 +122,24 @@ module _ (n : NetworkLists) (is : IsNetwork n) (s w : ℕ) (stage : s < n.k) (wi
       other s' w' away l (inr a) e = ap (λ (t : SwitchState). records_at t (w' % 2))
           (switch_kept n s (w / 2) changed stage number is.all_switches s' (w' / 2) (half_of_wire n.k s w' stage l) (λ p _. a p))
 
+  -- If a switch's records at an output are replaced, the network has those at its place, and nothing else changes.
   pub switch_records_put : net_of new ≡ put_records (net_of n) s w es
   unfolding requests_before replies_before
   switch_records_put = λ j. record { requests = requests_before n; records = records_put j; replies = replies_before n }
 
 -- ---- what stands at an output
 
+-- The records at the place of a wire are those at the wire's output of its switch.
 pub at_output : (n : NetworkLists) (s w : ℕ) → w < 2 ^ n.k → records_behind n s w ≡ records_at (switch_at n s (w / 2)) (w % 2)
 unfolding records_behind
 at_output n s w wire = inside n.k w (records_at (switch_at n s (w / 2)) (w % 2)) wire
 
+-- The requests at a depth on a wire are those of the queue of that number in the pool.
 pub at_queue : (n : NetworkLists) (d w : ℕ) → w < 2 ^ n.k → requests_before n d w ≡ requests_at n.pool (place n.k d w)
 unfolding requests_before
 at_queue n d w wire = inside n.k w (requests_at n.pool (place n.k d w)) wire
 
+-- The replies at a depth on a wire are those of the queue of that number in the pool.
 pub at_reply_queue : (n : NetworkLists) (d w : ℕ) → w < 2 ^ n.k → replies_before n d w ≡ replies_at n.pool (place n.k d w)
 unfolding replies_before
 at_reply_queue n d w wire = inside n.k w (replies_at n.pool (place n.k d w)) wire

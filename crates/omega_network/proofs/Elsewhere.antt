@@ -60,10 +60,12 @@ module _ (z : Sizes) (net : Net) (s w : ℕ) where
       let net' : Net = put_requests net s w rest in
       same_replies rest x out (out_there (x.word % wires z)) (combination z.b z.r x (net'.requests (suc s) out) (net'.records s out))
 
+  -- A move up changes no requests but those on its wire and at the outputs of the switch that the wire goes into.
   pub up_elsewhere : (d v : ℕ) → Away d v → (moved_up z net s w).1.requests d v ≡ net.requests d v
   unfolding moved_up
   up_elsewhere d v away = either (λ (r : UpMove × Net). r.1.requests d v ≡ net.requests d v) (nat_lt s z.k) _ _ (from_there (net.requests s w) d v away) refl
 
+  -- A move up changes no reply.
   pub up_replies : (moved_up z net s w).1.replies ≡ net.replies
   unfolding moved_up
   up_replies = either (λ (r : UpMove × Net). r.1.replies ≡ net.replies) (nat_lt s z.k) _ _ (replies_from (net.requests s w)) refl
@@ -116,11 +118,13 @@ module _ (z : Sizes) (net : Net) (s w : ℕ) where
   requests_from [] = refl
   requests_from (x ∷ rest) = answered_requests rest x (records_of x.leader (net.records s w))
 
+  -- A move down changes no replies but those on its wire and at the inputs of the switch that the wire comes from.
   pub down_elsewhere : (d v : ℕ) → AwayBack d v → (moved_down z net s w).1.replies d v ≡ net.replies d v
   unfolding moved_down
   down_elsewhere d v away =
       either (λ (r : DownMove × Net). r.1.replies d v ≡ net.replies d v) (nat_lt s z.k) _ _ (back_from (net.replies (suc s) w) d v away) refl
 
+  -- A move down changes no request.
   pub down_requests : (moved_down z net s w).1.requests ≡ net.requests
   unfolding moved_down
   down_requests = either (λ (r : DownMove × Net). r.1.requests ≡ net.requests) (nat_lt s z.k) _ _ (requests_from (net.replies (suc s) w)) refl

@@ -20,9 +20,11 @@ use Rattle.omega_network.proofs.Switches.{two_halves}
 pub some_wires : (k : ℕ) → 0 < 2 ^ k
 some_wires k = pow_pos k
 
+-- The depth and the wire of a queue's number have that number.
 pub place_of : (k q : ℕ) → place k (q / 2 ^ k) (q % 2 ^ k) ≡ q
 place_of k q = div-add-mod' q (2 ^ k)
 
+-- The wire of a queue's number is one of the network.
 pub on_a_wire : (k q : ℕ) → q % 2 ^ k < 2 ^ k
 on_a_wire k q = let l = some_wires k in omega arith
 
@@ -48,6 +50,7 @@ at_either t none zero l = none.0
 at_either t none (suc zero) l = none.1
 at_either t none (suc (suc v)) l = absurd (omega arith)
 
+-- If no queue has a message and no switch has a record, the network is empty.
 pub empty_net : (n : NetworkLists) → HasNoMessage n.pool → All HasNoRecord n.switches → IsEmptyNet (net_of n)
 unfolding requests_before records_behind replies_before
 empty_net n messages records d w = (
@@ -99,19 +102,21 @@ no_record_is n is empty j d l = (
   at_number n is j l d 1 (omega arith) ∙ (empty (j / half n.k) (2 * (j % half n.k) + 1)).1,
 )
 
--- ---- as the call tells it
+-- ---- as the call reports it
 
-module _ (n m : NetworkLists) (view : n ≡ m) (is : IsNetwork n) (messages : Bool) (told : IsTrue messages ↔ HasNoMessage n.pool) where
+module _ (n m : NetworkLists) (view : n ≡ m) (is : IsNetwork n) (messages : Bool) (fact : IsTrue messages ↔ HasNoMessage n.pool) where
+  -- If a queue has a message, the network is not empty, as the call answers.
   pub not_empty : messages ≡ false → (IsTrue messages → IsEmptyNet (net_of m)) × (IsEmptyNet (net_of m) → IsTrue messages)
   not_empty some_one = (
     (λ t. absurd (let no : true ≡ false = sym t ∙ some_one in cc)),
-    (λ empty. told.1 (no_message_is n (subst (λ (l : NetworkLists). IsEmptyNet (net_of l)) (sym view) empty))),
+    (λ empty. fact.1 (no_message_is n (subst (λ (l : NetworkLists). IsEmptyNet (net_of l)) (sym view) empty))),
   )
 
-  pub empty_told : messages ≡ true → (switches : List SwitchState) → switches ≡ n.switches → (records : Bool) → IsTrue records ↔ All HasNoRecord switches
+  -- If no queue has a message, the network is empty exactly if the look through the switches finds no record.
+  pub empty_is : messages ≡ true → (switches : List SwitchState) → switches ≡ n.switches → (records : Bool) → IsTrue records ↔ All HasNoRecord switches
       → (IsTrue records → IsEmptyNet (net_of m)) × (IsEmptyNet (net_of m) → IsTrue records)
-  empty_told none switches same records look = (
-    (λ t. subst (λ (l : NetworkLists). IsEmptyNet (net_of l)) view (empty_net n (told.0 none) (subst (All HasNoRecord) same (look.0 t)))),
+  empty_is none switches same records look = (
+    (λ t. subst (λ (l : NetworkLists). IsEmptyNet (net_of l)) view (empty_net n (fact.0 none) (subst (All HasNoRecord) same (look.0 t)))),
     (λ empty. look.1 (subst (All HasNoRecord) (sym same)
         (no_record_is n is (subst (λ (l : NetworkLists). IsEmptyNet (net_of l)) (sym view) empty)))),
   )

@@ -26,6 +26,7 @@ module _ (n : NetworkLists) (is : IsNetwork n) (s w : ℕ) (stage : s < n.k) (wi
   number : w / 2 < half n.k
   number = half_of_wire n.k s w stage wire
 
+  -- The switch that a wire comes from has the form of its stage and number.
   pub form : switch_at n s (w / 2)
       ≡ the_switch n.k n.c n.b n.r s (w / 2) (records_at (switch_at n s (w / 2)) 0) (records_at (switch_at n s (w / 2)) 1)
   form = is.each_switch s (w / 2) stage number
@@ -37,6 +38,7 @@ module _ (n : NetworkLists) (is : IsNetwork n) (s w : ℕ) (stage : s < n.k) (wi
       output_is n.k n.c n.b n.r s (w / 2) (switch_at n s (w / 2)) form (w % 2) (omega arith)
       ∙ (λ j. record { c = n.c; b = n.b; r = n.r; queue = place n.k (suc s) (e j); records = records_at (switch_at n s (w / 2)) (w % 2) })
 
+  -- The queue of a wire's output has the number of the next depth and the wire.
   pub queue_is : (output_of (switch_at n s (w / 2)) (w % 2)).queue ≡ place n.k (suc s) w
   queue_is = ap (λ (o : OutputState). o.queue) the_output
 
@@ -97,6 +99,7 @@ module _ (n : NetworkLists) (is : IsNetwork n) (s w : ℕ) (stage : s < n.k) (wi
           omega arith
       go (suc (suc v)) l = absurd (omega arith)
 
+  -- The input for a processor has the queue of the wire before the stage on which replies go to the processor.
   pub input_is : (p : ℕ) → input_for (switch_at n s (w / 2)).its_bit (switch_at n s (w / 2)).inputs p ≡ place n.k s (wire_before n.k s w p)
   unfolding wire_before
   input_is p =

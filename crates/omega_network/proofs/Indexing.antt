@@ -34,6 +34,7 @@ knows_none past k messages s empty none = record {
   few = λ d w beyond. none_at past s none d w;
 }
 
+-- Sets that have no wire are those of an empty network of up to six stages.
 pub empty_indexed : ((w : ℕ) → members 0 w ≡ false) → (n : NetworkLists) (s t : ℕ) → IsEmptyNet (net_of n) → n.k ≤ 6 → ((w : ℕ) → members s w ≡ false) →
     ((w : ℕ) → members t w ≡ false)
     → IsIndexed n (s ∷ s ∷ s ∷ s ∷ s ∷ s ∷ s ∷ []) (t ∷ t ∷ t ∷ t ∷ t ∷ t ∷ t ∷ [])
@@ -65,6 +66,7 @@ module _ (old new : NetworkLists) (rq rp : List ℕ) (is : IsIndexed old rq rp) 
     of_replies = change (subst (λ k. Knows k (net_of old).replies rp) size is.of_replies);
   }
 
+  -- After a request is put into a slot, the sets are the network's once the slot was looked at.
   pub injected_indexed : (x : Request) (p : ℕ) (rq' : List ℕ) → net_of new ≡ injected (net_of old) x → x.leader ≡ p →
       IsLookedAt new.k (net_of new).requests 0 p rq rq' → IsIndexed new rq' rp
   unfolding injected
@@ -73,6 +75,7 @@ module _ (old new : NetworkLists) (rq rp : List ℕ) (is : IsIndexed old rq rp) 
       (λ knows. one_look new.k (net_of old).requests (net_of new).requests rq rq' 0 p knows
       (λ d w away. ap (λ (n : Net). n.requests d w) after ∙ put2_other (net_of old).requests 0 x.leader _ d w (λ a e. away a (e ∙ leader))) look)
 
+  -- After the first request at a module is taken, the sets are the network's once its wire was looked at.
   pub taken_indexed : (m k : ℕ) (rq' : List ℕ) → k ≡ new.k → net_of new ≡ module_taken (sizes_of old) (net_of old) m →
       IsLookedAt new.k (net_of new).requests k m rq rq' → IsIndexed new rq' rp
   unfolding module_taken
@@ -81,6 +84,7 @@ module _ (old new : NetworkLists) (rq rp : List ℕ) (is : IsIndexed old rq rp) 
       (λ knows. one_look new.k (net_of old).requests (net_of new).requests rq rq' k m knows
       (λ d w away. ap (λ (n : Net). n.requests d w) after ∙ put2_other (net_of old).requests old.k m _ d w (λ a e. away (a ∙ size ∙ sym at) e)) look)
 
+  -- After a reply is put into a module's slot, the sets are the network's once the slot was looked at.
   pub replied_indexed : (m k : ℕ) (y : Reply) (rp' : List ℕ) → k ≡ new.k → net_of new ≡ module_replied (sizes_of old) (net_of old) m y →
       IsLookedAt new.k (net_of new).replies k m rp rp' → IsIndexed new rq rp'
   unfolding module_replied
@@ -89,6 +93,7 @@ module _ (old new : NetworkLists) (rq rp : List ℕ) (is : IsIndexed old rq rp) 
       (λ knows. one_look new.k (net_of old).replies (net_of new).replies rp rp' k m knows
       (λ d w away. ap (λ (n : Net). n.replies d w) after ∙ put2_other (net_of old).replies old.k m _ d w (λ a e. away (a ∙ size ∙ sym at) e)) look)
 
+  -- After the first reply at a processor is taken, the sets are the network's once its wire was looked at.
   pub port_indexed : (p : ℕ) (rp' : List ℕ) → net_of new ≡ port_taken (net_of old) p → IsLookedAt new.k (net_of new).replies 0 p rp rp' → IsIndexed new rq rp'
   unfolding port_taken
   port_indexed p rp' after look =
@@ -138,10 +143,12 @@ module _ (old new : NetworkLists) (rq rp : List ℕ) (is : IsIndexed old rq rp) 
 
 -- ---- where nothing stands
 
+-- If the test for a first element answers no, the list is empty.
 pub nothing_there : {X : Type 0} (q : List X) (b : Bool) → b ≡ is_some (slice_get q 0) → b ≡ false → q ≡ []
 nothing_there [] b e f = refl
 nothing_there (x ∷ xs) b e f = absurd (let g : true ≡ false = sym e ∙ f in cc)
 
+-- The test for a first element answers no exactly if the list is empty.
 pub free_is : {X : Type 0} (q : List X) (b : Bool) → b ≡ is_some (slice_get q 0) → (IsTrue (not b) → q ≡ []) × (q ≡ [] → IsTrue (not b))
 free_is {X} [] b e = ((λ t. refl), (λ g. ap not e))
 free_is {X} (y ∷ ys) b e = ((λ t. absurd (let g : false ≡ true = sym (ap not e) ∙ t in cc)), (λ g. absurd (let h : y ∷ ys ≡ [] = g in cc)))

@@ -11,10 +11,14 @@ use Rattle.omega_network.proofs.Switches.{half_of_wire, switch_kept, switch_put,
 
 -- a pool with as many cells and queues
 pub record IsLike (pool pool' : PoolLists) : Type 0 where
+  -- It has as many cells.
   pub cells : pool'.cells ≡ pool.cells
+  -- It has as many queues of requests.
   pub requests : length pool'.requests ≡ length pool.requests
+  -- It has as many queues of replies.
   pub replies : length pool'.replies ≡ length pool.replies
 
+-- A network with another pool of the same sizes is again one, if the seconds of its records have free cells there.
 pub pool_kept : (n : NetworkLists) (pool : PoolLists) → IsNetwork n → IsLike n.pool pool → AreSeconds pool (records_behind n) → IsNetwork (with_pool n pool)
 unfolding records_behind
 pool_kept n pool is like seconds = record {
@@ -40,6 +44,7 @@ form_kept k c b r s i t out es l form = subst (λ u. HasForm k c b r s i (with_r
     go (suc zero) m = refl
     go (suc (suc v)) m = absurd (omega arith)
 
+-- A network with other records at an output is again one, if each second has a free cell and is that of one record.
 pub records_kept : (n : NetworkLists) (is : IsNetwork n) (s w : ℕ) (stage : s < n.k) (wire : w < 2 ^ n.k) (es : List Record)
     → AreSeconds n.pool (put2 (records_behind n) s w es)
     → IsNetwork (with_switch n s (w / 2) (with_records (switch_at n s (w / 2)) (w % 2) es))

@@ -12,7 +12,7 @@ use Rattle.messages.specs.declared.moves.DownMove.{DownMove}
 use Rattle.messages.specs.declared.moves.DownMove.TheVariants as down
 use Rattle.messages.specs.Places.{put2}
 use Rattle.messages.specs.Queues.{Combination, answers, combination, records_but, records_of, unmarked}
-use Rattle.messages.specs.Seconds.{seconds_told}
+use Rattle.messages.specs.Seconds.{answered_seconds}
 use Rattle.messages.specs.Network.{Net, Sizes, put_records, put_replies, put_requests, wires}
 use Rattle.messages.specs.Moves as moves
 use Rattle.messages.proofs.Lemmas.{put2_comm, put2_other}
@@ -23,6 +23,7 @@ pub first_is : {X : Type 0} (q : List X) (x : X) → slice_get q 0 ≡ Some x �
 first_is [] x e = cc
 first_is (y ∷ ys) x e = let same : y ≡ x = cc in ap (λ z. z ∷ ys) same
 
+-- A list that has no first element is empty.
 pub none_is : {X : Type 0} (q : List X) → slice_get q 0 ≡ None → q ≡ []
 none_is [] e = refl
 none_is (y ∷ ys) e = cc
@@ -44,11 +45,11 @@ either_case : {Kind : Type 0} (b : Bool) (stalled : Kind) (went : Kind × Net) (
 either_case true stalled went net taken moves = ((λ e. absurd (moves e)), (λ n. refl))
 either_case false stalled went net taken moves = ((λ e. refl), (λ n. absurd (n refl)))
 
--- what is not told to move stalls
+-- what is not reported to move stalls
 stalls : {Kind : Type 0} (stalled answer : Kind) (b : Bool) → (answer ≡ stalled) ⊎ (answer ≡ stalled → ⊥) → ((answer ≡ stalled → ⊥) → IsTrue b) → b ≡ false
     → answer ≡ stalled
-stalls stalled answer b (inl e) told none = e
-stalls stalled answer b (inr n) told none = absurd (let no : true ≡ false = sym (told n) ∙ none in cc)
+stalls stalled answer b (inl e) fact none = e
+stalls stalled answer b (inr n) fact none = absurd (let no : true ≡ false = sym (fact n) ∙ none in cc)
 
 -- ---- up
 
@@ -116,6 +117,7 @@ module _ (wire : ℕ → ℕ) (s w : ℕ) (rest : List Reply) where
   before_same : (net : Net) (v : ℕ) → (put_replies net (suc s) w rest).replies s v ≡ net.replies s v
   before_same net v = put2_other net.replies (suc s) w rest s v (λ e _. apart s e)
 
+  -- Putting replies before a stage and replacing the replies on a wire after it can be done in either order.
   pub push_taken : (ys : List Reply) (net : Net) → moves.push_all wire s ys (put_replies net (suc s) w rest)
       ≡ put_replies (moves.push_all wire s ys net) (suc s) w rest
   unfolding moves.push_all
@@ -129,13 +131,14 @@ module _ (wire : ℕ → ℕ) (s w : ℕ) (rest : List Reply) where
       })
       ∙ push_taken ys (put_replies net s (wire y.leader) (net.replies s (wire y.leader) ++ y ∷ []))
 
+  -- Whether replies have room before a stage does not depend on the replies on a wire after it.
   pub room_same : (c : ℕ) (ys : List Reply) (net : Net) → moves.has_room c wire s (put_replies net (suc s) w rest) ys ≡ moves.has_room c wire s net ys
   room_same c [] net = refl
   room_same c (y ∷ ys) net = λ j. nat_le (length (before_same net (wire y.leader) j)) c && room_same c ys net j
 
 moved_on : (es : List Record) → moves.answered es ≡ down.Stalled → ⊥
 moved_on [] e = let no : down.Moved ≡ down.Stalled = e in cc
-moved_on (f ∷ es) e = let no : down.Answered (seconds_told f es) ≡ down.Stalled = e in cc
+moved_on (f ∷ es) e = let no : down.Answered (answered_seconds f es) ≡ down.Stalled = e in cc
 
 module _ (z : Sizes) (s w : ℕ) (x : Reply) (es : List Record) where
   abbrev wire : ℕ → ℕ
@@ -174,57 +177,61 @@ down_is z net s w x stage found =
     ap (λ (b : Bool). if b then moves.down_from z net s w (net.replies (suc s) w) else (down.Stalled, net)) (lt-ltb s z.k stage)
     ∙ ap (moves.down_from z net s w) (first_is (net.replies (suc s) w) x found)
 
--- ---- as the calls tell it
+-- ---- as the calls say it
 
 way_is : (m l : NetworkLists) (s w out target : ℕ) (x : Request) → l ≡ m → out ≡ wire_after l.k s w target →
     target ≡ x.word % 2 ^ l.k → out ≡ wire_after m.k s w (x.word % 2 ^ m.k)
 way_is m l s w out target x view way aim =
     way ∙ ap (wire_after l.k s w) aim ∙ ap (λ (n : NetworkLists). wire_after n.k s w (x.word % 2 ^ n.k)) view
 
+-- If the switch would not take the first request on a wire, moving it up stalls and leaves the network as it was.
 pub up_stalled : (m : NetworkLists) (w : ℕ) {l : NetworkLists} {s out target : ℕ} {x : Request} {b : Bool} → l ≡ m → s < m.k →
     slice_get ((net_of m).requests s w) 0 ≡ Some x → out ≡ wire_after l.k s w target → target ≡ x.word % 2 ^ l.k →
     (IsTrue b → (moves.offered (sizes_of m) (net_of m) (net_of m) s out x).0 ≡ up.Stalled → ⊥)
     × (((moves.offered (sizes_of m) (net_of m) (net_of m) s out x).0 ≡ up.Stalled → ⊥) → IsTrue b) → b ≡ false →
     moves.moved_up (sizes_of m) (net_of m) s w ≡ (up.Stalled, net_of m)
-up_stalled m w {l} {s} {out} {target} {x} {b} view stage found way aim told none =
+up_stalled m w {l} {s} {out} {target} {x} {b} view stage found way aim fact none =
     up_is (sizes_of m) (net_of m) s w out x stage found (way_is m l s w out target x view way aim)
     ∙ (offered_cases (sizes_of m) s out x (net_of m) (put_requests (net_of m) s w (drop 1 ((net_of m).requests s w)))).0
     (same_answer (sizes_of m) s out x (net_of m) w (drop 1 ((net_of m).requests s w))
-    ∙ stalls up.Stalled _ b (up_stalls_or_not ((moves.offered (sizes_of m) (net_of m) (net_of m) s out x).0)) told.1 none)
+    ∙ stalls up.Stalled _ b (up_stalls_or_not ((moves.offered (sizes_of m) (net_of m) (net_of m) s out x).0)) fact.1 none)
 
+-- If the switch would take the first request on a wire, moving it up is offering it in the network without it.
 pub up_went : (m : NetworkLists) (w : ℕ) {l : NetworkLists} {s out target : ℕ} {x : Request} {b : Bool} {net : Net} → l ≡ m → s < m.k →
     slice_get ((net_of m).requests s w) 0 ≡ Some x → out ≡ wire_after l.k s w target → target ≡ x.word % 2 ^ l.k →
     (IsTrue b → (moves.offered (sizes_of m) (net_of m) (net_of m) s out x).0 ≡ up.Stalled → ⊥)
     × (((moves.offered (sizes_of m) (net_of m) (net_of m) s out x).0 ≡ up.Stalled → ⊥) → IsTrue b) → b ≡ true →
     net ≡ put_requests (net_of m) s w (drop 1 ((net_of m).requests s w)) →
     moves.moved_up (sizes_of m) (net_of m) s w ≡ moves.offered (sizes_of m) net net s out x
-up_went m w {l} {s} {out} {target} {x} {b} {net} view stage found way aim told goes taken =
+up_went m w {l} {s} {out} {target} {x} {b} {net} view stage found way aim fact goes taken =
     up_is (sizes_of m) (net_of m) s w out x stage found (way_is m l s w out target x view way aim)
     ∙ (offered_cases (sizes_of m) s out x (net_of m) (put_requests (net_of m) s w (drop 1 ((net_of m).requests s w)))).1
-    (λ e. told.0 goes (sym (same_answer (sizes_of m) s out x (net_of m) w (drop 1 ((net_of m).requests s w))) ∙ e))
+    (λ e. fact.0 goes (sym (same_answer (sizes_of m) s out x (net_of m) w (drop 1 ((net_of m).requests s w))) ∙ e))
     ∙ ap (λ (n : Net). moves.offered (sizes_of m) n n s out x) (sym taken)
 
+-- If the switch has no room for the replies, moving the first reply down stalls and leaves the network as it was.
 pub down_stalled : (m : NetworkLists) (w : ℕ) {s : ℕ} {x : Reply} {b : Bool} → s < m.k → slice_get ((net_of m).replies (suc s) w) 0 ≡ Some x →
     (IsTrue b → (moves.answer (sizes_of m) (net_of m) (net_of m) s w x (records_of x.leader ((net_of m).records s w))).0 ≡ down.Stalled → ⊥)
     × (((moves.answer (sizes_of m) (net_of m) (net_of m) s w x (records_of x.leader ((net_of m).records s w))).0 ≡ down.Stalled → ⊥) → IsTrue b)
     → b ≡ false → moves.moved_down (sizes_of m) (net_of m) s w ≡ (down.Stalled, net_of m)
-down_stalled m w {s} {x} {b} stage found told none =
+down_stalled m w {s} {x} {b} stage found fact none =
     down_is (sizes_of m) (net_of m) s w x stage found
     ∙ (answer_cases (sizes_of m) s w x (records_of x.leader ((net_of m).records s w)) (net_of m)
     (put_replies (net_of m) (suc s) w (drop 1 ((net_of m).replies (suc s) w)))).0
     (same_answer_down (sizes_of m) s w x (records_of x.leader ((net_of m).records s w)) (net_of m) (drop 1 ((net_of m).replies (suc s) w))
     ∙ stalls down.Stalled _ b
-    (down_stalls_or_not ((moves.answer (sizes_of m) (net_of m) (net_of m) s w x (records_of x.leader ((net_of m).records s w))).0)) told.1 none)
+    (down_stalls_or_not ((moves.answer (sizes_of m) (net_of m) (net_of m) s w x (records_of x.leader ((net_of m).records s w))).0)) fact.1 none)
 
+-- If the switch has room for the replies, moving the first reply down is answering it in the network without it.
 pub down_went : (m : NetworkLists) (w : ℕ) {s : ℕ} {x : Reply} {b : Bool} {net : Net} → s < m.k → slice_get ((net_of m).replies (suc s) w) 0 ≡ Some x →
     (IsTrue b → (moves.answer (sizes_of m) (net_of m) (net_of m) s w x (records_of x.leader ((net_of m).records s w))).0 ≡ down.Stalled → ⊥)
     × (((moves.answer (sizes_of m) (net_of m) (net_of m) s w x (records_of x.leader ((net_of m).records s w))).0 ≡ down.Stalled → ⊥) → IsTrue b)
     → b ≡ true → net ≡ put_replies (net_of m) (suc s) w (drop 1 ((net_of m).replies (suc s) w))
     → moves.moved_down (sizes_of m) (net_of m) s w ≡ moves.answer (sizes_of m) net net s w x (records_of x.leader (net.records s w))
-down_went m w {s} {x} {b} {net} stage found told goes taken =
+down_went m w {s} {x} {b} {net} stage found fact goes taken =
     down_is (sizes_of m) (net_of m) s w x stage found
     ∙ (answer_cases (sizes_of m) s w x (records_of x.leader ((net_of m).records s w)) (net_of m)
     (put_replies (net_of m) (suc s) w (drop 1 ((net_of m).replies (suc s) w)))).1
-    (λ e. told.0 goes (sym (same_answer_down (sizes_of m) s w x (records_of x.leader ((net_of m).records s w)) (net_of m)
+    (λ e. fact.0 goes (sym (same_answer_down (sizes_of m) s w x (records_of x.leader ((net_of m).records s w)) (net_of m)
     (drop 1 ((net_of m).replies (suc s) w))) ∙ e))
     ∙ ap (λ (n : Net). moves.answer (sizes_of m) n n s w x (records_of x.leader (n.records s w))) (sym taken)

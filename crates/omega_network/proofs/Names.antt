@@ -56,6 +56,7 @@ pub data Leads (n : NetworkLists) (p : ℕ) : Type 0 where
   by_request : (d w : ℕ) (x : Request) → In x (requests_before n d w) → x.leader ≡ p → Leads n p
   by_reply : (d w : ℕ) (y : Reply) → In y (replies_before n d w) → y.leader ≡ p → Leads n p
 
+-- A processor leads a message of the network, or its cell in the pool is free.
 pub leads_or_free : (n : NetworkLists) (p : ℕ) → Leads n p ⊎ IsFree n.pool p
 leads_or_free n p = go (led_in leader_of_request p n.pool.requests) (led_in leader_of_reply p n.pool.replies)
   where
@@ -69,6 +70,7 @@ leads_or_free n p = go (led_in leader_of_request p n.pool.requests) (led_in lead
         (subst (In h.1) (ap (replies_at n.pool) (sym (place_of n.k h.0)) ∙ sym (at_reply_queue n (h.0 / 2 ^ n.k) (h.0 % 2 ^ n.k) (on_a_wire n.k h.0))) h.2) h.3)
     go (inr a) (inr b) = inr (record { no_request = a; no_reply = b })
 
+-- A processor whose cell is free leads no message of the network.
 pub free_leads_none : (n : NetworkLists) (p : ℕ) → IsFree n.pool p → Leads n p → ⊥
 unfolding requests_before replies_before
 free_leads_none n p free (by_request d w x m e) =
@@ -116,10 +118,11 @@ module _ (n : NetworkLists) (is : IsNetwork n) (f : Record → Bool) where
   abbrev at_one : SwitchState → Bool
   at_one t = list_any f (records_at t 0) || list_any f (records_at t 1)
 
+  -- If the look through the switches finds a record that passes a test, one is at some output of the network.
   pub record_seen : list_any (λ t. list_any f (records_at t 0) || list_any f (records_at t 1)) n.switches ≡ true
       → (s w : ℕ) × (e : Record) × In e (records_behind n s w) × (f e ≡ true)
-  record_seen told =
-      let h = any_in at_one n.switches told in
+  record_seen fact =
+      let h = any_in at_one n.switches fact in
       let at = stands_at n.switches h.0 h.1 in
       go at.0 at.1 h.0 at.2 (either (list_any f (records_at h.0 0)) (list_any f (records_at h.0 1)) h.2)
     where
@@ -141,6 +144,7 @@ module _ (n : NetworkLists) (is : IsNetwork n) (f : Record → Bool) where
       go j l t e (inl a) = there j l t e 0 (omega arith) a
       go j l t e (inr a) = there j l t e 1 (omega arith) a
 
+  -- If a record at some output of the network passes a test, the look through the switches finds one.
   pub seen_record : (s w : ℕ) (e : Record) → In e (records_behind n s w) → f e ≡ true
       → list_any (λ t. list_any f (records_at t 0) || list_any f (records_at t 1)) n.switches ≡ true
   unfolding records_behind
@@ -149,20 +153,20 @@ module _ (n : NetworkLists) (is : IsNetwork n) (f : Record → Bool) where
       here : In e (records_at (switch_at n s (w / 2)) (w % 2))
       here = in_queue n.k w (records_at (switch_at n s (w / 2)) (w % 2)) e m
 
-      told : (v : ℕ) → v < 2 → In e (records_at (switch_at n s (w / 2)) v) → at_one (switch_at n s (w / 2)) ≡ true
-      told zero l o = ap (λ b. b || list_any f (records_at (switch_at n s (w / 2)) 1)) (in_any f (records_at (switch_at n s (w / 2)) 0) e o holds)
-      told (suc zero) l o = ap (λ b. list_any f (records_at (switch_at n s (w / 2)) 0) || b) (in_any f (records_at (switch_at n s (w / 2)) 1) e o holds)
+      fact : (v : ℕ) → v < 2 → In e (records_at (switch_at n s (w / 2)) v) → at_one (switch_at n s (w / 2)) ≡ true
+      fact zero l o = ap (λ b. b || list_any f (records_at (switch_at n s (w / 2)) 1)) (in_any f (records_at (switch_at n s (w / 2)) 0) e o holds)
+      fact (suc zero) l o = ap (λ b. list_any f (records_at (switch_at n s (w / 2)) 0) || b) (in_any f (records_at (switch_at n s (w / 2)) 1) e o holds)
           ∙ or_true (list_any f (records_at (switch_at n s (w / 2)) 0))
         where
           or_true : (b : Bool) → (b || true) ≡ true
           or_true true = refl
           or_true false = refl
-      told (suc (suc v)) l o = absurd (omega arith)
+      fact (suc (suc v)) l o = absurd (omega arith)
 
       none : (v : ℕ) → In e (records_at no_switch v) → ⊥
       none v o = o
 
       go : (s * half n.k + w / 2 < length n.switches) ⊎ (length n.switches ≤ s * half n.k + w / 2) → list_any at_one n.switches ≡ true
-      go (inl l) = in_any at_one n.switches (switch_at n s (w / 2)) (stands_in n.switches (s * half n.k + w / 2) l) (told (w % 2) (omega arith) here)
+      go (inl l) = in_any at_one n.switches (switch_at n s (w / 2)) (stands_in n.switches (s * half n.k + w / 2) l) (fact (w % 2) (omega arith) here)
       go (inr past) = absurd (none (w % 2) (subst (λ (t : SwitchState). In e (records_at t (w % 2)))
           (get_or_past n.switches (s * half n.k + w / 2) no_switch past) here))

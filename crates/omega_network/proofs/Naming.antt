@@ -1,4 +1,4 @@
--- What the looks for a processor in the pool and in the records tell of the whole network.
+-- What the looks for a processor in the pool and in the records say of the whole network.
 use Rattle.std.proofs.Common.{◌≡◌, ℕ, Bool, true, false, ◌||◌, List, ◌⊎◌, inl, inr, refl, sym, ap, ◌∙◌, subst, eq-eqb, eqb-true}
 use Rattle.std.specs.Prelude.{IsTrue, ◌↔◌, ◌==◌, not}
 use Rattle.std.specs.List.{list_any}
@@ -19,7 +19,7 @@ module _ (n : NetworkLists) (is : IsNetwork n) (p : ℕ) where
       or_true false = refl
 
   is_either : (e : Record) → ((e.leader == p) || (e.second == p)) ≡ true → (e.leader ≡ p) ⊎ (e.second ≡ p)
-  is_either e told = go (e.leader == p) refl told
+  is_either e fact = go (e.leader == p) refl fact
     where
       go : (b : Bool) → (e.leader == p) ≡ b → (b || (e.second == p)) ≡ true → (e.leader ≡ p) ⊎ (e.second ≡ p)
       go true f t = inl (eqb-true e.leader p f)
@@ -34,8 +34,8 @@ module _ (n : NetworkLists) (is : IsNetwork n) (p : ℕ) where
 
   pub recorded_is_named : list_any (λ t. is_named p (records_at t 0) || is_named p (records_at t 1)) n.switches ≡ true →
       Names (net_of n) p
-  recorded_is_named told =
-      let h = record_seen n is (λ (e : Record). (e.leader == p) || (e.second == p)) told in
+  recorded_is_named fact =
+      let h = record_seen n is (λ (e : Record). (e.leader == p) || (e.second == p)) fact in
       inr (inl (h.0, h.1, h.2, h.3, is_either h.2 h.4))
 
   pub named_is_recorded : Names (net_of n) p → IsFree n.pool p →
@@ -48,6 +48,7 @@ module _ (n : NetworkLists) (is : IsNetwork n) (p : ℕ) where
     ]
   ]
 
+  -- If no message is led by a processor and no record has it as its second, its cell is free.
   pub unnamed_is_free : Unnamed (net_of n) p → IsFree n.pool p
   unnamed_is_free none = elim (leads_or_free n p) [
     | inl led ↦ absurd (elim led [ by_request d w x m e ↦ none.requests d w x m e | by_reply d w y m e ↦ none.replies d w y m e ])
@@ -59,25 +60,25 @@ module _ (n : NetworkLists) (is : IsNetwork n) (p : ℕ) where
   unnamed_is_unrecorded none = go (list_any (λ t. is_second p (records_at t 0) || is_second p (records_at t 1)) n.switches) refl
     where
       go : (b : Bool) → list_any (λ t. is_second p (records_at t 0) || is_second p (records_at t 1)) n.switches ≡ b → b ≡ false
-      go false told = refl
-      go true told =
-          let h = record_seen n is (λ (e : Record). e.second == p) told in
+      go false fact = refl
+      go true fact =
+          let h = record_seen n is (λ (e : Record). e.second == p) fact in
           absurd (none.records h.0 h.1 h.2 h.3 (eqb-true h.2.second p h.4))
 
   pub free_and_unrecorded : IsFree n.pool p → list_any (λ t. is_second p (records_at t 0) || is_second p (records_at t 1)) n.switches ≡ false →
       Unnamed (net_of n) p
-  free_and_unrecorded free told = record {
+  free_and_unrecorded free fact = record {
     requests = λ d w x m e. free_leads_none n p free (by_request d w x m e);
     records = λ s w e m q. go (seen_record n is (λ (f : Record). f.second == p) s w e m (eq-eqb e.second p q));
     replies = λ d w y m e. free_leads_none n p free (by_reply d w y m e);
   }
     where
       go : list_any (λ t. is_second p (records_at t 0) || is_second p (records_at t 1)) n.switches ≡ true → ⊥
-      go holds = let no : true ≡ false = sym holds ∙ told in cc
+      go holds = let no : true ≡ false = sym holds ∙ fact in cc
 
--- ---- as the calls tell it
+-- ---- as the calls say it
 
-module _ (n m : NetworkLists) (view : n ≡ m) (is : IsNetwork n) (p : ℕ) (free : Bool) (told : IsTrue free ↔ IsFree n.pool p) where
+module _ (n m : NetworkLists) (view : n ≡ m) (is : IsNetwork n) (p : ℕ) (free : Bool) (fact : IsTrue free ↔ IsFree n.pool p) where
   in_view : Names (net_of n) p → Names (net_of m) p
   in_view h = subst (λ (l : NetworkLists). Names (net_of l) p) view h
 
@@ -90,34 +91,38 @@ module _ (n m : NetworkLists) (view : n ≡ m) (is : IsNetwork n) (p : ℕ) (fre
   unseen_unnamed : Unnamed (net_of m) p → Unnamed (net_of n) p
   unseen_unnamed h = subst (λ (l : NetworkLists). Unnamed (net_of l) p) (sym view) h
 
+  -- If a processor's cell is not free, the network names the processor, as the call answers.
   pub names_where_led : free ≡ false → (IsTrue (not free) → Names (net_of m) p) × (Names (net_of m) p → IsTrue (not free))
   names_where_led busy = (
-    (λ t. in_view (not_free_is_named n is p (λ f. let no : true ≡ false = sym (told.1 f) ∙ busy in cc))),
+    (λ t. in_view (not_free_is_named n is p (λ f. let no : true ≡ false = sym (fact.1 f) ∙ busy in cc))),
     (λ h. ap not busy),
   )
 
+  -- If a processor's cell is not free, no reply for it may be put in, as the call answers.
   pub may_not_where_led : free ≡ false → (IsTrue free → Unnamed (net_of m) p) × (Unnamed (net_of m) p → IsTrue free)
   may_not_where_led busy = (
     (λ t. absurd (let no : true ≡ false = sym t ∙ busy in cc)),
-    (λ h. told.1 (unnamed_is_free n is p (unseen_unnamed h))),
+    (λ h. fact.1 (unnamed_is_free n is p (unseen_unnamed h))),
   )
 
   module _ (switches : List SwitchState) (same : switches ≡ n.switches) (seen : Bool) where
+    -- If a processor's cell is free, the network names it exactly if the look finds a record that names it.
     pub names_where_free : free ≡ true → seen ≡ list_any (λ t. is_named p (records_at t 0) || is_named p (records_at t 1)) switches
         → (IsTrue seen → Names (net_of m) p) × (Names (net_of m) p → IsTrue seen)
     names_where_free f look =
         let there : seen ≡ list_any (λ t. is_named p (records_at t 0) || is_named p (records_at t 1)) n.switches =
         look ∙ ap (list_any (λ t. is_named p (records_at t 0) || is_named p (records_at t 1))) same in (
           (λ t. in_view (recorded_is_named n is p (sym there ∙ t))),
-          (λ h. there ∙ named_is_recorded n is p (out_of_view h) (told.0 f)),
+          (λ h. there ∙ named_is_recorded n is p (out_of_view h) (fact.0 f)),
         )
 
+    -- If a processor's cell is free, a reply for it may be put in exactly if no record is found with it as the second.
     pub may_where_free : free ≡ true → seen ≡ list_any (λ t. is_second p (records_at t 0) || is_second p (records_at t 1)) switches
         → (IsTrue (not seen) → Unnamed (net_of m) p) × (Unnamed (net_of m) p → IsTrue (not seen))
     may_where_free f look =
         let there : seen ≡ list_any (λ t. is_second p (records_at t 0) || is_second p (records_at t 1)) n.switches =
         look ∙ ap (list_any (λ t. is_second p (records_at t 0) || is_second p (records_at t 1))) same in (
-          (λ t. seen_unnamed (free_and_unrecorded n is p (told.0 f) (sym there ∙ unseen seen t))),
+          (λ t. seen_unnamed (free_and_unrecorded n is p (fact.0 f) (sym there ∙ unseen seen t))),
           (λ h. ap not (there ∙ unnamed_is_unrecorded n is p (unseen_unnamed h))),
         )
       where

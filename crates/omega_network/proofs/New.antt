@@ -20,21 +20,27 @@ use Rattle.omega_network.proofs.Switches.{place_within}
 
 -- the first switches of a new network
 pub record SoFar (k c b r count : ℕ) (switches : List SwitchState) : Type 0 where
+  -- There are `count` switches.
   pub all : length switches ≡ count
+  -- Each is the switch of its number in its stage, without records.
   pub each : (i : ℕ) → i < length switches → slice_get switches i ≡ Some (the_switch k c b r (i / half k) (i % half k) [] [])
 
+-- An element of a list has the same index if other elements are appended.
 pub get_left : {X : Type 0} (xs ys : List X) (i : ℕ) → i < length xs → slice_get (xs ++ ys) i ≡ slice_get xs i
 get_left [] ys i l = absurd (omega arith)
 get_left (x ∷ xs) ys zero l = refl
 get_left (x ∷ xs) ys (suc i) l = get_left xs ys i (omega arith)
 
+-- The element that is appended to a list has the list's length as its index.
 pub get_last : {X : Type 0} (xs : List X) (x : X) → slice_get (xs ++ x ∷ []) (length xs) ≡ Some x
 get_last [] x = refl
 get_last (y ∷ ys) x = get_last ys x
 
+-- The empty list is the first 0 switches of a new network.
 pub none_yet : (k c b r : ℕ) → SoFar k c b r 0 []
 none_yet k c b r = record { all = refl; each = λ i l. absurd (omega arith) }
 
+-- The first switches of a new network are one more if the next switch of the stage is appended.
 pub one_more : (k c b r stage number : ℕ) (switches : List SwitchState) → number < half k → SoFar k c b r (stage * half k + number) switches
     → SoFar k c b r (stage * half k + (number + 1)) (switches ++ the_switch k c b r stage number [] [] ∷ [])
 one_more k c b r stage number switches within so_far = record {
@@ -59,10 +65,12 @@ one_more k c b r stage number switches within so_far = record {
         ap (slice_get (switches ++ the_switch k c b r stage number [] [] ∷ [])) here ∙ get_last switches (the_switch k c b r stage number [] [])
         ∙ (λ j. Some (the_switch k c b r (sym stage_is j) (sym number_is j) [] []))
 
+-- If each switch of a stage is there, the first switches are those of one more stage.
 pub stage_done : (k c b r stage : ℕ) (switches : List SwitchState) → SoFar k c b r (stage * half k + half k) switches →
     SoFar k c b r ((stage + 1) * half k) switches
 stage_done k c b r stage switches so_far = record { all = so_far.all ∙ omega arith; each = so_far.each }
 
+-- If the switches of all stages are there, they are those of a new network.
 pub all_done : (k c b r count : ℕ) (switches : List SwitchState) → count ≡ k * half k → SoFar k c b r count switches → AreNew k c b r switches
 all_done k c b r count switches e so_far = record { all = so_far.all ∙ e; each = so_far.each }
 
@@ -82,6 +90,7 @@ module _ (n : NetworkLists) (new : AreNew n.k n.c n.b n.r n.switches) (cells que
   no_record : All HasNoRecord n.switches
   no_record i d l = subst HasNoRecord (sym (get_or_from_slice_get n.switches i _ d (new.each i l))) (refl, refl)
 
+  -- A network with an empty pool and new switches is empty.
   pub new_empty : IsEmptyNet (net_of n)
   new_empty = empty_net n no_message no_record
 
@@ -91,6 +100,7 @@ module _ (n : NetworkLists) (new : AreNew n.k n.c n.b n.r n.switches) (cells que
       (new.each (s * half n.k + i) (place_within n.k s i (length n.switches) l m new.all))
       ∙ (λ j. the_switch n.k n.c n.b n.r (div-mul-add s (half n.k) i m j) (mod-mul-add s (half n.k) i m j) [] [])
 
+  -- Lists of up to six stages with an empty pool of their sizes and new switches are those of a network.
   pub new_network : n.k ≤ 6 → cells ≡ 2 ^ n.k → queues ≡ suc n.k * 2 ^ n.k → IsNetwork n
   new_network few cells_is queues_is = record {
     few = few;

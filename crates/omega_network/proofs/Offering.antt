@@ -1,4 +1,4 @@
--- The network after a request was offered to a switch, and what a call tells of it.
+-- The network after a request was offered to a switch, and what a call says of it.
 use Rattle.std.proofs.Common.{◌≡◌, ℕ, suc, ◌+◌, ◌*◌, ◌/◌, ◌%◌, ◌^◌, ◌<◌, Bool, length, map, get_or}
 use Rattle.std.proofs.Common.{set, ◌⊎◌, inl, inr, refl, sym, ap, ◌∙◌, subst, arith, length-set}
 use Rattle.std.specs.Prelude.{IsTrue, ◌↔◌}
@@ -29,13 +29,20 @@ use Rattle.omega_network.proofs.Switches.{half_of_wire, place_within, queue_with
 -- ---- the switch that a call finds
 
 pub record Found (n m : NetworkLists) (s w number : ℕ) (u : SwitchState) : Type 0 where
+  -- The network is seen as m.
   pub view : n ≡ m
+  -- Its lists are those of a network.
   pub is : IsNetwork n
+  -- The stage is one of the network.
   pub stage : s < n.k
+  -- The wire is one of the network.
   pub wire : w < 2 ^ n.k
+  -- The switch's number among all is that of the stage and the wire.
   pub number_is : number ≡ s * half n.k + w / 2
+  -- The switch is the one that the wire comes from.
   pub found : u ≡ switch_at n s (w / 2)
 
+-- The switch that is read at the number of a stage and a wire is the one that the wire comes from.
 pub found_is : {n m : NetworkLists} {s w number : ℕ} {u : SwitchState} → n ≡ m → IsNetwork n → s < m.k → w < 2 ^ m.k →
     number ≡ s * half m.k + w / 2 → u ≡ get_or n.switches number u → Found n m s w number u
 found_is {n} {m} {s} {w} {number} {u} view is stage wire exact at =
@@ -75,9 +82,10 @@ module _ (n : NetworkLists) (is : IsNetwork n) (s w : ℕ) (stage : s < n.k) (wi
   abbrev first : NetworkLists
   first = with_pool n pool
 
-  pub told : Offered (sizes_of n) (net_of n) s w x (accepted (output_in n.pool (output_of (switch_at n s (w / 2)) (w % 2))) x)
+  -- What the output of a wire does with a request is what the offer of the request to it does in a network of places.
+  pub fact : Offered (sizes_of n) (net_of n) s w x (accepted (output_in n.pool (output_of (switch_at n s (w / 2)) (w % 2))) x)
       (moves.offered (sizes_of n) (net_of n) (net_of n) s w x)
-  told = subst (λ (o : OutputLists). Offered (sizes_of n) (net_of n) s w x (accepted o x) (moves.offered (sizes_of n) (net_of n) (net_of n) s w x))
+  fact = subst (λ (o : OutputLists). Offered (sizes_of n) (net_of n) s w x (accepted o x) (moves.offered (sizes_of n) (net_of n) (net_of n) s w x))
       (sym (lists_are n is s w stage wire)) (offered_there (sizes_of n) (net_of n) s w x)
 
   there : place n.k (suc s) w < length n.pool.requests
@@ -91,7 +99,7 @@ module _ (n : NetworkLists) (is : IsNetwork n) (s w : ℕ) (stage : s < n.k) (wi
   module _ (may : MayLead n x.leader) where
     -- who leads one of these requests is no second
     none : (s' w' : ℕ) (e : Record) → In e (records_behind n s' w') → IsFree n.pool e.second → In e.second (map leader_of_request r.1.requests) → ⊥
-    none s' w' e m free o = go (told.leaders e.second o)
+    none s' w' e m free o = go (fact.leaders e.second o)
       where
         go : In e.second (map leader_of_request ((net_of n).requests (suc s) w)) ⊎ (e.second ≡ x.leader) → ⊥
         go (inl i) = free.no_request (place n.k (suc s) w) (subst (λ xs. In e.second (map leader_of_request xs)) (at_queue n (suc s) w wire) i)
@@ -104,7 +112,7 @@ module _ (n : NetworkLists) (is : IsNetwork n) (s w : ℕ) (stage : s < n.k) (wi
 
     seconds : AreSeconds pool (put2 (records_behind n) s w r.1.records)
     unfolding records_behind
-    seconds = go told.became
+    seconds = go fact.became
       where
         go : Became x (output_at (sizes_of n) (net_of n) s w) r.1 → AreSeconds pool (put2 (records_behind n) s w r.1.records)
         go (same_records same) =
@@ -128,17 +136,21 @@ module _ (n : NetworkLists) (is : IsNetwork n) (s w : ℕ) (stage : s < n.k) (wi
     offered_net =
         switch_records_put first first_is s w stage wire r.1.records ∙ ap (λ (net : Net). put_records net s w r.1.records) first_net
 
--- ---- as a call tells it
+-- ---- as a call reports it
 
 pub record Offers (m : NetworkLists) (s w : ℕ) (x : Request) (answer : UpMove) (l : NetworkLists) : Type 0 where
+  -- The lists that the call leaves are those of a network.
   pub is : IsNetwork l
+  -- The answer is the outcome of the offer.
   pub answer_is : answer ≡ (moves.offered (sizes_of m) (net_of m) (net_of m) s w x).0
+  -- The network that the call leaves is the one after the offer.
   pub net_is : net_of l ≡ (moves.offered (sizes_of m) (net_of m) (net_of m) s w x).1
 
 module _ {n m : NetworkLists} {s w number : ℕ} {u : SwitchState} (found : Found n m s w number u) (x : Request) where
   abbrev t' : SwitchState
   t' = switch_at n s (w / 2)
 
+  -- If the request's leader may lead it, the answer and the network of the call are those of the offer.
   pub offer_ends : {pool : PoolLists} {v : SwitchState} {a : Accepted} {answer : UpMove} → MayLead m x.leader → answer ≡ up_of a x.leader →
       a ≡ (accepted (output_in n.pool (output_of u (w % 2))) x).0 →
       v ≡ with_records u (w % 2) (accepted (output_in n.pool (output_of u (w % 2))) x).1.records →
@@ -148,8 +160,8 @@ module _ {n m : NetworkLists} {s w number : ℕ} {u : SwitchState} (found : Foun
       subst (λ (l : NetworkLists). Offers l s w x answer (left_by n number pool v)) found.view (record {
         is = subst IsNetwork (sym same) (offered_keeps n found.is s w found.stage found.wire x may');
         answer_is = told_is ∙ ap (λ b. up_of b x.leader) (a_is ∙ ap (λ (y : SwitchState). (accepted (output_in n.pool (output_of y (w % 2))) x).0) found.found)
-            ∙ (told n found.is s w found.stage found.wire x).answer;
-        net_is = ap net_of same ∙ offered_net n found.is s w found.stage found.wire x may' ∙ (told n found.is s w found.stage found.wire x).net_is;
+            ∙ (fact n found.is s w found.stage found.wire x).answer;
+        net_is = ap net_of same ∙ offered_net n found.is s w found.stage found.wire x may' ∙ (fact n found.is s w found.stage found.wire x).net_is;
       })
     where
       may' : MayLead n x.leader
@@ -169,18 +181,19 @@ module _ {n m : NetworkLists} {s w number : ℕ} {u : SwitchState} (found : Foun
           s (w / 2) (with_records t' (w % 2) (accepted (output_in n.pool (output_of t' (w % 2))) x).1.records)
       same = λ j. record { k = n.k; c = n.c; b = n.b; r = n.r; pool = pool_there j; switches = set n.switches (found.number_is j) (v_there j) }
 
+  -- The switch would take the request exactly if the offer does not stall.
   pub would_end : (b : Bool) → IsTrue b ↔ ((accepted (output_in n.pool (output_of u (w % 2))) x).0 ≡ Full → ⊥)
       → IsTrue b ↔ ((moves.offered (sizes_of m) (net_of m) (net_of m) s w x).0 ≡ up.Stalled → ⊥)
   would_end b would =
       subst (λ (l : NetworkLists). IsTrue b ↔ ((moves.offered (sizes_of l) (net_of l) (net_of l) s w x).0 ≡ up.Stalled → ⊥)) found.view (
-        (λ yes stalled. would.0 yes (full_is ((stalls (accepted (output_in n.pool (output_of t' (w % 2))) x).0 x.leader).0 (is_told.answer ∙ stalled)))),
-        (λ goes. would.1 (λ full. goes (sym is_told.answer ∙ (stalls (accepted (output_in n.pool (output_of t' (w % 2))) x).0 x.leader).1
+        (λ yes stalled. would.0 yes (full_is ((stalls (accepted (output_in n.pool (output_of t' (w % 2))) x).0 x.leader).0 (is_fact.answer ∙ stalled)))),
+        (λ goes. would.1 (λ full. goes (sym is_fact.answer ∙ (stalls (accepted (output_in n.pool (output_of t' (w % 2))) x).0 x.leader).1
             (sym full_same ∙ full)))),
       )
     where
-      is_told : Offered (sizes_of n) (net_of n) s w x (accepted (output_in n.pool (output_of t' (w % 2))) x)
+      is_fact : Offered (sizes_of n) (net_of n) s w x (accepted (output_in n.pool (output_of t' (w % 2))) x)
           (moves.offered (sizes_of n) (net_of n) (net_of n) s w x)
-      is_told = told n found.is s w found.stage found.wire x
+      is_fact = fact n found.is s w found.stage found.wire x
 
       full_same : (accepted (output_in n.pool (output_of u (w % 2))) x).0 ≡ (accepted (output_in n.pool (output_of t' (w % 2))) x).0
       full_same = ap (λ (y : SwitchState). (accepted (output_in n.pool (output_of y (w % 2))) x).0) found.found
@@ -190,5 +203,6 @@ module _ {n m : NetworkLists} {s w number : ℕ} {u : SwitchState} (found : Foun
 
 -- ---- what the switch's calls require
 
+-- The queues of the found switch are in the pool.
 pub stood : {n m : NetworkLists} {s w number : ℕ} {u : SwitchState} → Found n m s w number u → StandsIn u n.pool
 stood {n} {m} {s} {w} {number} {u} found = subst (λ (y : SwitchState). StandsIn y n.pool) (sym found.found) (in_pool n found.is s w found.stage found.wire)

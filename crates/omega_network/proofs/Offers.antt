@@ -77,10 +77,14 @@ pub data Became (x : Request) (o r : OutputLists) : Type 0 where
 abbrev pub output_at : Sizes → Net → (s w : ℕ) → OutputLists
 output_at z net s w = record { c = z.c; b = z.b; r = z.r; requests = net.requests (suc s) w; records = net.records s w }
 
-pub record Offered (z : Sizes) (net : Net) (s w : ℕ) (x : Request) (r : Accepted × OutputLists) (told : UpMove × Net) : Type 0 where
-  pub answer : up_of r.0 x.leader ≡ told.0
-  pub net_is : after net s w r.1 ≡ told.1
+pub record Offered (z : Sizes) (net : Net) (s w : ℕ) (x : Request) (r : Accepted × OutputLists) (fact : UpMove × Net) : Type 0 where
+  -- The output's answer is the outcome of the move.
+  pub answer : up_of r.0 x.leader ≡ fact.0
+  -- The network with the output's lists is the network after the move.
+  pub net_is : after net s w r.1 ≡ fact.1
+  -- Each leader in the queue then led a request in it before, or leads the request that is offered.
   pub leaders : (p : ℕ) → In p (map leader_of_request r.1.requests) → In p (map leader_of_request (net.requests (suc s) w)) ⊎ (p ≡ x.leader)
+  -- The output's records are as before, or there is one more.
   pub became : Became x (output_at z net s w) r.1
 
 module _ (z : Sizes) (net : Net) (s w : ℕ) (x : Request) where
@@ -129,6 +133,7 @@ module _ (z : Sizes) (net : Net) (s w : ℕ) (x : Request) where
         became = one_more i.made refl is.second is.leaders;
       }
 
+  -- What an output does with a request is what the move of the request in a network of places does.
   pub offered_there : Offered z net s w x (accepted o x) (moves.offered z net net s w x)
   unfolding accepted
   offered_there =

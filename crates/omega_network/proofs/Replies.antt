@@ -76,6 +76,7 @@ module _ (n : NetworkLists) (s w i : ℕ) (qs : List ℕ) (stage : s ≤ n.k) (w
       ∙ ap (λ (ys : List Reply). network.put_replies (net_of (with_pool n pool)) s (wire_before n.k s w y.leader) (ys ++ y ∷ []))
       (sym (at_leader pool y.leader))
 
+  -- Replies that are put at the inputs of a switch are put before the stage, each on its leader's wire.
   pub all_put : (ys : List Reply) (pool : PoolLists) → length pool.replies ≡ suc n.k * 2 ^ n.k
       → net_of (with_pool n (put_replies i qs ys pool)) ≡ push_all (wire_before n.k s w) s ys (net_of (with_pool n pool))
   unfolding put_replies push_all
@@ -103,10 +104,12 @@ leaders_are : (v : ℕ) (es : List Record) → map leader_of_reply (map (reply_o
 leaders_are v [] = refl
 leaders_are v (e ∷ es) = ap (λ ps. e.second ∷ ps) (leaders_are v es)
 
--- the switch's answer, and the network then, are what the move's definition tells
-pub record Answers (n : NetworkLists) (s i : ℕ) (r : Answered × SwitchState × PoolLists) (told : DownMove × Net) : Type 0 where
-  pub answer : down_of r.0 ≡ told.0
-  pub net_is : net_of (with_pool (with_switch n s i r.1) r.2) ≡ told.1
+-- the switch's answer, and the network then, are what the move's definition says
+pub record Answers (n : NetworkLists) (s i : ℕ) (r : Answered × SwitchState × PoolLists) (fact : DownMove × Net) : Type 0 where
+  -- The switch's answer is the outcome of the move.
+  pub answer : down_of r.0 ≡ fact.0
+  -- The network with the switch's records and queues is the network after the move.
+  pub net_is : net_of (with_pool (with_switch n s i r.1) r.2) ≡ fact.1
 
 module _ (n : NetworkLists) (is : IsNetwork n) (s w : ℕ) (stage : s < n.k) (wire : w < 2 ^ n.k) (x : Reply) where
   abbrev t : SwitchState
@@ -153,19 +156,20 @@ module _ (n : NetworkLists) (is : IsNetwork n) (s w : ℕ) (stage : s < n.k) (wi
   stays : with_pool (with_switch n s (w / 2) t) n.pool ≡ n
   stays = λ j. record { k = n.k; c = n.c; b = n.b; r = n.r; pool = n.pool; switches = set-get_or n.switches (s * half n.k + w / 2) no_switch j }
 
-  abbrev told_with : List Record → DownMove × Net
-  told_with es =
+  abbrev answer_with : List Record → DownMove × Net
+  answer_with es =
       let net = push_all (wire_before n.k s w) s (answers (records_of x.leader es) x) (put_records (net_of n) s w (records_but x.leader es)) in
       if moves.has_room n.c (wire_before n.k s w) s net (answers (records_of x.leader es) x) then (moves.answered (records_of x.leader es), net)
       else (down.Stalled, net_of n)
 
+  -- What a switch does with a reply is what the answer of the reply in a network of places does.
   pub answered_there : Answers n s (w / 2) (answered (switch_at n s (w / 2)) n.pool (w % 2) x)
       (moves.answer (sizes_of n) (net_of n) (net_of n) s w x (records_of x.leader (records_behind n s w)))
   unfolding answered
-  answered_there = subst (Answers n s (w / 2) (answered t n.pool (w % 2) x)) (ap told_with own_is)
+  answered_there = subst (Answers n s (w / 2) (answered t n.pool (w % 2) x)) (ap answer_with own_is)
       (go (has_room t.c t.its_bit t.inputs all ys) refl)
     where
-      go : (r : Bool) → has_room t.c t.its_bit t.inputs all ys ≡ r → Answers n s (w / 2) (answered t n.pool (w % 2) x) (told_with own)
+      go : (r : Bool) → has_room t.c t.its_bit t.inputs all ys ≡ r → Answers n s (w / 2) (answered t n.pool (w % 2) x) (answer_with own)
       go true e = rw (e, room ∙ e) (record { answer = answered_same (records_of x.leader own); net_is = put })
       go false e = rw (e, room ∙ e) (record { answer = refl; net_is = ap net_of stays })
 
@@ -191,6 +195,7 @@ module _ (n : NetworkLists) (is : IsNetwork n) (s w : ℕ) (stage : s < n.k) (wi
     leads p (inl e) = inl e
     leads p (inr m) = inr (In-map_from second_of p (records_of x.leader own) (subst (In p) (leaders_are x.value (records_of x.leader own)) m))
 
+    -- The replies for a leader and for the seconds of its records can be queued, if the leader may lead its reply.
     pub can_be_queued : CanBeQueued n.pool (answers (records_of x.leader (records_at (switch_at n s (w / 2)) (w % 2))) x)
     can_be_queued = record {
       cells = λ y m. cell y m;
@@ -245,6 +250,7 @@ module _ (n : NetworkLists) (is : IsNetwork n) (s w : ℕ) (stage : s < n.k) (wi
         go (inl q) = may.no_second s' w' e (was_there (records_behind n) s w (records_but x.leader own) (λ f m. is_own f ((one_but f m).0)) s' w' e was) q
         go (inr h) = other h.0 h.1 h.2 (In-put2 (records_behind n) s w (records_but x.leader own) s' w' e was)
 
+    -- The network after a reply is answered is again a network, if the reply's leader may lead it.
     pub answered_keeps : (r : Answered × SwitchState × PoolLists) → r ≡ answered (switch_at n s (w / 2)) n.pool (w % 2) x →
         IsNetwork (with_pool (with_switch n s (w / 2) r.1) r.2)
     unfolding answered

@@ -15,6 +15,7 @@ with_switch n s i t = record { k = n.k; c = n.c; b = n.b; r = n.r; pool = n.pool
 
 -- ---- numbers
 
+-- With at least one stage, there are twice as many wires as switches in a stage.
 pub two_halves : (k s : ℕ) → s < k → 2 ^ k ≡ half k * 2
 two_halves zero s l = absurd (omega arith)
 two_halves (suc k) s l = pow-suc 2 k ∙ ap (λ n. 2 ^ n * 2) (less k)
@@ -22,28 +23,33 @@ two_halves (suc k) s l = pow-suc 2 k ∙ ap (λ n. 2 ^ n * 2) (less k)
     less : (k : ℕ) → k ≡ suc k - 1
     less k = omega arith
 
+-- Two pairs of a row and a column below n are the same if their numbers, row by row, are the same.
 pub one_place : (n d d' w w' : ℕ) → w < n → w' < n → d' * n + w' ≡ d * n + w → (d' ≡ d) × (w' ≡ w)
 one_place n d d' w w' l m e = (
   sym (div-mul-add d' n w' m) ∙ (λ i. e i / n) ∙ div-mul-add d n w l,
   sym (mod-mul-add d' n w' m) ∙ (λ i. e i % n) ∙ mod-mul-add d n w l,
 )
 
+-- The number of the queues at a depth on a wire is below the number of all queues.
 pub queue_within : (k d w n : ℕ) → d ≤ k → w < 2 ^ k → n ≡ suc k * 2 ^ k → place k d w < n
 queue_within k d w n l m e =
     let up : suc d * 2 ^ k ≤ suc k * 2 ^ k = mul-le-mul_right (2 ^ k) (omega arith) in
     omega arith
 
+-- The number of a switch among all is below the number of all switches.
 pub place_within : (k s i n : ℕ) → s < k → i < half k → n ≡ k * half k → s * half k + i < n
 place_within k s i n l m e =
     let up : suc s * half k ≤ k * half k = mul-le-mul_right (half k) l in
     omega arith
 
+-- Half the number of a stage and a wire is the number among all of the switch that the wire comes from.
 pub place_is : (k s w : ℕ) → s < k → (s * 2 ^ k + w) / 2 ≡ s * half k + w / 2
 place_is k s w l =
     let e : s * 2 ^ k ≡ s * (half k * 2) = ap (λ n. s * n) (two_halves k s l) in
     let f : s * (half k * 2) ≡ s * half k * 2 = omega arith in
     omega (arith, e, f)
 
+-- Half of a wire is the number of a switch in a stage.
 pub half_of_wire : (k s w : ℕ) → s < k → w < 2 ^ k → w / 2 < half k
 half_of_wire k s w l m = let e = two_halves k s l in omega arith
 
@@ -61,9 +67,11 @@ few_wires (suc (suc (suc (suc (suc (suc (suc k))))))) l = absurd (omega arith)
 -- ---- one switch replaced
 
 module _ (n : NetworkLists) (s i : ℕ) (t : SwitchState) (stage : s < n.k) (number : i < half n.k) (all : length n.switches ≡ n.k * half n.k) where
+  -- The switch that was put in is read at its stage and number.
   pub switch_put : switch_at (with_switch n s i t) s i ≡ t
   switch_put = get_or-set_same n.switches (s * half n.k + i) t no_switch (place_within n.k s i (length n.switches) stage number all)
 
+  -- Every other switch is read as before.
   pub switch_kept : (s' i' : ℕ) → i' < half n.k → (s' ≡ s → i' ≡ i → ⊥) → switch_at (with_switch n s i t) s' i' ≡ switch_at n s' i'
   switch_kept s' i' l away =
       get_or-set_other n.switches (s * half n.k + i) (s' * half n.k + i') t no_switch

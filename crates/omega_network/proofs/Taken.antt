@@ -57,12 +57,16 @@ first_in f (y ∷ ys) x e = let same : x ≡ y = cc in inl (ap f same)
 
 -- a kind of message: how a pool has its queues, and a network its places, and what is known of them
 pub record Kind (X : Type 0) : Type 0 where
+  -- The processor that leads a message.
   pub leader : X → ℕ
   pub queues : PoolLists → List (List X)
   pub with_queue : PoolLists → ℕ → List X → PoolLists
+  -- The messages of a network at a depth on a wire.
   pub before : NetworkLists → ℕ → ℕ → List X
   pub put : Net → ℕ → ℕ → List X → Net
+  -- A network's pool has a queue of this kind for each depth and wire.
   pub all : (n : NetworkLists) → IsNetwork n → length (queues n.pool) ≡ suc n.k * 2 ^ n.k
+  -- The messages at a depth on a wire are those of the queue with the number of the two.
   pub there : (n : NetworkLists) (d w : ℕ) → w < 2 ^ n.k → before n d w ≡ slice_index_or (queues n.pool) (place n.k d w) []
   pub puts : (n : NetworkLists) (d w : ℕ) → w < 2 ^ n.k → (xs : List X) → place n.k d w < length (queues n.pool)
       → net_of (with_pool n (with_queue n.pool (place n.k d w) xs)) ≡ put (net_of n) d w xs
@@ -104,11 +108,15 @@ replies = record {
 
 pub record Queues (n m : NetworkLists) (d w q : ℕ) : Type 0 where
   pub view : n ≡ m
+  -- The lists that the call finds are those of a network.
   pub is : IsNetwork n
   pub depth : d ≤ n.k
+  -- The wire is one of the network.
   pub wire : w < 2 ^ n.k
+  -- The number of the queues is that of the depth and the wire.
   pub at : q ≡ place n.k d w
 
+-- If the network is seen as m, a depth and a wire of m are found in it, with the same number of the queues.
 pub queues_are : {n m : NetworkLists} {d w q : ℕ} → n ≡ m → IsNetwork n → d ≤ m.k → w < 2 ^ m.k → q ≡ place m.k d w → Queues n m d w q
 queues_are {n} {m} {d} {w} {q} view is depth wire at = record {
   view = view;
@@ -122,10 +130,12 @@ module _ {X : Type 0} (K : Kind X) {n m : NetworkLists} {d w q : ℕ} (found : Q
   abbrev here : List X
   here = slice_index_or (K.queues n.pool) q []
 
+  -- The number of the found queue is below the number of the pool's queues.
   pub within : q < length (K.queues n.pool)
   within = subst (λ p. p < length (K.queues n.pool)) (sym found.at)
       (queue_within n.k d w (length (K.queues n.pool)) found.depth found.wire (K.all n found.is))
 
+  -- The messages of the found queue are those at its depth on its wire.
   pub before_is : here ≡ K.before m d w
   before_is = ap (λ p. slice_index_or (K.queues n.pool) p []) found.at ∙ sym (K.there n d w found.wire) ∙ ap (λ (l : NetworkLists). K.before l d w) found.view
 
@@ -152,9 +162,11 @@ module _ {X : Type 0} (K : Kind X) {n m : NetworkLists} {d w q : ℕ} (found : Q
 
   -- the first message is taken
   module _ {pool : PoolLists} (taken : pool ≡ K.with_queue n.pool q (drop 1 here)) where
+    -- A network without the first message of a queue is again a network.
     pub taken_kept : IsNetwork (with_pool n pool)
     taken_kept = kept (drop 1 here) taken (λ p o. inl (some_of K.leader p here o))
 
+    -- If the first message of a queue is taken, it is dropped at its place, and nothing else changes.
     pub taken_net : net_of (with_pool n pool) ≡ K.put (net_of m) d w (drop 1 (K.before m d w))
     taken_net = net_is (drop 1 here) taken ∙ ap (λ xs. K.put (net_of m) d w (drop 1 xs)) before_is
 
@@ -172,6 +184,7 @@ module _ {X : Type 0} (K : Kind X) {n m : NetworkLists} {d w q : ℕ} (found : Q
 
   -- a message comes of one who may lead it
   module _ (x : X) {pool : PoolLists} (put : pool ≡ K.with_queue n.pool q (here ++ x ∷ [])) where
+    -- A network with one more message in a queue is again a network, if the message's leader may lead it.
     pub put_kept : MayLead n (K.leader x) → IsNetwork (with_pool n pool)
     put_kept may = kept (here ++ x ∷ []) put (λ p o. go p (one_of_more K.leader p here x o))
       where
@@ -180,17 +193,20 @@ module _ {X : Type 0} (K : Kind X) {n m : NetworkLists} {d w q : ℕ} (found : Q
         go p (inl o) = inl o
         go p (inr e) = inr (λ s v f m same. may.no_second s v f m (same ∙ e))
 
+    -- If a message is put into a queue, it is the last at its place, and nothing else changes.
     pub put_net : net_of (with_pool n pool) ≡ K.put (net_of m) d w (K.before m d w ++ x ∷ [])
     put_net = net_is (here ++ x ∷ []) put ∙ ap (λ xs. K.put (net_of m) d w (xs ++ x ∷ [])) before_is
 
 -- ---- messages from outside
 
+-- If the network does not name a processor, the processor may lead a request that is put in.
 pub injected_may : {n m : NetworkLists} {p : ℕ} (x : Request) → n ≡ m → IsNetwork n → x.leader ≡ p → p < 2 ^ m.k → (Names (net_of m) p → ⊥)
     → MayLead n x.leader
 injected_may {n} {m} {p} x view is leader below none =
     subst (MayLead n) (sym leader) (may_lead n p is (subst (λ (l : NetworkLists). p < 2 ^ l.k) (sym view) below)
     (subst (λ (l : NetworkLists). Unnamed (net_of l) p) (sym view) (unnamed_is (net_of m) p none)))
 
+-- If no message is led by a reply's leader and no record has it as its second, it may lead the reply.
 pub replied_may : {n m : NetworkLists} (y : Reply) → n ≡ m → IsNetwork n → y.leader < 2 ^ m.k → Unnamed (net_of m) y.leader → MayLead n y.leader
 replied_may {n} {m} y view is below none =
     may_lead n y.leader is (subst (λ (l : NetworkLists). y.leader < 2 ^ l.k) (sym view) below)

@@ -19,7 +19,9 @@ pub record IsIndexed (n : NetworkLists) (requests replies : List ℕ) : Type 0 w
   pub of_replies : Knows n.k (net_of n).replies replies
 
 -- One wire of one depth was looked at: there the sets are right now, and elsewhere where they were.
-pub record IsLookedAt {X : Type 0} (k : ℕ) (messages : ℕ → ℕ → List X) (depth wire : ℕ) (old new : List ℕ) : Type 0 where
+pub record IsLookedAt {X : Type 0} (k : ℕ) (messages : ℕ → ℕ →
+    List X) (depth wire : ℕ) (old new : List ℕ) : Type 0 where
   pub seen : IsKnown messages new depth wire
   pub kept : (d w : ℕ) → IsKnown messages old d w → IsKnown messages new d w
-  pub few : (d w : ℕ) → 2 ^ k ≤ w → members (slice_index_or old d 0) w ≡ false → members (slice_index_or new d 0) w ≡ false
+  pub few : (d w : ℕ) → 2 ^ k ≤ w → members (slice_index_or old d 0) w ≡ false →
+      members (slice_index_or new d 0) w ≡ false

@@ -11,8 +11,8 @@ use Rattle.combining_switch.specs.Pools.{IsFree, PoolLists, replies_at, requests
 use Rattle.std.specs.List.{list_any}
 use Rattle.combining_switch.specs.Switches.{SwitchState, records_at}
 
--- k stages of switches, each with queues of c messages and wait buffers of b records, all queues in one pool. An entry of a queue is
--- combined up to r times. The switches stand stage by stage.
+-- k stages of switches, each with queues of c messages and wait buffers of b records, all queues in one pool. An entry
+-- of a queue is combined up to r times. The switches stand stage by stage.
 pub record NetworkLists : Type 0 where
   pub k : ℕ
   pub c : ℕ
@@ -58,8 +58,8 @@ net_of n = record { requests = requests_before n; records = records_behind n; re
 
 -- ---- what every network keeps
 
--- The switch of number i in stage s, with these records at its outputs: those are the wires 2 i and 2 i + 1 after it, and its
--- inputs are the wires that the shuffle brings there.
+-- The switch of number i in stage s, with these records at its outputs: those are the wires 2 i and 2 i + 1 after it,
+-- and its inputs are the wires that the shuffle brings there.
 abbrev pub the_switch : (k c b r s i : ℕ) → (zero one : List Record) → SwitchState
 the_switch k c b r s i es fs = record {
   c = c;
@@ -77,7 +77,8 @@ pub record AreSeconds (pool : PoolLists) (records : ℕ → ℕ → List Record)
   pub cells : (s w : ℕ) (e : Record) → In e (records s w) → e.second < pool.cells
   pub free : (s w : ℕ) (e : Record) → In e (records s w) → IsFree pool e.second
   pub apart : (s w : ℕ) → ApartBy second_of (records s w)
-  pub once : (s w s' w' : ℕ) (e e' : Record) → In e (records s w) → In e' (records s' w') → e.second ≡ e'.second → (s ≡ s') × (w ≡ w')
+  pub once : (s w s' w' : ℕ) (e e' : Record) → In e (records s w) → In e' (records s' w') → e.second ≡ e'.second →
+      (s ≡ s') × (w ≡ w')
 
 -- up to 64 processors and modules, a queue of each kind for each depth and wire, and the switches of each stage
 pub record IsNetwork (n : NetworkLists) : Type 0 where
@@ -114,4 +115,5 @@ is_second p es = list_any (λ e. e.second == p) es
 -- a network's switches, all without records
 pub record AreNew (k c b r : ℕ) (switches : List SwitchState) : Type 0 where
   pub all : length switches ≡ k * half k
-  pub each : (i : ℕ) → i < length switches → slice_get switches i ≡ Some (the_switch k c b r (i / half k) (i % half k) [] [])
+  pub each : (i : ℕ) → i < length switches →
+      slice_get switches i ≡ Some (the_switch k c b r (i / half k) (i % half k) [] [])

@@ -15,7 +15,7 @@ use omega_wires::{WireSet, no_bits_no_wires, rotate_right, rotations_are_inverse
 use std::alloc::{AllocError, Global};
 use std::marker::Model;
 
-/// Depths 0 to 6: before each of six stages, and behind the last.
+/// Depths 0 to 6: before each of six stages, and after the last.
 const DEPTHS: usize = 7;
 
 /// A network, and for each depth the wires on which messages stand. Wires are numbered from 0; at depth 0
@@ -267,7 +267,8 @@ impl IndexedNetwork {
     pub fn request_wires(&self, stage: u8) -> WireSet
         requires { stage ≤ self.now.k }
         ensures stages { self.now.k ≤ 6 }
-        ensures exact { (w : ℕ) → w < 2 ^ self.now.k → members result w ≡ is_some (slice_get ((net_of self.now).requests stage w) 0) }
+        ensures exact { (w : ℕ) → w < 2 ^ self.now.k →
+            members result w ≡ is_some (slice_get ((net_of self.now).requests stage w) 0) }
         ensures few { (w : ℕ) → 2 ^ self.now.k ≤ w → members result w ≡ false }
     {
         self.requests[usize::from(stage)]
@@ -278,7 +279,8 @@ impl IndexedNetwork {
     pub fn reply_wires(&self, stage: u8) -> WireSet
         requires { stage ≤ self.now.k }
         ensures stages { self.now.k ≤ 6 }
-        ensures exact { (w : ℕ) → w < 2 ^ self.now.k → members result w ≡ is_some (slice_get ((net_of self.now).replies stage w) 0) }
+        ensures exact { (w : ℕ) → w < 2 ^ self.now.k →
+            members result w ≡ is_some (slice_get ((net_of self.now).replies stage w) 0) }
         ensures few { (w : ℕ) → 2 ^ self.now.k ≤ w → members result w ≡ false }
     {
         self.replies[usize::from(stage)]
@@ -293,7 +295,7 @@ fn look_for_request(network: &Network, sets: &mut [WireSet; DEPTHS], depth: u8, 
     ensures { IsLookedAt network.now.k (net_of network.now).requests depth wire sets.old sets.new }
 {
     let is_there = network.has_request(depth, wire);
-    note(sets, depth, wire, is_there);
+    set_wire(sets, depth, wire, is_there);
 }
 
 /// Looks whether a reply stands before a stage on a wire.
@@ -304,14 +306,16 @@ fn look_for_reply(network: &Network, sets: &mut [WireSet; DEPTHS], depth: u8, wi
     ensures { IsLookedAt network.now.k (net_of network.now).replies depth wire sets.old sets.new }
 {
     let is_there = network.has_reply(depth, wire);
-    note(sets, depth, wire, is_there);
+    set_wire(sets, depth, wire, is_there);
 }
 
 /// Puts a wire into the set of a depth, or takes it out.
-fn note(sets: &mut [WireSet; DEPTHS], depth: u8, wire: u8, is_there: bool)
+fn set_wire(sets: &mut [WireSet; DEPTHS], depth: u8, wire: u8, is_there: bool)
     requires depth { depth < 7 }
     requires wire { wire < 64 }
-    ensures { (d w : ℕ) → members (slice_index_or sets.new d 0) w ≡ (if d == depth && w == wire then is_there else members (slice_index_or sets.old d 0) w) }
+    ensures { (d w : ℕ) →
+        members (slice_index_or sets.new d 0) w
+        ≡ (if d == depth && w == wire then is_there else members (slice_index_or sets.old d 0) w) }
 {
     let set = &mut sets[usize::from(depth)];
     if is_there {

@@ -1,16 +1,19 @@
 //! Networks.
 
-ghost use Rattle.std.specs.Prelude.{◌≡◌, ◌↔◌, ◌<◌, ◌≤◌, ◌^◌, ◌/◌, ◌*◌, ◌+◌, ◌||◌, suc, [], drop, length, slice_get, is_some, All, IfOk, IfSome, IsTrue};
+ghost use Rattle.std.specs.Prelude.{◌≡◌, ◌↔◌, ◌<◌, ◌≤◌, ◌^◌, ◌/◌, ◌*◌, ◌+◌, ◌||◌, suc, [], drop, length, slice_get};
+ghost use Rattle.std.specs.Prelude.{is_some, All, IfOk, IfSome, IsTrue};
 ghost use Rattle.messages.specs.declared.moves.UpMove.TheVariants as up;
 ghost use Rattle.messages.specs.declared.moves.DownMove.TheVariants as down;
 ghost use Rattle.messages.specs.Queues.{records_of};
 ghost use Rattle.messages.specs.Network.{IsEmptyNet, Sizes, put_replies, put_requests};
 ghost use Rattle.messages.specs.Naming.{Names, Unnamed};
-ghost use Rattle.messages.specs.Moves.{answer, injected, module_replied, module_taken, moved_down, moved_up, offered, port_taken};
+ghost use Rattle.messages.specs.Moves.{answer, injected, module_replied, module_taken, moved_down, moved_up, offered};
+ghost use Rattle.messages.specs.Moves.{port_taken};
 ghost use Rattle.std.specs.List.{list_any};
 ghost use Rattle.combining_switch.specs.Switches.{records_at};
 ghost use Rattle.omega_network.specs.Answers.{down_of, up_of};
-ghost use Rattle.omega_network.specs.Networks.{AreNew, HasNoMessage, HasNoRecord, MayLead, half, is_named, is_second, net_of, place, sizes_of, the_switch};
+ghost use Rattle.omega_network.specs.Networks.{AreNew, HasNoMessage, HasNoRecord, MayLead, half, is_named, is_second};
+ghost use Rattle.omega_network.specs.Networks.{net_of, place, sizes_of, the_switch};
 
 use combining_switch::{Accepted, Answered, Pool, Switch};
 use messages::{DownMove, Record, Reply, Request, UpMove, moves_of_nothing_stall};
@@ -20,10 +23,11 @@ use std::alloc::{AllocError, Global};
 use std::marker::Model;
 
 /// A network of `k` stages, whose queues have room for `c` messages and whose wait buffers have room
-/// for `b` records. An entry of a queue is combined up to `r` times. Processors, modules and wires are numbered from 0, and stages too.
+/// for `b` records. An entry of a queue is combined up to `r` times. Processors, modules and wires are numbered from
+/// 0, and stages too.
 #[derive(Drop)]
 pub struct Network {
-    /// The queues before each stage and behind the last, by depths and then by wires.
+    /// The queues before each stage and after the last, by depths and then by wires.
     pool: Pool,
     /// The switches stage by stage.
     switches: Vec<Switch>,
@@ -40,12 +44,20 @@ impl Model for Network {
 
     ghost view = { λ n. record { k = n.k; c = n.c; b = n.b; r = n.r; pool = n.pool; switches = n.switches.items } };
 
-    ghost invariant = { λ n. IsNetwork (record { k = n.k; c = n.c; b = n.b; r = n.r; pool = n.pool; switches = n.switches.items }) };
+    ghost invariant = { λ n. IsNetwork (record {
+      k = n.k;
+      c = n.c;
+      b = n.b;
+      r = n.r;
+      pool = n.pool;
+      switches = n.switches.items;
+    }) };
 }
 
 impl Network {
     /// An empty network of `k` stages, 0 to 6, with queues of `c` messages, 2 to 16, and wait buffers
-    /// of `b` records, 0 to 16. An entry of a queue is combined up to `r` times, 1 to 3. With no stage the processor's slot is the module's.
+    /// of `b` records, 0 to 16. An entry of a queue is combined up to `r` times, 1 to 3. With no stage the processor's
+    /// slot is the module's.
     ///
     /// # Errors
     ///
@@ -131,7 +143,7 @@ impl Network {
     }
 
     /// Moves the first request on a wire before a stage: it is offered to the output that its word's
-    /// module lies behind.
+    /// module lies after.
     #[inline(always)]
     pub fn up(&mut self, stage: u8, wire: u8) -> UpMove
         requires stage { stage < self.old.k }
@@ -282,7 +294,8 @@ impl Network {
         self.reply_before(stage, wire).is_some()
     }
 
-    /// The request that stands at `place` before a stage on a wire, or at a module for stage `k`; the first stands at 0.
+    /// The request that stands at `place` before a stage on a wire, or at a module for stage `k`; the first stands at
+    /// 0.
     pub fn request(&self, stage: u8, wire: u8, place: usize) -> Option<Request>
         requires stage { stage ≤ self.now.k }
         requires wire { wire < 2 ^ self.now.k }
@@ -343,7 +356,8 @@ impl Network {
         requires stage { stage ≤ self.old.k }
         requires wire { wire < 2 ^ self.old.k }
         ensures first { result ≡ slice_get ((net_of self.old).requests stage wire) 0 }
-        ensures taken { net_of self.new ≡ put_requests (net_of self.old) stage wire (drop 1 ((net_of self.old).requests stage wire)) }
+        ensures taken { net_of self.new
+            ≡ put_requests (net_of self.old) stage wire (drop 1 ((net_of self.old).requests stage wire)) }
         ensures sizes { sizes_of self.new ≡ sizes_of self.old }
         ensures unnamed { IfSome result (λ x. MayLead self.new x.leader) }
     {
@@ -365,7 +379,8 @@ impl Network {
         requires stage { stage ≤ self.old.k }
         requires wire { wire < 2 ^ self.old.k }
         ensures first { result ≡ slice_get ((net_of self.old).replies stage wire) 0 }
-        ensures taken { net_of self.new ≡ put_replies (net_of self.old) stage wire (drop 1 ((net_of self.old).replies stage wire)) }
+        ensures taken { net_of self.new
+            ≡ put_replies (net_of self.old) stage wire (drop 1 ((net_of self.old).replies stage wire)) }
         ensures sizes { sizes_of self.new ≡ sizes_of self.old }
         ensures unnamed { IfSome result (λ y. MayLead self.new y.leader) }
     {
@@ -377,7 +392,9 @@ impl Network {
     fn would_take(&self, stage: u8, wire: u8, request: &Request) -> bool
         requires stage { stage < self.now.k }
         requires wire { wire < 2 ^ self.now.k }
-        ensures { IsTrue result ↔ ((offered (sizes_of self.now) (net_of self.now) (net_of self.now) stage wire request.now).0 ≡ up.Stalled → ⊥) }
+        ensures { IsTrue result
+            ↔ ((offered (sizes_of self.now) (net_of self.now) (net_of self.now) stage wire request.now).0
+            ≡ up.Stalled → ⊥) }
     {
         self.switches[self.switch_behind(stage, wire)].would_take(&self.pool, wire % 2, request)
     }
@@ -387,8 +404,10 @@ impl Network {
         requires stage { stage < self.old.k }
         requires wire { wire < 2 ^ self.old.k }
         requires leader { MayLead self.old request.leader }
-        ensures outcome { result ≡ (offered (sizes_of self.old) (net_of self.old) (net_of self.old) stage wire request).0 }
-        ensures after { net_of self.new ≡ (offered (sizes_of self.old) (net_of self.old) (net_of self.old) stage wire request).1 }
+        ensures outcome { result
+            ≡ (offered (sizes_of self.old) (net_of self.old) (net_of self.old) stage wire request).0 }
+        ensures after { net_of self.new
+            ≡ (offered (sizes_of self.old) (net_of self.old) (net_of self.old) stage wire request).1 }
         ensures sizes { sizes_of self.new ≡ sizes_of self.old }
     {
         let second = request.leader;
@@ -414,7 +433,8 @@ impl Network {
         requires leader { MayLead self.old reply.leader }
         ensures outcome { result ≡ (answer (sizes_of self.old) (net_of self.old) (net_of self.old) stage wire reply
             (records_of reply.leader ((net_of self.old).records stage wire))).0 }
-        ensures after { net_of self.new ≡ (answer (sizes_of self.old) (net_of self.old) (net_of self.old) stage wire reply
+        ensures after { net_of self.new
+            ≡ (answer (sizes_of self.old) (net_of self.old) (net_of self.old) stage wire reply
             (records_of reply.leader ((net_of self.old).records stage wire))).1 }
         ensures sizes { sizes_of self.new ≡ sizes_of self.old }
     {
@@ -468,7 +488,7 @@ fn down_of(answer: Answered) -> DownMove
     }
 }
 
-/// Whether none of a pool's queues, of which there are so many of each kind, has a message.
+/// Whether none of a pool's queues, of which there are this many of each kind, has a message.
 fn has_no_message(pool: &Pool, queues: u16) -> bool
     requires requests { length pool.now.requests ≡ queues }
     requires replies { length pool.now.replies ≡ queues }
@@ -544,8 +564,8 @@ fn new_switches(alloc: Global, k: u8, c: u8, b: u8, r: u8) -> Result<Vec<Switch>
     Ok(switches)
 }
 
-/// The switch of this number in a stage. Its outputs are the wires after it whose numbers are twice its own and one more;
-/// its inputs are the wires before it that the shuffle brings to these.
+/// The switch of this number in a stage. Its outputs are the wires after it whose numbers are twice its own and one
+/// more; its inputs are the wires before it that the shuffle brings to these.
 fn new_switch(k: u8, c: u8, b: u8, r: u8, stage: u8, number: u8) -> Switch
     requires stages { k ≤ 6 }
     requires queues { (2 ≤ c) × (c ≤ 16) }

@@ -20,10 +20,12 @@ module _ (n a : ℕ) (fits : n < 2 ^ 64) where
   small : n / 2 ^ a < 2 ^ 64
   small = (let less = div-le_self n (2 ^ a) in omega (arith, less, fits))
 
+  -- If n has no one bit from bit a on, its set has no wire from a on.
   pub none_behind : n / 2 ^ a ≡ 0 → HasNoneIn (members n) a 64
   unfolding members
   none_behind empty w behind few = ap (λ b. b == 1) (sym (bit_there n a w behind) ∙ ap (λ r. bit_at r (w - a)) empty ∙ bit_at-zero (w - a))
 
+  -- If n has a one bit from bit a on, the lowest of them is the set's first wire from a on.
   pub first_behind : (n / 2 ^ a ≡ 0 → ⊥) → IsFirst (members n) a (a + trailing_zeros w64 (n / 2 ^ a))
   unfolding members
   first_behind some = record {

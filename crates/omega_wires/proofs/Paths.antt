@@ -8,10 +8,12 @@ use Rattle.std.proofs.lemmas.Bool.{cases_lt}
 use Rattle.omega_wires.specs.Laws.{RotationsAreInverse, RotationsStayOnWires, PathsThatMeetStayTogether, RepliesEndAtTheirLeader}
 use Rattle.omega_wires.specs.Wires.{bit, rotated_left, rotated_right, wire_after, wire_before, path, way_back}
 
+-- Before stage 0 a message is on its processor's wire.
 pub path_zero : (k p m : ℕ) → path k p m 0 ≡ p
 unfolding path
 path_zero k p m = refl
 
+-- A message's wire after a stage is the one that the stage takes its wire before it to.
 pub path_suc : (k p m s : ℕ) → path k p m (suc s) ≡ wire_after k s (path k p m s) m
 unfolding path
 path_suc k p m s = refl
@@ -58,8 +60,11 @@ after_is k s t top L m e l b = ap (λ n. 2 * (n / 2) + bit (k - 1 - s) m) (rotat
     ∙ ap (λ n. 2 * n + bit (k - 1 - s) m) (half_of L top b)
 
 pub record Shape (k p m s t : ℕ) : Type 0 where
+  -- the lowest s bits of the wire before stage s, as a number
   pub low : ℕ
+  -- The number is below 2^s.
   pub small : low < 2 ^ s
+  -- The other bits of the wire are the lowest t + 1 bits of the processor's number.
   pub is : path k p m s ≡ (p % 2 ^ suc t) * 2 ^ s + low
 
 shape : (k p m : ℕ) → p < 2 ^ k → (s t : ℕ) → s + suc t ≡ k → Shape k p m s t
@@ -84,6 +89,7 @@ shape k p m h (suc s) t e =
     regroup : (a c q b : ℕ) → 2 * (a * c + q) + b ≡ a * (c * 2) + (2 * q + b)
     regroup a c q b = omega arith
 
+-- A stage takes a reply from the wire after it on the leader's way to the wire before it.
 pub before_path : (k p m s : ℕ) → s < k → p < 2 ^ k → wire_before k s (path k p m (suc s)) p ≡ path k p m s
 unfolding wire_before
 before_path k p m s l h =
@@ -121,7 +127,7 @@ path_lt k p m (suc s) l h =
     let low = f.1 in
     omega arith
 
--- what the module's number has put behind p's bits
+-- what the module's number has put after p's bits
 low_is : (k p m : ℕ) → p < 2 ^ k → m < 2 ^ k → (s t : ℕ) → s + suc t ≡ k → path k p m s ≡ (p % 2 ^ suc t) * 2 ^ s + m / 2 ^ suc t
 unfolding path
 low_is k p m h b zero t e =
@@ -214,6 +220,7 @@ by_lowest k wire h = (
 no_wires : (k wire : ℕ) → wire < 2 ^ 0 → wire ≡ 0
 no_wires k wire h = omega arith
 
+-- On the wires of the network, the two rotations undo each other.
 pub inverse : RotationsAreInverse
 inverse zero wire h =
     let e : wire ≡ 0 = no_wires 0 wire h in
@@ -227,6 +234,7 @@ inverse (suc k) wire h =
       ap (λ w. rotated_left (suc k) (rotated_right (suc k) w)) b.2 ∙ ap (rotated_left (suc k)) g.1 ∙ g.0 ∙ sym b.2,
     )
 
+-- Rotations of a wire, to the left and to the right, are wires.
 pub rotations_small : RotationsStayOnWires
 rotations_small zero wire h =
     let e : wire ≡ 0 = no_wires 0 wire h in
@@ -273,6 +281,7 @@ path_is k p m s h b l = elim (cases_lt s k) [
         none : (n m : ℕ) → 0 * n + m ≡ m
         none n m = omega arith
 
+-- If two ways to one module meet before a stage, they stay together from there on.
 pub meet : PathsThatMeetStayTogether
 unfolding path
 meet k p q m s zero e = let z : s + 0 ≡ s = omega arith in ap (path k p m) z ∙ e ∙ ap (path k q m) (sym z)
@@ -288,6 +297,7 @@ way_back_is k p m h b (suc i) l =
     ap (λ w. wire_before k (k - suc i) w p) (way_back_is k p m h b i (omega arith) ∙ ap (path k p m) e)
     ∙ before_path k p m (k - suc i) (omega arith) h
 
+-- A reply passes the wires of its leader's way in reverse, and ends on the leader's wire.
 pub go_back : RepliesEndAtTheirLeader
 go_back k p m h b =
     let z : k - k ≡ 0 = omega arith in
@@ -295,6 +305,7 @@ go_back k p m h b =
 
 -- ---- by shifts of a byte
 
+-- A network of at most 6 stages has at most 64 wires.
 pub sixty_four : (k : ℕ) → k ≤ 6 → 2 ^ k ≤ 64
 sixty_four k l = pow_mono l
 
@@ -308,13 +319,16 @@ bits_moved k p s six l =
     let e : 0 < 2 ^ s = pow_pos s in
     omega arith
 
+-- In a network of at most 6 stages, the wire that shifts of a byte compute is the one on the way.
 pub path_by_shifts : (k p m s : ℕ) → k ≤ 6 → s ≤ k → p < 2 ^ k → m < 2 ^ k → (p % 2 ^ (k - s)) * 2 ^ s % 256 + m / 2 ^ (k - s) ≡ path k p m s
 path_by_shifts k p m s six l h b =
     ap (λ n. n + m / 2 ^ (k - s)) (mod-eq_of_lt (let a = bits_moved k p s six l in omega arith)) ∙ sym (path_is k p m s h b l)
 
+-- In a network of at most 6 stages, what shifts of a byte compute is a wire.
 pub path_below : (k p m s : ℕ) → k ≤ 6 → s ≤ k → p < 2 ^ k → m < 2 ^ k → (p % 2 ^ (k - s)) * 2 ^ s % 256 + m / 2 ^ (k - s) < 2 ^ k
 path_below k p m s six l h b = subst (λ n. n < 2 ^ k) (sym (path_by_shifts k p m s six l h b)) (path_lt k p m s l h)
 
+-- In a network of at most 6 stages, shifts of a byte rotate a wire to the right.
 pub right_by_shifts : (k wire : ℕ) → k ≤ 6 → wire < 2 ^ k → wire / 2 + bit_and wire 1 * 2 ^ k % 256 / 2 ≡ rotated_right k wire
 right_by_shifts k wire six h = ap (λ b. wire / 2 + b * 2 ^ k % 256 / 2) (and_mask wire 1) ∙ ap (λ n. wire / 2 + n) (go k wire six h)
   where

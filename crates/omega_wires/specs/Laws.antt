@@ -11,11 +11,13 @@ RotationsStayOnWires = (k wire : ℕ) → wire < 2 ^ k → (rotated_left k wire 
 
 -- each place of a way is a wire
 abbrev pub PathsStayOnWires : Type 0
-PathsStayOnWires = (k processor to_module stage : ℕ) → stage ≤ k → processor < 2 ^ k → path k processor to_module stage < 2 ^ k
+PathsStayOnWires = (k processor to_module stage : ℕ) → stage ≤ k → processor < 2 ^ k →
+    path k processor to_module stage < 2 ^ k
 
 -- after the last stage the wire is the module's number
 abbrev pub PathEndsAtTheModule : Type 0
-PathEndsAtTheModule = (k processor to_module : ℕ) → processor < 2 ^ k → to_module < 2 ^ k → path k processor to_module k ≡ to_module
+PathEndsAtTheModule = (k processor to_module : ℕ) → processor < 2 ^ k → to_module < 2 ^ k →
+    path k processor to_module k ≡ to_module
 
 -- each stage takes a reply from the wire after it to the wire before it on its leader's way
 abbrev pub RepliesGoBackTheSameWay : Type 0

@@ -1,9 +1,9 @@
 -- The wiring of an omega network of k stages: 2 ^ k wires go from each stage to the next, two to a switch.
 --
--- Before each stage the wires go through the shuffle, which rotates the k bits of a wire's number to the left by one. The
--- switch then replaces the lowest bit by a bit of the number of the module that the message goes to, the highest bit at
--- the first stage. A reply goes the same way back: the switch puts in a bit of its processor's number, and the shuffle is
--- undone.
+-- Before each stage the wires go through the shuffle, which rotates the k bits of a wire's number to the left by one.
+-- The switch then replaces the lowest bit by a bit of the number of the module that the message goes to, the highest
+-- bit at the first stage. A reply goes the same way back: the switch puts in a bit of its processor's number, and the
+-- shuffle is undone.
 use Rattle.std.specs.Prelude.{ℕ, zero, suc, ◌+◌, ◌-◌, ◌*◌, ◌/◌, ◌%◌, ◌^◌}
 
 -- bit i of a number, the lowest is bit 0
@@ -42,7 +42,7 @@ switch_of k wire = rotated_left k wire / 2
 abbrev pub input_port : (k wire : ℕ) → ℕ
 input_port k wire = rotated_left k wire % 2
 
--- the wire of a reply that came back to a processor over so many stages, from the wire after the last
+-- the wire of a reply that came back to a processor over this many stages, from the wire after the last
 unfoldable pub way_back : (k processor wire stages : ℕ) → ℕ
 way_back k processor wire zero = wire
 way_back k processor wire (suc stages) = wire_before k (k - suc stages) (way_back k processor wire stages) processor

@@ -1,7 +1,8 @@
 //! Wires as numbers of `k` bits: rotations, and the way through a stage.
 
 ghost use Rattle.std.specs.Prelude.{◌≡◌, ◌<◌, ◌≤◌, ◌^◌, ◌%◌, suc};
-ghost use Rattle.omega_wires.specs.Wires.{bit, input_port, path, rotated_left, rotated_right, switch_of, wire_after, wire_before};
+ghost use Rattle.omega_wires.specs.Wires.{bit, input_port, path, rotated_left, rotated_right, switch_of, wire_after};
+ghost use Rattle.omega_wires.specs.Wires.{wire_before};
 
 /// Bit `i` of a number below 256: the lowest is bit 0.
 pub fn bit(i: u8, number: u8) -> u8
@@ -86,7 +87,7 @@ pub fn module_of(word: u32, k: u8) -> u8
 }
 
 /// The wire of a message from `processor` to the module `to_module` before the stage of this number, and after
-/// the last one for `stage` equal to `k`: the low bits of the processor's number, and behind them the
+/// the last one for `stage` equal to `k`: the low bits of the processor's number, and after them the
 /// bits of the module's that the stages have put in.
 pub fn path(k: u8, processor: u8, to_module: u8, stage: u8) -> u8
     requires stages { k ≤ 6 }

@@ -32,12 +32,15 @@ composed_range f g p q = across_range_by f g (is_identity f) (is_constant g) (is
 
 -- ---- a composition that is there
 
+-- If two functions in range compose to a third, that is the first and then the second.
 pub meaning_of : (f g h : Phi) → composed f g ≡ Some h → IsInRange f → IsInRange g → IsComposition f g h
 meaning_of f g h e p q = rw e at (composed_meaning f g p q)
 
+-- If two functions in range compose to a third, that is in range.
 pub range_of : (f g h : Phi) → composed f g ≡ Some h → IsInRange f → IsInRange g → IsInRange h
 range_of f g h e p q = rw e at (composed_range f g p q)
 
+-- Whichever two of three functions are composed first, if both ways are possible, the whole means the same.
 pub associative : CompositionIsAssociative
 associative f g h fg gh left right p q r first then_h later f_then x small =
     meaning_of fg h left then_h (range_of f g fg first p q) r x small
@@ -71,6 +74,7 @@ identity_second (Clamp r) (Clamp s) t = (_, refl)
 identity_second (ClampU r) (ClampU s) t = (_, refl)
 identity_second f i t = across_second f i (is_identity f) (is_constant i) (is_constant f) t
 
+-- An identity composes with each function, before it and after it, and changes nothing.
 pub neutral : IdentityIsNeutral
 neutral i f p q same =
     let t : is_identity i ≡ true = identity_back i p same in
@@ -82,6 +86,7 @@ neutral i f p q same =
 
 -- ---- one kind
 
+-- Two functions of one kind compose to one of that kind.
 pub one_kind : OneKindComposes
 unfolding composed
 one_kind (Add e) (Add e') t = refl

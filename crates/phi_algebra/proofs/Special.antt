@@ -44,6 +44,7 @@ at_highest : (r : SignedEnds) → IsSignedRange r → apply (Clamp r) (2 ^ 31 - 
 unfolding apply
 at_highest r w = ap (cast_unsigned w32) (clamped_highest r w)
 
+-- If the test for an identity holds of a function, the function gives each word back.
 pub identity_there : (f : Phi) → is_identity f ≡ true → IsIdentity f
 unfolding apply
 identity_there (Add e) h x small = grind (arith, nat_tests)
@@ -59,6 +60,7 @@ identity_there (Clamp r) h x small =
     ap (cast_unsigned w32) same ∙ of_z-to_z w32 x small
 identity_there (ClampU r) h x small = grind (arith, nat_tests)
 
+-- If a function in range gives each word back, the test for an identity holds of it.
 pub identity_back : (f : Phi) → IsInRange f → IsIdentity f → is_identity f ≡ true
 unfolding apply
 identity_back (Add e) w h =
@@ -105,6 +107,7 @@ sum_varies e (y, h) =
     let second : (1 + e) % 2 ^ 32 ≡ y = h 1 (omega arith) in
     omega arith
 
+-- If a Bits function is constant, its mask is 0.
 pub bits_clear : (and xor : ℕ) → and < 2 ^ 32 → IsConstant (Bits and xor) → and ≡ 0
 unfolding apply
 bits_clear and xor w (y, h) =
@@ -124,6 +127,7 @@ unfolding apply
 ends_meet_unsigned r w (y, h) =
     sym (clamped_least r w) ∙ h 0 (omega arith) ∙ sym (h (2 ^ 32 - 1) (omega arith)) ∙ clamped_greatest r w
 
+-- If a function in range is constant, the test for a constant function holds of it.
 pub constant_back : (f : Phi) → IsInRange f → IsConstant f → is_constant f ≡ true
 constant_back (Add e) w h = absurd (sum_varies e h)
 constant_back (Bits and xor) w h = (Decides-eqb and 0).1 (bits_clear and xor w.0 h)

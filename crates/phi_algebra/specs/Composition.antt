@@ -1,5 +1,6 @@
 -- The composition of two functions: the first, and then the second of its value.
-use Rattle.std.specs.Prelude.{◌≡◌, ◌≢◌, ℕ, ◌+◌, ◌%◌, ◌^◌, ◌<◌, ◌||◌, Option, Some, None, bit_and, bit_xor, if◌then◌else◌}
+use Rattle.std.specs.Prelude.{◌≡◌, ◌≢◌, ℕ, ◌+◌, ◌%◌, ◌^◌, ◌<◌, ◌||◌, Option, Some, None, bit_and, bit_xor}
+use Rattle.std.specs.Prelude.{if◌then◌else◌}
 use Rattle.phi_algebra.specs.declared.phi.Phi.{Phi}
 use Rattle.phi_algebra.specs.declared.phi.Phi.TheVariants.{Add, Bits, Clamp, ClampU}
 use Rattle.phi_algebra.specs.Functions.{apply, IsIdentity, IsConstant, is_identity, is_constant}
@@ -24,8 +25,8 @@ brought_signed first second = record { lo = clamped_signed second first.lo; hi =
 abbrev pub brought_unsigned : (first second : UnsignedEnds) → UnsignedEnds
 brought_unsigned first second = record { lo = clamped_unsigned second first.lo; hi = clamped_unsigned second first.hi }
 
--- Of two kinds: an identity leaves the other, and a constant function gives a constant one on either side. Other pairs are
--- not composed, also where a Phi would mean their composition, as of Add(1) and then Bits { 2^32 - 1, 2^31 }.
+-- Of two kinds: an identity leaves the other, and a constant function gives a constant one on either side. Other pairs
+-- are not composed, also where a Phi would mean their composition, as of Add(1) and then Bits { 2^32 - 1, 2^31 }.
 abbrev pub composed_across : (first second : Phi) → Option Phi
 composed_across f g =
     if is_identity f || is_constant g then Some g else

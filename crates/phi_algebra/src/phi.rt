@@ -30,7 +30,7 @@ impl Phi {
         Phi::Add(0)
     }
 
-    /// The function that gives `value` whatever the word.
+    /// The function that gives `value` for any word.
     #[tactic(auto, using(crate::proofs::Masks::constant_meaning))]
     pub fn constant(value: u32) -> Phi
         ensures kind { result ≡ Bits 0 value }

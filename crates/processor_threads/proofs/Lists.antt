@@ -6,7 +6,7 @@ use Rattle.std.proofs.Math.Seq.{map-set_same}
 use Rattle.console_monitor.specs.Ends.{at, joined}
 use Rattle.processor_threads.specs.Consoles.{AreBeginnings, bytes_of}
 
--- the first so many lists, each followed by its rest, and the others as they are
+-- the first this many lists, each followed by its rest, and the others as they are
 abbrev pub part : ℕ → List (List ℕ) → List (List ℕ) → List (List ℕ)
 part zero lists rests = lists
 part (suc n) [] rests = []
@@ -23,6 +23,7 @@ part_more p (xs ∷ lists) [] less e = absurd (omega (arith, e))
 part_more zero (xs ∷ lists) (ys ∷ rests) less e = refl
 part_more (suc p) (xs ∷ lists) (ys ∷ rests) less e = ap (λ l. (xs ++ ys) ∷ l) (part_more p lists rests (omega (arith, less)) (omega (arith, e)))
 
+-- If as many lists are followed by their rests as there are rests, each list is.
 pub part_all : (lists rests : List (List ℕ)) → length lists ≡ length rests → part (length rests) lists rests ≡ joined lists rests
 part_all [] [] e = refl
 part_all [] (ys ∷ rests) e = absurd (omega (arith, e))
@@ -31,7 +32,7 @@ part_all (xs ∷ lists) (ys ∷ rests) e = ap (λ l. (xs ++ ys) ∷ l) (part_all
 
 -- ---- emptied lists
 
--- the first so many lists are empty, and the others as they are
+-- the first this many lists are empty, and the others as they are
 abbrev pub emptied : ℕ → List (List ℕ) → List (List ℕ)
 emptied zero lists = lists
 emptied (suc n) [] = []
@@ -42,6 +43,7 @@ emptied_more p [] less = absurd (omega (arith, less))
 emptied_more zero (xs ∷ lists) less = refl
 emptied_more (suc p) (xs ∷ lists) less = ap (λ l. [] ∷ l) (emptied_more p lists (omega (arith, less)))
 
+-- If as many lists are emptied as there are, each is empty.
 pub emptied_all : (lists : List (List ℕ)) → emptied (length lists) lists ≡ replicate (length lists) []
 emptied_all [] = refl
 emptied_all (xs ∷ lists) = ap (λ l. [] ∷ l) (emptied_all lists)
@@ -57,12 +59,14 @@ joined_beginnings [] rests e = tt
 joined_beginnings (xs ∷ lists) [] e = absurd (omega (arith, e))
 joined_beginnings (xs ∷ lists) (ys ∷ rests) e = ((ys, refl), joined_beginnings lists rests (omega (arith, e)))
 
+-- Lists of which the first p are followed by their rests are beginnings of the lists that all are.
 pub part_beginnings : (p : ℕ) (lists rests : List (List ℕ)) → length lists ≡ length rests → AreBeginnings (part p lists rests) (joined lists rests)
 part_beginnings zero lists rests e = joined_beginnings lists rests e
 part_beginnings (suc p) [] rests e = tt
 part_beginnings (suc p) (xs ∷ lists) [] e = absurd (omega (arith, e))
 part_beginnings (suc p) (xs ∷ lists) (ys ∷ rests) e = (([], append-nil (xs ++ ys)), part_beginnings p lists rests (omega (arith, e)))
 
+-- Empty lists are beginnings of any lists, as many as they are.
 pub empty_beginnings : (n : ℕ) (lists : List (List ℕ)) → length lists ≡ n → AreBeginnings (replicate n []) lists
 empty_beginnings zero [] e = tt
 empty_beginnings zero (xs ∷ lists) e = absurd (omega (arith, e))
@@ -87,12 +91,14 @@ more_at xs place y d bytes less is more =
     ∙ ap (λ v. slice_set (map bytes_of xs) place v)
     (more ∙ ap (λ (v : Bytes). v.items ++ bytes) is ∙ ap (λ v. v ++ bytes) (sym (get_or-map bytes_of xs place d [] less)))
 
+-- A byte that is put at the end of list p is added to its bytes, and the other lists keep theirs.
 pub put_at : (xs : List Bytes) (place p : ℕ) (y d : Bytes) (byte : ℕ) → p < length xs → place ≡ p → d ≡ slice_index_or xs place d →
     y.items ≡ d.items ++ byte ∷ [] → map bytes_of (slice_set xs place y) ≡ slice_set (map bytes_of xs) p (at (map bytes_of xs) p ++ byte ∷ [])
 put_at xs place p y d byte less same is more =
     more_at xs place y d (byte ∷ []) (subst (λ n. n < length xs) (sym same) less) is more
     ∙ ap (λ n. slice_set (map bytes_of xs) n (at (map bytes_of xs) n ++ byte ∷ [])) same
 
+-- If list p is followed by its rest after those before it are, the first p + 1 lists are followed by their rests.
 pub append_step : (olds : List (List ℕ)) (xs rests : List Bytes) (p : ℕ) (y d r : Bytes) (bytes : List ℕ) →
     map bytes_of xs ≡ part p olds (map bytes_of rests) → p < length xs → p < length rests → length olds ≡ length rests → d ≡ slice_index_or xs p d →
     r ≡ slice_index_or rests p r → bytes ≡ r.items → y.items ≡ d.items ++ bytes → map bytes_of (slice_set xs p y) ≡ part (p + 1) olds (map bytes_of rests)
@@ -106,6 +112,7 @@ append_step olds xs rests p y d r bytes e within less many is same more now =
     ∙ part_more p olds all (subst (λ n. p < n) (sym count) less) (many ∙ sym count)
     ∙ ap (λ n. part n olds all) next
 
+-- If list p is emptied after those before it, the first p + 1 lists are empty.
 pub clear_step : (olds : List (List ℕ)) (xs : List Bytes) (p : ℕ) (y : Bytes) → map bytes_of xs ≡ emptied p olds → p < length olds → y.items ≡ [] →
     map bytes_of (slice_set xs p y) ≡ emptied (p + 1) olds
 clear_step olds xs p y e less none =

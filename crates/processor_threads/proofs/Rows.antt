@@ -8,8 +8,9 @@ use Rattle.console_monitor.specs.Ends.{sent_by}
 use Rattle.console_monitor.specs.declared.monitor.End.{End}
 use Rattle.processor_threads.specs.declared.fault.RunFault.{RunFault}
 use Rattle.processor_threads.specs.Consoles.{console_of, end_queue}
-use Rattle.processor_threads.specs.Faults.{fault_of, graver_from, graver_of}
-use Rattle.processor_threads.specs.Endings.{AllComeBack, AreEnded, AreSent, ComesBack, EndsWithStop, IsToldOf, processors_of}
+use Rattle.processor_threads.specs.Faults.{fault_of}
+use Rattle.processor_threads.specs.Endings.{AllComeBack, AreEnded, AreSent, ComesBack, EndsWithStop, processors_of}
+use Rattle.processor_threads.proofs.Reported.{all_none}
 
 -- ---- the last of a list
 
@@ -47,14 +48,6 @@ sent_together passes ends pass end e l =
 
 -- ---- faults
 
-graver_from-last : (told fault : Option RunFault) (faults : List (Option RunFault))
-    → graver_from told (faults ++ fault ∷ []) ≡ graver_of (graver_from told faults) fault
-graver_from-last told fault [] = refl
-graver_from-last told fault (f ∷ faults) = graver_from-last (graver_of told f) fault faults
-
-pub fault_of-last : (fault : Option RunFault) (faults : List (Option RunFault)) → fault_of (faults ++ fault ∷ []) ≡ graver_of (fault_of faults) fault
-fault_of-last fault faults = graver_from-last None fault faults
-
 ended_together : (faults : List (Option RunFault)) (passes : List Held) (fault : Option RunFault) (pass : Held) → AreEnded faults passes →
     (fault ≡ None → EndsWithStop pass) → AreEnded (faults ++ fault ∷ []) (passes ++ pass ∷ [])
 ended_together [] [] fault pass e h = (h, tt)
@@ -62,28 +55,36 @@ ended_together [] (p ∷ passes) fault pass e h = absurd e
 ended_together (f ∷ faults) [] fault pass e h = absurd e
 ended_together (f ∷ faults) (p ∷ passes) fault pass e h = (e.0, ended_together faults passes fault pass e.1 h)
 
+pub length-ended : (faults : List (Option RunFault)) (passes : List Held) → AreEnded faults passes → length faults ≡ length passes
+length-ended [] [] e = refl
+length-ended [] (p ∷ passes) e = absurd e
+length-ended (f ∷ faults) [] e = absurd e
+length-ended (f ∷ faults) (p ∷ passes) e = ap suc (length-ended faults passes e.1)
+
 -- ---- one more comes back
 
-pub none_comes_back : (passes : List Held) (ends : List End) (passes' : List Held) (ends' : List End) → passes ≡ [] → passes' ≡ passes → ends' ≡ ends →
-    AreSent passes ends → AllComeBack passes ends passes' ends' None
-none_comes_back passes ends passes' ends' none same alike sent =
-    subst (λ (x : List Held × List End). AllComeBack passes ends x.0 x.1 None) (λ i. (sym same i, sym alike i)) (by passes none sent)
+-- If there are no passes, all passes and ends come back, with no fault.
+pub none_comes_back : (passes : List Held) (ends : List End) (passes' : List Held) (ends' : List End) (faults faults' : List (Option RunFault)) →
+    passes ≡ [] → passes' ≡ passes → ends' ≡ ends → AreSent passes ends → faults ≡ [] → faults' ≡ faults → AllComeBack passes ends passes' ends' faults'
+none_comes_back passes ends passes' ends' faults faults' none same alike sent empty kept =
+    subst (λ (x : List Held × List End × List (Option RunFault)). AllComeBack passes ends x.0 x.1 x.2) (λ i. (sym same i, sym alike i, sym (kept ∙ empty) i))
+    (by passes none sent)
   where
-    by : (passes : List Held) → passes ≡ [] → AreSent passes ends → AllComeBack passes ends passes ends None
-    by [] e sent = record { processors = refl; queues = refl; sent = sent; faults = []; told = refl; ended = tt }
+    by : (passes : List Held) → passes ≡ [] → AreSent passes ends → AllComeBack passes ends passes ends []
+    by [] e sent = record { processors = refl; queues = refl; sent = sent; ended = tt }
     by (p ∷ passes) e sent = absurd (cc)
 
+-- If all passes and ends come back, and one pass and end more whose bytes were sent, all of these come back.
 pub one_more : (passes : List Held) (ends : List End) (pass : Held) (end : End) (passes' : List Held) (ends' : List End) (pass' : Held) (end' : End)
-    (earlier fault : Option RunFault) → AllComeBack passes ends passes' ends' earlier → ComesBack pass end pass' end' fault → console_of pass' ≡ sent_by end' →
-    AllComeBack (passes ++ pass ∷ []) (ends ++ end ∷ []) (passes' ++ pass' ∷ []) (ends' ++ end' ∷ []) (graver_of earlier fault)
-one_more passes ends pass end passes' ends' pass' end' earlier fault all one sent = record {
+    (faults : List (Option RunFault)) (fault : Option RunFault) → AllComeBack passes ends passes' ends' faults → ComesBack pass end pass' end' fault →
+    console_of pass' ≡ sent_by end' →
+    AllComeBack (passes ++ pass ∷ []) (ends ++ end ∷ []) (passes' ++ pass' ∷ []) (ends' ++ end' ∷ []) (faults ++ fault ∷ [])
+one_more passes ends pass end passes' ends' pass' end' faults fault all one sent = record {
   processors = map-append (λ (h : Held). h.processor) passes' (pass' ∷ []) ∙ (λ i. all.processors i ++ one.processor i ∷ [])
       ∙ sym (map-append (λ (h : Held). h.processor) passes (pass ∷ []));
   queues = map-append end_queue ends' (end' ∷ []) ∙ (λ i. all.queues i ++ one.queue i ∷ []) ∙ sym (map-append end_queue ends (end ∷ []));
   sent = sent_together passes' ends' pass' end' all.sent sent;
-  faults = all.faults ++ fault ∷ [];
-  told = ap (λ f. graver_of f fault) all.told ∙ sym (fault_of-last fault all.faults);
-  ended = ended_together all.faults passes' fault pass' all.ended one.stopped;
+  ended = ended_together faults passes' fault pass' all.ended one.stopped;
 }
 
 -- ---- the same processors in the same order
@@ -102,6 +103,7 @@ from-processors_of [] k p e = absurd (cc)
 from-processors_of (x ∷ hs) zero p e = (x, refl, cc)
 from-processors_of (x ∷ hs) (suc k) p e = from-processors_of hs k p e
 
+-- Passes of the same processors in the same order are the passes of all processors again.
 pub whole_again : (n : ℕ) (hs now : List Held) → IsWhole n hs → processors_of now ≡ processors_of hs → IsWhole n now
 whole_again n hs now w e = record {
   many = sym (length-processors_of now) ∙ ap length e ∙ length-processors_of hs ∙ w.many;
@@ -113,6 +115,7 @@ whole_again n hs now w e = record {
 
 -- ---- new passes have sent nothing
 
+-- New passes have given the console nothing.
 pub new_sent : (n : ℕ) → map console_of (new_passes n) ≡ replicate n []
 new_sent zero = refl
 new_sent (suc n) = map-append console_of (new_passes n) (held n new_row ∷ []) ∙ ap (λ bs. bs ++ [] ∷ []) (new_sent n) ∙ more n
@@ -123,26 +126,21 @@ new_sent (suc n) = map-append console_of (new_passes n) (held n new_row ∷ []) 
 
 -- ---- where there is no fault, all have stopped
 
-both_none : (a b : Option RunFault) → graver_of a b ≡ None → (a ≡ None) × (b ≡ None)
-both_none None b e = (refl, e)
-both_none (Some a) None e = absurd (cc)
-both_none (Some a) (Some b) e = absurd (cc)
+in_front : (ends more : List (Option RunFault)) (k : ℕ) (end : Option RunFault) → slice_get ends k ≡ Some end → slice_get (ends ++ more) k ≡ Some end
+in_front [] more k end at = absurd (cc)
+in_front (x ∷ ends) more zero end at = at
+in_front (x ∷ ends) more (suc k) end at = in_front ends more k end at
 
-stops_from : (told last : Option RunFault) (faults : List (Option RunFault)) (passes : List Held) → graver_from told (faults ++ last ∷ []) ≡ None →
-    AreEnded faults passes → (told ≡ None) × ((p : ℕ) (h : Held) → slice_get passes p ≡ Some h → EndsWithStop h)
-stops_from told last [] [] e ended = ((both_none told last e).0, λ p h at. absurd (cc))
-stops_from told last [] (x ∷ passes) e ended = absurd ended
-stops_from told last (f ∷ faults) [] e ended = absurd ended
-stops_from told last (f ∷ faults) (x ∷ passes) e ended =
-    let rest = stops_from (graver_of told f) last faults passes e ended.1 in
-    let none = both_none told f rest.0 in
-    (none.0, λ p h at. at_place p h at (ended.0 none.1) rest.1)
-  where
-    at_place : (p : ℕ) (h : Held) → slice_get (x ∷ passes) p ≡ Some h → EndsWithStop x → ((q : ℕ) (g : Held) → slice_get passes q ≡ Some g → EndsWithStop g) →
-        EndsWithStop h
-    at_place zero h at first others = let same : x ≡ h = cc in subst EndsWithStop same first
-    at_place (suc p) h at first others = others p h at
+stopped_at : (faults : List (Option RunFault)) (passes : List Held) → AreEnded faults passes →
+    ((k : ℕ) (end : Option RunFault) → slice_get faults k ≡ Some end → end ≡ None) → (p : ℕ) (h : Held) → slice_get passes p ≡ Some h → EndsWithStop h
+stopped_at [] [] ended none p h at = absurd (cc)
+stopped_at [] (x ∷ passes) ended none p h at = absurd ended
+stopped_at (f ∷ faults) [] ended none p h at = absurd ended
+stopped_at (f ∷ faults) (x ∷ passes) ended none zero h at = let same : x ≡ h = cc in subst EndsWithStop same (ended.0 (none zero f refl))
+stopped_at (f ∷ faults) (x ∷ passes) ended none (suc p) h at = stopped_at faults passes ended.1 (λ k end there. none (suc k) end there) p h at
 
-pub all_stopped : (fault : Option RunFault) (passes : List Held) → IsToldOf fault passes → fault ≡ None → (p : ℕ) (h : Held) →
-    slice_get passes p ≡ Some h → EndsWithStop h
-all_stopped fault passes told none = (stops_from None told.listener told.faults passes (sym told.is ∙ none) told.ended).1
+-- If no fault is reported of the threads and of the listener, each pass ends with the stop of its processor.
+pub all_stopped : (faults : List (Option RunFault)) (listener : Option RunFault) (passes : List Held) → AreEnded faults passes →
+    fault_of (faults ++ listener ∷ []) ≡ None → (p : ℕ) (h : Held) → slice_get passes p ≡ Some h → EndsWithStop h
+all_stopped faults listener passes ended none =
+    stopped_at faults passes ended (λ k end at. all_none (faults ++ listener ∷ []) none k end (in_front faults (listener ∷ []) k end at))

@@ -4,24 +4,23 @@ use Rattle.flat_machine.specs.declared.event.Cause.{Cause}
 use Rattle.flat_machine.specs.declared.event.Event.TheVariants.{Stopped}
 use Rattle.console_monitor.specs.Ends.{sent_by}
 use Rattle.console_monitor.specs.declared.monitor.End.{End}
-use Rattle.machine_lock.specs.declared.row.Notice.{Notice}
+use Rattle.machine_lock.specs.declared.row.PassEvent.{PassEvent}
 use Rattle.machine_lock.specs.Passes.{Held}
 use Rattle.processor_threads.specs.declared.fault.RunFault.{RunFault}
 use Rattle.processor_threads.specs.declared.fault.RunFault.TheVariants.{Memory, Console}
 use Rattle.processor_threads.specs.Consoles.{console_of, end_queue}
-use Rattle.processor_threads.specs.Faults.{fault_of}
 
 -- The last that the pass has stored is the stop of its processor.
 pub record EndsWithStop (h : Held) : Type 0 where
-  pub before : List Notice
+  pub before : List PassEvent
   pub place : ℕ
   pub cause : Cause
-  pub is : h.row.notices ≡ before ++ record { event = Stopped cause; place = place } ∷ []
+  pub is : h.row.pass_events ≡ before ++ record { event = Stopped cause; place = place } ∷ []
 
 -- ---- one thread
 
--- What a thread was given comes back: the pass is of the same processor, and the end of the same queue. Where the thread has no
--- fault, its processor has stopped.
+-- What a thread was given comes back: the pass is of the same processor, and the end of the same queue. Where the
+-- thread has no fault, its processor has stopped.
 pub record ComesBack (pass : Held) (end : End) (pass' : Held) (end' : End) (fault : Option RunFault) : Type 0 where
   pub processor : pass'.processor ≡ pass.processor
   pub queue : end_queue end' ≡ end_queue end
@@ -36,20 +35,19 @@ processors_of hs = map (λ h. h.processor) hs
 abbrev pub AreSent : List Held → List End → Type 0
 AreSent passes ends = map console_of passes ≡ map sent_by ends
 
--- A processor whose thread has no fault has stopped.
+-- There is one fault, or none, for each processor, in their order. A processor whose thread has none has stopped.
 abbrev pub AreEnded : List (Option RunFault) → List Held → Type 0
 AreEnded [] [] = Unit {0}
 AreEnded (fault ∷ faults) (pass ∷ passes) = (fault ≡ None → EndsWithStop pass) × AreEnded faults passes
 AreEnded [] (pass ∷ passes) = ⊥
 AreEnded (fault ∷ faults) [] = ⊥
 
--- All passes and ends come back in their places, and this fault is told of the threads.
-pub record AllComeBack (passes : List Held) (ends : List End) (passes' : List Held) (ends' : List End) (fault : Option RunFault) : Type 0 where
+-- All passes and ends come back in their places, with the fault of each processor's thread in the same order.
+pub record AllComeBack (passes : List Held) (ends : List End) (passes' : List Held) (ends' : List End)
+    (faults : List (Option RunFault)) : Type 0 where
   pub processors : processors_of passes' ≡ processors_of passes
   pub queues : map end_queue ends' ≡ map end_queue ends
   pub sent : AreSent passes' ends'
-  pub faults : List (Option RunFault)
-  pub told : fault ≡ fault_of faults
   pub ended : AreEnded faults passes'
 
 -- ---- a run
@@ -61,11 +59,3 @@ WereMade passes = passes ≡ [] → ⊥
 -- There was no memory to begin.
 abbrev pub IsOfMemory : Option RunFault → Type 0
 IsOfMemory fault = (fault ≡ Some Memory) ⊎ (fault ≡ Some Console)
-
--- The fault of a run is that which is told of the threads of its processors and, last, of the thread that listens to their consoles.
--- A processor whose thread has no fault has stopped.
-pub record IsToldOf (fault : Option RunFault) (passes : List Held) : Type 0 where
-  pub faults : List (Option RunFault)
-  pub listener : Option RunFault
-  pub is : fault ≡ fault_of (faults ++ listener ∷ [])
-  pub ended : AreEnded faults passes

@@ -1,9 +1,11 @@
--- Which fault is told of those that threads have ended with.
-use Rattle.std.specs.Prelude.{Bool, true, false, List, [], ◌∷◌, Option, Some, None, if◌then◌else◌}
+-- Which fault is reported of those that threads have ended with.
+use Rattle.std.specs.Prelude.{Bool, true, false, List, Option, Some, None, filter_map, find, slice_get}
+use Rattle.std.specs.Option.{option_or}
 use Rattle.processor_threads.specs.declared.fault.RunFault.{RunFault}
 use Rattle.processor_threads.specs.declared.fault.RunFault.TheVariants.{Memory, Full, Loan, Console, Budget, Start}
+use Rattle.processor_threads.specs.declared.fault.RunFault.TheVariants.{Cancelled}
 
--- A fault of the machine that runs the threads, and none of the run: it is told before any of the others.
+-- a fault of the machine that runs the threads, and none of the run
 abbrev pub is_of_host : RunFault → Bool
 is_of_host Memory = true
 is_of_host Console = true
@@ -11,21 +13,32 @@ is_of_host Start = true
 is_of_host Full = false
 is_of_host Loan = false
 is_of_host Budget = false
+is_of_host Cancelled = false
 
--- The first of two faults, unless only the second is of the host.
-abbrev pub graver : (first second : RunFault) → RunFault
-graver first second = if is_of_host first then first else if is_of_host second then second else first
+-- a fault that the thread met itself: it was not stopped for that of another
+abbrev pub is_own : RunFault → Bool
+is_own Memory = true
+is_own Console = true
+is_own Start = true
+is_own Full = true
+is_own Loan = true
+is_own Budget = true
+is_own Cancelled = false
 
--- the same where there may be none
-abbrev pub graver_of : (first second : Option RunFault) → Option RunFault
-graver_of None second = second
-graver_of (Some first) None = Some first
-graver_of (Some first) (Some second) = Some (graver first second)
-
-abbrev pub graver_from : Option RunFault → List (Option RunFault) → Option RunFault
-graver_from told [] = told
-graver_from told (fault ∷ faults) = graver_from (graver_of told fault) faults
-
--- The fault that is told: the first that is of the host, else the first of all.
+-- The fault that is reported of threads which ended so: the first of the host; if there is none, the first that a
+-- thread met itself; only if there is none of these either, the first of all.
 abbrev pub fault_of : List (Option RunFault) → Option RunFault
-fault_of faults = graver_from None faults
+fault_of ends =
+    let faults : List RunFault = filter_map (λ end. end) ends in
+    option_or (find is_of_host faults) (option_or (find is_own faults) (slice_get faults 0))
+
+-- The thread that listens to the consoles may have found no memory for a byte, or may not have been started.
+abbrev pub is_of_listener : Option RunFault → Bool
+is_of_listener None = true
+is_of_listener (Some Console) = true
+is_of_listener (Some Start) = true
+is_of_listener (Some Memory) = false
+is_of_listener (Some Full) = false
+is_of_listener (Some Loan) = false
+is_of_listener (Some Budget) = false
+is_of_listener (Some Cancelled) = false

@@ -1,4 +1,5 @@
 pub mod Consoles
+pub mod Rounds
 pub mod Faults
 pub mod Endings
 -- Words of lower crates, passed on to those above.

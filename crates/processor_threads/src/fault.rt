@@ -1,12 +1,11 @@
 //! Why threads end.
 
-ghost use Rattle.std.specs.Prelude.{◌≡◌};
-ghost use Rattle.processor_threads.specs.Faults.{graver_of, is_of_host};
+ghost use Rattle.std.specs.Prelude.{◌≡◌, [], ◌∷◌};
+ghost use Rattle.processor_threads.specs.Faults.{fault_of, is_of_host, is_own};
 
-use machine_log::LockRefusal;
 use thiserror::Error;
 
-/// Why a run ended before each processor had stopped, or what it wanted.
+/// Why a thread ended before its processor had stopped, and so a run: or what it wanted.
 #[derive(Clone, Copy, Debug, PartialEq, Eq, Drop, Error)]
 pub enum RunFault {
     /// There was no memory for a step in the log, for what a pass stores, or for a loan.
@@ -27,6 +26,9 @@ pub enum RunFault {
     /// A thread could not be started.
     #[error("Start")]
     Start,
+    /// The fault of another thread had decided how the run ends, so this one stopped before its next round.
+    #[error("cancelled")]
+    Cancelled,
 }
 
 impl RunFault {
@@ -36,16 +38,29 @@ impl RunFault {
     {
         matches!(self, RunFault::Memory | RunFault::Console | RunFault::Start)
     }
+
+    /// Whether the thread met this fault itself, and was not stopped for that of another.
+    fn is_own(self) -> bool
+        ensures { result ≡ is_own self }
+    {
+        !matches!(self, RunFault::Cancelled)
+    }
+
+    /// Whether it decides how the run ends, so that the other threads need not go on. Each thread has a budget of its
+    /// own, so one that has used it up stops no other.
+    pub(crate) fn ends_the_run(self) -> bool {
+        !matches!(self, RunFault::Budget | RunFault::Cancelled)
+    }
 }
 
-/// The fault that is told of two, the second of which is of a later thread: the first, unless only the second is of the host.
+/// The fault that is reported of two, the second of which is of a later thread.
 pub(crate) fn graver_of(first: Option<RunFault>, second: Option<RunFault>) -> Option<RunFault>
-    ensures { result ≡ graver_of first second }
+    ensures { result ≡ fault_of (first ∷ second ∷ []) }
 {
     match (first, second) {
         (None, fault) | (fault, None) => fault,
         (Some(one), Some(other)) => {
-            if other.is_of_host() && !one.is_of_host() {
+            if other.is_of_host() && !one.is_of_host() || other.is_own() && !one.is_own() {
                 Some(other)
             } else {
                 Some(one)
@@ -54,15 +69,13 @@ pub(crate) fn graver_of(first: Option<RunFault>, second: Option<RunFault>) -> Op
     }
 }
 
-/// Whether a thread goes on whose call was refused: where the call named a place that the machine has not.
-///
-/// # Errors
-///
-/// [`RunFault::Full`] where the log is full, and [`RunFault::Memory`].
-pub(crate) fn heed(refusal: LockRefusal) -> Result<(), RunFault> {
-    match refusal {
-        LockRefusal::Memory => Err(RunFault::Memory),
-        LockRefusal::Full => Err(RunFault::Full),
-        LockRefusal::Unnamed | LockRefusal::NotFree => Ok(()),
+/// The fault that is reported of threads that ended so, in their order.
+pub(crate) fn fault_of(ends: &[Option<RunFault>]) -> Option<RunFault>
+    ensures { result ≡ fault_of ends.now }
+{
+    let mut reported = None;
+    for end in ends {
+        reported = graver_of(reported, *end);
     }
+    reported
 }

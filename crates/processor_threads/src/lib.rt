@@ -1,19 +1,21 @@
 //! The processors of a machine, each run by a thread of its own.
 //!
-//! [`run_threads`] takes a logged machine, puts it under the lock (`machine_lock`), and runs a thread for each processor, which takes
-//! its turns and asks for steps of the network, and one that listens to what they send to the console (`console_monitor`). Once all
-//! threads have ended, the log, what the passes store and the consoles agree, whatever the threads did side by side.
+//! [`run_threads`] takes a logged machine, puts it under the lock (`machine_lock`), and runs a thread for each
+//! processor, which takes its turns and asks for steps of the network, and one that listens to what they send to the
+//! console (`console_monitor`). Once all threads have ended, the log, what the passes store and the consoles agree,
+//! however the threads ran side by side.
 #![tactic(auto)]
 
-mod ahead;
-mod crew;
+mod context;
 mod fault;
 mod gate;
-mod hand;
+mod handle;
 mod listener;
 mod run;
-mod terms;
+mod step_buffer;
+mod tally;
 mod worker;
+mod workers;
 
 pub use fault::RunFault;
 pub use gate::{Gate, Open};

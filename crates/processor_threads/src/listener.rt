@@ -1,11 +1,12 @@
 //! The thread that listens to the consoles of all processors.
 
-ghost use Rattle.std.specs.Prelude.{◌≡◌, ◌<◌, None, IfOk, OnErr, OnOk, [], length, map, replicate, vec_len};
+ghost use Rattle.std.specs.Prelude.{◌≡◌, ◌<◌, true, None, IfOk, OnErr, OnOk, [], length, map, replicate, vec_len};
 ghost use Rattle.console_monitor.specs.Ends.{joined, put_of, queues_of, sender_queue, sent_by, takens_of};
 ghost use Rattle.processor_threads.specs.Consoles.{AreBeginnings, bytes_of, end_queue};
+ghost use Rattle.processor_threads.specs.Faults.{is_of_listener};
 
+use crate::context::{LISTENER, RunContext};
 use crate::fault::{RunFault, graver_of};
-use crate::terms::{LISTENER, Terms};
 use console_monitor::{ConsoleRefusal, End, Monitor, Sender, console};
 use std::alloc::{AllocError, Global};
 use std::sync::Wait;
@@ -19,9 +20,10 @@ pub(crate) struct Listener {
     fault: Option<RunFault>,
     ghost takes: { map bytes_of taken.items ≡ takens_of monitor },
     ghost all: { vec_len taken ≡ processors },
+    ghost own: { is_of_listener fault ≡ true },
 }
 
-/// The consoles of so many processors: an end for each, and what listens to them.
+/// The consoles of this many processors: an end for each, and what listens to them.
 pub(crate) fn consoles(
     alloc: Global,
     processors: u8,
@@ -66,29 +68,33 @@ fn empty_lists(alloc: Global, count: u8) -> Result<Vec<Vec<u8>>, AllocError>
 }
 
 impl Listener {
-    /// Takes bytes until the threads of all processors have ended, or there is no memory for a byte; none where the thread could
-    /// not be started.
-    pub(crate) fn listen<R: Wait>(mut self, rt: &R, terms: &Terms) -> Self
+    /// Takes bytes until the threads of all processors have ended, or there is no memory for a byte; none where the
+    /// thread could not be started. A fault ends the run: a processor whose queue is full would wait for ever.
+    pub(crate) fn listen<R: Wait>(mut self, rt: &R, context: &RunContext) -> Self
         ensures { queues_of result.monitor ≡ queues_of self.monitor }
     {
-        if terms.is_unstarted(LISTENER) {
-            self.fault = Some(RunFault::Start);
-        } else if self.take_all(rt, terms).is_err() {
-            self.fault = Some(RunFault::Console);
-        }
+        let fault = if context.is_unstarted(LISTENER) {
+            RunFault::Start
+        } else if self.take_all(rt, context).is_err() {
+            RunFault::Console
+        } else {
+            return self;
+        };
+        context.report(fault);
+        self.fault = Some(fault);
         self
     }
 
     /// Takes bytes until the threads of all processors have ended.
-    fn take_all<R: Wait>(&mut self, rt: &R, terms: &Terms) -> Result<(), AllocError>
+    fn take_all<R: Wait>(&mut self, rt: &R, context: &RunContext) -> Result<(), AllocError>
         ensures { queues_of self.new.monitor ≡ queues_of self.old.monitor }
     {
         for _ in rt.forever() {
-            if terms.have_ended() {
+            if context.have_ended() {
                 break;
             }
             if !self.take_of_each()? {
-                terms.wait_for_call(rt);
+                context.wait_for_call(rt);
             }
         }
         Ok(())
@@ -122,8 +128,9 @@ impl Listener {
         }
     }
 
-    /// The consoles of all processors, once their threads have ended: what was taken of each, then what still stands in its queue,
-    /// and the byte that it still held. Where there is no memory for these, the fault says so, and the lists are beginnings.
+    /// The consoles of all processors, once their threads have ended: what was taken of each, then what still stands
+    /// in its queue, and the byte that it still held. Where there is no memory for these, the fault says so, and the
+    /// lists are beginnings.
     pub(crate) fn finish<R: Wait>(
         self,
         rt: &R,
@@ -133,6 +140,7 @@ impl Listener {
         requires { map end_queue ends.items ≡ queues_of self.monitor }
         ensures begun { AreBeginnings (map bytes_of result.0.items) (map sent_by ends.items) }
         ensures whole { result.1 ≡ None → map bytes_of result.0.items ≡ map sent_by ends.items }
+        ensures fault { is_of_listener result.1 ≡ true }
     {
         let Listener {
             monitor,
@@ -153,11 +161,13 @@ impl Listener {
     }
 }
 
-/// Appends its rest to each list. Where there is no memory for one, it and those behind it stay as they are.
+/// Appends its rest to each list. Where there is no memory for one, it and those after it stay as they are.
 fn append_each(lists: &mut Vec<Vec<u8>>, rests: &[Vec<u8>]) -> Result<(), AllocError>
     requires { vec_len lists.old ≡ length rests.now }
-    ensures whole { OnOk result (map bytes_of lists.new.items ≡ joined (map bytes_of lists.old.items) (map bytes_of rests.now)) }
-    ensures begun { AreBeginnings (map bytes_of lists.new.items) (joined (map bytes_of lists.old.items) (map bytes_of rests.now)) }
+    ensures whole { OnOk result (map bytes_of lists.new.items
+        ≡ joined (map bytes_of lists.old.items) (map bytes_of rests.now)) }
+    ensures begun { AreBeginnings (map bytes_of lists.new.items)
+        (joined (map bytes_of lists.old.items) (map bytes_of rests.now)) }
 {
     for p in 0..rests.len() {
         lists[p].extend_from_slice(rests[p].as_slice())?;

@@ -1,20 +1,24 @@
 //! A run of a logged machine on threads.
 
-ghost use Rattle.std.specs.Prelude.{◌≡◌, ℕ, ◌≤◌, ◌^◌, None, Some, [], map, replicate, slice_get, vec_len};
+ghost use Rattle.std.specs.Prelude.{◌≡◌, ℕ, ◌≤◌, ◌^◌, true, None, Some, [], ◌∷◌, ◌++◌, Contains, map, replicate};
+ghost use Rattle.std.specs.Prelude.{slice_get, vec_capacity, vec_len};
 ghost use Rattle.machine_lock.specs.Rows.{Fits};
 ghost use Rattle.machine_lock.specs.Passes.{Held, IsWhole, TotalsAgree, new_passes, rows_of};
 ghost use Rattle.console_monitor.specs.Ends.{queues_of, sent_by};
 ghost use Rattle.processor_threads.specs.Consoles.{AreBeginnings, bytes_of, console_of, end_queue};
-ghost use Rattle.processor_threads.specs.Endings.{EndsWithStop, IsOfMemory, IsToldOf, WereMade};
+ghost use Rattle.processor_threads.specs.Endings.{AreEnded, EndsWithStop, IsOfMemory, WereMade};
+ghost use Rattle.processor_threads.specs.Faults.{fault_of, is_of_listener};
+ghost use Rattle.processor_threads.specs.declared.fault.RunFault.{RunFault};
+ghost use Rattle.processor_threads.specs.declared.fault.RunFault.TheVariants.{Cancelled};
 
-use crate::crew::{AllBack, Crew, run_crew};
-use crate::fault::{RunFault, graver_of};
+use crate::context::RunContext;
+use crate::fault::{RunFault, fault_of, graver_of};
 use crate::gate::Gate;
 use crate::listener::{Listener, consoles};
-use crate::terms::Terms;
+use crate::workers::{AllBack, Workers, run_workers};
 use flat_machine::Config;
-use ghost_map::Room;
-use machine_lock::{Pass, Row, Run, Shared};
+use ghost_map::NewTable;
+use machine_lock::{Pass, PassState, Run, Shared};
 use machine_log::Logged;
 use schedules::Arbiter;
 use std::alloc::Global;
@@ -30,17 +34,24 @@ pub struct Ended<N: Run> {
     pub passes: Vec<Pass<N>>,
     /// The bytes that each processor sent to the console.
     pub consoles: Vec<Vec<u8>>,
-    /// The fault of the first processor's thread that has one, else that of the thread that listens to the consoles. One of the
-    /// host, which is want of memory or a thread that could not be started, is told before any other.
+    /// The fault of each processor's thread, in order. A thread that has none has stopped its processor.
+    pub faults: Vec<Option<RunFault>>,
+    /// That of the thread that listens to the consoles: [`RunFault::Console`] or [`RunFault::Start`].
+    pub listener: Option<RunFault>,
+    /// The fault of the run: of the faults above, the listener's last, the first that is of the host, which is out of
+    /// memory or could not start a thread; if there is none, the first of all. That a thread was cancelled is reported
+    /// only where there is no other fault.
     pub fault: Option<RunFault>,
 }
 
-/// Runs a logged machine on threads: one for each processor, with an arbiter of its own, and one that listens to the consoles. A thread
-/// goes through rounds, so many as the budget has at most. In a round it tries to send the byte that it holds for the console, if any,
-/// else it calls the gate, takes up to 64 local instructions with the processor's core on loan, where there may be some, and then,
-/// unless it holds a byte now, a turn; then it asks its arbiter for a step of the network, and asks the machine to take it.
+/// Runs a logged machine on threads: one for each processor, with an arbiter of its own, and one that listens to the
+/// consoles. A thread goes through at most as many rounds as the budget allows. In a round it tries to send the byte
+/// that it holds for the console, if any, else it calls the gate, takes up to 64 local instructions with the
+/// processor's core on loan, where there may be some, and then, unless it holds a byte now, a turn; then it asks its
+/// arbiter for a step of the network, and asks the machine to take it.
 ///
-/// A thread ends where its processor stops, or with a fault.
+/// A thread ends where its processor stops, or with a fault. Any fault but that of a budget ends the run: each other
+/// thread that has not stopped its processor by then stops before its next round ([`RunFault::Cancelled`]).
 pub fn run_threads<
     N: Run + Send + Sync,
     A: Arbiter + Send + Drop,
@@ -49,7 +60,7 @@ pub fn run_threads<
 >(
     rt: &R,
     alloc: Global,
-    room: Room<Row>,
+    room: NewTable<PassState>,
     logged: Logged,
     arbiters: Vec<A>,
     gate: &G,
@@ -63,27 +74,39 @@ pub fn run_threads<
     ensures opening { result.logged.opening ≡ N.opening }
     ensures refused { result.passes.items ≡ [] → (result.logged ≡ logged) × IsOfMemory result.fault }
     ensures whole { WereMade result.passes.items → IsWhole N.count result.passes.items }
-    ensures fits { WereMade result.passes.items → Fits N.opening N.first N.count result.logged.steps (rows_of result.passes.items) }
-    ensures totals { WereMade result.passes.items → TotalsAgree N.opening N.first result.logged.steps result.passes.items }
+    ensures fits { WereMade result.passes.items →
+        Fits N.opening N.first N.count result.logged.steps (rows_of result.passes.items) }
+    ensures totals { WereMade result.passes.items →
+        TotalsAgree N.opening N.first result.logged.steps result.passes.items }
     ensures consoles { AreBeginnings (map bytes_of result.consoles.items) (map console_of result.passes.items) }
     ensures sent { result.fault ≡ None → map bytes_of result.consoles.items ≡ map console_of result.passes.items }
-    ensures stopped { result.fault ≡ None → (p : ℕ) (h : Held) → slice_get result.passes.items p ≡ Some h → EndsWithStop h }
-    ensures told { WereMade result.passes.items → IsToldOf result.fault result.passes.items }
+    ensures stopped { result.fault ≡ None → (p : ℕ) (h : Held) → slice_get result.passes.items p ≡ Some h →
+        EndsWithStop h }
+    ensures ended { AreEnded result.faults.items result.passes.items }
+    ensures listener { is_of_listener result.listener ≡ true }
+    ensures fault { WereMade result.passes.items →
+        result.fault ≡ fault_of (result.faults.items ++ result.listener ∷ []) }
+    ensures cancelled { result.fault ≡ Some Cancelled → (f : RunFault) →
+        Contains (result.faults.items ++ result.listener ∷ []) (Some f) → f ≡ Cancelled }
 {
     let config = size(&logged);
     let Ok((ends, listener)) = consoles(alloc, config.processors()) else {
         return refused(alloc, logged, RunFault::Console);
     };
+    let Ok(faults) = Vec::with_capacity(alloc, usize::from(config.processors())) else {
+        return refused(alloc, logged, RunFault::Memory);
+    };
     match Shared::<N>::new(alloc, room, logged) {
         Err((logged, _)) => refused(alloc, logged, RunFault::Memory),
         Ok((shared, passes)) => {
-            let crew = Crew {
+            let workers = Workers {
                 passes,
                 ends,
                 arbiters,
+                faults,
             };
-            let terms = Terms::new(alloc, config.k, budget);
-            run_made(rt, alloc, shared, terms, gate, crew, listener)
+            let context = RunContext::new(alloc, config.k, budget);
+            run_made(rt, alloc, shared, context, gate, workers, listener)
         }
     }
 }
@@ -101,12 +124,16 @@ fn refused<N: Run>(alloc: Global, logged: Logged, fault: RunFault) -> Ended<N>
     ensures logged { result.logged ≡ logged }
     ensures passes { result.passes.items ≡ [] }
     ensures consoles { result.consoles.items ≡ [] }
+    ensures faults { result.faults.items ≡ [] }
+    ensures listener { result.listener ≡ None }
     ensures fault { result.fault ≡ Some fault }
 {
     Ended {
         logged,
         passes: Vec::new(alloc),
         consoles: Vec::new(alloc),
+        faults: Vec::new(alloc),
+        listener: None,
         fault: Some(fault),
     }
 }
@@ -121,41 +148,46 @@ fn run_made<
     rt: &R,
     alloc: Global,
     shared: Shared<N>,
-    terms: Terms,
+    context: RunContext,
     gate: &G,
-    crew: Crew<N, A>,
+    workers: Workers<N, A>,
     listener: Listener,
 ) -> Ended<N>
-    requires passes { crew.passes.items ≡ new_passes N.count }
-    requires ends { map sent_by crew.ends.items ≡ replicate N.count [] }
-    requires arbiters { vec_len crew.arbiters ≡ N.count }
-    requires queues { map end_queue crew.ends.items ≡ queues_of listener.monitor }
-    requires whole { IsWhole N.count crew.passes.items }
+    requires passes { workers.passes.items ≡ new_passes N.count }
+    requires ends { map sent_by workers.ends.items ≡ replicate N.count [] }
+    requires arbiters { vec_len workers.arbiters ≡ N.count }
+    requires queues { map end_queue workers.ends.items ≡ queues_of listener.monitor }
+    requires whole { IsWhole N.count workers.passes.items }
+    requires faults { workers.faults.items ≡ [] }
+    requires room { vec_len workers.passes ≤ vec_capacity workers.faults }
     ensures opening { result.logged.opening ≡ N.opening }
     ensures whole { IsWhole N.count result.passes.items }
     ensures fits { Fits N.opening N.first N.count result.logged.steps (rows_of result.passes.items) }
     ensures totals { TotalsAgree N.opening N.first result.logged.steps result.passes.items }
     ensures consoles { AreBeginnings (map bytes_of result.consoles.items) (map console_of result.passes.items) }
     ensures sent { result.fault ≡ None → map bytes_of result.consoles.items ≡ map console_of result.passes.items }
-    ensures stopped { result.fault ≡ None → (p : ℕ) (h : Held) → slice_get result.passes.items p ≡ Some h → EndsWithStop h }
-    ensures told { IsToldOf result.fault result.passes.items }
+    ensures stopped { result.fault ≡ None → (p : ℕ) (h : Held) → slice_get result.passes.items p ≡ Some h →
+        EndsWithStop h }
+    ensures ended { AreEnded result.faults.items result.passes.items }
+    ensures listener { is_of_listener result.listener ≡ true }
+    ensures fault { result.fault ≡ fault_of (result.faults.items ++ result.listener ∷ []) }
 {
-    let AllBack {
-        crew,
-        listener,
-        fault,
-    } = run_crew(rt, &shared, &terms, gate, crew, listener);
-    let Crew {
+    let AllBack { workers, listener } = run_workers(rt, &shared, &context, gate, workers, listener);
+    let Workers {
         passes,
         ends,
         arbiters: _,
-    } = crew;
+        faults,
+    } = workers;
     let (logged, passes) = shared.gather(passes);
-    let (consoles, of_consoles) = listener.finish(rt, alloc, ends);
+    let (consoles, listener) = listener.finish(rt, alloc, ends);
+    let fault = graver_of(fault_of(faults.as_slice()), listener);
     Ended {
         logged,
         passes,
         consoles,
-        fault: graver_of(fault, of_consoles),
+        faults,
+        listener,
+        fault,
     }
 }

@@ -1,28 +1,31 @@
 //! The rounds of one processor's thread.
 
-ghost use Rattle.std.specs.Prelude.{◌≡◌, ◌+◌, ◌≤◌, ◌<◌, ◌^◌, true, Ok, OnOk, IfOk};
-ghost use Rattle.processor_threads.specs.Consoles.{end_queue, IsWithin};
-ghost use Rattle.processor_threads.specs.declared.hand.Gone.{Gone};
+ghost use Rattle.std.specs.Prelude.{◌≡◌, ◌+◌, ◌≤◌, ◌<◌, ◌^◌, [], true, Ok, OnOk, IfOk, MatchResult};
+ghost use Rattle.processor_threads.specs.Consoles.{end_queue};
 ghost use Rattle.processor_threads.specs.Endings.{ComesBack, EndsWithStop};
+ghost use Rattle.processor_threads.specs.Rounds.{begin, thread, AreWithin, GoesOn, HasFailed, HasStopped, HasUsed};
+ghost use Rattle.processor_threads.specs.declared.handle.RoundsDone.{RoundsDone};
 
-use crate::ahead::Ahead;
+use crate::context::RunContext;
 use crate::fault::RunFault;
 use crate::gate::Gate;
-use crate::hand::{Gone, Hand};
-use crate::terms::Terms;
+use crate::handle::{ProcessorHandle, RoundsDone, one_round};
+use crate::step_buffer::StepBuffer;
+use crate::tally::Tally;
 use flat_machine::Event;
 use machine_lock::{Run, Shared};
 use schedules::Arbiter;
 use std::sync::Wait;
 use std::thread::yield_now;
 
-/// How many rounds a thread goes through, at least, between two times that it tells how far it is.
-const ROUNDS_TOLD: u32 = 1024;
+/// How many rounds a thread goes through, at least, between two reports of how far it is.
+const ROUNDS_REPORTED: u64 = 1024;
 
-/// What a thread has told of how far it is.
+/// How far a thread is.
 #[derive(Clone, Copy, Debug, PartialEq, Eq, Drop)]
-struct Told {
-    rounds: u32,
+struct Progress {
+    /// The rounds that it has gone through, whether they count against its budget or not.
+    rounds: u64,
     /// The instructions that its processor has retired.
     retired: u64,
 }
@@ -30,10 +33,8 @@ struct Told {
 /// What the thread of a processor begins with.
 #[derive(Drop)]
 pub(crate) struct Worker<N: Run, A: Drop> {
-    pub(crate) hand: Hand<N>,
+    pub(crate) handle: ProcessorHandle<N>,
     pub(crate) arbiter: A,
-    /// Steps that the arbiter has named.
-    pub(crate) ahead: Ahead,
     /// How many turns it has taken.
     pub(crate) turns: u64,
 }
@@ -41,141 +42,179 @@ pub(crate) struct Worker<N: Run, A: Drop> {
 /// What comes back from the thread of a processor.
 #[derive(Drop)]
 pub(crate) struct Back<N: Run> {
-    pub(crate) hand: Hand<N>,
+    pub(crate) handle: ProcessorHandle<N>,
     pub(crate) fault: Option<RunFault>,
 }
 
 impl<N: Run, A: Arbiter + Drop> Worker<N, A> {
-    /// Goes through rounds until the processor stops, a call is refused, or the budget is used up; through none where the thread
-    /// could not be started.
+    /// Goes through rounds until the processor stops, a call is refused, the budget is used up, or the fault of
+    /// another thread has decided how the run ends; through none where the thread could not be started. The steps that
+    /// the arbiter names lie on the thread's own stack: who starts the threads does so by a recursion, and moves each
+    /// worker more than once.
     pub(crate) fn run<G: Gate, R: Wait>(
         mut self,
         rt: &R,
         shared: &Shared<N>,
-        terms: &Terms,
+        context: &RunContext,
         gate: &G,
     ) -> Back<N>
         requires { self.turns ≡ 0 }
-        ensures { ComesBack self.hand.pass self.hand.end result.hand.pass result.hand.end result.fault }
+        ensures { ComesBack self.handle.pass self.handle.end result.handle.pass result.handle.end result.fault }
     {
-        let fault = if terms.is_unstarted(self.hand.pass.processor()) {
+        let fault = if context.is_unstarted(self.handle.pass.processor()) {
             Some(RunFault::Start)
         } else {
-            self.rounds(rt, shared, terms, gate).err()
+            let mut buffer = StepBuffer::new();
+            self.rounds(rt, shared, context, gate, &mut buffer).err()
         };
+        if let Some(fault) = fault {
+            context.report(fault);
+        }
         Back {
-            hand: self.hand,
+            handle: self.handle,
             fault,
         }
     }
 
-    /// Goes through rounds. Each time that all steps are asked for which the arbiter has named, it lets other threads run: where the host has
-    /// fewer processors than there are threads, or has other work, a processor that waits for another one would use up its budget
-    /// while that one's thread does not run.
+    /// Goes through rounds, until the processor stops. Each time that all steps are asked for which the arbiter has
+    /// named, it lets other threads run: where the host has fewer processors than there are threads, or has other
+    /// work, a processor that waits for another one would use up its budget while that one's thread does not run. For
+    /// the same reason rounds that find nothing count once for each time that it lets others run.
     ///
     /// # Errors
     ///
-    /// Those of [`Hand::rounds`], and [`RunFault::Budget`].
+    /// Those of [`ProcessorHandle::rounds`], [`RunFault::Budget`] where the rounds that count have come to the budget,
+    /// and [`RunFault::Cancelled`] where the fault of another thread has decided how the run ends.
     fn rounds<G: Gate, R: Wait>(
         &mut self,
         rt: &R,
         shared: &Shared<N>,
-        terms: &Terms,
+        context: &RunContext,
         gate: &G,
+        buffer: &mut StepBuffer,
     ) -> Result<(), RunFault>
-        requires { self.old.turns ≡ 0 }
-        ensures stopped { OnOk result (EndsWithStop self.new.hand.pass) }
-        ensures processor { self.new.hand.pass.processor ≡ self.old.hand.pass.processor }
-        ensures queue { end_queue self.new.hand.end ≡ end_queue self.old.hand.end }
+        requires turns { self.old.turns ≡ 0 }
+        requires none { buffer.old ≡ [] }
+        ensures ran { let old = begin (thread self.old.handle.pass self.old.handle.end self.old.handle.waits) in
+            let new = thread self.new.handle.pass self.new.handle.end self.new.handle.waits in MatchResult result
+            (λ _. HasStopped N.opening N.first context.now.budget old new)
+            (λ fault. HasFailed N.opening N.first context.now.budget fault old new) }
+        ensures stopped { OnOk result (EndsWithStop self.new.handle.pass) }
+        ensures processor { self.new.handle.pass.processor ≡ self.old.handle.pass.processor }
+        ensures queue { end_queue self.new.handle.end ≡ end_queue self.old.handle.end }
     {
+        let mut tally = Tally::new();
         let mut gone = 0;
-        let mut told = Told {
+        let mut reported = Progress {
             rounds: 0,
             retired: 0,
         };
-        while gone < terms.budget {
-            let more = self.go_on(rt, shared, terms, gate, terms.budget - gone)?;
-            gone += more.rounds as u32;
-            if self.ahead.is_used_up() {
+        while tally.counted < context.budget {
+            if context.is_cancelled() {
+                return Err(RunFault::Cancelled);
+            }
+            let most = context.budget - tally.counted;
+            let done = match self.go_on(rt, shared, context, gate, buffer, most) {
+                Ok(done) => done,
+                Err(fault) => return Err(fault),
+            };
+            gone += done.rounds as u64;
+            let lets_run = buffer.is_empty();
+            tally.count(done, lets_run);
+            if lets_run {
                 yield_now();
             }
-            if more.stopped {
-                self.tell(gone, told, gate);
+            if done.stopped {
+                self.report(gone, reported, gate);
                 return Ok(());
             }
-            if gone - told.rounds >= ROUNDS_TOLD {
-                told = self.tell(gone, told, gate);
-            }
+            reported = self.report_if_due(gone, reported, gate);
         }
-        self.tell(gone, told, gate);
+        self.report(gone, reported, gate);
         Err(RunFault::Budget)
     }
 
-    /// Tells the gate of the rounds that are gone, and of the instructions that were retired in them, but for those that were told before.
-    /// Answers what is told now.
-    fn tell<G: Gate>(&self, gone: u32, told: Told, gate: &G) -> Told
+    /// Reports, once enough rounds are gone since it did last. Answers what is reported then.
+    fn report_if_due<G: Gate>(&self, gone: u64, reported: Progress, gate: &G) -> Progress
+        requires { reported.rounds ≤ gone }
+        ensures { result.rounds ≤ gone }
+    {
+        if gone - reported.rounds < ROUNDS_REPORTED {
+            return reported;
+        }
+        self.report(gone, reported, gate)
+    }
+
+    /// Reports to the gate the rounds that are gone, and the instructions that were retired in them, but for those
+    /// that were reported before. Answers how far the thread is now.
+    fn report<G: Gate>(&self, gone: u64, reported: Progress, gate: &G) -> Progress
         ensures { result.rounds ≡ gone }
     {
-        let notices = self.hand.pass.notices();
-        // The stop of a processor is its last notice.
-        let stops = match notices.last() {
-            Some(notice) => u64::from(matches!(notice.event, Event::Stopped(_))),
+        let pass_events = self.handle.pass.pass_events();
+        // The stop of a processor is its last event.
+        let stops = match pass_events.last() {
+            Some(pass_event) => u64::from(matches!(pass_event.event, Event::Stopped(_))),
             None => 0,
         };
-        let retired = (notices.len() as u64).saturating_sub(stops);
+        let retired = (pass_events.len() as u64).saturating_sub(stops);
         gate.gone(
-            u64::from(gone.saturating_sub(told.rounds)),
-            retired.saturating_sub(told.retired),
+            gone.saturating_sub(reported.rounds),
+            retired.saturating_sub(reported.retired),
         );
-        Told {
+        Progress {
             rounds: gone,
             retired,
         }
     }
 
-    /// Goes through rounds, at least one and so many at most. In a round, where a byte is held, it tries to put it, else it passes the gate and
-    /// takes local instructions and a turn; then it asks for the step of the network that its arbiter names, unless the processor has
-    /// stopped. The arbiter, which is not told what a turn answers, is asked before, so that the turn and the step are taken with one lock;
-    /// and so are those of the next rounds while the processor waits, as many as the gate lets pass at once.
+    /// Goes through rounds, at least one and at most this many. In a round, where a byte is held, it tries to put it,
+    /// else it passes the gate and takes local instructions and a turn; then it asks for the step of the network that
+    /// its arbiter names, unless the processor has stopped. The arbiter, which does not see what a turn answers, is
+    /// asked before, so that the turn and the step are taken with one lock; and so are those of the next rounds while
+    /// the processor waits, as many as the gate lets pass at once.
     ///
     /// # Errors
     ///
-    /// Those of [`Hand::rounds`].
+    /// Those of [`ProcessorHandle::rounds`].
     fn go_on<G: Gate, R: Wait>(
         &mut self,
         rt: &R,
         shared: &Shared<N>,
-        terms: &Terms,
+        context: &RunContext,
         gate: &G,
+        buffer: &mut StepBuffer,
         most: u32,
-    ) -> Result<Gone, RunFault>
+    ) -> Result<RoundsDone, RunFault>
         requires some { 1 ≤ most }
         requires turns { self.old.turns + most < 2 ^ 64 }
-        ensures stopped { (gone : Gone) → result ≡ Ok gone → gone.stopped ≡ true → EndsWithStop self.new.hand.pass }
-        ensures rounds { IfOk result (λ gone. IsWithin gone.rounds most) }
-        ensures processor { self.new.hand.pass.processor ≡ self.old.hand.pass.processor }
-        ensures queue { end_queue self.new.hand.end ≡ end_queue self.old.hand.end }
-        ensures turns { IfOk result (λ gone. self.new.turns ≤ self.old.turns + gone.rounds) }
+        ensures goes { GoesOn N.opening N.first (thread self.old.handle.pass self.old.handle.end self.old.handle.waits)
+            buffer.old most result
+            (thread self.new.handle.pass self.new.handle.end self.new.handle.waits) buffer.new }
+        ensures stopped { (done : RoundsDone) → result ≡ Ok done → done.stopped ≡ true →
+            EndsWithStop self.new.handle.pass }
+        ensures rounds { IfOk result (λ done. AreWithin done most) }
+        ensures left { IfOk result (λ done. HasUsed done.rounds buffer.old buffer.new) }
+        ensures processor { self.new.handle.pass.processor ≡ self.old.handle.pass.processor }
+        ensures queue { end_queue self.new.handle.end ≡ end_queue self.old.handle.end }
+        ensures turns { IfOk result (λ done. self.new.turns ≤ self.old.turns + done.rounds) }
     {
-        if self.hand.end.held.is_some() {
-            self.hand.put(rt, terms);
-            self.ahead
-                .fill(&mut self.arbiter, terms.stages, gate.at_once());
-            self.hand.net(rt, shared, self.ahead.steps(1)[0])?;
-            self.ahead.pass(1);
-            return Ok(Gone {
-                rounds: 1,
-                stopped: false,
-            });
+        if self.handle.end.held.is_some() {
+            self.handle.put(rt, context);
+            buffer.fill(&mut self.arbiter, context.stages, gate.at_once());
+            let fault = self.handle.net(rt, shared, buffer.steps(1)[0]);
+            buffer.advance(1);
+            return one_round(fault);
         }
-        gate.before(self.hand.pass.processor(), self.turns);
-        self.ahead
-            .fill(&mut self.arbiter, terms.stages, gate.at_once());
-        let gone = self
-            .hand
-            .rounds(rt, terms.alloc, shared, self.ahead.steps(most as usize))?;
-        self.ahead.pass(gone.rounds);
-        self.turns += gone.rounds as u64;
-        Ok(gone)
+        gate.before(self.handle.pass.processor(), self.turns);
+        buffer.fill(&mut self.arbiter, context.stages, gate.at_once());
+        let steps = buffer.steps(most as usize);
+        match self.handle.rounds(rt, context.alloc, shared, steps) {
+            Ok(done) => {
+                buffer.advance(done.rounds);
+                self.turns += done.rounds as u64;
+                Ok(done)
+            }
+            Err(fault) => Err(fault),
+        }
     }
 }

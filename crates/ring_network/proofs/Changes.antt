@@ -68,6 +68,7 @@ module _ (n : NetworkLists) (is : IsNetwork n) (s w : ℕ) (stage : s < n.k) (wi
       go (inl l) (inr a) e =
           inside l (ap (λ u. f u (w' % 2)) (switch_kept n s (w / 2) t stage number is.all_switches s' (w' / 2) (half_of_wire n.k s w' stage l) (λ p _. a p)))
 
+  -- If a switch has other requests at one output alone, they are replaced at the place of its wire, and nowhere else.
   pub requests_put : ((v : ℕ) → v < 2 → (v ≡ w % 2 → ⊥) → requests_at t v ≡ requests_at (switch_at n s (w / 2)) v)
       → requests_before (with_switch n s (w / 2) t) ≡ put2 (requests_before n) (suc s) w (requests_at t (w % 2))
   unfolding requests_before
@@ -78,6 +79,7 @@ module _ (n : NetworkLists) (is : IsNetwork n) (s w : ℕ) (stage : s < n.k) (wi
       other zero w' away = refl
       other (suc s') w' away = output_other requests_at same s' w' (λ a b. away (ap suc a) b)
 
+  -- If a switch has other records at one output alone, they are replaced at the place of its wire, and nowhere else.
   pub records_put : ((v : ℕ) → v < 2 → (v ≡ w % 2 → ⊥) → records_at t v ≡ records_at (switch_at n s (w / 2)) v)
       → records_behind (with_switch n s (w / 2) t) ≡ put2 (records_behind n) s w (records_at t (w % 2))
   unfolding records_behind
@@ -100,6 +102,7 @@ module _ (n : NetworkLists) (is : IsNetwork n) (s i : ℕ) (stage : s < n.k) (nu
           ap (λ (b : Bool). if b then f (switch_at (with_switch n s i t) s' (w' / 2)) (w' % 2) else []) (le-ltb w' (2 ^ n.k) past)
           ∙ sym (ap (λ (b : Bool). if b then f (switch_at n s' (w' / 2)) (w' % 2) else []) (le-ltb w' (2 ^ n.k) past))
 
+  -- If a switch is replaced by one with the same requests, all requests of the network stay.
   pub requests_left : ((v : ℕ) → v < 2 → requests_at t v ≡ requests_at (switch_at n s i) v) → requests_before (with_switch n s i t) ≡ requests_before n
   unfolding requests_before
   requests_left same = fun_ext (λ d'. fun_ext (λ w'. at d' w'))
@@ -108,6 +111,7 @@ module _ (n : NetworkLists) (is : IsNetwork n) (s i : ℕ) (stage : s < n.k) (nu
       at zero w' = refl
       at (suc s') w' = outputs_left requests_at same s' w'
 
+  -- If a switch is replaced by one with the same records, all records of the network stay.
   pub records_left : ((v : ℕ) → v < 2 → records_at t v ≡ records_at (switch_at n s i) v) → records_behind (with_switch n s i t) ≡ records_behind n
   unfolding records_behind
   records_left same = fun_ext (λ s'. fun_ext (λ w'. outputs_left records_at same s' w'))
@@ -153,6 +157,7 @@ module _ (inverse : RotationsAreInverse) (on_wires : RotationsStayOnWires) where
 
   module _ (n : NetworkLists) (is : IsNetwork n) (s w : ℕ) (stage : s < n.k) (wire : w < 2 ^ n.k) (t : SwitchLists)
       (same : (v : ℕ) → v < 2 → (v ≡ input_port n.k w → ⊥) → inputs_at t v ≡ inputs_at (switch_at n s (switch_of n.k w)) v) where
+    -- If a switch has other replies at one input alone, they are replaced at the place of its wire, and nowhere else.
     pub replies_put : replies_before (with_switch n s (switch_of n.k w) t) ≡ put2 (replies_before n) s w (inputs_at t (input_port n.k w))
     replies_put = is_put2 (replies_before n) (replies_before (with_switch n s (switch_of n.k w) t)) s w (inputs_at t (input_port n.k w)) here other
       where
@@ -182,6 +187,7 @@ module _ (inverse : RotationsAreInverse) (on_wires : RotationsStayOnWires) where
             go l (inr a) e = ap (λ u. inputs_at u (input_port n.k w'))
                 (switch_kept n s (switch_of n.k w) t stage place is.all_switches d' (switch_of n.k w') (ahead n.k s w' stage l) (λ p _. a p))
 
+  -- If a switch is replaced by one with the same inputs, all replies of the network stay.
   pub replies_left : (n : NetworkLists) (is : IsNetwork n) (s i : ℕ) (stage : s < n.k) (number : i < half n.k) (t : SwitchLists) →
       t.inputs ≡ (switch_at n s i).inputs
       → replies_before (with_switch n s i t) ≡ replies_before n
@@ -196,6 +202,7 @@ pub rest_of_slot : {X : Type 0} (slot : Option X) → drop 1 (option_to_list slo
 rest_of_slot None = refl
 rest_of_slot (Some x) = refl
 
+-- The first message of a slot, read as a list, is what the slot has.
 pub first_of_slot : {X : Type 0} (slot : Option X) → slice_get (option_to_list slot) 0 ≡ slot
 first_of_slot None = refl
 first_of_slot (Some x) = refl
@@ -203,6 +210,7 @@ first_of_slot (Some x) = refl
 slot_set : {X : Type 0} (slots : List (Option X)) (w : ℕ) (x : Option X) (v : ℕ) → w < length slots → (v ≡ w → ⊥) → slot_of (set slots w x) v ≡ slot_of slots v
 slot_set slots w x v l away = ap option_to_list (get_or-set_other slots w v x None away)
 
+-- If a processor's slot is replaced, the requests at depth 0 on its wire are, and no others.
 pub slot_put : (n : NetworkLists) (p : ℕ) (x : Option Request) → p < length n.slots →
     requests_before (with_slot n p x) ≡ put2 (requests_before n) 0 p (option_to_list x)
 unfolding requests_before
@@ -213,6 +221,7 @@ slot_put n p x l =
     other zero w away = slot_set n.slots p x w l (away refl)
     other (suc s) w away = refl
 
+-- If a module's slot is replaced, the replies at depth k on its wire are, and no others.
 pub module_slot_put : (n : NetworkLists) (m : ℕ) (y : Option Reply) → m < length n.module_slots →
     replies_before (with_module_slot n m y) ≡ put2 (replies_before n) n.k m (option_to_list y)
 unfolding replies_before
@@ -239,6 +248,7 @@ at_module n m =
     ap (λ (b : Bool). if b then slot_of n.module_slots m else if nat_lt m (2 ^ n.k) then inputs_at (switch_at n n.k (switch_of n.k m)) (input_port n.k m)
     else []) (eq-eqb n.k n.k refl)
 
+-- The requests at depth 0 on a wire are what the processor's slot has.
 pub at_slot : (n : NetworkLists) (p : ℕ) → requests_before n 0 p ≡ slot_of n.slots p
 unfolding requests_before
 at_slot n p = refl

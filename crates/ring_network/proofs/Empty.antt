@@ -75,6 +75,7 @@ if_same false xs e = refl
 small_rest : (w : ℕ) → w % 2 < 2
 small_rest w = omega arith
 
+-- If no slot has a message and each switch is empty, the network is empty.
 pub empty_net : (n : NetworkLists) → All IsNone n.slots → All IsEmptySwitch n.switches → All IsNone n.module_slots → IsEmptyNet (net_of n)
 unfolding requests_before records_behind replies_before
 empty_net n slots switches module_slots d w = (requests d, records, replies)
@@ -171,25 +172,27 @@ module _ (inverse : RotationsAreInverse) (on_wires : RotationsStayOnWires) (n : 
           (ap (λ p. get_or n.switches p (empty_switch 0 0 0 0)) same ∙ get_or_any n.switches place (empty_switch 0 0 0 0) d l)
           (switch_empty (place / half n.k) (place % half n.k) stage rest)
 
--- what the tests of all lists tell
-pub told : (n m : NetworkLists) → n ≡ m → IsNetwork n → RotationsAreInverse → RotationsStayOnWires →
+-- what the tests of all lists say
+pub fact : (n m : NetworkLists) → n ≡ m → IsNetwork n → RotationsAreInverse → RotationsStayOnWires →
     (a b c : Bool) (slots : List (Option Request)) (switches : List SwitchLists) (module_slots : List (Option Reply))
     → slots ≡ n.slots → switches ≡ n.switches → module_slots ≡ n.module_slots → (IsTrue a ↔ All IsNone slots) → (IsTrue b ↔ All IsEmptySwitch switches) →
     (IsTrue c ↔ All IsNone module_slots)
     → a ≡ true → b ≡ true → (IsTrue c ↔ IsEmptyNet (net_of m))
-told n m view is inverse on_wires a b c slots switches module_slots e f g has_slots has_switches has_module_slots is_a is_b =
+fact n m view is inverse on_wires a b c slots switches module_slots e f g has_slots has_switches has_module_slots is_a is_b =
     subst (λ (l : NetworkLists). IsTrue c ↔ IsEmptyNet (net_of l)) view (
       (λ t. empty_net n (subst (All IsNone) e (has_slots.0 is_a)) (subst (All IsEmptySwitch) f (has_switches.0 is_b))
           (subst (All IsNone) g (has_module_slots.0 t))),
       (λ empty. has_module_slots.1 (subst (All IsNone) (sym g) (module_slots_none inverse on_wires n is empty))),
     )
 
+-- If the network is empty, the look through the processors' slots finds each of them empty.
 pub not_empty_slots : (n m : NetworkLists) → n ≡ m → IsNetwork n → RotationsAreInverse → RotationsStayOnWires → (a : Bool) (slots : List (Option Request)) →
     slots ≡ n.slots → (IsTrue a ↔ All IsNone slots)
     → IsEmptyNet (net_of m) → a ≡ true
 not_empty_slots n m view is inverse on_wires a slots e has empty =
     has.1 (subst (All IsNone) (sym e) (slots_none inverse on_wires n is (subst (λ (l : NetworkLists). IsEmptyNet (net_of l)) (sym view) empty)))
 
+-- If the network is empty, the look through the switches finds each of them empty.
 pub not_empty_switches : (n m : NetworkLists) → n ≡ m → IsNetwork n → RotationsAreInverse → RotationsStayOnWires → (b : Bool) (switches : List SwitchLists) →
     switches ≡ n.switches → (IsTrue b ↔ All IsEmptySwitch switches)
     → IsEmptyNet (net_of m) → b ≡ true

@@ -21,6 +21,7 @@ use Rattle.omega_network.proofs.Lemmas.{half_of_wire, place_within}
 use Rattle.ring_network.proofs.Switches.{switch_kept, switch_put}
 
 module _ (c b r i : ℕ) where
+  -- A switch with one output replaced by another of the same sizes is again a switch of these sizes.
   pub output_kept : (s : SwitchLists) (out : ℕ) (o : OutputLists) → IsSwitchOf c b r i s → out < 2 → o.c ≡ c → o.b ≡ b → o.r ≡ r →
       IsSwitchOf c b r i (with_output s out o)
   output_kept s out o is l ec eb er = record {
@@ -46,9 +47,11 @@ module _ (c b r i : ℕ) where
             ap (λ (p : OutputLists). p.r) same ∙ (is.outputs v m d).2,
           )
 
+  -- A switch with its inputs replaced by two others is again a switch of these sizes.
   pub inputs_kept : (s : SwitchLists) (inputs : List (List Reply)) → IsSwitchOf c b r i s → length inputs ≡ 2 → IsSwitchOf c b r i (with_inputs s inputs)
   inputs_kept s inputs is two = record { c_is = is.c_is; bit_is = is.bit_is; two_outputs = is.two_outputs; two_inputs = two; outputs = is.outputs }
 
+-- An empty switch is a switch of its sizes.
 pub empty_is : (c b r i : ℕ) → IsSwitchOf c b r i (empty_switch c b r i)
 empty_is c b r i = record { c_is = refl; bit_is = refl; two_outputs = refl; two_inputs = refl; outputs = at }
   where
@@ -106,6 +109,7 @@ answered_kept c b r i s out x is l = go (has_room s.c s.its_bit all (answers rec
 
 -- ---- networks
 
+-- A network with a switch replaced by one of the sizes and the bit of its stage is again a network.
 pub with_switch_kept : (n : NetworkLists) (s i : ℕ) (t : SwitchLists) → IsNetwork n → s < n.k → i < half n.k → IsSwitchOf n.c n.b n.r (bit_of_stage n.k s) t →
     IsNetwork (with_switch n s i t)
 with_switch_kept n s i t is l m new = record {
@@ -158,6 +162,7 @@ replies_kept c b r i s inp ys is = inputs_kept c b r i s (set s.inputs inp ys) i
 
 -- ---- a switch that is replaced where it stands
 
+-- What is read inside a list does not depend on what is given for places past its end.
 pub get_or_any : {X : Type 0} (xs : List X) (i : ℕ) (d e : X) → i < length xs → get_or xs i d ≡ get_or xs i e
 get_or_any [] i d e l = absurd (omega arith)
 get_or_any (x ∷ xs) zero d e l = refl
@@ -168,11 +173,17 @@ put_at n place t = record { k = n.k; c = n.c; b = n.b; r = n.r; slots = n.slots;
 
 -- switch i of stage s is u, and stands at this place. The network n is m as a caller sees it
 pub record Found (n m : NetworkLists) (s i place : ℕ) (u : SwitchLists) : Type 0 where
+  -- The network is seen as m.
   pub view : n ≡ m
+  -- Its lists are those of a network.
   pub is : IsNetwork n
+  -- The stage is one of the network.
   pub stage : s < m.k
+  -- The number is one of a switch in a stage.
   pub number : i < half m.k
+  -- The place among all switches is that of the stage and the number.
   pub exact : place ≡ s * half m.k + i
+  -- The switch is the one at this place.
   pub at : u ≡ get_or n.switches place u
 
 -- the switch that a wire comes from after a stage, and the one that it goes to before a stage
@@ -181,6 +192,7 @@ pub found_behind : {n m : NetworkLists} {s w place : ℕ} {u : SwitchLists} → 
 found_behind {n} {m} {s} {w} view is stage wire exact at =
     record { view = view; is = is; stage = stage; number = half_of_wire m.k s w stage wire; exact = exact; at = at }
 
+-- The switch at the place of a stage and a wire before it is the one that the wire goes into.
 pub found_before : {n m : NetworkLists} {s w place : ℕ} {u : SwitchLists} → RotationsStayOnWires → n ≡ m → IsNetwork n → s < m.k → w < 2 ^ m.k →
     place ≡ s * half m.k + switch_of m.k w → u ≡ get_or n.switches place u → Found n m s (switch_of m.k w) place u
 found_before {n} {m} {s} {w} on_wires view is stage wire exact at =
@@ -193,34 +205,43 @@ module _ (n m : NetworkLists) (s i place : ℕ) (u : SwitchLists) (found : Found
   place_is : place ≡ s * half n.k + i
   place_is = found.exact ∙ ap (λ k. s * half k + i) (sym k_is)
 
+  -- The stage is one of the network that the call finds.
   pub stage_is : s < n.k
   stage_is = let e = k_is in let l = found.stage in omega arith
 
+  -- The number is one of a switch in a stage of the network that the call finds.
   pub number_is : i < half n.k
   number_is = subst (λ k. i < half k) (sym k_is) found.number
 
+  -- The switch at the place is that of the stage and the number.
   pub switch_is : u ≡ switch_at n s i
   switch_is =
       found.at ∙ ap (λ p. get_or n.switches p u) place_is
       ∙ get_or_any n.switches (s * half n.k + i) u (empty_switch 0 0 0 0) (place_within n.k s i (length n.switches) stage_is number_is found.is.all_switches)
 
+  -- If the switch at the place is replaced, the one of the stage and the number is.
   pub put_is : (t : SwitchLists) → put_at n place t ≡ with_switch n s i t
   put_is t = ap (λ p. put_at n p t) place_is
 
+  -- The switch has the sizes of the network and the bit of its stage.
   pub had_is : IsSwitchOf n.c n.b n.r (bit_of_stage n.k s) u
   had_is = subst (λ (v : SwitchLists). IsSwitchOf n.c n.b n.r (bit_of_stage n.k s) v) (sym switch_is) (found.is.each_switch s i stage_is number_is)
 
   replaced : (t t' : SwitchLists) → t ≡ t' → IsSwitchOf n.c n.b n.r (bit_of_stage n.k s) t' → IsNetwork (put_at n place t)
   replaced t t' same kept = subst IsNetwork (sym (put_is t ∙ ap (with_switch n s i) same)) (with_switch_kept n s i t' found.is stage_is number_is kept)
 
+  -- If the switch becomes what it is after a request came to an output, the network is again a network.
   pub accept_stays : (v : ℕ) (x : Request) (t : SwitchLists) → v < 2 → t ≡ with_output u v (accepted (output_of u v) x).1 → IsNetwork (put_at n place t)
   accept_stays v x t l same = replaced t (with_output u v (accepted (output_of u v) x).1) same (accepted_kept n.c n.b n.r (bit_of_stage n.k s) u v x had_is l)
 
+  -- If the switch becomes what it is after a reply came to an output, the network is again a network.
   pub answer_stays : (v : ℕ) (x : Reply) (t : SwitchLists) → v < 2 → t ≡ (answered u v x).1 → IsNetwork (put_at n place t)
   answer_stays v x t l same = replaced t (answered u v x).1 same (answered_kept n.c n.b n.r (bit_of_stage n.k s) u v x had_is l)
 
+  -- If the requests at an output of the switch are replaced, the network is again a network.
   pub take_stays : (v : ℕ) (xs : List Request) (t : SwitchLists) → v < 2 → t ≡ with_requests u v xs → IsNetwork (put_at n place t)
   take_stays v xs t l same = replaced t (with_requests u v xs) same (requests_kept n.c n.b n.r (bit_of_stage n.k s) u v xs had_is l)
 
+  -- If the replies at an input of the switch are replaced, the network is again a network.
   pub reply_take_stays : (v : ℕ) (ys : List Reply) (t : SwitchLists) → t ≡ with_inputs u (set u.inputs v ys) → IsNetwork (put_at n place t)
   reply_take_stays v ys t same = replaced t (with_inputs u (set u.inputs v ys)) same (replies_kept n.c n.b n.r (bit_of_stage n.k s) u v ys had_is)

@@ -181,8 +181,9 @@ down_law z net s w x stage found =
     ∙ ap (moves.down_from z net s w) first
     ∙ answer_is z net s w x (drop 1 (net.replies (suc s) w)) first
 
--- ---- as the calls tell it, where the switch answers b. What the code sees as l, a caller sees as m
+-- ---- as the calls say it, where the switch answers b. What the code sees as l, a caller sees as m
 
+-- If the switch answers b to the first request on a wire, the move up of it answers and leaves what b says.
 pub up_ends : (m : NetworkLists) (w : ℕ) {l : NetworkLists} {net : Net} {s out target : ℕ} {x : Request} {a b : Accepted} → l ≡ m → s < m.k →
     slice_get ((net_of m).requests s w) 0 ≡ Some x → out ≡ wire_after l.k s w target → target ≡ x.word % 2 ^ l.k →
     a ≡ (accepted_on (sizes_of m) (net_of m) s out x).0 → net ≡ (accepted_on (sizes_of m) (net_of m) s out x).1 → a ≡ b →
@@ -191,18 +192,19 @@ up_ends m w {l} {net} {s} {out} {target} {x} {a} {b} view stage found way aim an
     let same : out ≡ wire_after m.k s w (x.word % 2 ^ m.k) =
     way ∙ ap (wire_after l.k s w) aim ∙ ap (λ (n : NetworkLists). wire_after n.k s w (x.word % 2 ^ n.k)) view in
     let law = up_law (sizes_of m) (net_of m) s w out x stage found same in
-    let told : b ≡ (accepted_on (sizes_of m) (net_of m) s out x).0 = sym is ∙ answer in (
-      ap (λ e. up_of e x.leader) told ∙ sym (ap (λ (r : UpMove × Net). r.0) law),
-      (λ j. net_after_up (told j) (after j) s w) ∙ sym (ap (λ (r : UpMove × Net). r.1) law),
+    let fact : b ≡ (accepted_on (sizes_of m) (net_of m) s out x).0 = sym is ∙ answer in (
+      ap (λ e. up_of e x.leader) fact ∙ sym (ap (λ (r : UpMove × Net). r.0) law),
+      (λ j. net_after_up (fact j) (after j) s w) ∙ sym (ap (λ (r : UpMove × Net). r.1) law),
     )
 
+-- If the switch answers b to the first reply on a wire, the move down of it answers and leaves what b says.
 pub down_ends : (m : NetworkLists) (w : ℕ) {net : Net} {s : ℕ} {x : Reply} {a b : Answered} → s < m.k →
     slice_get ((net_of m).replies (suc s) w) 0 ≡ Some x →
     a ≡ (answered_on (sizes_of m) (net_of m) s w x).0 → net ≡ (answered_on (sizes_of m) (net_of m) s w x).1 → a ≡ b →
     (down_of b ≡ (moves.moved_down (sizes_of m) (net_of m) s w).0) × (net_after_down b net (suc s) w ≡ (moves.moved_down (sizes_of m) (net_of m) s w).1)
 down_ends m w {net} {s} {x} {a} {b} stage found answer after is =
     let law = down_law (sizes_of m) (net_of m) s w x stage found in
-    let told : b ≡ (answered_on (sizes_of m) (net_of m) s w x).0 = sym is ∙ answer in (
-      ap down_of told ∙ sym (ap (λ (r : DownMove × Net). r.0) law),
-      (λ j. net_after_down (told j) (after j) (suc s) w) ∙ sym (ap (λ (r : DownMove × Net). r.1) law),
+    let fact : b ≡ (answered_on (sizes_of m) (net_of m) s w x).0 = sym is ∙ answer in (
+      ap down_of fact ∙ sym (ap (λ (r : DownMove × Net). r.0) law),
+      (λ j. net_after_down (fact j) (after j) (suc s) w) ∙ sym (ap (λ (r : DownMove × Net). r.1) law),
     )

@@ -257,6 +257,7 @@ module _ (inverse : RotationsAreInverse) (on_wires : RotationsStayOnWires) where
 
   -- ---- as a caller sees it
 
+  -- What the switch does with a reply at the wire's output is what the network of places does with it there.
   pub answer_net : (n m : NetworkLists) (s w place : ℕ) (u : SwitchLists) → Found n m s (w / 2) place u → w < 2 ^ m.k →
       (x : Reply) (t : SwitchLists) (result : Answered)
       → result ≡ (answered u (w % 2) x).0 → t ≡ (answered u (w % 2) x).1
@@ -294,6 +295,7 @@ module _ (inverse : RotationsAreInverse) (on_wires : RotationsStayOnWires) where
           ∙ ap (drop 1) (sym (at_input inverse on_wires n s w stage wire)))) j;
     }
 
+  -- If the first reply at the wire's input is taken, the first one at its place is, and nothing else changes.
   pub reply_take_net : (n m : NetworkLists) (s w place : ℕ) (u t : SwitchLists) → Found n m s (switch_of m.k w) place u → w < 2 ^ m.k
       → t ≡ with_inputs u (set u.inputs (input_port m.k w) (drop 1 (replies_at u.inputs (input_port m.k w)))) →
       net_of (put_at n place t) ≡ first_reply_taken (net_of m) s w

@@ -17,12 +17,16 @@ use Rattle.ring_network.proofs.Empty.{empty_net}
 
 -- the first switches of a new network
 pub record SoFar (k c b r count : ℕ) (switches : List SwitchLists) : Type 0 where
+  -- There are `count` switches.
   pub all : length switches ≡ count
+  -- Each is an empty switch with the bit of its stage.
   pub each : (place : ℕ) → place < length switches → slice_get switches place ≡ Some (empty_switch c b r (bit_of_stage k (place / half k)))
 
+-- The empty list is the first 0 switches of a new network.
 pub none_yet : (k c b r : ℕ) → SoFar k c b r 0 []
 none_yet k c b r = record { all = refl; each = λ place l. absurd (omega arith) }
 
+-- The first switches of a new network are one more if an empty switch of the stage is appended.
 pub one_more : (k c b r stage number : ℕ) (switches : List SwitchLists) → number < half k → SoFar k c b r (stage * half k + number) switches
     → SoFar k c b r (stage * half k + (number + 1)) (switches ++ empty_switch c b r (bit_of_stage k stage) ∷ [])
 one_more k c b r stage number switches within so_far = record {
@@ -43,10 +47,12 @@ one_more k c b r stage number switches within so_far = record {
         ap (slice_get (switches ++ empty_switch c b r (bit_of_stage k stage) ∷ [])) here ∙ get_last switches (empty_switch c b r (bit_of_stage k stage))
         ∙ ap (λ s. Some (empty_switch c b r (bit_of_stage k s))) (sym stage_is)
 
+-- If each switch of a stage is there, the first switches are those of one more stage.
 pub stage_done : (k c b r stage : ℕ) (switches : List SwitchLists) → SoFar k c b r (stage * half k + half k) switches →
     SoFar k c b r ((stage + 1) * half k) switches
 stage_done k c b r stage switches so_far = record { all = so_far.all ∙ omega arith; each = so_far.each }
 
+-- If the switches of all stages are there, they are those of a new network.
 pub all_done : (k c b r count : ℕ) (switches : List SwitchLists) → count ≡ k * half k → SoFar k c b r count switches → AreNew k c b r switches
 all_done k c b r count switches e so_far = record { all = so_far.all ∙ e; each = so_far.each }
 
@@ -59,6 +65,7 @@ module _ (n : NetworkLists) (new : AreNew n.k n.c n.b n.r n.switches) where
       (new.each (s * half n.k + i) (place_within n.k s i (length n.switches) l m new.all))
       ∙ ap (λ t. empty_switch n.c n.b n.r (bit_of_stage n.k t)) (div-mul-add s (half n.k) i m)
 
+  -- Lists of up to six stages with new switches and a slot for each processor and module are those of a network.
   pub new_network : n.k ≤ 6 → length n.slots ≡ 2 ^ n.k → length n.module_slots ≡ 2 ^ n.k → IsNetwork n
   new_network few slots module_slots = record {
     few = few;
@@ -74,5 +81,6 @@ module _ (n : NetworkLists) (new : AreNew n.k n.c n.b n.r n.switches) where
   switches_are_empty place d l =
       subst IsEmptySwitch (sym (get_or_from_slice_get n.switches place _ d (new.each place l))) ((refl, refl), (refl, refl), refl, refl)
 
+  -- A network with new switches and without a message in its slots is empty.
   pub new_empty : All IsNone n.slots → All IsNone n.module_slots → IsEmptyNet (net_of n)
   new_empty slots module_slots = empty_net n slots switches_are_empty module_slots

@@ -94,6 +94,7 @@ module _ (inverse : RotationsAreInverse) (on_wires : RotationsStayOnWires)
   rest : w % 2 < 2
   rest = omega arith
 
+  -- A list at the wire's output of the found switch is the network's at the stage and the wire.
   pub at_place : {X : Type 0} (f : SwitchLists → ℕ → List X) → f u (w % 2) ≡ at_output f n s w
   at_place {X} f =
       ap (λ t. f t (w % 2)) found_switch
@@ -130,6 +131,7 @@ module _ (inverse : RotationsAreInverse) (on_wires : RotationsStayOnWires)
   put_there : (t : SwitchLists) (o : OutputLists) → t ≡ with_output u (w % 2) o → net_of (put_at n place t) ≡ after (net_of n) s w o
   put_there t o same = ap net_of (put_is n m s (w / 2) place u found t) ∙ ap (λ v. net_of (with_switch n s (w / 2) v)) same ∙ output_put o
 
+  -- What the switch does with a request at the wire's output is what the network of places does with it there.
   pub accept_net : (x : Request) (t : SwitchLists) (result : Accepted) → result ≡ (accepted (output_of u (w % 2)) x).0 →
       t ≡ with_output u (w % 2) (accepted (output_of u (w % 2)) x).1
       → (result ≡ (accepted_on (sizes_of m) (net_of m) s w x).0) × (net_of (put_at n place t) ≡ (accepted_on (sizes_of m) (net_of m) s w x).1)
@@ -139,6 +141,7 @@ module _ (inverse : RotationsAreInverse) (on_wires : RotationsStayOnWires)
       × (net_of (put_at n place t) ≡ (accepted_on (sizes_of l) (net_of l) s w x).1)) found.view
       (answer ∙ there.0, put_there t (accepted (output_of u (w % 2)) x).1 same ∙ there.1)
 
+  -- If the first request at the wire's output is taken, the first one at its place is, and nothing else changes.
   pub take_net : (t : SwitchLists) → t ≡ with_requests u (w % 2) (drop 1 (requests_at u (w % 2))) →
       net_of (put_at n place t) ≡ first_request_taken (net_of m) (suc s) w
   take_net t same =

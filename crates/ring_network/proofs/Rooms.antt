@@ -39,7 +39,7 @@ length_after_one i y inputs inp two false is =
     ap length (get_or-set_other inputs (bit i y.leader) inp (replies_at inputs (bit i y.leader) ++ y ∷ []) [] other)
     ∙ omega arith
 
--- an input has the replies for it behind those that it had
+-- an input has the replies for it after those that it had
 pub length_after : (i : ℕ) (ys : List Reply) (inputs : List (List Reply)) (inp : ℕ) → length inputs ≡ 2
     → length (replies_at (put_replies i ys inputs) inp) ≡ length (replies_at inputs inp) + length (replies_for i inp ys)
 unfolding put_replies

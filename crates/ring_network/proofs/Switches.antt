@@ -8,9 +8,11 @@ use Rattle.ring_network.specs.Networks.{NetworkLists, switch_at}
 use Rattle.ring_network.specs.Changes.{with_switch}
 
 module _ (n : NetworkLists) (s i : ℕ) (t : SwitchLists) (stage : s < n.k) (number : i < half n.k) (all : length n.switches ≡ n.k * half n.k) where
+  -- The switch that was put in is read at its stage and number.
   pub switch_put : switch_at (with_switch n s i t) s i ≡ t
   switch_put = get_or-set_same n.switches (s * half n.k + i) t (empty_switch 0 0 0 0) (place_within n.k s i (length n.switches) stage number all)
 
+  -- Every other switch is read as before.
   pub switch_kept : (s' i' : ℕ) → i' < half n.k → (s' ≡ s → i' ≡ i → ⊥) → switch_at (with_switch n s i t) s' i' ≡ switch_at n s' i'
   switch_kept s' i' l away =
       get_or-set_other n.switches (s * half n.k + i) (s' * half n.k + i') t (empty_switch 0 0 0 0)

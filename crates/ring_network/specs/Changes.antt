@@ -8,10 +8,27 @@ use Rattle.omega_network.specs.Networks.{half}
 use Rattle.ring_network.specs.Networks.{NetworkLists}
 
 abbrev pub with_slot : NetworkLists → (processor : ℕ) → Option Request → NetworkLists
-with_slot n p x = record { k = n.k; c = n.c; b = n.b; r = n.r; slots = slice_set n.slots p x; switches = n.switches; module_slots = n.module_slots }
+with_slot n p x = record {
+  k = n.k;
+  c = n.c;
+  b = n.b;
+  r = n.r;
+  slots = slice_set n.slots p x;
+  switches = n.switches;
+  module_slots = n.module_slots;
+}
 
 abbrev pub with_module_slot : NetworkLists → (at_module : ℕ) → Option Reply → NetworkLists
-with_module_slot n m y = record { k = n.k; c = n.c; b = n.b; r = n.r; slots = n.slots; switches = n.switches; module_slots = slice_set n.module_slots m y }
+with_module_slot n m y =
+    record {
+      k = n.k;
+      c = n.c;
+      b = n.b;
+      r = n.r;
+      slots = n.slots;
+      switches = n.switches;
+      module_slots = slice_set n.module_slots m y;
+    }
 
 abbrev pub with_switch : NetworkLists → (stage number : ℕ) → SwitchLists → NetworkLists
 with_switch n s i t = record {
@@ -27,4 +44,5 @@ with_switch n s i t = record {
 -- a network's switches, all empty, each with the bit of its stage
 pub record AreNew (k c b r : ℕ) (switches : List SwitchLists) : Type 0 where
   pub all : length switches ≡ k * half k
-  pub each : (place : ℕ) → place < length switches → slice_get switches place ≡ Some (empty_switch c b r (bit_of_stage k (place / half k)))
+  pub each : (place : ℕ) → place < length switches →
+      slice_get switches place ≡ Some (empty_switch c b r (bit_of_stage k (place / half k)))

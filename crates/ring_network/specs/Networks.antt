@@ -1,5 +1,6 @@
 -- What a contract sees of a `Network`, and how its lists are read as a network of places.
-use Rattle.std.specs.Prelude.{◌≡◌, ◌≤◌, ◌<◌, ◌==◌, ℕ, zero, suc, ◌+◌, ◌*◌, ◌/◌, ◌%◌, ◌^◌, List, [], length, nat_lt, Option, None, slice_index_or, if◌then◌else◌}
+use Rattle.std.specs.Prelude.{◌≡◌, ◌≤◌, ◌<◌, ◌==◌, ℕ, zero, suc, ◌+◌, ◌*◌, ◌/◌, ◌%◌, ◌^◌, List, [], length, nat_lt}
+use Rattle.std.specs.Prelude.{Option, None, slice_index_or, if◌then◌else◌}
 use Rattle.std.specs.Option.{option_to_list}
 use Rattle.omega_wires.specs.Wires.{bit_of_stage, input_port, switch_of}
 use Rattle.messages.specs.declared.message.Request.{Request}
@@ -10,8 +11,8 @@ use Rattle.combining_switch.specs.Outputs.{OutputLists}
 use Rattle.omega_network.specs.Networks.{half}
 use Rattle.ring_network.specs.Switches.{SwitchLists, empty_switch, records_at, replies_at, requests_at}
 
--- k stages of switches, each with queues of c messages and wait buffers of b records. An entry of a queue is combined up to r times.
--- The switches stand stage by stage.
+-- k stages of switches, each with queues of c messages and wait buffers of b records. An entry of a queue is combined
+-- up to r times. The switches stand stage by stage.
 pub record NetworkLists : Type 0 where
   pub k : ℕ
   pub c : ℕ
@@ -44,7 +45,8 @@ requests_before n (suc s) w = at_output requests_at n s w
 unfoldable pub records_behind : NetworkLists → (stage wire : ℕ) → List Record
 records_behind n s w = at_output records_at n s w
 
--- the replies before a stage on a wire: the queue at the input that the wire goes to, or after the last stage the module's slot
+-- the replies before a stage on a wire: the queue at the input that the wire goes to, or after the last stage the
+-- module's slot
 unfoldable pub replies_before : NetworkLists → (depth wire : ℕ) → List Reply
 replies_before n d w =
     if d == n.k then slot_of n.module_slots w else
@@ -63,7 +65,8 @@ pub record IsSwitchOf (c b r its_bit : ℕ) (s : SwitchLists) : Type 0 where
   pub two_outputs : length s.outputs ≡ 2
   pub two_inputs : length s.inputs ≡ 2
   pub outputs : (out : ℕ) → out < 2 → (d : OutputLists) →
-      ((slice_index_or s.outputs out d).c ≡ c) × ((slice_index_or s.outputs out d).b ≡ b) × ((slice_index_or s.outputs out d).r ≡ r)
+      ((slice_index_or s.outputs out d).c ≡ c) × ((slice_index_or s.outputs out d).b ≡ b)
+      × ((slice_index_or s.outputs out d).r ≡ r)
 
 -- up to 64 processors and modules, each with a slot, and the switches of each stage, which go by that stage's bit
 pub record IsNetwork (n : NetworkLists) : Type 0 where

@@ -27,7 +27,8 @@ accepted_on z net s w x = accepted_where z net s w x (combination z.b z.r x (net
 
 abbrev pub answered_where : Sizes → Net → (s w : ℕ) → Reply → List Record → Answered × Net
 answered_where z net s w x records =
-    let all = push_all (wire_before z.k s w) s (answers records x) (put_records net s w (records_but x.leader (net.records s w))) in
+    let all = push_all (wire_before z.k s w) s (answers records x)
+    (put_records net s w (records_but x.leader (net.records s w))) in
     if has_room z.c (wire_before z.k s w) s all (answers records x) then (answered_for records, all) else (NoRoom, net)
 
 unfoldable pub answered_on : Sizes → Net → (s w : ℕ) → Reply → Answered × Net

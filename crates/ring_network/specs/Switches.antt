@@ -1,5 +1,6 @@
 -- What a contract sees of a `Switch`, and what it does with a request and with a reply.
-use Rattle.std.specs.Prelude.{◌≡◌, ℕ, Bool, true, ◌&&◌, nat_le, List, [], ◌∷◌, ◌++◌, length, slice_index_or, slice_set, if◌then◌else◌}
+use Rattle.std.specs.Prelude.{◌≡◌, ℕ, Bool, true, ◌&&◌, nat_le, List, [], ◌∷◌, ◌++◌, length, slice_index_or, slice_set}
+use Rattle.std.specs.Prelude.{if◌then◌else◌}
 use Rattle.omega_wires.specs.Wires.{bit}
 use Rattle.messages.specs.declared.message.Request.{Request}
 use Rattle.messages.specs.declared.message.Reply.{Reply}
@@ -11,8 +12,8 @@ use Rattle.combining_switch.specs.Outputs.{OutputLists}
 use Rattle.combining_switch.specs.Switches.{answered_for}
 use Rattle.ring_network.specs.Outputs.{IsEmptyOutput, empty_output}
 
--- Two outputs, and two inputs with a queue of up to c replies each. A reply goes to the input that a bit of its leader's
--- number names.
+-- Two outputs, and two inputs with a queue of up to c replies each. A reply goes to the input that a bit of its
+-- leader's number names.
 pub record SwitchLists : Type 0 where
   pub c : ℕ
   pub its_bit : ℕ
@@ -20,7 +21,12 @@ pub record SwitchLists : Type 0 where
   pub inputs : List (List Reply)
 
 abbrev pub empty_switch : (c b r its_bit : ℕ) → SwitchLists
-empty_switch c b r i = record { c = c; its_bit = i; outputs = empty_output c b r ∷ empty_output c b r ∷ []; inputs = [] ∷ [] ∷ [] }
+empty_switch c b r i = record {
+  c = c;
+  its_bit = i;
+  outputs = empty_output c b r ∷ empty_output c b r ∷ [];
+  inputs = [] ∷ [] ∷ [];
+}
 
 -- ---- outputs
 
@@ -54,7 +60,7 @@ replies_at inputs inp = slice_index_or inputs inp []
 abbrev pub with_inputs : SwitchLists → List (List Reply) → SwitchLists
 with_inputs s inputs = record { c = s.c; its_bit = s.its_bit; outputs = s.outputs; inputs = inputs }
 
--- a reply is put behind those at its leader's input
+-- a reply is put after those at its leader's input
 abbrev pub put_reply : (its_bit : ℕ) → List (List Reply) → Reply → List (List Reply)
 put_reply i inputs y = slice_set inputs (bit i y.leader) (replies_at inputs (bit i y.leader) ++ y ∷ [])
 
@@ -71,12 +77,13 @@ has_room c i inputs (y ∷ ys) = nat_le (length (replies_at inputs (bit i y.lead
 -- no request, no record and no reply
 abbrev pub IsEmptySwitch : SwitchLists → Type 0
 IsEmptySwitch s =
-    IsEmptyOutput (output_of s 0) × IsEmptyOutput (output_of s 1) × (replies_at s.inputs 0 ≡ []) × (replies_at s.inputs 1 ≡ [])
+    IsEmptyOutput (output_of s 0) × IsEmptyOutput (output_of s 1) × (replies_at s.inputs 0 ≡ [])
+    × (replies_at s.inputs 1 ≡ [])
 
 -- ---- a reply comes back
 
--- The leader's reply and those of its seconds are put, in the order of the combinations, and its records go; or there is no
--- room for all of them, and nothing changes.
+-- The leader's reply and those of its seconds are put, in the order of the combinations, and its records go; or there
+-- is no room for all of them, and nothing changes.
 abbrev pub answered_from : SwitchLists → (out : ℕ) → Reply → List Record → Answered × SwitchLists
 answered_from s out x records =
     let all = put_replies s.its_bit (answers records x) s.inputs in

@@ -1,6 +1,7 @@
 //! Networks.
 
-ghost use Rattle.std.specs.Prelude.{◌≡◌, ◌↔◌, ◌<◌, ◌≤◌, ◌^◌, ◌/◌, ◌%◌, ◌*◌, ◌+◌, suc, [], drop, length, slice_get, is_some, Some, All, IfOk, IsNone, IsTrue};
+ghost use Rattle.std.specs.Prelude.{◌≡◌, ◌↔◌, ◌<◌, ◌≤◌, ◌^◌, ◌/◌, ◌%◌, ◌*◌, ◌+◌, suc, [], drop, length, slice_get};
+ghost use Rattle.std.specs.Prelude.{is_some, Some, All, IfOk, IsNone, IsTrue};
 ghost use Rattle.std.specs.Option.{option_to_list};
 ghost use Rattle.omega_wires.specs.Wires.{switch_of};
 ghost use Rattle.messages.specs.Network.{IsEmptyNet, Sizes, put_replies, put_requests};
@@ -20,7 +21,8 @@ use std::alloc::{AllocError, Global};
 use std::marker::Model;
 
 /// A network of `k` stages, whose queues have room for `c` messages and whose wait buffers have room
-/// for `b` records. An entry of a queue is combined up to `r` times. Processors, modules and wires are numbered from 0, and stages too.
+/// for `b` records. An entry of a queue is combined up to `r` times. Processors, modules and wires are numbered from
+/// 0, and stages too.
 #[derive(Drop)]
 pub struct Network {
     slots: Vec<Option<Request>>,
@@ -60,7 +62,8 @@ impl Model for Network {
 
 impl Network {
     /// An empty network of `k` stages, 0 to 6, with queues of `c` messages, 2 to 16, and wait buffers
-    /// of `b` records, 0 to 16. An entry of a queue is combined up to `r` times, 1 to 3. With no stage the processor's slot is the module's.
+    /// of `b` records, 0 to 16. An entry of a queue is combined up to `r` times, 1 to 3. With no stage the processor's
+    /// slot is the module's.
     ///
     /// # Errors
     ///
@@ -130,7 +133,7 @@ impl Network {
     }
 
     /// Moves the first request on a wire before a stage: it is offered to the output that its word's
-    /// module lies behind.
+    /// module lies after.
     #[inline(always)]
     pub fn up(&mut self, stage: u8, wire: u8) -> UpMove
         requires stage { stage < self.old.k }

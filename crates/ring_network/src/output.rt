@@ -1,6 +1,7 @@
 //! One output of a switch.
 
-ghost use Rattle.std.specs.Prelude.{◌≡◌, ◌↔◌, ◌++◌, ◌<◌, ◌≤◌, drop, length, slice_get, slice_index_or, slice_set, IfOk, IfSome, IsTrue, OnSome, option_map};
+ghost use Rattle.std.specs.Prelude.{◌≡◌, ◌↔◌, ◌++◌, ◌<◌, ◌≤◌, drop, length, slice_get, slice_index_or, slice_set, IfOk};
+ghost use Rattle.std.specs.Prelude.{IfSome, IsTrue, OnSome, option_map};
 ghost use Rattle.circular_buffer.specs.Buffer.{buffer};
 ghost use Rattle.messages.specs.Queues.{answers, combination, combined_in, joint, records_of, records_but};
 ghost use Rattle.combining_switch.specs.Outputs.{accepted, combined, queued};
@@ -31,7 +32,13 @@ impl Model for Output {
 
     ghost Value = { OutputLists };
 
-    ghost view = { λ o. record { c = o.queue.capacity; b = o.waiting.limit; r = o.most_marks; requests = o.queue.items; records = o.waiting.records } };
+    ghost view = { λ o. record {
+      c = o.queue.capacity;
+      b = o.waiting.limit;
+      r = o.most_marks;
+      requests = o.queue.items;
+      records = o.waiting.records;
+    } };
 
     ghost invariant = { λ o. o.most_marks ≤ 3 };
 }
@@ -45,7 +52,8 @@ struct Partner {
 }
 
 impl Output {
-    /// An empty queue of up to `c` requests, each of which is combined up to `r` times, and an empty wait buffer of up to `b` records.
+    /// An empty queue of up to `c` requests, each of which is combined up to `r` times, and an empty wait buffer of up
+    /// to `b` records.
     pub fn new(alloc: Global, c: u8, b: u8, r: u8) -> Result<Self, AllocError>
         requires records { b ≤ 16 }
         requires combinations { r ≤ 3 }
@@ -90,7 +98,7 @@ impl Output {
         }
     }
 
-    /// Puts a request behind the others, if there is room.
+    /// Puts a request after the others, if there is room.
     fn enqueue(&mut self, request: Request) -> Accepted
         ensures answer { result ≡ (queued self.old request).0 }
         ensures after { self.new ≡ (queued self.old request).1 }
@@ -165,7 +173,14 @@ impl Output {
     /// Takes the first request of the queue.
     pub fn take(&mut self) -> Option<Request>
         ensures first { result ≡ slice_get self.old.requests 0 }
-        ensures after { self.new ≡ record { c = self.old.c; b = self.old.b; r = self.old.r; requests = drop 1 self.old.requests; records = self.old.records } }
+        ensures after { self.new
+            ≡ record {
+              c = self.old.c;
+              b = self.old.b;
+              r = self.old.r;
+              requests = drop 1 self.old.requests;
+              records = self.old.records;
+            } }
     {
         self.queue.pop_front()
     }
@@ -180,7 +195,13 @@ impl Output {
     /// Drops all records of a leader.
     pub fn forget(&mut self, leader: u8)
         ensures { self.new
-            ≡ record { c = self.old.c; b = self.old.b; r = self.old.r; requests = self.old.requests; records = records_but leader self.old.records } }
+            ≡ record {
+              c = self.old.c;
+              b = self.old.b;
+              r = self.old.r;
+              requests = self.old.requests;
+              records = records_but leader self.old.records;
+            } }
     {
         self.waiting.forget(leader);
     }
@@ -192,7 +213,8 @@ fn first_partner(
     most_marks: u8,
     request: &Request,
 ) -> Option<Partner>
-    ensures first { option_map (partnership queue.now.items request.now) result ≡ combined_in most_marks request.now queue.now.items }
+    ensures first { option_map (partnership queue.now.items request.now) result
+        ≡ combined_in most_marks request.now queue.now.items }
     ensures partner { IfSome result (IsPartner most_marks queue.now.items) }
 {
     for place in 0..queue.len() {
@@ -209,7 +231,8 @@ fn first_partner(
     None
 }
 
-/// The function of an entry and a request together, where the two combine: the entry was combined fewer than `most_marks` times.
+/// The function of an entry and a request together, where the two combine: the entry was combined fewer than
+/// `most_marks` times.
 #[tactic(auto, unfolding(messages::specs::Queues::joint))]
 fn joint(most_marks: u8, entry: &Request, request: &Request) -> Option<Phi>
     ensures { result ≡ joint most_marks request.now entry.now }

@@ -9,8 +9,8 @@ use messages::{Record, Reply};
 /// The leader's own reply, and one for each of its records, of which a wait buffer has 16 at most.
 pub type Replies = ArrayVec<Reply, 17>;
 
-/// The replies for a reply that comes back: the leader's own, and then one for the second of each of its records among these, in the
-/// order of their combinations.
+/// The replies for a reply that comes back: the leader's own, and then one for the second of each of its records among
+/// these, in the order of their combinations.
 pub(crate) fn replies_for(records: &[Record], reply: Reply) -> Replies
     requires { length records.now ≤ 16 }
     ensures { result.items ≡ answers (records_of reply.leader records.now) reply }

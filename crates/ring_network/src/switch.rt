@@ -1,6 +1,7 @@
 //! Switches.
 
-ghost use Rattle.std.specs.Prelude.{List, ◌≡◌, ◌↔◌, ◌+◌, ◌++◌, ◌<◌, ◌≤◌, drop, length, slice_get, slice_set, IfOk, IsTrue};
+ghost use Rattle.std.specs.Prelude.{List, ◌≡◌, ◌↔◌, ◌+◌, ◌++◌, ◌<◌, ◌≤◌, drop, length, slice_get, slice_set, IfOk};
+ghost use Rattle.std.specs.Prelude.{IsTrue};
 ghost use Rattle.messages.specs.declared.message.Reply.{Reply};
 ghost use Rattle.messages.specs.declared.message.Record.{Record};
 ghost use Rattle.messages.specs.Queues.{answers, records_but, records_of};
@@ -35,14 +36,20 @@ impl Model for Switch {
 
     ghost Value = { SwitchLists };
 
-    ghost view = { λ s. record { c = s.capacity; its_bit = s.its_bit; outputs = s.outputs; inputs = map (λ q. q.items) s.inputs } };
+    ghost view = { λ s. record {
+      c = s.capacity;
+      its_bit = s.its_bit;
+      outputs = s.outputs;
+      inputs = map (λ q. q.items) s.inputs;
+    } };
 
     ghost invariant = { λ s. (s.its_bit < 8) × (length s.inputs ≡ 2) × All (λ q. q.capacity ≡ s.capacity) s.inputs };
 }
 
 impl Switch {
     /// An empty switch with queues of up to `c` messages and wait buffers of up to `b` records, whose
-    /// replies go by bit `its_bit` of their leaders' numbers. An entry of a queue of requests is combined up to `r` times.
+    /// replies go by bit `its_bit` of their leaders' numbers. An entry of a queue of requests is combined up to `r`
+    /// times.
     ///
     /// # Errors
     ///
@@ -170,7 +177,9 @@ impl Switch {
     /// Whether there is room for all of these replies at their inputs.
     fn has_room(&self, replies: &[Reply]) -> bool
         ensures two { length self.now.inputs ≡ 2 }
-        ensures room { result ≡ has_room self.now.c self.now.its_bit (put_replies self.now.its_bit replies.now self.now.inputs) replies.now }
+        ensures room { result
+            ≡ has_room self.now.c self.now.its_bit (put_replies self.now.its_bit replies.now self.now.inputs)
+            replies.now }
     {
         count_for(self.its_bit, 0, replies) <= self.room_at(0)
             && count_for(self.its_bit, 1, replies) <= self.room_at(1)
@@ -185,10 +194,11 @@ impl Switch {
         queue.capacity() - queue.len()
     }
 
-    /// Puts each reply behind those at its leader's input, for which there must be room.
+    /// Puts each reply after those at its leader's input, for which there must be room.
     fn put_all(&mut self, replies: &[Reply])
         requires two { length self.old.inputs ≡ 2 }
-        requires room { IsTrue (has_room self.old.c self.old.its_bit (put_replies self.old.its_bit replies.now self.old.inputs) replies.now) }
+        requires room { IsTrue (has_room self.old.c self.old.its_bit
+            (put_replies self.old.its_bit replies.now self.old.inputs) replies.now) }
         ensures { self.new ≡ with_inputs self.old (put_replies self.old.its_bit replies.now self.old.inputs) }
     {
         for reply in replies {
@@ -196,7 +206,7 @@ impl Switch {
         }
     }
 
-    /// Puts a reply behind those at its leader's input, for which there must be room.
+    /// Puts a reply after those at its leader's input, for which there must be room.
     fn put(&mut self, reply: Reply)
         requires { length (replies_at self.old.inputs (bit self.old.its_bit reply.leader)) < self.old.c }
         ensures { self.new ≡ with_inputs self.old (put_reply self.old.its_bit self.old.inputs reply) }
@@ -217,7 +227,8 @@ impl Switch {
     pub fn reply_take(&mut self, inp: u8) -> Option<Reply>
         requires { inp < 2 }
         ensures first { result ≡ slice_get (replies_at self.old.inputs inp) 0 }
-        ensures after { self.new ≡ with_inputs self.old (slice_set self.old.inputs inp (drop 1 (replies_at self.old.inputs inp))) }
+        ensures after { self.new
+            ≡ with_inputs self.old (slice_set self.old.inputs inp (drop 1 (replies_at self.old.inputs inp))) }
     {
         self.inputs[usize::from(inp)].pop_front()
     }
@@ -235,7 +246,8 @@ impl Switch {
 
 /// Who is answered by these replies, of which the first is the leader's.
 fn outcome(replies: &[Reply]) -> Answered
-    ensures { (reply : Reply) (records : List Record) → replies.now ≡ answers records reply → result ≡ answered_for records }
+    ensures { (reply : Reply) (records : List Record) → replies.now ≡ answers records reply →
+        result ≡ answered_for records }
 {
     let seconds = match replies {
         [_, first, second, third, ..] => Seconds::Three(first.leader, second.leader, third.leader),

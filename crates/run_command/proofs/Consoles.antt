@@ -1,4 +1,4 @@
--- The passes of a run on threads tell what its processors have shown: each has stopped, none has a reference open, and what was sent to
+-- The passes of a run on threads say what its processors have shown: each has stopped, none has a reference open, and what was sent to
 -- the consoles is what the processors gave to them.
 use Rattle.std.proofs.Common.{◌≡◌, inl, inr, ℕ, ◌^◌, ◌<◌, false, List, [], ◌∷◌, ◌++◌, length, map, append_assoc, refl, sym, ap, ◌∙◌, subst, arith}
 use Rattle.std.specs.Prelude.{Option, Some, None, slice_get, slice_index_or}
@@ -9,20 +9,20 @@ use Rattle.flat_machine.specs.declared.config.Config.{Config}
 use Rattle.flat_machine.specs.declared.event.Event.{Event}
 use Rattle.flat_machine.specs.declared.event.Event.TheVariants as event
 use Rattle.machine_log.specs.machine_theory.Theory as theory
-use Rattle.machine_log.specs.machine_theory.Processors.{Told, open_at}
+use Rattle.machine_log.specs.machine_theory.Processors.{ObservedCore, open_at}
 use Rattle.machine_log.specs.machine_theory.Steps.{machine_of_parts}
 use Rattle.machine_steps.specs.serialization.Order.{from_machine}
 use Rattle.machine_steps.specs.steps.declared.step.Step.{Step}
 use Rattle.machine_steps.specs.Machines.{MachineLists, machine_of, IsIdle}
 use Rattle.machine_steps.specs.Runs.{all_after, events_of}
-use Rattle.machine_steps.specs.Laws.{EventsAreTold, RunsAreSerialized}
+use Rattle.machine_steps.specs.Laws.{EventsAreShown, RunsAreSerialized}
 use Rattle.machine_steps.proofs.Lemmas.{passes_machine}
-use Rattle.machine_log.specs.Logs.{Log, IsKept}
+use Rattle.machine_log.specs.Logs.{Log, IsWellFormed}
 use Rattle.machine_lock.specs.Laws.{EventsAreListed, StoppedAreShut}
-use Rattle.machine_lock.specs.Lists.{notices_of}
+use Rattle.machine_lock.specs.Lists.{pass_events_of}
 use Rattle.machine_lock.specs.Passes.{Held, IsWhole, rows_of}
 use Rattle.machine_lock.specs.Rows.{Fits}
-use Rattle.machine_lock.specs.declared.row.Notice.{Notice}
+use Rattle.machine_lock.specs.declared.row.PassEvent.{PassEvent}
 use Rattle.processor_threads.specs.console_monitor.Ends.{held_of}
 use Rattle.processor_threads.specs.Consoles.{console_bytes, console_of}
 use Rattle.processor_threads.specs.Endings.{EndsWithStop, IsOfMemory, WereMade}
@@ -30,7 +30,7 @@ use Rattle.processor_threads.specs.declared.fault.RunFault.{RunFault}
 use Rattle.processor_threads.specs.declared.fault.RunFault.TheVariants as run
 use Rattle.command_io.specs.Events.{shown_by, shown_from, with_event}
 use Rattle.command_io.specs.Tallies.{ShownBy, nothing_shown, with_byte}
-use Rattle.trace_commands.specs.Retaking.{AreConsoles, events_in}
+use Rattle.trace_commands.specs.CountedReplays.{AreConsoles, events_in}
 use Rattle.run_command.specs.ThreadRuns.{EndInStop, HasEnded}
 
 -- ---- what events give the console
@@ -53,29 +53,29 @@ shown_console events = shown_behind nothing_shown events
 
 -- ---- the passes
 
-abbrev event_of : Notice → Event
+abbrev event_of : PassEvent → Event
 event_of n = n.event
 
-map_last : (ns : List Notice) (n : Notice) → map event_of (ns ++ n ∷ []) ≡ map event_of ns ++ n.event ∷ []
+map_last : (ns : List PassEvent) (n : PassEvent) → map event_of (ns ++ n ∷ []) ≡ map event_of ns ++ n.event ∷ []
 map_last [] n = refl
 map_last (m ∷ ns) n = ap (λ es. m.event ∷ es) (map_last ns n)
 
-module _ (listed : EventsAreListed) (shut : StoppedAreShut) (serialized : RunsAreSerialized) (told : EventsAreTold) (log : Log) (kept : IsKept log)
+module _ (listed : EventsAreListed) (shut : StoppedAreShut) (serialized : RunsAreSerialized) (fact : EventsAreShown) (log : Log) (kept : IsWellFormed log)
     (hs : List Held) (whole : IsWhole (2 ^ log.opening.config.k) hs) (fits : Fits log.opening [] (2 ^ log.opening.config.k) log.steps (rows_of hs))
     (stopped : (p : ℕ) (h : Held) → slice_get hs p ≡ Some h → EndsWithStop h) where
   abbrev m : MachineLists
   m = log.opening
 
-  abbrev M : theory.Machine Told
+  abbrev M : theory.Machine ObservedCore
   M = machine_of m (λ p. [])
 
   -- what the steps give a processor
-  abbrev given : ℕ → List Notice
-  given p = notices_of m.config m.code p 0 M log.steps
+  abbrev given : ℕ → List PassEvent
+  given p = pass_events_of m.config m.code p 0 M log.steps
 
-  pass_is : (p : ℕ) (h : Held) → slice_get hs p ≡ Some h → h.row.notices ≡ given p
+  pass_is : (p : ℕ) (h : Held) → slice_get hs p ≡ Some h → h.row.pass_events ≡ given p
   unfolding all_after
-  pass_is p h at = (fits.each p h.row (slice_get-map (λ (g : Held). g.row) hs p ∙ ap (λ (o : Option Held). option_map (λ (g : Held). g.row) o) at)).notices
+  pass_is p h at = (fits.each p h.row (slice_get-map (λ (g : Held). g.row) hs p ∙ ap (λ (o : Option Held). option_map (λ (g : Held). g.row) o) at)).pass_events
 
   there : (p : ℕ) → p < 2 ^ m.config.k → (h : Held) × (slice_get hs p ≡ Some h)
   there p within = by hs (subst (λ n. p < n) (sym whole.many) within)
@@ -89,20 +89,20 @@ module _ (listed : EventsAreListed) (shut : StoppedAreShut) (serialized : RunsAr
   shut_is p within =
       let h = there p within in
       let s = stopped p h.0 h.1 in
-      ap (λ (N : theory.Machine Told). N.is_open p) (kept.replay.run.after (λ q. []))
+      ap (λ (N : theory.Machine ObservedCore). N.is_open p) (kept.replay.run.after (λ q. []))
       ∙ shut m.config m.code p 0 M log.steps s.before s.place s.cause fits.no_pokes (sym (pass_is p h.0 h.1) ∙ s.is)
 
   pub idle_is : IsIdle log.machine
   idle_is p within = shut_is p (subst (λ (c : Config). p < 2 ^ c.k) kept.replay.run.config within)
 
   -- its pass has the events that it has shown
-  events_are : (p : ℕ) → p < 2 ^ m.config.k → (h : Held) → slice_get hs p ≡ Some h → map event_of h.row.notices ≡ events_in m log.steps p
+  events_are : (p : ℕ) → p < 2 ^ m.config.k → (h : Held) → slice_get hs p ≡ Some h → map event_of h.row.pass_events ≡ events_in m log.steps p
   events_are p within h at =
       ap (map event_of) (pass_is p h at)
       ∙ listed m.config m.code p 0 M log.steps
-      ∙ (told m log.steps log.machine kept.opens kept.idle kept.replay.run).shut p (shut_is p within)
+      ∙ (fact m log.steps log.machine kept.opens kept.idle kept.replay.run).shut p (shut_is p within)
       ∙ sym ((serialized m log.steps log.machine kept.opens kept.idle kept.sound kept.replay.run).shown idle_is p)
-      ∙ ap (λ (N : theory.Machine Told). events_of N p) (passes_machine m.config m.code log.steps (from_machine M))
+      ∙ ap (λ (N : theory.Machine ObservedCore). events_of N p) (passes_machine m.config m.code log.steps (from_machine M))
 
   stop_is : (p : ℕ) → p < 2 ^ m.config.k → EndInStop (events_in m log.steps p)
   stop_is p within =
@@ -128,12 +128,12 @@ module _ (listed : EventsAreListed) (shut : StoppedAreShut) (serialized : RunsAr
     each = λ p within. ap (λ (cs : List (List ℕ)). slice_index_or cs p []) sent ∙ console_is p within;
   }
 
--- a run that began behind no step, with as many passes as there are processors
-pub has_ended : EventsAreListed → StoppedAreShut → RunsAreSerialized → EventsAreTold → (opening : MachineLists) (first : List Step) (count : ℕ) →
-    first ≡ [] → count ≡ 2 ^ opening.config.k → (log : Log) → log.opening ≡ opening → IsKept log → (hs : List Held) → IsWhole count hs →
+-- a run that began after no step, with as many passes as there are processors
+pub has_ended : EventsAreListed → StoppedAreShut → RunsAreSerialized → EventsAreShown → (opening : MachineLists) (first : List Step) (count : ℕ) →
+    first ≡ [] → count ≡ 2 ^ opening.config.k → (log : Log) → log.opening ≡ opening → IsWellFormed log → (hs : List Held) → IsWhole count hs →
     Fits opening first count log.steps (rows_of hs) → ((p : ℕ) (h : Held) → slice_get hs p ≡ Some h → EndsWithStop h) →
     (consoles : List (List ℕ)) → consoles ≡ map console_of hs → HasEnded opening log consoles
-has_ended listed shut serialized told opening first count none all log is kept hs whole fits stopped consoles sent =
+has_ended listed shut serialized fact opening first count none all log is kept hs whole fits stopped consoles sent =
     let n : count ≡ 2 ^ log.opening.config.k = all ∙ ap (λ (m : MachineLists). 2 ^ m.config.k) (sym is) in
     let every : IsWhole (2 ^ log.opening.config.k) hs = subst (λ i. IsWhole i hs) n whole in
     let fit : Fits log.opening [] (2 ^ log.opening.config.k) log.steps (rows_of hs) =
@@ -143,9 +143,9 @@ has_ended listed shut serialized told opening first count none all log is kept h
       kept = kept;
       no_pokes = fit.no_pokes;
       named = fit.named;
-      stopped = stop_is listed shut serialized told log kept hs every fit stopped;
-      idle = idle_is listed shut serialized told log kept hs every fit stopped;
-      heard = consoles_are listed shut serialized told log kept hs every fit stopped consoles sent;
+      stopped = stop_is listed shut serialized fact log kept hs every fit stopped;
+      idle = idle_is listed shut serialized fact log kept hs every fit stopped;
+      heard = consoles_are listed shut serialized fact log kept hs every fit stopped consoles sent;
     }
 
 -- a run without a fault had its passes made

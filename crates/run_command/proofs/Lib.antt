@@ -3,3 +3,4 @@ pub mod OneRun
 pub mod Consoles
 pub mod Records
 pub mod Logging
+pub mod Sizes

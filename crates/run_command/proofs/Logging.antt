@@ -1,4 +1,4 @@
--- What the log of a run on threads tells, and why there is none.
+-- What the log of a run on threads says, and why there is none.
 use Rattle.std.proofs.Common.{◌≡◌, ℕ, List, Option, ◌∙◌, ap, sym, subst}
 use Rattle.flat_machine.specs.declared.config.Config.{Config}
 use Rattle.flat_machine.specs.Limits.{IsWithinLimits}
@@ -17,6 +17,7 @@ use Rattle.run_command.proofs.Records.{have_records}
 
 module _ (c : Config) (known : Option (List ℕ)) (image : ImageContents) (log : Log) (consoles : List (List ℕ))
     (is : IsThreaded c known image log consoles) where
+  -- The opening of the log of a run on threads is a machine that opens on the image.
   pub log_opens : IsOpening c image log.opening
   log_opens = subst (IsOpening c image) (sym is.ended.opening_is) is.opens
 

@@ -9,7 +9,7 @@ use Rattle.schedules.specs.Sweeps.{IsWholeRun, most_of}
 use Rattle.schedules.specs.declared.sweeping.SweepEnd.{SweepEnd}
 use Rattle.schedules.specs.declared.sweeping.SweepEnd.TheVariants.{Over}
 use Rattle.elf_image.specs.Files.{IsImageOf}
-use Rattle.trace_commands.specs.Accounts.{IsReportOf, IsReportedRun}
+use Rattle.trace_commands.specs.TraceReports.{IsReportOf, IsReportedRun}
 use Rattle.run_command.specs.SweepRuns.{IsFinishedRun}
 
 abbrev OneLayout : Type 0
@@ -49,6 +49,7 @@ module _ (one_layout : OneLayout) (one_log : OneLog) (one_report : OneReport) (c
   report_is : IsReportOf c image steps other another
   report_is = subst (λ ss. IsReportOf c image ss other another) (sym steps_are) (subst (λ i. IsReportOf c i others other another) image_is b.report)
 
+  -- Two finished runs of one size, budget and file have the same steps, the same report and the same exit status.
   pub one_run : (steps ≡ others) × (text ≡ other) × (status ≡ another)
   one_run =
       let report = one_report c image steps text other status another a.report report_is in

@@ -17,6 +17,7 @@ has_record c (step.Serve m) own named = named
 has_record c (step.Down s w) own named = named
 has_record c (step.Poke q) own named = absurd (cc)
 
+-- Steps that name places of the machine, and none of which writes from outside, have records.
 pub have_records : (c : Config) (steps : List Step) → no_poke steps ≡ true → all_named c steps ≡ true → HaveRecords c.k steps
 have_records c [] own named = All-nil (HasRecord c.k)
 have_records c (s ∷ ss) own named =

@@ -7,14 +7,14 @@ use Rattle.elf_image.specs.Images.{ImageContents}
 use Rattle.schedules.specs.trace_file.Traces.{HaveRecords, IsTrace, trace_of}
 use Rattle.machine_steps.specs.Machines.{MachineLists}
 use Rattle.machine_steps.specs.Runs.{IsOpening}
-use Rattle.machine_log.specs.Logs.{Log, IsKept}
+use Rattle.machine_log.specs.Logs.{Log, IsWellFormed}
 use Rattle.schedules.specs.Sweeps.{IsSwept, most_of, opened}
 use Rattle.schedules.specs.declared.sweeping.SweepEnd.{SweepEnd}
 use Rattle.trace_commands.proofs.Lemmas.{is_spelled}
 use Rattle.run_command.specs.SweepRuns.{IsRunOf}
 
 module _ (c : Config) (budget : ℕ) (known : Option (List ℕ)) (image : ImageContents) (meant : IsImageOf c.shared_words known image) (m : MachineLists)
-    (opens : IsOpening c image m) (old log : Log) (starts : old ≡ opened m) (kept : IsKept log) (end : SweepEnd)
+    (opens : IsOpening c image m) (old log : Log) (starts : old ≡ opened m) (kept : IsWellFormed log) (end : SweepEnd)
     (swept : IsSwept (most_of budget) old end log) where
   opening_is : log.opening ≡ m
   opening_is = swept.opening ∙ ap (λ (l : Log). l.opening) starts
@@ -22,6 +22,7 @@ module _ (c : Config) (budget : ℕ) (known : Option (List ℕ)) (image : ImageC
   config_is : log.machine.config ≡ c
   config_is = kept.replay.run.config ∙ ap (λ (n : MachineLists). n.config) opening_is ∙ opens.config
 
+  -- A log that has followed the sweep from the machine's opening on is that of a run of the image.
   pub run_of : IsRunOf c budget known end image log
   run_of = record {
     meant = meant;
@@ -32,6 +33,7 @@ module _ (c : Config) (budget : ℕ) (known : Option (List ℕ)) (image : ImageC
     };
   }
 
+  -- If the steps of the log have records, a trace can have them.
   pub trace_is : (HaveRecords old.machine.config.k old.steps → HaveRecords log.machine.config.k log.steps) → IsTrace (trace_of c log.steps)
   trace_is records =
       is_spelled c log.steps (subst IsWithinLimits config_is kept.sound.limits) kept.room

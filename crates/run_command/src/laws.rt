@@ -3,7 +3,7 @@
 ghost use Rattle.std.specs.Prelude.{◌≡◌, ℕ, List, Some};
 ghost use Rattle.flat_machine.specs.declared.config.Config.{Config};
 ghost use Rattle.machine_steps.specs.steps.declared.step.Step.{Step};
-ghost use Rattle.trace_commands.specs.Accounts.{IsReportedRun};
+ghost use Rattle.trace_commands.specs.TraceReports.{IsReportedRun};
 ghost use Rattle.run_command.specs.SweepRuns.{IsFinishedRun};
 
 use elf_image::input_means_one_layout;
@@ -13,8 +13,10 @@ use trace_commands::steps_have_one_report;
 /// The steps of a run, its report and its exit status are a function of the machine's size, the budget and
 /// the bytes of the image's file: the same run comes out each time.
 pub fn runs_have_one_report()
-    ensures { (c : Config) (budget : ℕ) (file : List ℕ) (steps others : List Step) (text other : List ℕ) (status another : ℕ) →
-        IsReportedRun (IsFinishedRun c budget (Some file)) c steps text status → IsReportedRun (IsFinishedRun c budget (Some file)) c others other another →
+    ensures { (c : Config) (budget : ℕ) (file : List ℕ) (steps others : List Step) (text other : List ℕ)
+        (status another : ℕ) →
+        IsReportedRun (IsFinishedRun c budget (Some file)) c steps text status →
+        IsReportedRun (IsFinishedRun c budget (Some file)) c others other another →
         (steps ≡ others) × (text ≡ other) × (status ≡ another) }
 {
     input_means_one_layout();

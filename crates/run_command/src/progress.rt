@@ -4,17 +4,17 @@ use processor_threads::Gate;
 use std::sync::atomic::{AtomicU64, Ordering};
 use std::time::{Clock, Instant};
 
-/// How many milliseconds a line stands at least, before it is written anew.
+/// How many milliseconds a line stands at least, before it is written again.
 const LEAST: u64 = 1000;
 
-/// A gate that stands open, and tells on a terminal how far the run is: how many rounds all threads have gone through, and how many
-/// instructions have been retired, without what a thread has not told yet. There is one line, which is written anew at most once a
-/// second, and not in the first. It is gone once the threads have ended.
+/// A gate that stands open, and says on a terminal how far the run is: how many rounds all threads have gone through,
+/// and how many instructions have been retired, without what a thread has not reported yet. There is one line, which
+/// is written again at most once a second, and not in the first. It is gone once the threads have ended.
 #[derive(Drop)]
 pub struct Progress<'a, C: Clock, E: Eprint> {
     clock: &'a C,
     terminal: &'a E,
-    /// None where the clock cannot be read: nothing is told then.
+    /// None where the clock cannot be read: nothing is reported then.
     begun: Option<Instant>,
     rounds: AtomicU64,
     retired: AtomicU64,

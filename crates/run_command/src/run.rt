@@ -1,15 +1,17 @@
 //! A run of an image on threads.
 
 ghost use Rattle.std.specs.Prelude.{◌≡◌, ◌^◌, [], IfErr, IfOk, map, vec_len};
+ghost use Rattle.std.specs.List.{range_with_len};
+ghost use Rattle.schedules.specs.Choices.{first_state};
 ghost use Rattle.processor_threads.specs.Consoles.{bytes_of};
 ghost use Rattle.run_command.specs.Faults.{IsOfRun, fault_of};
 ghost use Rattle.run_command.specs.ThreadRuns.{HasEnded, IsNotThreaded, IsSomeThreaded};
 
-use command_io::{Fault, image_of, machine_of};
+use command_io::{Fault, image_in, machine_of};
 use flat_machine::Config;
-use ghost_map::Room;
-use machine_lock::{Row, Run, events_are_listed, stopped_are_shut};
-use machine_log::{Logged, log_is_kept};
+use ghost_map::NewTable;
+use machine_lock::{PassState, Run, events_are_listed, stopped_are_shut};
+use machine_log::{Logged, log_is_well_formed};
 use machine_steps::runs_are_serialized;
 use processor_threads::{Gate, RunFault, run_threads};
 use schedules::Shuffled;
@@ -27,13 +29,14 @@ pub(crate) struct Finished {
     pub(crate) consoles: Vec<Vec<u8>>,
 }
 
-/// Runs the image that a file is on a machine of this size, on threads, so many rounds each at most. They pass the gate.
+/// Runs the image that a file is on a machine of this size, on threads, this many rounds each at most. They pass the
+/// gate.
 ///
 /// # Errors
 ///
-/// [`Fault::Image`] where the file is refused or cannot be read, [`Fault::Size`] where the size is out of its limits, what the run ends
-/// with, and [`Fault::Memory`].
-pub(crate) fn ran<F: Read + Drop, G: Gate + Sync, R: Threads + Wait + Sync>(
+/// [`Fault::Image`] where the file is refused or cannot be read, [`Fault::Size`] where the size is out of its limits,
+/// what the run ends with, and [`Fault::Memory`].
+pub(crate) fn run_to_log<F: Read + Drop, G: Gate + Sync, R: Threads + Wait + Sync>(
     rt: &R,
     alloc: Global,
     file: F,
@@ -42,19 +45,21 @@ pub(crate) fn ran<F: Read + Drop, G: Gate + Sync, R: Threads + Wait + Sync>(
     gate: &G,
     budget: u32,
 ) -> Result<Finished, Fault>
-    ensures ran { IfOk result (λ f. IsSomeThreaded config (F.remaining file) f.log (map bytes_of f.consoles.items)) }
+    ensures run_to_log { IfOk result (λ f. IsSomeThreaded config (F.remaining file) f.log
+        (map bytes_of f.consoles.items)) }
     ensures refused { IfErr result (IsNotThreaded config (F.remaining file)) }
 {
-    let image = image_of(alloc, file, &config)?;
+    let image = image_in(alloc, file, &config)?;
     let log = Logged::new(alloc, machine_of(alloc, image, config)?);
-    let room = Room::new(alloc)?;
+    let room = NewTable::new(alloc)?;
     let arbiters = arbiters(alloc, start, log.machine().config().processors())?;
-    threaded::<Brand, G, R>(rt, alloc, room, log, arbiters, gate, budget)
+    run_on_threads::<Brand, G, R>(rt, alloc, room, log, arbiters, gate, budget)
 }
 
-/// The arbiters of so many processors, in a run that begins with this number.
+/// The arbiters of this many processors, in order: each begins with the run's number and its processor's.
 fn arbiters(alloc: Global, start: u32, processors: u8) -> Result<Vec<Shuffled>, AllocError>
-    ensures { IfOk result (λ arbiters. vec_len arbiters ≡ processors) }
+    ensures states { IfOk result (λ arbiters. arbiters.items ≡ map (first_state start) (range_with_len 0 processors)) }
+    ensures many { IfOk result (λ arbiters. vec_len arbiters ≡ processors) }
 {
     let mut arbiters = Vec::new(alloc);
     for p in 0..processors {
@@ -64,10 +69,10 @@ fn arbiters(alloc: Global, start: u32, processors: u8) -> Result<Vec<Shuffled>, 
 }
 
 /// Runs a log that has no steps on threads, which pass the gate.
-fn threaded<N: Run + Send + Sync, G: Gate + Sync, R: Threads + Wait + Sync>(
+fn run_on_threads<N: Run + Send + Sync, G: Gate + Sync, R: Threads + Wait + Sync>(
     rt: &R,
     alloc: Global,
-    room: Room<Row>,
+    room: NewTable<PassState>,
     log: Logged,
     arbiters: Vec<Shuffled>,
     gate: &G,
@@ -82,7 +87,7 @@ fn threaded<N: Run + Send + Sync, G: Gate + Sync, R: Threads + Wait + Sync>(
     ensures fault { IfErr result IsOfRun }
 {
     let ended = run_threads::<N, Shuffled, G, R>(rt, alloc, room, log, arbiters, gate, budget);
-    log_is_kept(&ended.logged);
+    log_is_well_formed(&ended.logged);
     runs_are_serialized();
     events_are_listed();
     stopped_are_shut();
@@ -95,12 +100,13 @@ fn threaded<N: Run + Send + Sync, G: Gate + Sync, R: Threads + Wait + Sync>(
     }
 }
 
-/// How the fault of a run is told.
+/// How the fault of a run is reported. That a thread was cancelled is no run's fault: it is for the fault of another,
+/// which is reported.
 fn fault_of(fault: RunFault) -> Fault
     ensures { result ≡ fault_of fault }
 {
     match fault {
-        RunFault::Memory | RunFault::Console => Fault::Memory,
+        RunFault::Memory | RunFault::Console | RunFault::Cancelled => Fault::Memory,
         RunFault::Full => Fault::Full,
         RunFault::Loan => Fault::Loan,
         RunFault::Budget => Fault::Budget,

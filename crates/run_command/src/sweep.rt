@@ -1,15 +1,16 @@
 //! `ultra run --sweep`: from the bytes of an image to the report of its run.
 
 ghost use Rattle.std.specs.Prelude.{◌≡◌, ◌≤◌, ◌↔◌, true, false, IfOk, IfErr, IsErrOf, OnErr};
-ghost use Rattle.trace_commands.specs.Accounts.{IsRunReport, IsWorking};
-ghost use Rattle.trace_commands.specs.Causes.{IsNoRun};
-ghost use Rattle.command_io.specs.Printing.{IsPrinted, IsTold};
-ghost use Rattle.run_command.specs.SweepRuns.{IsFinishedRun, IsNotRun, IsSomeFinishedRun};
+ghost use Rattle.trace_commands.specs.TraceReports.{IsRunReport, IsWorking};
+ghost use Rattle.trace_commands.specs.Causes.{RunFails};
+ghost use Rattle.command_io.specs.FaultTexts.{IsReported};
+ghost use Rattle.command_io.specs.Printing.{Prints, ReportsFault};
+ghost use Rattle.run_command.specs.SweepRuns.{IsFinishedRun, RunItselfFails, IsSomeFinishedRun};
 
-use command_io::{Fault, image_of, machine_of, tell};
+use command_io::{Fault, image_in, machine_of, report_fault};
 use flat_machine::Config;
 use link::LinkWrite;
-use machine_log::{Logged, log_is_kept};
+use machine_log::{Logged, log_is_well_formed};
 use schedules::{SweepEnd, follow_sweep};
 use std::alloc::Global;
 use std::io::{Read, Write};
@@ -21,7 +22,7 @@ use trace_commands::print_run;
 /// is written before the report.
 ///
 /// Answers the exit status: 0 where the report is printed, 1 where it is and a processor is faulted, else
-/// that of the fault that is told on standard error. A fault is told in this order: of the image, of the
+/// that of the fault that is reported on standard error. A fault is reported in this order: of the image, of the
 /// machine's size, of the run, of the trace, of the report.
 pub fn run_command<R: Read + Drop, T: LinkWrite, W: LinkWrite, E: Write>(
     alloc: Global,
@@ -34,21 +35,26 @@ pub fn run_command<R: Read + Drop, T: LinkWrite, W: LinkWrite, E: Write>(
 ) -> u8
     requires works { IsWorking T.has_failed trace.old }
     requires prints { W.has_failed out.old ≡ false }
-    ensures reported { result ≤ 1 → IsPrinted (IsRunReport T.contents (IsFinishedRun config budget (R.remaining file)) config trace.old trace.new result)
+    ensures reported { result ≤ 1 →
+        Prints (IsRunReport T.contents (IsFinishedRun config budget
+        (R.remaining file)) config trace.old trace.new result)
         (W.contents out.old) (W.contents out.new) }
-    ensures told { 2 ≤ result → IsTold W.has_failed Fault.Link ⊥
-        (IsNoRun T.contents (IsFinishedRun config budget (R.remaining file)) (IsNotRun config budget (R.remaining file)) config trace.old trace.new
-        (W.contents out.old) (W.contents out.new)) out.old out.new result }
+    ensures fault { 2 ≤ result → ReportsFault W.has_failed Fault.Link ⊥
+        (RunFails T.contents (IsFinishedRun config budget (R.remaining file)) (RunItselfFails config budget
+        (R.remaining file)) config trace.old trace.new
+        (W.contents out.old) (W.contents out.new))
+        (IsReported (E.contents err.old) (E.contents err.new)) out.old out.new result }
     ensures failed { W.has_failed out.new ≡ true → result ≡ 3 }
+    ensures quiet { result ≤ 1 → err.new ≡ err.old }
 {
-    match carried_out(alloc, file, config, budget, trace, out) {
+    match execute(alloc, file, config, budget, trace, out) {
         Ok(status) => status,
-        Err(fault) => tell(fault, err),
+        Err(fault) => report_fault(fault, err),
     }
 }
 
 /// Carries the command out.
-fn carried_out<R: Read + Drop, T: LinkWrite, W: LinkWrite>(
+fn execute<R: Read + Drop, T: LinkWrite, W: LinkWrite>(
     alloc: Global,
     file: R,
     config: Config,
@@ -59,31 +65,37 @@ fn carried_out<R: Read + Drop, T: LinkWrite, W: LinkWrite>(
     requires works { IsWorking T.has_failed trace.old }
     requires prints { W.has_failed out.old ≡ false }
     ensures failed { IsErrOf result Fault.Link ↔ (W.has_failed out.new ≡ true) }
-    ensures reported { IfOk result (λ status. IsPrinted
+    ensures reported { IfOk result (λ status. Prints
         (IsRunReport T.contents (IsFinishedRun config budget (R.remaining file)) config trace.old trace.new status)
         (W.contents out.old) (W.contents out.new)) }
     ensures low { IfOk result (λ status. status ≤ 1) }
-    ensures told { IfErr result
-        (IsNoRun T.contents (IsFinishedRun config budget (R.remaining file)) (IsNotRun config budget (R.remaining file)) config trace.old trace.new
+    ensures fault { IfErr result
+        (RunFails T.contents (IsFinishedRun config budget (R.remaining file)) (RunItselfFails config budget
+        (R.remaining file)) config trace.old trace.new
         (W.contents out.old) (W.contents out.new)) }
     ensures silent { OnErr result (W.has_failed out.new ≡ false → out.new ≡ out.old) }
 {
-    let log = ran(alloc, file, config, budget)?;
+    let log = run_to_log(alloc, file, config, budget)?;
     print_run(alloc, &log, None, trace, out)
 }
 
 /// The log of a run.
-fn ran<R: Read + Drop>(alloc: Global, file: R, config: Config, budget: u32) -> Result<Logged, Fault>
-    ensures ran { IfOk result (IsSomeFinishedRun config budget (R.remaining file)) }
-    ensures refused { IfErr result (IsNotRun config budget (R.remaining file)) }
+fn run_to_log<R: Read + Drop>(
+    alloc: Global,
+    file: R,
+    config: Config,
+    budget: u32,
+) -> Result<Logged, Fault>
+    ensures run_to_log { IfOk result (IsSomeFinishedRun config budget (R.remaining file)) }
+    ensures refused { IfErr result (RunItselfFails config budget (R.remaining file)) }
 {
-    let image = image_of(alloc, file, &config)?;
+    let image = image_in(alloc, file, &config)?;
     let mut log = Logged::new(alloc, machine_of(alloc, image, config)?);
     let Ok(end) = follow_sweep(&mut log, budget) else {
         // A new log has room for the longest run, so memory is all that it can want.
         return Err(Fault::Memory);
     };
-    log_is_kept(&log);
+    log_is_well_formed(&log);
     match end {
         SweepEnd::Over => Ok(log),
         SweepEnd::Budget => Err(Fault::Budget),

@@ -1,12 +1,12 @@
 -- Counts go on with each step.
-use Rattle.std.proofs.Common.{◌≡◌, ℕ, suc, ◌+◌, ◌<◌, ◌⊎◌, inl, inr, List, [], ◌∷◌, ◌++◌, length, Option, Some, None, refl, sym, ap, ◌∙◌, subst, arith}
-use Rattle.std.specs.Prelude.{slice_set, slice_index, slice_index_or, replicate, ◌==◌, if◌then◌else◌}
+use Rattle.std.proofs.Common.{◌≡◌, ℕ, ◌+◌, ◌<◌, ◌⊎◌, inl, inr, List, [], ◌∷◌, ◌++◌, length, Option, Some, None, refl, sym, ap, ◌∙◌, subst, arith}
+use Rattle.std.specs.Prelude.{slice_set, slice_index, replicate}
 use Rattle.std.proofs.lemmas.List.{get_or-set_same, get_or-set_other, get_or-replicate, length-append, length-replicate, length-set}
 use Rattle.std.proofs.lemmas.Bool.{cases_eq}
 use Rattle.steps.specs.Answered.{Answer}
 use Rattle.steps.specs.Groups.{groups_after, groups_from, groups_of, no_groups}
-use Rattle.run_counts.specs.Counting.{AreTimes, Noted, NotesGoOn, bumped, hit, note, noted_from, noted_of, size_of, times}
-use Rattle.run_counts.specs.Counts.{AreCounts, CountsGoOn, CountsState, counts_after, no_counts}
+use Rattle.run_counts.specs.Counting.{AreTimes, Noted, NotesGoOn, bumped, hit, observe, noted_from, noted_of, size_of, times}
+use Rattle.run_counts.specs.Counts.{CountsGoOn}
 use Rattle.run_counts.specs.Keys as key
 
 -- ---- one count
@@ -63,6 +63,7 @@ module _ (key : Noted → Option ℕ) (places : ℕ) (xs : List Noted) (counts :
 
 -- ---- all counts
 
+-- The counts of no steps are zero, and counts of some steps, after one step more, are those of all of them.
 pub counts_more : CountsGoOn
 counts_more = record {
   none = record {
@@ -93,12 +94,14 @@ counts_more = record {
 
 -- ---- notes
 
-noted_more : (groups : List (List ℕ)) (told : List Answer) (a : Answer) →
-    noted_from groups (told ++ a ∷ []) ≡ noted_from groups told ++ note a.step a.outcome (size_of (groups_from groups told) a.outcome) ∷ []
+noted_more : (groups : List (List ℕ)) (given_answers : List Answer) (a : Answer) →
+    noted_from groups (given_answers ++ a ∷ []) ≡ noted_from groups given_answers
+    ++ observe a.step a.outcome (size_of (groups_from groups given_answers) a.outcome) ∷ []
 noted_more groups [] a = refl
-noted_more groups (x ∷ told) a =
-    ap (λ rest. note x.step x.outcome (size_of groups x.outcome) ∷ rest) (noted_more (groups_after groups x.step x.outcome) told a)
+noted_more groups (x ∷ given_answers) a =
+    ap (λ rest. observe x.step x.outcome (size_of groups x.outcome) ∷ rest) (noted_more (groups_after groups x.step x.outcome) given_answers a)
 
+-- No answers give no notes, and one answer more gives one note more, after the others.
 pub notes_more : NotesGoOn
 unfolding noted_of groups_of
-notes_more = record { none = refl; more = λ told a. noted_more no_groups told a }
+notes_more = record { none = refl; more = λ given_answers a. noted_more no_groups given_answers a }

@@ -1,5 +1,6 @@
 -- What a count is: how often, in a list of what steps did, a key names its place.
-use Rattle.std.specs.Prelude.{◌≡◌, ℕ, ◌+◌, ◌<◌, ◌≤◌, ◌^◌, ◌==◌, All, List, [], ◌∷◌, ◌++◌, Option, Some, None, length, slice_index, slice_set, if◌then◌else◌}
+use Rattle.std.specs.Prelude.{◌≡◌, ℕ, ◌+◌, ◌<◌, ◌≤◌, ◌^◌, ◌==◌, All, List, [], ◌∷◌, ◌++◌, Option, Some, None, length}
+use Rattle.std.specs.Prelude.{slice_index, slice_set, if◌then◌else◌}
 use Rattle.steps.specs.declared.step.Step.{Step}
 use Rattle.steps.specs.declared.step.Outcome.{Outcome}
 use Rattle.steps.specs.declared.step.Outcome.TheVariants.{Served}
@@ -12,8 +13,8 @@ pub record Noted : Type 0 where
   pub outcome : Outcome
   pub size : ℕ
 
-abbrev pub note : Step → Outcome → (size : ℕ) → Noted
-note s o size = record { step = s; outcome = o; size = size }
+abbrev pub observe : Step → Outcome → (size : ℕ) → Noted
+observe s o size = record { step = s; outcome = o; size = size }
 
 -- for how many a reference was served, with the groups before it
 abbrev pub size_of : List (List ℕ) → Outcome → ℕ
@@ -22,7 +23,9 @@ size_of groups _ = 0
 
 abbrev pub noted_from : List (List ℕ) → List Answer → List Noted
 noted_from groups [] = []
-noted_from groups (a ∷ told) = note a.step a.outcome (size_of groups a.outcome) ∷ noted_from (groups_after groups a.step a.outcome) told
+noted_from groups (a ∷ given_answers) =
+    observe a.step a.outcome (size_of groups a.outcome) ∷ noted_from
+    (groups_after groups a.step a.outcome) given_answers
 
 -- what the steps of a run did
 unfoldable pub noted_of : List Answer → List Noted
@@ -40,24 +43,24 @@ abbrev pub times : (key : Noted → Option ℕ) → (place : ℕ) → List Noted
 times key place [] = 0
 times key place (x ∷ xs) = hit (key x) place + times key place xs
 
--- These are so many counts, each of how often its place is named.
-pub record AreTimes (key : Noted → Option ℕ) (places : ℕ) (noted : List Noted) (counts : List ℕ) : Type 0 where
+-- These are this many counts, each of how often its place is named.
+pub record AreTimes (key : Noted → Option ℕ) (places : ℕ) (observed : List Noted) (counts : List ℕ) : Type 0 where
   pub all : length counts ≡ places
-  pub each : (place : ℕ) → place < places → slice_index counts place ≡ times key place noted
+  pub each : (place : ℕ) → place < places → slice_index counts place ≡ times key place observed
 
 -- ---- counts that go up
 
 pub record CountersState : Type 0 where
   pub counts : List ℕ
-  pub noted : ℕ
+  pub observed : ℕ
 
 -- no count is above the number of steps
 abbrev pub AreFew : CountersState → Type 0
-AreFew c = All (λ (n : ℕ). n ≤ c.noted) c.counts
+AreFew c = All (λ (n : ℕ). n ≤ c.observed) c.counts
 
 -- there is room for one more at each
 abbrev pub AreBelow : CountersState → Type 0
-AreBelow c = All (λ (n : ℕ). n < c.noted) c.counts × (c.noted < 2 ^ 64)
+AreBelow c = All (λ (n : ℕ). n < c.observed) c.counts × (c.observed < 2 ^ 64)
 
 abbrev pub bumped_at : List ℕ → (place : ℕ) → List ℕ
 bumped_at counts place = slice_set counts place (slice_index counts place + 1)
@@ -68,8 +71,9 @@ bumped counts (Some place) = bumped_at counts place
 
 -- ---- a law
 
--- One answer more is one step more, with the groups behind the others.
+-- One answer more is one step more, with the groups after the others.
 pub record NotesGoOn : Type 0 where
   pub none : noted_of [] ≡ []
-  pub more : (told : List Answer) (a : Answer) →
-      noted_of (told ++ a ∷ []) ≡ noted_of told ++ note a.step a.outcome (size_of (groups_of told) a.outcome) ∷ []
+  pub more : (given_answers : List Answer) (a : Answer) →
+      noted_of (given_answers ++ a ∷ []) ≡ noted_of given_answers
+      ++ observe a.step a.outcome (size_of (groups_of given_answers) a.outcome) ∷ []

@@ -13,7 +13,7 @@ pub record CountsState : Type 0 where
   pub split : List ℕ
   pub served : List ℕ
   pub groups : List ℕ
-  pub noted : ℕ
+  pub observed : ℕ
 
 -- the most stages, the most processors, and as many modules with groups of 0 to 64 processors
 abbrev pub no_counts : CountsState
@@ -27,7 +27,7 @@ no_counts = record {
   split = replicate 6 0;
   served = replicate 64 0;
   groups = replicate 4160 0;
-  noted = 0;
+  observed = 0;
 }
 
 -- one step more
@@ -42,25 +42,26 @@ counts_after t x = record {
   split = bumped t.split (key.split x.step x.outcome);
   served = bumped t.served (key.service x.step);
   groups = bumped t.groups (key.group x.step x.outcome x.size);
-  noted = t.noted + 1;
+  observed = t.observed + 1;
 }
 
--- There were so many steps, and each count is of how often what it counts was done.
-pub record AreCounts (noted : List Noted) (t : CountsState) : Type 0 where
-  pub all : t.noted ≡ length noted
-  pub kinds : AreTimes (λ x. key.kind x.step) 5 noted t.kinds
-  pub turns : AreTimes (λ x. key.turn x.step) 64 noted t.turns
-  pub retired : AreTimes (λ x. key.retired x.step x.outcome) 64 noted t.retired
-  pub moved : AreTimes (λ x. key.moved x.step x.outcome) 6 noted t.moved
-  pub combined : AreTimes (λ x. key.combined x.step x.outcome) 6 noted t.combined
-  pub returned : AreTimes (λ x. key.returned x.step x.outcome) 6 noted t.returned
-  pub split : AreTimes (λ x. key.split x.step x.outcome) 6 noted t.split
-  pub served : AreTimes (λ x. key.service x.step) 64 noted t.served
-  pub groups : AreTimes (λ x. key.group x.step x.outcome x.size) 4160 noted t.groups
+-- There were this many steps, and each count is of how often what it counts was done.
+pub record AreCounts (observed : List Noted) (t : CountsState) : Type 0 where
+  pub all : t.observed ≡ length observed
+  pub kinds : AreTimes (λ x. key.kind x.step) 5 observed t.kinds
+  pub turns : AreTimes (λ x. key.turn x.step) 64 observed t.turns
+  pub retired : AreTimes (λ x. key.retired x.step x.outcome) 64 observed t.retired
+  pub moved : AreTimes (λ x. key.moved x.step x.outcome) 6 observed t.moved
+  pub combined : AreTimes (λ x. key.combined x.step x.outcome) 6 observed t.combined
+  pub returned : AreTimes (λ x. key.returned x.step x.outcome) 6 observed t.returned
+  pub split : AreTimes (λ x. key.split x.step x.outcome) 6 observed t.split
+  pub served : AreTimes (λ x. key.service x.step) 64 observed t.served
+  pub groups : AreTimes (λ x. key.group x.step x.outcome x.size) 4160 observed t.groups
 
 -- ---- a law
 
 -- Counts of no step are 0, and go on with each step.
 pub record CountsGoOn : Type 0 where
   pub none : AreCounts [] no_counts
-  pub more : (noted : List Noted) (t : CountsState) (x : Noted) → AreCounts noted t → AreCounts (noted ++ x ∷ []) (counts_after t x)
+  pub more : (observed : List Noted) (t : CountsState) (x : Noted) → AreCounts observed t →
+      AreCounts (observed ++ x ∷ []) (counts_after t x)

@@ -4,7 +4,6 @@ use Rattle.steps.specs.declared.step.Step.{Step}
 use Rattle.steps.specs.declared.step.Step.TheVariants as step
 use Rattle.steps.specs.declared.step.Outcome.{Outcome}
 use Rattle.steps.specs.declared.step.Outcome.TheVariants.{Retired, Moved, Combined, Served, Answered}
-use Rattle.run_counts.specs.Counting.{Noted}
 
 -- of each step its kind: turns, moves of requests, services, moves of replies and writes from outside
 abbrev pub kind : Step → Option ℕ

@@ -1,37 +1,112 @@
--- In how many rounds of the sweep steps stand in their order.
-use Rattle.std.specs.Prelude.{ℕ, ◌+◌, ◌-◌, Bool, ◌==◌, ◌||◌, ◌&&◌, List, [], ◌∷◌, Option, Some, None, nat_le, nat_lt, if◌then◌else◌}
+-- The fewest rounds of the sweep in whose order steps stand.
+use Rattle.std.specs.Prelude.{◌≡◌, ℕ, ◌+◌, ◌≤◌, Bool, true, false, ◌==◌, ◌||◌, ◌&&◌, IsTrue}
+use Rattle.std.specs.Prelude.{List, [], ◌∷◌, ◌++◌, Option, Some, None, filter, length, nat_lt, if◌then◌else◌}
 use Rattle.steps.specs.declared.step.Step.{Step}
 use Rattle.steps.specs.declared.step.Step.TheVariants as step
-use Rattle.run_counts.specs.declared.rounds.Place.{Place}
 use Rattle.run_counts.specs.declared.rounds.Begun.{Begun}
 
-abbrev pub place : (row wire : ℕ) → Place
-place row wire = record { row = row; wire = wire }
+-- ---- the order of a round
 
--- Where a round of k stages asks for a step: in row 0 for the turns, then for the moves of requests, at the last stage first, for the services,
--- and for the moves of replies, at the first stage first. It never asks for a write from outside.
-abbrev pub place_in_round : (k : ℕ) → Step → Option Place
-place_in_round k (step.Turn p) = Some (place 0 p)
-place_in_round k (step.Up s w) = Some (place (k - s) w)
-place_in_round k (step.Serve m) = Some (place (k + 1) m)
-place_in_round k (step.Down s w) = Some (place (k + 2 + s) w)
-place_in_round k (step.Poke q) = None
+-- whether a round asks for the step at all: it asks for each but a write from outside
+abbrev pub is_asked : Step → Bool
+is_asked (step.Turn p) = true
+is_asked (step.Up s w) = true
+is_asked (step.Serve m) = true
+is_asked (step.Down s w) = true
+is_asked (step.Poke q) = false
+
+-- The turns come first, by processor;
+abbrev pub before_turn : (processor : ℕ) → Step → Bool
+before_turn p (step.Turn q) = nat_lt p q
+before_turn p (step.Up s w) = true
+before_turn p (step.Serve m) = true
+before_turn p (step.Down s w) = true
+before_turn p (step.Poke q) = false
+
+-- then the moves of requests, at the last stage first, and at each by wire;
+abbrev pub before_up : (stage wire : ℕ) → Step → Bool
+before_up s w (step.Turn q) = false
+before_up s w (step.Up s' w') = nat_lt s' s || s == s' && nat_lt w w'
+before_up s w (step.Serve m) = true
+before_up s w (step.Down s' w') = true
+before_up s w (step.Poke q) = false
+
+-- then the services, by module;
+abbrev pub before_serve : (place : ℕ) → Step → Bool
+before_serve m (step.Turn q) = false
+before_serve m (step.Up s w) = false
+before_serve m (step.Serve n) = nat_lt m n
+before_serve m (step.Down s w) = true
+before_serve m (step.Poke q) = false
+
+-- then the moves of replies, at the first stage first, and at each by wire.
+abbrev pub before_down : (stage wire : ℕ) → Step → Bool
+before_down s w (step.Turn q) = false
+before_down s w (step.Up s' w') = false
+before_down s w (step.Serve m) = false
+before_down s w (step.Down s' w') = nat_lt s s' || s == s' && nat_lt w w'
+before_down s w (step.Poke q) = false
+
+-- whether a round asks for the first step before the second
+abbrev pub comes_before : Step → Step → Bool
+comes_before (step.Turn p) t = before_turn p t
+comes_before (step.Up s w) t = before_up s w t
+comes_before (step.Serve m) t = before_serve m t
+comes_before (step.Down s w) t = before_down s w t
+comes_before (step.Poke q) t = false
+
+-- ---- rounds
+
+-- a round asks for the step before the first of these
+abbrev pub IsBefore : Step → List Step → Type 0
+IsBefore s [] = Unit {0}
+IsBefore s (t ∷ ss) = IsTrue (comes_before s t)
+
+-- One round asks for these steps, one after another.
+abbrev pub IsOfRound : List Step → Type 0
+IsOfRound [] = Unit {0}
+IsOfRound (s ∷ ss) = IsBefore s ss × IsOfRound ss
+
+-- each of these is of one round
+abbrev pub AreOfRounds : List (List Step) → Type 0
+AreOfRounds [] = Unit {0}
+AreOfRounds (round ∷ rounds) = IsOfRound round × AreOfRounds rounds
+
+-- the steps of all rounds, one after another
+abbrev pub steps_of : List (List Step) → List Step
+steps_of [] = []
+steps_of (round ∷ rounds) = round ++ steps_of rounds
+
+-- Each of the steps, but for the writes from outside, is taken in one of these rounds, and they stand in the rounds'
+-- order.
+pub record AreRounds (steps : List Step) (rounds : List (List Step)) : Type 0 where
+  pub each : AreOfRounds rounds
+  pub all : steps_of rounds ≡ filter is_asked steps
+
+-- This many rounds can take the steps, and no fewer.
+pub record IsFewest (steps : List Step) (count : ℕ) : Type 0 where
+  pub rounds : List (List Step)
+  pub are : AreRounds steps rounds
+  pub many : length rounds ≡ count
+  pub least : (others : List (List Step)) → AreRounds steps others → count ≤ length others
+
+-- ---- rounds that are begun, one step after another
 
 abbrev pub none_begun : Begun
-none_begun = record { count = 0; last = place 0 0 }
+none_begun = record { count = 0; last = None }
 
--- A step that does not stand behind the last one in a round begins another, and so does the first.
-abbrev pub begins : Begun → Place → Bool
-begins r at = r.count == 0 || nat_lt at.row r.last.row || at.row == r.last.row && nat_le at.wire r.last.wire
+-- the step stands in the round of the last one
+abbrev pub goes_on : Option Step → Step → Bool
+goes_on None s = false
+goes_on (Some last) s = comes_before last s
 
-abbrev pub begun_at : Begun → Option Place → Begun
-begun_at r None = r
-begun_at r (Some at) = record { count = if begins r at then r.count + 1 else r.count; last = at }
+-- a step that is asked for stands in the last round, or begins another
+abbrev pub begun_with : Begun → Step → Begun
+begun_with r s = record { count = if goes_on r.last s then r.count else r.count + 1; last = Some s }
 
-unfoldable pub begun_from : (k : ℕ) → Begun → List Step → Begun
-begun_from k r [] = r
-begun_from k r (s ∷ ss) = begun_from k (begun_at r (place_in_round k s)) ss
+abbrev pub begun_at : Begun → Step → Begun
+begun_at r s = if is_asked s then begun_with r s else r
 
--- the fewest rounds in whose order these steps stand; of a sweep, each of whose rounds takes a step, it is the number of its rounds
-abbrev pub rounds_of : (k : ℕ) → List Step → ℕ
-rounds_of k steps = (begun_from k none_begun steps).count
+unfoldable pub begun_from : Begun → List Step → Begun
+begun_from r [] = r
+begun_from r (s ∷ ss) = begun_from (begun_at r s) ss

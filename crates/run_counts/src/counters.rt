@@ -6,12 +6,12 @@ ghost use Rattle.run_counts.specs.Counting.{AreBelow, bumped, bumped_at};
 use std::alloc::{AllocError, Global};
 use std::marker::Model;
 
-/// So many counts, each at a place from 0 on.
+/// This many counts, each at a place from 0 on.
 #[derive(Debug, Drop)]
 pub(crate) struct Counters {
     counts: Vec<u64>,
     /// How many steps are noted.
-    noted: u64,
+    observed: u64,
 }
 
 impl Model for Counters {
@@ -19,34 +19,37 @@ impl Model for Counters {
 
     ghost Value = { CountersState };
 
-    ghost view = { λ c. record { counts = c.counts.items; noted = c.noted } };
+    ghost view = { λ c. record { counts = c.counts.items; observed = c.observed } };
 
-    ghost invariant = { λ c. AreFew (record { counts = c.counts.items; noted = c.noted }) };
+    ghost invariant = { λ c. AreFew (record { counts = c.counts.items; observed = c.observed }) };
 }
 
 impl Counters {
-    /// So many counts, which are 0.
+    /// This many counts, which are 0.
     ///
     /// # Errors
     ///
     /// [`AllocError`] where there is no memory for them.
     pub fn new(alloc: Global, places: u16) -> Result<Self, AllocError>
-        ensures { IfOk result (λ c. c ≡ record { counts = replicate places 0; noted = 0 }) }
+        ensures { IfOk result (λ c. c ≡ record { counts = replicate places 0; observed = 0 }) }
     {
         let mut counts = Vec::new(alloc);
         for _ in 0..places {
             counts.push(0)?;
         }
-        Ok(Counters { counts, noted: 0 })
+        Ok(Counters {
+            counts,
+            observed: 0,
+        })
     }
 
     /// Notes a step, by which the count at this place goes up, if at any.
-    pub fn note(&mut self, place: Option<u16>)
-        requires { self.old.noted + 1 < 2 ^ 64 }
+    pub fn observe(&mut self, place: Option<u16>)
+        requires { self.old.observed + 1 < 2 ^ 64 }
         ensures counts { self.new.counts ≡ bumped self.old.counts place }
-        ensures noted { self.new.noted ≡ self.old.noted + 1 }
+        ensures observed { self.new.observed ≡ self.old.observed + 1 }
     {
-        self.noted += 1;
+        self.observed += 1;
         if let Some(place) = place {
             self.bump(usize::from(place));
         }
@@ -56,7 +59,7 @@ impl Counters {
     fn bump(&mut self, place: usize)
         requires { AreBelow self.old }
         ensures counts { self.new.counts ≡ bumped_at self.old.counts place }
-        ensures noted { self.new.noted ≡ self.old.noted }
+        ensures observed { self.new.observed ≡ self.old.observed }
     {
         if place < self.counts.len() {
             self.counts[place] += 1;
@@ -74,9 +77,9 @@ impl Counters {
     }
 
     /// How many steps are noted.
-    pub fn noted(&self) -> u64
-        ensures { result ≡ self.now.noted }
+    pub fn observed(&self) -> u64
+        ensures { result ≡ self.now.observed }
     {
-        self.noted
+        self.observed
     }
 }

@@ -1,7 +1,7 @@
 //! All counts of a run.
 
 ghost use Rattle.std.specs.Prelude.{◌≡◌, ◌+◌, ◌<◌, ◌^◌, IfOk, length, slice_index};
-ghost use Rattle.run_counts.specs.Counting.{note};
+ghost use Rattle.run_counts.specs.Counting.{observe};
 ghost use Rattle.run_counts.specs.Counts.{counts_after, no_counts};
 
 use crate::counters::Counters;
@@ -10,8 +10,8 @@ use std::alloc::{AllocError, Global};
 use std::marker::Model;
 use steps::{Outcome, Step};
 
-/// What the steps that are noted did: how many there were of each kind, of moves by stage, of services by module, and of turns
-/// by processor.
+/// What the steps that are noted did: how many there were of each kind, of moves by stage, of services by module, and
+/// of turns by processor.
 #[derive(Debug, Drop)]
 pub struct Counts {
     pub(crate) kinds: Counters,
@@ -41,12 +41,14 @@ impl Model for Counts {
       split = c.split.counts;
       served = c.served.counts;
       groups = c.groups.counts;
-      noted = c.kinds.noted;
+      observed = c.kinds.observed;
     } };
 
-    ghost invariant = { λ c. (c.turns.noted ≡ c.kinds.noted) × (c.retired.noted ≡ c.kinds.noted) × (c.moved.noted ≡ c.kinds.noted)
-        × (c.combined.noted ≡ c.kinds.noted) × (c.returned.noted ≡ c.kinds.noted) × (c.split.noted ≡ c.kinds.noted)
-        × (c.served.noted ≡ c.kinds.noted) × (c.groups.noted ≡ c.kinds.noted) };
+    ghost invariant = { λ c. (c.turns.observed ≡ c.kinds.observed) × (c.retired.observed ≡ c.kinds.observed)
+        × (c.moved.observed ≡ c.kinds.observed)
+        × (c.combined.observed ≡ c.kinds.observed) × (c.returned.observed ≡ c.kinds.observed)
+        × (c.split.observed ≡ c.kinds.observed)
+        × (c.served.observed ≡ c.kinds.observed) × (c.groups.observed ≡ c.kinds.observed) };
 }
 
 impl Counts {
@@ -72,25 +74,25 @@ impl Counts {
     }
 
     /// Notes what a step did, and for how many processors a module has served.
-    pub fn note(&mut self, step: &Step, outcome: &Outcome, size: usize)
-        requires { self.old.noted + 1 < 2 ^ 64 }
-        ensures { self.new ≡ counts_after self.old (note step.now outcome.now size) }
+    pub fn observe(&mut self, step: &Step, outcome: &Outcome, size: usize)
+        requires { self.old.observed + 1 < 2 ^ 64 }
+        ensures { self.new ≡ counts_after self.old (observe step.now outcome.now size) }
     {
-        self.kinds.note(keys::kind(step));
-        self.turns.note(keys::turn(step));
-        self.retired.note(keys::retired(step, outcome));
-        self.moved.note(keys::moved(step, outcome));
-        self.combined.note(keys::combined(step, outcome));
-        self.returned.note(keys::returned(step, outcome));
-        self.split.note(keys::split(step, outcome));
-        self.served.note(keys::service(step));
-        self.groups.note(keys::group(step, outcome, size));
+        self.kinds.observe(keys::kind(step));
+        self.turns.observe(keys::turn(step));
+        self.retired.observe(keys::retired(step, outcome));
+        self.moved.observe(keys::moved(step, outcome));
+        self.combined.observe(keys::combined(step, outcome));
+        self.returned.observe(keys::returned(step, outcome));
+        self.split.observe(keys::split(step, outcome));
+        self.served.observe(keys::service(step));
+        self.groups.observe(keys::group(step, outcome, size));
     }
 
     /// How many steps are noted.
-    pub fn noted(&self) -> u64
-        ensures { result ≡ self.now.noted }
+    pub fn observed(&self) -> u64
+        ensures { result ≡ self.now.observed }
     {
-        self.kinds.noted()
+        self.kinds.observed()
     }
 }

@@ -1,7 +1,8 @@
 //! Counts of what the steps of a run did: by kind, by stage, by module and by processor.
 //!
 //! `specs/Keys.antt` says by which step which count goes up, `specs/Counting.antt` what a count is (`times`), and
-//! `specs/Lines.antt` has the lines that are printed. [`Counts`] goes on with each step, and [`counts_text`] makes the lines.
+//! `specs/Lines.antt` has the lines that are printed. [`Counts`] goes on with each step, and [`counts_text`] makes the
+//! lines.
 #![tactic(auto)]
 
 mod counters;

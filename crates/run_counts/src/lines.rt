@@ -41,7 +41,7 @@ pub fn counts_text(
 fn push_total(text: &mut String, counts: &Counts, rounds: usize) -> Result<(), AllocError>
     ensures { OnOk result (string_bytes text.new ≡ string_bytes text.old ++ total_line counts.now rounds) }
 {
-    let steps = counts.noted();
+    let steps = counts.observed();
     let turns = counts.kinds.at(0);
     let up = counts.kinds.at(1);
     write!(text, "steps {steps} turns {turns} up {up}")?;
@@ -67,7 +67,8 @@ fn push_stages(
     longest: &Longest,
     k: u8,
 ) -> Result<(), AllocError>
-    ensures { OnOk result (string_bytes text.new ≡ string_bytes text.old ++ first_lines (stage_line counts.now longest.now) k) }
+    ensures { OnOk result (string_bytes text.new ≡ string_bytes text.old
+        ++ first_lines (stage_line counts.now longest.now) k) }
 {
     for stage in 0..k {
         push_stage(text, counts, longest, stage)?;
@@ -75,7 +76,8 @@ fn push_stages(
     Ok(())
 }
 
-/// Appends how many messages were moved through a stage, how many were combined there and split, and how long its queues were.
+/// Appends how many messages were moved through a stage, how many were combined there and split, and how long its
+/// queues were.
 #[tactic(auto, unfolding(crate::specs::Lines::stage_line))]
 fn push_stage(
     text: &mut String,
@@ -113,7 +115,8 @@ fn push_longest(text: &mut String, longest: &Longest, stage: u8) -> Result<(), A
 
 /// Appends the lines of the modules.
 fn push_modules(text: &mut String, counts: &Counts, modules: u8) -> Result<(), AllocError>
-    ensures { OnOk result (string_bytes text.new ≡ string_bytes text.old ++ first_lines (module_line counts.now) modules) }
+    ensures { OnOk result (string_bytes text.new ≡ string_bytes text.old
+        ++ first_lines (module_line counts.now) modules) }
 {
     for at in 0..modules {
         push_module(text, counts, at)?;
@@ -121,7 +124,7 @@ fn push_modules(text: &mut String, counts: &Counts, modules: u8) -> Result<(), A
     Ok(())
 }
 
-/// Appends how many references a module has served, and how many of them for so many processors.
+/// Appends how many references a module has served, and how many of them for this many processors.
 #[tactic(auto, unfolding(crate::specs::Lines::module_line))]
 fn push_module(text: &mut String, counts: &Counts, at: u8) -> Result<(), AllocError>
     ensures { OnOk result (string_bytes text.new ≡ string_bytes text.old ++ module_line counts.now at) }
@@ -172,7 +175,8 @@ fn push_size(text: &mut String, size: u8, count: u64) -> Result<(), AllocError>
 
 /// Appends the lines of the processors.
 fn push_processors(text: &mut String, counts: &Counts, processors: u8) -> Result<(), AllocError>
-    ensures { OnOk result (string_bytes text.new ≡ string_bytes text.old ++ first_lines (processor_line counts.now) processors) }
+    ensures { OnOk result (string_bytes text.new ≡ string_bytes text.old
+        ++ first_lines (processor_line counts.now) processors) }
 {
     for p in 0..processors {
         push_processor(text, counts, p)?;

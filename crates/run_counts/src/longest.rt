@@ -56,7 +56,7 @@ impl Longest {
         }
     }
 
-    /// From now on so many are the most in one list of a stage.
+    /// From now on this many are the most in one list of a stage.
     pub fn set(&mut self, held: Held, stage: u8, most: usize)
         requires { stage < 6 }
         ensures { self.new ≡ with_longest self.old held stage most }

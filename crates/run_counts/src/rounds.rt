@@ -1,82 +1,132 @@
 //! The rounds of a schedule.
 
-ghost use Rattle.std.specs.Prelude.{◌≡◌, ◌+◌, ◌≤◌, ◌<◌, ◌^◌};
-ghost use Rattle.run_counts.specs.Rounds.{begins, begun_at, place_in_round, rounds_of};
+ghost use Rattle.std.specs.Prelude.{◌≡◌, ◌+◌, ◌<◌, ◌^◌};
+ghost use Rattle.run_counts.specs.Rounds.{IsFewest, before_down, before_serve, before_turn, before_up, begun_at};
+ghost use Rattle.run_counts.specs.Rounds.{comes_before};
+ghost use Rattle.run_counts.specs.Rounds.{goes_on, is_asked};
 
 use steps::Step;
-
-/// Where a round asks for a step.
-#[derive(Clone, Copy, Debug, PartialEq, Eq, Drop)]
-struct Place {
-    /// The turns, the moves at a stage, or the services: 0 is asked for first.
-    row: u16,
-    /// The processor, the wire or the module.
-    wire: u8,
-}
 
 /// The rounds of the sweep that were begun.
 #[derive(Clone, Copy, Debug, PartialEq, Eq, Drop)]
 struct Begun {
     count: usize,
-    /// Where the last step stands.
-    last: Place,
+    /// The last step that a round asks for.
+    last: Option<Step>,
 }
 
-/// The fewest rounds of the sweep, on a machine of `2^k` processors, in whose order these steps stand. Of a sweep it is the number of
-/// its rounds.
-pub fn rounds_of(steps: &[Step], k: u8) -> usize
-    requires { k ≤ 6 }
-    ensures { result ≡ rounds_of k steps.now }
+/// The fewest rounds of the sweep that take these steps in their order: turns, moves of requests, the last stage
+/// first, services, and moves of replies, the first stage first. A write from outside is of no round.
+pub fn rounds_of(steps: &[Step]) -> usize
+    ensures { IsFewest steps.now result }
 {
     let mut begun = Begun {
         count: 0,
-        last: Place { row: 0, wire: 0 },
+        last: None,
     };
     for step in steps {
-        begun = after(begun, place_in_round(step, k));
+        begun = after(begun, step);
     }
     begun.count
 }
 
-/// Behind a step that stands here in its round.
-fn after(begun: Begun, place: Option<Place>) -> Begun
+/// The rounds that were begun when one step more was taken.
+fn after(begun: Begun, step: &Step) -> Begun
     requires { begun.count + 1 < 2 ^ 64 }
-    ensures { result ≡ begun_at begun place }
+    ensures { result ≡ begun_at begun step.now }
 {
-    let Some(place) = place else {
+    if !is_asked(step) {
         return begun;
+    }
+    let count = if goes_on(&begun.last, step) {
+        begun.count
+    } else {
+        begun.count + 1
     };
     Begun {
-        count: if begins(&begun, &place) {
-            begun.count + 1
-        } else {
-            begun.count
-        },
-        last: place,
+        count,
+        last: Some(*step),
     }
 }
 
-/// Whether a step that stands here begins another round.
-fn begins(begun: &Begun, at: &Place) -> bool
-    ensures { result ≡ begins begun.now at.now }
+/// Whether a round asks for such a step.
+fn is_asked(step: &Step) -> bool
+    ensures { result ≡ is_asked step.now }
 {
-    begun.count == 0
-        || at.row < begun.last.row
-        || at.row == begun.last.row && at.wire <= begun.last.wire
+    match *step {
+        Step::Turn(_) | Step::Up { .. } | Step::Serve(_) | Step::Down { .. } => true,
+        Step::Poke(_) => false,
+    }
 }
 
-/// Where a round asks for a step.
-fn place_in_round(step: &Step, k: u8) -> Option<Place>
-    requires { k ≤ 6 }
-    ensures { result ≡ place_in_round k step.now }
+/// Whether a step stands in the round of the last one.
+fn goes_on(last: &Option<Step>, step: &Step) -> bool
+    ensures { result ≡ goes_on last.now step.now }
 {
-    let stages = u16::from(k);
-    let (row, wire) = match *step {
-        Step::Turn(p) => (0, p),
-        Step::Up { stage, wire } => (stages.saturating_sub(u16::from(stage)), wire),
-        Step::Serve(m) => (stages + 1, m),
-        Step::Down { stage, wire } => (stages + 2 + u16::from(stage), wire),
-        Step::Poke(_) => return None,
-    };
-    Some(Place { row, wire })
+    match last {
+        Some(last) => comes_before(last, step),
+        None => false,
+    }
+}
+
+/// Whether a round asks for the first step before the second.
+fn comes_before(first: &Step, second: &Step) -> bool
+    ensures { result ≡ comes_before first.now second.now }
+{
+    match *first {
+        Step::Turn(processor) => before_turn(processor, second),
+        Step::Up { stage, wire } => before_up(stage, wire, second),
+        Step::Serve(place) => before_serve(place, second),
+        Step::Down { stage, wire } => before_down(stage, wire, second),
+        Step::Poke(_) => false,
+    }
+}
+
+/// Whether a round asks for a turn before the step.
+fn before_turn(processor: u8, step: &Step) -> bool
+    ensures { result ≡ before_turn processor step.now }
+{
+    match *step {
+        Step::Turn(other) => processor < other,
+        Step::Up { .. } | Step::Serve(_) | Step::Down { .. } => true,
+        Step::Poke(_) => false,
+    }
+}
+
+/// Whether a round asks for a move of a request before the step. It begins at the last stage.
+fn before_up(stage: u8, wire: u8, step: &Step) -> bool
+    ensures { result ≡ before_up stage wire step.now }
+{
+    match *step {
+        Step::Up {
+            stage: other,
+            wire: on,
+        } => other < stage || stage == other && wire < on,
+        Step::Serve(_) | Step::Down { .. } => true,
+        Step::Turn(_) | Step::Poke(_) => false,
+    }
+}
+
+/// Whether a round asks for a service before the step.
+fn before_serve(place: u8, step: &Step) -> bool
+    ensures { result ≡ before_serve place step.now }
+{
+    match *step {
+        Step::Serve(other) => place < other,
+        Step::Down { .. } => true,
+        Step::Turn(_) | Step::Up { .. } | Step::Poke(_) => false,
+    }
+}
+
+/// Whether a round asks for a move of a reply before the step. It begins at the first stage.
+fn before_down(stage: u8, wire: u8, step: &Step) -> bool
+    ensures { result ≡ before_down stage wire step.now }
+{
+    match *step {
+        Step::Down {
+            stage: other,
+            wire: on,
+        } => stage < other || stage == other && wire < on,
+        Step::Turn(_) | Step::Up { .. } | Step::Serve(_) | Step::Poke(_) => false,
+    }
 }

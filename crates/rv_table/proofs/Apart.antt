@@ -20,6 +20,7 @@ abbrev pub all_apart : List Row → Bool
 all_apart [] = true
 all_apart (a ∷ rest) = list_all (apart a) rest && all_apart rest
 
+-- Any two rows of the table are apart.
 pub rows_are_apart : all_apart rows ≡ true
 unfolding rows
 rows_are_apart = refl

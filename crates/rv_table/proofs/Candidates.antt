@@ -43,6 +43,7 @@ bit_of_flag : (flag : Bool) (bit : ℕ) → cond flag 1 0 ≡ bit → (bit == 1)
 bit_of_flag true bit e = rw (← e) refl
 bit_of_flag false bit e = rw (← e) refl
 
+-- An instruction that takes the fields of a word has its operands in that word.
 pub has_fields : (w : ℕ) (i : Insn) → HasOperands w (with_fields w i)
 has_fields w Ecall = tt
 has_fields w Ebreak = tt
@@ -51,6 +52,7 @@ has_fields w (Upper op rd upper) = (refl, refl)
 has_fields w (Jal rd offset) = (refl, refl)
 has_fields w _ = (refl, refl, refl)
 
+-- If an instruction has its operands in a word, it stays as it is when it takes the fields of the word.
 pub same_from_operands : (w : ℕ) (i : Insn) → HasOperands w i → with_fields w i ≡ i
 same_from_operands w Ecall h = refl
 same_from_operands w Ebreak h = refl
@@ -62,9 +64,11 @@ same_from_operands w (Upper op rd upper) h = cc (h.0, h.1)
 same_from_operands w (Jal rd offset) h = cc (h.0, h.1)
 same_from_operands w _ h = cc (h.0, h.1, h.2)
 
+-- Each candidate of a word has the fields of the word as its operands.
 pub candidates_have_fields : (w : ℕ) → map (with_fields w) (candidates w) ≡ candidates w
 candidates_have_fields w = refl
 
+-- The rows of a word's candidates are the rows of the table, in order.
 pub candidates_have_rows : (w : ℕ) → map row_of (candidates w) ≡ rows
 unfolding rows
 candidates_have_rows w = refl

@@ -15,6 +15,7 @@ of_row w k r [] same inside at = absurd (omega arith)
 of_row w zero r (i ∷ is) same inside at = let first : with_fields w i ≡ i = cc in (i, at, first)
 of_row w (suc k) r (i ∷ is) same inside at = let rest : map (with_fields w) is ≡ is = cc in of_row w k r is rest (omega arith) at
 
+-- A word that fits a row of the table spells an instruction of that row.
 pub row_spells : (w : ℕ) (r : Row) → Contains rows r → bit_and w r.mask ≡ r.match_ → (i : Insn) × (row_of i ≡ r) × Spells w i
 row_spells w r place fit =
     let among : Contains (map row_of (candidates w)) r = subst (λ rs. Contains rs r) (sym (candidates_have_rows w)) place in
@@ -23,6 +24,7 @@ row_spells w r place fit =
     let there : bit_and w (mask_of i) ≡ match_of i = ap (λ (x : Row). bit_and w x.mask) found.1 ∙ fit ∙ sym (ap (λ (x : Row). x.match_) found.1) in
     (i, found.1, record { row = there; operands = subst (HasOperands w) found.2 (has_fields w i) })
 
+-- An instruction has its operands in a word exactly if its operands are the fields of the word by its format.
 pub operands_are_fields : (w : ℕ) (i : Insn) → HasOperands w i ↔ (operands_of i ≡ fields_of (format_of i) w)
 operands_are_fields w Ecall = (λ h. cc, λ e. tt)
 operands_are_fields w Ebreak = (λ h. cc, λ e. tt)

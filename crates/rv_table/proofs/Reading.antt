@@ -44,6 +44,7 @@ from_found w i (j ∷ is) same e =
 fits_from_row : (w : ℕ) (i : Insn) → Spells w i → fits w i ≡ true
 fits_from_row w i s = eq-eqb _ _ s.row
 
+-- If a word spells an instruction, that instruction is read of the word.
 pub read : (w : ℕ) (i : Insn) → Spells w i → insn_of w ≡ Some i
 unfolding insn_of
 read w i s =
@@ -51,6 +52,7 @@ read w i s =
     let place : Contains (candidates w) i = subst (Contains (candidates w)) same (listed w i) in
     found w i place.0 (candidates w) (ap all_apart (candidates_have_rows w) ∙ rows_are_apart) (fits_from_row w i s) place.1 place.2
 
+-- If an instruction is read of a word, the word spells it.
 pub spelled : (w : ℕ) (i : Insn) → insn_of w ≡ Some i → Spells w i
 unfolding insn_of
 spelled w i e =
@@ -75,6 +77,7 @@ fields_fit w Ecall h = tt
 fields_fit w Ebreak h = tt
 fields_fit w (Amo op rd rs1 rs2 aq rl) h = (omega arith, omega arith, omega arith)
 
+-- If a word spells an instruction, the operands of the instruction have the widths of their fields.
 pub operands_fit : (w : ℕ) (i : Insn) → Spells w i → InRange i
 operands_fit w i s = fields_fit w i s.operands
 

@@ -3,7 +3,8 @@
 -- Source: the RISC-V Unprivileged ISA manual, "Base Instruction Formats" and "Immediate Encoding Variants".
 use Rattle.std.specs.Prelude.{ℕ, ◌+◌, ◌*◌, ◌^◌, cond, List, [], ◌∷◌}
 use Rattle.rv_table.specs.declared.insn.Insn.{Insn}
-use Rattle.rv_table.specs.declared.insn.Insn.TheVariants.{Op, OpImm, Shift, Load, Store, Branch, Upper, Jal, Jalr, Fence, Ecall, Ebreak, Amo}
+use Rattle.rv_table.specs.declared.insn.Insn.TheVariants.{Op, OpImm, Shift, Load, Store, Branch, Upper, Jal, Jalr}
+use Rattle.rv_table.specs.declared.insn.Insn.TheVariants.{Fence, Ecall, Ebreak, Amo}
 use Rattle.rv_table.specs.declared.table.Format.{Format}
 use Rattle.rv_table.specs.declared.table.Format.TheVariants as format
 use Rattle.rv_table.specs.Rows.{bits}
@@ -16,7 +17,8 @@ fields_of format.SType w = bits w 19 15 ∷ bits w 24 20 ∷ (bits w 31 25 * 2 ^
 fields_of format.BType w =
     bits w 19 15 ∷ bits w 24 20 ∷ (bits w 31 31 * 2 ^ 11 + bits w 7 7 * 2 ^ 10 + bits w 30 25 * 2 ^ 4 + bits w 11 8) ∷ []
 fields_of format.UType w = bits w 11 7 ∷ bits w 31 12 ∷ []
-fields_of format.JType w = bits w 11 7 ∷ (bits w 31 31 * 2 ^ 19 + bits w 19 12 * 2 ^ 11 + bits w 20 20 * 2 ^ 10 + bits w 30 21) ∷ []
+fields_of format.JType w =
+    bits w 11 7 ∷ (bits w 31 31 * 2 ^ 19 + bits w 19 12 * 2 ^ 11 + bits w 20 20 * 2 ^ 10 + bits w 30 21) ∷ []
 fields_of format.Shift w = bits w 11 7 ∷ bits w 19 15 ∷ bits w 24 20 ∷ []
 fields_of format.Fence w = bits w 11 7 ∷ bits w 19 15 ∷ bits w 31 20 ∷ []
 fields_of format.System w = []

@@ -2,9 +2,11 @@
 --
 -- Source: the RISC-V Unprivileged ISA manual, "RV32/64G Instruction Set Listings" (masks, matches), "Base Instruction
 -- Formats" and "Immediate Encoding Variants" (fields). Bit 31 of a word is its highest.
-use Rattle.std.specs.Prelude.{◌≡◌, ℕ, ◌+◌, ◌-◌, ◌*◌, ◌/◌, ◌%◌, ◌^◌, ◌<◌, ◌==◌, bit_and, cond, List, [], ◌∷◌, Option, find}
+use Rattle.std.specs.Prelude.{◌≡◌, ℕ, ◌+◌, ◌-◌, ◌*◌, ◌/◌, ◌%◌, ◌^◌, ◌<◌, ◌==◌, bit_and, cond, List, [], ◌∷◌, Option}
+use Rattle.std.specs.Prelude.{find}
 use Rattle.rv_table.specs.declared.insn.Insn.{Insn}
-use Rattle.rv_table.specs.declared.insn.Insn.TheVariants.{Op, OpImm, Shift, Load, Store, Branch, Upper, Jal, Jalr, Fence, Ecall, Ebreak, Amo}
+use Rattle.rv_table.specs.declared.insn.Insn.TheVariants.{Op, OpImm, Shift, Load, Store, Branch, Upper, Jal, Jalr}
+use Rattle.rv_table.specs.declared.insn.Insn.TheVariants.{Fence, Ecall, Ebreak, Amo}
 use Rattle.rv_table.specs.declared.operation.RegisterOp.{RegisterOp}
 use Rattle.rv_table.specs.declared.operation.RegisterOp.TheVariants as reg
 use Rattle.rv_table.specs.declared.operation.ImmediateOp.{ImmediateOp}
@@ -222,17 +224,21 @@ HasOperands w (Op op rd rs1 rs2) = (rd ≡ bits w 11 7) × (rs1 ≡ bits w 19 15
 HasOperands w (OpImm op rd rs1 imm) = (rd ≡ bits w 11 7) × (rs1 ≡ bits w 19 15) × (imm ≡ bits w 31 20)
 HasOperands w (Shift op rd rs1 amount) = (rd ≡ bits w 11 7) × (rs1 ≡ bits w 19 15) × (amount ≡ bits w 24 20)
 HasOperands w (Load op rd rs1 imm) = (rd ≡ bits w 11 7) × (rs1 ≡ bits w 19 15) × (imm ≡ bits w 31 20)
-HasOperands w (Store op rs1 rs2 imm) = (rs1 ≡ bits w 19 15) × (rs2 ≡ bits w 24 20) × (imm ≡ bits w 31 25 * 2 ^ 5 + bits w 11 7)
+HasOperands w (Store op rs1 rs2 imm) = (rs1 ≡ bits w 19 15) × (rs2 ≡ bits w 24 20)
+    × (imm ≡ bits w 31 25 * 2 ^ 5 + bits w 11 7)
 HasOperands w (Branch op rs1 rs2 offset) =
-    (rs1 ≡ bits w 19 15) × (rs2 ≡ bits w 24 20) × (offset ≡ bits w 31 31 * 2 ^ 11 + bits w 7 7 * 2 ^ 10 + bits w 30 25 * 2 ^ 4 + bits w 11 8)
+    (rs1 ≡ bits w 19 15) × (rs2 ≡ bits w 24 20)
+    × (offset ≡ bits w 31 31 * 2 ^ 11 + bits w 7 7 * 2 ^ 10 + bits w 30 25 * 2 ^ 4 + bits w 11 8)
 HasOperands w (Upper op rd upper) = (rd ≡ bits w 11 7) × (upper ≡ bits w 31 12)
-HasOperands w (Jal rd offset) = (rd ≡ bits w 11 7) × (offset ≡ bits w 31 31 * 2 ^ 19 + bits w 19 12 * 2 ^ 11 + bits w 20 20 * 2 ^ 10 + bits w 30 21)
+HasOperands w (Jal rd offset) = (rd ≡ bits w 11 7)
+    × (offset ≡ bits w 31 31 * 2 ^ 19 + bits w 19 12 * 2 ^ 11 + bits w 20 20 * 2 ^ 10 + bits w 30 21)
 HasOperands w (Jalr rd rs1 imm) = (rd ≡ bits w 11 7) × (rs1 ≡ bits w 19 15) × (imm ≡ bits w 31 20)
 HasOperands w (Fence rd rs1 ordering) = (rd ≡ bits w 11 7) × (rs1 ≡ bits w 19 15) × (ordering ≡ bits w 31 20)
 HasOperands w Ecall = Unit {0}
 HasOperands w Ebreak = Unit {0}
 HasOperands w (Amo op rd rs1 rs2 aq rl) =
-    (rd ≡ bits w 11 7) × (rs1 ≡ bits w 19 15) × (rs2 ≡ bits w 24 20) × (cond aq 1 0 ≡ bits w 26 26) × (cond rl 1 0 ≡ bits w 25 25)
+    (rd ≡ bits w 11 7) × (rs1 ≡ bits w 19 15) × (rs2 ≡ bits w 24 20) × (cond aq 1 0 ≡ bits w 26 26)
+    × (cond rl 1 0 ≡ bits w 25 25)
 
 -- The word spells the instruction: it fits the instruction's row, and its fields are the operands.
 pub record Spells (w : ℕ) (i : Insn) : Type 0 where

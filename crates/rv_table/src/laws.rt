@@ -20,7 +20,8 @@ pub fn row_of_insn_is_listed()
 
 /// A word that fits a row of the table spells an instruction of that row.
 pub fn row_spells_an_instruction()
-    ensures { (word : ℕ) (r : Row) → Contains rows r → bit_and word r.mask ≡ r.match_ → (i : Insn) × (row_of i ≡ r) × Spells word i }
+    ensures { (word : ℕ) (r : Row) → Contains rows r → bit_and word r.mask ≡ r.match_ →
+        (i : Insn) × (row_of i ≡ r) × Spells word i }
 {}
 
 /// The operands of an instruction are the fields of its format.

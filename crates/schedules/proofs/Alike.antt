@@ -49,14 +49,21 @@ module _ (m n : MachineLists) (config : m.config ≡ n.config) (code : m.code �
 
 -- ---- two logs
 
--- A log whose machine opened on the image was asked for these steps, so many at most, and then drained. It was not over before.
+-- A log whose machine opened on the image was asked for these steps, this many at most, and then drained. It was not over before.
 pub record WasAskedFor (c : Config) (image : ImageContents) (limit : ℕ) (asked : List Step) (middle log : Log) : Type 0 where
+  -- Its machine opened on the image.
   pub opens : IsOpening c image log.opening
+  -- The steps that were asked for write nothing from outside.
   pub own : AreOwn asked
+  -- The steps of the middle log are what is entered of them.
   pub steps : middle.steps ≡ entered_of log.opening [] asked
+  -- The middle log's machine is what its steps make of the opening.
   pub replay : IsReplay log.opening middle.steps middle.machine
+  -- The steps of the middle log are at most as many as the limit.
   pub few : length middle.steps ≤ limit
+  -- The sweep was over at no place before the end of these steps.
   pub first : (place : ℕ) → 0 ≤ place → place < length middle.steps → IsOver log.opening 0 (take place middle.steps) → ⊥
+  -- Then come the steps of the drain of the middle log's machine.
   pub drained : log.steps ≡ middle.steps ++ drain_steps middle.machine
 
 -- it is over, or it has all the steps that it may, or no more were to be asked for

@@ -26,6 +26,7 @@ entered_count steps s o = by (is_stalled o)
     by true = (omega arith, omega arith)
     by false = let more : length (steps ++ s ∷ []) ≡ length steps + 1 = length-append steps (s ∷ []) in (omega (arith, more), omega (arith, more))
 
+-- If a step is asked for, the steps are at most one more.
 pub at_most_one : (steps steps' : List Step) (s : Step) (o : Outcome) → steps' ≡ entered steps s o → length steps' ≤ length steps + 1
 at_most_one steps steps' s o is = subst (λ xs. length xs ≤ length steps + 1) (sym is) (entered_count steps s o).1
 
@@ -33,6 +34,7 @@ pub is_entered : (steps steps' : List Step) (s : Step) (o : Outcome) → steps' 
 is_entered steps steps' s o is moves =
     let more : length steps' ≡ length steps + 1 = ap length (is ∙ entered_moving steps s o moves) ∙ length-append steps (s ∷ []) in omega (arith, more)
 
+-- If a log takes a step, its steps are what is entered of that step alone.
 pub one_asked : (old new : Log) (s : Step) (o : Outcome) → IsReplay old.opening old.steps old.machine → HasTaken old s o new →
     new.steps ≡ entered_of old.opening old.steps (s ∷ [])
 unfolding entered_of
@@ -40,11 +42,13 @@ one_asked old new s o r t = t.steps ∙ ap (entered old.steps s) (t.step.step.ou
 
 -- ---- one after another
 
+-- What is entered of two lists joined is what is entered of the second after what is entered of the first.
 pub asked_append : (m : MachineLists) (done xs ys : List Step) → entered_of m done (xs ++ ys) ≡ entered_of m (entered_of m done xs) ys
 unfolding entered_of
 asked_append m done [] ys = refl
 asked_append m done (x ∷ xs) ys = asked_append m (entered done x (answer_after m done x)) xs ys
 
+-- After steps are asked for, there are no fewer steps than before.
 pub longer : (m : MachineLists) (done asked : List Step) → length done ≤ length (entered_of m done asked)
 unfolding entered_of
 longer m done [] = omega arith
@@ -85,13 +89,15 @@ next_asked old l k i s steps' opens within there before is =
     ∙ ap (λ x. entered_of old.opening old.steps (take i all ++ x ∷ [])) (sym here)
     ∙ ap (entered_of old.opening old.steps) (sym (take_more all i (step.Turn 0) within))
 
+-- If no step is asked for, the steps stay as they are.
 pub none_asked : (m : MachineLists) (done : List Step) → done ≡ entered_of m done []
 unfolding entered_of
 none_asked m done = refl
 
--- so many rounds, and then a part of one
+-- this many rounds, and then a part of one
 module _ (opening : MachineLists) (old middle new : List Step) (k whole part : ℕ) (before : middle ≡ entered_of opening old (rounds k whole)) (more : new
     ≡ entered_of opening middle (take part (round k))) where
+  -- What is entered of whole rounds, and then of a part of one, is what is entered of both together.
   pub rounds_more : new ≡ entered_of opening old (rounds k whole ++ take part (round k))
   rounds_more = more ∙ ap (λ xs. entered_of opening xs (take part (round k))) before ∙ sym (asked_append opening old (rounds k whole) (take part (round k)))
 

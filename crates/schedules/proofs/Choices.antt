@@ -13,7 +13,7 @@ use Rattle.steps.specs.declared.step.Step.{Step}
 use Rattle.steps.specs.declared.step.Step.TheVariants.{Turn, Up, Serve, Down, Poke}
 use Rattle.schedules.specs.Choices.{by_wire, by_stage, choices, IsOfNetwork}
 
--- ---- a list behind another
+-- ---- a list after another
 
 get-front : (xs ys : List Step) (i : ℕ) (s : Step) → slice_get xs i ≡ Some s → slice_get (xs ++ ys) i ≡ Some s
 get-front [] ys i s e = absurd (cc)
@@ -80,6 +80,7 @@ module _ (k : ℕ) where
 
   -- ---- the list
 
+  -- The list has 2 k + 1 rows of a step for each wire.
   pub count : length (choices k) ≡ 2 * k * 2 ^ k + 2 ^ k
   unfolding choices
   count =
@@ -90,6 +91,7 @@ module _ (k : ℕ) where
       let twice : 2 * k * 2 ^ k ≡ k * 2 ^ k + k * 2 ^ k = ap (λ n. n * 2 ^ k) both ∙ add-mul k k (2 ^ k) in
       omega arith
 
+  -- Row s, below row k, has the moves up of requests before stage s.
   pub up_at : (row wire : ℕ) → row < k → wire < 2 ^ k → slice_get (choices k) (row * 2 ^ k + wire) ≡ Some (Up row wire)
   unfolding choices
   up_at row wire less within =
@@ -97,6 +99,7 @@ module _ (k : ℕ) where
       let i = row * 2 ^ k + wire in
       get-front (ups ++ serves) downs i (Up row wire) (get-front ups serves i (Up row wire) (stage_at k Up row wire less within))
 
+  -- Row k has the services.
   pub serve_at : (row wire : ℕ) → row ≡ k → wire < 2 ^ k → slice_get (choices k) (row * 2 ^ k + wire) ≡ Some (Serve wire)
   unfolding choices
   serve_at row wire is within =
@@ -105,6 +108,7 @@ module _ (k : ℕ) where
       get-front (ups ++ serves) downs i (Serve wire) (get-behind ups serves i wire (Serve wire)
       (ap (λ r. r * 2 ^ k + wire) is ∙ ap (λ l. l + wire) (sym (length-by_stage k Up))) (wire_at Serve wire within))
 
+  -- Row k + 1 + s has the moves down of replies after stage s.
   pub down_at : (row wire : ℕ) → k < row → row < 2 * k + 1 → wire < 2 ^ k → slice_get (choices k) (row * 2 ^ k + wire) ≡ Some (Down (row - (k + 1)) wire)
   unfolding choices
   down_at row wire more less within =
@@ -120,6 +124,7 @@ module _ (k : ℕ) where
 
   -- ---- the laws
 
+  -- Each step of the list moves a message of the network, or is a service by one of its modules.
   pub are_named : (place : ℕ) (s : Step) → slice_get (choices k) place ≡ Some s → IsOfNetwork k s
   unfolding choices
   are_named place s e =
@@ -132,6 +137,7 @@ module _ (k : ℕ) where
       (λ (f : (j : ℕ) × (slice_get downs j ≡ Some s)). let (row, wire, less, within, is) = stage_there k Down f.0 s f.1 in rw (sym is) (less, within))
       (either_part (ups ++ serves) downs place s e)
 
+  -- Each step that moves a message of the network, and each service by a module, is in the list.
   pub are_all : (s : Step) → IsOfNetwork k s → (place : ℕ) × (slice_get (choices k) place ≡ Some s)
   are_all (Up stage wire) h = (stage * 2 ^ k + wire, up_at stage wire h.0 h.1)
   are_all (Serve wire) h = (k * 2 ^ k + wire, serve_at k wire refl h)

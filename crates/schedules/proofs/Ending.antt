@@ -1,4 +1,4 @@
--- Where a sweep is over: what a step more tells of it, and that what has not ended in one part has not ended in all.
+-- Where a sweep is over: what a step more says of it, and that what has not ended in one part has not ended in all.
 use Rattle.std.proofs.Common.{◌≡◌, ℕ, zero, suc, ◌^◌, ◌<◌, ◌≤◌, Bool, true, false, ◌⊎◌, inl, inr, List}
 use Rattle.std.proofs.Common.{[], ◌∷◌, ◌++◌, length, take, refl, sym, ap, ◌∙◌, subst, arith}
 use Rattle.std.specs.Prelude.{if◌then◌else◌}
@@ -10,7 +10,7 @@ use Rattle.steps.specs.Answers.{is_stalled}
 use Rattle.steps.specs.declared.step.Outcome.{Outcome}
 use Rattle.steps.specs.declared.step.Outcome.TheVariants.{Stalled}
 use Rattle.steps.specs.declared.step.Step.{Step}
-use Rattle.machine_steps.specs.machine_theory.Processors.{Told}
+use Rattle.machine_steps.specs.machine_theory.Processors.{ObservedCore}
 use Rattle.machine_steps.specs.machine_theory.Steps.{machine_of_parts}
 use Rattle.machine_steps.specs.Machines.{MachineLists, machine_of}
 use Rattle.machine_steps.specs.Runs.{IsReplay, all_after, answer_after}
@@ -48,11 +48,13 @@ take_length (suc n) (x ∷ xs) few = let r = take_length n xs (omega (arith, few
 module _ (opening m : MachineLists) (steps : List Step) (r : IsReplay opening steps m) where
   status_is : (p : ℕ) → (processor_of m p).status ≡ status_after opening steps p
   unfolding machine_of_parts
-  status_is p = ap (λ (M : theory.Machine Told). (M.core p).state.status) (r.run.after (λ q. []))
+  status_is p = ap (λ (M : theory.Machine ObservedCore). (M.core p).state.status) (r.run.after (λ q. []))
 
+  -- If a processor of the machine that the steps leave runs, one runs after the steps.
   pub runs_after : HasRunning m → RunsAfter opening steps
   runs_after (p, within, runs) = (p, subst (λ (k : ℕ). p < 2 ^ k) (ap (λ (c : Config). c.k) r.run.config) within, sym (status_is p) ∙ runs)
 
+  -- If a processor runs after the steps, one of the machine that they leave runs.
   pub has_running : RunsAfter opening steps → HasRunning m
   has_running (p, within, runs) = (p, subst (λ (k : ℕ). p < 2 ^ k) (sym (ap (λ (c : Config). c.k) r.run.config)) within, status_is p ∙ runs)
 
@@ -66,19 +68,22 @@ runs_on m done s own plain (p, within, runs) = by (is_stalled (answer_after m do
     by : (b : Bool) → RunsAfter m (if b then done else done ++ s ∷ [])
     by true = (p, within, runs)
     by false =
-        let M : theory.Machine Told = all_after m.config m.code (machine_of m (λ q. [])) done in (
+        let M : theory.Machine ObservedCore = all_after m.config m.code (machine_of m (λ q. [])) done in (
           p,
           within,
-          ap (λ (N : theory.Machine Told). (N.core p).state.status) (all_after_more m.config m.code (machine_of m (λ q. [])) done s)
+          ap (λ (N : theory.Machine ObservedCore). (N.core p).state.status) (all_after_more m.config m.code (machine_of m (λ q. [])) done s)
               ∙ statuses_kept m.config m.code M s own plain p ∙ runs,
         )
 
 module _ (m : MachineLists) (start : ℕ) where
   -- a sweep that has come so far is not over: a processor runs, and the last step was no fault
   pub record IsUnder (steps : List Step) : Type 0 where
+    -- A processor runs.
     pub running : RunsAfter m steps
+    -- The sweep's last step is not one in which a fault stopped a processor.
     pub sound : EndsInFault m start steps → ⊥
 
+  -- If a processor runs and the sweep's last step was no fault, the sweep is not over.
   pub not_over : (steps : List Step) → IsUnder steps → IsOver m start steps → ⊥
   not_over steps u (inl fault) = u.sound fault
   not_over steps u (inr none) = none u.running
@@ -115,13 +120,15 @@ module _ (m : MachineLists) (start : ℕ) where
       no_stall : (o : Outcome) → IsFault o → o ≡ Stalled → ⊥
       no_stall o is e = absurd (subst IsFault e is)
 
-  -- no beginning of the steps, of so many at least, is where the sweep is over
+  -- no beginning of the steps, of this many at least, is where the sweep is over
   abbrev pub IsFirst : List Step → Type 0
   IsFirst steps = (place : ℕ) → start ≤ place → place < length steps → IsOver m start (take place steps) → ⊥
 
+  -- A sweep that has no step of its own was over at no place before.
   pub first_begins : (steps : List Step) → length steps ≤ start → IsFirst steps
   first_begins steps short place from inside = absurd (omega (arith, short, from, inside))
 
+  -- If the sweep is not over and was over at no place before, it was over at none before the end of one more step.
   pub first_on : (done : List Step) (s : Step) (o : Outcome) → IsFirst done → IsUnder done → IsFirst (entered done s o)
   first_on done s o before under = by (is_stalled o)
     where
@@ -142,13 +149,13 @@ module _ (m : MachineLists) (start : ℕ) where
 
 -- ---- of parts
 
--- What is over behind so many steps is over behind fewer.
+-- What is over after this many steps is over after fewer.
 pub over_sooner : (m : MachineLists) (start mid : ℕ) (steps : List Step) → start ≤ mid → IsOver m mid steps → IsOver m start steps
 over_sooner m start mid steps less (inl f) =
     inl (record { before = f.before; last = f.last; is = f.is; behind = (let behind = f.behind in omega (arith, behind, less)); fault = f.fault })
 over_sooner m start mid steps less (inr none) = inr none
 
--- what is over behind few is over behind more, where it has more
+-- what is over after few is over after more, where it has more
 over_later : (m : MachineLists) (start mid : ℕ) (steps : List Step) → mid < length steps → IsOver m start steps → IsOver m mid steps
 over_later m start mid steps more (inl f) =
     inl (record {
@@ -160,7 +167,7 @@ over_later m start mid steps more (inl f) =
     })
 over_later m start mid steps more (inr none) = inr none
 
--- one part behind another
+-- one part after another
 pub first_joined : (m : MachineLists) (start : ℕ) (middle rest : List Step) → start ≤ length middle → IsFirst m start middle → IsUnder m start middle →
     IsFirst m (length middle) (middle ++ rest) → IsFirst m start (middle ++ rest)
 first_joined m start middle rest less one under other place from inside over = by (cases_lt place (length middle)) (cases_eq place (length middle))

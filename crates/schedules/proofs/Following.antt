@@ -14,17 +14,22 @@ use Rattle.schedules.proofs.Ending.{IsFirst, IsUnder, first_begins, first_joined
 
 -- The sweep has come so far, and is not over: it goes on with a whole round, where there is room.
 pub record IsFollowing (limit : ℕ) (old l : Log) : Type 0 where
+  -- It has the opening of the log that the sweep began with.
   pub opening : l.opening ≡ old.opening
+  -- Its machine is what its steps make of the opening.
   pub replay : IsReplay l.opening l.steps l.machine
   pub whole : ℕ
   pub part : ℕ
+  -- Its steps are what is entered of whole rounds and of a part of one.
   pub steps : l.steps ≡ entered_of old.opening old.steps (rounds old.machine.config.k whole ++ take part (round old.machine.config.k))
   pub cut : (take part (round old.machine.config.k) ≡ []) ⊎ (limit ≤ length l.steps)
   pub longer : length old.steps ≤ length l.steps
+  -- Its steps are at most as many as the limit.
   pub few : length l.steps ≤ limit
   pub first : IsFirst old.opening (length old.steps) l.steps
   pub under : IsUnder old.opening (length old.steps) l.steps
 
+-- A log within the limit on whose machine a processor runs follows the sweep from itself on.
 pub following_begins : (limit : ℕ) (l : Log) → length l.steps ≤ limit → IsReplay l.opening l.steps l.machine → HasRunning l.machine → IsFollowing limit l l
 following_begins limit l few replay runs = record {
   opening = refl;
@@ -96,7 +101,7 @@ module _ (limit : ℕ) (old l new : Log) (f : IsFollowing limit old l) (size : l
   after : new.steps ≡ entered_of old.opening old.steps (rounds k f.whole ++ take r.part (round k))
   after = rounds_more old.opening old.steps l.steps new.steps k f.whole r.part so_far part_is
 
-  -- what it has more stands behind what it had
+  -- what it has more stands after what it had
   behind : (rest : List Step) × (new.steps ≡ l.steps ++ rest)
   behind = let e = own_entered old.opening l.steps (take r.part (round k)) (own_asked k 0 r.part) in (e.0, part_is ∙ e.2)
 
@@ -108,6 +113,7 @@ module _ (limit : ℕ) (old l new : Log) (f : IsFollowing limit old l) (size : l
       subst (IsFirst old.opening start) (sym behind.1)
       (first_joined old.opening start l.steps behind.0 f.longer f.first f.under (subst (IsFirst old.opening (length l.steps)) behind.1 first_here))
 
+  -- If the next round ends where the sweep is over, the log has followed the sweep to its end.
   pub following_over : b ≡ true → HasFollowed limit old Over new
   following_over is = record {
     opening = opens;
@@ -120,6 +126,7 @@ module _ (limit : ℕ) (old l new : Log) (f : IsFollowing limit old l) (size : l
     ends = over_sooner old.opening start (length l.steps) new.steps f.longer (subst (λ m. IsOver m (length l.steps) new.steps) f.opening (r.over is));
   }
 
+  -- If the next round ends where the sweep is not over, the log is still following the sweep.
   pub following_more : b ≡ false → IsFollowing limit old new
   following_more is = by g.whole
     where

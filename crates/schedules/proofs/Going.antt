@@ -39,6 +39,7 @@ module _ (limit : ℕ) (start l new : Log) (i j : ℕ) (s : Step) (o : Outcome) 
   few : length new.steps ≤ limit
   few = let one = at_most_one l.steps new.steps s o taken.steps in omega (arith, one, inside)
 
+  -- If the step is no fault, and stops no processor or leaves one running, the round goes on at the next place.
   pub step_goes_on : (IsFault o → ⊥) × ((IsStop o → ⊥) ⊎ HasRunning new.machine) → IsInRound limit start j new
   step_goes_on plain =
       let under = step_under start l new s o b.opening b.replay own taken (under_of limit start i l b) replayed plain in
@@ -53,6 +54,7 @@ module _ (limit : ℕ) (start l new : Log) (i j : ℕ) (s : Step) (o : Outcome) 
         sound = under.sound;
       }
 
+  -- If the step is a fault, or leaves no processor running, the round ends there, and the sweep is over.
   pub step_ends : IsFault o ⊎ (HasRunning new.machine → ⊥) → WasAskedRound limit start true new
   step_ends over =
       round_over limit start new j (taken.opening ∙ b.opening) replayed asked few
@@ -83,7 +85,7 @@ full_ends limit start l i b room full =
 
 -- ---- a row
 
--- the first wire of a row that is found, on a machine of so many stages
+-- the first wire of a row that is found, on a machine of this many stages
 abbrev IsFound : (number : ℕ → ℕ) → MachineLists → (k wire next : ℕ) → Type 0
 IsFound number m k wire next = (wire ≤ next) × (next < 2 ^ k) × AreQuiet m (number k * 2 ^ k + wire) (number k * 2 ^ k + next)
 
@@ -105,6 +107,7 @@ row_step number seen m k wire next s same size first there =
       },
     )
 
+-- If the steps of a row from a wire on stall on the machine that is seen, they stall on the machine.
 pub quiet_here : (number : ℕ → ℕ) (seen m : MachineLists) (k wire : ℕ) → seen ≡ m → m.config.k ≡ k →
     AreQuiet seen (number seen.config.k * 2 ^ seen.config.k + wire) ((number seen.config.k + 1) * 2 ^ seen.config.k) →
     AreQuiet m (number k * 2 ^ k + wire) ((number k + 1) * 2 ^ k)
@@ -129,9 +132,11 @@ row_goes_on limit k number wire start l few less within size b quiet =
 
 -- ---- from part to part
 
+-- A round whose log stays as it is has come from a place to the same place.
 pub gone_nowhere : (limit i : ℕ) (l : Log) → HasGone limit i i l None l
 gone_nowhere limit i l = record { config = refl; on = λ e start b. b; ended = λ is_over e start room b. absurd (cc) }
 
+-- A round that has come from one place to another, and from there to a third, has come from the first to the third.
 pub gone_on : (limit i j k : ℕ) (old mid new : Log) (end : Option Bool) → HasGone limit i j old None mid → HasGone limit j k mid end new →
     HasGone limit i k old end new
 gone_on limit i j k old mid new end first second = record {
@@ -140,6 +145,7 @@ gone_on limit i j k old mid new end first second = record {
   ended = λ is_over e start room b. second.ended is_over e start room (first.on refl start b);
 }
 
+-- A round that has come from i to j has come from i' to j' if these are the same places.
 pub gone_at : {limit i j i' j' : ℕ} {old new : Log} {end : Option Bool} → HasGone limit i j old end new → i ≡ i' → j ≡ j' → HasGone limit i' j' old end new
 gone_at {limit} {i} {j} {i'} {j'} {old} {new} {end} gone same same' =
     subst (λ n. HasGone limit n j' old end new) same (subst (λ n. HasGone limit i n old end new) same' gone)
@@ -151,6 +157,7 @@ ended_before gone = record { config = gone.config; on = λ e. absurd (cc); ended
 abbrev pub stages_of : Log → ℕ
 stages_of l = l.machine.config.k
 
+-- A machine that is seen has as many stages as the configuration that is its own.
 pub same_stages : {d : Config} {m n : MachineLists} → d ≡ m.config → m ≡ n → d.k ≡ n.config.k
 same_stages config machine = ap (λ (d : Config). d.k) (config ∙ ap (λ (m : MachineLists). m.config) machine)
 
@@ -185,9 +192,11 @@ module _ (limit : ℕ) (old new : Log) (room : length old.steps < limit) (is : I
     sound = none_faulted old.opening (length old.steps) old.steps (omega arith);
   }
 
+  -- If a round from its beginning has ended, it was asked for, and the sweep is over if the end says so.
   pub round_ends : (to : ℕ) (end : Option Bool) (is_over : Bool) → HasGone limit 0 to old end new → end ≡ Some is_over → WasAskedRound limit old is_over new
   round_ends to end is_over gone e = gone.ended is_over e old room begins
 
+  -- If a round has come to its last place, it was asked for, and the sweep is not over.
   pub round_is_through : (to : ℕ) → HasGone limit 0 to old None new → length (round old.machine.config.k) ≤ to → WasAskedRound limit old false new
   round_is_through to gone all =
       let b = gone.on refl old begins in

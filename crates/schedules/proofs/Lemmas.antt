@@ -2,7 +2,7 @@
 
 -- What is entered of steps that are asked for.
 pub use Rattle.schedules.proofs.Asking.{asked_append, at_most_one, longer, none_asked, one_asked}
--- Where a run is over, and what a step more tells of it.
+-- Where a run is over, and what a step more says of it.
 pub use Rattle.schedules.proofs.Ending.{IsFirst, IsUnder, first_begins, has_running, none_faulted, not_over, runs_after}
 pub use Rattle.schedules.proofs.RoundEnds.{step_first, step_over, step_under}
 -- Steps that write nothing from outside, and their records in a trace.

@@ -18,7 +18,7 @@ use Rattle.schedules.proofs.Own.{own_asked}
 
 -- ---- of two sweeps one goes on where the other stops
 
--- what is asked for in so many rounds and a part of one
+-- what is asked for in this many rounds and a part of one
 abbrev asked : (k whole part : ℕ) → List Step
 asked k whole part = rounds k whole ++ take part (round k)
 

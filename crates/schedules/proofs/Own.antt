@@ -12,7 +12,7 @@ use Rattle.machine_steps.specs.machine_theory.Theory.{Program}
 use Rattle.steps.specs.Answers.{is_stalled}
 use Rattle.steps.specs.declared.step.Step.{Step}
 use Rattle.steps.specs.declared.step.Step.TheVariants as step
-use Rattle.machine_steps.specs.machine_theory.Processors.{Told, sizes_of, program}
+use Rattle.machine_steps.specs.machine_theory.Processors.{ObservedCore, sizes_of, program}
 use Rattle.machine_steps.specs.Draining.{drain_bound, drain_step, drain_steps, step_of}
 use Rattle.machine_steps.specs.Machines.{MachineLists, machine_of}
 use Rattle.machine_steps.proofs.Lemmas.{named_step}
@@ -21,10 +21,12 @@ pub use Rattle.schedules.specs.Own.{AreOwn, IsOwn}
 use Rattle.machine_steps.specs.Runs.{answer_after}
 use Rattle.schedules.specs.Sweeps.{entered_of, rounds}
 
+-- If no step of two lists writes anything from outside, none of the two joined does.
 pub own_both : (xs ys : List Step) → AreOwn xs → AreOwn ys → AreOwn (xs ++ ys)
 own_both [] ys a b = b
 own_both (x ∷ xs) ys a b = (a.0, own_both xs ys a.1 b)
 
+-- If no step of two lists joined writes anything from outside, none of the second does.
 pub own_behind : (xs ys : List Step) → AreOwn (xs ++ ys) → AreOwn ys
 own_behind [] ys a = a
 own_behind (x ∷ xs) ys a = own_behind xs ys a.1
@@ -41,6 +43,7 @@ own_at (x ∷ xs) (suc i) s own there = own_at xs i s own.1 there
 
 -- ---- the sweep
 
+-- If f gives for each number a step that writes nothing from outside, no step for a list of numbers does.
 pub own_each : (f : ℕ → Step) → ((w : ℕ) → IsOwn (f w)) → (ws : List ℕ) → AreOwn (map f ws)
 own_each f own [] = tt
 own_each f own (w ∷ ws) = (own w, own_each f own ws)
@@ -68,17 +71,19 @@ own_rounds : (k count : ℕ) → AreOwn (rounds k count)
 own_rounds k zero = tt
 own_rounds k (suc n) = own_both (rounds k n) (round k) (own_rounds k n) (own_round k)
 
+-- No step of a round writes anything from outside.
 pub step_of_round : (k place : ℕ) (s : Step) → slice_get (round k) place ≡ Some s → IsOwn s
 step_of_round k place s there = own_at (round k) place s (own_round k) there
 
--- what is asked for in so many rounds and a part of one
+-- what is asked for in this many rounds and a part of one
 pub own_asked : (k whole part : ℕ) → AreOwn (rounds k whole ++ take part (round k))
 own_asked k whole part = own_both (rounds k whole) (take part (round k)) (own_rounds k whole) (own_front part (round k) (own_round k))
 
--- what is entered of such steps stands behind what was there, and is such
+-- what is entered of such steps stands after what was there, and is such
 abbrev IsOwnBehind : (done new : List Step) → Type 0
 IsOwnBehind done new = (rest : List Step) × AreOwn rest × (new ≡ done ++ rest)
 
+-- What is entered of steps that write nothing from outside comes after the steps before, and writes nothing either.
 pub own_entered : (m : MachineLists) (done asked : List Step) → AreOwn asked → IsOwnBehind done (entered_of m done asked)
 unfolding entered_of
 own_entered m done [] own = ([], tt, sym (append-nil done))
@@ -106,7 +111,7 @@ of_stage : (o : Option ℕ) (f : ℕ → Option theory.Step) → ((s : ℕ) → 
 of_stage None f h = tt
 of_stage (Some s) f h = h s
 
-names_own : (z : Sizes) (M : theory.Machine Told) → NamesOwn (draining.drain_step z M)
+names_own : (z : Sizes) (M : theory.Machine ObservedCore) → NamesOwn (draining.drain_step z M)
 names_own z M =
     let net : Net = M.net in
     either (first_wire (net.replies 0) (wires z) theory.Turn)
@@ -120,21 +125,23 @@ names_own z M =
     (of_stage (greatest (λ s. some_wire (net.requests s) (wires z)) z.k) (λ s. first_wire (net.requests s) (wires z) (theory.Up s))
     (λ s. of_wire (least (λ w. is_any (net.requests s w)) (wires z)) (theory.Up s) (λ w. tt)))))
 
+-- The step that a drain takes next writes nothing from outside.
 pub drain_is_own : (m : MachineLists) (s : Step) → drain_step m ≡ Some s → IsOwn s
 drain_is_own m s e =
-    let M : theory.Machine Told = machine_of m (λ p. []) in
+    let M : theory.Machine ObservedCore = machine_of m (λ p. []) in
     let n = named_step (draining.drain_step (sizes_of m.config) M) s e in
     subst IsOwn n.2 (subst NamesOwn n.1 (names_own (sizes_of m.config) M))
 
-drains_own : (z : Sizes) (P : Program Told) (bound : ℕ) (M : theory.Machine Told) → AreOwn (map step_of (draining.drain_steps z P bound M))
+drains_own : (z : Sizes) (P : Program ObservedCore) (bound : ℕ) (M : theory.Machine ObservedCore) → AreOwn (map step_of (draining.drain_steps z P bound M))
 unfolding draining.drain_steps
 drains_own z P zero M = tt
 drains_own z P (suc n) M = by (draining.drain_step z M) (names_own z M) (λ N. drains_own z P n N)
   where
-    by : (o : Option theory.Step) → NamesOwn o → ((N : theory.Machine Told) → AreOwn (map step_of (draining.drain_steps z P n N))) →
+    by : (o : Option theory.Step) → NamesOwn o → ((N : theory.Machine ObservedCore) → AreOwn (map step_of (draining.drain_steps z P n N))) →
         AreOwn (map step_of (elim o [ Some st ↦ st ∷ draining.drain_steps z P n (theory.step z P M st).machine | None ↦ [] ]))
     by None own later = tt
     by (Some st) own later = (own, later (theory.step z P M st).machine)
 
+-- No step of a drain writes anything from outside.
 pub drain_steps_are_own : (m : MachineLists) → AreOwn (drain_steps m)
 drain_steps_are_own m = drains_own (sizes_of m.config) (program m.config m.code) (drain_bound m.config) (machine_of m (λ p. []))

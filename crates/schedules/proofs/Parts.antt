@@ -7,20 +7,24 @@ use Rattle.schedules.specs.Sweeps.{HasGone}
 use Rattle.schedules.proofs.Going.{gone_at, row_gone, stages_of, then_gone}
 use Rattle.schedules.proofs.Places.{round_length}
 
+-- A round that has come through row 0 has come through the turns.
 pub turns_gone : {limit : ℕ} {old new : Log} {end : Option Bool} → HasGone limit (0 * 2 ^ stages_of old) ((0 + 1) * 2 ^ stages_of old) old end new →
     HasGone limit 0 (2 ^ stages_of old) old end new
 turns_gone gone = gone_at gone (omega arith) (omega arith)
 
+-- A round that has come through the turns, and then through the moves up, has come through both.
 pub ups_gone : {limit : ℕ} {old l new : Log} {end : Option Bool} → HasGone limit 0 (2 ^ stages_of old) old None l →
     HasGone limit (2 ^ stages_of l) ((stages_of l + 1) * 2 ^ stages_of l) l end new → HasGone limit 0 ((stages_of old + 1) * 2 ^ stages_of old) old end new
 ups_gone {limit} {old} {l} {new} {end} = then_gone limit 0 (λ n. 2 ^ n) (λ n. (n + 1) * 2 ^ n) old l new end
 
+-- A round that has come through the turns and moves up, and then through the services, has come through them all.
 pub services_gone : {limit : ℕ} {old l new : Log} {end : Option Bool} → HasGone limit 0 ((stages_of old + 1) * 2 ^ stages_of old) old None l →
     HasGone limit ((stages_of l + 1) * 2 ^ stages_of l) ((stages_of l + 1 + 1) * 2 ^ stages_of l) l end new →
     HasGone limit 0 ((stages_of old + 2) * 2 ^ stages_of old) old end new
 services_gone {limit} {old} {l} {new} {end} before gone =
     gone_at (then_gone limit 0 (λ n. (n + 1) * 2 ^ n) (λ n. (n + 1 + 1) * 2 ^ n) old l new end before gone) refl (ap (λ n. n * 2 ^ stages_of old) (omega arith))
 
+-- A round that has come so far, and then through the moves down, has come through all its steps.
 pub all_gone : {limit : ℕ} {old l new : Log} {end : Option Bool} → stages_of old ≤ 6 → HasGone limit 0 ((stages_of old + 2) * 2 ^ stages_of old) old None l →
     HasGone limit ((stages_of l + 2) * 2 ^ stages_of l) ((2 * stages_of l + 2) * 2 ^ stages_of l) l end new →
     HasGone limit 0 (length (round (stages_of old))) old end new
@@ -28,7 +32,7 @@ all_gone {limit} {old} {l} {new} {end} few before gone =
     gone_at (then_gone limit 0 (λ n. (n + 2) * 2 ^ n) (λ n. (2 * n + 2) * 2 ^ n) old l new end before gone) refl
     (let count = round_length (stages_of old) few in omega (arith, count))
 
--- a row of moves up, behind so many others
+-- a row of moves up, after this many others
 pub up_gone : {limit passed stages : ℕ} {old l new : Log} {end : Option Bool} → stages ≡ stages_of old → passed < stages →
     HasGone limit (1 * 2 ^ stages_of old) ((passed + 1) * 2 ^ stages_of old) old None l →
     HasGone limit ((stages_of l - (stages - 1 - passed)) * 2 ^ stages_of l) ((stages_of l - (stages - 1 - passed) + 1) * 2 ^ stages_of l) l end new →

@@ -47,6 +47,7 @@ round_at k place few within =
     ∙ slice_get-map (there k) (range_with_len 0 all) place
     ∙ ap (option_map (there k)) (get-range 0 all place within ∙ ap Some (zero-add place))
 
+-- A round of a network of k stages has 2 k + 2 rows of a step for each wire.
 pub round_length : (k : ℕ) → k ≤ 6 → length (round k) ≡ 2 ^ k * (2 * k + 2)
 round_length k few = ap length (round_is k few) ∙ length-map-range_with_len (there k) 0 (2 ^ k * (2 * k + 2))
 
@@ -81,14 +82,18 @@ module _ (k row wire : ℕ) (few : k ≤ 6) (at_most : row < 2 * k + 2) (within 
       round_at k (row * 2 ^ k + wire) few (mul-add-lt row (2 ^ k) wire (2 * k + 2) at_most within)
       ∙ ap Some (ap₂ (in_row k) (div-mul-add row (2 ^ k) wire within) (mod-mul-add row (2 ^ k) wire within) ∙ is)
 
+  -- Row 0 has the turns.
   pub turn_at : row ≡ 0 → slice_get (round k) (row * 2 ^ k + wire) ≡ Some (Turn wire)
   turn_at is = at_wire (Turn wire) (turn_in k row wire is)
 
+  -- A row from 1 to k has the moves up of requests before stage k - row.
   pub up_at : 0 < row → row ≤ k → slice_get (round k) (row * 2 ^ k + wire) ≡ Some (Up (k - row) wire)
   up_at some up = at_wire (Up (k - row) wire) (up_in k row wire some up)
 
+  -- Row k + 1 has the services.
   pub serve_at : row ≡ k + 1 → slice_get (round k) (row * 2 ^ k + wire) ≡ Some (Serve wire)
   serve_at is = at_wire (Serve wire) (serve_in k row wire is)
 
+  -- A row after row k + 1 has the moves down of replies after stage row - (k + 2).
   pub down_at : k + 1 < row → slice_get (round k) (row * 2 ^ k + wire) ≡ Some (Down (row - (k + 2)) wire)
   down_at behind = at_wire (Down (row - (k + 2)) wire) (down_in k row wire behind)

@@ -18,8 +18,8 @@ use Rattle.steps.specs.declared.step.Step.{Step}
 use Rattle.steps.specs.declared.step.Step.TheVariants as step
 use Rattle.steps.specs.declared.step.Outcome.{Outcome}
 use Rattle.steps.specs.declared.step.Outcome.TheVariants.{Stalled}
-use Rattle.machine_steps.specs.machine_theory.Processors.{Told, sizes_of, kind_of, kind_of_turn, next, program}
-use Rattle.machine_steps.specs.machine_theory.Steps.{answer_of, told_of_turn, outcome_of, machine_of_parts}
+use Rattle.machine_steps.specs.machine_theory.Processors.{ObservedCore, sizes_of, kind_of, kind_of_turn, next, program}
+use Rattle.machine_steps.specs.machine_theory.Steps.{answer_of, outcome_of_turn, outcome_of, machine_of_parts}
 use Rattle.machine_steps.specs.Machines.{MachineLists, machine_of, IsMachine, IsIdle}
 use Rattle.machine_steps.specs.Draining.{drain_step}
 use Rattle.machine_steps.proofs.Lemmas.{goes_on, none_idle}
@@ -78,6 +78,7 @@ in_downs k (suc stage) s w few within = by (cases_eq s stage) (λ less. in_downs
 abbrev turns_and_ups : ℕ → List Step
 turns_and_ups k = on_each_wire k step.Turn ++ ups k k
 
+-- Each step that asks a machine of k stages for something is in its round.
 pub in_round : (k : ℕ) (s : Step) → IsOfRound k s → Stands (round k) s
 unfolding round
 in_round k (step.Turn p) within =
@@ -96,14 +97,14 @@ in_round k (step.Poke q) within = absurd within
 
 -- ---- what does not stall is of the round
 
-module _ (c : Config) (code : List ℕ) (M : theory.Machine Told) where
+module _ (c : Config) (code : List ℕ) (M : theory.Machine ObservedCore) where
   abbrev turns : ℕ → Turn
   turns p = next c code p (M.core p).state
 
   abbrev answers : theory.Outcome → Outcome
   answers = answer_of turns
 
-  inside : (a n : ℕ) (r : theory.Result Told) (b : Bool) → nat_lt a n ≡ b → (answers (if b then r else stalled M).outcome ≡ Stalled → ⊥) → a < n
+  inside : (a n : ℕ) (r : theory.Result ObservedCore) (b : Bool) → nat_lt a n ≡ b → (answers (if b then r else stalled M).outcome ≡ Stalled → ⊥) → a < n
   inside a n r true e moves = ltb-true a n e
   inside a n r false e moves = absurd (moves refl)
 
@@ -121,6 +122,7 @@ module _ (c : Config) (code : List ℕ) (M : theory.Machine Told) where
   stage_down s w true false e moves = absurd (moves refl)
   stage_down s w false false e moves = absurd (moves refl)
 
+  -- A step that writes nothing from outside and does not stall is a step of a round.
   pub of_round : (s : Step) → IsOwn s → (outcome_of c code M s ≡ Stalled → ⊥) → IsOfRound c.k s
   unfolding outcome_of moved_up moved_down
   of_round (step.Turn p) plain moves = inside p (2 ^ c.k) (turned (program c code) M p (M.is_open p)) (nat_lt p (2 ^ c.k)) refl moves
@@ -139,8 +141,8 @@ module _ (c : Config) (code : List ℕ) (M : theory.Machine Told) where
   -- ---- where no reference is open, a processor that runs has a turn
 
   begins : (p : ℕ) (t : Turn) → turns p ≡ t → answers (begin (program c code) M p (kind_of_turn t)).outcome ≡ Stalled → ⊥
-  begins p (Retires after retired) e s = (let wrong : told_of_turn (Retires after retired) ≡ Stalled = ap told_of_turn (sym e) ∙ s in absurd (cc))
-  begins p (Stops cause) e s = (let wrong : told_of_turn (Stops cause) ≡ Stalled = ap told_of_turn (sym e) ∙ s in absurd (cc))
+  begins p (Retires after retired) e s = (let wrong : outcome_of_turn (Retires after retired) ≡ Stalled = ap outcome_of_turn (sym e) ∙ s in absurd (cc))
+  begins p (Stops cause) e s = (let wrong : outcome_of_turn (Stops cause) ≡ Stalled = ap outcome_of_turn (sym e) ∙ s in absurd (cc))
   begins p (Reaches word change after) e s = absurd (cc)
 
   turn_moves : (p : ℕ) → p < 2 ^ c.k → M.is_open p ≡ false → is_running (M.core p).state.status ≡ true → outcome_of c code M (step.Turn p) ≡ Stalled → ⊥
@@ -169,5 +171,6 @@ module _ (m : MachineLists) (is : IsMachine m) (running : HasRunning m) where
       (s, (of_round m.config m.code (machine_of m (λ p. [])) s (drain_is_own m s e) moves, moves))
   by_drain None e = (step.Turn running.0, (running.1, idle_moves (none_idle m is e)))
 
+  -- If a processor runs, some step of a round does not stall.
   pub some_step_moves : (s : Step) × Goes s
   some_step_moves = by_drain (drain_step m) refl

@@ -25,17 +25,20 @@ module _ (m : MachineLists) (few : m.config.k ≤ 6) where
   quiet_by : (place : ℕ) (s : Step) → slice_get (round k) place ≡ Some s → answer s ≡ Stalled → IsQuiet m place
   quiet_by place s there e t found = (let is : s ≡ t = (let f = sym there ∙ found in cc) in ap answer (sym is) ∙ e)
 
+  -- If a wire has no request before stage k - row, the step of the row at this wire stalls.
   pub up_quiet : (row w : ℕ) → 0 < row → row ≤ k → w < 2 ^ k → is_some (slice_get ((net_of m.network).requests (k - row) w) 0) ≡ false →
       IsQuiet m (row * 2 ^ k + w)
   up_quiet row w some at_most within none =
       quiet_by (row * 2 ^ k + w) (step.Up (k - row) w) (up_at k row w few (omega (arith, at_most)) within some at_most)
       (up_stalls m (k - row) w (none_there ((net_of m.network).requests (k - row) w) none))
 
+  -- If a module has no request, the step of the row of services at its wire stalls.
   pub serve_quiet : (row w : ℕ) → row ≡ k + 1 → w < 2 ^ k → is_some (slice_get ((net_of m.network).requests k w) 0) ≡ false → IsQuiet m (row * 2 ^ k + w)
   serve_quiet row w is within none =
       quiet_by (row * 2 ^ k + w) (step.Serve w) (serve_at k row w few (omega (arith, is)) within is)
       (serve_stalls m w (none_there ((net_of m.network).requests k w) none))
 
+  -- If a wire has no reply at depth row - (k + 1), the step of the row at this wire stalls.
   pub down_quiet : (row w : ℕ) → k + 1 < row → row < 2 * k + 2 → w < 2 ^ k → is_some (slice_get ((net_of m.network).replies (row - (k + 1)) w) 0) ≡ false →
       IsQuiet m (row * 2 ^ k + w)
   down_quiet row w behind at_most within none =

@@ -9,7 +9,7 @@ use Rattle.steps.specs.declared.step.Step.{Step}
 use Rattle.steps.specs.declared.step.Step.TheVariants as step
 use Rattle.trace_file.specs.Records.{HasRecord}
 use Rattle.trace_file.specs.Traces.{HaveRecords}
-use Rattle.machine_steps.specs.machine_theory.Processors.{Told}
+use Rattle.machine_steps.specs.machine_theory.Processors.{ObservedCore}
 use Rattle.machine_steps.specs.machine_theory.Steps.{after}
 use Rattle.machine_steps.specs.Draining.{drain_steps}
 use Rattle.machine_steps.specs.Machines.{machine_of}
@@ -32,14 +32,14 @@ of_round_has_record k (step.Down s w) within = both s w k (2 ^ k) within.0 withi
 of_round_has_record k (step.Poke q) within = absurd within
 
 -- steps that all do something, and write nothing from outside
-pub moves_have_records : (c : Config) (code : List ℕ) (M : theory.Machine Told) (steps : List Step) → AreOwn steps → NoneStalls c code M steps →
+pub moves_have_records : (c : Config) (code : List ℕ) (M : theory.Machine ObservedCore) (steps : List Step) → AreOwn steps → NoneStalls c code M steps →
     HaveRecords c.k steps
 moves_have_records c code M [] own moves = All-nil (HasRecord c.k)
 moves_have_records c code M (s ∷ ss) own moves =
     All-cons (HasRecord c.k) s ss (of_round_has_record c.k s (of_round c code M s own.0 moves.0))
     (moves_have_records c code (after c code M s) ss own.1 moves.1)
 
-pub later_moves : (c : Config) (code : List ℕ) (M : theory.Machine Told) (xs ys : List Step) → NoneStalls c code M (xs ++ ys) →
+pub later_moves : (c : Config) (code : List ℕ) (M : theory.Machine ObservedCore) (xs ys : List Step) → NoneStalls c code M (xs ++ ys) →
     NoneStalls c code (all_after c code M xs) ys
 unfolding all_after
 later_moves c code M [] ys moves = moves
@@ -61,6 +61,7 @@ module _ (old middle new : Log) (asked : List Step) (asked_are_own : AreOwn aske
   config_is : new.machine.config ≡ old.machine.config
   config_is = replay.run.config ∙ ap (λ m. m.config) opening ∙ sym size
 
+  -- If a trace has a record of each step before, it has one of each step that was entered and of the drain.
   pub drained_has_records : HaveRecords old.machine.config.k old.steps → HaveRecords new.machine.config.k new.steps
   drained_has_records before =
       let moves = subst (NoneStalls new.opening.config new.opening.code (machine_of new.opening (λ p. []))) more.2 replay.moved in
@@ -71,6 +72,7 @@ module _ (old middle new : Log) (asked : List Step) (asked_are_own : AreOwn aske
       subst (λ (c : Config). HaveRecords c.k new.steps) (sym config_is)
       (subst (HaveRecords old.machine.config.k) (sym more.2) (All-append (HasRecord old.machine.config.k) old.steps more.0 before here))
 
+-- If a trace has a record of each step before a sweep, it has one of each step after the sweep and its drain.
 pub swept_has_records : (most : ℕ) (old : Log) (end : SweepEnd) (new : Log) → IsSwept most old end new → IsReplay new.opening new.steps new.machine →
     old.machine.config ≡ old.opening.config → HaveRecords old.machine.config.k old.steps → HaveRecords new.machine.config.k new.steps
 swept_has_records most old end new swept replay size =

@@ -28,6 +28,7 @@ module _ (old l new : Log) (s : Step) (o : Outcome) (opens : l.opening ≡ old.o
   steps_are : new.steps ≡ entered l.steps s (answer_after old.opening l.steps s)
   steps_are = taken.steps ∙ ap (entered l.steps s) answer_is
 
+  -- If the sweep is not over and was over at no place before, it was over at none before the end of one more step.
   pub step_first : IsFirst old.opening (length old.steps) l.steps → IsFirst old.opening (length old.steps) new.steps
   step_first first = subst (IsFirst old.opening (length old.steps)) (sym taken.steps) (first_on old.opening (length old.steps) l.steps s o first under)
 
@@ -40,6 +41,7 @@ module _ (old l new : Log) (s : Step) (o : Outcome) (opens : l.opening ≡ old.o
     running_on (inl plain) =
         subst (RunsAfter old.opening) (sym steps_are) (runs_on old.opening l.steps s own (λ stop. plain (subst IsStop (sym answer_is) stop)) under.running)
 
+    -- If the step is no fault, and stops no processor or leaves one running, the sweep is not over.
     pub step_under : (IsFault o → ⊥) × ((IsStop o → ⊥) ⊎ HasRunning new.machine) → IsUnder old.opening (length old.steps) new.steps
     step_under (plain, runs) = record {
       running = running_on runs;
@@ -47,6 +49,7 @@ module _ (old l new : Log) (s : Step) (o : Outcome) (opens : l.opening ≡ old.o
           (subst (λ xs. EndsInFault old.opening (length old.steps) xs) steps_are f);
     }
 
+    -- If the step is a fault, or leaves no processor running, the sweep is over.
     pub step_over : length old.steps ≤ length l.steps → IsFault o ⊎ (HasRunning new.machine → ⊥) → IsOver old.opening (length old.steps) new.steps
     step_over behind (inl fault) =
         inl (subst (λ xs. EndsInFault old.opening (length old.steps) xs) (sym steps_are)

@@ -15,6 +15,7 @@ module _ (m : MachineLists) (base wires wire : ℕ) (set : ℕ → Bool) (few : 
       subst (IsQuiet m) same (quiet (place - base) (omega (arith, before, within, from))
       (none (place - base) (omega (arith, from)) (omega (arith, before, from))))
 
+  -- If the first wire of the set from a wire on is found, it is in the row, and the steps up to it stall.
   pub first_found : (o : Option ℕ) → IfSome o (IsFirst set wire) → IfSome o (λ w. (wire ≤ w) × (w < wires) × AreQuiet m (base + wire) (base + w))
   first_found None f = f
   first_found (Some w) f = by (cases_lt w wires)
@@ -23,15 +24,17 @@ module _ (m : MachineLists) (base wires wire : ℕ) (set : ℕ → Bool) (few : 
       by (inl less) = (f.behind, less, up_to w (omega (arith, less)) f.first)
       by (inr past) = absurd (true≢false (sym f.member ∙ few w past))
 
+  -- If the set has no wire from a wire on, the rest of the row's steps stall.
   pub none_found : (end : ℕ) → end ≡ base + wires → wires ≤ 64 → HasNoneIn set wire 64 → AreQuiet m (base + wire) end
   none_found end is most none =
       subst (AreQuiet m (base + wire)) (sym is) (up_to wires (omega arith) (λ w from before. none w from (omega (arith, before, most))))
 
--- behind the last row there is no step
+-- after the last row there is no step
 pub past_rows : (wires rows row wire : ℕ) → rows ≤ row → wires * rows ≤ row * wires + wire
 past_rows wires rows row wire past =
     let least : rows * wires ≤ row * wires = mul-le-mul_right wires past in
     omega (arith, least)
 
+-- The next row begins as many places after a row as there are wires.
 pub row_ends : (row wires : ℕ) → (row + 1) * wires ≡ row * wires + wires
 row_ends row wires = omega arith

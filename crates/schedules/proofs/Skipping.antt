@@ -25,7 +25,7 @@ module _ (old l : Log) (opens : l.opening ≡ old.opening) (size : l.machine.con
   abbrev all : List Step
   all = round old.machine.config.k
 
-  -- the log has entered what is entered of so many steps of the round
+  -- the log has entered what is entered of this many steps of the round
   abbrev pub HasAsked : (List Step) → ℕ → Type 0
   HasAsked steps i = steps ≡ entered_of old.opening old.steps (take i all)
 
@@ -45,6 +45,7 @@ module _ (old l : Log) (opens : l.opening ≡ old.opening) (size : l.machine.con
       (left_out l s r (quiet_here (i + n) s (quiet (i + n) (omega arith) (omega arith)) there)) in
       subst (HasAsked l.steps) (let same : i + n + 1 ≡ i + suc n = omega arith in same) more
 
+  -- If the steps of a round from one place up to another stall, what is entered up to either is the same.
   pub skipped_to : (i j : ℕ) → i ≤ j → j ≤ length all → AreQuiet l.machine i j → HasAsked l.steps i → HasAsked l.steps j
   skipped_to i j ahead within quiet before =
       let same : i + (j - i) ≡ j = omega (arith, ahead) in

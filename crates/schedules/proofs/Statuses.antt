@@ -31,8 +31,8 @@ use Rattle.machine_steps.specs.serialization.Program.{Kind, Rests, Alone, Refers
 use Rattle.steps.specs.declared.step.Outcome.{Outcome}
 use Rattle.steps.specs.declared.step.Step.{Step}
 use Rattle.steps.specs.declared.step.Step.TheVariants as step
-use Rattle.machine_steps.specs.machine_theory.Processors.{Told, alone_by, kind_of, next, program, retired_by, setting_of, sizes_of}
-use Rattle.machine_steps.specs.machine_theory.Steps.{after, answer_of, outcome_of, taken, told_of_turn}
+use Rattle.machine_steps.specs.machine_theory.Processors.{ObservedCore, alone_by, kind_of, next, program, retired_by, setting_of, sizes_of}
+use Rattle.machine_steps.specs.machine_theory.Steps.{after, answer_of, outcome_of, taken, outcome_of_turn}
 use Rattle.schedules.specs.Sweeps.{IsStop}
 use Rattle.schedules.proofs.Own.{IsOwn}
 
@@ -76,7 +76,8 @@ turn_keeps s code p = by (fetched code p.pc)
 
 -- ---- a step
 
-put_keeps : (core : ℕ → Told) (p : ℕ) (g : Told) → g.state.status ≡ (core p).state.status → (q : ℕ) → (put core p g q).state.status ≡ (core q).state.status
+put_keeps : (core : ℕ → ObservedCore) (p : ℕ) (g : ObservedCore) → g.state.status ≡ (core p).state.status → (q : ℕ) →
+    (put core p g q).state.status ≡ (core q).state.status
 unfolding put
 put_keeps core p g same q = by (eqb q p) refl
   where
@@ -84,21 +85,21 @@ put_keeps core p g same q = by (eqb q p) refl
     by true e = same ∙ ap (λ n. (core n).state.status) (sym (eqb-true q p e))
     by false e = refl
 
-module _ (c : Config) (code : List ℕ) (M : theory.Machine Told) where
+module _ (c : Config) (code : List ℕ) (M : theory.Machine ObservedCore) where
   abbrev turns : ℕ → Turn
   turns p = next c code p (M.core p).state
 
   abbrev answers : theory.Outcome → Outcome
   answers = answer_of turns
 
-  abbrev KeepsAll : theory.Result Told → Type 0
+  abbrev KeepsAll : theory.Result ObservedCore → Type 0
   KeepsAll r = (IsStop (answers r.outcome) → ⊥) → (q : ℕ) → (r.machine.core q).state.status ≡ (M.core q).state.status
 
-  either : (b : Bool) (r : theory.Result Told) → KeepsAll r → KeepsAll (if b then r else stalled M)
+  either : (b : Bool) (r : theory.Result ObservedCore) → KeepsAll r → KeepsAll (if b then r else stalled M)
   either true r keeps = keeps
   either false r keeps = λ plain q. refl
 
-  of_reply : (g : Told) (t : Turn) (value : ℕ) → KeepsStatus g.state t → (retired_by g (after_reply t value)).state.status ≡ g.state.status
+  of_reply : (g : ObservedCore) (t : Turn) (value : ℕ) → KeepsStatus g.state t → (retired_by g (after_reply t value)).state.status ≡ g.state.status
   of_reply g (Reaches word change after) value keeps = keeps value
   of_reply g (Retires after retired) value keeps = refl
   of_reply g (Stops cause) value keeps = refl
@@ -115,7 +116,7 @@ module _ (c : Config) (code : List ℕ) (M : theory.Machine Told) where
       (alone_by (M.core p) t).state.status ≡ (M.core p).state.status
   alone p (Retires after retired) e keeps plain = keeps
   alone p (Reaches word change after) e keeps plain = refl
-  alone p (Stops cause) e keeps plain = absurd (plain (subst (λ t. IsStop (told_of_turn t)) (sym e) tt))
+  alone p (Stops cause) e keeps plain = absurd (plain (subst (λ t. IsStop (outcome_of_turn t)) (sym e) tt))
 
   begins : (p : ℕ) (k : Kind) → KeepsAll (begin (program c code) M p k)
   begins p Rests = λ plain q. refl
@@ -149,6 +150,7 @@ module _ (c : Config) (code : List ℕ) (M : theory.Machine Told) where
   keeps_all (step.Down s w) own = either (nat_lt w (2 ^ c.k)) (went_down M (moved_down (sizes_of c) M.net s w)) (goes_down (moved_down (sizes_of c) M.net s w))
   keeps_all (step.Poke q) own = absurd own
 
+  -- A step that writes nothing from outside and stops no processor leaves what each processor is doing as it was.
   pub statuses_kept : (s : Step) → IsOwn s → (IsStop (outcome_of c code M s) → ⊥) → (q : ℕ) → ((after c code M s).core q).state.status ≡ (M.core q).state.status
   unfolding outcome_of after
   statuses_kept s own plain = keeps_all s own plain

@@ -1,5 +1,6 @@
 -- The steps that an arbiter picks from, and the numbers that it picks by.
-use Rattle.std.specs.Prelude.{ℕ, zero, suc, ◌+◌, ◌*◌, ◌/◌, ◌%◌, ◌^◌, ◌<◌, ◌==◌, List, [], ◌++◌, map, bit_xor, if◌then◌else◌}
+use Rattle.std.specs.Prelude.{ℕ, zero, suc, ◌+◌, ◌*◌, ◌/◌, ◌%◌, ◌^◌, ◌<◌, ◌==◌, List, [], ◌++◌, map, bit_xor}
+use Rattle.std.specs.Prelude.{if◌then◌else◌}
 use Rattle.std.specs.List.{range_with_len}
 use Rattle.steps.specs.declared.step.Step.{Step}
 use Rattle.steps.specs.declared.step.Step.TheVariants.{Turn, Up, Serve, Down, Poke}
@@ -33,7 +34,7 @@ IsOfNetwork k (Poke poke) = ⊥
 abbrev pub first_state : (start p : ℕ) → ℕ
 first_state start p = let sum = (start + p) % 2 ^ 32 in if sum == 0 then 1 else sum
 
--- the bits of a number, each changed where the bit so many places below it, or above it, is 1
+-- the bits of a number, each changed where the bit this many places below it, or above it, is 1
 abbrev pub mixed_up : (x places : ℕ) → ℕ
 mixed_up x places = bit_xor x ((x * 2 ^ places) % 2 ^ 32)
 

@@ -23,7 +23,7 @@ downs k (suc stage) = downs k stage ++ on_each_wire k (Down stage)
 unfoldable pub round : (k : ℕ) → List Step
 round k = on_each_wire k Turn ++ ups k k ++ on_each_wire k Serve ++ downs k k
 
--- where the sweep stands in its round, by how many steps of it are behind
+-- where the sweep stands in its round, by how many steps of it are after
 pub record Sweeping : Type 0 where
   pub k : ℕ
   pub place : ℕ

@@ -8,13 +8,14 @@ use Rattle.schedules.specs.Rounds.{round}
 
 -- the step at a place of the round stalls
 abbrev pub IsQuiet : MachineLists → (place : ℕ) → Type 0
-IsQuiet m place = (s : Step) → slice_get (round m.config.k) place ≡ Some s → outcome_of m.config m.code (machine_of m (λ p. [])) s ≡ Stalled
+IsQuiet m place = (s : Step) → slice_get (round m.config.k) place ≡ Some s →
+    outcome_of m.config m.code (machine_of m (λ p. [])) s ≡ Stalled
 
 -- so does each from one place on, up to another
 abbrev pub AreQuiet : MachineLists → (from to : ℕ) → Type 0
 AreQuiet m from to = (place : ℕ) → from ≤ place → place < to → IsQuiet m place
 
--- The step comes next in the round, where so many of its steps are behind; those in front of it that are left out stall.
+-- The step comes next in the round, where this many of its steps are after; those before it that are left out stall.
 pub record IsNext (m : MachineLists) (behind : ℕ) (s : Step) (behind' : ℕ) : Type 0 where
   pub place : ℕ
   pub there : slice_get (round m.config.k) place ≡ Some s

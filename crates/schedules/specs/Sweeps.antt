@@ -1,5 +1,6 @@
 -- What a machine's log enters by the sweep, and where a sweep ends.
-use Rattle.std.specs.Prelude.{◌≡◌, ◌⊎◌, ℕ, zero, suc, ◌+◌, ◌^◌, ◌≤◌, ◌<◌, Bool, true, false, min, List, [], ◌∷◌, ◌++◌, length, take, Option, Some, None}
+use Rattle.std.specs.Prelude.{◌≡◌, ◌⊎◌, ℕ, zero, suc, ◌+◌, ◌^◌, ◌≤◌, ◌<◌, Bool, true, false, min, List, [], ◌∷◌, ◌++◌}
+use Rattle.std.specs.Prelude.{length, take, Option, Some, None}
 use Rattle.flat_machine.specs.declared.config.Config.{Config}
 use Rattle.flat_machine.specs.declared.event.Cause.TheVariants as cause
 use Rattle.flat_machine.specs.declared.event.Status.{Status}
@@ -17,13 +18,13 @@ use Rattle.schedules.specs.Rounds.{round}
 use Rattle.schedules.specs.declared.sweeping.SweepEnd.{SweepEnd}
 use Rattle.schedules.specs.declared.sweeping.SweepEnd.TheVariants.{Over, Budget}
 
--- what is entered behind these steps of the ones that are asked for, one after another: each that does not stall where it is
--- asked for
+-- what is entered after these steps of the ones that are asked for, one after another: each that does not stall where
+-- it is asked for
 unfoldable pub entered_of : (opening : MachineLists) → (done asked : List Step) → List Step
 entered_of m done [] = done
 entered_of m done (s ∷ ss) = entered_of m (entered done s (answer_after m done s)) ss
 
--- so many rounds of the sweep, one after another
+-- this many rounds of the sweep, one after another
 abbrev pub rounds : (k count : ℕ) → List Step
 rounds k zero = []
 rounds k (suc n) = rounds k n ++ round k
@@ -52,7 +53,7 @@ abbrev pub IsFault : Outcome → Type 0
 IsFault (outcome.Stopped (cause.Fault fault)) = Unit {0}
 IsFault _ = ⊥
 
--- The last step, which stands behind so many others at least, is one in which a fault stopped a processor.
+-- The last step, which stands after this many others at least, is one in which a fault stopped a processor.
 pub record EndsInFault (opening : MachineLists) (start : ℕ) (steps : List Step) : Type 0 where
   pub before : List Step
   pub last : Step
@@ -60,30 +61,32 @@ pub record EndsInFault (opening : MachineLists) (start : ℕ) (steps : List Step
   pub behind : start ≤ length before
   pub fault : IsFault (answer_after opening before last)
 
--- A sweep that began behind so many steps is over: in its last step a fault stopped a processor, or no processor runs.
+-- A sweep that began after this many steps is over: in its last step a fault stopped a processor, or no processor runs.
 abbrev pub IsOver : (opening : MachineLists) → (start : ℕ) → (steps : List Step) → Type 0
 IsOver m start steps = EndsInFault m start steps ⊎ (RunsAfter m steps → ⊥)
 
--- where a sweep has ended that leaves so many steps at most
+-- where a sweep has ended that leaves this many steps at most
 abbrev pub EndsAt : (opening : MachineLists) → (start limit : ℕ) → (steps : List Step) → SweepEnd → Type 0
 EndsAt m start limit steps Over = IsOver m start steps
 EndsAt m start limit steps Budget = (length steps ≡ limit) × (IsOver m start steps → ⊥)
 
--- A log has followed the sweep from the beginning of a round, until a fault stopped a processor, none ran, or it had so many
--- steps.
+-- A log has followed the sweep from the beginning of a round, until a fault stopped a processor, none ran, or it had
+-- this many steps.
 pub record HasFollowed (limit : ℕ) (old : Log) (end : SweepEnd) (new : Log) : Type 0 where
   pub opening : new.opening ≡ old.opening
   pub replay : IsReplay new.opening new.steps new.machine
   -- it was asked for whole rounds, and for a part of one
   pub whole : ℕ
   pub part : ℕ
-  pub steps : new.steps ≡ entered_of old.opening old.steps (rounds old.machine.config.k whole ++ take part (round old.machine.config.k))
+  pub steps : new.steps
+      ≡ entered_of old.opening old.steps (rounds old.machine.config.k whole ++ take part (round old.machine.config.k))
   pub few : length new.steps ≤ limit
   -- it was not over before
-  pub first : (place : ℕ) → length old.steps ≤ place → place < length new.steps → IsOver old.opening (length old.steps) (take place new.steps) → ⊥
+  pub first : (place : ℕ) → length old.steps ≤ place → place < length new.steps →
+      IsOver old.opening (length old.steps) (take place new.steps) → ⊥
   pub ends : EndsAt old.opening (length old.steps) limit new.steps end
 
--- A log has followed the sweep for so many steps at most, and was then drained.
+-- A log has followed the sweep for this many steps at most, and was then drained.
 pub record IsSwept (most : ℕ) (old : Log) (end : SweepEnd) (new : Log) : Type 0 where
   pub middle : Log
   pub followed : HasFollowed (length old.steps + most) old end middle
@@ -93,7 +96,7 @@ pub record IsSwept (most : ℕ) (old : Log) (end : SweepEnd) (new : Log) : Type 
 
 -- ---- a whole run
 
--- The log has followed the sweep from its machine's opening on an image, for so many steps at most, and was drained.
+-- The log has followed the sweep from its machine's opening on an image, for this many steps at most, and was drained.
 pub record IsWholeRun (c : Config) (image : ImageContents) (most : ℕ) (end : SweepEnd) (log : Log) : Type 0 where
   pub opens : IsOpening c image log.opening
   pub replay : IsReplay log.opening log.steps log.machine
@@ -101,40 +104,45 @@ pub record IsWholeRun (c : Config) (image : ImageContents) (most : ℕ) (end : S
 
 -- ---- a round
 
--- A round was asked for, or a part of one, behind which there is no room; some step was entered, and the sweep is not over.
+-- A round was asked for, or a part of one, after which there is no room; some step was entered, and the sweep is not
+-- over.
 pub record IsUnderWay (limit : ℕ) (old : Log) (part : ℕ) (new : Log) : Type 0 where
   pub running : RunsAfter old.opening new.steps
   pub sound : EndsInFault old.opening (length old.steps) new.steps → ⊥
   pub whole : (take part (round old.machine.config.k) ≡ round old.machine.config.k) ⊎ (limit ≤ length new.steps)
   pub some : length old.steps < length new.steps
 
--- A round was asked for, or a part of one, behind which the sweep is over, or there is no room.
+-- A round was asked for, or a part of one, after which the sweep is over, or there is no room.
 pub record WasAskedRound (limit : ℕ) (old : Log) (is_over : Bool) (new : Log) : Type 0 where
   pub opening : new.opening ≡ old.opening
   pub replay : IsReplay new.opening new.steps new.machine
   pub part : ℕ
   pub steps : new.steps ≡ entered_of old.opening old.steps (take part (round old.machine.config.k))
   pub few : length new.steps ≤ limit
-  pub first : (place : ℕ) → length old.steps ≤ place → place < length new.steps → IsOver old.opening (length old.steps) (take place new.steps) → ⊥
+  pub first : (place : ℕ) → length old.steps ≤ place → place < length new.steps →
+      IsOver old.opening (length old.steps) (take place new.steps) → ⊥
   pub over : is_over ≡ true → IsOver old.opening (length old.steps) new.steps
   pub goes_on : is_over ≡ false → IsUnderWay limit old part new
 
 -- ---- a part of a round
 
--- So many steps of a round were asked for, and the sweep is not over.
+-- This many steps of a round were asked for, and the sweep is not over.
 pub record IsInRound (limit : ℕ) (old : Log) (part : ℕ) (new : Log) : Type 0 where
   pub opening : new.opening ≡ old.opening
   pub config : new.machine.config ≡ old.machine.config
   pub replay : IsReplay new.opening new.steps new.machine
   pub steps : new.steps ≡ entered_of old.opening old.steps (take part (round old.machine.config.k))
   pub few : length new.steps ≤ limit
-  pub first : (place : ℕ) → length old.steps ≤ place → place < length new.steps → IsOver old.opening (length old.steps) (take place new.steps) → ⊥
+  pub first : (place : ℕ) → length old.steps ≤ place → place < length new.steps →
+      IsOver old.opening (length old.steps) (take place new.steps) → ⊥
   pub running : RunsAfter old.opening new.steps
   pub sound : EndsInFault old.opening (length old.steps) new.steps → ⊥
 
--- A round that had come to one place has come to another. Or it has ended in between: the sweep is over, or there is no room.
+-- A round that had come to one place has come to another. Or it has ended in between: the sweep is over, or there is
+-- no room.
 pub record HasGone (limit from to : ℕ) (old : Log) (end : Option Bool) (new : Log) : Type 0 where
   pub config : new.machine.config ≡ old.machine.config
   pub on : end ≡ None → (start : Log) → IsInRound limit start from old → IsInRound limit start to new
-  pub ended : (is_over : Bool) → end ≡ Some is_over → (start : Log) → length start.steps < limit → IsInRound limit start from old →
+  pub ended : (is_over : Bool) → end ≡ Some is_over → (start : Log) → length start.steps < limit →
+      IsInRound limit start from old →
       WasAskedRound limit start is_over new

@@ -17,7 +17,8 @@ ghost use Rattle.schedules.specs.declared.sweeping.SweepEnd.{SweepEnd};
 /// The steps that a run enters are a function of the machine's size, the image and how many steps it
 /// enters at most: the same run comes out each time.
 pub fn runs_have_one_log()
-    ensures { (c : Config) (image : ImageContents) (most : ℕ) (end other : SweepEnd) (first second : Log) → IsWholeRun c image most end first →
+    ensures { (c : Config) (image : ImageContents) (most : ℕ) (end other : SweepEnd) (first second : Log) →
+        IsWholeRun c image most end first →
         IsWholeRun c image most other second → first.steps ≡ second.steps }
 {}
 

@@ -45,7 +45,8 @@ impl Round {
         requires { machine.now.config.k ≡ self.old.k }
         ensures size { self.new.k ≡ self.old.k }
         ensures next { IfSome result (λ step. IsNext machine.now self.old.place step self.new.place) }
-        ensures on { IfSome result (λ step. (self.old.place < self.new.place) × (self.new.place ≤ length (round self.old.k))) }
+        ensures on { IfSome result (λ step. (self.old.place < self.new.place)
+            × (self.new.place ≤ length (round self.old.k))) }
         ensures over { result ≡ None → AreQuiet machine.now self.old.place (length (round self.old.k)) }
     {
         while self.row < 2 * self.k + 2 {
@@ -60,13 +61,14 @@ impl Round {
     }
 }
 
-/// The first wire of a row, this one or one behind it, whose step may do something.
+/// The first wire of a row, this one or one after it, whose step may do something.
 fn first_from(machine: &Machine, row: u8, wire: u8) -> Option<u8>
     requires stages { machine.now.config.k ≤ 6 }
     requires row { row < 2 * machine.now.config.k + 2 }
     ensures first { IfSome result (λ w. (wire ≤ w) × (w < 2 ^ machine.now.config.k)
         × AreQuiet machine.now (row * 2 ^ machine.now.config.k + wire) (row * 2 ^ machine.now.config.k + w)) }
-    ensures none { result ≡ None → AreQuiet machine.now (row * 2 ^ machine.now.config.k + wire) ((row + 1) * 2 ^ machine.now.config.k) }
+    ensures none { result ≡ None →
+        AreQuiet machine.now (row * 2 ^ machine.now.config.k + wire) ((row + 1) * 2 ^ machine.now.config.k) }
 {
     let k = machine.config().k;
     if row == 0 {

@@ -4,7 +4,7 @@ ghost use Rattle.std.specs.Prelude.{◌≡◌, ◌≤◌, ◌<◌, ◌+◌, ◌*
 ghost use Rattle.schedules.specs.Rounds.{round};
 ghost use Rattle.schedules.specs.Skips.{AreQuiet};
 
-use machine_steps::{Machine, machine_is_sound};
+use machine_steps::{Machine, machine_is_well_formed};
 use omega_wires::WireSet;
 use steps::Step;
 
@@ -13,24 +13,26 @@ use steps::Step;
 pub trait Row {
     ghost use Rattle.std.specs.Prelude.{ℕ};
 
-    /// Whether a round of a machine of so many stages has the row.
+    /// Whether a round of a machine of this many stages has the row.
     ghost is_there: { Self → ℕ → Type 0 };
 
-    /// Which row it is, from 0, in a round of a machine of so many stages.
+    /// Which row it is, from 0, in a round of a machine of this many stages.
     ghost number: { Self → ℕ → ℕ };
 
-    /// The first wire of the row, this one or one behind it, whose step may do something.
+    /// The first wire of the row, this one or one after it, whose step may do something.
     fn first(&self, machine: &Machine, wire: u8) -> Option<u8>
         requires there { Self.is_there self.now machine.now.config.k }
         ensures first { IfSome result (λ w. (wire ≤ w) × (w < 2 ^ machine.now.config.k)
             × AreQuiet machine.now (Self.number self.now machine.now.config.k * 2 ^ machine.now.config.k + wire)
             (Self.number self.now machine.now.config.k * 2 ^ machine.now.config.k + w)) }
-        ensures none { result ≡ None → AreQuiet machine.now (Self.number self.now machine.now.config.k * 2 ^ machine.now.config.k + wire)
+        ensures none { result ≡ None →
+            AreQuiet machine.now (Self.number self.now machine.now.config.k * 2 ^ machine.now.config.k + wire)
             ((Self.number self.now machine.now.config.k + 1) * 2 ^ machine.now.config.k) };
 
     /// The step of a wire.
     fn step(&self, wire: u8) -> Step
-        ensures { (k : ℕ) → k ≤ 6 → Self.is_there self.now k → wire < 2 ^ k → slice_get (round k) (Self.number self.now k * 2 ^ k + wire) ≡ Some result };
+        ensures { (k : ℕ) → k ≤ 6 → Self.is_there self.now k → wire < 2 ^ k →
+            slice_get (round k) (Self.number self.now k * 2 ^ k + wire) ≡ Some result };
 
     /// It is one of the rows that a round has.
     ghost is_within: { (row : Self) (k : ℕ) → is_there row k → number row k < 2 * k + 2 };
@@ -95,7 +97,7 @@ impl Row for Ups {
 
     #[inline(always)]
     fn first(&self, machine: &Machine, wire: u8) -> Option<u8> {
-        machine_is_sound(machine);
+        machine_is_well_formed(machine);
         WireSet::first_from(machine.request_wires(self.stage), wire)
     }
 
@@ -141,7 +143,7 @@ impl Row for Downs {
 
     #[inline(always)]
     fn first(&self, machine: &Machine, wire: u8) -> Option<u8> {
-        machine_is_sound(machine);
+        machine_is_well_formed(machine);
         WireSet::first_from(machine.reply_wires(self.stage + 1), wire)
     }
 

@@ -11,7 +11,7 @@ ghost use Rattle.schedules.specs.Rounds.{round};
 use steps::Step;
 
 /// The step on a wire of a row of the round. A row has a step for each wire. Row 0 has the turns, rows 1 to
-/// `k` the moves up by stage from the last, row `k + 1` the services, and each row behind it the moves down of
+/// `k` the moves up by stage from the last, row `k + 1` the services, and each row after it the moves down of
 /// a stage, from the first.
 pub fn step_at(k: u8, row: u8, wire: u8) -> Step
     requires stages { k ≤ 6 }

@@ -1,6 +1,7 @@
 //! Running a machine by the sweep.
 
-ghost use Rattle.std.specs.Prelude.{◌≡◌, ◌≤◌, ◌<◌, ◌+◌, ◌*◌, ◌^◌, ◌↔◌, ◌⊎◌, Err, IfOk, OnErr, OnOk, length, true, false};
+ghost use Rattle.std.specs.Prelude.{◌≡◌, ◌≤◌, ◌<◌, ◌+◌, ◌*◌, ◌^◌, ◌↔◌, ◌⊎◌, Err, IfOk, OnErr, OnOk, length, true};
+ghost use Rattle.std.specs.Prelude.{false};
 ghost use Rattle.trace_file.specs.Traces.{HaveRecords};
 ghost use Rattle.machine_steps.specs.Draining.{drain_bound};
 ghost use Rattle.machine_steps.specs.Standing.{HasRunning};
@@ -9,11 +10,11 @@ ghost use Rattle.schedules.specs.Sweeps.{HasFollowed, HasGone, IsFault, IsStop, 
 
 use crate::row::{Downs, Row, Services, Turns, Ups};
 use flat_machine::Cause;
-use machine_log::{LockRefusal, Logged, Roomy, roomy_is_kept};
-use machine_steps::{Machine, any_runs, machine_is_sound};
+use machine_log::{LockRefusal, Logged, ReservedLog, reserved_log_is_well_formed};
+use machine_steps::{Machine, any_runs, machine_is_well_formed};
 use steps::Outcome;
 
-/// The largest budget: a sweep enters so many steps at most. The log of a new machine has room for them, and
+/// The largest budget: a sweep enters this many steps at most. The log of a new machine has room for them, and
 /// for those of a drain.
 pub const MAX_BUDGET: u32 = 4_000_000;
 
@@ -36,8 +37,10 @@ pub enum SweepEnd {
 /// [`LockRefusal::Memory`] where there is no memory for them. Each leaves all as it was.
 pub fn follow_sweep(log: &mut Logged, budget: u32) -> Result<SweepEnd, LockRefusal>
     ensures swept { IfOk result (λ end. IsSwept (most_of budget) log.old end log.new) }
-    ensures records { OnOk result (HaveRecords log.old.machine.config.k log.old.steps → HaveRecords log.new.machine.config.k log.new.steps) }
-    ensures full { (result ≡ Err LockRefusal.Full) ↔ (4194304 < length log.old.steps + (most_of budget + drain_bound log.old.machine.config)) }
+    ensures records { OnOk result (HaveRecords log.old.machine.config.k log.old.steps →
+        HaveRecords log.new.machine.config.k log.new.steps) }
+    ensures full { (result ≡ Err LockRefusal.Full)
+        ↔ (4194304 < length log.old.steps + (most_of budget + drain_bound log.old.machine.config)) }
     ensures named { result ≡ Err LockRefusal.Unnamed → ⊥ }
     ensures not_free { result ≡ Err LockRefusal.NotFree → ⊥ }
     ensures refused { OnErr result (log.new ≡ log.old) }
@@ -47,37 +50,38 @@ pub fn follow_sweep(log: &mut Logged, budget: u32) -> Result<SweepEnd, LockRefus
     Ok(sweep(log.room(room)?, most))
 }
 
-/// How many steps a sweep that enters so many, and its drain, enter at most.
+/// How many steps a sweep that enters this many, and its drain, enter at most.
 pub fn most_steps(machine: &Machine, most: u32) -> u32
     requires { most ≤ 4000000 }
     ensures { result ≡ most + drain_bound machine.now.config }
 {
-    machine_is_sound(machine);
+    machine_is_well_formed(machine);
     most + machine.drain_bound()
 }
 
-/// Follows the sweep for so many steps at most, and then drains the machine. There is room for the steps.
-fn sweep(log: &mut Roomy, most: u32) -> SweepEnd
+/// Follows the sweep for this many steps at most, and then drains the machine. There is room for the steps.
+fn sweep(log: &mut ReservedLog, most: u32) -> SweepEnd
     requires few { most ≤ 4000000 }
-    requires room { most + drain_bound log.old.log.machine.config ≤ log.old.places }
+    requires room { most + drain_bound log.old.log.machine.config ≤ log.old.capacity_left }
     ensures swept { IsSwept most log.old.log result log.new.log }
-    ensures records { HaveRecords log.old.log.machine.config.k log.old.log.steps → HaveRecords log.new.log.machine.config.k log.new.log.steps }
+    ensures records { HaveRecords log.old.log.machine.config.k log.old.log.steps →
+        HaveRecords log.new.log.machine.config.k log.new.log.steps }
 {
-    roomy_is_kept(log);
+    reserved_log_is_well_formed(log);
     let limit = log.steps().len() + most as usize;
     let end = follow(log, limit);
     log.drain();
-    roomy_is_kept(log);
+    reserved_log_is_well_formed(log);
     end
 }
 
-/// Follows the sweep until it is over, or the log has so many steps.
-fn follow(log: &mut Roomy, limit: usize) -> SweepEnd
+/// Follows the sweep until it is over, or the log has this many steps.
+fn follow(log: &mut ReservedLog, limit: usize) -> SweepEnd
     requires few { length log.old.log.steps ≤ limit }
-    requires room { limit ≤ length log.old.log.steps + log.old.places }
+    requires room { limit ≤ length log.old.log.steps + log.old.capacity_left }
     ensures followed { HasFollowed limit log.old.log result log.new.log }
     ensures config { log.new.log.machine.config ≡ log.old.log.machine.config }
-    ensures room { length log.new.log.steps + log.new.places ≡ length log.old.log.steps + log.old.places }
+    ensures room { length log.new.log.steps + log.new.capacity_left ≡ length log.old.log.steps + log.old.capacity_left }
 {
     if !any_runs(log.machine()) {
         return SweepEnd::Over;
@@ -91,17 +95,17 @@ fn follow(log: &mut Roomy, limit: usize) -> SweepEnd
     SweepEnd::Budget
 }
 
-/// Takes a round of the sweep, up to the step by which the sweep is over, or behind which the log has so many
+/// Takes a round of the sweep, up to the step by which the sweep is over, or after which the log has this many
 /// steps. Answers whether it is over.
-fn take_round(log: &mut Roomy, limit: usize) -> bool
+fn take_round(log: &mut ReservedLog, limit: usize) -> bool
     requires few { length log.old.log.steps < limit }
-    requires room { limit ≤ length log.old.log.steps + log.old.places }
+    requires room { limit ≤ length log.old.log.steps + log.old.capacity_left }
     requires running { HasRunning log.old.log.machine }
     ensures round { WasAskedRound limit log.old.log result log.new.log }
     ensures config { log.new.log.machine.config ≡ log.old.log.machine.config }
-    ensures room { length log.new.log.steps + log.new.places ≡ length log.old.log.steps + log.old.places }
+    ensures room { length log.new.log.steps + log.new.capacity_left ≡ length log.old.log.steps + log.old.capacity_left }
 {
-    roomy_is_kept(log);
+    reserved_log_is_well_formed(log);
     match take_rows(log, limit) {
         Some(is_over) => is_over,
         None => false,
@@ -109,12 +113,12 @@ fn take_round(log: &mut Roomy, limit: usize) -> bool
 }
 
 /// Goes through all rows of a round, as [`take_row`] does through one.
-fn take_rows(log: &mut Roomy, limit: usize) -> Option<bool>
-    requires room { limit ≤ length log.old.log.steps + log.old.places }
+fn take_rows(log: &mut ReservedLog, limit: usize) -> Option<bool>
+    requires room { limit ≤ length log.old.log.steps + log.old.capacity_left }
     ensures gone { HasGone limit 0 (length (round log.old.log.machine.config.k)) log.old.log result log.new.log }
-    ensures room { length log.new.log.steps + log.new.places ≡ length log.old.log.steps + log.old.places }
+    ensures room { length log.new.log.steps + log.new.capacity_left ≡ length log.old.log.steps + log.old.capacity_left }
 {
-    roomy_is_kept(log);
+    reserved_log_is_well_formed(log);
     if let Some(is_over) = take_row(log, limit, &Turns) {
         return Some(is_over);
     }
@@ -128,13 +132,14 @@ fn take_rows(log: &mut Roomy, limit: usize) -> Option<bool>
 }
 
 /// Goes through the rows of a round in which requests move up.
-fn take_ups(log: &mut Roomy, limit: usize) -> Option<bool>
-    requires room { limit ≤ length log.old.log.steps + log.old.places }
-    ensures gone { HasGone limit (2 ^ log.old.log.machine.config.k) ((log.old.log.machine.config.k + 1) * 2 ^ log.old.log.machine.config.k)
+fn take_ups(log: &mut ReservedLog, limit: usize) -> Option<bool>
+    requires room { limit ≤ length log.old.log.steps + log.old.capacity_left }
+    ensures gone { HasGone limit (2 ^ log.old.log.machine.config.k)
+        ((log.old.log.machine.config.k + 1) * 2 ^ log.old.log.machine.config.k)
         log.old.log result log.new.log }
-    ensures room { length log.new.log.steps + log.new.places ≡ length log.old.log.steps + log.old.places }
+    ensures room { length log.new.log.steps + log.new.capacity_left ≡ length log.old.log.steps + log.old.capacity_left }
 {
-    roomy_is_kept(log);
+    reserved_log_is_well_formed(log);
     let stages = log.machine().config().k;
     for passed in 0..stages {
         let row = Ups {
@@ -148,13 +153,13 @@ fn take_ups(log: &mut Roomy, limit: usize) -> Option<bool>
 }
 
 /// Goes through the rows of a round in which replies move down.
-fn take_downs(log: &mut Roomy, limit: usize) -> Option<bool>
-    requires room { limit ≤ length log.old.log.steps + log.old.places }
+fn take_downs(log: &mut ReservedLog, limit: usize) -> Option<bool>
+    requires room { limit ≤ length log.old.log.steps + log.old.capacity_left }
     ensures gone { HasGone limit ((log.old.log.machine.config.k + 2) * 2 ^ log.old.log.machine.config.k)
         ((2 * log.old.log.machine.config.k + 2) * 2 ^ log.old.log.machine.config.k) log.old.log result log.new.log }
-    ensures room { length log.new.log.steps + log.new.places ≡ length log.old.log.steps + log.old.places }
+    ensures room { length log.new.log.steps + log.new.capacity_left ≡ length log.old.log.steps + log.old.capacity_left }
 {
-    roomy_is_kept(log);
+    reserved_log_is_well_formed(log);
     for stage in 0..log.machine().config().k {
         if let Some(is_over) = take_row(log, limit, &Downs { stage }) {
             return Some(is_over);
@@ -163,18 +168,19 @@ fn take_downs(log: &mut Roomy, limit: usize) -> Option<bool>
     None
 }
 
-/// Asks for the steps of a row that may do something, one after another. Where the round ends among them, answers whether the sweep is
-/// over: it is by the last step, or else the log has so many steps.
+/// Asks for the steps of a row that may do something, one after another. Where the round ends among them, answers
+/// whether the sweep is over: it is by the last step, or else the log has this many steps.
 // A part of its caller, for each kind of row: what a step of one kind may do, and answer, is known there.
 #[inline(always)]
-fn take_row<R: Row>(log: &mut Roomy, limit: usize, row: &R) -> Option<bool>
+fn take_row<R: Row>(log: &mut ReservedLog, limit: usize, row: &R) -> Option<bool>
     requires there { R.is_there row.now log.old.log.machine.config.k }
-    requires room { limit ≤ length log.old.log.steps + log.old.places }
+    requires room { limit ≤ length log.old.log.steps + log.old.capacity_left }
     ensures gone { HasGone limit (R.number row.now log.old.log.machine.config.k * 2 ^ log.old.log.machine.config.k)
-        ((R.number row.now log.old.log.machine.config.k + 1) * 2 ^ log.old.log.machine.config.k) log.old.log result log.new.log }
-    ensures room { length log.new.log.steps + log.new.places ≡ length log.old.log.steps + log.old.places }
+        ((R.number row.now log.old.log.machine.config.k + 1) * 2 ^ log.old.log.machine.config.k) log.old.log result
+        log.new.log }
+    ensures room { length log.new.log.steps + log.new.capacity_left ≡ length log.old.log.steps + log.old.capacity_left }
 {
-    roomy_is_kept(log);
+    reserved_log_is_well_formed(log);
     let mut wire = 0;
     while log.steps().len() < limit {
         let next = row.first(log.machine(), wire)?;
@@ -187,7 +193,7 @@ fn take_row<R: Row>(log: &mut Roomy, limit: usize, row: &R) -> Option<bool>
     Some(false)
 }
 
-/// Whether a sweep is over behind a step that answered this, on the machine that it left.
+/// Whether a sweep is over after a step that answered this, on the machine that it left.
 pub fn is_over(outcome: &Outcome, machine: &Machine) -> bool
     ensures over { result ≡ true → IsFault outcome.now ⊎ (HasRunning machine.now → ⊥) }
     ensures not { result ≡ false → (IsFault outcome.now → ⊥) × ((IsStop outcome.now → ⊥) ⊎ HasRunning machine.now) }

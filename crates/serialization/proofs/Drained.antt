@@ -4,7 +4,7 @@ use Rattle.std.proofs.Common.{inr, Option, Some, None, is_some, refl, sym, ap, a
 use Rattle.std.proofs.lemmas.Bool.{true≢false}
 use Rattle.network_theory.specs.messages.Places.{In}
 use Rattle.network_theory.specs.messages.Network.{Sizes, wires}
-use Rattle.network_theory.specs.Roles.{Role, Idle, Asking, Told}
+use Rattle.network_theory.specs.Roles.{Role, Idle, Asking, Replying}
 use Rattle.serialization.specs.Program.{Program}
 use Rattle.serialization.specs.Machine.{Machine, Step, Turn, Up, Serve, Down, step, IsIdle, machine_after}
 use Rattle.serialization.specs.Steadiness.{Steady, total}
@@ -40,6 +40,7 @@ no_first at n go h = ap (λ o. elim o [ Some w ↦ Some (go w) | None ↦ None ]
 no_some : {X : Type 0} (at : ℕ → List X) (n : ℕ) → ((w : ℕ) → is_any (at w) ≡ false) → some_wire at n ≡ false
 no_some at n h = ap is_some (no_least (λ w. is_any (at w)) n h)
 
+-- If no reference of a steady machine is open, its drain names no step.
 pub idle_names_none : {Core Pokes Entry : Type 0} → (z : Sizes) (P : Program Core Pokes Entry) (M : Machine Core) (role : ℕ → Role) → Steady z P M role
     → IsIdle z M → drain_step {Pokes = Pokes} z M ≡ None
 idle_names_none z P M role ok no_open =
@@ -48,7 +49,7 @@ idle_names_none z P M role ok no_open =
     → is_any (M.net.requests d w) ≡ false =
     (λ d w. none_at (M.net.requests d w) (λ x m. let h = (ok.placed.requests d w x m).asks in let c : Asking d ≡ Idle = sym h ∙ all x.leader in cc)) in
     let replies : (d w : ℕ) → is_any (M.net.replies d w) ≡ false =
-    (λ d w. none_at (M.net.replies d w) (λ x m. let h = (ok.placed.replies d w x m).told in let c : Told d ≡ Idle = sym h ∙ all x.leader in cc)) in
+    (λ d w. none_at (M.net.replies d w) (λ x m. let h = (ok.placed.replies d w x m).replying in let c : Replying d ≡ Idle = sym h ∙ all x.leader in cc)) in
     let turn : first_wire (M.net.replies 0) (wires z) Turn ≡ None = no_first (M.net.replies 0) (wires z) Turn (replies 0) in
     let going_down : down_step z M.net ≡ None =
     ap (λ o. elim o [ Some s ↦ first_wire (M.net.replies (suc s)) (wires z) (Down s) | None ↦ None ])
@@ -87,12 +88,14 @@ drained {Core} {Pokes} z P (suc n) M role f ok room df l p = go (λ st g. draine
         let less = d.1 f g.0 df g.1 in
         later st s.0 g.0 s.1 room g.1 (omega arith) p
 
+-- If r < c, no reference is open after the drain of a steady machine.
 pub drain_ends : {Core Pokes Entry : Type 0} → (z : Sizes) (P : Program Core Pokes Entry) (M : Machine Core) (role : ℕ → Role) → Steady z P M role → z.r < z.c
     → (p : ℕ) → (machine_after z P (drain_steps z P (drain_bound z) M) M).is_open p ≡ false
 drain_ends z P M role ok room =
     let f = distances_are z P M role ok in
     drained z P (drain_bound z) M role f.0 ok room f.1 (bound z P M role ok f.0 f.1)
 
+-- A drain of up to n steps has at most n.
 pub drain_is_short : {Core Pokes Entry : Type 0} → (z : Sizes) (P : Program Core Pokes Entry) (n : ℕ) (M : Machine Core) → length (drain_steps z P n M) ≤ n
 unfolding drain_steps
 drain_is_short z P zero M = omega arith
@@ -103,6 +106,7 @@ drain_is_short {Core} {Pokes} z P (suc n) M = go (λ st. drain_is_short z P n (s
     go later None = omega arith
     go later (Some st) = let h = later st in omega arith
 
+-- A steady machine is steady after each list of steps.
 pub steady_after : {Core Pokes Entry : Type 0} → (z : Sizes) (P : Program Core Pokes Entry) (steps : List (Step Pokes)) (M : Machine Core) (role : ℕ → Role)
     → Steady z P M role → (role' : ℕ → Role) × Steady z P (machine_after z P steps M) role'
 unfolding machine_after

@@ -16,12 +16,12 @@ use Rattle.network_theory.specs.messages.declared.moves.DownMove.TheVariants as 
 use Rattle.network_theory.specs.messages.Moves.{queued, accepted, up_from, moved_up, push_all, has_room, answered, down_from, moved_down}
 use Rattle.network_theory.specs.omega_wires.Wires.{wire_after, wire_before}
 use Rattle.network_theory.proofs.Lemmas.omega_wires.{path_lt, path_zero}
-use Rattle.network_theory.specs.Roles.{Role, Idle, Asking, Waiting, Told, depth}
+use Rattle.network_theory.specs.Roles.{Role, Idle, Asking, Waiting, Replying, depth}
 use Rattle.serialization.specs.Program.{Program, word_of, path_of}
 use Rattle.serialization.specs.Machine.{Machine, Step, Turn, Up, Serve, Down, Outcome, Issued, Advanced}
 use Rattle.serialization.specs.Machine.{Retired, Moved, Combined, Served, Answered, Poked, Stalled, stalled}
 use Rattle.serialization.specs.Machine.{retire_from, turned, went_up, went_down, serve_from, step}
-use Rattle.serialization.specs.Steadiness.{Stands, Steady, Distance, asks, tells, waits, Far, idle, asking, told, waiting, total, Lower, Advances}
+use Rattle.serialization.specs.Steadiness.{Stands, Steady, Distance, asks, tells, waits, Far, idle, asking, replying, waiting, total, Lower, Advances}
 use Rattle.serialization.specs.Draining.{least, greatest, is_any, some_wire, first_wire, or_else, down_step, up_step, drain_step, AreDistances, DrainIs}
 use Rattle.network_theory.proofs.Lemmas.messages.{at_put2, put2_other}
 use Rattle.serialization.proofs.Steadying.{goes_step}
@@ -38,8 +38,11 @@ is_nil (x ∷ xs) e = absurd (true≢false e)
 
 -- a first element
 pub record Front {X : Type 0} (xs : List X) : Type 0 where
+  -- The first element.
   pub first : X
+  -- The other elements.
   pub rest : List X
+  -- The list is the first element and the others.
   pub is : xs ≡ first ∷ rest
 
 front_in : {X : Type 0} {xs : List X} (f : Front xs) → In f.first xs
@@ -62,7 +65,7 @@ reply_wire : {Core Pokes Entry : Type 0} → (z : Sizes) (P : Program Core Pokes
 reply_wire z P M role ok d w y m =
     let h = ok.placed.replies d w y m in
     elim (ok.small y.leader) [
-      | inl i ↦ (let c : Told d ≡ Idle = sym h.told ∙ i in cc)
+      | inl i ↦ (let c : Replying d ≡ Idle = sym h.replying ∙ i in cc)
       | inr l ↦ subst (λ v. v < wires z) h.wire (path_lt z.k y.leader (word_of P M.core y.leader % wires z) d h.deep l)
     ]
 
@@ -104,12 +107,12 @@ turn_goes {Core} {Pokes} z P M role p ok l any =
     let f = front_of (M.net.replies 0 p) any in
     let at = ok.placed.replies 0 p f.first (front_in f) in
     let is : f.first.leader ≡ p = sym (path_zero z.k f.first.leader (word_of P M.core f.first.leader % wires z)) ∙ at.wire in
-    let told_p : role p ≡ Told 0 = ap role (sym is) ∙ at.told in
+    let replying_p : role p ≡ Replying 0 = ap role (sym is) ∙ at.replying in
     elim (cases_Bool (M.is_open p)) [
       | inl o ↦ subst (λ b. Closer {Pokes = Pokes} (if b then turned P M p (M.is_open p) else stalled M).outcome) (sym (lt-ltb p (wires z) l))
           (subst (λ b. Closer {Pokes = Pokes} (turned P M p b).outcome) (sym o)
           (subst (λ xs. Closer {Pokes = Pokes} (retire_from P M p xs).outcome) (sym f.is) tt))
-      | inr c ↦ (let g : Told 0 ≡ Idle = sym told_p ∙ (ok.shut p).0 c in cc)
+      | inr c ↦ (let g : Replying 0 ≡ Idle = sym replying_p ∙ (ok.shut p).0 c in cc)
     ]
 
 serve_goes : {Core Pokes Entry : Type 0} → (z : Sizes) (P : Program Core Pokes Entry) (M : Machine Core) (m : ℕ) → m < wires z
@@ -207,7 +210,7 @@ all_idle z P M role ok no_replies no_requests p = (ok.shut p).1 (go z.k p (role 
     go : (fuel q : ℕ) (r : Role) → role q ≡ r → ((s b : ℕ) → r ≡ Waiting s b → z.k ≤ s + fuel) → role q ≡ Idle
     go fuel q Idle e near = e
     go fuel q (Asking d) e near = let h = stand q (Asking d) e in absurd (no_requests d h.0 h.1 h.2)
-    go fuel q (Told d) e near = let h = stand q (Told d) e in absurd (no_replies d h.0 h.1 h.2)
+    go fuel q (Replying d) e near = let h = stand q (Replying d) e in absurd (no_replies d h.0 h.1 h.2)
     go zero q (Waiting s b) e near = let h = stand q (Waiting s b) e in let g = ok.placed.records s h.0 h.1 h.2 in let d = g.deep in let n = near s b refl in
         absurd (omega arith)
     go (suc fuel) q (Waiting s b) e near =
@@ -222,8 +225,8 @@ far_bound : {Core Pokes Entry : Type 0} → (z : Sizes) (P : Program Core Pokes 
     → Far z.k role p n → n ≤ 2 * z.k + 2
 far_bound z P M role ok p n (idle _ _ e f) = omega arith
 far_bound z P M role ok p n (asking _ _ d e f) = omega arith
-far_bound z P M role ok p n (told _ _ d e f) =
-    let h : Stands M.net p (Told d) = subst (Stands M.net p) e (ok.stands p) in
+far_bound z P M role ok p n (replying _ _ d e f) =
+    let h : Stands M.net p (Replying d) = subst (Stands M.net p) e (ok.stands p) in
     let g = (ok.placed.replies d h.0 h.1 h.2).deep in omega arith
 far_bound z P M role ok p n (waiting _ _ s b e f) = far_bound z P M role ok b n f
 
@@ -234,6 +237,7 @@ far_of z P M role ok f h p l = elim (cases_Bool (M.is_open p)) [
   | inr c ↦ idle p (f p) ((ok.shut p).0 c) ((h p l).0 c)
 ]
 
+-- In a steady machine the distances make together at most 2 k + 2 for each processor.
 pub bound : {Core Pokes Entry : Type 0} → (z : Sizes) (P : Program Core Pokes Entry) (M : Machine Core) (role : ℕ → Role) → Steady z P M role → (f : ℕ → ℕ)
     → AreDistances z M f → total f (wires z) ≤ wires z * (2 * z.k + 2)
 bound z P M role ok f h = total_bound f (wires z) (2 * z.k + 2) (λ i l. far_bound z P M role ok i (f i) (far_of z P M role ok f h i l))
@@ -297,6 +301,8 @@ closer_is z P M role st ok c =
           let m = n.2 in omega arith)),
     )
 
+-- If r < c, the next step of a steady machine's drain does not stall and lowers the sum of the distances;
+-- if there is none, no reference is open.
 pub drain_is : {Core Pokes Entry : Type 0} → (z : Sizes) (P : Program Core Pokes Entry) (M : Machine Core) (role : ℕ → Role) → Steady z P M role → z.r < z.c
     → DrainIs z P M (drain_step z M)
 drain_is z P M role ok room = turns (least (λ w. is_any (M.net.replies 0 w)) (wires z)) (least_is (λ w. is_any (M.net.replies 0 w)) (wires z))
@@ -378,8 +384,8 @@ has_distance z P M role ok fuel q (Asking d) e near n =
     let h : Stands M.net q (Asking d) = subst (Stands M.net q) e (ok.stands q) in
     let l = (ok.placed.requests d h.0 h.1 h.2).deep in
     (2 * z.k + 2 - d, asks q (2 * z.k + 2 - d) d h.0 h.1 h.2 h.3 (omega arith))
-has_distance z P M role ok fuel q (Told d) e near n =
-    let h : Stands M.net q (Told d) = subst (Stands M.net q) e (ok.stands q) in
+has_distance z P M role ok fuel q (Replying d) e near n =
+    let h : Stands M.net q (Replying d) = subst (Stands M.net q) e (ok.stands q) in
     (suc d, tells q (suc d) d h.0 h.1 h.2 h.3 refl)
 has_distance z P M role ok zero q (Waiting s b) e near n =
     let h : Stands M.net q (Waiting s b) = subst (Stands M.net q) e (ok.stands q) in
@@ -393,6 +399,7 @@ has_distance z P M role ok (suc fuel) q (Waiting s b) e near n =
     (λ f. let m : s < 0 = subst (λ j. s < depth j) f deeper in absurd (omega arith)) in
     (i.0, waits q i.0 s h.0 h.1 h.2 h.3 (subst (λ j. Distance z.k M.net j i.0) (sym h.4) i.1))
 
+-- Each open reference of a steady machine has a distance.
 pub distances_are : {Core Pokes Entry : Type 0} → (z : Sizes) (P : Program Core Pokes Entry) (M : Machine Core) (role : ℕ → Role) → Steady z P M role
     → (f : ℕ → ℕ) × AreDistances z M f
 distances_are z P M role ok = ((λ p. (each p).0), (λ p l. (each p).1))

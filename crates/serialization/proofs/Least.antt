@@ -5,13 +5,19 @@ use Rattle.std.proofs.lemmas.Bool.{cases_eq}
 use Rattle.serialization.specs.Draining.{least, greatest}
 
 pub record Least (f : ℕ → Bool) (n i : ℕ) : Type 0 where
+  -- It is below n.
   pub within : i < n
+  -- It passes.
   pub passes : f i ≡ true
+  -- No smaller number passes.
   pub before : (j : ℕ) → j < i → f j ≡ false
 
 pub record Greatest (f : ℕ → Bool) (n i : ℕ) : Type 0 where
+  -- It is below n.
   pub within : i < n
+  -- It passes.
   pub passes : f i ≡ true
+  -- No greater number below n passes.
   pub behind : (j : ℕ) → i < j → j < n → f j ≡ false
 
 -- what is found, as a fact about the answer
@@ -26,6 +32,7 @@ GreatestIs f n (Some i) = Greatest f n i
 at_last : (f : ℕ → Bool) (n j : ℕ) → j < suc n → ((i : ℕ) → i < n → f i ≡ false) → f n ≡ false → f j ≡ false
 at_last f n j l h e = elim (cases_eq j n) [ inl s ↦ ap f s ∙ e | inr m ↦ h j (omega arith) ]
 
+-- What is found is the least number below n that passes; if none is found, none below n passes.
 pub least_is : (f : ℕ → Bool) (n : ℕ) → LeastIs f n (least f n)
 unfolding least
 least_is f zero = λ j l. absurd (omega arith)
@@ -36,6 +43,7 @@ least_is f (suc n) = go (least f n) (least_is f n) (f n) refl
     go None h true e = record { within = omega arith; passes = e; before = h }
     go None h false e = λ j l. at_last f n j l h e
 
+-- What is found is the greatest number below n that passes; if none is found, none below n passes.
 pub greatest_is : (f : ℕ → Bool) (n : ℕ) → GreatestIs f n (greatest f n)
 unfolding greatest
 greatest_is f zero = λ j l. absurd (omega arith)

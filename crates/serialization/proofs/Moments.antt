@@ -25,8 +25,11 @@ module _ {Core Pokes Entry : Type 0} (z : Sizes) (P : Program Core Pokes Entry) 
   -- a reply was there
   pub record Replied (p value : ℕ) : Type 0 where
     pub opened : M.is_open p ≡ true
+    -- The first reply on the processor's wire.
     pub first : Reply
+    -- The other replies on it.
     pub rest : List Reply
+    -- The replies on the wire are the first one and the others.
     pub is : M.net.replies 0 p ≡ first ∷ rest
     pub value_is : first.value ≡ value
 
@@ -115,6 +118,7 @@ module _ {Core Pokes Entry : Type 0} (z : Sizes) (P : Program Core Pokes Entry) 
       go [] g = cc
       go (y ∷ ys) g = cc
 
+  -- If a step issues a processor's reference, the processor had none open.
   pub issues_by : (st : Step Pokes) (p : ℕ) → (step z P M st).outcome ≡ Issued p → M.is_open p ≡ false
   issues_by (Turn q) p e = go (nat_lt q (wires z)) e
     where
@@ -156,6 +160,7 @@ module _ {Core Pokes Entry : Type 0} (z : Sizes) (P : Program Core Pokes Entry) 
   by_word p word (Some i) a found = let c : Some a.0 ≡ Some word = sym a.1 ∙ found in let same : a.0 ≡ word = cc in
       (i, refl, subst (λ v. FindsAt P first h.order h.machine.core p i v) same a.2)
 
+  -- If a processor has no open reference, none of its references is served.
   pub shut_unserved : (p : ℕ) → h.machine.is_open p ≡ false → h.served p ≡ None
   shut_unserved p e = by_place p (h.served p) (f.places p) ((f.simulates.shut p e).1)
 
@@ -163,6 +168,7 @@ module _ {Core Pokes Entry : Type 0} (z : Sizes) (P : Program Core Pokes Entry) 
   pub unserved_of : (p : ℕ) → f.owed p ≡ None → h.served p ≡ None
   unserved_of p e = by_place p (h.served p) (f.places p) e
 
+  -- If a step retires a reference, it was served at a place of the order, and its value is the word found there.
   pub retires_served : (st : Step Pokes) (p value : ℕ) → (step z P h.machine st).outcome ≡ Retired p value
       → (place : ℕ) × (h.served p ≡ Some place) × FindsAt P first h.order h.machine.core p place value
   retires_served st p value e =
@@ -171,6 +177,7 @@ module _ {Core Pokes Entry : Type 0} (z : Sizes) (P : Program Core Pokes Entry) 
       ∙ ap Some r.value_is in
       by_word p value (h.served p) (f.places p) found
 
+  -- If a run follows the flat machine, its words, cores and replies are at this moment as the serial order says.
   pub at_the_moment : AtTheMoment z P first h
   at_the_moment = record {
     words = f.simulates.mem_same;

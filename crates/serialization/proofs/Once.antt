@@ -32,6 +32,7 @@ order_so_far z P (st ∷ sts) h =
     order_so_far z P sts (pass z P h st)
     ∙ append_assoc h.order (segment P.entry h.group r.outcome) (serial_order P.entry (group_after h.group r.outcome) (outcomes z P sts r.machine))
 
+-- The order of a run is the serial order of its outcomes.
 pub order_by_outcomes : {Core Pokes Entry : Type 0} → (z : Sizes) (P : Program Core Pokes Entry) (M : Machine Core) (steps : List (Step Pokes))
     → (ran z P M steps).order ≡ serial_order P.entry (λ p. []) (outcomes z P steps M)
 order_by_outcomes z P M steps = order_so_far z P steps (from_machine M)
@@ -45,6 +46,7 @@ groups_after-append group (o ∷ os) ps = groups_after-append (group_after group
 -- where the outcomes are cut, the steps are
 pub record CutAt {Core Pokes Entry : Type 0} (z : Sizes) (P : Program Core Pokes Entry) (h : Passed Core Entry) (os ps : List (Outcome Pokes)) : Type 0 where
   pub front : List (Step Pokes)
+  -- The steps of the outcomes after the cut.
   pub back : List (Step Pokes)
   pub front_is : outcomes z P front h.machine ≡ os
   pub back_is : outcomes z P back (passes z P front h).machine ≡ ps
@@ -64,7 +66,9 @@ cut z P h (st ∷ sts) (o ∷ os) ps e =
 -- the first step of outcomes that are there
 pub record Begun {Core Pokes Entry : Type 0} (z : Sizes) (P : Program Core Pokes Entry) (h : Passed Core Entry) (o : Outcome Pokes)
     (os : List (Outcome Pokes)) : Type 0 where
+  -- The step of the first outcome.
   pub first : Step Pokes
+  -- The steps of the other outcomes.
   pub rest : List (Step Pokes)
   pub first_is : (step z P h.machine first).outcome ≡ o
   pub rest_is : outcomes z P rest (pass z P h first).machine ≡ os
@@ -190,6 +194,7 @@ once_from {Core} {Entry = Entry} z P good keeps first h f steps between rest p e
         none_more n = omega arith
     counted m n t (Some i) e none same = absurd (cc)
 
+-- In a run from where one may begin, each reference is served at most once until it retires, and once if it does.
 pub served_once : {Core Pokes Entry : Type 0} → (z : Sizes) (P : Program Core Pokes Entry) (good : ℕ → Core → Type 0) → Keeps P good → (M : Machine Core)
     → Begins z P good M → (steps : List (Step Pokes)) → EachServedOnce (outcomes z P steps M)
 served_once {Core} {Entry = Entry} z P good keeps M b steps before between rest p e not_retired =

@@ -138,8 +138,11 @@ places_served {Core} {Entry = Entry} P first core (j ∷ js) order served f d no
 
 pub record Follows {Core Pokes Entry : Type 0} (z : Sizes) (P : Program Core Pokes Entry) (good : ℕ → Core → Type 0) (first : FlatMachine Core)
     (h : Passed Core Entry) : Type 0 where
+  -- The word that each processor is owed, if its open reference is served.
   pub owed : ℕ → Option ℕ
+  -- The machine simulates the flat machine after the order so far.
   pub simulates : Simulates z P good h.machine h.group owed (flat_run P first h.order)
+  -- Each reference that is served has a place in the order, at which it finds the word that is owed.
   pub places : Places P first h.order h.machine.core h.served owed
 
 -- what a result needs, to be passed
@@ -267,6 +270,7 @@ module _ {Core Pokes Entry : Type 0} (z : Sizes) (P : Program Core Pokes Entry) 
       go true e = let a = and_parts (all_shut (wires z) h.machine.is_open) (P.is_lawful h.machine.core q) e in
           by_poke q (all_shut_is (wires z) h.machine.is_open a.0) a.1
 
+  -- A run that follows the flat machine still follows it after one more step.
   pub follows_step : (st : Step Pokes) → Follows z P good first (pass z P h st)
   follows_step st =
       let r = step z P h.machine st in
@@ -321,6 +325,7 @@ follows_idle z P good M b =
       places = λ p. refl;
     }
 
+-- A run from where one may begin follows the flat machine.
 pub follows : {Core Pokes Entry : Type 0} → (z : Sizes) (P : Program Core Pokes Entry) (good : ℕ → Core → Type 0) → Keeps P good → (M : Machine Core)
     → Begins z P good M → (steps : List (Step Pokes)) → Follows z P good (flat_of M) (ran z P M steps)
 follows z P good keeps M b steps = follows_passes z P good keeps (flat_of M) steps (from_machine M) (follows_idle z P good M b)

@@ -13,7 +13,7 @@ use Rattle.network_theory.specs.messages.Moves.{injected, module_taken, module_r
 use Rattle.network_theory.specs.omega_wires.Wires.{path as way}
 use Rattle.network_theory.proofs.Lemmas.omega_wires.{path_zero}
 use Rattle.network_theory.specs.Giving.{leaves}
-use Rattle.network_theory.specs.Roles.{Role, Idle, Asking, Told, Placed}
+use Rattle.network_theory.specs.Roles.{Role, Idle, Asking, Replying, Placed}
 use Rattle.network_theory.specs.Meaning.{Means, Executed, execute, execute_all}
 use Rattle.serialization.specs.Program.{Program, Alone, Refers, Keeps, own_of, word_of, path_of}
 use Rattle.serialization.specs.Machine.{Machine, stalled, with_net, retire_from, request_of, issue, advance, serve_from, poked}
@@ -27,6 +27,7 @@ use Rattle.network_theory.proofs.Lemmas.{placed_change, placed_nowhere, pop_repl
 use Rattle.network_theory.proofs.Lemmas.{pop_request_unnamed, push_reply, push_request, put_agree, request_led}
 use Rattle.network_theory.proofs.Lemmas.{small_put, unnamed_idle}
 
+-- After a step that stalls, the machine simulates the flat machine.
 pub kept_stalled : {Core Pokes Entry : Type 0}
     → (z : Sizes) (P : Program Core Pokes Entry) (good : ℕ → Core → Type 0) (M : Machine Core) (group : ℕ → List ℕ) (owed : ℕ → Option ℕ)
     (F : FlatMachine Core) → Simulates z P good M group owed F → Kept z P good M.core group owed F (stalled M)
@@ -115,6 +116,7 @@ executed_small own word f (j ∷ js) range mems owes =
       | inr n ↦ owes p v (sym (put_other f.owed j (Some (f.mem (word j))) p n) ∙ e)
     ])
 
+-- After a processor without an open reference issues one, the machine simulates the flat machine.
 pub kept_issue : {Core Pokes Entry : Type 0}
     → (z : Sizes) (P : Program Core Pokes Entry) (good : ℕ → Core → Type 0) (M : Machine Core) (group : ℕ → List ℕ) (owed : ℕ → Option ℕ)
     (F : FlatMachine Core) (p : ℕ) → Simulates z P good M group owed F → p < wires z → M.is_open p ≡ false → P.kind p (M.core p) ≡ Refers
@@ -160,6 +162,7 @@ owed_reply z P good M group owed F p y rest ok e =
     let is : y.leader ≡ p = sym (path_zero z.k y.leader (P.word_of y.leader (M.core y.leader) % wires z)) ∙ (ok.placed.replies 0 p y here).wire in
     ap owed (sym is) ∙ ok.means.replies 0 p y here (y.leader, y.value) (gives_leads (records_on path M.net.records) y.leader 0 y.value)
 
+-- After a processor takes the reply to its reference, the machine simulates the flat machine.
 pub kept_retire : {Core Pokes Entry : Type 0}
     → (z : Sizes) (P : Program Core Pokes Entry) (good : ℕ → Core → Type 0) (keeps : Keeps P good) (M : Machine Core) (group : ℕ → List ℕ)
     (owed : ℕ → Option ℕ) (F : FlatMachine Core) (p : ℕ) (y : Reply) (rest : List Reply) → Simulates z P good M group owed F → p < wires z
@@ -172,7 +175,7 @@ kept_retire z P good keeps M group owed F p y rest ok l opened e =
     let here : In y (M.net.replies 0 p) = rw e (inl refl) in
     let at = ok.placed.replies 0 p y here in
     let is : y.leader ≡ p = sym (path_zero z.k y.leader (P.word_of y.leader (M.core y.leader) % wires z)) ∙ at.wire in
-    let told : ok.role p ≡ Told 0 = ap ok.role (sym is) ∙ at.told in
+    let replying : ok.role p ≡ Replying 0 = ap ok.role (sym is) ∙ at.replying in
     let found : owed p ≡ Some y.value = owed_reply z P good M group owed F p y rest ok e in
     let left : drop 1 (M.net.replies 0 p) ≡ rest = ap (drop 1) e in
     let net1 : Net = put_replies M.net 0 p (drop 1 (M.net.replies 0 p)) in
@@ -184,7 +187,7 @@ kept_retire z P good keeps M group owed F p y rest ok l opened e =
     record {
       role = put ok.role p Idle;
       placed = placed_change z.k path (path_of z P core') ok.role Idle net1 p placed1 free
-          (λ s w x m f. absurd (no_less s (below_role z.k path ok.role M.net p (Told 0) ok.placed told s w x m f)))
+          (λ s w x m f. absurd (no_less s (below_role z.k path ok.role M.net p (Replying 0) ok.placed replying s w x m f)))
           (λ q d n. ap (λ g. way z.k q (P.word_of q g % wires z) d) (same q n));
       means = means_change (own_of P M.core) (own_of P core') (word_of P M.core) (word_of P core') M.is_open path (path_of z P core') group owed
           (put owed p None) net1 p
@@ -224,6 +227,7 @@ kept_retire z P good keeps M group owed F p y rest ok l opened e =
     no_less : (s : ℕ) → s < 0 → ⊥
     no_less s h = omega arith
 
+-- After a module serves a request, the machine simulates the flat machine that took the turns of its group.
 pub kept_serve : {Core Pokes Entry : Type 0}
     → (z : Sizes) (P : Program Core Pokes Entry) (good : ℕ → Core → Type 0) (keeps : Keeps P good) (M : Machine Core) (group : ℕ → List ℕ)
     (owed : ℕ → Option ℕ) (F : FlatMachine Core) (m : ℕ) (x : Request) (rest : List Request) → Simulates z P good M group owed F
@@ -251,7 +255,7 @@ kept_serve z P good keeps M group owed F m x rest ok e =
     let small_words = executed_small own word f (group p) (λ j i. keeps.phi j (M.core j) (ok.good_cores j) (refer j i))
     (λ a. subst (λ v. v < 2 ^ 32) (ok.mem_same a) (ok.words a)) ok.owed_words in
     record {
-      role = put ok.role p (Told z.k);
+      role = put ok.role p (Replying z.k);
       placed = push_reply z.k path ok.role net1 z.k m y placed1 free
           (λ s w r i g. below_role z.k path ok.role M.net p (Asking z.k) ok.placed at.asks s w r i g) at.wire (omega arith);
       means = means_serve own word M.is_open path group f net1 z.k m x y means1 ok.groups mean free refl (ok.mem_same x.word);
@@ -267,10 +271,10 @@ kept_serve z P good keeps M group owed F m x rest ok e =
       refers = ok.refers;
       shut = λ q i. let h = ok.shut q i in
           let n : q ≡ p → ⊥ = not_idle ok.role p q (Asking z.k) at.asks (λ c. cc) h.0 in
-          (put_other ok.role p (Told z.k) q n ∙ h.0, executed_other own word f (group p) q (λ o. true≢false (sym (ok.groups.opened p q o) ∙ i)) ∙ h.1);
+          (put_other ok.role p (Replying z.k) q n ∙ h.0, executed_other own word f (group p) q (λ o. true≢false (sym (ok.groups.opened p q o) ∙ i)) ∙ h.1);
       small = elim (ok.small p) [
         | inl i ↦ (let c = sym at.asks ∙ i in cc)
-        | inr l ↦ small_put ok.role (wires z) p (Told z.k) ok.small l
+        | inr l ↦ small_put ok.role (wires z) p (Replying z.k) ok.small l
       ];
       within = ok.within;
       good_cores = ok.good_cores;

@@ -1,5 +1,5 @@
 -- A reply goes down.
-use Rattle.network_theory.proofs.Lemmas.{answering_meaning, answering_places, answers_led, means_pop_reply, pop_reply, pop_reply_unnamed, told_other}
+use Rattle.network_theory.proofs.Lemmas.{answering_meaning, answering_places, answers_led, means_pop_reply, pop_reply, pop_reply_unnamed, replying_other}
 use Rattle.std.proofs.Common.{◌≡◌, ℕ, suc, ◌%◌, ◌<◌, Bool, true, false, List, [], ◌∷◌, inl, inr, Option, refl, sym, ap, ◌∙◌}
 use Rattle.std.specs.Prelude.{if◌then◌else◌}
 use Rattle.network_theory.specs.messages.declared.message.Reply.{Reply}
@@ -12,7 +12,7 @@ use Rattle.network_theory.specs.messages.Naming.{Unnamed}
 use Rattle.network_theory.specs.messages.Moves.{push_all, has_room, answered, down_from}
 use Rattle.network_theory.specs.omega_wires.Wires.{wire_before}
 use Rattle.network_theory.proofs.Lemmas.omega_wires.{before_path}
-use Rattle.network_theory.specs.Roles.{Idle, told_all}
+use Rattle.network_theory.specs.Roles.{Idle, replying_all}
 use Rattle.serialization.specs.Program.{Program, own_of, word_of, path_of}
 use Rattle.serialization.specs.Machine.{Machine, with_net, went_down}
 use Rattle.serialization.specs.Order.{FlatMachine, flat_run}
@@ -43,11 +43,12 @@ kept_answer z P good M group owed F s w x rest ok l e =
       | inr lq ↦ sym (before_path z.k q (word q % wires z) s l lq) ∙ ap (λ v. wire_before z.k s v q) on
     ]) in
     kept_plain z P good M group owed F (push_all (wire_before z.k s w) s ys (put_records net1 s w (records_but p (M.net.records s w))))
-    (told_all s ys ok.role) ok
-    (answering_places z.k path (wire_before z.k s w) ok.role net1 s w x placed1 l free at.told at.wire back)
+    (replying_all s ys ok.role) ok
+    (answering_places z.k path (wire_before z.k s w) ok.role net1 s w x placed1 l free at.replying at.wire back)
     (answering_meaning own word path group owed (wire_before z.k s w) net1 s w x means1 free (ok.means.replies (suc s) w x here) at.wire)
-    (λ q i. told_other s ys ok.role q (λ y m g. answers_led z.k path ok.role net1 s w x placed1 at.told y m (ap ok.role g ∙ i)) ∙ i)
+    (λ q i. replying_other s ys ok.role q (λ y m g. answers_led z.k path ok.role net1 s w x placed1 at.replying y m (ap ok.role g ∙ i)) ∙ i)
 
+-- After the first reply on a wire moves down, the machine simulates the flat machine.
 pub kept_down : {Core Pokes Entry : Type 0}
     → (z : Sizes) (P : Program Core Pokes Entry) (good : ℕ → Core → Type 0) (M : Machine Core) (group : ℕ → List ℕ) (owed : ℕ → Option ℕ)
     (F : FlatMachine Core) (s w : ℕ) (xs : List Reply) → Simulates z P good M group owed F → s < z.k → M.net.replies (suc s) w ≡ xs

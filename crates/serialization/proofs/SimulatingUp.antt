@@ -110,6 +110,7 @@ kept_combined z P good M group owed F s w v x rest j ok l e on is =
       owed_words = ok.owed_words;
     }
 
+-- After the first request on a wire moves up, the machine simulates the flat machine.
 pub kept_up : {Core Pokes Entry : Type 0}
     → (z : Sizes) (P : Program Core Pokes Entry) (good : ℕ → Core → Type 0) (M : Machine Core) (group : ℕ → List ℕ) (owed : ℕ → Option ℕ)
     (F : FlatMachine Core) (s w : ℕ) (xs : List Request) → Simulates z P good M group owed F → s < z.k → M.net.requests s w ≡ xs

@@ -8,7 +8,7 @@ use Rattle.network_theory.specs.messages.Places.{put2, In}
 use Rattle.network_theory.specs.messages.Queues.{records_of, records_but}
 use Rattle.network_theory.specs.messages.Network.{Net, put_requests, put_records, put_replies}
 use Rattle.network_theory.specs.messages.Moves.{push_all}
-use Rattle.network_theory.specs.Roles.{Role, Idle, Asking, Waiting, Told}
+use Rattle.network_theory.specs.Roles.{Role, Idle, Asking, Waiting, Replying}
 use Rattle.serialization.specs.Steadiness.{Stands}
 use Rattle.network_theory.proofs.Lemmas.messages.{In-append, In-append_left, In-append_right, at_put2, put2_same}
 
@@ -29,8 +29,9 @@ stands_map : (net now : Net) (q : ℕ) (r : Role)
 stands_map net now q Idle a b c h = tt
 stands_map net now q (Asking d) a b c h = let g = a d h.0 h.1 h.2 h.3 in (h.0, g.0, g.1, g.2)
 stands_map net now q (Waiting s l) a b c h = (h.0, h.1, b s h.0 h.1 h.2 h.3, h.3, h.4)
-stands_map net now q (Told d) a b c h = (h.0, h.1, c d h.0 h.1 h.2 h.3, h.3)
+stands_map net now q (Replying d) a b c h = (h.0, h.1, c d h.0 h.1 h.2 h.3, h.3)
 
+-- If the first request at a place is taken, each processor but its leader is still where its role says.
 pub stands_pop_request : (net : Net) (d w : ℕ) (x : Request) (rest : List Request) (q : ℕ) (r : Role) → net.requests d w ≡ x ∷ rest → (q ≡ x.leader → ⊥)
     → Stands net q r → Stands (put_requests net d w rest) q r
 stands_pop_request net d w x rest q r e n h =
@@ -43,6 +44,7 @@ stands_pop_request net d w x rest q r e n h =
     ))
     (λ s w' y m f. m) (λ d' w' y m f. m) h
 
+-- If the first reply at a place is taken, each processor but its leader is still where its role says.
 pub stands_pop_reply : (net : Net) (d w : ℕ) (x : Reply) (rest : List Reply) (q : ℕ) (r : Role) → net.replies d w ≡ x ∷ rest → (q ≡ x.leader → ⊥)
     → Stands net q r → Stands (put_replies net d w rest) q r
 stands_pop_reply net d w x rest q r e n h =
@@ -50,6 +52,7 @@ stands_pop_reply net d w x rest q r e n h =
     (λ d' w' y m s. into_put2 net.replies d w rest d' w' y
     (λ o. elim (subst (In y) e o) [ inl f ↦ absurd (n (sym s ∙ ap (λ (b : Reply). b.leader) f)) | inr g ↦ g ]) m) h
 
+-- If a request is appended at a place, each processor is still where its role says.
 pub stands_push_request : (net : Net) (d w : ℕ) (x : Request) (q : ℕ) (r : Role) → Stands net q r
     → Stands (put_requests net d w (net.requests d w ++ x ∷ [])) q r
 stands_push_request net d w x q r h =
@@ -57,16 +60,19 @@ stands_push_request net d w x q r h =
     (λ d' w' y m s. (y, into_put2 net.requests d w (net.requests d w ++ x ∷ []) d' w' y (λ o. In-append_left y (net.requests d w) (x ∷ []) o) m, s))
     (λ s w' y m f. m) (λ d' w' y m f. m) h
 
+-- If a reply is appended at a place, each processor is still where its role says.
 pub stands_push_reply : (net : Net) (d w : ℕ) (x : Reply) (q : ℕ) (r : Role) → Stands net q r → Stands (put_replies net d w (net.replies d w ++ x ∷ [])) q r
 stands_push_reply net d w x q r h =
     stands_map net (put_replies net d w (net.replies d w ++ x ∷ [])) q r (λ d' w' y m f. (y, m, f)) (λ s w' y m f. m)
     (λ d' w' y m s. into_put2 net.replies d w (net.replies d w ++ x ∷ []) d' w' y (λ o. In-append_left y (net.replies d w) (x ∷ []) o) m) h
 
+-- If a record is appended at a place, each processor is still where its role says.
 pub stands_push_record : (net : Net) (d w : ℕ) (x : Record) (q : ℕ) (r : Role) → Stands net q r → Stands (put_records net d w (net.records d w ++ x ∷ [])) q r
 stands_push_record net d w x q r h =
     stands_map net (put_records net d w (net.records d w ++ x ∷ [])) q r (λ d' w' y m f. (y, m, f))
     (λ d' w' y m s. into_put2 net.records d w (net.records d w ++ x ∷ []) d' w' y (λ o. In-append_left y (net.records d w) (x ∷ []) o) m) (λ s w' y m f. m) h
 
+-- If a request of a queue is replaced by one of the same leader, each processor is still where its role says.
 pub stands_entry : (net : Net) (d w : ℕ) (front behind : List Request) (x y : Request) (q : ℕ) (r : Role) → net.requests d w ≡ front ++ x ∷ behind
     → y.leader ≡ x.leader → Stands net q r → Stands (put_requests net d w (front ++ y ∷ behind)) q r
 stands_entry net d w front behind x y q r e same h =
@@ -91,6 +97,7 @@ In-filter_to {X} p x (y ∷ xs) m e = go (p y) refl m (λ o. In-filter_to p x xs
     go false f (inl s) rec = let c = sym f ∙ ap p (sym s) ∙ e in cc
     go false f (inr o) rec = rec o
 
+-- If a leader's records go, each processor that is the second of none of them is still where its role says.
 pub stands_drop : (net : Net) (s w p q : ℕ) (r : Role) → ((a : Record) → In a (records_of p (net.records s w)) → a.second ≡ q → ⊥) → Stands net q r
     → Stands (put_records net s w (records_but p (net.records s w))) q r
 stands_drop net s w p q r n h =
@@ -102,6 +109,7 @@ stands_drop net s w p q r n h =
     ]) m)
     (λ d' w' y m f. m) h
 
+-- If replies are put before a stage, each processor is still where its role says.
 pub stands_push_all : (wire : ℕ → ℕ) (s : ℕ) (ys : List Reply) (net : Net) (q : ℕ) (r : Role) → Stands net q r → Stands (push_all wire s ys net) q r
 unfolding push_all
 stands_push_all wire s [] net q r h = h
@@ -109,17 +117,18 @@ stands_push_all wire s (y ∷ ys) net q r h =
     stands_push_all wire s ys (put_replies net s (wire y.leader) (net.replies s (wire y.leader) ++ y ∷ [])) q r
     (stands_push_reply net s (wire y.leader) y q r h)
 
-pub stands_pushed : (wire : ℕ → ℕ) (s : ℕ) (ys : List Reply) (net : Net) (y : Reply) → In y ys → Stands (push_all wire s ys net) y.leader (Told s)
+-- If replies are put before a stage, the leader of each of them is replying there.
+pub stands_pushed : (wire : ℕ → ℕ) (s : ℕ) (ys : List Reply) (net : Net) (y : Reply) → In y ys → Stands (push_all wire s ys net) y.leader (Replying s)
 unfolding push_all
 stands_pushed wire s [] net y m = elim m [ ]
 stands_pushed wire s (x ∷ ys) net y (inl e) =
     let now : Net = put_replies net s (wire x.leader) (net.replies s (wire x.leader) ++ x ∷ []) in
-    let h : Stands now x.leader (Told s) = (
+    let h : Stands now x.leader (Replying s) = (
       wire x.leader,
       x,
       subst (In x) (sym (put2_same net.replies s (wire x.leader) (net.replies s (wire x.leader) ++ x ∷ [])))
           (In-append_right x (net.replies s (wire x.leader)) (x ∷ []) (inl refl)),
       refl,
     ) in
-    subst (λ l. Stands (push_all wire s ys now) l (Told s)) (ap (λ (b : Reply). b.leader) (sym e)) (stands_push_all wire s ys now x.leader (Told s) h)
+    subst (λ l. Stands (push_all wire s ys now) l (Replying s)) (ap (λ (b : Reply). b.leader) (sym e)) (stands_push_all wire s ys now x.leader (Replying s) h)
 stands_pushed wire s (x ∷ ys) net y (inr m) = stands_pushed wire s ys (put_replies net s (wire x.leader) (net.replies s (wire x.leader) ++ x ∷ [])) y m

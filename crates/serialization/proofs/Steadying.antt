@@ -3,7 +3,7 @@ use Rattle.network_theory.proofs.Lemmas.{answering_places, answers_led, below_ro
 use Rattle.network_theory.proofs.Lemmas.{placed_change, placed_nowhere, pop_reply, pop_reply_unnamed, pop_request}
 use Rattle.network_theory.proofs.Lemmas.{pop_request_unnamed, push_reply, push_request, records_drop_other}
 use Rattle.network_theory.proofs.Lemmas.{records_none, records_other_stage, records_path, records_push_other}
-use Rattle.network_theory.proofs.Lemmas.{records_push_same, small_put, told_other, unnamed_idle}
+use Rattle.network_theory.proofs.Lemmas.{records_push_same, small_put, replying_other, unnamed_idle}
 use Rattle.std.proofs.Common.{zero, ◌≡◌, ℕ, suc, ◌+◌, ◌-◌, ◌*◌, ◌%◌, ◌<◌, ◌≤◌, Bool, true, false, ◌&&◌, not, List}
 use Rattle.std.proofs.Common.{[], ◌∷◌, ◌++◌, length, map, ◌==◌, nat_lt, ◌⊎◌, inl, inr, ◌↔◌, Option, Some, None, refl}
 use Rattle.std.proofs.Common.{sym, ap, ap₂, ◌∙◌, subst, arith, ltb-true, eqb-true, length-append, drop}
@@ -23,19 +23,19 @@ use Rattle.network_theory.specs.messages.Moves.{has_room, answered, down_from, m
 use Rattle.network_theory.specs.messages.Moves.{module_taken, module_replied, port_taken}
 use Rattle.network_theory.specs.omega_wires.Wires.{path as way, wire_after, wire_before}
 use Rattle.network_theory.proofs.Lemmas.omega_wires.{before_path, path_suc, path_zero}
-use Rattle.network_theory.specs.Roles.{Role, Idle, Asking, Waiting, Told, depth, Placed, RecordPlaced, told_all}
+use Rattle.network_theory.specs.Roles.{Role, Idle, Asking, Waiting, Replying, depth, Placed, RecordPlaced, replying_all}
 use Rattle.serialization.specs.Program.{Program, Kind, Rests, Alone, Refers, word_of, path_of}
 use Rattle.serialization.specs.Machine.{Machine, Step, Turn, Up, Serve, Down, Poke, stalled, with_net}
 use Rattle.serialization.specs.Machine.{retire_from, request_of, issue, advance, begin, turned, went_up}
 use Rattle.serialization.specs.Machine.{went_down, serve_from, all_shut, poked, step, new_machine}
-use Rattle.serialization.specs.Steadiness.{Few, Stands, Steady, Far, idle, asking, told, waiting, Lower, MovedOn, GoesOn}
+use Rattle.serialization.specs.Steadiness.{Few, Stands, Steady, Far, idle, asking, replying, waiting, Lower, MovedOn, GoesOn}
 use Rattle.network_theory.proofs.Lemmas.messages.{In-append, In-append_left, In-append_right, In-filter}
 use Rattle.network_theory.proofs.Lemmas.messages.{In-put2, filter_none, put2_other, put2_same, put_other}
 use Rattle.network_theory.proofs.Lemmas.messages.{put_same, Joins, combination_joins, from_answers}
 use Rattle.serialization.proofs.Standing.{stands_pop_request, stands_pop_reply, stands_push_request}
 use Rattle.serialization.proofs.Standing.{stands_push_reply, stands_push_record, stands_entry}
 use Rattle.serialization.proofs.Standing.{stands_drop, stands_push_all, stands_pushed}
-use Rattle.serialization.proofs.Distances.{far_asking, far_told, far_waiting, far_lower}
+use Rattle.serialization.proofs.Distances.{far_asking, far_replying, far_waiting, far_lower}
 
 shut_put : (role : ℕ → Role) (p : ℕ) (r : Role) (b : ℕ → Bool) → ((q : ℕ) → (b q ≡ false) ↔ (role q ≡ Idle)) → (role p ≡ Idle → ⊥) → (r ≡ Idle → ⊥) → (q : ℕ)
     → (b q ≡ false) ↔ (put role p r q ≡ Idle)
@@ -257,14 +257,14 @@ steady_serve z P M role m x others ok from =
     let free : Unnamed net1 p = pop_request_unnamed z.k path role M.net z.k m x rest ok.placed e in
     let l : p < wires z = asks_n role (wires z) p (Asking z.k) ok.small at.asks (λ c. cc) in
     record {
-      role' = put role p (Told z.k);
+      role' = put role p (Replying z.k);
       steady = record {
         placed = push_reply z.k path role net1 z.k m y placed1 free
             (λ s w r i g. below_role z.k path role M.net p (Asking z.k) ok.placed at.asks s w r i g) at.wire (omega arith);
         worded = λ d u b i. ok.worded d u b (old d u b i);
         marked = λ t u b i. ok.marked t u b (old (suc t) u b i);
         few = ok.few;
-        stands = stands_put (put_replies net1 z.k m (M.net.replies z.k m ++ y ∷ [])) role p (Told z.k)
+        stands = stands_put (put_replies net1 z.k m (M.net.replies z.k m ++ y ∷ [])) role p (Replying z.k)
             (λ q n. stands_push_reply net1 z.k m y q (role q) (stands_pop_request M.net z.k m x rest q (role q) e n (ok.stands q))) (
               m,
               y,
@@ -273,11 +273,11 @@ steady_serve z P M role m x others ok from =
               refl,
             );
         refers = ok.refers;
-        shut = shut_put role p (Told z.k) M.is_open ok.shut (λ i. let c = sym at.asks ∙ i in cc) (λ c. cc);
-        small = small_put role (wires z) p (Told z.k) ok.small l;
+        shut = shut_put role p (Replying z.k) M.is_open ok.shut (λ i. let c = sym at.asks ∙ i in cc) (λ c. cc);
+        small = small_put role (wires z) p (Replying z.k) ok.small l;
       };
-      lower = lower_put z.k (wires z) role p (Told z.k) l
-          (λ i f. let g = far_asking z.k role p i z.k f at.asks in (suc z.k, told p (suc z.k) z.k (put_same role p (Told z.k)) refl, omega arith));
+      lower = lower_put z.k (wires z) role p (Replying z.k) l
+          (λ i f. let g = far_asking z.k role p i z.k f at.asks in (suc z.k, replying p (suc z.k) z.k (put_same role p (Replying z.k)) refl, omega arith));
     }
 
 kept_requests : (wire : ℕ → ℕ) (s : ℕ) (ys : List Reply) (net : Net) → (push_all wire s ys net).requests ≡ net.requests
@@ -301,13 +301,14 @@ led_by (x ∷ ys) q = elim (cases_eq x.leader q) [
   ]
 ]
 
-told_in : (s : ℕ) (ys : List Reply) (role : ℕ → Role) (y : Reply) → In y ys → told_all s ys role y.leader ≡ Told s
-unfolding told_all
-told_in s [] role y m = elim m [ ]
-told_in s (x ∷ ys) role y (inr m) = told_in s ys (put role x.leader (Told s)) y m
-told_in s (x ∷ ys) role y (inl e) = elim (led_by ys y.leader) [
-  | inl h ↦ ap (told_all s ys (put role x.leader (Told s))) (sym h.2) ∙ told_in s ys (put role x.leader (Told s)) h.0 h.1
-  | inr n ↦ told_other s ys (put role x.leader (Told s)) y.leader n ∙ (λ i. put role x.leader (Told s) ((e i).leader)) ∙ put_same role x.leader (Told s)
+replying_in : (s : ℕ) (ys : List Reply) (role : ℕ → Role) (y : Reply) → In y ys → replying_all s ys role y.leader ≡ Replying s
+unfolding replying_all
+replying_in s [] role y m = elim m [ ]
+replying_in s (x ∷ ys) role y (inr m) = replying_in s ys (put role x.leader (Replying s)) y m
+replying_in s (x ∷ ys) role y (inl e) = elim (led_by ys y.leader) [
+  | inl h ↦ ap (replying_all s ys (put role x.leader (Replying s))) (sym h.2) ∙ replying_in s ys (put role x.leader (Replying s)) h.0 h.1
+  | inr n ↦ replying_other s ys (put role x.leader (Replying s)) y.leader n ∙ (λ i. put role x.leader (Replying s) ((e i).leader))
+      ∙ put_same role x.leader (Replying s)
 ]
 
 pub steady_answer : {Core Pokes Entry : Type 0}
@@ -328,21 +329,21 @@ steady_answer z P M role s w x rest ok l e =
     let net2 : Net = put_records net1 s w left in
     let ys : List Reply = answers rs x in
     let net3 : Net = push_all (wire_before z.k s w) s ys net2 in
-    let role' : ℕ → Role = told_all s ys role in
+    let role' : ℕ → Role = replying_all s ys role in
     let placed1 = pop_reply z.k path role M.net (suc s) w x rest ok.placed e in
     let free : Unnamed net1 p = pop_reply_unnamed z.k path role M.net (suc s) w x rest ok.placed e in
     let known : (r : Record) → In r rs → RecordPlaced z.k path role s w r × (r.leader ≡ p)
     = (λ r m. let g = In-filter (λ (e : Record). e.leader == p) r (M.net.records s w) m in (ok.placed.records s w r g.0, eqb-true r.leader p g.1)) in
     let back : (q : ℕ) → (role q ≡ Idle → ⊥) → path q (suc s) ≡ w → path q s ≡ wire_before z.k s w q
     = (λ q n on. sym (before_path z.k q (word q % wires z) s l (asks_n role (wires z) q (role q) ok.small refl n)) ∙ ap (λ v. wire_before z.k s v q) on) in
-    let not_idle_led : (y : Reply) → In y ys → role y.leader ≡ Idle → ⊥ = (λ y m i. answers_led z.k path role net1 s w x placed1 at.told y m i) in
+    let not_idle_led : (y : Reply) → In y ys → role y.leader ≡ Idle → ⊥ = (λ y m i. answers_led z.k path role net1 s w x placed1 at.replying y m i) in
     let gone : records_on path (put2 M.net.records s w left) p s ≡ [] =
     filter_none (λ (r : Record). r.leader == p) (put2 M.net.records s w left s (path p (suc s)))
     (λ r m g. elim (In-put2 M.net.records s w left s (path p (suc s)) r m) [
       | inl h ↦ not_led r.leader p (eqb-true r.leader p g) ((In-filter (λ (e : Record). not (e.leader == p)) r (M.net.records s w) h.2).1)
       | inr h ↦ h.0 refl at.wire
     ]) in
-    let placed' = answering_places z.k path (wire_before z.k s w) role net1 s w x placed1 l free at.told at.wire back in
+    let placed' = answering_places z.k path (wire_before z.k s w) role net1 s w x placed1 l free at.replying at.wire back in
     record {
       role' = role';
       steady = record {
@@ -363,39 +364,40 @@ steady_answer z P M role s w x rest ok l e =
             ]));
         stands = λ q. elim (led_by ys q) [
           | inl h ↦ subst (λ v. Stands net3 v (role' v)) h.2
-              (subst (Stands net3 h.0.leader) (sym (told_in s ys role h.0 h.1)) (stands_pushed (wire_before z.k s w) s ys net2 h.0 h.1))
-          | inr n ↦ subst (Stands net3 q) (sym (told_other s ys role q n))
+              (subst (Stands net3 h.0.leader) (sym (replying_in s ys role h.0 h.1)) (stands_pushed (wire_before z.k s w) s ys net2 h.0 h.1))
+          | inr n ↦ subst (Stands net3 q) (sym (replying_other s ys role q n))
               (stands_push_all (wire_before z.k s w) s ys net2 q (role q)
               (stands_drop net1 s w p q (role q) (λ a m g. n (record { leader = a.second; value = applied a.phi x.value }) (inr (to_answers x rs a m)) g)
               (stands_pop_reply M.net (suc s) w x rest q (role q) e (λ g. n x (inl refl) (sym g)) (ok.stands q))))
         ];
         refers = ok.refers;
         shut = λ q. (
-          (λ f. let i = (ok.shut q).0 f in told_other s ys role q (λ y m g. not_idle_led y m (ap role g ∙ i)) ∙ i),
+          (λ f. let i = (ok.shut q).0 f in replying_other s ys role q (λ y m g. not_idle_led y m (ap role g ∙ i)) ∙ i),
           (λ f. elim (led_by ys q) [
-            | inl h ↦ (let c : Told s ≡ Idle = sym (told_in s ys role h.0 h.1) ∙ ap role' h.2 ∙ f in cc)
-            | inr n ↦ (ok.shut q).1 (sym (told_other s ys role q n) ∙ f)
+            | inl h ↦ (let c : Replying s ≡ Idle = sym (replying_in s ys role h.0 h.1) ∙ ap role' h.2 ∙ f in cc)
+            | inr n ↦ (ok.shut q).1 (sym (replying_other s ys role q n) ∙ f)
           ]),
         );
-        small = λ q. elim (ok.small q) [ inl i ↦ inl (told_other s ys role q (λ y m g. not_idle_led y m (ap role g ∙ i)) ∙ i) | inr j ↦ inr j ];
+        small = λ q. elim (ok.small q) [ inl i ↦ inl (replying_other s ys role q (λ y m g. not_idle_led y m (ap role g ∙ i)) ∙ i) | inr j ↦ inr j ];
       };
       lower = record {
         none_grows = far_lower z.k role role' (λ q. elim (led_by ys q) [
           | inl h ↦ inr (λ i f. (
             suc s,
-            told q (suc s) s (ap role' (sym h.2) ∙ told_in s ys role h.0 h.1) refl,
+            replying q (suc s) s (ap role' (sym h.2) ∙ replying_in s ys role h.0 h.1) refl,
             elim (from_answers x h.0 rs h.1) [
-              | inl a ↦ (let g = far_told z.k role q i (suc s) f (ap role (sym h.2 ∙ a) ∙ at.told) in omega arith)
+              | inl a ↦ (let g = far_replying z.k role q i (suc s) f (ap role (sym h.2 ∙ a) ∙ at.replying) in omega arith)
               | inr a ↦ (let k = known a.0 a.1 in
-                  let g = far_told z.k role a.0.leader i (suc s) (far_waiting z.k role q i s a.0.leader f (ap role (sym h.2 ∙ a.2) ∙ k.0.waits))
-                  (ap role k.1 ∙ at.told) in omega arith)
+                  let g = far_replying z.k role a.0.leader i (suc s) (far_waiting z.k role q i s a.0.leader f (ap role (sym h.2 ∙ a.2) ∙ k.0.waits))
+                  (ap role k.1 ∙ at.replying) in omega arith)
             ],
           ))
-          | inr n ↦ inl (told_other s ys role q n)
+          | inr n ↦ inl (replying_other s ys role q n)
         ]);
         mover = p;
-        within = asks_n role (wires z) p (Told (suc s)) ok.small at.told (λ c. cc);
-        falls = λ i f. let g = far_told z.k role p i (suc s) f at.told in (suc s, told p (suc s) s (told_in s ys role x (inl refl)) refl, omega arith);
+        within = asks_n role (wires z) p (Replying (suc s)) ok.small at.replying (λ c. cc);
+        falls = λ i f. let g = far_replying z.k role p i (suc s) f at.replying in
+            (suc s, replying p (suc s) s (replying_in s ys role x (inl refl)) refl, omega arith);
       };
     }
   where
@@ -421,14 +423,14 @@ steady_retire z P M role p y others ok from =
     let here : In y (M.net.replies 0 p) = rw e (inl refl) in
     let at = ok.placed.replies 0 p y here in
     let is : y.leader ≡ p = sym (path_zero z.k y.leader (P.word_of y.leader (M.core y.leader) % wires z)) ∙ at.wire in
-    let told_p : role p ≡ Told 0 = ap role (sym is) ∙ at.told in
+    let replying_p : role p ≡ Replying 0 = ap role (sym is) ∙ at.replying in
     let net1 : Net = put_replies M.net 0 p rest in
     let placed1 = pop_reply z.k path role M.net 0 p y rest ok.placed e in
     let free : Unnamed net1 p = subst (Unnamed net1) is (pop_reply_unnamed z.k path role M.net 0 p y rest ok.placed e) in
     let same : (q : ℕ) → (q ≡ p → ⊥) → core' q ≡ M.core q = (λ q n. put_other M.core p (P.retire p (M.core p) y.value) q n) in
     let same_way : (q d : ℕ) → (q ≡ p → ⊥) → path' q d ≡ path q d = (λ q d n. ap (λ g. way z.k q (P.word_of q g % wires z) d) (same q n)) in
     let leads_none : (s w : ℕ) (a : Record) → In a (M.net.records s w) → a.leader ≡ p
-    → ⊥ = (λ s w a m f. let h = below_role z.k path role M.net p (Told 0) ok.placed told_p s w a m f in absurd (omega arith)) in
+    → ⊥ = (λ s w a m f. let h = below_role z.k path role M.net p (Replying 0) ok.placed replying_p s w a m f in absurd (omega arith)) in
     record {
       role' = put role p Idle;
       steady = record {
@@ -454,10 +456,10 @@ steady_retire z P M role p y others ok from =
                 ∙ (ok.shut q).1 (sym (put_other role p Idle q n) ∙ f)
           ]),
         );
-        small = small_put role (wires z) p Idle ok.small (asks_n role (wires z) p (Told 0) ok.small told_p (λ c. cc));
+        small = small_put role (wires z) p Idle ok.small (asks_n role (wires z) p (Replying 0) ok.small replying_p (λ c. cc));
       };
-      lower = lower_put z.k (wires z) role p Idle (asks_n role (wires z) p (Told 0) ok.small told_p (λ c. cc))
-          (λ i f. let g = far_told z.k role p i 0 f told_p in (0, idle p 0 (put_same role p Idle) refl, omega arith));
+      lower = lower_put z.k (wires z) role p Idle (asks_n role (wires z) p (Replying 0) ok.small replying_p (λ c. cc))
+          (λ i f. let g = far_replying z.k role p i 0 f replying_p in (0, idle p 0 (put_same role p Idle) refl, omega arith));
     }
 
 pub steady_issue : {Core Pokes Entry : Type 0} → (z : Sizes) (P : Program Core Pokes Entry) (M : Machine Core) (role : ℕ → Role) (p : ℕ) → Steady z P M role
@@ -539,6 +541,7 @@ steady_advance z P M role p ok l shut =
       small = small_put role (wires z) p Idle ok.small l;
     }
 
+-- A new machine is steady, with each processor idle.
 pub steady_start : {Core Pokes Entry : Type 0} → (z : Sizes) (P : Program Core Pokes Entry) (mem : ℕ → ℕ) (core : ℕ → Core)
     → Steady z P (new_machine mem core) (λ p. Idle)
 steady_start z P mem core = record {

@@ -1,5 +1,6 @@
 -- The drain: which step it takes next.
-use Rattle.std.specs.Prelude.{◌≡◌, ℕ, zero, suc, ◌+◌, ◌*◌, ◌<◌, ◌≤◌, Bool, true, false, List, [], ◌∷◌, Option, Some, None, is_some, length, if◌then◌else◌}
+use Rattle.std.specs.Prelude.{◌≡◌, ℕ, zero, suc, ◌+◌, ◌*◌, ◌<◌, ◌≤◌, Bool, true, false, List, [], ◌∷◌, Option, Some}
+use Rattle.std.specs.Prelude.{None, is_some, length, if◌then◌else◌}
 use Rattle.network_theory.specs.messages.Network.{Sizes, Net, wires}
 use Rattle.serialization.specs.Program.{Program}
 use Rattle.network_theory.specs.Roles.{Role}
@@ -40,27 +41,37 @@ down_step z net = elim (least (λ s. some_wire (net.replies (suc s)) (wires z)) 
 
 -- a request before some stage: the greatest stage, and then the smallest wire
 abbrev pub up_step : {Pokes : Type 0} → Sizes → Net → Option (Step Pokes)
-up_step z net = elim (greatest (λ s. some_wire (net.requests s) (wires z)) z.k) [ Some s ↦ first_wire (net.requests s) (wires z) (Up s) | None ↦ None ]
+up_step z net = elim (greatest (λ s. some_wire (net.requests s) (wires z)) z.k) [
+  | Some s ↦ first_wire (net.requests s)
+      (wires z) (Up s)
+  | None ↦ None
+]
 
--- the first that applies: the turn of a processor with a reply on its wire, a reply down, a request at a module, a request up
+-- the first that applies: the turn of a processor with a reply on its wire, a reply down, a request at a module, a
+-- request up
 abbrev pub drain_step : {Core Pokes : Type 0} → Sizes → Machine Core → Option (Step Pokes)
 drain_step z M = or_else (first_wire (M.net.replies 0) (wires z) Turn)
     (or_else (down_step z M.net) (or_else (first_wire (M.net.requests z.k) (wires z) Serve) (up_step z M.net)))
 
 -- f gives the distances of the open references, and 0 for the other processors
 abbrev pub AreDistances : {Core : Type 0} → Sizes → Machine Core → (ℕ → ℕ) → Type 0
-AreDistances z M f = (p : ℕ) → p < wires z → (M.is_open p ≡ false → f p ≡ 0) × (M.is_open p ≡ true → Distance z.k M.net p (f p))
+AreDistances z M f = (p : ℕ) → p < wires z →
+    (M.is_open p ≡ false → f p ≡ 0) × (M.is_open p ≡ true → Distance z.k M.net p (f p))
 
--- the step doesn't stall, and lowers the sum of the distances; none is named exactly where no reference is open
-abbrev pub DrainIs : {Core Pokes Entry : Type 0} → Sizes → Program Core Pokes Entry → Machine Core → Option (Step Pokes) → Type 0
+-- the step doesn't stall, and lowers the sum of the distances; none is named exactly if no reference is open
+abbrev pub DrainIs : {Core Pokes Entry : Type 0} → Sizes → Program Core Pokes Entry → Machine Core →
+    Option (Step Pokes) → Type 0
 DrainIs z P M None = (p : ℕ) → M.is_open p ≡ false
 DrainIs z P M (Some st) = ((step z P M st).outcome ≡ Stalled → ⊥)
-    × ((f g : ℕ → ℕ) → AreDistances z M f → AreDistances z (step z P M st).machine g → total g (wires z) < total f (wires z))
+    × ((f g : ℕ → ℕ) → AreDistances z M f → AreDistances z (step z P M st).machine g →
+    total g (wires z) < total f (wires z))
 
--- the steps of a drain: as long as one is named, and at most so many
-unfoldable pub drain_steps : {Core Pokes Entry : Type 0} → Sizes → Program Core Pokes Entry → ℕ → Machine Core → List (Step Pokes)
+-- the steps of a drain: as long as one is named, and at most this many
+unfoldable pub drain_steps : {Core Pokes Entry : Type 0} → Sizes → Program Core Pokes Entry → ℕ → Machine Core →
+    List (Step Pokes)
 drain_steps z P zero M = []
-drain_steps z P (suc n) M = elim (drain_step z M) [ Some st ↦ st ∷ drain_steps z P n (step z P M st).machine | None ↦ [] ]
+drain_steps z P (suc n) M =
+    elim (drain_step z M) [ Some st ↦ st ∷ drain_steps z P n (step z P M st).machine | None ↦ [] ]
 
 -- no distance sum is greater
 abbrev pub drain_bound : Sizes → ℕ
@@ -71,21 +82,27 @@ drain_bound z = wires z * (2 * z.k + 2)
 module _ (Core Pokes Entry : Type 0) where
   -- each open reference has a distance, and together they are bounded
   abbrev pub DistancesAreThere : Type 0
-  DistancesAreThere = (z : Sizes) (P : Program Core Pokes Entry) (M : Machine Core) (role : ℕ → Role) → Steady z P M role → (f : ℕ → ℕ) × AreDistances z M f
+  DistancesAreThere = (z : Sizes) (P : Program Core Pokes Entry) (M : Machine Core) (role : ℕ → Role) →
+      Steady z P M role → (f : ℕ → ℕ) × AreDistances z M f
 
   abbrev pub DistancesAreBounded : Type 0
-  DistancesAreBounded = (z : Sizes) (P : Program Core Pokes Entry) (M : Machine Core) (role : ℕ → Role) (f : ℕ → ℕ) → Steady z P M role → AreDistances z M f
+  DistancesAreBounded = (z : Sizes) (P : Program Core Pokes Entry) (M : Machine Core) (role : ℕ → Role) (f : ℕ → ℕ) →
+      Steady z P M role → AreDistances z M f
       → total f (wires z) ≤ drain_bound z
 
-  -- the next step of a drain doesn't stall and lowers their sum, and there is none exactly where no reference is open
+  -- the next step of a drain doesn't stall and lowers their sum, and there is none exactly if no reference is open
   abbrev pub DrainGoesOn : Type 0
-  DrainGoesOn = (z : Sizes) (P : Program Core Pokes Entry) (M : Machine Core) (role : ℕ → Role) → Steady z P M role → z.r < z.c → DrainIs z P M (drain_step z M)
+  DrainGoesOn = (z : Sizes) (P : Program Core Pokes Entry) (M : Machine Core) (role : ℕ → Role) → Steady z P M role →
+      z.r < z.c → DrainIs z P M (drain_step z M)
 
   abbrev pub IdleMachinesHaveNoDrainStep : Type 0
-  IdleMachinesHaveNoDrainStep = (z : Sizes) (P : Program Core Pokes Entry) (M : Machine Core) (role : ℕ → Role) → Steady z P M role → IsIdle z M
+  IdleMachinesHaveNoDrainStep = (z : Sizes) (P : Program Core Pokes Entry) (M : Machine Core) (role : ℕ → Role) →
+      Steady z P M role → IsIdle z M
       → drain_step {Pokes = Pokes} z M ≡ None
 
   -- so a drain ends idle, after as many steps as the bound at most
   abbrev pub DrainEndsIdle : Type 0
-  DrainEndsIdle = (z : Sizes) (P : Program Core Pokes Entry) (M : Machine Core) (role : ℕ → Role) → Steady z P M role → z.r < z.c →
-      IsIdle z (machine_after z P (drain_steps z P (drain_bound z) M) M) × (length (drain_steps z P (drain_bound z) M) ≤ drain_bound z)
+  DrainEndsIdle = (z : Sizes) (P : Program Core Pokes Entry) (M : Machine Core) (role : ℕ → Role) → Steady z P M role →
+      z.r < z.c →
+      IsIdle z (machine_after z P (drain_steps z P (drain_bound z) M) M)
+      × (length (drain_steps z P (drain_bound z) M) ≤ drain_bound z)

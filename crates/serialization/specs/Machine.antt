@@ -1,5 +1,6 @@
 -- The machine and its steps.
-use Rattle.std.specs.Prelude.{◌≡◌, ◌<◌, ℕ, zero, suc, Bool, true, false, ◌&&◌, not, nat_lt, List, [], ◌∷◌, if◌then◌else◌}
+use Rattle.std.specs.Prelude.{◌≡◌, ◌<◌, ℕ, zero, suc, Bool, true, false, ◌&&◌, not, nat_lt, List, [], ◌∷◌}
+use Rattle.std.specs.Prelude.{if◌then◌else◌}
 use Rattle.network_theory.specs.messages.declared.message.Request.{Request}
 use Rattle.network_theory.specs.messages.declared.message.Reply.{Reply}
 use Rattle.network_theory.specs.messages.declared.moves.UpMove.{UpMove}
@@ -10,7 +11,8 @@ use Rattle.network_theory.specs.messages.declared.seconds.Seconds.{Seconds}
 use Rattle.network_theory.specs.messages.Places.{put}
 use Rattle.network_theory.specs.messages.Queues.{applied}
 use Rattle.network_theory.specs.messages.Network.{Sizes, Net, wires, empty_net}
-use Rattle.network_theory.specs.messages.Moves.{moved_up, moved_down, injected, module_taken, module_replied, port_taken}
+use Rattle.network_theory.specs.messages.Moves.{moved_up, moved_down, injected, module_taken, module_replied}
+use Rattle.network_theory.specs.messages.Moves.{port_taken}
 use Rattle.serialization.specs.Program.{Program, Kind, Rests, Alone, Refers}
 
 -- There is a processor and a module for each wire.
@@ -57,10 +59,16 @@ with_net M net = record { net = net; mem = M.mem; core = M.core; is_open = M.is_
 -- ---- a turn
 
 -- the first reply on the wire of an open processor is taken
-abbrev pub retire_from : {Core Pokes Entry : Type 0} → Program Core Pokes Entry → Machine Core → ℕ → List Reply → Result Core Pokes
+abbrev pub retire_from : {Core Pokes Entry : Type 0} → Program Core Pokes Entry → Machine Core → ℕ → List Reply →
+    Result Core Pokes
 retire_from P M p [] = stalled M
 retire_from P M p (y ∷ ys) = record {
-  machine = record { net = port_taken M.net p; mem = M.mem; core = put M.core p (P.retire p (M.core p) y.value); is_open = put M.is_open p false };
+  machine = record {
+    net = port_taken M.net p;
+    mem = M.mem;
+    core = put M.core p (P.retire p (M.core p) y.value);
+    is_open = put M.is_open p false;
+  };
   outcome = Retired p y.value;
 }
 
@@ -70,12 +78,25 @@ request_of P core p = record { leader = p; word = P.word_of p (core p); phi = P.
 
 abbrev pub issue : {Core Pokes Entry : Type 0} → Program Core Pokes Entry → Machine Core → ℕ → Result Core Pokes
 issue P M p = record {
-  machine = record { net = injected M.net (request_of P M.core p); mem = M.mem; core = M.core; is_open = put M.is_open p true };
+  machine = record {
+    net = injected M.net (request_of P M.core p);
+    mem = M.mem;
+    core = M.core;
+    is_open = put M.is_open p true;
+  };
   outcome = Issued p;
 }
 
 abbrev pub advance : {Core Pokes Entry : Type 0} → Program Core Pokes Entry → Machine Core → ℕ → Result Core Pokes
-advance P M p = record { machine = record { net = M.net; mem = M.mem; core = put M.core p (P.alone p (M.core p)); is_open = M.is_open }; outcome = Advanced p }
+advance P M p = record {
+  machine = record {
+    net = M.net;
+    mem = M.mem;
+    core = put M.core p (P.alone p (M.core p));
+    is_open = M.is_open;
+  };
+  outcome = Advanced p;
+}
 
 -- a turn of a processor that is not open
 abbrev pub begin : {Core Pokes Entry : Type 0} → Program Core Pokes Entry → Machine Core → ℕ → Kind → Result Core Pokes
@@ -121,14 +142,24 @@ all_shut zero is_open = true
 all_shut (suc n) is_open = not (is_open n) && all_shut n is_open
 
 abbrev pub poked : {Core Pokes Entry : Type 0} → Program Core Pokes Entry → Machine Core → Pokes → Result Core Pokes
-poked P M q = record { machine = record { net = M.net; mem = P.poked_mem q M.mem; core = P.poked_core q M.core; is_open = M.is_open }; outcome = Poked q }
+poked P M q = record {
+  machine = record {
+    net = M.net;
+    mem = P.poked_mem q M.mem;
+    core = P.poked_core q M.core;
+    is_open = M.is_open;
+  };
+  outcome = Poked q;
+}
 
 -- ---- the step: a number that names no place stalls
 
-abbrev pub step : {Core Pokes Entry : Type 0} → Sizes → Program Core Pokes Entry → Machine Core → Step Pokes → Result Core Pokes
+abbrev pub step : {Core Pokes Entry : Type 0} → Sizes → Program Core Pokes Entry → Machine Core → Step Pokes →
+    Result Core Pokes
 step z P M (Turn p) = if nat_lt p (wires z) then turned P M p (M.is_open p) else stalled M
 step z P M (Up s w) = if nat_lt w (wires z) then went_up M (moved_up z M.net s w) else stalled M
-step z P M (Serve m) = if nat_lt m (wires z) then serve_from z M m (M.net.requests z.k m) (M.net.replies z.k m) else stalled M
+step z P M (Serve m) = if nat_lt m (wires z) then serve_from z M m (M.net.requests z.k m) (M.net.replies z.k m)
+    else stalled M
 step z P M (Down s w) = if nat_lt w (wires z) then went_down M (moved_down z M.net s w) else stalled M
 step z P M (Poke q) = if all_shut (wires z) M.is_open && P.is_lawful M.core q then poked P M q else stalled M
 
@@ -136,7 +167,8 @@ abbrev pub new_machine : {Core : Type 0} → (mem : ℕ → ℕ) → (core : ℕ
 new_machine mem core = record { net = empty_net; mem = mem; core = core; is_open = λ p. false }
 
 -- the machine after a list of steps
-unfoldable pub machine_after : {Core Pokes Entry : Type 0} → Sizes → Program Core Pokes Entry → List (Step Pokes) → Machine Core → Machine Core
+unfoldable pub machine_after : {Core Pokes Entry : Type 0} → Sizes → Program Core Pokes Entry → List (Step Pokes) →
+    Machine Core → Machine Core
 machine_after z P [] M = M
 machine_after z P (st ∷ sts) M = machine_after z P sts (step z P M st).machine
 

@@ -14,7 +14,7 @@ pub data Kind : Type 0 where
   -- it refers to a shared word
   Refers : Kind
 
--- what an entry of a serial order tells of
+-- what an entry of a serial order says of
 pub data Content (Pokes : Type 0) : Type 0 where
   TurnOf : (processor : ℕ) → Content Pokes
   PokeOf : Pokes → Content Pokes
@@ -27,8 +27,8 @@ pub record Entries (Pokes Entry : Type 0) : Type 0 where
   pub of_turn : (p : ℕ) → content (turn p) ≡ TurnOf p
   pub of_poke : (q : Pokes) → content (poke q) ≡ PokeOf q
 
--- A core is all that a processor has of its own, its past with it if one likes. Each function takes the processor's number
--- and its core. Pokes are writes from outside, of whatever kind.
+-- A core is all that a processor has of its own, its past with it if one likes. Each function takes the processor's
+-- number and its core. Pokes are writes from outside, of whatever kind.
 pub record Program (Core Pokes Entry : Type 0) : Type 0 where
   pub kind : ℕ → Core → Kind
   -- the core after a turn that needs no shared word
@@ -41,7 +41,7 @@ pub record Program (Core Pokes Entry : Type 0) : Type 0 where
   pub is_lawful : (ℕ → Core) → Pokes → Bool
   pub poked_core : Pokes → (ℕ → Core) → ℕ → Core
   pub poked_mem : Pokes → (ℕ → ℕ) → ℕ → ℕ
-  -- what the serial order is told in
+  -- what the serial order is reported in
   pub entry : Entries Pokes Entry
 
 -- Good cores refer by functions in range, and stay good.
@@ -49,8 +49,10 @@ pub record Keeps {Core Pokes Entry : Type 0} (P : Program Core Pokes Entry) (goo
   pub phi : (p : ℕ) (g : Core) → good p g → P.kind p g ≡ Refers → IsInRange (P.phi_of p g)
   pub alone : (p : ℕ) (g : Core) → good p g → P.kind p g ≡ Alone → good p (P.alone p g)
   pub retire : (p : ℕ) (g : Core) (v : ℕ) → good p g → P.kind p g ≡ Refers → v < 2 ^ 32 → good p (P.retire p g v)
-  pub poked_core : (q : Pokes) (core : ℕ → Core) → P.is_lawful core q ≡ true → ((p : ℕ) → good p (core p)) → (p : ℕ) → good p (P.poked_core q core p)
-  pub poked_mem : (q : Pokes) (core : ℕ → Core) (mem : ℕ → ℕ) → P.is_lawful core q ≡ true → ((a : ℕ) → mem a < 2 ^ 32) → (a : ℕ) → P.poked_mem q mem a < 2 ^ 32
+  pub poked_core : (q : Pokes) (core : ℕ → Core) → P.is_lawful core q ≡ true → ((p : ℕ) → good p (core p)) → (p : ℕ) →
+      good p (P.poked_core q core p)
+  pub poked_mem : (q : Pokes) (core : ℕ → Core) (mem : ℕ → ℕ) → P.is_lawful core q ≡ true →
+      ((a : ℕ) → mem a < 2 ^ 32) → (a : ℕ) → P.poked_mem q mem a < 2 ^ 32
 
 -- ---- the references of all processors
 

@@ -1,22 +1,27 @@
 -- Serialization: the machine is the flat one that takes the serial order.
-use Rattle.std.specs.Prelude.{◌≡◌, ℕ, ◌+◌, ◌^◌, ◌<◌, ◌≤◌, Bool, true, false, ◌==◌, ◌||◌, List, [], ◌∷◌, ◌++◌, length, Some, None, if◌then◌else◌}
+use Rattle.std.specs.Prelude.{◌≡◌, ℕ, ◌+◌, ◌^◌, ◌<◌, ◌≤◌, Bool, true, false, ◌==◌, ◌||◌, List, [], ◌∷◌, ◌++◌, length}
+use Rattle.std.specs.Prelude.{Some, None, if◌then◌else◌}
 use Rattle.network_theory.specs.messages.Network.{Sizes}
 use Rattle.network_theory.specs.Roles.{Role}
 use Rattle.serialization.specs.Program.{Program, Keeps}
 use Rattle.serialization.specs.Machine.{Machine, Step, Turn, Outcome, Issued, Retired, Served, step, IsIdle}
-use Rattle.serialization.specs.Order.{group_after, groups_after, Passed, FlatMachine, flat_run, flat_of, ran, outcomes, serial_order}
+use Rattle.serialization.specs.Order.{group_after, groups_after, Passed, FlatMachine, flat_run, flat_of, ran, outcomes}
+use Rattle.serialization.specs.Order.{serial_order}
 use Rattle.serialization.specs.Steadiness.{Steady}
 
 -- Where a run may begin: an idle machine that can have come about, with good cores and words of 32 bits.
-pub record Begins {Core Pokes Entry : Type 0} (z : Sizes) (P : Program Core Pokes Entry) (good : ℕ → Core → Type 0) (M : Machine Core) : Type 0 where
+pub record Begins {Core Pokes Entry : Type 0} (z : Sizes) (P : Program Core Pokes Entry) (good : ℕ → Core →
+    Type 0) (M : Machine Core) : Type 0 where
   pub role : ℕ → Role
   pub steady : Steady z P M role
   pub idle : IsIdle z M
   pub good_cores : (p : ℕ) → good p (M.core p)
   pub words : (a : ℕ) → M.mem a < 2 ^ 32
 
--- The entry of p at this place of the order, and the word that it finds: the flat machine's, after the entries before it.
-pub record FindsAt {Core Pokes Entry : Type 0} (P : Program Core Pokes Entry) (first : FlatMachine Core) (order : List Entry) (core : ℕ → Core)
+-- The entry of p at this place of the order, and the word that it finds: the flat machine's, after the entries before
+-- it.
+pub record FindsAt {Core Pokes Entry : Type 0} (P : Program Core Pokes Entry) (first : FlatMachine Core)
+    (order : List Entry) (core : ℕ → Core)
     (p place word : ℕ) : Type 0 where
   pub before : List Entry
   pub later : List Entry
@@ -24,15 +29,18 @@ pub record FindsAt {Core Pokes Entry : Type 0} (P : Program Core Pokes Entry) (f
   pub at_place : length before ≡ place
   pub found : word ≡ (flat_run P first before).mem (P.word_of p (core p))
 
--- At every moment, after whatever steps: the shared words are the flat machine's after the order so far. A processor whose
--- open reference is not served, or that has none open, stands as there. One that was served stands one reference behind:
--- with the word that its entry of the order found it becomes what it is there, and that word is the value of its reply.
-pub record AtTheMoment {Core Pokes Entry : Type 0} (z : Sizes) (P : Program Core Pokes Entry) (first : FlatMachine Core) (h : Passed Core Entry) : Type 0 where
+-- At every moment, after whatever steps: the shared words are the flat machine's after the order so far. A processor
+-- whose open reference is not served, or that has none open, stands as there. One that was served stands one reference
+-- after: with the word that its entry of the order found it becomes what it is there, and that word is the value of
+-- its reply.
+pub record AtTheMoment {Core Pokes Entry : Type 0} (z : Sizes) (P : Program Core Pokes Entry)
+    (first : FlatMachine Core) (h : Passed Core Entry) : Type 0 where
   pub words : (a : ℕ) → h.machine.mem a ≡ (flat_run P first h.order).mem a
   pub shut : (p : ℕ) → h.machine.is_open p ≡ false → h.served p ≡ None
   pub unserved : (p : ℕ) → h.served p ≡ None → (flat_run P first h.order).core p ≡ h.machine.core p
   pub served : (p place : ℕ) → h.served p ≡ Some place
-      → (word : ℕ) × FindsAt P first h.order h.machine.core p place word × ((flat_run P first h.order).core p ≡ P.retire p (h.machine.core p) word)
+      → (word : ℕ) × FindsAt P first h.order h.machine.core p place word
+      × ((flat_run P first h.order).core p ≡ P.retire p (h.machine.core p) word)
   pub retires : (p value : ℕ) → (step z P h.machine (Turn p)).outcome ≡ Retired p value
       → (place : ℕ) × (h.served p ≡ Some place) × FindsAt P first h.order h.machine.core p place value
 
@@ -64,8 +72,8 @@ unfoldable pub HasNotRetired : {Pokes : Type 0} → ℕ → List (Outcome Pokes)
 HasNotRetired p [] = Unit {0}
 HasNotRetired p (o ∷ os) = (IsRetirement p o → ⊥) × HasNotRetired p os
 
--- From the issue of a reference on, as long as it has not retired, it is served at most once. Where it then retires, it was
--- served exactly once.
+-- From the issue of a reference on, as long as it has not retired, it is served at most once. Where it then retires,
+-- it was served exactly once.
 pub record ServedOnce {Pokes : Type 0} (before between rest : List (Outcome Pokes)) (p : ℕ) : Type 0 where
   pub at_most : times_served (groups_after (λ q. []) (before ++ Issued p ∷ [])) p between ≤ 1
   pub exactly : (value : ℕ) (later : List (Outcome Pokes)) → rest ≡ Retired p value ∷ later
@@ -73,7 +81,8 @@ pub record ServedOnce {Pokes : Type 0} (before between rest : List (Outcome Poke
 
 -- so each issue in the outcomes
 abbrev pub EachServedOnce : {Pokes : Type 0} → List (Outcome Pokes) → Type 0
-EachServedOnce {Pokes} all = (before between rest : List (Outcome Pokes)) (p : ℕ) → all ≡ before ++ (Issued p ∷ (between ++ rest)) → HasNotRetired p between
+EachServedOnce {Pokes} all = (before between rest : List (Outcome Pokes)) (p : ℕ) →
+    all ≡ before ++ (Issued p ∷ (between ++ rest)) → HasNotRetired p between
     → ServedOnce before between rest p
 
 -- ---- the theorem, for every program and all lists of steps
@@ -85,7 +94,8 @@ module _ (Core Pokes Entry : Type 0) where
 
   -- what is said of every run of a program that keeps its cores good, from where a run may begin
   abbrev pub OfEachRun : (Sizes → Program Core Pokes Entry → Machine Core → List (Step Pokes) → Type 0) → Type 0
-  OfEachRun Says = (z : Sizes) (P : Program Core Pokes Entry) (good : ℕ → Core → Bool) (M : Machine Core) (steps : List (Step Pokes)) → Keeps P (Holds good)
+  OfEachRun Says = (z : Sizes) (P : Program Core Pokes Entry) (good : ℕ → Core →
+      Bool) (M : Machine Core) (steps : List (Step Pokes)) → Keeps P (Holds good)
       → Begins z P (Holds good) M → Says z P M steps
 
   abbrev pub IsSerializedAtEveryMoment : Type 0
@@ -93,7 +103,8 @@ module _ (Core Pokes Entry : Type 0) where
 
   abbrev pub IsSerializedFromIdleToIdle : Type 0
   IsSerializedFromIdleToIdle =
-      OfEachRun (λ z P M steps. IsIdle z (ran z P M steps).machine → IsFlat (ran z P M steps).machine (flat_run P (flat_of M) (ran z P M steps).order))
+      OfEachRun (λ z P M steps. IsIdle z (ran z P M steps).machine →
+      IsFlat (ran z P M steps).machine (flat_run P (flat_of M) (ran z P M steps).order))
 
   -- the order is the serial order of the outcomes
   abbrev pub OrderIsOfOutcomes : Type 0

@@ -8,19 +8,22 @@ use Rattle.serialization.specs.Program.{Program, Refers, own_of, path_of, word_o
 use Rattle.serialization.specs.Machine.{Machine, Outcome, Served, Retired, Result}
 use Rattle.serialization.specs.Order.{FlatMachine, group_after, segment, flat_run}
 
--- the core in the flat machine: a processor that was served stands one reference behind
+-- the core in the flat machine: a processor that was served stands one reference after
 abbrev pub shows : {Core Pokes Entry : Type 0} → Program Core Pokes Entry → ℕ → Option ℕ → Core → Core
 shows P p None g = g
 shows P p (Some v) g = P.retire p g v
 
 -- what the processors are owed after a step: the served group what it finds in the flat machine, one after another
-abbrev pub owed_after : {Core Pokes Entry : Type 0} → Program Core Pokes Entry → (ℕ → Core) → (ℕ → List ℕ) → FlatMachine Core → (ℕ → Option ℕ) → Outcome Pokes
+abbrev pub owed_after : {Core Pokes Entry : Type 0} → Program Core Pokes Entry → (ℕ → Core) → (ℕ → List ℕ) →
+    FlatMachine Core → (ℕ → Option ℕ) → Outcome Pokes
     → ℕ → Option ℕ
-owed_after P core group F owed (Served p) = (execute_all (own_of P core) (word_of P core) (record { mem = F.mem; owed = owed }) (group p)).owed
+owed_after P core group F owed (Served p) =
+    (execute_all (own_of P core) (word_of P core) (record { mem = F.mem; owed = owed }) (group p)).owed
 owed_after P core group F owed (Retired p v) = put owed p None
 owed_after P core group F owed _ = owed
 
-pub record Simulates {Core Pokes Entry : Type 0} (z : Sizes) (P : Program Core Pokes Entry) (good : ℕ → Core → Type 0) (M : Machine Core) (group : ℕ → List ℕ)
+pub record Simulates {Core Pokes Entry : Type 0} (z : Sizes) (P : Program Core Pokes Entry) (good : ℕ → Core →
+    Type 0) (M : Machine Core) (group : ℕ → List ℕ)
     (owed : ℕ → Option ℕ) (F : FlatMachine Core) : Type 0 where
   pub role : ℕ → Role
   pub placed : Placed z.k (path_of z P M.core) role M.net
@@ -37,7 +40,9 @@ pub record Simulates {Core Pokes Entry : Type 0} (z : Sizes) (P : Program Core P
   pub owed_words : (p v : ℕ) → owed p ≡ Some v → v < 2 ^ 32
 
 -- what a step leaves stands to the flat machine after the step's segment of the order
-abbrev pub Kept : {Core Pokes Entry : Type 0} → Sizes → Program Core Pokes Entry → (ℕ → Core → Type 0) → (ℕ → Core) → (ℕ → List ℕ) → (ℕ → Option ℕ)
+abbrev pub Kept : {Core Pokes Entry : Type 0} → Sizes → Program Core Pokes Entry → (ℕ → Core → Type 0) → (ℕ → Core) →
+    (ℕ → List ℕ) → (ℕ → Option ℕ)
     → FlatMachine Core → Result Core Pokes → Type 0
 Kept z P good core group owed F r =
-    Simulates z P good r.machine (group_after group r.outcome) (owed_after P core group F owed r.outcome) (flat_run P F (segment P.entry group r.outcome))
+    Simulates z P good r.machine (group_after group r.outcome) (owed_after P core group F owed r.outcome)
+    (flat_run P F (segment P.entry group r.outcome))

@@ -1,6 +1,7 @@
 //! What holds of every run, as the contract of a function that does nothing.
 
-ghost use Rattle.serialization.specs.Serialization.{IsSerializedAtEveryMoment, IsSerializedFromIdleToIdle, OrderIsOfOutcomes, ReferencesAreServedOnce};
+ghost use Rattle.serialization.specs.Serialization.{IsSerializedAtEveryMoment, IsSerializedFromIdleToIdle};
+ghost use Rattle.serialization.specs.Serialization.{OrderIsOfOutcomes, ReferencesAreServedOnce};
 
 /// After whatever steps the machine is the flat one that takes the serial order, up to references that
 /// are served and have not retired; each reference is served once, between its issue and its retirement.

@@ -1,7 +1,8 @@
 //! What always holds of the machine, and how a drain goes. Each is the contract of a function that does
 //! nothing.
 
-ghost use Rattle.serialization.specs.Draining.{DistancesAreBounded, DistancesAreThere, DrainEndsIdle, DrainGoesOn, IdleMachinesHaveNoDrainStep};
+ghost use Rattle.serialization.specs.Draining.{DistancesAreBounded, DistancesAreThere, DrainEndsIdle, DrainGoesOn};
+ghost use Rattle.serialization.specs.Draining.{IdleMachinesHaveNoDrainStep};
 ghost use Rattle.serialization.specs.Steadiness.{NewMachinesAreSteady, RecordsAreFew, StepsKeepSteady};
 
 /// What always holds of the state: it holds of a new machine, and each step keeps it. So no wait buffer
@@ -13,7 +14,7 @@ pub fn steadiness<Core, Pokes, Entry>()
 {}
 
 /// The step that a drain takes next doesn't stall and lowers the sum of the distances, which is bounded;
-/// there is none exactly where no reference is open. So a drain ends, with no reference open.
+/// there is none exactly if no reference is open. So a drain ends, with no reference open.
 pub fn drain<Core, Pokes, Entry>()
     ensures distances { DistancesAreThere Core Pokes Entry }
     ensures bounded { DistancesAreBounded Core Pokes Entry }

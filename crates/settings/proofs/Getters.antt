@@ -18,6 +18,7 @@ pub text_there : (o : Option (Bor Text)) (t : Option Text) → option_map (λ s.
 text_there None t e there = absurd (true≢false (sym (ap is_some e ∙ there)))
 text_there (Some s) t e there = refl
 
+-- If a getter gives a text, the plain value is this text.
 pub text_given : (o : Option (Bor Text)) (t : Option Text) (s : Bor Text) → option_map (λ s. s.now) o ≡ t → o ≡ Some s → t ≡ Some s.now
 text_given o t s e is = sym e ∙ ap (option_map (λ s. s.now)) is
 

@@ -92,6 +92,7 @@ module _ (s : Shape) (names : Names) (enabled : s.disable_help_subcommand ≡ fa
           let p = neither (word_fault s names w.is_trailing w.waiting word w.held) (step_fault s w.position met.0 met.1) e in
           step_stops word w met.0 met.1 (word_steps w.is_trailing w.waiting w.position word w.held p.0) stops
 
+  -- If words have no fault for a walk that has stopped at no `help`, it has stopped at none after them.
   pub walk_stops : (words : List Text) (w : Walk) → walk_fault s names w words ≡ [] → StopsAtNoHelp w.stopped →
       StopsAtNoHelp (fold (walked s.rules names) w words).stopped
   unfolding walk_fault

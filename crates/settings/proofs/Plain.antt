@@ -121,7 +121,7 @@ apart x y not e = absurd (true≢false (sym ((bytes_eq-Decides x y).1 e) ∙ not
 abbrev Meets : List Text → Text → List Row → Type 0
 Meets words name rows = (fault_of ultra_command words ≡ []) × (subcommand_of ultra_command words ≡ Some (name, rows))
 
--- settings are of that kind, and none come for want of memory alone
+-- settings are of that kind, and none come if out of memory alone
 abbrev Give : List Text → (Settings → Type 0) → Type 0
 Give words Q = (r : Result Settings Error) → IfOk r (IsAsked words) → FailsBy (fault_of ultra_command words) r → MatchResult r Q (λ e. kind_of e ≡ OutOfMemory)
 
@@ -157,28 +157,25 @@ unset : (b : Bool) → (b ≡ true → Some (codes "false") ≡ Some (codes "tru
 unset false f = refl
 unset true f = let bad : Some (codes "false") ≡ Some (codes "true") = f refl in cc
 
--- ---- the commands with one file: `words FILE`, `check FILE`, `dis FILE`, `debug FILE` and `hunt FILE`
+-- ---- the commands with one file and no flag: `words FILE`, `check FILE`, `dis FILE` and `debug FILE`
 
 pub data FileCommand : Type 0 where
   OfWords : FileCommand
   OfCheck : FileCommand
   OfDis : FileCommand
   OfDebug : FileCommand
-  OfHunt : FileCommand
 
 abbrev pub file_command : FileCommand → Text
 file_command OfWords = codes "words"
 file_command OfCheck = codes "check"
 file_command OfDis = codes "dis"
 file_command OfDebug = codes "debug"
-file_command OfHunt = codes "hunt"
 
 abbrev pub AreOfFile : FileCommand → Text → Settings → Type 0
 AreOfFile OfWords = AreWordsOf
 AreOfFile OfCheck = AreCheckOf
 AreOfFile OfDis = AreDisOf
 AreOfFile OfDebug = AreDebugOf
-AreOfFile OfHunt = AreHuntOf
 
 file_met : (c : FileCommand) (program file : Text) → IsPlain file → Meets (program ∷ file_command c ∷ file ∷ []) (file_command c) (file_rows file)
 unfolding row file_rows clap_on_literals commands
@@ -186,7 +183,6 @@ file_met OfWords program file h = rw (no_hyphens file h, no_hyphen file h, no_hy
 file_met OfCheck program file h = rw (no_hyphens file h, no_hyphen file h, no_hyphen file h) (refl, refl)
 file_met OfDis program file h = rw (no_hyphens file h, no_hyphen file h, no_hyphen file h) (refl, refl)
 file_met OfDebug program file h = rw (no_hyphens file h, no_hyphen file h, no_hyphen file h) (refl, refl)
-file_met OfHunt program file h = rw (no_hyphens file h, no_hyphen file h, no_hyphen file h) (refl, refl)
 
 file_are : (c : FileCommand) (file : Text) (s : Settings) → (name_of s ≡ file_command c) × AreOf (file_rows file) s → AreOfFile c file s
 unfolding name_of row file_rows
@@ -197,18 +193,11 @@ file_are OfCheck file other said = apart (name_of other) (codes "check") refl sa
 file_are OfDis file (asked.Dis d) said = (same_text file d.file.now said.1.0, said.1.1.0)
 file_are OfDis file other said = apart (name_of other) (codes "dis") refl said.0
 file_are OfDebug file (asked.Debug d) said =
-    let sizes = said.1.1 in
-    let budget = said.1.2 in
-    let port = said.1.3 in
-    (same_text file d.file.now said.1.0, (sizes.0.0, sizes.1.0, sizes.2.0, sizes.3.0, sizes.4.0), budget.0, port.0)
-file_are OfDebug file other said = apart (name_of other) (codes "debug") refl said.0
-file_are OfHunt file (asked.Hunt h) said =
     let sizes = said.1.2 in
     let budget = said.1.3 in
-    let runs = said.1.4 in
-    let start = said.1.5 in
-    (same_text file h.file.now said.1.0, no_text h.trace said.1.1, (sizes.0.0, sizes.1.0, sizes.2.0, sizes.3.0, sizes.4.0), budget.0, runs.0, start.0)
-file_are OfHunt file other said = apart (name_of other) (codes "hunt") refl said.0
+    let port = said.1.4 in
+    (same_text file d.file.now said.1.0, no_text d.trace said.1.1, (sizes.0.0, sizes.1.0, sizes.2.0, sizes.3.0, sizes.4.0), budget.0, port.0)
+file_are OfDebug file other said = apart (name_of other) (codes "debug") refl said.0
 
 -- the command gives the file, no trace, and each number its default
 pub file_given : (c : FileCommand) (file : Text) (words : List Text) → NamesFile (file_command c) file words → Give words (AreOfFile c file)
@@ -322,6 +311,39 @@ run_are file other said = apart (name_of other) (codes "run") refl said.0
 -- `run FILE` gives the file, no trace, no flag, and each number its default
 pub run_given : (file : Text) (words : List Text) → NamesFile (codes "run") file words → Give words (AreRunOf file)
 run_given file words named = give (AreRunOf file) words (codes "run") (run_rows file) (rw named.1 (run_met named.0 file named.2)) (run_are file)
+
+-- ---- `hunt FILE`
+
+hunt_rows : (file : Text) → List Row
+hunt_rows file =
+    row (codes "FILE") file CommandLine ∷ row (codes "overwrite") (codes "false") DefaultValue ∷ row (codes "quiet") (codes "false") DefaultValue ∷ []
+
+hunt_met : (program file : Text) → IsPlain file → Meets (program ∷ codes "hunt" ∷ file ∷ []) (codes "hunt") (hunt_rows file)
+unfolding row hunt_rows clap_on_literals commands
+hunt_met program file h = rw (no_hyphens file h, no_hyphen file h, no_hyphen file h) (refl, refl)
+
+hunt_are : (file : Text) (s : Settings) → (name_of s ≡ codes "hunt") × AreOf (hunt_rows file) s → AreHuntOf file s
+unfolding name_of row hunt_rows
+hunt_are file (asked.Hunt h) said =
+    let sizes = said.1.4 in
+    let budget = said.1.5 in
+    let runs = said.1.6 in
+    let start = said.1.7 in (
+      same_text file h.file.now said.1.0,
+      no_text h.trace said.1.1,
+      unset h.overwrite said.1.2.0,
+      unset h.quiet said.1.3.0,
+      (sizes.0.0, sizes.1.0, sizes.2.0, sizes.3.0, sizes.4.0),
+      budget.0,
+      runs.0,
+      start.0,
+    )
+hunt_are file other said = apart (name_of other) (codes "hunt") refl said.0
+
+-- `hunt FILE` gives the file, no trace, no flag, and each number its default
+pub hunt_given : (file : Text) (words : List Text) → NamesFile (codes "hunt") file words → Give words (AreHuntOf file)
+hunt_given file words named =
+    give (AreHuntOf file) words (codes "hunt") (hunt_rows file) (rw named.1 (hunt_met named.0 file named.2)) (hunt_are file)
 
 -- ---- `explain [CODE]`
 

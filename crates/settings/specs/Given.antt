@@ -10,7 +10,8 @@ HasPath id rows = is_some (first_of id rows) ≡ true
 -- the option's text, where it has one, spells a number in the range; clap reads it without a minus, which 0 may have
 abbrev pub HasNumber : Bounds → List Row → Type 0
 HasNumber o rows =
-    (one_of o.name rows ≡ option_map without_minus (first_of o.name rows)) × IfSome (first_of o.name rows) (IsSignedIn (pos o.low) (pos o.high))
+    (one_of o.name rows ≡ option_map without_minus (first_of o.name rows))
+    × IfSome (first_of o.name rows) (IsSignedIn (pos o.low) (pos o.high))
 
 abbrev pub HasAsm : List Row → Type 0
 HasAsm rows = HasPath (codes "FILE") rows × HasPath (codes "OUT") rows
@@ -19,7 +20,8 @@ abbrev pub HasDis : List Row → Type 0
 HasDis rows = HasPath (codes "FILE") rows × HasNumber shared_words.bounds rows
 
 abbrev pub HasSizes : List Row → Type 0
-HasSizes rows = HasNumber stages.bounds rows × HasNumber queue.bounds rows × HasNumber records.bounds rows × HasNumber combinations.bounds rows
+HasSizes rows = HasNumber stages.bounds rows × HasNumber queue.bounds rows × HasNumber records.bounds rows
+    × HasNumber combinations.bounds rows
     × HasNumber shared_words.bounds rows
 
 abbrev pub HasRun : List Row → Type 0
@@ -42,13 +44,15 @@ HasExplore rows = HasPath (codes "FILE") rows × HasSizes rows × HasNumber stat
 
 abbrev pub HasHunt : List Row → Type 0
 HasHunt rows =
-    HasPath (codes "FILE") rows × HasSizes rows × HasNumber steps.bounds rows × HasNumber runs.bounds rows × HasNumber start.bounds rows
+    HasPath (codes "FILE") rows × HasSizes rows × HasNumber steps.bounds rows × HasNumber runs.bounds rows
+    × HasNumber start.bounds rows
 
 -- the subcommands of the program
 abbrev pub command_names : List Text
 command_names =
     codes "words" ∷ codes "check" ∷ codes "asm" ∷ codes "dis" ∷ codes "run" ∷ codes "hunt" ∷ codes "explore"
-    ∷ codes "replay" ∷ codes "order" ∷ codes "story" ∷ codes "stats" ∷ codes "picture" ∷ codes "debug" ∷ codes "explain" ∷ []
+    ∷ codes "replay" ∷ codes "order" ∷ codes "story" ∷ codes "stats" ∷ codes "picture" ∷ codes "debug" ∷ codes
+    "explain" ∷ []
 
 abbrev pub IsOneOf : Text → List Text → Type 0
 IsOneOf name [] = ⊥

@@ -1,5 +1,6 @@
 -- What the settings are of the words of a command line.
-use Rattle.std.specs.Prelude.{◌≡◌, ◌≤◌, ◌↔◌, ℕ, pos, Bool, true, List, codes, Option, Some, None, option_map, IsSomeAnd, MatchOption}
+use Rattle.std.specs.Prelude.{◌≡◌, ◌≤◌, ◌↔◌, ℕ, pos, Bool, true, List, codes, Option, Some, None, option_map, IsSomeAnd}
+use Rattle.std.specs.Prelude.{MatchOption}
 use Rattle.std.specs.Str.Parse.{signed_digits_value}
 use Rattle.clap.specs.Words.{Row, Text, first_of, subcommand_of}
 use Rattle.settings.specs.declared.choice.Settings.{Settings}
@@ -34,7 +35,8 @@ IsFlag id rows is_set = (is_set ≡ true) ↔ (first_of id rows ≡ Some (codes 
 
 -- the number that the option's text spells, or the default where it has none, in its range
 abbrev pub IsNumber : Ranged → List Row → ℕ → Type 0
-IsNumber o rows n = MatchOption (first_of o.bounds.name rows) (n ≡ o.default) (λ text. pos n ≡ signed_digits_value 10 text) × (o.bounds.low ≤ n)
+IsNumber o rows n = MatchOption (first_of o.bounds.name rows) (n ≡ o.default)
+    (λ text. pos n ≡ signed_digits_value 10 text) × (o.bounds.low ≤ n)
     × (n ≤ o.bounds.high)
 
 -- the number that the option's text spells, in its range, or none where it has none
@@ -44,7 +46,8 @@ IsChoice o rows n = MatchOption (first_of o.name rows) (n ≡ None)
 
 -- a machine's sizes
 abbrev pub AreSizes : List Row → Sizes → Type 0
-AreSizes rows s = IsNumber stages rows s.k × IsNumber queue rows s.c × IsNumber records rows s.b × IsNumber combinations rows s.r
+AreSizes rows s = IsNumber stages rows s.k × IsNumber queue rows s.c × IsNumber records rows s.b
+    × IsNumber combinations rows s.r
     × IsNumber shared_words rows s.words
 
 abbrev pub GivesWords : List Row → Words → Type 0
@@ -60,11 +63,14 @@ abbrev pub GivesDis : List Row → Dis → Type 0
 GivesDis rows d = IsPath (codes "FILE") rows d.file.now × IsNumber shared_words rows d.words
 
 abbrev pub GivesRun : List Row → Run → Type 0
-GivesRun rows r = IsPath (codes "FILE") rows r.file.now × IsOption (codes "trace") rows (option_map (λ t. t.now) r.trace) × IsFlag (codes "sweep") rows r.sweep
-    × IsFlag (codes "quiet") rows r.quiet × AreSizes rows r.sizes × IsNumber budget rows r.budget × IsNumber start rows r.start
+GivesRun rows r = IsPath (codes "FILE") rows r.file.now
+    × IsOption (codes "trace") rows (option_map (λ t. t.now) r.trace) × IsFlag (codes "sweep") rows r.sweep
+    × IsFlag (codes "quiet") rows r.quiet × AreSizes rows r.sizes × IsNumber budget rows r.budget
+    × IsNumber start rows r.start
 
 abbrev pub GivesReplay : List Row → Replay → Type 0
-GivesReplay rows r = IsPath (codes "TRACE") rows r.trace.now × IsPath (codes "FILE") rows r.file.now × IsNumber shared_words rows r.words
+GivesReplay rows r = IsPath (codes "TRACE") rows r.trace.now × IsPath (codes "FILE") rows r.file.now
+    × IsNumber shared_words rows r.words
 
 abbrev pub GivesExplain : List Row → Explain → Type 0
 GivesExplain rows e = IsOption (codes "CODE") rows (option_map (λ c. c.now) e.code)
@@ -76,15 +82,20 @@ abbrev pub GivesPicture : List Row → Picture → Type 0
 GivesPicture rows p = GivesReplay rows p.replay × IsChoice step rows p.step
 
 abbrev pub GivesSession : List Row → Session → Type 0
-GivesSession rows d = IsPath (codes "FILE") rows d.file.now × AreSizes rows d.sizes × IsNumber steps rows d.budget × IsNumber port rows d.port
+GivesSession rows d = IsPath (codes "FILE") rows d.file.now
+    × IsOption (codes "trace") rows (option_map (λ t. t.now) d.trace) × AreSizes rows d.sizes
+    × IsNumber steps rows d.budget × IsNumber port rows d.port
 
 abbrev pub GivesExplore : List Row → Explore → Type 0
-GivesExplore rows x = IsPath (codes "FILE") rows x.file.now × IsOption (codes "trace") rows (option_map (λ t. t.now) x.trace)
+GivesExplore rows x = IsPath (codes "FILE") rows x.file.now
+    × IsOption (codes "trace") rows (option_map (λ t. t.now) x.trace)
     × IsFlag (codes "each") rows x.each × IsFlag (codes "every") rows x.every × IsFlag (codes "quiet") rows x.quiet
     × AreSizes rows x.sizes × IsNumber states rows x.states × IsChoice witness rows x.witness
 
 abbrev pub GivesHunt : List Row → Hunt → Type 0
-GivesHunt rows h = IsPath (codes "FILE") rows h.file.now × IsOption (codes "trace") rows (option_map (λ prefix. prefix.now) h.trace) × AreSizes rows h.sizes
+GivesHunt rows h = IsPath (codes "FILE") rows h.file.now
+    × IsOption (codes "trace") rows (option_map (λ prefix. prefix.now) h.trace)
+    × IsFlag (codes "overwrite") rows h.overwrite × IsFlag (codes "quiet") rows h.quiet × AreSizes rows h.sizes
     × IsNumber steps rows h.budget × IsNumber runs rows h.runs × IsNumber start rows h.start
 
 -- the subcommand is this one, with these rows

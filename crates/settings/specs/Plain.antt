@@ -16,7 +16,8 @@ NamesFile command file words = (program : Text) × (words ≡ program ∷ comman
 
 -- the words are the program's name, the command and two files
 abbrev pub NamesFiles : (command one other : Text) → List Text → Type 0
-NamesFiles command one other words = (program : Text) × (words ≡ program ∷ command ∷ one ∷ other ∷ []) × IsPlain one × IsPlain other
+NamesFiles command one other words = (program : Text) × (words ≡ program ∷ command ∷ one ∷ other ∷ []) × IsPlain one
+    × IsPlain other
 
 -- the settings are those of `words FILE`
 abbrev pub AreWordsOf : Text → Settings → Type 0
@@ -44,7 +45,8 @@ AreUsual s = (s.k ≡ 2) × (s.c ≡ 4) × (s.b ≡ 4) × (s.r ≡ 1) × (s.word
 
 -- the settings are those of `run FILE`: no trace, no flag, each number its default
 abbrev pub AreRunOf : Text → Settings → Type 0
-AreRunOf file (asked.Run r) = (r.file.now ≡ file) × (r.trace ≡ None) × (r.sweep ≡ false) × (r.quiet ≡ false) × AreUsual r.sizes
+AreRunOf file (asked.Run r) = (r.file.now ≡ file) × (r.trace ≡ None) × (r.sweep ≡ false) × (r.quiet ≡ false)
+    × AreUsual r.sizes
     × (r.budget ≡ 10000000) × (r.start ≡ 1)
 AreRunOf file other = ⊥
 
@@ -72,9 +74,10 @@ abbrev pub AreOrderOf : (trace file : Text) → Settings → Type 0
 AreOrderOf trace file (asked.Order o) = IsReplayOf trace file o.replay × (o.processor ≡ None) × (o.word ≡ None)
 AreOrderOf trace file other = ⊥
 
--- the settings are those of `debug FILE`: each number its default
+-- the settings are those of `debug FILE`: no trace, each number its default
 abbrev pub AreDebugOf : Text → Settings → Type 0
-AreDebugOf file (asked.Debug d) = (d.file.now ≡ file) × AreUsual d.sizes × (d.budget ≡ 100000) × (d.port ≡ 3333)
+AreDebugOf file (asked.Debug d) = (d.file.now ≡ file) × (d.trace ≡ None) × AreUsual d.sizes × (d.budget ≡ 100000)
+    × (d.port ≡ 3333)
 AreDebugOf file other = ⊥
 
 -- the settings are those of `story TRACE FILE`
@@ -98,7 +101,8 @@ AreExploreOf file (asked.Explore x) = (x.file.now ≡ file) × (x.trace ≡ None
     × (x.quiet ≡ false) × AreUsual x.sizes × (x.states ≡ 1000000) × (x.witness ≡ None)
 AreExploreOf file other = ⊥
 
--- the settings are those of `hunt FILE`: no trace, each number its default
+-- the settings are those of `hunt FILE`: no trace, no flag, each number its default
 abbrev pub AreHuntOf : Text → Settings → Type 0
-AreHuntOf file (asked.Hunt h) = (h.file.now ≡ file) × (h.trace ≡ None) × AreUsual h.sizes × (h.budget ≡ 100000) × (h.runs ≡ 1000) × (h.start ≡ 1)
+AreHuntOf file (asked.Hunt h) = (h.file.now ≡ file) × (h.trace ≡ None) × (h.overwrite ≡ false) × (h.quiet ≡ false)
+    × AreUsual h.sizes × (h.budget ≡ 100000) × (h.runs ≡ 1000) × (h.start ≡ 1)
 AreHuntOf file other = ⊥

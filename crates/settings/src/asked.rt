@@ -49,15 +49,20 @@ pub fn settings<'a>(alloc: Global, words: &'a [&'a str]) -> Result<Settings<'a>,
         → MatchResult result (AreHuntOf file) (λ e. kind_of e ≡ ErrorKind.OutOfMemory) }
     ensures explore_file { (file : List ℕ) → NamesFile (codes "explore") file (map (λ w. w.now) words.entry.now)
         → MatchResult result (AreExploreOf file) (λ e. kind_of e ≡ ErrorKind.OutOfMemory) }
-    ensures replay_files { (trace file : List ℕ) → NamesFiles (codes "replay") trace file (map (λ w. w.now) words.entry.now)
+    ensures replay_files { (trace file : List ℕ) →
+        NamesFiles (codes "replay") trace file (map (λ w. w.now) words.entry.now)
         → MatchResult result (AreReplayOf trace file) (λ e. kind_of e ≡ ErrorKind.OutOfMemory) }
-    ensures order_files { (trace file : List ℕ) → NamesFiles (codes "order") trace file (map (λ w. w.now) words.entry.now)
+    ensures order_files { (trace file : List ℕ) →
+        NamesFiles (codes "order") trace file (map (λ w. w.now) words.entry.now)
         → MatchResult result (AreOrderOf trace file) (λ e. kind_of e ≡ ErrorKind.OutOfMemory) }
-    ensures story_files { (trace file : List ℕ) → NamesFiles (codes "story") trace file (map (λ w. w.now) words.entry.now)
+    ensures story_files { (trace file : List ℕ) →
+        NamesFiles (codes "story") trace file (map (λ w. w.now) words.entry.now)
         → MatchResult result (AreStoryOf trace file) (λ e. kind_of e ≡ ErrorKind.OutOfMemory) }
-    ensures stats_files { (trace file : List ℕ) → NamesFiles (codes "stats") trace file (map (λ w. w.now) words.entry.now)
+    ensures stats_files { (trace file : List ℕ) →
+        NamesFiles (codes "stats") trace file (map (λ w. w.now) words.entry.now)
         → MatchResult result (AreStatsOf trace file) (λ e. kind_of e ≡ ErrorKind.OutOfMemory) }
-    ensures picture_files { (trace file : List ℕ) → NamesFiles (codes "picture") trace file (map (λ w. w.now) words.entry.now)
+    ensures picture_files { (trace file : List ℕ) →
+        NamesFiles (codes "picture") trace file (map (λ w. w.now) words.entry.now)
         → MatchResult result (ArePictureOf trace file) (λ e. kind_of e ≡ ErrorKind.OutOfMemory) }
     ensures debug_file { (file : List ℕ) → NamesFile (codes "debug") file (map (λ w. w.now) words.entry.now)
         → MatchResult result (AreDebugOf file) (λ e. kind_of e ≡ ErrorKind.OutOfMemory) }

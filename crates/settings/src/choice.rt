@@ -74,7 +74,7 @@ pub struct Run<'a> {
     pub trace: Option<&'a str>,
     /// Whether the schedule is to be the sweep. Else each processor runs on a thread of its own.
     pub sweep: bool,
-    /// Whether nothing is to be told of how far the run is.
+    /// Whether nothing is to be reported of how far the run is.
     pub quiet: bool,
     /// The sizes of the machine.
     pub sizes: Sizes,
@@ -109,11 +109,12 @@ pub struct Order<'a> {
     pub replay: Replay<'a>,
     /// The processor whose entries are asked for, at most 63, or none for those of all.
     pub processor: Option<u8>,
-    /// The number of the shared word on which the entries act that are asked for, at most 262,143, or none for all entries.
+    /// The number of the shared word on which the entries act that are asked for, at most 262,143, or none for all
+    /// entries.
     pub word: Option<u32>,
 }
 
-/// `picture TRACE FILE`, and behind which step.
+/// `picture TRACE FILE`, and after which step.
 #[derive(Debug, PartialEq, Eq, Drop)]
 pub struct Picture<'a> {
     /// The trace and its machine.
@@ -127,6 +128,8 @@ pub struct Picture<'a> {
 pub struct Session<'a> {
     /// The image.
     pub file: &'a str,
+    /// Where the trace of the session is written, if anywhere.
+    pub trace: Option<&'a str>,
     /// The sizes of the machine.
     pub sizes: Sizes,
     /// How many steps one command of the debugger may take, from 1 to 4,000,000.
@@ -147,13 +150,14 @@ pub struct Explore<'a> {
     pub each: bool,
     /// Whether every size is explored, `k` from 0 to 6, and a line is printed for each. Else it is `sizes.k` alone.
     pub every: bool,
-    /// Whether nothing is to be told of how far the search is.
+    /// Whether nothing is to be reported of how far the search is.
     pub quiet: bool,
     /// The sizes of the machine.
     pub sizes: Sizes,
     /// With how many states the search is given up, from 1.
     pub states: u32,
-    /// The number of the result that the witness ends in, or 0 for a state without a way to an end, if a witness is asked for.
+    /// The number of the result that the witness ends in, or 0 for a state without a way to an end, if a witness is
+    /// asked for.
     pub witness: Option<u32>,
 }
 
@@ -164,6 +168,10 @@ pub struct Hunt<'a> {
     pub file: &'a str,
     /// What the names begin with of the traces that are written, if any.
     pub trace: Option<&'a str>,
+    /// Whether these may be written over files that exist.
+    pub overwrite: bool,
+    /// Whether nothing is to be reported of how far the hunt is.
+    pub quiet: bool,
     /// The sizes of the machine.
     pub sizes: Sizes,
     /// How many steps a run may take, from 1 to 4,000,000.

@@ -232,6 +232,7 @@ fn session<'a>(matches: &ArgMatches<'a>) -> Session<'a>
 {
     Session {
         file: path(matches, "FILE"),
+        trace: option(matches, "trace"),
         sizes: sizes(matches),
         budget: number(matches, STEPS),
         port: short(matches, PORT),
@@ -261,6 +262,8 @@ fn hunt<'a>(matches: &ArgMatches<'a>) -> Hunt<'a>
     Hunt {
         file: path(matches, "FILE"),
         trace: option(matches, "trace"),
+        overwrite: flag(matches, "overwrite"),
+        quiet: flag(matches, "quiet"),
         sizes: sizes(matches),
         budget: number(matches, RUN_STEPS),
         runs: number(matches, RUNS),

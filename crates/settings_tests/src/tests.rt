@@ -17,6 +17,10 @@ mod run;
 
 use clap::Error;
 use clap::error::ErrorKind;
+use command_forms::{
+    BUDGET, COMBINATIONS, FIRST_START, PORT, QUEUE, RECORDS, RUN_STEPS, RUNS, SHARED_WORDS, STAGES,
+    START, STATES, STEPS,
+};
 use settings::{settings, status_of};
 use std::alloc::{AllocError, AllocGlobal};
 use std::fmt::Debug;
@@ -24,7 +28,7 @@ use std::process::Abort;
 use std::test::Fail;
 use test_support::assert_same;
 
-/// Ends the test where the two differ, and tells them and the case that they are of ([`assert_same!`]).
+/// Ends the test where the two differ, and says them and the case that they are of ([`assert_same!`]).
 fn same<T: PartialEq + Debug, A: Debug>(rt: &impl Abort, found: &T, wanted: &T, at: &A) {
     assert_eq!(rt; found, wanted, "{at:?}");
 }
@@ -68,7 +72,7 @@ Usage: ultra <COMMAND>
 $ ultra --help
 DisplayHelp
   words    Run a program of hex words on one processor and print its registers
-  check    List every fault of a text, each with its line and column, the word and what would be right
+  check    List every fault of a text, each with its line, column, word and what would be right
 $ ultra words --help
 DisplayHelp
 Usage: ultra words <FILE>
@@ -149,7 +153,7 @@ fn compare(rt: &(impl Abort + AllocGlobal), case: &str) -> Result<(), AllocError
     }
 }
 
-/// Compares the answers to the first cases of a text, so many at most. Whether there was memory for each.
+/// Compares the answers to the first cases of a text, this many at most. Whether there was memory for each.
 fn compare_first(rt: &(impl Abort + AllocGlobal), cases: &str, most: usize) -> bool {
     let mut is_ample = true;
     for case in cases.split("$ ").skip(1).take(most) {
@@ -166,7 +170,7 @@ fn compare_made(rt: &(impl Abort + AllocGlobal), case: Result<String, AllocError
     }
 }
 
-/// Compares the answers to words that change one thing of a run, so many at most. Whether there was memory for each.
+/// Compares the answers to words that change one thing of a run, this many at most. Whether there was memory for each.
 fn compare_changed(rt: &(impl Abort + AllocGlobal), most: usize) -> bool {
     let mut is_ample = true;
     for (words, old, new) in run::CHANGED.iter().take(most) {
@@ -177,7 +181,7 @@ fn compare_changed(rt: &(impl Abort + AllocGlobal), most: usize) -> bool {
     is_ample
 }
 
-/// Compares the answers to the first words of each kind, so many at most. Whether there was memory for each.
+/// Compares the answers to the first words of each kind, this many at most. Whether there was memory for each.
 fn compare_each_kind(rt: &(impl Abort + AllocGlobal), most: usize) -> bool {
     let mut is_ample = true;
     for cases in &CASES {
@@ -191,8 +195,45 @@ fn words_have_their_answers(rt: HostRuntime) {
     assert!(rt; compare_each_kind(&rt, usize::MAX));
 }
 
-/// Each allocation of this test is to be refused in turn. Then the answer is the same, its text too, or it is that memory
-/// ran out. These are some thousand allocations, so only the first words of each kind are asked about.
+/// Each allocation of this test is to be refused in turn. Then the answer is the same, its text too, or it is that
+/// memory ran out. These are some thousand allocations, so only the first words of each kind are asked about. The help
+/// of each option that takes a number ends in the default that holds where it is not given, and has the range that is
+/// taken.
+#[test]
+fn help_has_the_defaults(rt: HostRuntime) -> Result<(), Fail> {
+    let alloc = rt.alloc();
+    for option in [
+        STAGES,
+        QUEUE,
+        RECORDS,
+        COMBINATIONS,
+        SHARED_WORDS,
+        BUDGET,
+        STEPS,
+        PORT,
+        RUN_STEPS,
+        RUNS,
+        STATES,
+        START,
+        FIRST_START,
+    ] {
+        let (low, high, default) = (option.low, option.high, option.default);
+        let range = format!(in alloc; "{low} to {high}")?;
+        let default = format!(in alloc; " [default: {default}]")?;
+        assert!(rt;
+            option.help.contains(range.as_str()),
+            "{range} of {}",
+            option.name
+        );
+        assert!(rt;
+            option.help.ends_with(default.as_str()),
+            "{default} of {}",
+            option.name
+        );
+    }
+    Ok(())
+}
+
 #[test]
 fn is_short_of_memory(rt: HostRuntime) {
     compare_each_kind(&rt, 1);

@@ -61,7 +61,7 @@ range_kept all more start end begins within =
     ∙ take-append-le (end - start) (drop start all) more
     (let l = length-drop start all in omega (arith, begins, within, l))
 
--- the lists are the same when one more is added, which stands behind them
+-- the lists are the same when one more is added, which stands after them
 pub cut_push : (start : ℕ) (ends all more : List ℕ) → AreEnds start ends (length all) →
     cut start (ends ++ length (all ++ more) ∷ []) (all ++ more) ≡ cut start ends all ++ more ∷ []
 cut_push start [] all more h = ap (λ (x : List ℕ). x ∷ []) (range_push all more start h)

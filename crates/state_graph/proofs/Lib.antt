@@ -2,3 +2,4 @@ pub mod Cutting
 pub mod Ranking
 pub mod Scheduling
 pub mod Resulting
+pub mod Shortest

@@ -1,4 +1,4 @@
--- A state that is ready can be ranked behind all others, and those that are ranked stay so.
+-- A state that is ready can be ranked after all others, and those that are ranked stay so.
 use Rattle.std.proofs.Common.{◌≡◌, ◌≢◌, ◌⊎◌, inl, inr, ℕ, ◌+◌, ◌<◌, ◌≤◌, zero, suc, Bool, true, false}
 use Rattle.std.proofs.Common.{cond, nat_lt, List, [], ◌∷◌, length, refl, sym, ap, subst, ◌∙◌, arith}
 use Rattle.std.specs.Prelude.{◌==◌, count_by, slice_set, slice_index, slice_index_or}

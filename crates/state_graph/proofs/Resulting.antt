@@ -8,11 +8,12 @@ use Rattle.std.proofs.lemmas.Option.{slice_get-map, slice_get-get_or, get_or_fro
 use Rattle.local_reduction.specs.flat_machine.declared.event.Event.{Event}
 use Rattle.local_reduction.specs.flat_machine.State.{FlatState}
 use Rattle.local_reduction.specs.flat_machine.Flat.{flat_run, flat_events}
-use Rattle.local_reduction.specs.Stations.{Station, consoles_after, turns}
-use Rattle.local_reduction.specs.Closing.{station_of, Standing, IsKeptOf}
+use Rattle.local_reduction.specs.LocalStates.{LocalState, consoles_after, turns}
+use Rattle.local_reduction.specs.Closing.{local_state_of, MacroState, IsKeptOf}
 use Rattle.local_reduction.specs.Exchanging.{IsExchanged}
-use Rattle.local_reduction.specs.Results.{ProcessorResult, FinalResult, no_processor, processor_result, result_of, station_result, result_at, IsResultExchanged}
-use Rattle.local_reduction.specs.Laws.{SetsClosedUpToHaveAllEnds, EachExchangeIsReached}
+use Rattle.local_reduction.specs.Results.{ProcessorResult, FinalResult, no_processor, processor_result, result_of}
+use Rattle.local_reduction.specs.Results.{local_state_result, result_at, IsResultExchanged}
+use Rattle.local_reduction.specs.Laws.{SetsClosedUpToContainAllFinalStates, EachExchangeIsReached}
 use Rattle.local_reduction.proofs.Lemmas.{exchanged_back, some_inj}
 use Rattle.state_graph.specs.Laws.{KeepsResults, EachResultIsStoodFor, AllStoodForAreResults}
 use Rattle.state_graph.proofs.Scheduling.{all_ends, none_runs}
@@ -31,32 +32,32 @@ same_list (x ∷ xs) (y ∷ ys) e =
 
 -- ---- the result of what is kept
 
-module _ (kept : Station → Station) (keeps : KeepsResults kept) where
+module _ (kept : LocalState → LocalState) (keeps : KeepsResults kept) where
   -- The result of a flat machine is that of what is kept of it.
-  result_kept : (n : FlatState) (events : List (ℕ × Event)) (v : Standing) →
+  result_kept : (n : FlatState) (events : List (ℕ × Event)) (v : MacroState) →
       IsKeptOf kept n (consoles_after (λ j. []) events) v → result_of n events ≡ result_at v
   result_kept n events v h =
-      let station : ℕ → Station = λ k.
-      station_of (slice_index_or n.processors k no_processor) (consoles_after (λ j. []) events k) in
+      let local_state : ℕ → LocalState = λ k.
+      local_state_of (slice_index_or n.processors k no_processor) (consoles_after (λ j. []) events k) in
       let shown : ℕ → ProcessorResult = processor_result n events in
-      let processors : map shown (range_with_len 0 (length n.processors)) ≡ map station_result v.stations =
-      sym (fill_by_all shown (map station_result v.stations) (length n.processors) (shown 0)
-      (length-map v.stations station_result ∙ h.all)
-      (λ k l. get_or_from_slice_get (map station_result v.stations) k (station_result (kept (station k))) (shown 0)
-      (slice_get-map station_result v.stations k
-      ∙ ap (option_map station_result) (h.each k (slice_index_or n.processors k no_processor)
+      let processors : map shown (range_with_len 0 (length n.processors)) ≡ map local_state_result v.local_states =
+      sym (fill_by_all shown (map local_state_result v.local_states) (length n.processors) (shown 0)
+      (length-map v.local_states local_state_result ∙ h.all)
+      (λ k l. get_or_from_slice_get (map local_state_result v.local_states) k (local_state_result (kept (local_state k))) (shown 0)
+      (slice_get-map local_state_result v.local_states k
+      ∙ ap (option_map local_state_result) (h.each k (slice_index_or n.processors k no_processor)
       (slice_get-get_or n.processors k no_processor l)))
-      ∙ keeps (station k))) in
+      ∙ keeps (local_state k))) in
       λ i. record { processors = processors i; words = sym h.shared i }
 
 -- The result of a state that is exchanged is exchanged.
-result_exchanged : (place : ℕ → ℕ) (s v : Standing) → IsExchanged place s v →
+result_exchanged : (place : ℕ → ℕ) (s v : MacroState) → IsExchanged place s v →
     IsResultExchanged place (result_at s) (result_at v)
 result_exchanged place s v e = record {
   words = e.shared;
   each = λ k.
-      slice_get-map station_result v.stations k
-      ∙ (ap (option_map station_result) (e.each k) ∙ sym (slice_get-map station_result s.stations (place k)));
+      slice_get-map local_state_result v.local_states k
+      ∙ (ap (option_map local_state_result) (e.each k) ∙ sym (slice_get-map local_state_result s.local_states (place k)));
 }
 
 -- An exchange makes one result of a result.
@@ -67,7 +68,9 @@ exchanged_is place r q p a b =
 
 -- ---- the laws
 
-pub complete : SetsClosedUpToHaveAllEnds → EachResultIsStoodFor
+-- If sets that are closed up to exchanges have all final states, the result of a found state stands
+-- for each result of the flat machine.
+pub complete : SetsClosedUpToContainAllFinalStates → EachResultIsStoodFor
 complete law at code kept classes state count moves m q f keeps h settles is =
     let z = all_ends at code kept classes state count moves h m (λ k. []) settles f law is.0 is.1 in
     let turned_back = exchanged_back classes z.3.0 (state z.0) z.1 z.3.1 in
@@ -84,14 +87,16 @@ complete law at code kept classes state count moves m q f keeps h settles is =
       ),
     )
 
+-- If each exchange of a found state is reached, all that the result of a found state stands for
+-- are results of the flat machine.
 pub sound : EachExchangeIsReached → AllStoodForAreResults
 sound law at code kept classes state count m i q f keeps reached uniform settles l stopped x =
     let way = reached i l in
     let z = law at code kept classes m (λ k. []) (state 0) way.0 (state i) x.0 f uniform settles way.1 in (
       z.0,
       λ k p found.
-          sym (f.running (station_of p (consoles_after (λ j. []) (flat_events m (turns z.0)) k)))
-          ∙ stopped (x.0.place k) (kept (station_of p (consoles_after (λ j. []) (flat_events m (turns z.0)) k)))
+          sym (f.running (local_state_of p (consoles_after (λ j. []) (flat_events m (turns z.0)) k)))
+          ∙ stopped (x.0.place k) (kept (local_state_of p (consoles_after (λ j. []) (flat_events m (turns z.0)) k)))
           (sym (z.2.each k) ∙ z.3.each k p found),
       exchanged_is x.0.place (result_at (state i)) q (result_at z.1) x.1
           (result_exchanged x.0.place (state i) z.1 z.2)

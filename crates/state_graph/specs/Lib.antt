@@ -1,6 +1,6 @@
 pub mod Cutting
 pub mod Paths
 pub mod Ranks
-pub mod Schedules
+pub mod Termination
 pub mod Search
 pub mod Laws

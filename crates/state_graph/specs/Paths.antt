@@ -1,5 +1,5 @@
 -- Paths from state to state.
-use Rattle.std.specs.Prelude.{◌≡◌, ℕ, ◌<◌, List, [], ◌∷◌, Contains}
+use Rattle.std.specs.Prelude.{◌≡◌, ℕ, ◌<◌, ◌≤◌, List, [], ◌∷◌, Contains}
 use Rattle.state_graph.specs.Ranks.{successors_at}
 
 module _ (moves : List (List ℕ)) where
@@ -11,3 +11,16 @@ module _ (moves : List (List ℕ)) where
   -- No state before this one has it among its successors.
   abbrev pub HasNoneBefore : (place : ℕ) → Type 0
   HasNoneBefore i = (k : ℕ) → k < i → Contains (successors_at moves k) i → ⊥
+
+  -- The first state that has this one among its successors stands before it.
+  pub record IsFirstFrom (from place : ℕ) : Type 0 where
+    pub before : from < place
+    pub leads : Contains (successors_at moves from) place
+    pub first : (k : ℕ) → k < from → Contains (successors_at moves k) place → ⊥
+
+  -- The states stand in the order in which they are found breadth first: each that stands before a successor of a
+  -- state, but for the first, is a successor of that state or of one before it.
+  abbrev pub IsBreadthFirst : Type 0
+  IsBreadthFirst =
+      (i v u : ℕ) → Contains (successors_at moves i) v → 0 < u → u < v →
+      (k : ℕ) × (k ≤ i) × Contains (successors_at moves k) u

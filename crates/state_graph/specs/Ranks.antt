@@ -1,5 +1,6 @@
 -- Ranks of states, by where their moves lead: a state is its place in a list, and has the list of its successors.
-use Rattle.std.specs.Prelude.{◌≡◌, ◌⊎◌, ℕ, ◌+◌, ◌<◌, ◌≤◌, nat_lt, Bool, true, false, List, [], ◌∷◌, Contains, length, slice_index_or, if◌then◌else◌}
+use Rattle.std.specs.Prelude.{◌≡◌, ◌⊎◌, ℕ, ◌+◌, ◌<◌, ◌≤◌, nat_lt, Bool, true, false, List, [], ◌∷◌, Contains, length}
+use Rattle.std.specs.Prelude.{slice_index_or, if◌then◌else◌}
 use Rattle.state_graph.specs.declared.ranks.Rule.{Rule}
 use Rattle.state_graph.specs.declared.ranks.Rule.TheVariants as rule
 

@@ -1,26 +1,29 @@
 -- States that are found up to exchanges, and where their moves lead. A state is a number below a count, and has a
 -- meaning.
-use Rattle.std.specs.Prelude.{◌≡◌, ℕ, ◌<◌, ◌≤◌, List, Contains, length}
+use Rattle.std.specs.Prelude.{◌≡◌, ◌⊎◌, ℕ, ◌<◌, ◌≤◌, List, [], ◌∷◌, Contains, length}
 use Rattle.local_reduction.specs.flat_machine.declared.setting.Setting.{Setting}
-use Rattle.local_reduction.specs.Stations.{Station}
-use Rattle.local_reduction.specs.Closing.{Standing, MayMove}
+use Rattle.local_reduction.specs.LocalStates.{LocalState}
+use Rattle.local_reduction.specs.Closing.{MacroState, MayMove, HasSpinner}
 use Rattle.local_reduction.specs.Exchanging.{IsMoveUpTo, IsWayUpTo}
 use Rattle.state_graph.specs.Ranks.{no_rank, successors_at}
 
-module _ (at : ℕ → Setting) (code : List ℕ) (kept : Station → Station) (classes : List ℕ)
-    (state : ℕ → Standing) (count : ℕ) where
+module _ (at : ℕ → Setting) (code : List ℕ) (kept : LocalState → LocalState) (classes : List ℕ)
+    (state : ℕ → MacroState) (count : ℕ) where
   -- The successors that are listed of each state are those to which its moves lead, up to exchanges: each is one,
-  -- and each move leads to one.
+  -- and each move leads to one. A state in which a processor spins has itself for its successor, and no other.
   pub record AreSuccessors (moves : List (List ℕ)) : Type 0 where
     pub filled : 0 < count
     pub all : length moves ≡ count
     pub few : count ≤ no_rank
+    pub spins : (i : ℕ) → i < count → HasSpinner at code (state i) → successors_at moves i ≡ i ∷ []
     pub sound : (i t : ℕ) → i < count → Contains (successors_at moves i) t →
-        (t < count) × (k : ℕ) × IsMoveUpTo at code kept classes (state i) k (state t)
+        (t < count)
+        × (HasSpinner at code (state i) ⊎ ((k : ℕ) × IsMoveUpTo at code kept classes (state i) k (state t)))
     pub complete : (i k : ℕ) → i < count → MayMove at code (state i) k →
-        (t : ℕ) × Contains (successors_at moves i) t × IsMoveUpTo at code kept classes (state i) k (state t)
+        HasSpinner at code (state i)
+        ⊎ ((t : ℕ) × Contains (successors_at moves i) t × IsMoveUpTo at code kept classes (state i) k (state t))
 
   -- Each state is reached from the first, up to exchanges.
   abbrev pub AreReached : Type 0
   AreReached =
-      (i : ℕ) → i < count → (way : List (ℕ × Standing)) × IsWayUpTo at code kept classes (state 0) way (state i)
+      (i : ℕ) → i < count → (way : List (ℕ × MacroState)) × IsWayUpTo at code kept classes (state 0) way (state i)

@@ -1,17 +1,17 @@
 //! Laws of the states that a search has found: each is the contract of a function that does nothing.
 
-ghost use Rattle.state_graph.specs.Laws.{AllStoodForAreResults, EachResultIsStoodFor, SuccessorsTellOfSchedules};
+ghost use Rattle.state_graph.specs.Laws.{AllStoodForAreResults, EachResultIsStoodFor, SuccessorsDecideTermination};
 
 use local_reduction::{
     each_exchange_is_reached, moves_up_to_are_turns, sets_closed_up_to_are_not_left,
-    sets_closed_up_to_have_all_ends, short_up_to_schedules_end,
+    sets_closed_up_to_contain_all_final_states, short_up_to_schedules_end,
 };
 
-/// What is told of schedules from the successors of states is so.
-pub fn successors_tell_of_schedules()
-    ensures told { SuccessorsTellOfSchedules }
+/// What is said of schedules from the successors of states is so.
+pub fn successors_decide_termination()
+    ensures termination_claim { SuccessorsDecideTermination }
 {
-    sets_closed_up_to_have_all_ends();
+    sets_closed_up_to_contain_all_final_states();
     sets_closed_up_to_are_not_left();
     moves_up_to_are_turns();
     short_up_to_schedules_end();
@@ -21,7 +21,7 @@ pub fn successors_tell_of_schedules()
 pub fn each_result_is_stood_for()
     ensures complete { EachResultIsStoodFor }
 {
-    sets_closed_up_to_have_all_ends();
+    sets_closed_up_to_contain_all_final_states();
 }
 
 /// All that the result of a state stands for are results of the flat machine.

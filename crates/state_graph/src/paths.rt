@@ -1,7 +1,7 @@
 //! Paths from the first state to another.
 
-ghost use Rattle.std.specs.Prelude.{◌↔◌, ◌<◌, ℕ, Contains, IfOk, IsTrue, MatchOption};
-ghost use Rattle.state_graph.specs.Paths.{HasNoneBefore, IsPath};
+ghost use Rattle.std.specs.Prelude.{◌↔◌, ◌<◌, ◌≤◌, ℕ, List, Contains, length, IfOk, IsTrue, MatchOption};
+ghost use Rattle.state_graph.specs.Paths.{HasNoneBefore, IsBreadthFirst, IsFirstFrom, IsPath};
 ghost use Rattle.state_graph.specs.Ranks.{successors_at};
 
 use crate::successors::Successors;
@@ -9,14 +9,17 @@ use std::alloc::{AllocError, Global};
 
 /// The states on a path from the first to the one at a place, in their order, without the first and with that one.
 ///
-/// Each is a successor of the first state that leads to it. If the states were found breadth first, no path is shorter.
+/// Each is a successor of the first state that leads to it. If the states stand in the order in which they are found
+/// breadth first, no path is shorter.
 ///
 /// # Errors
 ///
 /// [`AllocError`] if there is no memory for them.
 pub fn path_to(alloc: Global, moves: &Successors, place: u32) -> Result<Vec<u32>, AllocError>
-    ensures { IfOk result (λ path.
+    ensures path { IfOk result (λ path.
         (first : ℕ) × HasNoneBefore moves.now first × IsPath moves.now first path.items place) }
+    ensures short { IfOk result (λ path. IsBreadthFirst moves.now → (other : List ℕ) → IsPath moves.now 0 other place
+        → length path.items ≤ length other) }
 {
     let mut path = Vec::new(alloc);
     let mut at = place;
@@ -30,8 +33,7 @@ pub fn path_to(alloc: Global, moves: &Successors, place: u32) -> Result<Vec<u32>
 
 /// The first state before this one that has it among its successors.
 fn found_from(moves: &Successors, place: u32) -> Option<u32>
-    ensures { MatchOption result (HasNoneBefore moves.now place)
-        (λ before. (before < place) × Contains (successors_at moves.now before) place) }
+    ensures { MatchOption result (HasNoneBefore moves.now place) (λ before. IsFirstFrom moves.now before place) }
 {
     (0..place).find(|before| leads_to(moves, *before, place))
 }

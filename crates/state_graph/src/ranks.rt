@@ -1,7 +1,8 @@
 //! Ranks of states, by where their moves lead.
 
 ghost use Rattle.std.specs.Prelude.{◌≡◌, ◌↔◌, ◌≤◌, ℕ, length, IfOk, IsTrue};
-ghost use Rattle.state_graph.specs.Ranks.{AreBelow, AreRanks, AreRanksSoFar, HasBelow, IsPassed, IsReady, no_rank, rank_at};
+ghost use Rattle.state_graph.specs.Ranks.{AreBelow, AreRanks, AreRanksSoFar, HasBelow, IsPassed, IsReady, no_rank};
+ghost use Rattle.state_graph.specs.Ranks.{rank_at};
 
 use crate::successors::Successors;
 use std::alloc::{AllocError, Global};
@@ -29,7 +30,7 @@ pub fn ranks_of(alloc: Global, rule: Rule, moves: &Successors) -> Result<Vec<u32
     Ok(ranks)
 }
 
-/// So many states without a rank.
+/// This many states without a rank.
 fn without_ranks(alloc: Global, count: usize) -> Result<Vec<u32>, AllocError>
     ensures all { IfOk result (λ ranks. length ranks.items ≡ count) }
     ensures none { IfOk result (λ ranks. (i : ℕ) → no_rank ≤ rank_at ranks.items i) }

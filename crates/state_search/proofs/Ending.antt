@@ -1,35 +1,63 @@
 -- A search that has noted the successors of all its rows has found the states and their successors.
-use Rattle.std.proofs.Common.{ℕ, ◌<◌, ◌≤◌, List, [], length, sym, subst}
-use Rattle.std.specs.Prelude.{slice_index, slice_index_or}
-use Rattle.local_reduction.specs.Closing.{Standing}
+use Rattle.std.proofs.Common.{◌⊎◌, inl, inr, ℕ, ◌<◌, ◌≤◌, List, [], length, sym, subst}
+use Rattle.std.specs.Prelude.{slice_index, slice_index_or, Contains}
+use Rattle.local_reduction.specs.Closing.{MacroState}
 use Rattle.local_reduction.specs.Forgetting.{kept_by}
-use Rattle.state_graph.specs.Ranks.{no_rank}
-use Rattle.state_search.specs.declared.tables.Extent.{Extent}
+use Rattle.state_graph.specs.Ranks.{no_rank, successors_at}
+use Rattle.state_search.specs.declared.state_tables.Extent.{Extent}
 use Rattle.local_reduction.specs.Exchanging.{IsWayUpTo}
-use Rattle.state_search.specs.Tables.{TableLists, placed_at, setting_at}
-use Rattle.state_search.specs.Search.{Searched, CanMove, state_at}
-use Rattle.state_search.specs.Ends.{AreFound}
+use Rattle.state_search.specs.StateTables.{TableLists, placed_at, setting_at}
+use Rattle.state_graph.specs.Search.{AreReached}
+use Rattle.state_search.specs.Search.{AreManyRows, Searched, CanMove, Spinning, Moves, state_at}
+use Rattle.state_search.specs.Ends.{AreDifferentStates, AreFound, AreMany}
 use Rattle.state_search.proofs.Lemmas.{listed_is}
 
-pub all_found : (e : Extent) (code : List ℕ) (classes : List ℕ) (t : TableLists) (rows moves : List (List ℕ)) (first : Standing) →
-    Searched e code classes t rows moves first (length rows) → length rows ≤ no_rank → AreFound e code classes t rows moves first
-all_found e code classes t rows moves first h few = record {
+-- All states are reached from the first row.
+from_first : (e : Extent) (code : List ℕ) (classes : List ℕ) (t : TableLists) (rows moves : List (List ℕ)) (first : MacroState) (done : ℕ) →
+    Searched e code classes t rows moves first done → AreReached (setting_at e) code (kept_by t.live) classes (state_at e t rows) (length rows)
+from_first e code classes t rows moves first done h i l =
+    let r = h.reached i l in
+    (r.0, subst (λ s. IsWayUpTo (setting_at e) code (kept_by t.live) classes s r.0 (state_at e t rows i)) (sym h.begins) r.1)
+
+-- If a search has at least `least` rows, and no two mean the same state, at least `least` states are found.
+pub many_found : (e : Extent) (code : List ℕ) (classes : List ℕ) (t : TableLists) (rows : List (List ℕ)) (first : MacroState) (least : ℕ) →
+    AreManyRows e code classes t rows first least → AreDifferentStates (length rows) (state_at e t rows) →
+    AreMany e code classes t first least
+many_found e code classes t rows first least h different = record {
+  rows = rows;
+  many = h.many;
+  begins = h.searched.begins;
+  reached = from_first e code classes t rows h.moves first h.done h.searched;
+  different = different;
+}
+
+-- If the successors of all rows are noted, and no two rows mean the same state, the rows are what is found.
+pub all_found : (e : Extent) (code : List ℕ) (classes : List ℕ) (t : TableLists) (rows moves : List (List ℕ)) (first : MacroState) →
+    Searched e code classes t rows moves first (length rows) → length rows ≤ no_rank → AreDifferentStates (length rows) (state_at e t rows) →
+    AreFound e code classes t rows moves first
+all_found e code classes t rows moves first h few different = record {
   are_rows = h.are_rows;
   begins = h.begins;
-  reached = λ i l.
-      let r = h.reached i l in
-      (r.0, subst (λ s. IsWayUpTo (setting_at e) code (kept_by t.live) classes s r.0 (state_at e t rows i)) (sym h.begins) r.1);
+  reached = from_first e code classes t rows moves first (length rows) h;
   successors = record {
     filled = h.filled;
     all = h.noted;
     few = few;
+    spins = h.spins;
     sound = h.sound;
-    complete = λ i k l may.
-        let x = h.complete i k l (within i k may) may in
-        (x.0, x.1, x.3);
+    complete = λ i k l may. by i k (h.complete i k l (within i k may) may);
   };
+  breadth = h.breadth;
+  different = different;
 }
   where
+    by : (i k : ℕ) → Spinning e code (state_at e t rows i) ⊎ ((v : ℕ) × Contains (successors_at moves i) v × (v < length rows)
+        × Moves e code classes t.live (state_at e t rows i) k (state_at e t rows v)) →
+        Spinning e code (state_at e t rows i) ⊎ ((v : ℕ) × Contains (successors_at moves i) v
+        × Moves e code classes t.live (state_at e t rows i) k (state_at e t rows v))
+    by i k (inl spins) = inl spins
+    by i k (inr x) = inr (x.0, x.1, x.3)
+
     within : (i k : ℕ) → CanMove e code (state_at e t rows i) k → k < e.processors
     within i k may =
-        (listed_is (λ q. kept_by t.live (placed_at t (slice_index (slice_index_or rows i []) q)).station) e.processors k may.station may.there).0
+        (listed_is (λ q. kept_by t.live (placed_at t (slice_index (slice_index_or rows i []) q)).local_state) e.processors k may.local_state may.there).0

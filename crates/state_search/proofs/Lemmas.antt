@@ -1,81 +1,43 @@
--- Lists of what a function gives at each place, places of lists, and ways that go on.
-use Rattle.std.proofs.Common.{◌≡◌, ◌≢◌, ◌⊎◌, inl, inr, ℕ, ◌+◌, ◌<◌, ◌≤◌, zero, suc, List, [], ◌∷◌}
-use Rattle.std.proofs.Common.{◌++◌, Some, None, length, map, refl, sym, ap, subst, ◌∙◌, arith}
-use Rattle.std.specs.Prelude.{slice_get, slice_set, slice_index_or}
-use Rattle.std.specs.List.{range_with_len}
-use Rattle.std.proofs.lemmas.Bool.{cases_eq, cases_lt}
-use Rattle.std.proofs.lemmas.List.{length-set, get_or-set_same, get_or-set_other}
+-- The lemmas that crates above may cite.
+use Rattle.std.proofs.Common.{◌≡◌, ℕ, List, [], ◌∷◌, ◌++◌, refl, sym, subst}
 use Rattle.flat_machine.specs.declared.setting.Setting.{Setting}
-use Rattle.local_reduction.specs.Stations.{Station}
-use Rattle.local_reduction.specs.Closing.{Standing}
+use Rattle.local_reduction.specs.LocalStates.{LocalState}
+use Rattle.local_reduction.specs.Closing.{MacroState}
 use Rattle.local_reduction.specs.Exchanging.{IsMoveUpTo, IsWayUpTo}
-use Rattle.std.proofs.lemmas.List.FromFn.{length-map-range_with_len, get_or-map-range_with_len, fill_by_all}
+use Rattle.state_search.specs.declared.refusal.MoveRefusal.{MoveRefusal}
+use Rattle.state_search.specs.declared.refusal.MoveRefusal.TheVariants as move
+use Rattle.state_search.specs.declared.refusal.Refusal.{Refusal}
+use Rattle.state_search.specs.declared.refusal.Refusal.TheVariants as search
+use Rattle.state_search.specs.Refusals.{refused_by_move, IsGivenUpFor}
 -- Exchanges, and results that stand for others.
 pub use Rattle.local_reduction.proofs.Lemmas.{none, both, trade, trade_all, stands_for_on, stands_for_back}
+-- Places of lists, and lists of what a function gives at each place.
+pub use Rattle.state_search.proofs.Listed.{up_to, there, found_at, past, any_default, mapped_at}
+pub use Rattle.state_search.proofs.Listed.{listed, listed_at, listed_there, listed_is, listed_same, listed_set}
+-- Rows whose processors are exchanged, and rows that mean the same state.
+pub use Rattle.state_search.proofs.Trading.{as_it_was, then_exchanged}
+pub use Rattle.state_search.proofs.RowExchanges.{ordered_means, row_ordered}
+pub use Rattle.state_search.proofs.Differing.{rows_same}
 
--- below one more, a number is below or the last
-pub up_to : (k n : ℕ) → k < n + 1 → (k < n) ⊎ (k ≡ n)
-up_to k n l = elim (cases_lt k n) [ inl less ↦ inl less | inr past ↦ inr (omega (arith, l, past)) ]
-
-pub there : {X : Type 0} (xs : List X) (k : ℕ) (d : X) → k < length xs → slice_get xs k ≡ Some (slice_index_or xs k d)
-there [] k d l = absurd (omega (arith, l))
-there (x ∷ xs) zero d l = refl
-there (x ∷ xs) (suc k) d l = there xs k d (omega (arith, l))
-
-pub found_at : {X : Type 0} (xs : List X) (k : ℕ) (x d : X) → slice_get xs k ≡ Some x → (k < length xs) × (slice_index_or xs k d ≡ x)
-found_at [] k x d e = absurd (cc)
-found_at (y ∷ ys) zero x d e = (omega arith, (let same : y ≡ x = cc in same))
-found_at (y ∷ ys) (suc k) x d e = let h = found_at ys k x d e in let less = h.0 in (omega (arith, less), h.1)
-
-pub past : {X : Type 0} (xs : List X) (k : ℕ) → slice_get xs k ≡ None → length xs ≤ k
-past [] k e = omega arith
-past (x ∷ xs) zero e = absurd cc
-past (x ∷ xs) (suc k) e = let h = past xs k e in omega (arith, h)
-
--- what is read where there is something does not depend on what is read elsewhere
-pub any_default : {X : Type 0} (xs : List X) (k : ℕ) (c d : X) → k < length xs → slice_index_or xs k c ≡ slice_index_or xs k d
-any_default [] k c d l = absurd (omega (arith, l))
-any_default (x ∷ xs) zero c d l = refl
-any_default (x ∷ xs) (suc k) c d l = any_default xs k c d (omega (arith, l))
-
-pub mapped_at : {X Y : Type 0} (f : X → Y) (xs : List X) (k : ℕ) (x : X) (d : Y) → slice_get xs k ≡ Some x → slice_index_or (map f xs) k d ≡ f x
-mapped_at f [] k x d e = absurd (cc)
-mapped_at f (y ∷ ys) zero x d e = let same : y ≡ x = cc in ap f same
-mapped_at f (y ∷ ys) (suc k) x d e = mapped_at f ys k x d e
-
-module _ {X : Type 0} (f : ℕ → X) (n : ℕ) where
-  abbrev pub listed : List X
-  listed = map f (range_with_len 0 n)
-
-  pub listed_at : (k : ℕ) (d : X) → k < n → slice_index_or listed k d ≡ f k
-  listed_at k d l = get_or-map-range_with_len f 0 n k k d l (omega arith)
-
-  pub listed_there : (k : ℕ) → k < n → slice_get listed k ≡ Some (f k)
-  listed_there k l = there listed k (f k) (subst (λ m. k < m) (sym (length-map-range_with_len f 0 n)) l) ∙ ap Some (listed_at k (f k) l)
-
-  pub listed_is : (k : ℕ) (x : X) → slice_get listed k ≡ Some x → (k < n) × (f k ≡ x)
-  listed_is k x e =
-      let h = found_at listed k x x e in
-      let l : k < n = subst (λ m. k < m) (length-map-range_with_len f 0 n) h.0 in
-      (l, sym (listed_at k x l) ∙ h.1)
-
-  pub listed_same : (g : ℕ → X) → ((i : ℕ) → i < n → g i ≡ f i) → map g (range_with_len 0 n) ≡ listed
-  listed_same g e =
-      sym (fill_by_all g listed n (f 0) (length-map-range_with_len f 0 n) (λ i l. listed_at i (f 0) l ∙ sym (e i l)))
-
-  pub listed_set : (g : ℕ → X) (k : ℕ) (x : X) → k < n → g k ≡ x → ((i : ℕ) → i ≢ k → i < n → g i ≡ f i) → map g (range_with_len 0 n) ≡ slice_set listed k x
-  listed_set g k x within here others =
-      sym (fill_by_all g (slice_set listed k x) n x (length-set listed k x ∙ length-map-range_with_len f 0 n) (λ i l. at i l (cases_eq i k)))
-    where
-      at : (i : ℕ) → i < n → (i ≡ k) ⊎ (i ≡ k → ⊥) → slice_index_or (slice_set listed k x) i x ≡ g i
-      at i l (inl same) =
-          ap (λ j. slice_index_or (slice_set listed k x) j x) same
-          ∙ (get_or-set_same listed k x x (subst (λ m. k < m) (sym (length-map-range_with_len f 0 n)) within) ∙ (sym here ∙ ap g (sym same)))
-      at i l (inr other) = get_or-set_other listed k i x x other ∙ (listed_at i x l ∙ sym (others i other l))
-
--- a way with one move behind it
-module _ (at : ℕ → Setting) (code : List ℕ) (kept : Station → Station) (classes : List ℕ) where
-  pub way_on : (way : List (ℕ × Standing)) (s u t : Standing) (k : ℕ) → IsWayUpTo at code kept classes s way u → IsMoveUpTo at code kept classes u k t →
+-- a way with one move after it
+module _ (at : ℕ → Setting) (code : List ℕ) (kept : LocalState → LocalState) (classes : List ℕ) where
+  -- A way with one more move at its end is a way.
+  pub way_on : (way : List (ℕ × MacroState)) (s u t : MacroState) (k : ℕ) → IsWayUpTo at code kept classes s way u → IsMoveUpTo at code kept classes u k t →
       IsWayUpTo at code kept classes s (way ++ (k, t) ∷ []) t
   way_on [] s u t k w m = (subst (λ v. IsMoveUpTo at code kept classes v k t) (sym w) m, refl)
   way_on ((j, v) ∷ way) s u t k w m = (w.0, way_on way v u t k w.1 m)
+
+-- ---- why a search is given up
+
+-- A move that is not made gives no reason to say that there are too many states.
+pub moves_give_up : (P : Type 0) (why : MoveRefusal) → IsGivenUpFor P (refused_by_move why)
+moves_give_up P move.Memory = tt
+moves_give_up P move.Alone = tt
+moves_give_up P move.Asks = tt
+
+-- If a claim allows a search to be given up for a reason, so does each claim that follows from it.
+pub given_up_on : (P Q : Type 0) → (P → Q) → (why : Refusal) → IsGivenUpFor P why → IsGivenUpFor Q why
+given_up_on P Q on search.Memory h = tt
+given_up_on P Q on search.States h = on h
+given_up_on P Q on search.Alone h = tt
+given_up_on P Q on search.Asks h = tt

@@ -1,5 +1,7 @@
 pub mod WordLists
 pub mod Still
+pub mod Listed
+pub mod Spinners
 pub mod Lemmas
 pub mod Growing
 pub mod Remembering
@@ -11,3 +13,5 @@ pub mod Clearing
 pub mod Trading
 pub mod RowExchanges
 pub mod Classing
+pub mod Keys
+pub mod Differing

@@ -1,5 +1,5 @@
--- The row that a look for a move gives is where a reference leads, and what the processor does alone behind it.
-use Rattle.std.proofs.Common.{◌≡◌, ◌≢◌, ◌⊎◌, inl, inr, ℕ, ◌<◌, ◌^◌, Bool, true, false, cond, true≢false}
+-- The row that a look for a move gives is where a reference leads, and what the processor does alone after it.
+use Rattle.std.proofs.Common.{◌≡◌, ◌≢◌, ◌⊎◌, inl, inr, ℕ, ◌<◌, ◌≤◌, ◌^◌, Bool, true, false, cond, true≢false}
 use Rattle.std.proofs.Common.{List, [], Some, length, refl, sym, ap, subst, ◌∙◌, arith}
 use Rattle.std.specs.Prelude.{slice_get, slice_set, slice_index}
 use Rattle.std.proofs.lemmas.Bool.{cases_eq}
@@ -14,30 +14,30 @@ use Rattle.hart.specs.declared.decision.Shape.{Shape}
 use Rattle.hart.specs.declared.decision.Decision.{Decision}
 use Rattle.hart.specs.declared.decision.Decision.TheVariants.{Local, Refer, Halt, Fault}
 use Rattle.hart.specs.Deciding.{Decides, after_reply}
-use Rattle.local_reduction.specs.Stations.{Station, behind, alone, IsSettled, IsReference}
-use Rattle.local_reduction.specs.Closing.{IsAlike, IsForgetful, Standing, gone, IsMove}
-use Rattle.local_reduction.specs.Exchanging.{AskNot, IsMoveOfAny}
+use Rattle.local_reduction.specs.LocalStates.{LocalState, behind, alone, IsSettled, IsReference}
+use Rattle.local_reduction.specs.Closing.{IsAlike, IsForgetful, MacroState, gone, IsMove}
+use Rattle.local_reduction.specs.Exchanging.{NeverAsks, IsMoveOfAny}
 use Rattle.local_reduction.specs.Laws.{MovesAreOfAny, MovesOfWhatIsKept}
-use Rattle.local_reduction.proofs.Lemmas.{reference_same}
+use Rattle.local_reduction.proofs.Lemmas.{never_from, reference_same}
 use Rattle.local_reduction.specs.Live.{HasAllLive}
 use Rattle.local_reduction.specs.Forgetting.{with_live, kept_by, DeadAreForgotten}
-use Rattle.state_search.specs.declared.tables.Extent.{Extent}
+use Rattle.state_search.specs.declared.state_tables.Extent.{Extent}
 use Rattle.state_search.specs.Placed.{Placed}
 use Rattle.state_search.specs.Words.{IsWritten}
-use Rattle.state_search.specs.Tables.{TableLists, placed_at, words_at, HasGrown, setting_at, own_setting, means, IsRow, IsBehind}
+use Rattle.state_search.specs.StateTables.{TableLists, placed_at, words_at, HasGrown, setting_at, own_setting, means, IsRow, IsBehind}
 use Rattle.state_search.specs.Search.{AreClasses, CanMove, IsNext}
 use Rattle.state_search.proofs.Lemmas.{listed_at, listed_there, listed_is, listed_set}
 use Rattle.state_search.proofs.Growing.{kept_on}
 
 -- of two turns that go the same way both refer to a word, or none does
-pub refers_too : (kept : Station → Station) (a b : Station) (x y : Turn) → IsAlike kept a b x y → IsReference x → IsReference y
+pub refers_too : (kept : LocalState → LocalState) (a b : LocalState) (x y : Turn) → IsAlike kept a b x y → IsReference x → IsReference y
 refers_too kept a b (Retires p r) y h w = absurd w
 refers_too kept a b (Reaches w c f) (Retires p r) h i = absurd h
 refers_too kept a b (Reaches w c f) (Reaches v d g) h i = tt
 refers_too kept a b (Reaches w c f) (Stops d) h i = absurd h
 refers_too kept a b (Stops c) y h w = absurd w
 
-pub referred_too : (kept : Station → Station) (a b : Station) (x y : Turn) → IsAlike kept a b x y → IsReference y → IsReference x
+pub referred_too : (kept : LocalState → LocalState) (a b : LocalState) (x y : Turn) → IsAlike kept a b x y → IsReference y → IsReference x
 referred_too kept a b (Retires p r) (Retires q o) h w = absurd w
 referred_too kept a b (Retires p r) (Reaches w c f) h i = absurd h
 referred_too kept a b (Retires p r) (Stops d) h i = absurd h
@@ -48,11 +48,15 @@ referred_too kept a b (Stops c) (Stops d) h i = absurd i
 
 -- what a core decides of a turn that refers to a word
 pub record IsReferred (word before value : ℕ) (turn : Turn) : Type 0 where
+  -- what the turn does to the word
   pub change : ℕ → ℕ
+  -- what the processor becomes and what retires, by the word found
   pub after : ℕ → Processor × Retired
+  -- the turn reaches that word
   pub is : turn ≡ Reaches word change after
   pub value_is : change before ≡ value
 
+-- If a core decides to refer to a word, its turn reaches that word, and does to its value what the function does.
 pub referred : (word before : ℕ) (phi : Phi) (shape : Shape) (turn : Turn) → before < 2 ^ 32 → Decides (Refer word phi shape) turn →
     IsReferred word before (apply phi before) turn
 referred word before phi shape (Retires p r) small d = absurd d
@@ -63,20 +67,34 @@ referred word before phi shape (Stops c) small d = absurd d
 module _ (e : Extent) (code : List ℕ) (classes : List ℕ) (t u v : TableLists) (row next : List ℕ) (p word before value number written : ℕ) where
   -- all that a look for a move knows of what it has done
   pub record HasLooked : Type 0 where
+    -- these are the classes of the processors
     pub classes_are : AreClasses e classes
+    -- the row is one of the tables
     pub row_is : IsRow e t row
+    -- the processor is one of the machine's
     pub few : p < e.processors
+    -- the row has a place for the words
     pub room : e.processors < length row
+    -- the first tables have grown into the second
     pub first_kept : HasGrown t u
+    -- the second tables have grown into the third
     pub then_kept : HasGrown u v
-    pub runs : is_running (placed_at t (slice_index row p)).station.processor.status ≡ true
+    -- the processor runs
+    pub runs : is_running (placed_at t (slice_index row p)).local_state.processor.status ≡ true
+    -- its turn reaches the word, and makes the value of what it finds there
     pub refers : IsReferred word before value
-        (turn_of (placed_at t (slice_index row p)).setting code (placed_at t (slice_index row p)).station.processor)
+        (turn_of (placed_at t (slice_index row p)).setting code (placed_at t (slice_index row p)).local_state.processor)
+    -- the word is one of the machine's
     pub named : word < (placed_at t (slice_index row p)).setting.shared_words
+    -- the word has this value before
     pub before_is : slice_index (words_at t (slice_index row e.processors)) word ≡ before
+    -- the second tables have under the number what the processor becomes by the reference and some turns alone
     pub behind : IsBehind e.exchanged code before (placed_at t (slice_index row p)) u number
+    -- the third tables have the written list
     pub written_there : written < length v.words
+    -- it is the list of the row with the word written
     pub written_is : IsWritten (words_at u (slice_index row e.processors)) word value (words_at v written)
+    -- the next row has the two new numbers
     pub next_is : next ≡ slice_set (slice_set row p number) e.processors written
 
   module _ (h : HasLooked) where
@@ -103,10 +121,10 @@ module _ (e : Extent) (code : List ℕ) (classes : List ℕ) (t u v : TableLists
     kept = kept_on t u v h.first_kept h.then_kept
 
     at_number : placed_at v number ≡ placed_at u number
-    at_number = h.then_kept.same_station number h.behind.there
+    at_number = h.then_kept.same_local_state number h.behind.there
 
     at_other : (q : ℕ) → q ≢ p → q < e.processors → placed_at v (slice_index next q) ≡ placed_at t (slice_index row q)
-    at_other q other few = ap (placed_at v) (next_other q other few) ∙ kept.same_station (slice_index row q) (h.row_is.there q few)
+    at_other q other few = ap (placed_at v) (next_other q other few) ∙ kept.same_local_state (slice_index row q) (h.row_is.there q few)
 
     own : here.setting ≡ own_setting e p
     own = h.row_is.own p h.few
@@ -116,16 +134,29 @@ module _ (e : Extent) (code : List ℕ) (classes : List ℕ) (t u v : TableLists
       there = λ q few. there_at q few (cases_eq q p);
       own = λ q few. own_at q few (cases_eq q p);
       words = subst (λ i. i < length v.words) (sym next_words) h.written_there;
+      short = short;
+      rest = λ q past.
+          ap (λ r. slice_index r q) h.next_is
+          ∙ (get_or-set_other (slice_set row p number) e.processors q written 0 (λ same. omega (arith, past, same))
+          ∙ (get_or-set_other row p q number 0 (λ same. omega (arith, past, h.few, same)) ∙ h.row_is.rest q past));
     }
       where
-        there_at : (q : ℕ) → q < e.processors → (q ≡ p) ⊎ (q ≡ p → ⊥) → slice_index next q < length v.stations
+        short : (i : ℕ) → e.shared_words ≤ i → slice_index (words_at v (slice_index next e.processors)) i ≡ 0
+        short i far =
+            let low : word < e.shared_words = subst (λ (z : Setting). word < z.shared_words) own h.named in
+            ap (λ j. slice_index (words_at v j) i) next_words
+            ∙ (h.written_is.others i (λ same. omega (arith, low, far, same))
+            ∙ (ap (λ list. slice_index list i) (h.first_kept.same_words (slice_index row e.processors) h.row_is.words)
+            ∙ h.row_is.short i far))
+
+        there_at : (q : ℕ) → q < e.processors → (q ≡ p) ⊎ (q ≡ p → ⊥) → slice_index next q < length v.local_states
         there_at q few (inl same) =
             let is : slice_index next q ≡ number = ap (slice_index next) same ∙ next_own in
-            omega (arith, is, h.behind.there, h.then_kept.stations)
+            omega (arith, is, h.behind.there, h.then_kept.local_states)
         there_at q few (inr other) =
             let is = next_other q other few in
             let below = h.row_is.there q few in
-            omega (arith, is, below, kept.stations)
+            omega (arith, is, below, kept.local_states)
 
         own_at : (q : ℕ) → q < e.processors → (q ≡ p) ⊎ (q ≡ p → ⊥) → (placed_at v (slice_index next q)).setting ≡ own_setting e q
         own_at q few (inl same) =
@@ -134,7 +165,7 @@ module _ (e : Extent) (code : List ℕ) (classes : List ℕ) (t u v : TableLists
             ∙ (ap (λ (a : Placed). a.setting) at_number ∙ (h.behind.setting ∙ (own ∙ ap (own_setting e) (sym same)))))
         own_at q few (inr other) = ap (λ (a : Placed). a.setting) (at_other q other few) ∙ h.row_is.own q few
 
-    s : Standing
+    s : MacroState
     s = means e t row
 
     named : word < e.shared_words
@@ -144,37 +175,37 @@ module _ (e : Extent) (code : List ℕ) (classes : List ℕ) (t u v : TableLists
     unfolding s
     old_is = listed_at (slice_index (words_at t (slice_index row e.processors))) e.shared_words word 0 named ∙ h.before_is
 
-    replied : after_reply (turn_of here.setting code here.station.processor) before ≡ Some (h.refers.after before)
+    replied : after_reply (turn_of here.setting code here.local_state.processor) before ≡ Some (h.refers.after before)
     replied = ap (λ turn. after_reply turn before) h.refers.is
 
     -- the setting and the word before, as the state has them
     both : (λ (z : Setting × ℕ). z) (here.setting, before) ≡ (own_setting e p, slice_index s.shared word)
     both = λ i. (own i, sym old_is i)
 
-    abbrev turned : Setting × ℕ → Station
-    turned z = alone h.behind.count z.0 code (behind here.station (h.refers.after z.1))
+    abbrev turned : Setting × ℕ → LocalState
+    turned z = alone h.behind.count z.0 code (behind here.local_state (h.refers.after z.1))
 
     settled : IsSettled (own_setting e p) code (turned (own_setting e p, slice_index s.shared word)).processor
     settled = subst (λ (z : Setting × ℕ). IsSettled z.0 code (turned z).processor) both (h.behind.settled (h.refers.after before) replied)
 
-    gone_there : kept_by v.live (placed_at u number).station ≡ kept_by v.live (turned (here.setting, before))
+    gone_there : kept_by v.live (placed_at u number).local_state ≡ kept_by v.live (turned (here.setting, before))
     gone_there =
-        subst (λ live. kept_by live (placed_at u number).station ≡ kept_by live (turned (here.setting, before))) (sym h.then_kept.live)
+        subst (λ live. kept_by live (placed_at u number).local_state ≡ kept_by live (turned (here.setting, before))) (sym h.then_kept.live)
         (h.behind.gone (h.refers.after before) replied)
 
-    here_after : kept_by v.live (placed_at v (slice_index next p)).station ≡ kept_by v.live (turned (own_setting e p, slice_index s.shared word))
+    here_after : kept_by v.live (placed_at v (slice_index next p)).local_state ≡ kept_by v.live (turned (own_setting e p, slice_index s.shared word))
     here_after =
-        ap (λ i. kept_by v.live (placed_at v i).station) next_own
-        ∙ (ap (λ (a : Placed). kept_by v.live a.station) at_number ∙ (gone_there ∙ ap (λ z. kept_by v.live (turned z)) both))
+        ap (λ i. kept_by v.live (placed_at v i).local_state) next_own
+        ∙ (ap (λ (a : Placed). kept_by v.live a.local_state) at_number ∙ (gone_there ∙ ap (λ z. kept_by v.live (turned z)) both))
 
     leaves : means e v next
         ≡ gone s p (kept_by v.live (turned (own_setting e p, slice_index s.shared word))) word (h.refers.change (slice_index s.shared word))
     unfolding s
     leaves =
-        let stations = listed_set (λ q. kept_by t.live (placed_at t (slice_index row q)).station) e.processors
-        (λ q. kept_by v.live (placed_at v (slice_index next q)).station) p
+        let local_states = listed_set (λ q. kept_by t.live (placed_at t (slice_index row q)).local_state) e.processors
+        (λ q. kept_by v.live (placed_at v (slice_index next q)).local_state) p
         (kept_by v.live (turned (own_setting e p, slice_index s.shared word))) h.few here_after
-        (λ q other few. λ i. kept_by (kept.live i) (at_other q other few i).station) in
+        (λ q other few. λ i. kept_by (kept.live i) (at_other q other few i).local_state) in
         let lists : words_at u (slice_index row e.processors) ≡ words_at t (slice_index row e.processors) =
         h.first_kept.same_words (slice_index row e.processors) h.row_is.words in
         let shared = listed_set (slice_index (words_at t (slice_index row e.processors))) e.shared_words
@@ -183,37 +214,39 @@ module _ (e : Extent) (code : List ℕ) (classes : List ℕ) (t u v : TableLists
         ∙ (h.written_is.here ∙ (sym h.refers.value_is ∙ ap h.refers.change (sym old_is))))
         (λ i other few. ap (λ j. slice_index (words_at v j) i) next_words
         ∙ (h.written_is.others i other ∙ ap (λ list. slice_index list i) lists)) in
-        λ i. record { stations = stations i; shared = shared i }
+        λ i. record { local_states = local_states i; shared = shared i }
 
-    quiet : e.exchanged ≡ true → AskNot h.behind.count (own_setting e p) code (behind here.station (h.refers.after (slice_index s.shared word)))
+    quiet : e.exchanged ≡ true → NeverAsks (own_setting e p) code (behind here.local_state (h.refers.after (slice_index s.shared word)))
     quiet on =
-        subst (λ (z : Setting × ℕ). AskNot h.behind.count z.0 code (behind here.station (h.refers.after z.1))) both
-        (h.behind.quiet on (h.refers.after before) replied)
+        subst (λ (z : Setting × ℕ). NeverAsks z.0 code (behind here.local_state (h.refers.after z.1))) both
+        (never_from here.setting code h.behind.count (behind here.local_state (h.refers.after before))
+        (h.behind.quiet on (h.refers.after before) replied) (h.behind.later on (h.refers.after before) replied))
 
-    stands_there : slice_get s.stations p ≡ Some (kept_by v.live here.station)
+    stands_there : slice_get s.local_states p ≡ Some (kept_by v.live here.local_state)
     unfolding s
     stands_there =
-        listed_there (λ q. kept_by t.live (placed_at t (slice_index row q)).station) e.processors p h.few
-        ∙ ap (λ live. Some (kept_by live here.station)) (sym kept.live)
+        listed_there (λ q. kept_by t.live (placed_at t (slice_index row q)).local_state) e.processors p h.few
+        ∙ ap (λ live. Some (kept_by live here.local_state)) (sym kept.live)
 
-    turn_is : turn_of (own_setting e p) code here.station.processor ≡ Reaches word h.refers.change h.refers.after
-    turn_is = ap (λ z. turn_of z code here.station.processor) (sym own) ∙ h.refers.is
+    turn_is : turn_of (own_setting e p) code here.local_state.processor ≡ Reaches word h.refers.change h.refers.after
+    turn_is = ap (λ z. turn_of z code here.local_state.processor) (sym own) ∙ h.refers.is
 
-    abbrev gone_to : Standing
+    abbrev gone_to : MacroState
     gone_to = gone s p (kept_by v.live (turned (own_setting e p, slice_index s.shared word))) word (h.refers.change (slice_index s.shared word))
 
     of_any : MovesAreOfAny → MovesOfWhatIsKept → DeadAreForgotten → HasAllLive code v.live → (b : Bool) → e.exchanged ≡ b →
         IsMoveOfAny (setting_at e) code (kept_by v.live) classes s p gone_to
     of_any any moves forgotten right true on =
-        any (setting_at e) code (kept_by v.live) classes s p (cond e.exchanged 0 p) here.station word h.refers.change h.refers.after h.behind.count
+        any (setting_at e) code (kept_by v.live) classes s p (cond e.exchanged 0 p) here.local_state word h.refers.change h.refers.after h.behind.count
         (forgotten (setting_at e) code v.live right) (λ i j. record { processors = refl; shared_words = refl }) stands_there h.runs turn_is settled (quiet on)
     of_any any moves forgotten right false off = λ j alike.
         let is : own_setting e p ≡ setting_at e j =
         ap (λ b. setting_at e (cond b 0 p)) off ∙ ap (setting_at e) (sym (h.classes_are.own off j p h.few alike)) in
         subst (λ z. IsMove (λ i. z) code (kept_by v.live) s p gone_to) is
-        (moves (λ i. own_setting e p) code (kept_by v.live) s p here.station word h.refers.change h.refers.after h.behind.count
+        (moves (λ i. own_setting e p) code (kept_by v.live) s p here.local_state word h.refers.change h.refers.after h.behind.count
         (forgotten (λ i. own_setting e p) code v.live right) stands_there h.runs turn_is settled)
 
+    -- If a look for a move has done all this, the processor's move leads to the state that the next row means.
     pub looked : MovesAreOfAny → MovesOfWhatIsKept → DeadAreForgotten → HasAllLive code t.live → IsNext e code classes v (means e t row) p (Some next)
     unfolding s
     looked any moves forgotten right = (
@@ -224,10 +257,10 @@ module _ (e : Extent) (code : List ℕ) (classes : List ℕ) (t u v : TableLists
 
 -- ---- no move
 
-pub kept_runs : (live : List (List Bool)) (a : Station) → is_running (kept_by live a).processor.status ≡ is_running a.processor.status
+pub kept_runs : (live : List (List Bool)) (a : LocalState) → is_running (kept_by live a).processor.status ≡ is_running a.processor.status
 kept_runs live a = by (is_running a.processor.status)
   where
-    forgotten : Station
+    forgotten : LocalState
     forgotten = record a { processor = record a.processor { registers = []; local = [] } }
 
     by : (b : Bool) → is_running (cond b (with_live live a) forgotten).processor.status ≡ is_running a.processor.status
@@ -251,22 +284,24 @@ module _ (e : Extent) (code : List ℕ) (t : TableLists) (row : List ℕ) (p : �
   abbrev stands : Placed
   stands = placed_at t (slice_index row p)
 
-  station_is : (m : CanMove e code (means e t row) p) → kept_by t.live stands.station ≡ m.station
-  station_is m = (listed_is (λ q. kept_by t.live (placed_at t (slice_index row q)).station) e.processors p m.station m.there).1
+  local_state_is : (m : CanMove e code (means e t row) p) → kept_by t.live stands.local_state ≡ m.local_state
+  local_state_is m = (listed_is (λ q. kept_by t.live (placed_at t (slice_index row q)).local_state) e.processors p m.local_state m.there).1
 
-  runs : (m : CanMove e code (means e t row) p) → is_running stands.station.processor.status ≡ true
-  runs m = sym (kept_runs t.live stands.station) ∙ (ap (λ (a : Station). is_running a.processor.status) (station_is m) ∙ m.runs)
+  runs : (m : CanMove e code (means e t row) p) → is_running stands.local_state.processor.status ≡ true
+  runs m = sym (kept_runs t.live stands.local_state) ∙ (ap (λ (a : LocalState). is_running a.processor.status) (local_state_is m) ∙ m.runs)
 
-  pub stopped_has_none : is_running stands.station.processor.status ≡ false → CanMove e code (means e t row) p → ⊥
+  -- A processor that has stopped has no move.
+  pub stopped_has_none : is_running stands.local_state.processor.status ≡ false → CanMove e code (means e t row) p → ⊥
   stopped_has_none stopped m = true≢false (sym (runs m) ∙ stopped)
 
-  pub local_has_none : IsForgetful (setting_at e) code (kept_by t.live) → (IsReference (turn_of stands.setting code stands.station.processor) → ⊥) →
+  -- A processor whose next turn is no reference has no move.
+  pub local_has_none : IsForgetful (setting_at e) code (kept_by t.live) → (IsReference (turn_of stands.setting code stands.local_state.processor) → ⊥) →
       CanMove e code (means e t row) p → ⊥
   local_has_none forgets local m =
-      let kept : IsReference (turn_of (setting_at e p) code (kept_by t.live stands.station).processor) =
-      subst (λ (a : Station). IsReference (turn_of (setting_at e p) code a.processor)) (sym (station_is m)) m.refers in
-      let own : IsReference (turn_of (setting_at e p) code stands.station.processor) =
-      refers_too (kept_by t.live) (kept_by t.live stands.station) stands.station _ _ (forgets.turn p stands.station (runs m)) kept in
-      let same : turn_of (setting_at e p) code stands.station.processor ≡ turn_of (own_setting e p) code stands.station.processor =
-      reference_same (setting_at e p) (own_setting e p) (record { processors = refl; shared_words = refl }) code stands.station.processor own in
-      local (subst (λ (z : Setting). IsReference (turn_of z code stands.station.processor)) (sym (h.own p few)) (subst IsReference same own))
+      let kept : IsReference (turn_of (setting_at e p) code (kept_by t.live stands.local_state).processor) =
+      subst (λ (a : LocalState). IsReference (turn_of (setting_at e p) code a.processor)) (sym (local_state_is m)) m.refers in
+      let own : IsReference (turn_of (setting_at e p) code stands.local_state.processor) =
+      refers_too (kept_by t.live) (kept_by t.live stands.local_state) stands.local_state _ _ (forgets.turn p stands.local_state (runs m)) kept in
+      let same : turn_of (setting_at e p) code stands.local_state.processor ≡ turn_of (own_setting e p) code stands.local_state.processor =
+      reference_same (setting_at e p) (own_setting e p) (record { processors = refl; shared_words = refl }) code stands.local_state.processor own in
+      local (subst (λ (z : Setting). IsReference (turn_of z code stands.local_state.processor)) (sym (h.own p few)) (subst IsReference same own))

@@ -1,5 +1,5 @@
 -- The first row means the state to which the flat machine settles.
-use Rattle.std.proofs.Common.{◌≡◌, ◌⊎◌, Bool, cond, inl, inr, ℕ, ◌+◌, ◌<◌, zero, suc, List, [], ◌∷◌, Some, length, map, refl, sym, ap, subst, ◌∙◌, arith}
+use Rattle.std.proofs.Common.{◌≡◌, ◌⊎◌, Bool, cond, inl, inr, ℕ, ◌+◌, ◌<◌, ◌≤◌, zero, suc, List, [], ◌∷◌, Some, length, map, refl, sym, ap, subst, ◌∙◌, arith}
 use Rattle.std.specs.Prelude.{slice_get, slice_set, slice_index}
 use Rattle.std.proofs.lemmas.Bool.{cases_eq}
 use Rattle.std.proofs.lemmas.List.{length-map, length-set, get_or-set_same, get_or-set_other}
@@ -7,50 +7,60 @@ use Rattle.std.proofs.lemmas.List.FromFn.{length-map-range_with_len, fill_by_all
 use Rattle.flat_machine.specs.declared.setting.Setting.{Setting}
 use Rattle.flat_machine.specs.State.{Processor}
 use Rattle.hart.specs.State.{CoreState}
-use Rattle.local_reduction.specs.Stations.{alone, IsSettled}
-use Rattle.local_reduction.specs.Closing.{station_of, Settles}
+use Rattle.local_reduction.specs.LocalStates.{alone, IsSettled}
+use Rattle.local_reduction.specs.Closing.{local_state_of, ReachesMacroState}
 use Rattle.local_reduction.specs.Forgetting.{kept_by}
-use Rattle.state_search.specs.declared.tables.Extent.{Extent}
+use Rattle.state_search.specs.declared.state_tables.Extent.{Extent}
 use Rattle.state_search.specs.Placed.{Placed, placed_of}
 use Rattle.state_search.specs.Words.{HasSameWords}
-use Rattle.state_search.specs.Tables.{TableLists, placed_at, words_at, HasGrown, setting_at, means, IsRow}
+use Rattle.state_search.specs.StateTables.{TableLists, placed_at, words_at, HasGrown, setting_at, means, IsRow}
 use Rattle.state_search.specs.Opening.{AreOfExtent, flat_of, IsOpened}
 use Rattle.state_search.proofs.Lemmas.{found_at, listed_there}
 
--- what stands in a list behind a function
+-- what stands in a list after a function
 unmapped : {X Y : Type 0} (f : X → Y) (xs : List X) (k : ℕ) (y : Y) → slice_get (map f xs) k ≡ Some y → (x : X) × (slice_get xs k ≡ Some x) × (f x ≡ y)
 unmapped f [] k y e = absurd (cc)
 unmapped f (x ∷ xs) zero y e = (x, refl, (let same : f x ≡ y = cc in same))
 unmapped f (x ∷ xs) (suc k) y e = unmapped f xs k y e
 
--- the first so many of the cores are opened under the numbers of the row
+-- the first this many of the cores are opened under the numbers of the row
 pub record AreOpened (exchanged : Bool) (code : List ℕ) (cores : List CoreState) (t : TableLists) (row : List ℕ) (done : ℕ) : Type 0 where
   pub long : length cores < length row
+  -- the row has 0 at the places that are no core's
+  pub rest : (k : ℕ) → length cores ≤ k → slice_index row k ≡ 0
+  -- each of the first cores has in the row the number of what it becomes by some turns alone
   pub opened : (p : ℕ) (c : CoreState) → p < done → slice_get cores p ≡ Some c → IsOpened exchanged code c t (slice_index row p)
 
 pub none_opened : (exchanged : Bool) (code : List ℕ) (cores : List CoreState) (t : TableLists) (row : List ℕ) →
-    length cores < length row → AreOpened exchanged code cores t row 0
-none_opened exchanged code cores t row long = record { long = long; opened = λ p c l. absurd (omega (arith, l)) }
+    length cores < length row → ((k : ℕ) → slice_index row k ≡ 0) → AreOpened exchanged code cores t row 0
+none_opened exchanged code cores t row long zeros = record {
+  long = long;
+  rest = λ k past. zeros k;
+  opened = λ p c l. absurd (omega (arith, l));
+}
 
 pub opened_kept : (exchanged : Bool) (code : List ℕ) (c : CoreState) (t u : TableLists) (number : ℕ) →
     HasGrown t u → IsOpened exchanged code c t number → IsOpened exchanged code c u number
 opened_kept exchanged code c t u number kept h =
-    let same : placed_at u number ≡ placed_at t number = kept.same_station number h.there in
+    let same : placed_at u number ≡ placed_at t number = kept.same_local_state number h.there in
     record {
-      there = omega (arith, h.there, kept.stations);
+      there = omega (arith, h.there, kept.local_states);
       setting = ap (λ (a : Placed). a.setting) same ∙ h.setting;
       count = h.count;
-      gone = subst (λ live. kept_by live (placed_at u number).station ≡ kept_by live (alone h.count c.setting code (placed_of c).station)) (sym kept.live)
-          (ap (λ (a : Placed). kept_by t.live a.station) same ∙ h.gone);
+      gone = subst (λ live. kept_by live (placed_at u number).local_state ≡ kept_by live (alone h.count c.setting code (placed_of c).local_state))
+          (sym kept.live)
+          (ap (λ (a : Placed). kept_by t.live a.local_state) same ∙ h.gone);
       settled = h.settled;
     }
 
+-- If the tables have grown and have the next core under a number, the row with this number has one core more.
 pub opened_on : (exchanged : Bool) (code : List ℕ) (cores : List CoreState) (t u : TableLists) (row : List ℕ) (done number : ℕ) (core : CoreState) →
     done < length cores →
     slice_get cores done ≡ Some core → HasGrown t u → AreOpened exchanged code cores t row done → IsOpened exchanged code core u number →
     AreOpened exchanged code cores u (slice_set row done number) (done + 1)
 opened_on exchanged code cores t u row done number core few is kept h here = record {
   long = omega (arith, length-set row done number, h.long);
+  rest = λ k past. get_or-set_other row done k number 0 (λ here. omega (arith, past, few, here)) ∙ h.rest k past;
   opened = λ p c l found. by p c l found (cases_eq p done);
 }
   where
@@ -94,6 +104,7 @@ module _ (e : Extent) (code : List ℕ) (cores : List CoreState) (words : List �
       subst (IsOpened e.exchanged code c u) (number_at p few)
       (opened_kept e.exchanged code c t u (slice_index row p) kept (h.opened p c (subst (λ n. p < n) (sym of_extent.all) few) found))
 
+  -- The row with the numbers of all cores and of the words is a row of the tables.
   pub first_row : IsRow e u (slice_set row e.processors number)
   unfolding first
   first_row = record {
@@ -102,9 +113,19 @@ module _ (e : Extent) (code : List ℕ) (cores : List CoreState) (words : List �
         (opened_at p (core_at p few).0 few (core_at p few).1).setting
         ∙ ap (λ (z : Setting). record z { number = cond e.exchanged 0 z.number }) (of_extent.settings p (core_at p few).0 (core_at p few).1);
     words = subst (λ i. i < length u.words) (sym at_words) words_there;
+    short = λ i far.
+        ap (λ j. slice_index (words_at u j) i) at_words ∙ (same.same i ∙ past words i (omega (arith, far, wide)));
+    rest = λ k more. get_or-set_other row e.processors k number 0 (λ here. omega (arith, more, here)) ∙ h.rest k (omega (arith, more, of_extent.all));
   }
+    where
+      past : (xs : List ℕ) (i : ℕ) → length xs ≤ i → slice_index xs i ≡ 0
+      past [] i l = refl
+      past (x ∷ xs) zero l = absurd (omega (arith, l))
+      past (x ∷ xs) (suc i) l = past xs i (omega (arith, l))
 
-  pub first_settles : Settles (setting_at e) code (kept_by u.live) (flat_of code cores words) (λ k. []) (means e u (slice_set row e.processors number))
+  -- The flat machine of the cores and words reaches the state that this row means.
+  pub first_settles : ReachesMacroState (setting_at e) code (kept_by u.live) (flat_of code cores words) (λ k. [])
+      (means e u (slice_set row e.processors number))
   unfolding first
   first_settles = record {
     settings = λ k. (λ i. record {
@@ -115,20 +136,20 @@ module _ (e : Extent) (code : List ℕ) (cores : List CoreState) (words : List �
     code_is = refl;
     shared = sym (fill_by_all (slice_index (words_at u (slice_index first e.processors))) words e.shared_words 0 wide
         (λ k l. sym (ap (λ i. slice_index (words_at u i) k) at_words ∙ same.same k)));
-    all = length-map-range_with_len (λ p. kept_by u.live (placed_at u (slice_index first p)).station) 0 e.processors
+    all = length-map-range_with_len (λ p. kept_by u.live (placed_at u (slice_index first p)).local_state) 0 e.processors
         ∙ (sym of_extent.all ∙ sym (length-map cores (λ (c : CoreState). c.state)));
     each = λ k p found. by k p (unmapped (λ (c : CoreState). c.state) cores k p found);
   }
     where
       by : (k : ℕ) (p : Processor) → (c : CoreState) × (slice_get cores k ≡ Some c) × (c.state ≡ p) →
-          (n : ℕ) × (slice_get (means e u first).stations k ≡ Some (kept_by u.live (alone n (setting_at e k) code (station_of p []))))
-          × IsSettled (setting_at e k) code (alone n (setting_at e k) code (station_of p [])).processor
+          (n : ℕ) × (slice_get (means e u first).local_states k ≡ Some (kept_by u.live (alone n (setting_at e k) code (local_state_of p []))))
+          × IsSettled (setting_at e k) code (alone n (setting_at e k) code (local_state_of p [])).processor
       by k p x =
           let few : k < e.processors = subst (λ n. k < n) of_extent.all (found_at cores k x.0 x.0 x.1).0 in
           let o = opened_at k x.0 few x.1 in
           let both : (x.0.setting, x.0.state) ≡ (setting_at e k, p) = λ i. (of_extent.settings k x.0 x.1 i, x.2 i) in (
             o.count,
-            listed_there (λ q. kept_by u.live (placed_at u (slice_index first q)).station) e.processors k few
-                ∙ ap Some (o.gone ∙ ap (λ (z : Setting × Processor). kept_by u.live (alone o.count z.0 code (station_of z.1 []))) both),
-            subst (λ (z : Setting × Processor). IsSettled z.0 code (alone o.count z.0 code (station_of z.1 [])).processor) both o.settled,
+            listed_there (λ q. kept_by u.live (placed_at u (slice_index first q)).local_state) e.processors k few
+                ∙ ap Some (o.gone ∙ ap (λ (z : Setting × Processor). kept_by u.live (alone o.count z.0 code (local_state_of z.1 []))) both),
+            subst (λ (z : Setting × Processor). IsSettled z.0 code (alone o.count z.0 code (local_state_of z.1 [])).processor) both o.settled,
           )

@@ -1,74 +1,86 @@
 -- What is remembered of moves stays right in tables that grow, and when a right answer is noted.
-use Rattle.std.proofs.Common.{◌≡◌, ◌⊎◌, inl, inr, ℕ, ◌<◌, Bool, true, false, cond, nat_eq, List, [], ◌∷◌, Some, length, refl, sym, ap, subst, ◌∙◌, arith}
-use Rattle.std.specs.Prelude.{Result, Ok, Err, OnOk, OnErr, slice_index}
+use Rattle.std.proofs.Common.{◌≡◌, ◌⊎◌, inl, inr, ℕ, ◌<◌, Bool, true, false, cond, nat_eq, List, [], ◌∷◌, Option, Some, None}
+use Rattle.std.proofs.Common.{length, refl, sym, ap, subst, ◌∙◌, arith}
+use Rattle.std.specs.Prelude.{Result, Ok, Err, IfNone, IfSome, OnOk, OnErr, slice_index}
 use Rattle.std.specs.Cmp.Lexicographic.{pointwise}
 use Rattle.std.proofs.lemmas.Bool.Decides.{Decides-eqb}
 use Rattle.std.proofs.lemmas.Slice.Eq.{slice_eq-Decides}
 use Rattle.std.specs.Map.{lookup, KeepsOthers}
 use Rattle.flat_machine.specs.declared.event.Retired.{Retired}
 use Rattle.flat_machine.specs.State.{Processor}
-use Rattle.local_reduction.specs.Stations.{behind, alone}
+use Rattle.flat_machine.specs.declared.setting.Setting.{Setting}
+use Rattle.flat_machine.specs.Turns.{turn_of}
+use Rattle.hart.specs.Deciding.{after_reply}
+use Rattle.local_reduction.specs.Exchanging.{AskNot}
+use Rattle.local_reduction.specs.LocalStates.{LocalState, behind, alone, IsSettled}
 use Rattle.local_reduction.specs.Forgetting.{kept_by}
-use Rattle.state_search.specs.Placed.{Placed}
+use Rattle.state_search.specs.Placed.{Placed, IsSame, HasRetired, HasGone, IsStill, IsQuiet}
 use Rattle.state_search.specs.Words.{IsWritten}
-use Rattle.state_search.specs.Tables.{TableLists, placed_at, words_at, HasGrown, IsBehind}
-use Rattle.state_search.specs.Memo.{Remembered, nothing, answer_to, IsNoted, KnowsStations, KnowsLists}
+use Rattle.state_search.specs.StateTables.{TableLists, placed_at, words_at, HasGrown, IsBehind}
+use Rattle.state_search.specs.TransitionCache.{Remembered, nothing, answer_to, IsForgotten, IsNoted, KnowsLocalStates, KnowsLists}
 
 pub behind_kept : (quietly : Bool) (code : List ℕ) (before : ℕ) (old : Placed) (t u : TableLists) (number : ℕ) →
     HasGrown t u → IsBehind quietly code before old t number →
     IsBehind quietly code before old u number
 behind_kept quietly code before old t u number kept h =
-    let same = kept.same_station number h.there in
+    let same = kept.same_local_state number h.there in
     record {
-      there = omega (arith, h.there, kept.stations);
+      there = omega (arith, h.there, kept.local_states);
       setting = ap (λ (a : Placed). a.setting) same ∙ h.setting;
       count = h.count;
       gone = λ (done : Processor × Retired) is.
-          subst (λ live. kept_by live (placed_at u number).station ≡ kept_by live (alone h.count old.setting code (behind old.station done))) (sym kept.live)
-          (ap (λ (a : Placed). kept_by t.live a.station) same ∙ h.gone done is);
+          subst (λ live. kept_by live (placed_at u number).local_state ≡ kept_by live (alone h.count old.setting code (behind old.local_state done)))
+          (sym kept.live)
+          (ap (λ (a : Placed). kept_by t.live a.local_state) same ∙ h.gone done is);
       settled = h.settled;
       quiet = h.quiet;
+      later = h.later;
     }
 
-pub stations_kept : (quietly : Bool) (code : List ℕ) (t u : TableLists) (m : Remembered) →
-    HasGrown t u → KnowsStations quietly code t m → KnowsStations quietly code u m
-stations_kept quietly code t u m kept h number word before behind told =
-    let k = h number word before behind told in (
-      omega (arith, k.0, kept.stations),
-      subst (λ (a : Placed). IsBehind quietly code before a u behind) (sym (kept.same_station number k.0))
+-- What is remembered of references is right after the tables have grown.
+pub local_states_kept : (quietly : Bool) (code : List ℕ) (t u : TableLists) (m : Remembered) →
+    HasGrown t u → KnowsLocalStates quietly code t m → KnowsLocalStates quietly code u m
+local_states_kept quietly code t u m kept h number word before behind fact =
+    let k = h number word before behind fact in (
+      omega (arith, k.0, kept.local_states),
+      subst (λ (a : Placed). IsBehind quietly code before a u behind) (sym (kept.same_local_state number k.0))
           (behind_kept quietly code before (placed_at t number) t u behind kept k.1),
     )
 
+-- What is remembered of written lists is right after the tables have grown.
 pub lists_kept : (t u : TableLists) (m : Remembered) → HasGrown t u → KnowsLists t m → KnowsLists u m
-lists_kept t u m kept h number word value written told =
-    let k = h number word value written told in (
+lists_kept t u m kept h number word value written fact =
+    let k = h number word value written fact in (
       omega (arith, k.0, kept.words),
       omega (arith, k.1, kept.words),
       subst (λ (xs : List ℕ). IsWritten xs word value (words_at u written)) (sym (kept.same_words number k.0))
           (subst (IsWritten (words_at t number) word value) (sym (kept.same_words written k.1)) k.2),
     )
 
-pub stations_noted : (quietly : Bool) (code : List ℕ) (t : TableLists) (m n : Remembered) (number word before behind : ℕ) → KnowsStations quietly code t m →
-    IsNoted m (number ∷ word ∷ before ∷ []) behind n → number < length t.stations → IsBehind quietly code before (placed_at t number) t behind →
-    KnowsStations quietly code t n
-stations_noted quietly code t m n number word before behind h noted there is i w x j told = at (noted (i ∷ w ∷ x ∷ []) j told)
+-- What is remembered of references is right after a right answer is noted.
+pub local_states_remembered : (quietly : Bool) (code : List ℕ) (t : TableLists) (m n : Remembered) (number word before behind : ℕ) →
+    KnowsLocalStates quietly code t m →
+    IsNoted m (number ∷ word ∷ before ∷ []) behind n → number < length t.local_states → IsBehind quietly code before (placed_at t number) t behind →
+    KnowsLocalStates quietly code t n
+local_states_remembered quietly code t m n number word before behind h noted there is i w x j fact = at (noted (i ∷ w ∷ x ∷ []) j fact)
   where
     at : (answer_to m (i ∷ w ∷ x ∷ []) ≡ Some j) ⊎ (((i ∷ w ∷ x ∷ []) ≡ (number ∷ word ∷ before ∷ [])) × (j ≡ behind)) →
-        (i < length t.stations) × IsBehind quietly code x (placed_at t i) t j
+        (i < length t.local_states) × IsBehind quietly code x (placed_at t i) t j
     at (inl old) = h i w x j old
     at (inr new) =
         let first : number ≡ i = sym (ap (λ q. slice_index q 0) new.0) in
         let third : before ≡ x = sym (ap (λ q. slice_index q 2) new.0) in (
-          subst (λ k. k < length t.stations) first there,
+          subst (λ k. k < length t.local_states) first there,
           subst (λ k. IsBehind quietly code x (placed_at t i) t k) (sym new.1)
               (subst (λ y. IsBehind quietly code y (placed_at t i) t behind) third
               (subst (λ k. IsBehind quietly code before (placed_at t k) t behind) first is)),
         )
 
+-- What is remembered of written lists is right after a right answer is noted.
 pub lists_noted : (t : TableLists) (m n : Remembered) (number word value written : ℕ) → KnowsLists t m →
     IsNoted m (number ∷ word ∷ value ∷ []) written n → number < length t.words → written < length t.words →
     IsWritten (words_at t number) word value (words_at t written) → KnowsLists t n
-lists_noted t m n number word value written h noted there gives is i w v j told = at (noted (i ∷ w ∷ v ∷ []) j told)
+lists_noted t m n number word value written h noted there gives is i w v j fact = at (noted (i ∷ w ∷ v ∷ []) j fact)
   where
     at : (answer_to m (i ∷ w ∷ v ∷ []) ≡ Some j) ⊎ (((i ∷ w ∷ v ∷ []) ≡ (number ∷ word ∷ value ∷ [])) × (j ≡ written)) →
         (i < length t.words) × (j < length t.words) × IsWritten (words_at t i) w v (words_at t j)
@@ -88,15 +100,16 @@ lists_noted t m n number word value written h noted there gives is i w v j told 
 -- what an insertion leaves, or a failed one that changes nothing
 pub noted_by : (m n : Remembered) (k : List ℕ) (v : ℕ) → ((q : List ℕ) → answer_to n q ≡ cond (pointwise nat_eq k q) (Some v) (answer_to m q)) →
     IsNoted m k v n
-noted_by m n k v updates q a told = at (pointwise nat_eq k q) refl
+noted_by m n k v updates q a fact = at (pointwise nat_eq k q) refl
   where
     at : (b : Bool) → pointwise nat_eq k q ≡ b → (answer_to m q ≡ Some a) ⊎ ((q ≡ k) × (a ≡ v))
     at true e =
-        let is : Some v ≡ Some a = sym (updates q ∙ ap (λ b. cond b (Some v) (answer_to m q)) e) ∙ told in
+        let is : Some v ≡ Some a = sym (updates q ∙ ap (λ b. cond b (Some v) (answer_to m q)) e) ∙ fact in
         let same : v ≡ a = cc in
         inr (sym ((slice_eq-Decides {E = nat_eq} Decides-eqb k q true (sym e)).0 refl), sym same)
-    at false e = inl (sym (updates q ∙ ap (λ b. cond b (Some v) (answer_to m q)) e) ∙ told)
+    at false e = inl (sym (updates q ∙ ap (λ b. cond b (Some v) (answer_to m q)) e) ∙ fact)
 
+-- If an entry is inserted, or nothing changes, then all that is remembered was before, or is that entry.
 pub inserted_noted : (es fs : List (List ℕ × ℕ)) (k : List ℕ) (v : ℕ) →
     (((q : List ℕ) → lookup (pointwise nat_eq q) fs ≡ cond (pointwise nat_eq k q) (Some v) (lookup (pointwise nat_eq q) es))
     × (lookup (pointwise nat_eq k) fs ≡ Some v)
@@ -104,14 +117,67 @@ pub inserted_noted : (es fs : List (List ℕ × ℕ)) (k : List ℕ) (v : ℕ) �
     × KeepsOthers (pointwise nat_eq) (pointwise nat_eq k) es fs) ⊎ (fs ≡ es) →
     IsNoted (record { entries = es }) k v (record { entries = fs })
 inserted_noted es fs k v (inl updates) = noted_by (record { entries = es }) (record { entries = fs }) k v updates.0
-inserted_noted es fs k v (inr same) = λ q a told. inl (ap (lookup (pointwise nat_eq q)) (sym same) ∙ told)
+inserted_noted es fs k v (inr same) = λ q a fact. inl (ap (lookup (pointwise nat_eq q)) (sym same) ∙ fact)
 
+-- what is left where a key is taken away, or where there is none
+pub forgotten_by : (m n : Remembered) (k : List ℕ) → ((q : List ℕ) → answer_to n q ≡ cond (pointwise nat_eq k q) None (answer_to m q)) →
+    IsForgotten m n
+forgotten_by m n k updates q a fact = at (pointwise nat_eq k q) refl
+  where
+    at : (b : Bool) → pointwise nat_eq k q ≡ b → answer_to m q ≡ Some a
+    at true e =
+        let is : None ≡ Some a = sym (updates q ∙ ap (λ b. cond b None (answer_to m q)) e) ∙ fact in
+        absurd (cc)
+    at false e = sym (updates q ∙ ap (λ b. cond b None (answer_to m q)) e) ∙ fact
+
+-- If an entry is removed, or nothing changes, then all that is remembered was before.
+pub removed_forgotten : (es fs : List (List ℕ × ℕ)) (r : Option (List ℕ × ℕ)) (P : List ℕ × ℕ → Type 0) →
+    ((p : List ℕ × ℕ) → P p → (q : List ℕ) → lookup (pointwise nat_eq q) fs ≡ cond (pointwise nat_eq p.0 q) None (lookup (pointwise nat_eq q) es)) →
+    IfSome r P → IfNone r (fs ≡ es) → IsForgotten (record { entries = es }) (record { entries = fs })
+removed_forgotten es fs (Some p) P update some none = forgotten_by (record { entries = es }) (record { entries = fs }) p.0 (update p some)
+removed_forgotten es fs None P update some none = λ q a fact. ap (lookup (pointwise nat_eq q)) (sym none) ∙ fact
+
+-- If something is forgotten and then an answer noted, all that is remembered was before, or is that answer.
+pub noted_on : (m k n : Remembered) (question : List ℕ) (answer : ℕ) → IsForgotten m k → IsNoted k question answer n → IsNoted m question answer n
+noted_on m k n question answer forgot noted q a fact = by (noted q a fact)
+  where
+    by : (answer_to k q ≡ Some a) ⊎ ((q ≡ question) × (a ≡ answer)) → (answer_to m q ≡ Some a) ⊎ ((q ≡ question) × (a ≡ answer))
+    by (inl old) = inl (forgot q a old)
+    by (inr new) = inr new
+
+-- If a result gives P by being `Ok`, and Q by being `Err`, one of the two holds.
 pub either : {A B : Type 0} {P Q : Type 0} (r : Result A B) → OnOk r P → OnErr r Q → P ⊎ Q
 either (Ok x) p q = inl p
 either (Err e) p q = inr q
 
-pub knows_no_stations : (quietly : Bool) (code : List ℕ) (t : TableLists) → KnowsStations quietly code t nothing
-knows_no_stations quietly code t number word before behind told = absurd cc
+pub knows_no_local_states : (quietly : Bool) (code : List ℕ) (t : TableLists) → KnowsLocalStates quietly code t nothing
+knows_no_local_states quietly code t number word before behind fact = absurd cc
 
 pub knows_no_lists : (t : TableLists) → KnowsLists t nothing
-knows_no_lists t number word value written told = absurd cc
+knows_no_lists t number word value written fact = absurd cc
+
+-- ---- what stands after a reference
+
+-- A station that a reference, and turns alone, make of another is after it.
+pub behind_is : (quietly : Bool) (code : List ℕ) (before : ℕ) (old mid new : Placed) (t : TableLists) (number : ℕ) → HasRetired code before old mid →
+    HasGone quietly code mid new → IsStill code new → IsQuiet quietly code new → number < length t.local_states → IsSame t.live (placed_at t number) new →
+    IsBehind quietly code before old t number
+behind_is quietly code before old mid new t number r g still quiet there same = record {
+  there = there;
+  setting = same.setting ∙ settings;
+  count = g.count;
+  gone = λ (done : Processor × Retired) is. same.kept ∙ ap (kept_by t.live) (gone done is);
+  settled = λ (done : Processor × Retired) is.
+      subst (λ (z : Setting × LocalState). IsSettled z.0 code z.1.processor) (λ i. (settings i, gone done is i)) still;
+  quiet = λ on (done : Processor × Retired) is.
+      subst (λ (z : Setting × LocalState). AskNot g.count z.0 code z.1) (λ i. (r.setting i, r.retired done is i)) (g.quiet on);
+  later = λ on (done : Processor × Retired) is.
+      subst (λ (z : Setting × LocalState). (n : ℕ) → AskNot n z.0 code z.1) (λ i. (settings i, gone done is i)) (quiet on);
+}
+  where
+    settings : new.setting ≡ old.setting
+    settings = g.setting ∙ r.setting
+
+    gone : (done : Processor × Retired) → after_reply (turn_of old.setting code old.local_state.processor) before ≡ Some done →
+        new.local_state ≡ alone g.count old.setting code (behind old.local_state done)
+    gone done is = g.gone ∙ (λ i. alone g.count (r.setting i) code (r.retired done is i))

@@ -2,7 +2,7 @@
 use Rattle.std.proofs.Common.{◌≡◌, ◌⊎◌, inl, inr, ℕ, ◌<◌, ◌≤◌, Bool, true, false, cond, List, Some, None, length, map, refl, sym, ap, subst, ◌∙◌, arith}
 use Rattle.std.specs.Prelude.{slice_get, slice_index}
 use Rattle.std.specs.List.{range_with_len}
-use Rattle.local_reduction.specs.Closing.{Standing}
+use Rattle.local_reduction.specs.Closing.{MacroState}
 use Rattle.std.proofs.lemmas.Bool.{cases_lt}
 use Rattle.std.proofs.lemmas.Option.{slice_get_past}
 use Rattle.std.proofs.lemmas.List.FromFn.{length-map-range_with_len}
@@ -10,10 +10,10 @@ use Rattle.local_reduction.specs.Exchanging.{AreAlike, IsExchanged}
 use Rattle.local_reduction.proofs.Lemmas.{found_there, found_within}
 use Rattle.state_search.specs.Rows.{IsRowExchanged}
 use Rattle.local_reduction.specs.Forgetting.{kept_by}
-use Rattle.state_search.specs.declared.tables.Extent.{Extent}
-use Rattle.state_search.specs.Tables.{TableLists, placed_at, words_at, setting_at, own_setting, means, IsRow}
+use Rattle.state_search.specs.declared.state_tables.Extent.{Extent}
+use Rattle.state_search.specs.StateTables.{TableLists, placed_at, words_at, setting_at, own_setting, means, IsRow}
 use Rattle.state_search.specs.Search.{AreClasses, IsNext, IsNextUpTo}
-use Rattle.state_search.proofs.Lemmas.{listed_there}
+use Rattle.state_search.proofs.Listed.{listed_there}
 
 -- a place of the class of one that is there is there
 within : (classes : List ℕ) (j k : ℕ) → AreAlike classes j k → k < length classes → j < length classes
@@ -39,24 +39,28 @@ module _ (e : Extent) (classes : List ℕ) (t : TableLists) (old new : List ℕ)
       by true on = ap (λ b. setting_at e (cond b 0 (x.exchange.place p))) on ∙ sym (ap (λ b. setting_at e (cond b 0 p)) on)
       by false off = ap (λ q. setting_at e (cond e.exchanged 0 q)) (are.own off (x.exchange.place p) p few (x.exchange.alike p))
 
+  -- If the processors of a row are exchanged within their classes, it is still a row of the tables,
   pub row_ordered : IsRow e t old → IsRow e t new
   row_ordered h = record {
-    there = λ p few. subst (λ i. i < length t.stations) (sym (number_is p few)) (h.there (x.exchange.place p) (place_there p few));
+    there = λ p few. subst (λ i. i < length t.local_states) (sym (number_is p few)) (h.there (x.exchange.place p) (place_there p few));
     own = λ p few.
         ap (λ i. (placed_at t i).setting) (number_is p few) ∙ (h.own (x.exchange.place p) (place_there p few) ∙ own_same p few);
     words = subst (λ i. i < length t.words) (sym words_same) h.words;
+    short = λ i far. ap (λ n. slice_index (words_at t n) i) words_same ∙ h.short i far;
+    rest = λ k more. x.others k (omega (arith, are.all, more)) ∙ h.rest k more;
   }
 
+  -- and it means the state with its processors exchanged.
   pub ordered_means : IsExchanged x.exchange.place (means e t old) (means e t new)
   ordered_means = record {
     shared = ap (λ i. map (slice_index (words_at t i)) (range_with_len 0 e.shared_words)) words_same;
     each = λ k. by k (cases_lt k e.processors);
   }
     where
-      past : (row : List ℕ) (k : ℕ) → e.processors ≤ k → slice_get (means e t row).stations k ≡ None
+      past : (row : List ℕ) (k : ℕ) → e.processors ≤ k → slice_get (means e t row).local_states k ≡ None
       past row k far =
-          let long = length-map-range_with_len (λ p. kept_by t.live (placed_at t (slice_index row p)).station) 0 e.processors in
-          slice_get_past (means e t row).stations k (omega (arith, long, far))
+          let long = length-map-range_with_len (λ p. kept_by t.live (placed_at t (slice_index row p)).local_state) 0 e.processors in
+          slice_get_past (means e t row).local_states k (omega (arith, long, far))
 
       far_too : (k : ℕ) → e.processors ≤ k → (x.exchange.place k < e.processors) ⊎ (e.processors ≤ x.exchange.place k) → e.processors ≤ x.exchange.place k
       far_too k far (inr there) = there
@@ -64,15 +68,16 @@ module _ (e : Extent) (classes : List ℕ) (t : TableLists) (old new : List ℕ)
           let l = within classes k (x.exchange.place k) (sym (x.exchange.alike k)) (subst (λ n. x.exchange.place k < n) (sym are.all) near) in
           absurd (omega (arith, l, far, are.all))
 
-      by : (k : ℕ) → (k < e.processors) ⊎ (e.processors ≤ k) → slice_get (means e t new).stations k ≡ slice_get (means e t old).stations (x.exchange.place k)
+      by : (k : ℕ) → (k < e.processors) ⊎ (e.processors ≤ k) →
+          slice_get (means e t new).local_states k ≡ slice_get (means e t old).local_states (x.exchange.place k)
       by k (inl few) =
-          listed_there (λ q. kept_by t.live (placed_at t (slice_index new q)).station) e.processors k few
-          ∙ (ap (λ i. Some (kept_by t.live (placed_at t i).station)) (number_is k few)
-          ∙ sym (listed_there (λ q. kept_by t.live (placed_at t (slice_index old q)).station) e.processors (x.exchange.place k) (place_there k few)))
+          listed_there (λ q. kept_by t.live (placed_at t (slice_index new q)).local_state) e.processors k few
+          ∙ (ap (λ i. Some (kept_by t.live (placed_at t i).local_state)) (number_is k few)
+          ∙ sym (listed_there (λ q. kept_by t.live (placed_at t (slice_index old q)).local_state) e.processors (x.exchange.place k) (place_there k few)))
       by k (inr far) = past new k far ∙ sym (past old (x.exchange.place k) (far_too k far (cases_lt (x.exchange.place k) e.processors)))
 
 -- A move to a row leads, up to an exchange, to the row with its processors exchanged.
-pub next_ordered : (e : Extent) (code : List ℕ) (classes : List ℕ) (t : TableLists) (s : Standing) (k : ℕ) → AreClasses e classes →
+pub next_ordered : (e : Extent) (code : List ℕ) (classes : List ℕ) (t : TableLists) (s : MacroState) (k : ℕ) → AreClasses e classes →
     (old new : List ℕ) → IsNext e code classes t s k (Some old) → IsRowExchanged classes old new →
     IsNextUpTo e code classes t s k (Some new)
 next_ordered e code classes t s k are old new moved x = (

@@ -1,19 +1,36 @@
 -- What rows that a search has found have to do with the first state.
-use Rattle.std.specs.Prelude.{◌≡◌, ℕ, ◌<◌, List, [], length, slice_index_or}
-use Rattle.local_reduction.specs.Closing.{Standing}
+use Rattle.std.specs.Prelude.{◌≡◌, ℕ, ◌<◌, ◌≤◌, List, [], length, slice_index_or}
+use Rattle.local_reduction.specs.Closing.{MacroState}
+use Rattle.state_graph.specs.Paths.{IsBreadthFirst}
 use Rattle.state_graph.specs.Search.{AreSuccessors, AreReached}
 use Rattle.local_reduction.specs.Forgetting.{kept_by}
-use Rattle.state_search.specs.declared.tables.Extent.{Extent}
-use Rattle.state_search.specs.Tables.{TableLists, setting_at, IsRow}
+use Rattle.state_search.specs.declared.state_tables.Extent.{Extent}
+use Rattle.state_search.specs.StateTables.{TableLists, setting_at, IsRow}
 use Rattle.state_search.specs.Search.{state_at}
 
 abbrev pub AreRows : Extent → TableLists → List (List ℕ) → Type 0
 AreRows e t rows = (i : ℕ) → i < length rows → IsRow e t (slice_index_or rows i [])
 
--- The rows are states that are found from a first one, up to exchanges, with their successors.
+-- No two of the first this many states are the same.
+abbrev pub AreDifferentStates : (count : ℕ) → (state : ℕ → MacroState) → Type 0
+AreDifferentStates count state = (i j : ℕ) → i < count → j < count → state i ≡ state j → i ≡ j
+
+-- The rows are states that are found from a first one, up to exchanges, with their successors, breadth first. No two
+-- are the same.
 pub record AreFound (e : Extent) (code : List ℕ) (classes : List ℕ) (t : TableLists) (rows moves : List (List ℕ))
-    (first : Standing) : Type 0 where
+    (first : MacroState) : Type 0 where
   pub are_rows : AreRows e t rows
   pub begins : state_at e t rows 0 ≡ first
   pub reached : AreReached (setting_at e) code (kept_by t.live) classes (state_at e t rows) (length rows)
   pub successors : AreSuccessors (setting_at e) code (kept_by t.live) classes (state_at e t rows) (length rows) moves
+  pub breadth : IsBreadthFirst moves
+  pub different : AreDifferentStates (length rows) (state_at e t rows)
+
+-- At least this many different states are found from a first one.
+pub record AreMany (e : Extent) (code : List ℕ) (classes : List ℕ) (t : TableLists) (first : MacroState)
+    (least : ℕ) : Type 0 where
+  pub rows : List (List ℕ)
+  pub many : least ≤ length rows
+  pub begins : state_at e t rows 0 ≡ first
+  pub reached : AreReached (setting_at e) code (kept_by t.live) classes (state_at e t rows) (length rows)
+  pub different : AreDifferentStates (length rows) (state_at e t rows)

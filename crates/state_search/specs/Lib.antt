@@ -1,8 +1,11 @@
 pub mod Placed
 pub mod Words
-pub mod Tables
-pub mod Memo
+pub mod Keys
+pub mod KeyLaws
+pub mod StateTables
+pub mod TransitionCache
 pub mod Rows
 pub mod Search
 pub mod Ends
+pub mod Refusals
 pub mod Opening

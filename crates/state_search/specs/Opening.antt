@@ -2,11 +2,11 @@
 use Rattle.std.specs.Prelude.{◌≡◌, ℕ, Bool, if◌then◌else◌, ◌<◌, List, length, map, slice_get, Some}
 use Rattle.flat_machine.specs.State.{FlatState}
 use Rattle.hart.specs.State.{CoreState}
-use Rattle.local_reduction.specs.Stations.{alone, IsSettled}
+use Rattle.local_reduction.specs.LocalStates.{alone, IsSettled}
 use Rattle.local_reduction.specs.Forgetting.{kept_by}
-use Rattle.state_search.specs.declared.tables.Extent.{Extent}
+use Rattle.state_search.specs.declared.state_tables.Extent.{Extent}
 use Rattle.state_search.specs.Placed.{placed_of}
-use Rattle.state_search.specs.Tables.{TableLists, placed_at, setting_at}
+use Rattle.state_search.specs.StateTables.{TableLists, placed_at, setting_at}
 
 -- These are the cores of a machine of this size.
 pub record AreOfExtent (e : Extent) (cores : List CoreState) : Type 0 where
@@ -19,9 +19,9 @@ flat_of code cores words = record { processors = map (λ (c : CoreState). c.stat
 
 -- The tables have under the number what the processor becomes in some turns alone.
 pub record IsOpened (exchanged : Bool) (code : List ℕ) (c : CoreState) (t : TableLists) (number : ℕ) : Type 0 where
-  pub there : number < length t.stations
+  pub there : number < length t.local_states
   pub setting : (placed_at t number).setting ≡ record c.setting { number = if exchanged then 0 else c.setting.number }
   pub count : ℕ
-  pub gone : kept_by t.live (placed_at t number).station
-      ≡ kept_by t.live (alone count c.setting code (placed_of c).station)
-  pub settled : IsSettled c.setting code (alone count c.setting code (placed_of c).station).processor
+  pub gone : kept_by t.live (placed_at t number).local_state
+      ≡ kept_by t.live (alone count c.setting code (placed_of c).local_state)
+  pub settled : IsSettled c.setting code (alone count c.setting code (placed_of c).local_state).processor

@@ -6,53 +6,75 @@ use Rattle.flat_machine.specs.State.{Processor, is_running}
 use Rattle.flat_machine.specs.Turns.{turn_of}
 use Rattle.hart.specs.State.{CoreState}
 use Rattle.hart.specs.Deciding.{after_reply}
-use Rattle.local_reduction.specs.Stations.{Station, behind, with_byte, alone, alone_once, IsSettled}
+use Rattle.local_reduction.specs.LocalStates.{LocalState, behind, with_byte, alone, alone_once, IsReference, GoesOn}
+use Rattle.local_reduction.specs.LocalStates.{IsSettled}
 use Rattle.local_reduction.specs.Closing.{if_running}
-use Rattle.local_reduction.specs.Exchanging.{Asks, AskNot}
-use Rattle.local_reduction.specs.Forgetting.{kept_by}
+use Rattle.local_reduction.specs.Exchanging.{Asks, AskNot, NeverAsks}
+use Rattle.local_reduction.specs.Live.{is_live}
+use Rattle.local_reduction.specs.Forgetting.{kept_by, only}
 
 pub record Placed : Type 0 where
   pub setting : Setting
-  pub station : Station
+  pub local_state : LocalState
 
 -- a processor that has printed nothing
 abbrev pub placed_of : CoreState → Placed
-placed_of c = record { setting = c.setting; station = record { processor = c.state; console = [] } }
+placed_of c = record { setting = c.setting; local_state = record { processor = c.state; console = [] } }
 
 -- with what an instruction gave to the console
 abbrev pub printing : Placed → Retired → Placed
-printing a retired = record a { station = record a.station { console = with_byte a.station.console retired.out } }
+printing a retired = record
+    a { local_state = record a.local_state { console = with_byte a.local_state.console retired.out } }
 
 -- They are of one processor, and equal but for what is held by one that has stopped.
 pub record IsEqual (a b : Placed) : Type 0 where
   pub setting : a.setting ≡ b.setting
-  pub equal : if_running a.station ≡ if_running b.station
+  pub equal : if_running a.local_state ≡ if_running b.local_state
 
 -- They are of one processor, and the same is kept of them.
 pub record IsSame (live : List (List Bool)) (a b : Placed) : Type 0 where
   pub setting : a.setting ≡ b.setting
-  pub kept : kept_by live a.station ≡ kept_by live b.station
+  pub kept : kept_by live a.local_state ≡ kept_by live b.local_state
+
+-- The registers hold 0 that are not live.
+abbrev pub IsBare : (live : List (List Bool)) → Placed → Type 0
+IsBare live a = only (is_live live a.local_state.processor.pc) a.local_state.processor.registers
+    ≡ a.local_state.processor.registers
 
 -- A reference to a word that had this value before leads from the old to the new.
 pub record HasRetired (code : List ℕ) (before : ℕ) (old new : Placed) : Type 0 where
   pub setting : new.setting ≡ old.setting
   pub retired : (done : Processor × Retired) →
-      after_reply (turn_of old.setting code old.station.processor) before ≡ Some done →
-      new.station ≡ behind old.station done
+      after_reply (turn_of old.setting code old.local_state.processor) before ≡ Some done →
+      new.local_state ≡ behind old.local_state done
 
 -- A turn alone leads from the old to the new, which does not ask for the own number, if it is to go quietly,
 pub record HasTurned (quietly : Bool) (code : List ℕ) (old new : Placed) : Type 0 where
   pub setting : new.setting ≡ old.setting
-  pub once : new.station ≡ alone_once old.setting code old.station
-  pub quiet : quietly ≡ true → is_running old.station.processor.status ≡ true → Asks code old.station.processor → ⊥
+  pub once : new.local_state ≡ alone_once old.setting code old.local_state
+  pub quiet : quietly ≡ true → is_running old.local_state.processor.status ≡ true →
+      Asks code old.local_state.processor → ⊥
 
 -- or some number of such turns do.
 pub record HasGone (quietly : Bool) (code : List ℕ) (old new : Placed) : Type 0 where
   pub setting : new.setting ≡ old.setting
   pub count : ℕ
-  pub gone : new.station ≡ alone count old.setting code old.station
-  pub quiet : quietly ≡ true → AskNot count old.setting code old.station
+  pub gone : new.local_state ≡ alone count old.setting code old.local_state
+  pub quiet : quietly ≡ true → AskNot count old.setting code old.local_state
 
 -- The processor has stopped, or its next turn is a reference.
+abbrev pub IsStanding : (code : List ℕ) → Placed → Type 0
+IsStanding code a = is_running a.local_state.processor.status ≡ true →
+    IsReference (turn_of a.setting code a.local_state.processor)
+
+-- The processor runs, and its next turn is none.
+abbrev pub IsGoingOn : (code : List ℕ) → Placed → Type 0
+IsGoingOn code a = GoesOn a.setting code a.local_state.processor
+
+-- It has stopped, or its next turn is a reference, or it spins.
 abbrev pub IsStill : (code : List ℕ) → Placed → Type 0
-IsStill code a = IsSettled a.setting code a.station.processor
+IsStill code a = IsSettled a.setting code a.local_state.processor
+
+-- If it is to go quietly, it never asks for its own number alone.
+abbrev pub IsQuiet : (quietly : Bool) → (code : List ℕ) → Placed → Type 0
+IsQuiet quietly code a = quietly ≡ true → NeverAsks a.setting code a.local_state

@@ -1,21 +1,27 @@
 -- How far a search has come.
-use Rattle.std.specs.Prelude.{◌≡◌, ◌⊎◌, ℕ, ◌<◌, ◌≤◌, Bool, false, List, [], Option, Some, None, Contains, length, slice_index, slice_index_or}
-use Rattle.local_reduction.specs.Closing.{Standing, MayMove}
+use Rattle.std.specs.Prelude.{◌≡◌, ◌⊎◌, ℕ, ◌<◌, ◌≤◌, Bool, false, List, [], ◌∷◌, Option, Some, None, Contains, length}
+use Rattle.std.specs.Prelude.{slice_index, slice_index_or}
+use Rattle.local_reduction.specs.Closing.{MacroState, MayMove, HasSpinner}
 use Rattle.local_reduction.specs.Exchanging.{AreAlike, IsMoveOfAny, IsMoveUpTo, IsWayUpTo}
 use Rattle.local_reduction.specs.Forgetting.{kept_by}
+use Rattle.state_graph.specs.Paths.{IsBreadthFirst}
 use Rattle.state_graph.specs.Ranks.{successors_at}
-use Rattle.state_search.specs.declared.tables.Extent.{Extent}
-use Rattle.state_search.specs.Tables.{TableLists, setting_at, means, IsRow}
+use Rattle.state_search.specs.declared.state_tables.Extent.{Extent}
+use Rattle.state_search.specs.StateTables.{TableLists, setting_at, means, IsRow}
 
 -- the state of the row at a place
-abbrev pub state_at : Extent → TableLists → (rows : List (List ℕ)) → ℕ → Standing
+abbrev pub state_at : Extent → TableLists → (rows : List (List ℕ)) → ℕ → MacroState
 state_at e t rows i = means e t (slice_index_or rows i [])
+
+-- Each row but the first is a successor of some row.
+abbrev pub AreAllFound : (rows moves : List (List ℕ)) → Type 0
+AreAllFound rows moves = (v : ℕ) → 0 < v → v < length rows → (k : ℕ) × Contains (successors_at moves k) v
 
 -- The row has this place in the list, to whose end it was added if it was not there.
 pub record IsPlaced (old : List (List ℕ)) (row : List ℕ) (new : List (List ℕ)) (place : ℕ) : Type 0 where
   pub longer : length old ≤ length new
   pub same : (i : ℕ) → i < length old → slice_index_or new i [] ≡ slice_index_or old i []
-  pub others : (i : ℕ) → i < length new → (i < length old) ⊎ (slice_index_or new i [] ≡ row)
+  pub others : (i : ℕ) → i < length new → (i < length old) ⊎ (i ≡ place)
   pub within : place < length new
   pub is : slice_index_or new place [] ≡ row
 
@@ -41,59 +47,77 @@ pub record IsLike (row classes : List ℕ) (p q : ℕ) : Type 0 where
 -- ---- moves
 
 -- The processor runs, and is about to refer to a word.
-abbrev pub CanMove : Extent → (code : List ℕ) → Standing → (processor : ℕ) → Type 0
+abbrev pub CanMove : Extent → (code : List ℕ) → MacroState → (processor : ℕ) → Type 0
 CanMove e code s k = MayMove (setting_at e) code s k
+
+-- A processor runs, and is not about to refer to a word.
+abbrev pub Spinning : Extent → (code : List ℕ) → MacroState → Type 0
+Spinning e code s = HasSpinner (setting_at e) code s
 
 module _ (e : Extent) (code : List ℕ) (classes : List ℕ) where
   -- One reference of a processor, or of one like it, and what it does alone after it, lead from a state to an exchange
   -- of another.
-  abbrev pub Moves : (live : List (List Bool)) → Standing → (processor : ℕ) → Standing → Type 0
+  abbrev pub Moves : (live : List (List Bool)) → MacroState → (processor : ℕ) → MacroState → Type 0
   Moves live s k t = IsMoveUpTo (setting_at e) code (kept_by live) classes s k t
 
   -- such moves lead from one state to another
-  abbrev pub IsReached : (live : List (List Bool)) → Standing → Standing → Type 0
-  IsReached live s t = (way : List (ℕ × Standing)) × IsWayUpTo (setting_at e) code (kept_by live) classes s way t
+  abbrev pub IsReached : (live : List (List Bool)) → MacroState → MacroState → Type 0
+  IsReached live s t = (way : List (ℕ × MacroState)) × IsWayUpTo (setting_at e) code (kept_by live) classes s way t
 
   -- what a look for a move gives: the row that it leads to, or none if there is no move
-  abbrev pub IsNext : TableLists → Standing → (processor : ℕ) → Option (List ℕ) → Type 0
+  abbrev pub IsNext : TableLists → MacroState → (processor : ℕ) → Option (List ℕ) → Type 0
   IsNext t s k None = CanMove e code s k → ⊥
   IsNext t s k (Some row) =
       IsRow e t row × IsMoveOfAny (setting_at e) code (kept_by t.live) classes s k (means e t row)
 
   -- the same up to exchanges
-  abbrev pub IsNextUpTo : TableLists → Standing → (processor : ℕ) → Option (List ℕ) → Type 0
+  abbrev pub IsNextUpTo : TableLists → MacroState → (processor : ℕ) → Option (List ℕ) → Type 0
   IsNextUpTo t s k None = CanMove e code s k → ⊥
   IsNextUpTo t s k (Some row) = IsRow e t row × Moves t.live s k (means e t row)
 
   -- ---- successors
 
   module _ (t : TableLists) (rows : List (List ℕ)) where
-    -- A row is a successor of a state: some move leads to it.
-    abbrev pub IsSuccessor : Standing → (place : ℕ) → Type 0
-    IsSuccessor s v = (v < length rows) × (k : ℕ) × Moves t.live s k (state_at e t rows v)
+    -- A row is a successor of a state: some move leads to it, if no processor spins.
+    abbrev pub IsSuccessor : MacroState → (place : ℕ) → Type 0
+    IsSuccessor s v = (v < length rows) × (Spinning e code s ⊎ ((k : ℕ) × Moves t.live s k (state_at e t rows v)))
 
-    -- One of the places is that of a row to which the move of the processor leads, if it has one.
-    abbrev pub HasSuccessor : Standing → (successors : List ℕ) → (processor : ℕ) → Type 0
+    -- One of the places is that of a row to which the move of the processor leads, if it has one, and no processor
+    -- spins.
+    abbrev pub HasSuccessor : MacroState → (successors : List ℕ) → (processor : ℕ) → Type 0
     HasSuccessor s successors k =
         CanMove e code s k →
-        (v : ℕ) × Contains successors v × (v < length rows) × Moves t.live s k (state_at e t rows v)
+        Spinning e code s
+        ⊎ ((v : ℕ) × Contains successors v × (v < length rows) × Moves t.live s k (state_at e t rows v))
 
-    -- All that is found is reached from the first, and the successors of the first so many states are noted.
-    pub record Searched (moves : List (List ℕ)) (first : Standing) (done : ℕ) : Type 0 where
+    -- All that is found is reached from the first, and the successors of the first this many states are noted.
+    pub record Searched (moves : List (List ℕ)) (first : MacroState) (done : ℕ) : Type 0 where
       pub are_rows : (i : ℕ) → i < length rows → IsRow e t (slice_index_or rows i [])
       pub reached : (i : ℕ) → i < length rows → IsReached t.live first (state_at e t rows i)
       pub filled : 0 < length rows
       pub begins : state_at e t rows 0 ≡ first
+      pub wide : (i : ℕ) → i < length rows → length (slice_index_or rows i []) ≡ length (slice_index_or rows 0 [])
       pub within : done ≤ length rows
       pub noted : length moves ≡ done
+      pub spins : (i : ℕ) → i < done → Spinning e code (state_at e t rows i) → successors_at moves i ≡ i ∷ []
       pub sound : (i v : ℕ) → i < done → Contains (successors_at moves i) v → IsSuccessor (state_at e t rows i) v
       pub complete : (i k : ℕ) → i < done → k < e.processors →
           HasSuccessor (state_at e t rows i) (successors_at moves i) k
+      pub breadth : IsBreadthFirst moves
 
-    -- Besides, these are the successors of the next state by moves of the first so many processors.
-    pub record Expanded (moves : List (List ℕ)) (first : Standing) (successors : List ℕ)
+    -- Besides, these are the successors of the next state by moves of the first this many processors.
+    pub record Expanded (moves : List (List ℕ)) (first : MacroState) (successors : List ℕ)
         (done processors : ℕ) : Type 0 where
       pub searched : Searched moves first done
       pub more : done < length rows
       pub sound : (v : ℕ) → Contains successors v → IsSuccessor (state_at e t rows done) v
       pub complete : (k : ℕ) → k < processors → HasSuccessor (state_at e t rows done) successors k
+      pub found : (v : ℕ) → 0 < v → v < length rows →
+          Contains successors v ⊎ ((k : ℕ) × Contains (successors_at moves k) v)
+
+    -- At least this many are found.
+    pub record AreManyRows (first : MacroState) (least : ℕ) : Type 0 where
+      pub moves : List (List ℕ)
+      pub done : ℕ
+      pub searched : Searched moves first done
+      pub many : least ≤ length rows

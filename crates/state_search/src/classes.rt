@@ -3,7 +3,7 @@
 ghost use Rattle.std.specs.Prelude.{◌≡◌, ◌<◌, ◌≤◌, false, slice_index, IfOk};
 ghost use Rattle.state_search.specs.Search.{AreClasses, AreClassesOf};
 
-use crate::tables::{Extent, Row};
+use crate::state_tables::{Extent, StateVector};
 use std::alloc::{AllocError, Global};
 
 /// The class of each processor, named by the first that is in it: where processors are exchanged, those that stand
@@ -11,7 +11,7 @@ use std::alloc::{AllocError, Global};
 pub fn classes_of<const N: usize>(
     alloc: Global,
     extent: Extent,
-    first: &Row<N>,
+    first: &StateVector<N>,
 ) -> Result<Vec<u8>, AllocError>
     requires room { extent.processors < N }
     requires narrow { N ≤ 65 }
@@ -27,7 +27,7 @@ pub fn classes_of<const N: usize>(
 }
 
 /// The first processor that stands as this one does.
-fn class_of<const N: usize>(extent: Extent, first: &Row<N>, p: u8) -> u8
+fn class_of<const N: usize>(extent: Extent, first: &StateVector<N>, p: u8) -> u8
     requires there { p < N }
     requires narrow { N ≤ 65 }
     ensures alike { slice_index first.now result ≡ slice_index first.now p }

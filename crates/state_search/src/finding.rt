@@ -1,20 +1,22 @@
 //! The search.
 
-ghost use Rattle.std.specs.Prelude.{◌≡◌, ◌+◌, ◌<◌, ◌≤◌, [], ◌∷◌, ◌++◌, List, ℕ, length, slice_index_or, IfOk, IfSome, OnOk};
-ghost use Rattle.local_reduction.specs.Closing.{Standing};
+ghost use Rattle.std.specs.Prelude.{◌≡◌, ◌+◌, ◌<◌, ◌≤◌, [], ◌∷◌, ◌++◌, List, ℕ, length, slice_index_or, IfErr, IfOk};
+ghost use Rattle.std.specs.Prelude.{IfSome, OnOk};
+ghost use Rattle.local_reduction.specs.Closing.{MacroState};
 ghost use Rattle.local_reduction.specs.Live.{HasAllLive};
 ghost use Rattle.state_graph.specs.Ranks.{no_rank};
-ghost use Rattle.state_search.specs.Ends.{AreFound};
-ghost use Rattle.state_search.specs.Memo.{KnowsLists, KnowsStations};
+ghost use Rattle.state_search.specs.Ends.{AreFound, AreMany};
+ghost use Rattle.state_search.specs.TransitionCache.{KnowsLists, KnowsLocalStates};
+ghost use Rattle.state_search.specs.Refusals.{IsGivenUpFor};
 ghost use Rattle.state_search.specs.Rows.{IsRowExchanged};
-ghost use Rattle.state_search.specs.Search.{AreClasses, Expanded, IsLike, IsPlaced, Searched};
-ghost use Rattle.state_search.specs.Tables.{HasGrown, IsRow, means};
+ghost use Rattle.state_search.specs.Search.{AreAllFound, AreClasses, AreManyRows, Expanded, IsLike, IsPlaced, Searched};
+ghost use Rattle.state_search.specs.StateTables.{HasGrown, IsRow, means};
 
-use crate::memo::Memos;
+use crate::observer::SearchObserver;
 use crate::ordering::ordered;
-use crate::refusal::Refusal;
-use crate::tables::{Extent, Row, Tables};
-use crate::watch::Watch;
+use crate::refusal::{MoveRefusal, Refusal};
+use crate::state_tables::{Extent, StateTables, StateVector};
+use crate::transition_cache::TransitionCaches;
 use indexmap::IndexSet;
 use local_memory::Code;
 use state_graph::Successors;
@@ -22,103 +24,124 @@ use std::alloc::Global;
 
 /// All rows that a search has found, in the order in which they are found, and the successors of each.
 #[derive(Drop)]
-pub struct Found<const N: usize> {
-    pub rows: IndexSet<Row<N>>,
+pub struct StateSpace<const N: usize> {
+    pub rows: IndexSet<StateVector<N>>,
     pub moves: Successors,
 }
 
 /// All rows to which references lead from a first one, up to exchanges of processors of one class. How many there are
-/// is told as they are found.
+/// is reported as they are found.
 ///
 /// # Errors
 ///
-/// [`Refusal::States`] if these are as many as `limit`, or more, [`Refusal::Asks`] if a processor asks for its own
+/// [`Refusal::States`] if there are as many as `limit`, or more, [`Refusal::Asks`] if a processor asks for its own
 /// number after a reference while processors are exchanged, [`Refusal::Alone`] and [`Refusal::Memory`].
-pub fn search<const N: usize, G: Watch>(
+pub fn search<const N: usize, G: SearchObserver>(
     alloc: Global,
-    tables: &mut Tables,
-    memos: &mut Memos,
+    state_tables: &mut StateTables,
+    transition_caches: &mut TransitionCaches,
     code: &Code,
     extent: Extent,
     classes: &[u8],
-    first: Row<N>,
+    first: StateVector<N>,
     limit: u32,
-    watch: &mut G,
-) -> Result<Found<N>, Refusal>
-    requires live { HasAllLive code.now tables.old.live }
+    observer: &mut G,
+) -> Result<StateSpace<N>, Refusal>
+    requires live { HasAllLive code.now state_tables.old.live }
     requires classes { AreClasses extent classes.now }
-    requires row { IsRow extent tables.old first }
+    requires row { IsRow extent state_tables.old first }
     requires room { extent.processors < N }
     requires narrow { N ≤ 65 }
-    requires stations { KnowsStations extent.exchanged code.now tables.old memos.old.stations }
-    requires lists { KnowsLists tables.old memos.old.lists }
-    ensures kept { OnOk result (HasGrown tables.old tables.new) }
-    ensures found { IfOk result (λ found. AreFound extent code.now classes.now tables.new found.rows.keys found.moves
-        (means extent tables.old first.entry)) }
-    ensures few { IfOk result (λ found. length found.moves ≤ no_rank) }
-    ensures stations { OnOk result (KnowsStations extent.exchanged code.now tables.new memos.new.stations) }
-    ensures lists { OnOk result (KnowsLists tables.new memos.new.lists) }
+    requires local_states { KnowsLocalStates extent.exchanged code.now state_tables.old
+        transition_caches.old.local_states }
+    requires lists { KnowsLists state_tables.old transition_caches.old.lists }
+    ensures kept { OnOk result (HasGrown state_tables.old state_tables.new) }
+    ensures found { IfOk result
+        (λ found. AreFound extent code.now classes.now state_tables.new found.rows.keys found.moves
+        (means extent state_tables.old first.entry)) }
+    ensures few { IfOk result (λ found. length found.rows.keys < limit) }
+    ensures many { IfErr result (IsGivenUpFor (HasGrown state_tables.old state_tables.new
+        × AreMany extent code.now classes.now
+        state_tables.new (means extent state_tables.old first.entry) limit)) }
+    ensures local_states { OnOk result
+        (KnowsLocalStates extent.exchanged code.now state_tables.new transition_caches.new.local_states) }
+    ensures lists { OnOk result (KnowsLists state_tables.new transition_caches.new.lists) }
 {
-    let mut found = Found {
+    let mut found = StateSpace {
         rows: IndexSet::new(alloc),
         moves: Successors::new(alloc),
     };
     let mut successors = Vec::new(alloc);
-    follow(
-        tables,
-        memos,
+    let followed = follow(
+        state_tables,
+        transition_caches,
         code,
         extent,
         classes,
         first,
         limit,
-        watch,
+        observer,
         &mut successors,
         &mut found,
-    )?;
-    Ok(found)
+    );
+    let _ = found.rows.len();
+    state_tables.are_different();
+    match followed {
+        Ok(()) => Ok(found),
+        Err(refusal) => Err(refusal),
+    }
 }
 
 /// Finds rows, one after the other, until no new one comes. As yet there is none.
-// What is found is the caller's, which a function with so many ends need not drop at each.
-fn follow<const N: usize, G: Watch>(
-    tables: &mut Tables,
-    memos: &mut Memos,
+// What is found is the caller's, which a function with this many ends need not drop at each.
+fn follow<const N: usize, G: SearchObserver>(
+    state_tables: &mut StateTables,
+    transition_caches: &mut TransitionCaches,
     code: &Code,
     extent: Extent,
     classes: &[u8],
-    first: Row<N>,
+    first: StateVector<N>,
     limit: u32,
-    watch: &mut G,
+    observer: &mut G,
     successors: &mut Vec<u32>,
-    found: &mut Found<N>,
+    found: &mut StateSpace<N>,
 ) -> Result<(), Refusal>
-    requires live { HasAllLive code.now tables.old.live }
+    requires live { HasAllLive code.now state_tables.old.live }
     requires classes { AreClasses extent classes.now }
-    requires row { IsRow extent tables.old first }
+    requires row { IsRow extent state_tables.old first }
     requires room { extent.processors < N }
     requires narrow { N ≤ 65 }
-    requires stations { KnowsStations extent.exchanged code.now tables.old memos.old.stations }
-    requires lists { KnowsLists tables.old memos.old.lists }
+    requires local_states { KnowsLocalStates extent.exchanged code.now state_tables.old
+        transition_caches.old.local_states }
+    requires lists { KnowsLists state_tables.old transition_caches.old.lists }
     requires nothing { (found.old.rows.keys ≡ []) × (found.old.moves ≡ []) }
-    ensures kept { OnOk result (HasGrown tables.old tables.new) }
-    ensures searched { OnOk result (Searched extent code.now classes.now tables.new found.new.rows.keys found.new.moves
-        (means extent tables.old first.entry) (length found.new.rows.keys)) }
-    ensures few { OnOk result (length found.new.rows.keys ≤ no_rank) }
-    ensures stations { OnOk result (KnowsStations extent.exchanged code.now tables.new memos.new.stations) }
-    ensures lists { OnOk result (KnowsLists tables.new memos.new.lists) }
+    ensures kept { OnOk result (HasGrown state_tables.old state_tables.new) }
+    ensures searched { OnOk result
+        (Searched extent code.now classes.now state_tables.new found.new.rows.keys found.new.moves
+        (means extent state_tables.old first.entry) (length found.new.rows.keys)) }
+    ensures few { OnOk result (length found.new.rows.keys < limit) }
+    ensures many { IfErr result (IsGivenUpFor (HasGrown state_tables.old state_tables.new
+        × AreManyRows extent code.now classes.now
+        state_tables.new found.new.rows.keys (means extent state_tables.old first.entry) limit)) }
+    ensures local_states { OnOk result
+        (KnowsLocalStates extent.exchanged code.now state_tables.new transition_caches.new.local_states) }
+    ensures lists { OnOk result (KnowsLists state_tables.new transition_caches.new.lists) }
 {
     let Ok(_) = found.rows.insert(first) else {
         return Err(Refusal::Memory);
     };
     for at in 0..limit {
+        // No more than the limit are kept.
+        if found.rows.len() >= limit as usize {
+            return Err(Refusal::States);
+        }
         let Some(row) = found.rows.get_index(at as usize).copied() else {
             return Ok(());
         };
-        watch.found(found.rows.len());
+        observer.found(found.rows.len());
         expand(
-            tables,
-            memos,
+            state_tables,
+            transition_caches,
             code,
             extent,
             classes,
@@ -130,48 +153,61 @@ fn follow<const N: usize, G: Watch>(
         let Ok(()) = found.moves.push(successors.as_slice()) else {
             return Err(Refusal::Memory);
         };
-        // No more than the limit are kept.
-        if found.rows.len() >= limit as usize {
-            return Err(Refusal::States);
-        }
     }
     Err(Refusal::States)
 }
 
 /// Adds the rows to which one reference of each processor leads from the row at a place, and puts their places in place
-/// of the successors before.
+/// of the successors before. A row in which a processor spins is not gone on from: it is its own successor.
 fn expand<const N: usize>(
-    tables: &mut Tables,
-    memos: &mut Memos,
+    state_tables: &mut StateTables,
+    transition_caches: &mut TransitionCaches,
     code: &Code,
     extent: Extent,
     classes: &[u8],
-    rows: &mut IndexSet<Row<N>>,
+    rows: &mut IndexSet<StateVector<N>>,
     at: u32,
-    row: Row<N>,
+    row: StateVector<N>,
     successors: &mut Vec<u32>,
-) -> Result<(), Refusal>
-    requires live { HasAllLive code.now tables.old.live }
+) -> Result<(), MoveRefusal>
+    requires live { HasAllLive code.now state_tables.old.live }
     requires classes { AreClasses extent classes.now }
     requires there { at < length rows.old.keys }
     requires row { slice_index_or rows.old.keys at [] ≡ row }
-    requires is_row { IsRow extent tables.old row }
+    requires is_row { IsRow extent state_tables.old row }
     requires room { extent.processors < N }
     requires narrow { N ≤ 65 }
-    requires stations { KnowsStations extent.exchanged code.now tables.old memos.old.stations }
-    requires lists { KnowsLists tables.old memos.old.lists }
-    ensures kept { OnOk result (HasGrown tables.old tables.new) }
-    ensures stations { OnOk result (KnowsStations extent.exchanged code.now tables.new memos.new.stations) }
-    ensures lists { OnOk result (KnowsLists tables.new memos.new.lists) }
-    ensures searched { OnOk result ((first : Standing) (moves : List (List ℕ)) →
-        Searched extent code.now classes.now tables.old rows.old.keys moves first at →
-        Searched extent code.now classes.now tables.new rows.new.keys (moves ++ successors.new.items ∷ []) first
-        (at + 1)) }
+    requires local_states { KnowsLocalStates extent.exchanged code.now state_tables.old
+        transition_caches.old.local_states }
+    requires lists { KnowsLists state_tables.old transition_caches.old.lists }
+    ensures kept { OnOk result (HasGrown state_tables.old state_tables.new) }
+    ensures local_states { OnOk result
+        (KnowsLocalStates extent.exchanged code.now state_tables.new transition_caches.new.local_states) }
+    ensures lists { OnOk result (KnowsLists state_tables.new transition_caches.new.lists) }
+    ensures searched { OnOk result ((first : MacroState) (moves : List (List ℕ)) →
+        Searched extent code.now classes.now state_tables.old rows.old.keys moves first at →
+        AreAllFound rows.old.keys moves →
+        Searched extent code.now classes.now state_tables.new rows.new.keys (moves ++ successors.new.items ∷ []) first
+        (at + 1) × AreAllFound rows.new.keys (moves ++ successors.new.items ∷ [])) }
 {
     successors.clear();
+    if state_tables.has_spinner(code, extent, &row) {
+        let Ok(()) = successors.push(at) else {
+            return Err(MoveRefusal::Memory);
+        };
+        return Ok(());
+    }
     for p in 0..extent.processors {
         add_successor(
-            tables, memos, code, extent, classes, rows, &row, p, successors,
+            state_tables,
+            transition_caches,
+            code,
+            extent,
+            classes,
+            rows,
+            &row,
+            p,
+            successors,
         )?;
     }
     Ok(())
@@ -180,50 +216,58 @@ fn expand<const N: usize>(
 /// Adds the row to which one reference of a processor leads from a row, up to exchanges, and its place to the
 /// successors, if the processor has one. Of processors of one class that stand alike only the first is asked.
 fn add_successor<const N: usize>(
-    tables: &mut Tables,
-    memos: &mut Memos,
+    state_tables: &mut StateTables,
+    transition_caches: &mut TransitionCaches,
     code: &Code,
     extent: Extent,
     classes: &[u8],
-    rows: &mut IndexSet<Row<N>>,
-    row: &Row<N>,
+    rows: &mut IndexSet<StateVector<N>>,
+    row: &StateVector<N>,
     p: u8,
     successors: &mut Vec<u32>,
-) -> Result<(), Refusal>
-    requires live { HasAllLive code.now tables.old.live }
+) -> Result<(), MoveRefusal>
+    requires live { HasAllLive code.now state_tables.old.live }
     requires classes { AreClasses extent classes.now }
-    requires is_row { IsRow extent tables.old row.now }
+    requires is_row { IsRow extent state_tables.old row.now }
     requires there { p < extent.processors }
     requires room { extent.processors < N }
     requires narrow { N ≤ 65 }
-    requires stations { KnowsStations extent.exchanged code.now tables.old memos.old.stations }
-    requires lists { KnowsLists tables.old memos.old.lists }
-    ensures kept { OnOk result (HasGrown tables.old tables.new) }
-    ensures stations { OnOk result (KnowsStations extent.exchanged code.now tables.new memos.new.stations) }
-    ensures lists { OnOk result (KnowsLists tables.new memos.new.lists) }
+    requires local_states { KnowsLocalStates extent.exchanged code.now state_tables.old
+        transition_caches.old.local_states }
+    requires lists { KnowsLists state_tables.old transition_caches.old.lists }
+    ensures kept { OnOk result (HasGrown state_tables.old state_tables.new) }
+    ensures local_states { OnOk result
+        (KnowsLocalStates extent.exchanged code.now state_tables.new transition_caches.new.local_states) }
+    ensures lists { OnOk result (KnowsLists state_tables.new transition_caches.new.lists) }
     ensures there { OnOk result ((at : ℕ) → at < length rows.old.keys → slice_index_or rows.old.keys at [] ≡ row.now
         → (at < length rows.new.keys) × (slice_index_or rows.new.keys at [] ≡ row.now)) }
-    ensures expanded { OnOk result ((first : Standing) (moves : List (List ℕ)) (at : ℕ) →
+    ensures expanded { OnOk result ((first : MacroState) (moves : List (List ℕ)) (at : ℕ) →
         slice_index_or rows.old.keys at [] ≡ row.now →
-        Expanded extent code.now classes.now tables.old rows.old.keys moves first successors.old.items at p →
-        Expanded extent code.now classes.now tables.new rows.new.keys moves first successors.new.items at (p + 1)) }
+        Expanded extent code.now classes.now state_tables.old rows.old.keys moves first successors.old.items at p →
+        Expanded extent code.now classes.now state_tables.new rows.new.keys moves first successors.new.items at (p +
+        1)) }
 {
     if like_it(extent, classes, row, p).is_some() {
         return Ok(());
     }
-    let Some(next) = tables.next(memos, code, extent, classes, *row, p)? else {
+    let Some(next) = state_tables.next(transition_caches, code, extent, classes, *row, p)? else {
         return Ok(());
     };
     let place = place_of(rows, ordered_from(extent, classes, &next, p))?;
     let Ok(()) = successors.push(place) else {
-        return Err(Refusal::Memory);
+        return Err(MoveRefusal::Memory);
     };
     Ok(())
 }
 
 /// The processor before this one that stands as it does, if processors are exchanged: the nearest of its class, since
 /// in each class the numbers of a row go up.
-fn like_it<const N: usize>(extent: Extent, classes: &[u8], row: &Row<N>, p: u8) -> Option<u8>
+fn like_it<const N: usize>(
+    extent: Extent,
+    classes: &[u8],
+    row: &StateVector<N>,
+    p: u8,
+) -> Option<u8>
     requires classes { AreClasses extent classes.now }
     requires there { p < extent.processors }
     requires room { extent.processors < N }
@@ -247,7 +291,12 @@ fn like_it<const N: usize>(extent: Extent, classes: &[u8], row: &Row<N>, p: u8) 
 }
 
 /// The row with its processors in order, as they were but for one of them. If they are not exchanged it is the row.
-fn ordered_from<const N: usize>(extent: Extent, classes: &[u8], row: &Row<N>, p: u8) -> Row<N>
+fn ordered_from<const N: usize>(
+    extent: Extent,
+    classes: &[u8],
+    row: &StateVector<N>,
+    p: u8,
+) -> StateVector<N>
     requires classes { AreClasses extent classes.now }
     requires there { p < extent.processors }
     requires room { extent.processors < N }
@@ -262,15 +311,18 @@ fn ordered_from<const N: usize>(extent: Extent, classes: &[u8], row: &Row<N>, p:
 }
 
 /// The place of a row, which is added if it is not there.
-fn place_of<const N: usize>(rows: &mut IndexSet<Row<N>>, row: Row<N>) -> Result<u32, Refusal>
+fn place_of<const N: usize>(
+    rows: &mut IndexSet<StateVector<N>>,
+    row: StateVector<N>,
+) -> Result<u32, MoveRefusal>
     requires narrow { N ≤ 65 }
     ensures { IfOk result (IsPlaced rows.old.keys row.entry rows.new.keys) }
 {
     let Ok((place, _)) = rows.insert_full(row) else {
-        return Err(Refusal::Memory);
+        return Err(MoveRefusal::Memory);
     };
     match u32::try_from(place) {
         Ok(place) => Ok(place),
-        Err(_) => Err(Refusal::Memory),
+        Err(_) => Err(MoveRefusal::Memory),
     }
 }

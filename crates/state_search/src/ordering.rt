@@ -1,20 +1,20 @@
 //! Rows in which the numbers of each class of processors go up.
 
-ghost use Rattle.std.specs.Prelude.{◌≡◌, ◌<◌, ◌≤◌, length};
+ghost use Rattle.std.specs.Prelude.{◌≡◌, ◌<◌, ◌≤◌, length, slice_index};
 ghost use Rattle.state_search.specs.Rows.{IsRowExchanged, traded_row};
 
-use crate::tables::Row;
+use crate::state_tables::StateVector;
 
 /// The row with its processors exchanged, each with one of its class, so that in each class their numbers go up, if
 /// they did but for the number of one processor. What holders stand at the places of the processors trade with them;
 /// there may be none.
 // The contract asks for no order: a row that is not in order costs states, and nothing else.
 pub fn ordered<const N: usize>(
-    row: &Row<N>,
+    row: &StateVector<N>,
     classes: &[u8],
     processor: usize,
     holders: &mut [u8],
-) -> Row<N>
+) -> StateVector<N>
     requires few { length classes.now < N }
     requires narrow { N ≤ 65 }
     requires there { processor < length classes.now }
@@ -34,7 +34,7 @@ pub fn ordered<const N: usize>(
 /// Trades two processors of one class if the first has the greater number. Gives the place at which then stands what
 /// stood at one of them.
 fn step<const N: usize>(
-    row: &mut Row<N>,
+    row: &mut StateVector<N>,
     classes: &[u8],
     first: usize,
     second: usize,
@@ -52,13 +52,31 @@ fn step<const N: usize>(
     if classes[first] != classes[second] || row[first] <= row[second] {
         return at;
     }
-    trade(row, first, second);
-    trade_holders(holders, first, second);
+    trade(row, classes, first, second, holders);
     if at == first { second } else { first }
 }
 
+/// Trades two processors of one class in a row, and the holders that stand at their places; there may be none.
+pub fn trade<const N: usize>(
+    row: &mut StateVector<N>,
+    classes: &[u8],
+    first: usize,
+    second: usize,
+    holders: &mut [u8],
+)
+    requires few { length classes.now < N }
+    requires narrow { N ≤ 65 }
+    requires first { first < length classes.now }
+    requires second { second < length classes.now }
+    requires alike { slice_index classes.now first ≡ slice_index classes.now second }
+    ensures { IsRowExchanged classes.now row.old row.new }
+{
+    trade_numbers(row, first, second);
+    trade_holders(holders, first, second);
+}
+
 /// Trades two places.
-fn trade<const N: usize>(row: &mut Row<N>, first: usize, second: usize)
+fn trade_numbers<const N: usize>(row: &mut StateVector<N>, first: usize, second: usize)
     requires first { first < N }
     requires second { second < N }
     requires narrow { N ≤ 65 }

@@ -3,14 +3,14 @@
 ghost use Rattle.std.specs.Prelude.{◌<◌, ◌≤◌, OnOk};
 ghost use Rattle.local_reduction.specs.Live.{HasAllLive};
 ghost use Rattle.state_search.specs.Ends.{AreRows};
-ghost use Rattle.state_search.specs.Memo.{KnowsLists, KnowsStations};
+ghost use Rattle.state_search.specs.TransitionCache.{KnowsLists, KnowsLocalStates};
 ghost use Rattle.state_search.specs.Search.{AreClasses};
-ghost use Rattle.state_search.specs.Tables.{HasGrown, IsRow};
+ghost use Rattle.state_search.specs.StateTables.{HasGrown, IsRow};
 
-use crate::memo::Memos;
 use crate::ordering::ordered;
-use crate::refusal::Refusal;
-use crate::tables::{Extent, Row, Tables};
+use crate::refusal::MoveRefusal;
+use crate::state_tables::{Extent, StateTables, StateVector};
+use crate::transition_cache::TransitionCaches;
 use indexmap::IndexSet;
 use local_memory::Code;
 use std::alloc::{AllocError, Global};
@@ -30,36 +30,37 @@ pub struct Walk {
 ///
 /// # Errors
 ///
-/// As of [`search`](crate::search).
+/// [`MoveRefusal`], as of [`next`](Tables::next).
 pub fn movers_of<const N: usize>(
     alloc: Global,
-    tables: &mut Tables,
-    memos: &mut Memos,
+    state_tables: &mut StateTables,
+    transition_caches: &mut TransitionCaches,
     code: &Code,
     extent: Extent,
     classes: &[u8],
-    rows: &IndexSet<Row<N>>,
+    rows: &IndexSet<StateVector<N>>,
     path: &[u32],
-) -> Result<Walk, Refusal>
-    requires live { HasAllLive code.now tables.old.live }
+) -> Result<Walk, MoveRefusal>
+    requires live { HasAllLive code.now state_tables.old.live }
     requires classes { AreClasses extent classes.now }
-    requires rows { AreRows extent tables.old rows.now.keys }
+    requires rows { AreRows extent state_tables.old rows.now.keys }
     requires room { extent.processors < N }
     requires narrow { N ≤ 65 }
-    requires stations { KnowsStations extent.exchanged code.now tables.old memos.old.stations }
-    requires lists { KnowsLists tables.old memos.old.lists }
-    ensures kept { OnOk result (HasGrown tables.old tables.new) }
+    requires local_states { KnowsLocalStates extent.exchanged code.now state_tables.old
+        transition_caches.old.local_states }
+    requires lists { KnowsLists state_tables.old transition_caches.old.lists }
+    ensures kept { OnOk result (HasGrown state_tables.old state_tables.new) }
 {
     let Ok(mut holders) = each_at_its_own(alloc, extent.processors) else {
-        return Err(Refusal::Memory);
+        return Err(MoveRefusal::Memory);
     };
     let mut movers = Vec::new(alloc);
     let mut at = 0;
     for place in path {
         let next = *place as usize;
         let mover = mover(
-            tables,
-            memos,
+            state_tables,
+            transition_caches,
             code,
             extent,
             classes,
@@ -72,7 +73,7 @@ pub fn movers_of<const N: usize>(
             break;
         };
         let Ok(()) = movers.push(mover) else {
-            return Err(Refusal::Memory);
+            return Err(MoveRefusal::Memory);
         };
         at = next;
     }
@@ -91,26 +92,28 @@ fn each_at_its_own(alloc: Global, processors: u8) -> Result<Vec<u8>, AllocError>
 /// Who stands at the place from which a reference leads from one row to the next, and trades the holders as it does.
 /// None if no reference leads there.
 fn mover<const N: usize>(
-    tables: &mut Tables,
-    memos: &mut Memos,
+    state_tables: &mut StateTables,
+    transition_caches: &mut TransitionCaches,
     code: &Code,
     extent: Extent,
     classes: &[u8],
-    rows: &IndexSet<Row<N>>,
+    rows: &IndexSet<StateVector<N>>,
     from: usize,
     to: usize,
     holders: &mut [u8],
-) -> Result<Option<u8>, Refusal>
-    requires live { HasAllLive code.now tables.old.live }
+) -> Result<Option<u8>, MoveRefusal>
+    requires live { HasAllLive code.now state_tables.old.live }
     requires classes { AreClasses extent classes.now }
-    requires rows { AreRows extent tables.old rows.now.keys }
+    requires rows { AreRows extent state_tables.old rows.now.keys }
     requires room { extent.processors < N }
     requires narrow { N ≤ 65 }
-    requires stations { KnowsStations extent.exchanged code.now tables.old memos.old.stations }
-    requires lists { KnowsLists tables.old memos.old.lists }
-    ensures kept { OnOk result (HasGrown tables.old tables.new) }
-    ensures stations { OnOk result (KnowsStations extent.exchanged code.now tables.new memos.new.stations) }
-    ensures lists { OnOk result (KnowsLists tables.new memos.new.lists) }
+    requires local_states { KnowsLocalStates extent.exchanged code.now state_tables.old
+        transition_caches.old.local_states }
+    requires lists { KnowsLists state_tables.old transition_caches.old.lists }
+    ensures kept { OnOk result (HasGrown state_tables.old state_tables.new) }
+    ensures local_states { OnOk result
+        (KnowsLocalStates extent.exchanged code.now state_tables.new transition_caches.new.local_states) }
+    ensures lists { OnOk result (KnowsLists state_tables.new transition_caches.new.lists) }
 {
     let Some(row) = rows.get_index(from).copied() else {
         return Ok(None);
@@ -118,33 +121,44 @@ fn mover<const N: usize>(
     let Some(next) = rows.get_index(to).copied() else {
         return Ok(None);
     };
-    mover_between(tables, memos, code, extent, classes, row, next, holders)
+    mover_between(
+        state_tables,
+        transition_caches,
+        code,
+        extent,
+        classes,
+        row,
+        next,
+        holders,
+    )
 }
 
 /// The same between two rows.
 fn mover_between<const N: usize>(
-    tables: &mut Tables,
-    memos: &mut Memos,
+    state_tables: &mut StateTables,
+    transition_caches: &mut TransitionCaches,
     code: &Code,
     extent: Extent,
     classes: &[u8],
-    row: Row<N>,
-    to: Row<N>,
+    row: StateVector<N>,
+    to: StateVector<N>,
     holders: &mut [u8],
-) -> Result<Option<u8>, Refusal>
-    requires live { HasAllLive code.now tables.old.live }
+) -> Result<Option<u8>, MoveRefusal>
+    requires live { HasAllLive code.now state_tables.old.live }
     requires classes { AreClasses extent classes.now }
-    requires row { IsRow extent tables.old row }
+    requires row { IsRow extent state_tables.old row }
     requires room { extent.processors < N }
     requires narrow { N ≤ 65 }
-    requires stations { KnowsStations extent.exchanged code.now tables.old memos.old.stations }
-    requires lists { KnowsLists tables.old memos.old.lists }
-    ensures kept { OnOk result (HasGrown tables.old tables.new) }
-    ensures stations { OnOk result (KnowsStations extent.exchanged code.now tables.new memos.new.stations) }
-    ensures lists { OnOk result (KnowsLists tables.new memos.new.lists) }
+    requires local_states { KnowsLocalStates extent.exchanged code.now state_tables.old
+        transition_caches.old.local_states }
+    requires lists { KnowsLists state_tables.old transition_caches.old.lists }
+    ensures kept { OnOk result (HasGrown state_tables.old state_tables.new) }
+    ensures local_states { OnOk result
+        (KnowsLocalStates extent.exchanged code.now state_tables.new transition_caches.new.local_states) }
+    ensures lists { OnOk result (KnowsLists state_tables.new transition_caches.new.lists) }
 {
     for p in 0..extent.processors {
-        if let Some(next) = tables.next(memos, code, extent, classes, row, p)? {
+        if let Some(next) = state_tables.next(transition_caches, code, extent, classes, row, p)? {
             if ordered(&next, classes, usize::from(p), &mut []) == to {
                 let mover = holders.get(usize::from(p)).copied();
                 ordered(&next, classes, usize::from(p), holders);

@@ -1,7 +1,7 @@
 //! Lists of words, of which those past the last are zero.
 
-ghost use Rattle.std.specs.Prelude.{◌≡◌, ◌<◌, ◌≤◌, ◌^◌, IfOk, slice_index, slice_set, vec_len};
-ghost use Rattle.state_search.specs.Words.{IsWritten, HasSameWords};
+ghost use Rattle.std.specs.Prelude.{◌≡◌, ◌↔◌, ◌<◌, ◌≤◌, ◌^◌, IfOk, IsTrue, slice_index, slice_set, vec_len};
+ghost use Rattle.state_search.specs.Words.{EndsInZero, IsTrimmed, IsWritten, HasSameWords};
 
 use std::alloc::AllocError;
 
@@ -18,7 +18,8 @@ pub fn word_of(words: &[u32], place: u32) -> u32
 
 /// The same words, but for one.
 pub fn with_word(words: &Vec<u32>, place: u32, value: u32) -> Result<Vec<u32>, AllocError>
-    ensures { IfOk result (λ v. IsWritten words.now.items place value v.items) }
+    ensures written { IfOk result (λ v. IsWritten words.now.items place value v.items) }
+    ensures trimmed { IfOk result (λ v. IsTrimmed v.items) }
 {
     let mut written = with_room(words, place as usize + 1)?;
     write(&mut written, place as usize, value);
@@ -26,7 +27,7 @@ pub fn with_word(words: &Vec<u32>, place: u32, value: u32) -> Result<Vec<u32>, A
     Ok(written)
 }
 
-/// The same words, of which so many are there.
+/// The same words, of which this many are there.
 fn with_room(words: &Vec<u32>, count: usize) -> Result<Vec<u32>, AllocError>
     ensures same { IfOk result (λ v. HasSameWords words.now.items v.items) }
     ensures room { IfOk result (λ v. count ≤ vec_len v) }
@@ -54,9 +55,20 @@ fn write(words: &mut Vec<u32>, place: usize, value: u32)
 
 /// Takes away the zeros at the end.
 pub fn trim(words: &mut Vec<u32>)
-    ensures { HasSameWords words.old.items words.new.items }
+    ensures same { HasSameWords words.old.items words.new.items }
+    ensures trimmed { IsTrimmed words.new.items }
 {
-    while let Some(0) = words.last() {
+    while ends_in_zero(words) {
         words.pop();
+    }
+}
+
+/// Whether the last is zero.
+fn ends_in_zero(words: &Vec<u32>) -> bool
+    ensures { IsTrue result ↔ EndsInZero words.now.items }
+{
+    match words.last() {
+        Some(word) => *word == 0,
+        None => false,
     }
 }

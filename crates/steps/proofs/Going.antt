@@ -3,11 +3,12 @@ use Rattle.std.proofs.Common.{◌≡◌, ℕ, List, [], ◌∷◌, ◌++◌, ref
 use Rattle.steps.specs.Answered.{Answer}
 use Rattle.steps.specs.Groups.{GroupsGoOn, groups_after, groups_from, groups_of, no_groups}
 
-more_from : (groups : List (List ℕ)) (told : List Answer) (a : Answer) →
-    groups_from groups (told ++ a ∷ []) ≡ groups_after (groups_from groups told) a.step a.outcome
+more_from : (groups : List (List ℕ)) (given_answers : List Answer) (a : Answer) →
+    groups_from groups (given_answers ++ a ∷ []) ≡ groups_after (groups_from groups given_answers) a.step a.outcome
 more_from groups [] a = refl
-more_from groups (x ∷ told) a = more_from (groups_after groups x.step x.outcome) told a
+more_from groups (x ∷ given_answers) a = more_from (groups_after groups x.step x.outcome) given_answers a
 
+-- No steps leave each group empty, and one step more changes the groups by what it did.
 pub groups_more : GroupsGoOn
 unfolding groups_of
-groups_more = record { none = refl; more = λ told a. more_from no_groups told a }
+groups_more = record { none = refl; more = λ given_answers a. more_from no_groups given_answers a }

@@ -1,7 +1,8 @@
 -- The answers of steps.
 use Rattle.std.specs.Prelude.{Bool, true, false}
 use Rattle.steps.specs.declared.step.Outcome.{Outcome}
-use Rattle.steps.specs.declared.step.Outcome.TheVariants.{Retired, Issued, Stopped, Moved, Combined, Served, Answered, Poked, Stalled}
+use Rattle.steps.specs.declared.step.Outcome.TheVariants.{Retired, Issued, Stopped, Moved, Combined, Served, Answered}
+use Rattle.steps.specs.declared.step.Outcome.TheVariants.{Poked, Stalled}
 
 abbrev pub is_stalled : Outcome → Bool
 is_stalled Stalled = true

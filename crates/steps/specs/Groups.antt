@@ -1,5 +1,5 @@
--- For whom the request of a leader stands: the processors whose requests were combined into it, in the order in which they are
--- served.
+-- For whom the request of a leader stands: the processors whose requests were combined into it, in the order in which
+-- they are served.
 use Rattle.std.specs.Prelude.{◌≡◌, ℕ, List, [], ◌∷◌, ◌++◌, slice_index_or, slice_set, replicate}
 use Rattle.steps.specs.declared.step.Step.{Step}
 use Rattle.steps.specs.declared.step.Step.TheVariants as step
@@ -23,18 +23,18 @@ issued groups _ = groups
 abbrev pub joined : List (List ℕ) → (first second : ℕ) → List (List ℕ)
 joined groups first second = slice_set groups first (group_in groups first ++ group_in groups second)
 
--- the groups behind a step
+-- the groups after a step
 abbrev pub groups_after : List (List ℕ) → Step → Outcome → List (List ℕ)
 groups_after groups s Issued = issued groups s
 groups_after groups s (Combined first second) = joined groups first second
 groups_after groups s _ = groups
 
--- the groups behind a list of steps
+-- the groups after a list of steps
 abbrev pub groups_from : List (List ℕ) → List Answer → List (List ℕ)
 groups_from groups [] = groups
-groups_from groups (a ∷ told) = groups_from (groups_after groups a.step a.outcome) told
+groups_from groups (a ∷ given_answers) = groups_from (groups_after groups a.step a.outcome) given_answers
 
--- the groups behind a run
+-- the groups after a run
 unfoldable pub groups_of : List Answer → List (List ℕ)
 groups_of answers = groups_from no_groups answers
 
@@ -43,4 +43,5 @@ groups_of answers = groups_from no_groups answers
 -- They go on with each step.
 pub record GroupsGoOn : Type 0 where
   pub none : groups_of [] ≡ no_groups
-  pub more : (told : List Answer) (a : Answer) → groups_of (told ++ a ∷ []) ≡ groups_after (groups_of told) a.step a.outcome
+  pub more : (given_answers : List Answer) (a : Answer) →
+      groups_of (given_answers ++ a ∷ []) ≡ groups_after (groups_of given_answers) a.step a.outcome

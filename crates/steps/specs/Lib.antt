@@ -1,4 +1,4 @@
 pub mod Answers
 pub mod Answered
 pub mod Groups
-pub mod Notes
+pub mod StepObserver

@@ -53,7 +53,12 @@ impl Groups {
     /// # Errors
     ///
     /// [`AllocError`] where there is no memory for it.
-    pub fn note(&mut self, alloc: Global, step: &Step, outcome: &Outcome) -> Result<(), AllocError>
+    pub fn observe(
+        &mut self,
+        alloc: Global,
+        step: &Step,
+        outcome: &Outcome,
+    ) -> Result<(), AllocError>
         ensures { OnOk result (self.new ≡ groups_after self.old step.now outcome.now) }
     {
         match *outcome {

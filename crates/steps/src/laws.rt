@@ -2,7 +2,7 @@
 
 ghost use Rattle.steps.specs.Groups.{GroupsGoOn};
 
-/// Behind no step there are no groups, and they go on with each.
+/// After no step there are no groups, and they go on with each.
 #[tactic(auto, using(crate::proofs::Going::groups_more))]
 pub fn groups_go_on()
     ensures { GroupsGoOn }

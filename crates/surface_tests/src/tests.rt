@@ -1,5 +1,5 @@
-//! From single words to the commands of the program. What instructions do is the RISC-V manual's; all other values are worked out
-//! by hand.
+//! From single words to the commands of the program. What instructions do is the RISC-V manual's; all other values are
+//! worked out by hand.
 
 ghost use Rattle.std.specs.Prelude.{◌≡◌, [], IfOk};
 ghost use Rattle.machine_steps.specs.Machines.{AreHome, IsIdle};
@@ -29,7 +29,7 @@ use std::fmt::Debug;
 use std::process::Abort;
 use std::test::Fail;
 
-/// Ends the test where the two differ, and tells them and the case that they are of ([`assert_same!`]).
+/// Ends the test where the two differ, and says them and the case that they are of ([`assert_same!`]).
 fn same<T: PartialEq + Debug, A: Debug>(rt: &impl Abort, found: &T, wanted: &T, at: &A) {
     assert_eq!(rt; found, wanted, "{at:?}");
 }

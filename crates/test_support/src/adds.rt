@@ -19,7 +19,8 @@ fn register(processor: u8, register: u8, value: u32) -> Step {
     })
 }
 
-/// The writes by which word 0 is this byte, and each of these processors has its addend in `a1` and the word's address in `a2`.
+/// The writes by which word 0 is this byte, and each of these processors has its addend in `a1` and the word's address
+/// in `a2`.
 ///
 /// # Errors
 ///
@@ -68,7 +69,7 @@ fn enter_pokes(log: &mut Logged, pokes: &[Step]) -> Result<(), Fail> {
     Ok(())
 }
 
-/// Takes and enters so many writes of one shared byte.
+/// Takes and enters this many writes of one shared byte.
 ///
 /// # Errors
 ///
@@ -84,7 +85,7 @@ pub fn poke_often(log: &mut Logged, count: u32) -> Result<(), Fail> {
     Ok(())
 }
 
-/// The machine of a text, behind the writes of [`add_pokes`].
+/// The machine of a text, after the writes of [`add_pokes`].
 ///
 /// # Errors
 ///
@@ -145,8 +146,8 @@ pub static COMBINED_ADDS: [Step; 18] = [
     Step::Turn(3),
 ];
 
-/// What the step at this place of [`COMBINED_ADDS`] does: the requests are sent and combine, one service answers all, and each processor
-/// finds what those before it in the order 0, 2, 1, 3 have left.
+/// What the step at this place of [`COMBINED_ADDS`] does: the requests are sent and combine, one service answers all,
+/// and each processor finds what those before it in the order 0, 2, 1, 3 have left.
 pub fn combined_add(place: usize) -> Outcome {
     match place {
         0..=3 => Outcome::Issued,
@@ -165,7 +166,7 @@ pub fn combined_add(place: usize) -> Outcome {
     }
 }
 
-/// Takes and enters the first so many of [`COMBINED_ADDS`], each of which does what it is to do.
+/// Takes and enters the first this many of [`COMBINED_ADDS`], each of which does what it is to do.
 ///
 /// # Errors
 ///

@@ -1,15 +1,15 @@
 //! What the words of a case mean for a machine.
 //!
-//! - Steps: `turn P`, `up S W`, `serve M`, `down S W`, `poke P R V` of register R, or of `pc` as 32, `poke_local P A V`,
-//!   `poke_shared A V`.
+//! - Steps: `turn P`, `up S W`, `serve M`, `down S W`, `poke P R V` of register R, or of `pc` as 32, `poke_local P A
+//! V`, `poke_shared A V`.
 //! - What they do: `issued`, `moved`, `combined FIRST SECOND`, `served LEADER`, `answered TO`, `answered_two TO TO`,
 //!   `answered_three TO TO TO`, `poked`, `stalled`;
 //!   `wrote A W V` where the instruction at A, whose word is W, has retired and written V to a register, `retired A W`
 //!   where it has written none, `printed A W V` where it has given V to the console; `halted V`, `faulted N`.
 //! - Further calls: `whole P` takes a whole instruction, `drain` drains at once, `drain_by_steps` by the steps that the
 //!   machine names; `next` is the step that a drain takes next.
-//! - Readers: `pc P`, `register P R`, `status P`, `byte P A`, `word I`, `idle`, and `blank P`, whether all registers of a
-//!   processor are 0.
+//! - Readers: `pc P`, `register P R`, `status P`, `byte P A`, `word I`, `idle`, and `blank P`, whether all registers
+//! of a processor are 0.
 
 use crate::words::{Words, low, said};
 use decode::encode;
@@ -81,7 +81,7 @@ fn seconds_words(seconds: Seconds) -> Words<'static> {
     }
 }
 
-/// What an instruction that retired tells.
+/// What an instruction that retired says.
 fn retired_words(retired: &Retired) -> Words<'static> {
     let word = encode(&retired.insn);
     match (retired.out, retired.result) {

@@ -22,16 +22,17 @@ const A1: u8 = 11;
 pub struct Case {
     /// What the case shows.
     pub name: &'static str,
-    /// `machine`, and its `k`, `c`, `b` and number of shared words. Its `r` is 1, that of `machine_2` is 2, and that of `machine_3` 3.
+    /// `machine`, and its `k`, `c`, `b` and number of shared words. Its `r` is 1, that of `machine_2` is 2, and that
+    /// of `machine_3` 3.
     pub machine: &'static str,
     /// The program that it opens on.
     pub program: &'static Program<'static>,
     /// What is poked before all else. Beside the pokes of steps, `word I V` writes shared word I, byte by byte.
     pub pokes: &'static [&'static str],
-    /// Lines of what is asked, with the answer that each call of the line has to have behind a colon. Where a step stalls,
-    /// nothing that is seen of the machine may change.
+    /// Lines of what is asked, with the answer that each call of the line has to have after a colon. Where a step
+    /// stalls, nothing that is seen of the machine may change.
     pub calls: &'static [&'static str],
-    /// The serial order that the outcomes of all steps tell, as turns and pokes. A drain at once tells of none.
+    /// The serial order that the outcomes of all steps say, as turns and pokes. A drain at once says of none.
     pub order: &'static str,
 }
 
@@ -39,7 +40,7 @@ pub struct Case {
 ///
 /// # Errors
 ///
-/// The first answer that is not the wanted one, what a case cannot be read for, and want of memory.
+/// The first answer that is not the wanted one, what a case cannot be read for, and out of memory.
 pub fn check(alloc: Global, cases: &[Case]) -> Result<(), Fail> {
     for case in cases {
         run(alloc, case)?;
@@ -60,7 +61,7 @@ pub fn check_orders(alloc: Global, cases: &[Case]) -> Result<(), Fail> {
     Ok(())
 }
 
-/// Refuses the case at which the two differ, and tells them.
+/// Refuses the case at which the two differ, and says them.
 fn same<T: PartialEq + Debug, A: Debug>(found: &T, wanted: &T, at: &A) -> Result<(), Fail> {
     if found == wanted {
         return Ok(());
@@ -204,12 +205,12 @@ fn ask(alloc: Global, watched: &mut Watched, asked: Words) -> Result<Words<'stat
 /// Takes a step. One that stalls has to leave all that is seen of the machine.
 fn take(alloc: Global, watched: &mut Watched, step: Step) -> Result<Words<'static>, AllocError> {
     let before = seen(alloc, &watched.machine)?;
-    let told = watched.apply(step)?;
+    let observed_step = watched.apply(step)?;
     let after = seen(alloc, &watched.machine)?;
-    if told.verb == "stalled" && after.as_slice() != before.as_slice() {
+    if observed_step.verb == "stalled" && after.as_slice() != before.as_slice() {
         return Ok(said("stalled_and_changed", [0; 4]));
     }
-    Ok(told)
+    Ok(observed_step)
 }
 
 /// What is seen of a machine's first four processors and of its first words.

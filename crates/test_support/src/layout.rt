@@ -6,8 +6,8 @@ use elf_image::Layout;
 use std::alloc::{AllocError, Global};
 use std::fmt::Write;
 
-/// Tells what a layout places: the words of code, the bytes of local and of shared memory where there are any, and the entry where it
-/// is not 0x00010000. All are hex digits, with `*N` behind a word or a byte that stands N times in turn.
+/// Tells what a layout places: the words of code, the bytes of local and of shared memory where there are any, and the
+/// entry where it is not 0x00010000. All are hex digits, with `*N` after a word or a byte that stands N times in turn.
 ///
 /// # Errors
 ///
@@ -20,7 +20,7 @@ pub fn layout_text(alloc: Global, layout: &Layout) -> Result<String, AllocError>
     if layout.entry != 0x0001_0000 {
         write!(text, "entry {:08x} ", layout.entry)?;
     }
-    // The blank behind the last.
+    // The blank after the last.
     let _ = text.pop();
     Ok(text)
 }
@@ -34,7 +34,7 @@ fn push_section(text: &mut String, name: &str, bytes: &[u8]) -> Result<(), Alloc
     push_runs(text, 1, bytes)
 }
 
-/// Tells pieces of so many bytes, equal ones once.
+/// Tells pieces of this many bytes, equal ones once.
 fn push_runs(text: &mut String, size: usize, bytes: &[u8]) -> Result<(), AllocError>
     requires { 0 < size }
 {
@@ -51,7 +51,7 @@ fn push_runs(text: &mut String, size: usize, bytes: &[u8]) -> Result<(), AllocEr
     push_run(text, last, count)
 }
 
-/// Tells a piece that stands so many times, its highest byte first.
+/// Tells a piece that stands this many times, its highest byte first.
 fn push_run(text: &mut String, piece: &[u8], count: u32) -> Result<(), AllocError> {
     for byte in piece.iter().rev() {
         write!(text, "{byte:02x}")?;

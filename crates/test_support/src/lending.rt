@@ -1,7 +1,7 @@
 //! Values that are lent.
 
-/// What a body answers that looks at a value, which is dropped behind that. A function that owns a machine or a log pays in each of its
-/// comparisons for having to drop it, and one that borrows it does not.
+/// What a body answers that looks at a value, which is dropped after that. A function that owns a machine or a log
+/// pays in each of its comparisons for having to drop it, and one that borrows it does not.
 pub fn lend<T: Drop, A, F: FnOnce(&mut T) -> A>(mut value: T, body: F) -> A
     requires { F.IsAlwaysCallable body }
 {

@@ -24,8 +24,9 @@ loop: amoadd.w x8, x7, (x5)
 bad: ebreak
 ";
 
-/// The report of [`HUNDRED_ADDS`] on so many processors, which come to this sum. Three instructions at the beginning, three for
-/// each of the hundred adds, and eight behind them, of which the last halts and does not retire: 311. `ecall` stands at 0x00010038.
+/// The report of [`HUNDRED_ADDS`] on this many processors, which come to this sum. Three instructions at the
+/// beginning, three for each of the hundred adds, and eight after them, of which the last halts and does not retire:
+/// 311. `ecall` stands at 0x00010038.
 ///
 /// # Errors
 ///

@@ -23,15 +23,15 @@ impl<W: Taken + Drop, E: Taken + Drop> Ran<W, E> {
     ///
     /// Both, where they differ.
     pub fn comes_to(self, status: u8, out: &[u8], err: &str) -> Result<(), Fail> {
-        let found = self.told();
-        let wanted = Told { status, err, out };
+        let found = self.observed_step();
+        let wanted = Observed { status, err, out };
         if found == wanted {
             return Ok(());
         }
         Err(Fail::new(format_args!("{found:?}, and not {wanted:?}")))
     }
 
-    /// Compares the same where there was memory. Else it told that there was none, and has written nothing.
+    /// Compares the same where there was memory. Else it reported that there was none, and has written nothing.
     ///
     /// # Errors
     ///
@@ -43,9 +43,9 @@ impl<W: Taken + Drop, E: Taken + Drop> Ran<W, E> {
         self.comes_to(status, out, err)
     }
 
-    /// What it tells: on standard error a text.
-    fn told(&self) -> Told<'_> {
-        Told {
+    /// What it says: on standard error a text.
+    fn observed_step(&self) -> Observed<'_> {
+        Observed {
             status: self.status,
             err: str::from_utf8(self.err.taken()).unwrap_or("no text"),
             out: self.out.taken(),
@@ -53,16 +53,16 @@ impl<W: Taken + Drop, E: Taken + Drop> Ran<W, E> {
     }
 }
 
-/// What a command tells.
+/// What a command says.
 #[derive(Clone, Copy, Debug, PartialEq, Eq, Drop)]
-struct Told<'a> {
+struct Observed<'a> {
     status: u8,
     err: &'a str,
     out: &'a [u8],
 }
 
-/// What a command comes to with these devices for standard output and standard error. The command is a call with two writers,
-/// which stand between bars.
+/// What a command comes to with these devices for standard output and standard error. The command is a call with two
+/// writers, which stand between bars.
 #[macro_export]
 macro_rules! ran {
     ($out_device:expr, $err_device:expr, |$out:ident, $err:ident| $command:expr) => {{

@@ -8,8 +8,8 @@ pub const ONE_TURN: [u8; 24] = [
     1, 0, 0, 0, 0, 0, 0, 0, 0, 0, 0, 0, // the record
 ];
 
-/// Four processors add 1, 2, 4 and 8 to shared word 0, which is 10. The requests of 0 and 2 meet at stage 0, those of 1 and 3
-/// do, and both groups meet at stage 1.
+/// Four processors add 1, 2, 4 and 8 to shared word 0, which is 10. The requests of 0 and 2 meet at stage 0, those of
+/// 1 and 3 do, and both groups meet at stage 1.
 pub const FOUR_ADDS: [[u8; 12]; 27] = [
     [5, 0, 11, 0, 0, 0, 0, 0, 1, 0, 0, 0],
     [5, 1, 11, 0, 0, 0, 0, 0, 2, 0, 0, 0],

@@ -1,4 +1,4 @@
-//! A machine, and what the outcomes of its steps tell: the serial order, and what retired.
+//! A machine, and what the outcomes of its steps say: the serial order, and what retired.
 
 ghost use Rattle.std.specs.Prelude.{◌<◌};
 
@@ -57,7 +57,7 @@ impl Watched {
         }
     }
 
-    /// Takes a step, and learns from its outcome, which it tells. Each step has a part of the serial order: a turn
+    /// Takes a step, and learns from its outcome, which it says. Each step has a part of the serial order: a turn
     /// whose instruction retires at once, or that stops the processor, the processor; a service the
     /// group of its leader; a poke itself; all others nothing.
     pub fn apply(&mut self, step: Step) -> Result<Words<'static>, AllocError> {
@@ -74,7 +74,7 @@ impl Watched {
         Ok(outcome_words(outcome))
     }
 
-    /// Takes a whole instruction, and learns from its outcome, which it tells.
+    /// Takes a whole instruction, and learns from its outcome, which it says.
     pub(crate) fn one(&mut self, p: u8) -> Result<Words<'static>, AllocError> {
         let outcome = self.machine.one(p);
         match outcome {

@@ -1,15 +1,15 @@
-//! Words of cases: a verb and numbers, decimal ones, or hex digits behind `0x`. A line of a case is what is asked, with commas
-//! between calls, and behind a colon what each is to answer.
+//! Words of cases: a verb and numbers, decimal ones, or hex digits after `0x`. A line of a case is what is asked, with
+//! commas between calls, and after a colon what each is to answer.
 
 use std::num::ParseIntError;
 use std::test::Fail;
 
-/// A verb and its numbers, with zeros behind them.
+/// A verb and its numbers, with zeros after them.
 #[derive(Clone, Copy, Debug, PartialEq, Eq, Drop)]
 pub struct Words<'a> {
-    /// What is asked or told.
+    /// What is asked or reported.
     pub verb: &'a str,
-    /// The numbers behind it.
+    /// The numbers after it.
     pub numbers: [u32; 4],
 }
 

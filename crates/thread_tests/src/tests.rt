@@ -1,9 +1,11 @@
 //! From single bytes to the reports of runs.
 
+mod cancelled;
 mod consoles;
 mod listed;
 mod loans;
 mod passes;
+mod refusals;
 mod rounds;
 mod runs;
 mod stray;
@@ -13,7 +15,7 @@ mod trials;
 use std::fmt::Debug;
 use std::process::Abort;
 
-/// Ends the test where the two differ, and tells them and the case that they are of ([`assert_same!`]).
+/// Ends the test where the two differ, and says them and the case that they are of ([`assert_same!`]).
 fn same<T: PartialEq + Debug, A: Debug>(rt: &impl Abort, found: &T, wanted: &T, at: &A) {
     assert_eq!(rt; found, wanted, "{at:?}");
 }

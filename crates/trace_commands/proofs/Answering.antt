@@ -24,31 +24,32 @@ use Rattle.trace_commands.specs.Taking.{HasTaken, answer_of}
 
 -- ---- answers and events
 
--- an answer tells its event
-event_told : (e : Option Event) → event_of (answer_of e) ≡ e
-event_told None = refl
-event_told (Some (event.Retired r)) = refl
-event_told (Some (event.Stopped cause)) = refl
+-- an answer says its event
+event_is_kept : (e : Option Event) → event_of (answer_of e) ≡ e
+event_is_kept None = refl
+event_is_kept (Some (event.Retired r)) = refl
+event_is_kept (Some (event.Stopped cause)) = refl
 
+-- If an outcome is the answer that says an event, this is the event that it says.
 pub event_is : (o : Outcome) (e : Option Event) → o ≡ answer_of e → e ≡ event_of o
-event_is o e is = sym (event_told e) ∙ ap event_of (sym is)
+event_is o e is = sym (event_is_kept e) ∙ ap event_of (sym is)
 
--- and what tells an event is the answer
-answer_told : (o : Outcome) (e : Option Event) → event_of o ≡ e → (e ≡ None → o ≡ Stalled) → o ≡ answer_of e
-answer_told (Retired r) e is none = ap answer_of is
-answer_told (Stopped cause) e is none = ap answer_of is
-answer_told Issued e is none = none (sym is) ∙ ap answer_of is
-answer_told Moved e is none = none (sym is) ∙ ap answer_of is
-answer_told (Combined first second) e is none = none (sym is) ∙ ap answer_of is
-answer_told (Served leader) e is none = none (sym is) ∙ ap answer_of is
-answer_told (Answered to) e is none = none (sym is) ∙ ap answer_of is
-answer_told Poked e is none = none (sym is) ∙ ap answer_of is
-answer_told Stalled e is none = ap answer_of is
+-- and what says an event is the answer
+answer_is : (o : Outcome) (e : Option Event) → event_of o ≡ e → (e ≡ None → o ≡ Stalled) → o ≡ answer_of e
+answer_is (Retired r) e is none = ap answer_of is
+answer_is (Stopped cause) e is none = ap answer_of is
+answer_is Issued e is none = none (sym is) ∙ ap answer_of is
+answer_is Moved e is none = none (sym is) ∙ ap answer_of is
+answer_is (Combined first second) e is none = none (sym is) ∙ ap answer_of is
+answer_is (Served leader) e is none = none (sym is) ∙ ap answer_of is
+answer_is (Answered to) e is none = none (sym is) ∙ ap answer_of is
+answer_is Poked e is none = none (sym is) ∙ ap answer_of is
+answer_is Stalled e is none = ap answer_of is
 
 -- a whole instruction
 pub one_taken : (old : MachineLists) (p : ℕ) (o : Outcome) (new : MachineLists) → AreHome old → IsOne old p o new → HasTaken old (entry.Processor p) o new
 one_taken old p o new home one = record {
-  answer = answer_told o (flat_event (flat_state old) (entry.Processor p)) one.event (λ none. (one.stalled none).0);
+  answer = answer_is o (flat_event (flat_state old) (entry.Processor p)) one.event (λ none. (one.stalled none).0);
   idle = one.idle;
   home = run_home old new (one_steps old p) one.replay.run home;
   config = one.replay.run.config;

@@ -15,7 +15,7 @@ use Rattle.machine_steps.specs.serialization.Order.{from_machine}
 use Rattle.steps.specs.declared.step.Step.{Step}
 use Rattle.machine_steps.specs.machine_ports.Ports.{PortState}
 use Rattle.machine_steps.specs.Runs.{with_events, IsOpening, IsReplay, IsSerialized, events_of, flat_state, passed}
-use Rattle.machine_steps.specs.machine_theory.Processors.{Told, no_port, no_processor, word_at}
+use Rattle.machine_steps.specs.machine_theory.Processors.{ObservedCore, no_port, no_processor, word_at}
 use Rattle.machine_steps.specs.machine_theory.Steps.{machine_of_parts}
 use Rattle.machine_steps.specs.Machines.{MachineLists, machine_of, IsIdle}
 use Rattle.machine_steps.proofs.Lemmas.{alike, passes_machine}
@@ -23,13 +23,13 @@ use Rattle.command_io.specs.Events.{shown_by}
 use Rattle.command_io.specs.Lines.{processor_line, word_lines}
 use Rattle.command_io.specs.Tallies.{ShownBy, TallyState, nothing_shown}
 use Rattle.machine_steps.specs.Standing.{HasFaulted, IsFaulted, processor_of}
-use Rattle.trace_commands.specs.Accounts.{IsReportOf}
+use Rattle.trace_commands.specs.TraceReports.{IsReportOf}
 use Rattle.trace_commands.specs.Reports.{HasFlatFaulted, IsExitOf, flat_processor, flat_processor_lines, flat_report}
 use Rattle.trace_commands.specs.Reports.{flat_shared_lines, processor_lines, report_of, shared_lines}
-use Rattle.trace_commands.specs.Retaking.{IsRetaken, events_in}
+use Rattle.trace_commands.specs.CountedReplays.{IsReplayCounted, events_in}
 
 module _ (c : Config) (image : ImageContents) (steps : List Step) (opening m : MachineLists) (tally : TallyState) (opens : IsOpening c image opening)
-    (retaken : IsRetaken opening steps m tally) (idle : IsIdle m) (serialized : IsSerialized opening steps m) where
+    (replay_counted : IsReplayCounted opening steps m tally) (idle : IsIdle m) (serialized : IsSerialized opening steps m) where
   abbrev order : List Entry
   order = (passed opening steps).order
 
@@ -41,7 +41,7 @@ module _ (c : Config) (image : ImageContents) (steps : List Step) (opening m : M
   events = with_events (λ p. []) (flat_events (flat_opening c image.layout) order)
 
   config_is : m.config ≡ c
-  config_is = retaken.replay.run.config ∙ opens.config
+  config_is = replay_counted.replay.run.config ∙ opens.config
 
   state_is : flat_state m ≡ F
   state_is = serialized.flat idle ∙ ap (λ G. flat_run G order) opens.flat
@@ -59,12 +59,13 @@ module _ (c : Config) (image : ImageContents) (steps : List Step) (opening m : M
   -- what was counted is what the flat machine has shown
   events_are : (p : ℕ) → events_in opening steps p ≡ events p
   events_are p =
-      ap (λ (M : theory.Machine Told). events_of M p) (sym (passes_machine opening.config opening.code steps (from_machine (machine_of opening (λ q. [])))))
+      ap (λ (M : theory.Machine ObservedCore). events_of M p)
+      (sym (passes_machine opening.config opening.code steps (from_machine (machine_of opening (λ q. [])))))
       ∙ serialized.shown idle p
       ∙ ap (λ G. with_events (λ q. []) (flat_events G order) p) opens.flat
 
   shown_is : (p : ℕ) → p < 2 ^ c.k → slice_index_or tally.shown p nothing_shown ≡ shown_by (events p)
-  shown_is p within = retaken.tally.each p (subst (λ (d : Config). p < 2 ^ d.k) (sym opens.config) within) ∙ ap shown_by (events_are p)
+  shown_is p within = replay_counted.tally.each p (subst (λ (d : Config). p < 2 ^ d.k) (sym opens.config) within) ∙ ap shown_by (events_are p)
 
   processors_are : (count : ℕ) → count ≤ 2 ^ c.k → processor_lines m tally.shown count ≡ flat_processor_lines F events count
   processors_are zero few = refl
@@ -91,13 +92,14 @@ module _ (c : Config) (image : ImageContents) (steps : List Step) (opening m : M
   faulted_flat (p, within, fault) =
       (p, subst (λ (d : Config). p < 2 ^ d.k) config_is within, subst (λ (q : Processor). IsFaulted q.status) (processor_is p) fault)
 
+  -- The machine's report and exit status are a report of the steps that it has taken.
   pub report_is_of : (text : List ℕ) (status : ℕ) → text ≡ report_of m tally.shown → IsExitOf m status → IsReportOf c image steps text status
   report_is_of text status is exit = record {
     opening = opening;
     opens = opens;
     machine = m;
     tally = tally;
-    retaken = retaken;
+    replay_counted = replay_counted;
     idle = idle;
     is = is;
     exit = exit;
@@ -110,6 +112,6 @@ pub idle_alike : (c : Config) (image : ImageContents) (steps : List Step) (first
     IsOpening c image second → IsReplay first steps m → IsReplay second steps n → IsIdle m → IsIdle n
 unfolding machine_of_parts
 idle_alike c image steps first second m n one two r s idle p within =
-    ap (λ (M : theory.Machine Told). M.is_open p)
+    ap (λ (M : theory.Machine ObservedCore). M.is_open p)
     (s.run.after (λ q. []) ∙ sym (alike c image first second one two steps (λ q. [])) ∙ sym (r.run.after (λ q. [])))
     ∙ idle p (subst (λ (d : Config). p < 2 ^ d.k) (s.run.config ∙ two.config ∙ sym one.config ∙ sym r.run.config) within)

@@ -23,7 +23,7 @@ use Rattle.machine_steps.specs.serialization.Program.{Kind, Rests, Alone, Refers
 use Rattle.machine_steps.specs.serialization.Machine.{begin, request_of, retire_from, turned}
 use Rattle.machine_steps.specs.machine_theory.Theory as theory
 use Rattle.machine_steps.specs.machine_theory.Theory.{serve_from, stalled, went_down, went_up}
-use Rattle.machine_steps.specs.machine_theory.Processors.{Told, program, sizes_of}
+use Rattle.machine_steps.specs.machine_theory.Processors.{ObservedCore, program, sizes_of}
 use Rattle.machine_steps.specs.machine_theory.Steps.{after}
 use Rattle.steps.specs.declared.step.Step.{Step}
 use Rattle.steps.specs.declared.step.Step.TheVariants as step
@@ -170,13 +170,13 @@ module _ (z : Sizes) (net : Net) (s w t v : ℕ) where
 
 -- ---- steps
 
-module _ (c : Config) (code : List ℕ) (M : theory.Machine Told) where
+module _ (c : Config) (code : List ℕ) (M : theory.Machine ObservedCore) where
   abbrev z : Sizes
   z = sizes_of c
 
-  -- what holds of the network, and of each that the step can make of it, holds behind the step
+  -- what holds of the network, and of each that the step can make of it, holds after the step
   module _ (P : Net → Type 0) (same : P M.net) where
-    when : (b : Bool) (r : theory.Result Told) → P r.machine.net → P (if b then r else stalled M).machine.net
+    when : (b : Bool) (r : theory.Result ObservedCore) → P r.machine.net → P (if b then r else stalled M).machine.net
     when true r p = p
     when false r p = same
 
@@ -265,6 +265,7 @@ module _ (c : Config) (code : List ℕ) (M : theory.Machine Told) where
     replies_made (step.Down s w) away = down_elsewhere z M.net s w t v away
     replies_made (step.Poke q) away = tt
 
+    -- Unless a step is one that may lengthen lists of a kind at a stage, none of these lists is longer after it.
     pub grows_there : (held : Held) (st : Step) → (Grows held t st → ⊥) → count_of held (after c code M st).net t v ≤ count_of held M.net t v
     grows_there Requests st away =
         stays (λ net. length (net.requests (suc t) v) ≤ length (M.net.requests (suc t) v)) (at_most (length (M.net.requests (suc t) v))) st

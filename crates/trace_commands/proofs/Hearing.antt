@@ -7,7 +7,7 @@ use Rattle.std.proofs.lemmas.Option.{get_or_from_slice_get, slice_get-map, slice
 use Rattle.flat_machine.specs.declared.config.Config.{Config}
 use Rattle.elf_image.specs.Images.{ImageContents}
 use Rattle.machine_steps.specs.machine_theory.Theory as theory
-use Rattle.machine_steps.specs.machine_theory.Processors.{Told}
+use Rattle.machine_steps.specs.machine_theory.Processors.{ObservedCore}
 use Rattle.steps.specs.declared.step.Step.{Step}
 use Rattle.machine_steps.specs.Machines.{MachineLists}
 use Rattle.machine_steps.specs.Runs.{IsOpening, events_of}
@@ -15,7 +15,7 @@ use Rattle.machine_steps.proofs.Lemmas.{alike}
 use Rattle.command_io.specs.Events.{shown_by}
 use Rattle.command_io.specs.Tallies.{ShownBy, TallyState, nothing_shown}
 use Rattle.trace_commands.specs.Reports.{AreHeard}
-use Rattle.trace_commands.specs.Retaking.{AreConsoles, IsRetaken}
+use Rattle.trace_commands.specs.CountedReplays.{AreConsoles, IsReplayCounted}
 
 abbrev Bytes : Type 0
 Bytes = Vec ℕ Global
@@ -45,7 +45,7 @@ console_at consoles p v bytes at is =
     ∙ get_or_from_slice_get (map bytes_of consoles) p bytes [] at
 
 -- those of all
-pub heard_in : (opening : MachineLists) (steps : List Step) (m : MachineLists) (t : TallyState) (consoles : List Bytes) → IsRetaken opening steps m t →
+pub heard_in : (opening : MachineLists) (steps : List Step) (m : MachineLists) (t : TallyState) (consoles : List Bytes) → IsReplayCounted opening steps m t →
     AreConsoles opening steps (map bytes_of consoles) → AreHeard t.shown consoles
 heard_in opening steps m t consoles taken are =
     ext_get_or [] (map bytes_of consoles) (map console t.shown)
@@ -63,5 +63,5 @@ consoles_alike c image first second one two steps consoles are = record {
   all = are.all ∙ ap (λ (d : Config). 2 ^ d.k) (one.config ∙ sym two.config);
   each = λ p within.
       are.each p (subst (λ (d : Config). p < 2 ^ d.k) (two.config ∙ sym one.config) within)
-      ∙ ap (λ (N : theory.Machine Told). (shown_by (events_of N p)).console) (alike c image first second one two steps (λ q. []));
+      ∙ ap (λ (N : theory.Machine ObservedCore). (shown_by (events_of N p)).console) (alike c image first second one two steps (λ q. []));
 }

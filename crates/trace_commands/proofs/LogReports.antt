@@ -8,9 +8,9 @@ use Rattle.machine_steps.specs.Runs.{IsOpening, IsReplay}
 use Rattle.machine_log.specs.Logs.{Log}
 use Rattle.command_io.specs.declared.fault.Fault.{Fault}
 use Rattle.command_io.specs.declared.fault.Fault.TheVariants as fault
-use Rattle.command_io.specs.Printing.{IsPrinted}
-use Rattle.trace_commands.specs.Causes.{IsNoLogReport, IsNoRun}
-use Rattle.trace_commands.specs.Accounts.{CanBeReported, IsLogReport, IsPartSaved, IsReportOf, IsRunReport, IsSaved, Running}
+use Rattle.command_io.specs.Printing.{Prints}
+use Rattle.trace_commands.specs.Causes.{LogReportFails, RunFails}
+use Rattle.trace_commands.specs.TraceReports.{CanBeReported, IsLogReport, IsPartSaved, IsReportOf, IsRunReport, IsSaved, Running}
 
 module _ (c : Config) (image : ImageContents) (log : Log) (opens : IsOpening c image log.opening) (replay : IsReplay log.opening log.steps log.machine) where
   config_is : log.machine.config ≡ c
@@ -19,6 +19,7 @@ module _ (c : Config) (image : ImageContents) (log : Log) (opens : IsOpening c i
   image_is : log.machine.image ≡ image
   image_is = replay.run.image ∙ opens.image_is
 
+  -- A run's log can be reported if no reference is open in its machine and a trace can have its steps.
   pub can_be_reported : image.shared_words ≡ c.shared_words → IsIdle log.machine → IsTrace (trace_of c log.steps) → CanBeReported log
   can_be_reported words idle trace = record {
     opens = subst (λ (x : Config × ImageContents). IsOpening x.0 x.1 log.opening) (λ i. (sym config_is i, sym image_is i)) opens;
@@ -41,12 +42,14 @@ module _ (c : Config) (image : ImageContents) (log : Log) (opens : IsOpening c i
       saved = subst (λ (d : Config). IsSaved contents old new (trace_bytes (trace_of d log.steps))) config_is r.saved;
     }
 
-    pub run_printed : (status : ℕ) → IsPrinted (IsLogReport contents log old new status) out out' →
-        IsPrinted (IsRunReport contents is_run c old new status) out out'
+    -- If the report of a run's log is printed, so is the report of the run.
+    pub run_printed : (status : ℕ) → Prints (IsLogReport contents log old new status) out out' →
+        Prints (IsRunReport contents is_run c old new status) out out'
     run_printed status p = record { text = p.text; meant = reported status p.text p.meant; printed = p.printed }
 
-    pub no_run : (is_not_run : Fault → Type 0) → is_not_run fault.Memory → (f : Fault) → IsNoLogReport contents log old new out out' f →
-        IsNoRun contents is_run is_not_run c old new out out' f
+    -- If the report of a run's log fails, that of the run fails with the same fault.
+    pub no_run : (is_not_run : Fault → Type 0) → is_not_run fault.Memory → (f : Fault) → LogReportFails contents log old new out out' f →
+        RunFails contents is_run is_not_run c old new out out' f
     no_run is_not_run none (fault.Trace e) p = (
       p.0,
       record {

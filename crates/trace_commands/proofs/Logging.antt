@@ -1,4 +1,4 @@
--- What the log of a run tells.
+-- What the log of a run says.
 use Rattle.std.proofs.Common.{◌≡◌, ◌≤◌, ℕ, List, length, refl, subst}
 use Rattle.flat_machine.specs.declared.config.Config.{Config}
 use Rattle.flat_machine.specs.Limits.{IsWithinLimits}
@@ -12,9 +12,9 @@ use Rattle.machine_log.proofs.Lemmas.{none_stalls}
 use Rattle.machine_log.specs.Logs.{Log}
 use Rattle.command_io.specs.declared.fault.Fault.{Fault}
 use Rattle.command_io.specs.declared.fault.Fault.TheVariants as fault
-use Rattle.trace_commands.specs.Retaking.{IsNotRetaken}
+use Rattle.trace_commands.specs.CountedReplays.{IsNotRetaken}
 
--- steps of which none stalls can be refused for want of memory alone
+-- steps of which none stalls can be refused if out of memory alone
 pub only_memory : (old new : MachineLists) (steps : List Step) → ((place : ℕ) → StallsAt old steps place new → ⊥) → (f : Fault) →
     IsNotRetaken old steps new f → f ≡ fault.Memory
 only_memory old new steps none (fault.Stalled place) h = absurd (none place h)

@@ -7,7 +7,7 @@ use Rattle.flat_machine.specs.State.{Processor}
 use Rattle.elf_image.specs.Images.{ImageContents}
 use Rattle.machine_steps.specs.machine_theory.Theory as theory
 use Rattle.steps.specs.declared.step.Step.{Step}
-use Rattle.machine_steps.specs.machine_theory.Processors.{Told, word_at}
+use Rattle.machine_steps.specs.machine_theory.Processors.{ObservedCore, word_at}
 use Rattle.machine_steps.specs.machine_theory.Steps.{machine_of_parts}
 use Rattle.machine_steps.specs.Machines.{MachineLists, machine_of}
 use Rattle.machine_steps.specs.Runs.{all_after, events_of}
@@ -15,7 +15,7 @@ use Rattle.machine_steps.proofs.Lemmas.{alike}
 use Rattle.command_io.specs.Events.{shown_by}
 use Rattle.command_io.specs.Lines.{processor_line, word_lines}
 use Rattle.command_io.specs.Tallies.{ShownBy, TallyState, nothing_shown}
-use Rattle.trace_commands.specs.Accounts.{IsReportOf}
+use Rattle.trace_commands.specs.TraceReports.{IsReportOf}
 use Rattle.machine_steps.specs.Standing.{HasFaulted, IsFaulted, processor_of}
 use Rattle.trace_commands.specs.Reports.{IsExitOf, processor_lines, report_of, shared_lines}
 
@@ -53,37 +53,37 @@ module _ (c : Config) (image : ImageContents) (steps : List Step) (text text' : 
   abbrev n : MachineLists
   n = two.machine
 
-  abbrev M : theory.Machine Told
+  abbrev M : theory.Machine ObservedCore
   M = all_after one.opening.config one.opening.code (machine_of one.opening (λ p. [])) steps
 
-  abbrev N : theory.Machine Told
+  abbrev N : theory.Machine ObservedCore
   N = all_after two.opening.config two.opening.code (machine_of two.opening (λ p. [])) steps
 
   same : M ≡ N
   same = alike c image one.opening two.opening one.opens two.opens steps (λ p. [])
 
   there : machine_of m (events_of M) ≡ machine_of n (events_of N)
-  there = one.retaken.replay.run.after (λ p. []) ∙ same ∙ sym (two.retaken.replay.run.after (λ p. []))
+  there = one.replay_counted.replay.run.after (λ p. []) ∙ same ∙ sym (two.replay_counted.replay.run.after (λ p. []))
 
   first_config : m.config ≡ c
-  first_config = one.retaken.replay.run.config ∙ one.opens.config
+  first_config = one.replay_counted.replay.run.config ∙ one.opens.config
 
   second_config : n.config ≡ c
-  second_config = two.retaken.replay.run.config ∙ two.opens.config
+  second_config = two.replay_counted.replay.run.config ∙ two.opens.config
 
   processors : (p : ℕ) → processor_of m p ≡ processor_of n p
   unfolding machine_of_parts
-  processors p = ap (λ (X : theory.Machine Told). (X.core p).state) there
+  processors p = ap (λ (X : theory.Machine ObservedCore). (X.core p).state) there
 
   words : (i : ℕ) → word_at m.config.k m.modules i ≡ word_at n.config.k n.modules i
   unfolding machine_of_parts
-  words i = ap (λ (X : theory.Machine Told). X.mem i) there
+  words i = ap (λ (X : theory.Machine ObservedCore). X.mem i) there
 
   shown : (p : ℕ) → p < 2 ^ c.k → slice_index_or one.tally.shown p nothing_shown ≡ slice_index_or two.tally.shown p nothing_shown
   shown p within =
-      one.retaken.tally.each p (subst (λ (d : Config). p < 2 ^ d.k) (sym one.opens.config) within)
-      ∙ ap (λ (X : theory.Machine Told). shown_by (events_of X p)) same
-      ∙ sym (two.retaken.tally.each p (subst (λ (d : Config). p < 2 ^ d.k) (sym two.opens.config) within))
+      one.replay_counted.tally.each p (subst (λ (d : Config). p < 2 ^ d.k) (sym one.opens.config) within)
+      ∙ ap (λ (X : theory.Machine ObservedCore). shown_by (events_of X p)) same
+      ∙ sym (two.replay_counted.tally.each p (subst (λ (d : Config). p < 2 ^ d.k) (sym two.opens.config) within))
 
   processors_alike : (count : ℕ) → count ≤ 2 ^ c.k → processor_lines m one.tally.shown count ≡ processor_lines n two.tally.shown count
   processors_alike zero few = refl
@@ -101,6 +101,7 @@ module _ (c : Config) (image : ImageContents) (steps : List Step) (text text' : 
   report_by : (k : MachineLists) (t : TallyState) → k.config ≡ c → report_of k t.shown ≡ processor_lines k t.shown (2 ^ c.k) ++ shared_lines k c.shared_words
   report_by k t is = ap (λ (d : Config). processor_lines k t.shown (2 ^ d.k) ++ shared_lines k d.shared_words) is
 
+  -- Two reports of the same steps on the same image have the same text.
   pub one_text : text ≡ text'
   one_text =
       one.is
@@ -112,6 +113,7 @@ module _ (c : Config) (image : ImageContents) (steps : List Step) (text text' : 
   faulted_alike : (a b : MachineLists) → a.config ≡ b.config → ((p : ℕ) → processor_of a p ≡ processor_of b p) → HasFaulted a → HasFaulted b
   faulted_alike a b size is h = (h.0, subst (λ (d : Config). h.0 < 2 ^ d.k) size h.1, subst (λ (q : Processor). IsFaulted q.status) (is h.0) h.2)
 
+  -- Two reports of the same steps on the same image have the same exit status.
   pub one_status : status ≡ status'
   one_status =
       one_exit m n status status' one.exit two.exit

@@ -1,4 +1,4 @@
--- Entries that are carried out, one after another, and told.
+-- Entries that are carried out, one after another, and reported.
 use Rattle.std.proofs.Common.{◌≡◌, ℕ, ◌+◌, List, [], ◌∷◌, ◌++◌, length, refl, sym, ap, ◌∙◌, subst, arith}
 use Rattle.flat_machine.specs.declared.poke.Entry.{Entry}
 use Rattle.flat_machine.specs.Flat.{flat_run, flat_step}
@@ -11,25 +11,30 @@ use Rattle.trace_lines.specs.OrderLines.{chosen_line, lines_of}
 use Rattle.trace_commands.specs.Taking.{AreBoth}
 
 -- Both machines have taken these entries, and the text has their lines.
-pub record AreTold (choice : Choice) (old : MachineLists) (done : List Entry) (text : List ℕ) (before after : MachineLists) : Type 0 where
+pub record AreShown (choice : Choice) (old : MachineLists) (done : List Entry) (text : List ℕ) (before after : MachineLists) : Type 0 where
+  -- the text has the chosen lines of the entries
   pub lines : text ≡ lines_of choice (flat_state old) done
+  -- each machine is the flat machine after the entries, with no reference open
   pub both : AreBoth (flat_run (flat_state old) done) before after
+  -- the size is as before
   pub config : before.config ≡ old.config
 
-pub none_told : (choice : Choice) (old after : MachineLists) (text : List ℕ) → text ≡ [] → AreBoth (flat_state old) old after →
-    AreTold choice old [] text old after
-none_told choice old after text none both = record { lines = none; both = both; config = refl }
+-- Before the first entry, the empty text has the lines of those taken.
+pub none_printed : (choice : Choice) (old after : MachineLists) (text : List ℕ) → text ≡ [] → AreBoth (flat_state old) old after →
+    AreShown choice old [] text old after
+none_printed choice old after text none both = record { lines = none; both = both; config = refl }
 
 flat_more : (m : FlatState) (xs : List Entry) (e : Entry) → flat_run m (xs ++ e ∷ []) ≡ flat_step (flat_run m xs) e
 flat_more m [] e = refl
 flat_more m (x ∷ xs) e = flat_more (flat_step m x) xs e
 
 module _ (goes_on : LinesGoOn) (choice : Choice) (old : MachineLists) (done : List Entry) (text : List ℕ) (before after : MachineLists)
-    (t : AreTold choice old done text before after) where
-  pub one_told : (number : ℕ) (e : Entry) (text' : List ℕ) (before' after' : MachineLists) → length done ≡ number →
+    (t : AreShown choice old done text before after) where
+  -- If both machines take one entry more, and its line is appended, the text has the lines of all entries.
+  pub one_printed : (number : ℕ) (e : Entry) (text' : List ℕ) (before' after' : MachineLists) → length done ≡ number →
       text' ≡ text ++ chosen_line choice (flat_state before) number e → AreBoth (flat_step (flat_state before) e) before' after' →
-      before'.config ≡ before.config → AreTold choice old (done ++ e ∷ []) text' before' after'
-  one_told number e text' before' after' count line both config =
+      before'.config ≡ before.config → AreShown choice old (done ++ e ∷ []) text' before' after'
+  one_printed number e text' before' after' count line both config =
       let there : number ≡ 0 + length done = omega (arith, count) in
       record {
         lines =

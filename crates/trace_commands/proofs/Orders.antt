@@ -17,7 +17,7 @@ use Rattle.machine_steps.specs.Standing.{HasFaulted, IsFaulted, processor_of}
 use Rattle.trace_lines.specs.declared.choice.Choice.{Choice}
 use Rattle.trace_lines.specs.OrderLines.{lines_of}
 use Rattle.trace_commands.specs.Reports.{HasFlatFaulted, IsExitOf, flat_processor}
-use Rattle.trace_commands.specs.Explained.{IsBroughtHome}
+use Rattle.trace_commands.specs.Explained.{IsDrainedWithSteps}
 use Rattle.trace_commands.specs.Orders.{AreOrderLines, order_of}
 
 -- ---- faults
@@ -37,9 +37,10 @@ module _ (c : Config) (m : MachineLists) (F : FlatState) (size : m.config ≡ c)
 
 -- ---- orders
 
--- The lines are those of the order, and so is what the exit status tells: the first machine has opened on the image, and the
+-- The lines are those of the order, and so is what the exit status says: the first machine has opened on the image, and the
 -- other is the flat machine after the entries.
-module _ (c : Config) (image : ImageContents) (steps all : List Step) (home : IsBroughtHome c image steps all) (entries : List Entry) (first m : MachineLists)
+module _ (c : Config) (image : ImageContents) (steps all : List Step) (home : IsDrainedWithSteps c image steps all) (entries : List Entry)
+    (first m : MachineLists)
     (opens : IsOpening c image first) (order : (opening : MachineLists) → IsOpening c image opening → entries ≡ (passed opening all).order)
     (size : m.config ≡ first.config) (after : flat_state m ≡ flat_run (flat_state first) entries) where
   abbrev F : FlatState
@@ -54,6 +55,7 @@ module _ (c : Config) (image : ImageContents) (steps all : List Step) (home : Is
   size_is : m.config ≡ c
   size_is = size ∙ opens.config
 
+  -- The chosen lines of the entries, and the exit status of the machine after them, are those of the serial order.
   pub are_lines : (choice : Choice) (text : List ℕ) (status : ℕ) → text ≡ lines_of choice (flat_state first) entries → IsExitOf m status →
       AreOrderLines choice c image steps text status
   are_lines choice text status is exit = record {

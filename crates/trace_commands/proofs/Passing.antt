@@ -13,7 +13,7 @@ use Rattle.steps.specs.declared.step.Step.{Step}
 use Rattle.steps.specs.declared.step.Step.TheVariants as step
 use Rattle.steps.specs.declared.step.Outcome.{Outcome}
 use Rattle.machine_steps.specs.machine_theory.Theory as theory
-use Rattle.machine_steps.specs.machine_theory.Processors.{Told}
+use Rattle.machine_steps.specs.machine_theory.Processors.{ObservedCore}
 use Rattle.machine_steps.specs.machine_theory.Steps.{machine_of_parts}
 use Rattle.machine_steps.specs.Machines.{MachineLists, IsStep, machine_of}
 use Rattle.machine_steps.specs.Runs.{IsRun, all_after}
@@ -51,10 +51,10 @@ most_met f (suc n) before = by (cases_lt (most_of f n before) (f n)) (most_met f
 
 -- ---- one step more
 
--- the network behind the steps that a machine has taken is the machine's
+-- the network after the steps that a machine has taken is the machine's
 stands : (opening mid : MachineLists) (done : List Step) → IsRun opening done mid → net_behind opening done ≡ net_of mid.network
 unfolding machine_of_parts
-stands opening mid done run = sym (ap (λ (M : theory.Machine Told). M.net) (run.after (λ p. [])))
+stands opening mid done run = sym (ap (λ (M : theory.Machine ObservedCore). M.net) (run.after (λ p. [])))
 
 -- each stage has its number
 abbrev pub HaveSix : Longest → Type 0
@@ -73,7 +73,7 @@ module _ (opening mid new : MachineLists) (done : List Step) (s : Step) (o : Out
   unfolding machine_of_parts
   grows_less held t v below away =
       subst (λ (n : Net). count_of held n t v ≤ count_of held (net_of mid.network) t v)
-      (sym (ap (λ (M : theory.Machine Told). M.net) (is.step.after (λ p. []))))
+      (sym (ap (λ (M : theory.Machine ObservedCore). M.net) (is.step.after (λ p. []))))
       (grows_there mid.config mid.code (machine_of mid (λ p. [])) t v (subst (λ (c : Config). t < c.k) (sym run.config) below) held s away)
 
   module _ (held : Held) (t n : ℕ) (old : IsMost opening done held t n) where
@@ -195,6 +195,7 @@ module _ (opening mid new : MachineLists) (done : List Step) (o : Outcome) (run 
   still_six held a true xs all = length-set xs a _ ∙ all
   still_six held a false xs all = all
 
+  -- After a step, the longest queues of each kind are still six numbers.
   pub sizes_on : (s : Step) → HaveSix (longest_after k' net' s t)
   sizes_on (step.Turn p) = six
   sizes_on (step.Serve m) = six
@@ -221,6 +222,7 @@ module _ (opening mid new : MachineLists) (done : List Step) (o : Outcome) (run 
         IsMost opening (done ++ s ∷ []) held n (slice_index (of_held t held) n)
     same s is next held away = none_grow opening mid new done s o run is next held (of_held t held) (six held) few (old held) away
 
+    -- After one step more, the longest queues, raised by what the network has now, are those of all steps taken.
     pub longest_on : (s : Step) → Goes s
     longest_on (step.Turn p) is next = elim [
       | Requests ↦ same (step.Turn p) is next Requests (λ n g. g)
@@ -252,6 +254,7 @@ module _ (opening mid new : MachineLists) (done : List Step) (o : Outcome) (run 
 
 -- ---- no step
 
+-- If no step is taken and the network is empty, the longest queues have length 0.
 pub none_longest : (m : MachineLists) → m.config.k ≤ 6 → IsEmptyNet (net_of m.network) → AreLongest m [] no_longest
 unfolding machine_of_parts all_after
 none_longest m few empty held t below = record {

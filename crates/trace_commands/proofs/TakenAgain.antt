@@ -7,60 +7,67 @@ use Rattle.flat_machine.specs.declared.event.Event.{Event}
 use Rattle.steps.specs.declared.step.Step.{Step}
 use Rattle.steps.specs.declared.step.Outcome.{Outcome}
 use Rattle.machine_steps.specs.machine_theory.Theory as theory
-use Rattle.machine_steps.specs.machine_theory.Processors.{Told}
+use Rattle.machine_steps.specs.machine_theory.Processors.{ObservedCore}
 use Rattle.machine_steps.specs.machine_theory.Steps.{outcome_of, after, with_shown}
 use Rattle.machine_steps.specs.Machines.{MachineLists, machine_of}
 use Rattle.machine_steps.specs.Runs.{all_after, events_of, IsReplay}
-use Rattle.machine_steps.specs.Laws.{told_after}
+use Rattle.machine_steps.specs.Laws.{shown_after}
 use Rattle.machine_steps.specs.Noting.{AreNoted, AreNotedFrom}
 use Rattle.machine_steps.proofs.Lemmas.{all_joined, noted_behind, replay_joined, shown_is, steps_tell}
 use Rattle.command_io.specs.Tallies.{TallyState, nothing_shown, noted_after}
 use Rattle.command_io.specs.Events.{IsTally}
-use Rattle.trace_commands.specs.Retaking.{events_in, IsRetaken}
+use Rattle.trace_commands.specs.CountedReplays.{events_in, IsReplayCounted}
 use Rattle.trace_commands.proofs.Tallying.{tally_begins, tally_more}
 
-abbrev pub Notes : TallyState → Step → Outcome → TallyState → Type 0
-Notes t s o t' = t' ≡ noted_after t s o
+abbrev pub StepObserver : TallyState → Step → Outcome → TallyState → Type 0
+StepObserver t s o t' = t' ≡ noted_after t s o
 
-told_all : (n : ℕ) (c : Config) (code : List ℕ) (M : theory.Machine Told) (steps : List Step) (t t' : TallyState) (shown : ℕ → List Event) (count : ℕ) →
-    AreNotedFrom Notes c code M steps t t' → IsTally n t shown count → IsTally n t' (told_after c code M steps shown) (count + length steps)
-unfolding told_after
-told_all n c code M [] t t' shown count same is =
+answered_all : (n : ℕ) (c : Config) (code : List ℕ) (M : theory.Machine ObservedCore) (steps : List Step) (t t' : TallyState) (shown : ℕ →
+    List Event) (count : ℕ) →
+    AreNotedFrom StepObserver c code M steps t t' → IsTally n t shown count → IsTally n t' (shown_after c code M steps shown) (count + length steps)
+unfolding shown_after
+answered_all n c code M [] t t' shown count same is =
     subst (λ m. IsTally n t' shown m) (omega (arith)) (subst (λ x. IsTally n x shown count) (sym same) is)
-told_all n c code M (s ∷ ss) t t' shown count noted is =
+answered_all n c code M (s ∷ ss) t t' shown count observed is =
     let o = outcome_of c code M s in
-    let one : IsTally n noted.0 (with_shown shown s o) (count + 1) =
-    subst (λ x. IsTally n x (with_shown shown s o) (count + 1)) (sym noted.1) (tally_more n t shown count is s o) in
-    subst (λ m. IsTally n t' (told_after c code (after c code M s) ss (with_shown shown s o)) m) (omega (arith))
-    (told_all n c code (after c code M s) ss noted.0 t' (with_shown shown s o) (count + 1) noted.2 one)
+    let one : IsTally n observed.0 (with_shown shown s o) (count + 1) =
+    subst (λ x. IsTally n x (with_shown shown s o) (count + 1)) (sym observed.1) (tally_more n t shown count is s o) in
+    subst (λ m. IsTally n t' (shown_after c code (after c code M s) ss (with_shown shown s o)) m) (omega (arith))
+    (answered_all n c code (after c code M s) ss observed.0 t' (with_shown shown s o) (count + 1) observed.2 one)
 
 -- A tally of what a machine has shown goes on with the steps that are noted in it.
-tally_all : (n : ℕ) (c : Config) (code : List ℕ) (M : theory.Machine Told) (steps : List Step) (t t' : TallyState) (count : ℕ) →
-    AreNotedFrom Notes c code M steps t t' → IsTally n t (events_of M) count → IsTally n t' (events_of (all_after c code M steps)) (count + length steps)
-tally_all n c code M steps t t' count noted is =
-    subst (λ events. IsTally n t' events (count + length steps)) (steps_tell c code M steps) (told_all n c code M steps t t' (events_of M) count noted is)
+tally_all : (n : ℕ) (c : Config) (code : List ℕ) (M : theory.Machine ObservedCore) (steps : List Step) (t t' : TallyState) (count : ℕ) →
+    AreNotedFrom StepObserver c code M steps t t' → IsTally n t (events_of M) count → IsTally n t' (events_of (all_after c code M steps)) (count + length steps)
+tally_all n c code M steps t t' count observed is =
+    subst (λ events. IsTally n t' events (count + length steps)) (steps_tell c code M steps)
+    (answered_all n c code M steps t t' (events_of M) count observed is)
 
-pub all_retaken : (m new : MachineLists) (steps : List Step) (t t' : TallyState) → t ≡ record { shown = replicate (2 ^ m.config.k) nothing_shown; noted = 0 } →
-    IsReplay m steps new → AreNoted Notes m steps t t' → IsRetaken m steps new t'
-all_retaken m new steps t t' is replay noted = record {
+-- If steps are replayed and noted in an empty tally, it has what the processors show in them.
+pub all_replayed : (m new : MachineLists) (steps : List Step) (t t' : TallyState) →
+    t ≡ record { shown = replicate (2 ^ m.config.k) nothing_shown; observed = 0 } →
+    IsReplay m steps new → AreNoted StepObserver m steps t t' → IsReplayCounted m steps new t'
+all_replayed m new steps t t' is replay observed = record {
   replay = replay;
   tally =
       let begun : IsTally (2 ^ m.config.k) t (events_of (machine_of m (λ p. []))) 0 =
       subst (λ events. IsTally (2 ^ m.config.k) t events 0) (sym (shown_is m (λ p. [])))
       (subst (λ x. IsTally (2 ^ m.config.k) x (λ p. []) 0) (sym is) (tally_begins (2 ^ m.config.k))) in
       subst (λ n. IsTally (2 ^ m.config.k) t' (events_in m steps) n) (omega arith)
-      (tally_all (2 ^ m.config.k) m.config m.code (machine_of m (λ p. [])) steps t t' 0 noted begun);
+      (tally_all (2 ^ m.config.k) m.config m.code (machine_of m (λ p. [])) steps t t' 0 observed begun);
 }
 
-pub drain_retaken : (opening old new : MachineLists) (steps more : List Step) (t t' : TallyState) → IsRetaken opening steps old t → IsReplay old more new →
-    AreNoted Notes old more t t' → IsRetaken opening (steps ++ more) new t'
-drain_retaken opening old new steps more t t' r replay noted = record {
+-- If more steps are replayed and noted after others, the tally has what the processors show in all of them.
+pub drain_replayed : (opening old new : MachineLists) (steps more : List Step) (t t' : TallyState) → IsReplayCounted opening steps old t →
+    IsReplay old more new →
+    AreNoted StepObserver old more t t' → IsReplayCounted opening (steps ++ more) new t'
+drain_replayed opening old new steps more t t' r replay observed = record {
   replay = replay_joined opening old new steps more r.replay replay;
   tally =
       let n : ℕ = 2 ^ opening.config.k in
-      let M1 : theory.Machine Told = all_after opening.config opening.code (machine_of opening (λ p. [])) steps in
+      let M1 : theory.Machine ObservedCore = all_after opening.config opening.code (machine_of opening (λ p. [])) steps in
       let all : IsTally n t' (events_of (all_after opening.config opening.code M1 more)) (length steps + length more) =
-      tally_all n opening.config opening.code M1 more t t' (length steps) (noted_behind Notes opening old steps more t t' r.replay.run noted) r.tally in
+      tally_all n opening.config opening.code M1 more t t' (length steps)
+      (noted_behind StepObserver opening old steps more t t' r.replay.run observed) r.tally in
       let joined : all_after opening.config opening.code M1 more ≡ all_after opening.config opening.code (machine_of opening (λ p. [])) (steps ++ more) =
       sym (all_joined opening.config opening.code (machine_of opening (λ p. [])) steps more) in
       subst (λ M. IsTally n t' (events_of M) (length (steps ++ more))) joined

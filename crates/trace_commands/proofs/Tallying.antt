@@ -22,18 +22,18 @@ shown_more s [] e = refl
 shown_more s (x ∷ xs) e = shown_more (with_event s x) xs e
 
 -- the processors of a tally that have shown nothing
-pub tally_begins : (n : ℕ) → IsTally n (record { shown = replicate n nothing_shown; noted = 0 }) (λ p. []) 0
+pub tally_begins : (n : ℕ) → IsTally n (record { shown = replicate n nothing_shown; observed = 0 }) (λ p. []) 0
 tally_begins n = record {
   all = length-replicate n nothing_shown;
   each = λ p within. get_or-replicate n p nothing_shown nothing_shown within;
-  noted = refl;
+  observed = refl;
 }
 
 module _ (n : ℕ) (t : TallyState) (events : ℕ → List Event) (steps : ℕ) (is : IsTally n t events steps) where
-  kept : IsTally n (record { shown = t.shown; noted = t.noted + 1 }) events (steps + 1)
-  kept = record { all = is.all; each = is.each; noted = ap (λ m. m + 1) is.noted }
+  kept : IsTally n (record { shown = t.shown; observed = t.observed + 1 }) events (steps + 1)
+  kept = record { all = is.all; each = is.each; observed = ap (λ m. m + 1) is.observed }
 
-  -- a stop shows nothing of what is told
+  -- a stop shows nothing of what is reported
   stopped : (p : ℕ) (e : Event) → ((s : ShownBy) → with_event s e ≡ s) → (q : ℕ) → q < n →
       slice_index_or t.shown q nothing_shown ≡ shown_by (put events p (events p ++ e ∷ []) q)
   stopped p e nothing q within = by (cases_eq q p)
@@ -47,8 +47,8 @@ module _ (n : ℕ) (t : TallyState) (events : ℕ → List Event) (steps : ℕ) 
       by (inr other) = is.each q within ∙ ap shown_by (sym (put_other events p (events p ++ e ∷ []) q other))
 
   module _ (p : ℕ) (r : retirement.Retired) where
-    abbrev told : List Event
-    told = events p ++ event.Retired r ∷ []
+    abbrev contents_are : List Event
+    contents_are = events p ++ event.Retired r ∷ []
 
     abbrev there : ShownBy
     there = slice_index_or t.shown p nothing_shown
@@ -65,37 +65,38 @@ module _ (n : ℕ) (t : TallyState) (events : ℕ → List Event) (steps : ℕ) 
         by (inl some) = (let l = is.all in let h = some.1 in absurd (omega (arith, l, h, behind)))
         by (inr none) = ap (retired_at t.shown p r.out) none.1
 
-    now_shown : p < n → (q : ℕ) → q < n → slice_index_or (slice_set t.shown p (with_retired there r.out)) q nothing_shown ≡ shown_by (put events p told q)
+    now_shown : p < n → (q : ℕ) → q < n →
+        slice_index_or (slice_set t.shown p (with_retired there r.out)) q nothing_shown ≡ shown_by (put events p contents_are q)
     now_shown within q q_within = by (cases_eq q p)
       where
-        by : (q ≡ p) ⊎ (q ≡ p → ⊥) → slice_index_or (slice_set t.shown p (with_retired there r.out)) q nothing_shown ≡ shown_by (put events p told q)
+        by : (q ≡ p) ⊎ (q ≡ p → ⊥) → slice_index_or (slice_set t.shown p (with_retired there r.out)) q nothing_shown ≡ shown_by (put events p contents_are q)
         by (inl same) =
             let set : slice_index_or (slice_set t.shown p (with_retired there r.out)) q nothing_shown ≡ with_retired there r.out =
             ap (λ i. slice_index_or (slice_set t.shown p (with_retired there r.out)) i nothing_shown) same
             ∙ get_or-set_same t.shown p (with_retired there r.out) nothing_shown (subst (λ m. p < m) (sym is.all) within) in
-            let now : put events p told q ≡ told = ap (put events p told) same ∙ put_same events p told in
+            let now : put events p contents_are q ≡ contents_are = ap (put events p contents_are) same ∙ put_same events p contents_are in
             set ∙ ap (λ s. with_retired s r.out) (is.each p within) ∙ sym (shown_more nothing_shown (events p) (event.Retired r)) ∙ ap shown_by (sym now)
         by (inr other) =
             get_or-set_other t.shown p q (with_retired there r.out) nothing_shown other
             ∙ is.each q q_within
-            ∙ ap shown_by (sym (put_other events p told q other))
+            ∙ ap shown_by (sym (put_other events p contents_are q other))
 
-    retires : (p < n) ⊎ (n ≤ p) → IsTally n (noted_after t (step.Turn p) (Retired r)) (put events p told) (steps + 1)
+    retires : (p < n) ⊎ (n ≤ p) → IsTally n (noted_after t (step.Turn p) (Retired r)) (put events p contents_are) (steps + 1)
     retires (inl within) = record {
       all = ap length (inside within) ∙ length-set t.shown p (with_retired there r.out) ∙ is.all;
       each = λ q q_within. ap (λ xs. slice_index_or xs q nothing_shown) (inside within) ∙ now_shown within q q_within;
-      noted = ap (λ m. m + 1) is.noted;
+      observed = ap (λ m. m + 1) is.observed;
     }
     retires (inr behind) = record {
       all = ap length (outside behind) ∙ is.all;
       each = λ q q_within. ap (λ xs. slice_index_or xs q nothing_shown) (outside behind) ∙ is.each q q_within
-          ∙ ap shown_by (sym (put_other events p told q (λ e. omega (arith, e, behind, q_within))));
-      noted = ap (λ m. m + 1) is.noted;
+          ∙ ap shown_by (sym (put_other events p contents_are q (λ e. omega (arith, e, behind, q_within))));
+      observed = ap (λ m. m + 1) is.observed;
     }
 
   turned : (p : ℕ) (o : Outcome) → IsTally n (noted_after t (step.Turn p) o) (with_shown events (step.Turn p) o) (steps + 1)
   turned p (Retired r) = retires p r (cases_lt p n)
-  turned p (Stopped cause) = record { all = is.all; each = stopped p (event.Stopped cause) (λ s. refl); noted = ap (λ m. m + 1) is.noted }
+  turned p (Stopped cause) = record { all = is.all; each = stopped p (event.Stopped cause) (λ s. refl); observed = ap (λ m. m + 1) is.observed }
   turned p Issued = kept
   turned p Moved = kept
   turned p (Combined first second) = kept

@@ -41,10 +41,10 @@ module _ (m : FlatState) (k : ℕ) (retired : RetiredTurnsHaveWords) (stopped : 
       Some registers ≡ option_map (λ (p : Processor). p.registers) found → shared ≡ length m.shared → Retired r ≡ answer_of e →
       ((s : Setting) (code : List ℕ) (p : Processor) → s.shared_words ≡ shared → p.registers ≡ registers →
       word_of_turn (performed s code p r.insn (effect_of s p.pc p.registers r.insn)) ≡ w) → w ≡ on_the_word
-  read_word shared registers None r w there same words is told = absurd (cc)
-  read_word shared registers (Some p) r w there same words is told =
+  read_word shared registers None r w there same words is contents_are = absurd (cc)
+  read_word shared registers (Some p) r w there same words is contents_are =
       let own : p.registers ≡ registers = cc in
-      sym (told (setting_of m k) m.code p (sym words) own) ∙ sym (retired_word p r there is)
+      sym (contents_are (setting_of m k) m.code p (sym words) own) ∙ sym (retired_word p r there is)
 
   silent : (o : Outcome) → event_of o ≡ None → o ≡ answer_of e → (o ≡ Stalled → ⊥) → on_the_word ≡ None
   silent o none is moves = absurd (moves (is ∙ ap answer_of (event_is o e is ∙ none)))

@@ -15,8 +15,9 @@ use Rattle.machine_log.specs.Replays.{StallsAt}
 use Rattle.machine_log.specs.Logs.{Log}
 use Rattle.command_io.specs.declared.fault.Fault.{Fault}
 use Rattle.command_io.specs.declared.fault.Fault.TheVariants as fault
-use Rattle.command_io.specs.Printing.{IsPartPrinted}
-use Rattle.trace_commands.specs.Accounts.{IsTraceOf, IsPartSaved, IsDrainedReport, IsSomeAccount, IsSomeLogReport, IsSomeRunReport, Running, Telling}
+use Rattle.command_io.specs.Printing.{PrintsPrefix}
+use Rattle.trace_commands.specs.TraceReports.{IsTraceOf, IsPartSaved, IsDrainedReport, IsSomeTraceReport}
+use Rattle.trace_commands.specs.TraceReports.{IsSomeLogReport, IsSomeRunReport, Running, ReportRelation}
 
 -- ---- the files
 
@@ -28,28 +29,33 @@ IsTraceRefusal known e = (rest : Option (List ℕ)) × IsRefused known rest e
 -- ---- a run
 
 -- The run is there, and a part of its trace is written, and not all of it.
-pub record IsPartSavedRun {T : Type 0} (contents : T → Option (List ℕ)) (is_run : Running) (c : Config) (old new : Option T) : Type 0 where
+pub record IsPartSavedRun {T : Type 0} (contents : T →
+    Option (List ℕ)) (is_run : Running) (c : Config) (old new : Option T) : Type 0 where
   pub image : ImageContents
   pub log : Log
   pub run : is_run image log
   pub part : IsPartSaved contents old new (trace_bytes (trace_of c log.steps))
 
--- Why a run is not reported: its trace cannot be written, or, once that is, its report; else the run is not there, or there is no memory
--- for its report, and no byte of a trace is written.
-abbrev pub IsNoRun : {T : Type 0} → (contents : T → Option (List ℕ)) → Running → (is_not_run : Fault → Type 0) → (c : Config) → (old new : Option T) →
+-- Why a run is not reported: its trace cannot be written, or, once that is, its report; else the run is not there, or
+-- there is no memory for its report, and no byte of a trace is written.
+abbrev pub RunFails : {T : Type 0} → (contents : T → Option (List ℕ)) → Running → (is_not_run : Fault → Type 0) →
+    (c : Config) → (old new : Option T) →
     (out out' : Option (List ℕ)) → Fault → Type 0
-IsNoRun contents is_run is_not_run c old new out out' (fault.Trace e) = (e ≡ of_trace.Link) × IsPartSavedRun contents is_run c old new
-IsNoRun contents is_run is_not_run c old new out out' fault.Link = IsPartPrinted (IsSomeRunReport contents is_run c old new) out out'
-IsNoRun contents is_run is_not_run c old new out out' other = is_not_run other × (new ≡ old)
+RunFails contents is_run is_not_run c old new out out' (fault.Trace e) = (e ≡ of_trace.Link)
+    × IsPartSavedRun contents is_run c old new
+RunFails contents is_run is_not_run c old new out out' fault.Link =
+    PrintsPrefix (IsSomeRunReport contents is_run c old new) out out'
+RunFails contents is_run is_not_run c old new out out' other = is_not_run other × (new ≡ old)
 
--- Why a log is not reported: its trace cannot be written, or, once that is, its report; else there is no memory for it, and no byte of a
--- trace is written.
-abbrev pub IsNoLogReport : {T : Type 0} → (contents : T → Option (List ℕ)) → Log → (old new : Option T) → (out out' : Option (List ℕ)) → Fault → Type 0
-IsNoLogReport contents log old new out out' (fault.Trace e) =
+-- Why a log is not reported: its trace cannot be written, or, once that is, its report; else there is no memory for
+-- it, and no byte of a trace is written.
+abbrev pub LogReportFails : {T : Type 0} → (contents : T → Option (List ℕ)) → Log → (old new : Option T) →
+    (out out' : Option (List ℕ)) → Fault → Type 0
+LogReportFails contents log old new out out' (fault.Trace e) =
     (e ≡ of_trace.Link) × IsPartSaved contents old new (trace_bytes (trace_of log.machine.config log.steps))
-IsNoLogReport contents log old new out out' fault.Link = IsPartPrinted (IsSomeLogReport contents log old new) out out'
-IsNoLogReport contents log old new out out' fault.Memory = new ≡ old
-IsNoLogReport contents log old new out out' other = ⊥
+LogReportFails contents log old new out out' fault.Link = PrintsPrefix (IsSomeLogReport contents log old new) out out'
+LogReportFails contents log old new out out' fault.Memory = new ≡ old
+LogReportFails contents log old new out out' other = ⊥
 
 -- ---- a replay
 
@@ -82,22 +88,27 @@ pub record IsUnopened (trace out out' : Option (List ℕ)) : Type 0 where
   pub read : IsTraceOf trace steps
   pub nothing : out' ≡ out
 
--- Why it is not told of a trace: the trace is refused; the image is; the machine's size is out of its limits; a step stalls; the
--- image's file cannot be opened, or what is to be told cannot be printed. Of want of memory nothing is said.
-abbrev pub IsNoAccount : Telling → (shared_words : ℕ) → (trace known : Option (List ℕ)) → (out out' : Option (List ℕ)) → Fault → Type 0
-IsNoAccount tells shared_words trace known out out' (fault.Trace e) = IsTraceRefusal trace e
-IsNoAccount tells shared_words trace known out out' (fault.Image e) = ((steps : TraceContents) × IsTraceOf trace steps)
+-- Why it is not reported of a trace: the trace is refused; the image is; the machine's size is out of its limits; a
+-- step stalls; the image's file cannot be opened, or what is to be reported cannot be printed. Of a lack of memory
+-- nothing is said.
+abbrev pub TraceReportFails : ReportRelation → (shared_words : ℕ) → (trace known : Option (List ℕ)) →
+    (out out' : Option (List ℕ)) → Fault → Type 0
+TraceReportFails reports shared_words trace known out out' (fault.Trace e) = IsTraceRefusal trace e
+TraceReportFails reports shared_words trace known out out' (fault.Image e) =
+    ((steps : TraceContents) × IsTraceOf trace steps)
     × IsImageRefusal shared_words known e
-IsNoAccount tells shared_words trace known out out' fault.Size = IsOutOfLimits shared_words trace known
-IsNoAccount tells shared_words trace known out out' (fault.Stalled place) = IsStalledReplay shared_words trace known place
-IsNoAccount tells shared_words trace known out out' fault.Link =
-    IsUnopened trace out out' ⊎ IsPartPrinted (IsSomeAccount tells shared_words trace known) out out'
-IsNoAccount tells shared_words trace known out out' fault.Memory = Unit {0}
-IsNoAccount tells shared_words trace known out out' other = ⊥
+TraceReportFails reports shared_words trace known out out' fault.Size = IsOutOfLimits shared_words trace known
+TraceReportFails reports shared_words trace known out out' (fault.Stalled place) =
+    IsStalledReplay shared_words trace known place
+TraceReportFails reports shared_words trace known out out' fault.Link =
+    IsUnopened trace out out' ⊎ PrintsPrefix (IsSomeTraceReport reports shared_words trace known) out out'
+TraceReportFails reports shared_words trace known out out' fault.Memory = Unit {0}
+TraceReportFails reports shared_words trace known out out' other = ⊥
 
 -- why a replay is not reported
-abbrev pub IsNoReplay : (shared_words : ℕ) → (trace known : Option (List ℕ)) → (out out' : Option (List ℕ)) → Fault → Type 0
-IsNoReplay = IsNoAccount IsDrainedReport
+abbrev pub IsNoReplay : (shared_words : ℕ) → (trace known : Option (List ℕ)) → (out out' : Option (List ℕ)) → Fault →
+    Type 0
+IsNoReplay = TraceReportFails IsDrainedReport
 
 -- ---- the parts
 
@@ -114,7 +125,9 @@ IsNotTaken c image steps (fault.Stalled place) = IsStalled c image steps place
 IsNotTaken c image steps fault.Memory = Unit {0}
 IsNotTaken c image steps other = ⊥
 
--- why it is not told of steps: they are not taken; or what is to be told cannot be printed
-abbrev pub IsNotTold : Telling → (c : Config) → ImageContents → List Step → (out out' : Option (List ℕ)) → Fault → Type 0
-IsNotTold tells c image steps out out' fault.Link = IsPartPrinted (λ text. (status : ℕ) × tells c image steps text status) out out'
-IsNotTold tells c image steps out out' other = IsNotTaken c image steps other
+-- why it is not reported of steps: they are not taken; or what is to be reported cannot be printed
+abbrev pub ReportItselfFails : ReportRelation → (c : Config) → ImageContents → List Step →
+    (out out' : Option (List ℕ)) → Fault → Type 0
+ReportItselfFails reports c image steps out out' fault.Link =
+    PrintsPrefix (λ text. (status : ℕ) × reports c image steps text status) out out'
+ReportItselfFails reports c image steps out out' other = IsNotTaken c image steps other

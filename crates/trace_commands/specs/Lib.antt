@@ -1,6 +1,6 @@
-pub mod Retaking
+pub mod CountedReplays
 pub mod Reports
-pub mod Accounts
+pub mod TraceReports
 pub mod Explained
 pub mod Causes
 pub mod Taking
@@ -9,3 +9,4 @@ pub mod Stories
 pub mod Longest
 pub mod Stats
 pub mod Pictures
+pub mod Choices

@@ -1,5 +1,5 @@
--- The report of a machine: a line for each processor, and a line for each shared word that is not zero. Where no reference is
--- open it is that of the flat machine.
+-- The report of a machine: a line for each processor, and a line for each shared word that is not zero. Where no
+-- reference is open it is that of the flat machine.
 use Rattle.std.specs.Prelude.{◌≡◌, ℕ, zero, suc, ◌^◌, ◌<◌, List, [], ◌++◌, Vec, map, slice_index, slice_index_or}
 use Rattle.std.specs.Global.{Global}
 use Rattle.flat_machine.specs.declared.config.Config.{Config}
@@ -23,7 +23,8 @@ AreHeard shown consoles = map (λ (v : Vec ℕ Global). v.items) consoles ≡ ma
 abbrev pub processor_lines : MachineLists → List ShownBy → (count : ℕ) → List ℕ
 processor_lines m shown zero = []
 processor_lines m shown (suc p) =
-    processor_lines m shown p ++ processor_line p (processor_of m p).pc (processor_of m p).status (slice_index_or shown p nothing_shown)
+    processor_lines m shown p
+    ++ processor_line p (processor_of m p).pc (processor_of m p).status (slice_index_or shown p nothing_shown)
 
 -- the lines of the first shared words
 abbrev pub shared_lines : MachineLists → (count : ℕ) → List ℕ
@@ -49,7 +50,8 @@ flat_processor F p = slice_index_or F.processors p no_processor
 abbrev pub flat_processor_lines : FlatState → (events : ℕ → List Event) → (count : ℕ) → List ℕ
 flat_processor_lines F events zero = []
 flat_processor_lines F events (suc p) =
-    flat_processor_lines F events p ++ processor_line p (flat_processor F p).pc (flat_processor F p).status (shown_by (events p))
+    flat_processor_lines F events p
+    ++ processor_line p (flat_processor F p).pc (flat_processor F p).status (shown_by (events p))
 
 -- the lines of its first shared words
 abbrev pub flat_shared_lines : FlatState → (count : ℕ) → List ℕ
@@ -64,8 +66,10 @@ flat_report c F events = flat_processor_lines F events (2 ^ c.k) ++ flat_shared_
 abbrev pub HasFlatFaulted : Config → FlatState → Type 0
 HasFlatFaulted c F = (p : ℕ) × (p < 2 ^ c.k) × IsFaulted (flat_processor F p).status
 
--- This is the report of the flat machine of this size that has taken the entries, one after another, and this its exit status.
-pub record IsFlatReport (c : Config) (opening : FlatState) (order : List Entry) (text : List ℕ) (status : ℕ) : Type 0 where
+-- This is the report of the flat machine of this size that has taken the entries, one after another, and this its exit
+-- status.
+pub record IsFlatReport (c : Config) (opening : FlatState) (order : List Entry) (text : List ℕ)
+    (status : ℕ) : Type 0 where
   pub is : text ≡ flat_report c (flat_run opening order) (with_events (λ p. []) (flat_events opening order))
   pub faulted : HasFlatFaulted c (flat_run opening order) → status ≡ 1
   pub sound : (HasFlatFaulted c (flat_run opening order) → ⊥) → status ≡ 0

@@ -9,15 +9,17 @@ use Rattle.machine_steps.specs.Answers.{answers_of}
 use Rattle.run_counts.specs.Counting.{noted_of}
 use Rattle.run_counts.specs.Counts.{AreCounts, CountsState}
 use Rattle.run_counts.specs.Lines.{lines_of}
-use Rattle.run_counts.specs.Rounds.{rounds_of}
+use Rattle.run_counts.specs.Rounds.{IsFewest}
 use Rattle.run_counts.specs.declared.longest.Longest.{Longest}
 use Rattle.trace_commands.specs.Longest.{AreLongest}
 use Rattle.trace_commands.specs.Reports.{IsExitOf}
-use Rattle.trace_commands.specs.Explained.{IsBroughtHome}
+use Rattle.trace_commands.specs.Explained.{IsDrainedWithSteps}
 
--- These are the lines of the counts of what the machine of this size answers to the steps that opens on the image, and of its longest
--- queues. The exit status is that of the machine behind the steps.
-pub record AreCountedSteps (c : Config) (image : ImageContents) (steps : List Step) (text : List ℕ) (status : ℕ) : Type 0 where
+-- These are the lines of the counts of what the machine of this size answers to the steps that opens on the image, of
+-- its longest queues, and of the fewest rounds of the sweep that take the steps. The exit status is that of the
+-- machine after the steps.
+pub record AreCountedSteps (c : Config) (image : ImageContents) (steps : List Step) (text : List ℕ)
+    (status : ℕ) : Type 0 where
   pub opening : MachineLists
   pub opens : IsOpening c image opening
   pub machine : MachineLists
@@ -26,11 +28,14 @@ pub record AreCountedSteps (c : Config) (image : ImageContents) (steps : List St
   pub are : AreCounts (noted_of (answers_of opening steps)) counts
   pub longest : Longest
   pub most : AreLongest opening steps longest
-  pub lines : text ≡ lines_of c.k counts longest (rounds_of c.k steps)
+  pub rounds : ℕ
+  pub fewest : IsFewest steps rounds
+  pub lines : text ≡ lines_of c.k counts longest rounds
   pub exit : IsExitOf machine status
 
 -- These are the lines of the counts of a trace's steps and a drain's.
-pub record AreStatsLines (c : Config) (image : ImageContents) (steps : List Step) (text : List ℕ) (status : ℕ) : Type 0 where
+pub record AreStatsLines (c : Config) (image : ImageContents) (steps : List Step) (text : List ℕ)
+    (status : ℕ) : Type 0 where
   pub all : List Step
-  pub home : IsBroughtHome c image steps all
+  pub home : IsDrainedWithSteps c image steps all
   pub counted : AreCountedSteps c image all text status

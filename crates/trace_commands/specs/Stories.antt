@@ -8,11 +8,12 @@ use Rattle.machine_steps.specs.Runs.{IsOpening, IsRun}
 use Rattle.machine_steps.specs.Answers.{answers_of}
 use Rattle.trace_lines.specs.StoryLines.{story_of}
 use Rattle.trace_commands.specs.Reports.{IsExitOf}
-use Rattle.trace_commands.specs.Explained.{IsBroughtHome}
+use Rattle.trace_commands.specs.Explained.{IsDrainedWithSteps}
 
--- These are the lines of the steps: of each what the machine of this size answers to it that opens on the image and has taken those
--- before it. The exit status is that of the machine behind the steps.
-pub record AreToldSteps (c : Config) (image : ImageContents) (steps : List Step) (text : List ℕ) (status : ℕ) : Type 0 where
+-- These are the lines of the steps: of each what the machine of this size answers to it that opens on the image and
+-- has taken those before it. The exit status is that of the machine after the steps.
+pub record AreStorySteps (c : Config) (image : ImageContents) (steps : List Step) (text : List ℕ)
+    (status : ℕ) : Type 0 where
   pub opening : MachineLists
   pub opens : IsOpening c image opening
   pub machine : MachineLists
@@ -21,7 +22,8 @@ pub record AreToldSteps (c : Config) (image : ImageContents) (steps : List Step)
   pub exit : IsExitOf machine status
 
 -- These are the lines of the steps of a trace and those of a drain.
-pub record AreStoryLines (c : Config) (image : ImageContents) (steps : List Step) (text : List ℕ) (status : ℕ) : Type 0 where
+pub record AreStoryLines (c : Config) (image : ImageContents) (steps : List Step) (text : List ℕ)
+    (status : ℕ) : Type 0 where
   pub all : List Step
-  pub home : IsBroughtHome c image steps all
-  pub told : AreToldSteps c image all text status
+  pub home : IsDrainedWithSteps c image steps all
+  pub contents_are : AreStorySteps c image all text status

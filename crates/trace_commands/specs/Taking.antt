@@ -1,5 +1,5 @@
--- Entries of a serial order that a machine takes in which no reference is open and no core away: each is a step of the flat
--- machine.
+-- Entries of a serial order that a machine takes in which no reference is open and no core away: each is a step of the
+-- flat machine.
 use Rattle.std.specs.Prelude.{◌≡◌, Option, Some, None, if◌then◌else◌}
 use Rattle.flat_machine.specs.declared.event.Event.{Event}
 use Rattle.flat_machine.specs.declared.event.Event.TheVariants as event

@@ -10,13 +10,13 @@ ghost use Rattle.machine_steps.specs.Answers.{answers_of};
 ghost use Rattle.trace_commands.specs.Longest.{AreLongest};
 
 use crate::longest::look;
-use machine_steps::{Machine, answers_go_on, machine_is_sound};
+use machine_steps::{Machine, answers_go_on, machine_is_well_formed};
 use run_counts::{Counts, Longest, counts_go_on};
 use std::alloc::{AllocError, Global};
 use steps::{Groups, Outcome, Step, groups_go_on};
 
-/// Takes these steps, and counts what they do. Finds the longest queues and wait buffers of the networks that the machine
-/// passes, where it begins with an empty one.
+/// Takes these steps, and counts what they do. Finds the longest queues and wait buffers of the networks that the
+/// machine passes, where it begins with an empty one.
 ///
 /// # Errors
 ///
@@ -27,10 +27,11 @@ pub fn counted(
     steps: &[Step],
 ) -> Result<(Counts, Longest), AllocError>
     ensures counts { IfOk result (λ found. AreCounts (noted_of (answers_of machine.old steps.now)) found.0) }
-    ensures longest { IfOk result (λ found. IsEmptyNet (net_of machine.old.network) → AreLongest machine.old steps.now found.1) }
+    ensures longest { IfOk result (λ found. IsEmptyNet (net_of machine.old.network) →
+        AreLongest machine.old steps.now found.1) }
     ensures run { OnOk result (IsRun machine.old steps.now machine.new) }
 {
-    machine_is_sound(machine);
+    machine_is_well_formed(machine);
     answers_go_on();
     groups_go_on();
     counts_go_on();
@@ -40,8 +41,8 @@ pub fn counted(
     for step in steps {
         let outcome = machine.apply(*step);
         let size = size_of(&groups, &outcome);
-        counts.note(step, &outcome, size);
-        groups.note(alloc, step, &outcome)?;
+        counts.observe(step, &outcome, size);
+        groups.observe(alloc, step, &outcome)?;
         look(&mut longest, machine, step);
     }
     Ok((counts, longest))

@@ -1,39 +1,39 @@
-//! The steps of a trace, and behind them those of a drain.
+//! The steps of a trace, and after them those of a drain.
 
 ghost use Rattle.std.specs.Prelude.{◌≡◌, ◌++◌, IfOk, IfErr, OnOk};
 ghost use Rattle.machine_steps.specs.Machines.{MachineLists, IsIdle};
 ghost use Rattle.machine_steps.specs.Draining.{drain_steps};
 ghost use Rattle.machine_steps.specs.Runs.{IsReplay};
 ghost use Rattle.trace_commands.specs.Causes.{IsNotTaken};
-ghost use Rattle.trace_commands.specs.Explained.{IsBroughtHome};
+ghost use Rattle.trace_commands.specs.Explained.{IsDrainedWithSteps};
 
 use command_io::{Fault, opened};
 use elf_image::Image;
 use flat_machine::Config;
 use machine_log::replay;
-use machine_steps::{Machine, machine_is_sound, runs_are_serialized};
+use machine_steps::{Machine, machine_is_well_formed, runs_are_serialized};
 use std::alloc::{AllocError, Global};
 use steps::Step;
 
-/// The steps of a trace, and behind them those of a drain, on the machine of this size that opens on the image. The image
-/// was read for as many shared words.
+/// The steps of a trace, and after them those of a drain, on the machine of this size that opens on the image. The
+/// image was read for as many shared words.
 ///
 /// # Errors
 ///
 /// [`Fault::Size`] where the size is out of its limits, [`Fault::Stalled`] at the first step of the trace that stalls,
 /// and [`Fault::Memory`].
-pub fn brought_home(
+pub fn drained_steps(
     alloc: Global,
     image: &Image,
     config: Config,
     steps: &[Step],
 ) -> Result<Vec<Step>, Fault>
     requires words { image.now.shared_words ≡ config.shared_words }
-    ensures home { IfOk result (λ all. IsBroughtHome config image.now steps.now all.items) }
+    ensures home { IfOk result (λ all. IsDrainedWithSteps config image.now steps.now all.items) }
     ensures refused { IfErr result (IsNotTaken config image.now steps.now) }
 {
     let mut machine = opened(alloc, image, config)?;
-    machine_is_sound(&machine);
+    machine_is_well_formed(&machine);
     if let Err(stalled) = replay(&mut machine, steps) {
         return Err(Fault::Stalled(stalled.place));
     }
@@ -47,9 +47,10 @@ pub fn brought_home(
 fn push_drain(machine: &mut Machine, steps: &mut Vec<Step>) -> Result<(), AllocError>
     ensures idle { OnOk result (IsIdle machine.new) }
     ensures steps { OnOk result (steps.new.items ≡ steps.old.items ++ drain_steps machine.old) }
-    ensures replay { OnOk result ((opening : MachineLists) → IsReplay opening steps.old.items machine.old → IsReplay opening steps.new.items machine.new) }
+    ensures replay { OnOk result ((opening : MachineLists) → IsReplay opening steps.old.items machine.old →
+        IsReplay opening steps.new.items machine.new) }
 {
     steps.reserve(machine.drain_bound() as usize)?;
-    let Ok(_) = machine.drain_noted(steps);
+    let Ok(_) = machine.drain_observed(steps);
     Ok(())
 }

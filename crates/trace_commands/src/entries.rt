@@ -8,11 +8,11 @@ ghost use Rattle.machine_steps.specs.Runs.{flat_state};
 ghost use Rattle.trace_commands.specs.Taking.{HasTaken};
 
 use flat_machine::{Entry, Poke};
-use machine_steps::{Machine, flat_states_are_read, machine_is_sound};
+use machine_steps::{Machine, flat_states_are_read, machine_is_well_formed};
 use steps::{Outcome, Step};
 
 /// Takes an entry: a processor's next instruction, whole, or a poke. No reference is open, and no core away.
-pub(crate) fn carried_out(machine: &mut Machine, entry: Entry) -> Outcome
+pub(crate) fn execute(machine: &mut Machine, entry: Entry) -> Outcome
     requires idle { IsIdle machine.old }
     requires home { AreHome machine.old }
     ensures { HasTaken machine.old entry result machine.new }
@@ -26,10 +26,10 @@ pub(crate) fn carried_out(machine: &mut Machine, entry: Entry) -> Outcome
     }
 }
 
-/// A poke is lawful for a machine where it is for the flat machine: the proof of [`carried_out`] needs it said.
+/// A poke is lawful for a machine where it is for the flat machine: the proof of [`execute`] needs it said.
 fn lawful_alike(machine: &Machine, poke: Poke)
     ensures { is_lawful_poke machine.now.config poke ≡ is_lawful (flat_state machine.now) poke }
 {
-    machine_is_sound(machine);
+    machine_is_well_formed(machine);
     flat_states_are_read();
 }

@@ -2,7 +2,7 @@
 
 ghost use Rattle.std.specs.Prelude.{IfOk, IfErr};
 ghost use Rattle.trace_commands.specs.Causes.{IsFaultOfTrace};
-ghost use Rattle.trace_commands.specs.Accounts.{IsTraceOf};
+ghost use Rattle.trace_commands.specs.TraceReports.{IsTraceOf};
 
 use command_io::Fault;
 use link::Meter;

@@ -4,11 +4,12 @@ ghost use Rattle.std.specs.Prelude.{◌≡◌, ℕ, List};
 ghost use Rattle.flat_machine.specs.declared.config.Config.{Config};
 ghost use Rattle.elf_image.specs.Images.{ImageContents};
 ghost use Rattle.steps.specs.declared.step.Step.{Step};
-ghost use Rattle.trace_commands.specs.Accounts.{IsReportOf};
+ghost use Rattle.trace_commands.specs.TraceReports.{IsReportOf};
 
 /// The text of a report and its exit status are a function of the machine's size, the image and the
-/// steps. So a trace that is saved tells all of its run.
+/// steps. So a trace that is saved says all of its run.
 pub fn steps_have_one_report()
-    ensures { (c : Config) (image : ImageContents) (steps : List Step) (text other : List ℕ) (status another : ℕ) → IsReportOf c image steps text status →
+    ensures { (c : Config) (image : ImageContents) (steps : List Step) (text other : List ℕ) (status another : ℕ) →
+        IsReportOf c image steps text status →
         IsReportOf c image steps other another → (text ≡ other) × (status ≡ another) }
 {}

@@ -13,7 +13,7 @@ ghost use Rattle.trace_lines.specs.OrderLines.{chosen_line, line_of, line_of_tur
 ghost use Rattle.trace_lines.specs.References.{processor_of, reference_of, referred, word_of};
 ghost use Rattle.trace_commands.specs.Taking.{AreBoth, answer_of, answer_to};
 
-use crate::entries::carried_out;
+use crate::entries::execute;
 use flat_machine::{Entry, Event};
 use machine_steps::{Machine, flat_pc, flat_registers, flat_shared_words, flat_word};
 use std::alloc::{AllocError, Global};
@@ -24,7 +24,7 @@ use trace_lines::{
 };
 
 /// The lines of these entries that are chosen, in the flat machine that takes one after another. Both machines are that
-/// flat machine, and no reference is open in them and no core away; so it is behind the last entry.
+/// flat machine, and no reference is open in them and no core away; so it is after the last entry.
 ///
 /// # Errors
 ///
@@ -60,11 +60,12 @@ fn push_entry(
     choice: Choice,
 ) -> Result<(), AllocError>
     requires { AreBoth (flat_state before.old) before.old after.old }
-    ensures line { OnOk result (string_bytes text.new ≡ string_bytes text.old ++ chosen_line choice (flat_state before.old) number entry) }
+    ensures line { OnOk result (string_bytes text.new ≡ string_bytes text.old
+        ++ chosen_line choice (flat_state before.old) number entry) }
     ensures both { OnOk result (AreBoth (flat_step (flat_state before.old) entry) before.new after.new) }
     ensures config { OnOk result (before.new.config ≡ before.old.config) }
 {
-    let outcome = carried_out(after, entry);
+    let outcome = execute(after, entry);
     if !outcome.is_stalled() {
         let word = word_of(before, entry, outcome);
         if choice.takes(processor_of(entry), word) {
@@ -72,11 +73,11 @@ fn push_entry(
             push_line(alloc, text, before, number, entry, outcome, &reference)?;
         }
     }
-    carried_out(before, entry);
+    execute(before, entry);
     Ok(())
 }
 
-/// Appends the line of an entry that does something. What it did to a shared word is told.
+/// Appends the line of an entry that does something. What it did to a shared word is reported.
 fn push_line(
     alloc: Global,
     text: &mut String,
@@ -87,10 +88,11 @@ fn push_line(
     reference: &Option<Reference>,
 ) -> Result<(), AllocError>
     requires home { AreHome before.now }
-    requires told { outcome ≡ answer_to (flat_state before.now) entry }
+    requires fault { outcome ≡ answer_to (flat_state before.now) entry }
     requires moves { outcome ≡ Outcome.Stalled → ⊥ }
     requires reference { reference.now ≡ reference_of (flat_state before.now) entry }
-    ensures { OnOk result (string_bytes text.new ≡ string_bytes text.old ++ line_of (flat_state before.now) number entry) }
+    ensures { OnOk result (string_bytes text.new ≡ string_bytes text.old
+        ++ line_of (flat_state before.now) number entry) }
 {
     match entry {
         Entry::Processor(p) => {
@@ -111,7 +113,8 @@ fn push_shown(
     reference: &Option<Reference>,
 ) -> Result<(), AllocError>
     ensures { (p : Option Processor) → shown.0 ≡ option_map (λ p. p.pc) p →
-        OnOk result (string_bytes text.new ≡ string_bytes text.old ++ line_of_turn number processor p shown.1 reference.now) }
+        OnOk result (string_bytes text.new ≡ string_bytes text.old
+        ++ line_of_turn number processor p shown.1 reference.now) }
 {
     match shown {
         (Some(pc), Some(event)) => {
@@ -121,7 +124,7 @@ fn push_shown(
     }
 }
 
-/// The event that an outcome tells of.
+/// The event that an outcome says of.
 fn event_of(outcome: Outcome) -> Option<Event>
     ensures { result ≡ event_of outcome }
 {
@@ -145,7 +148,7 @@ fn processor_of(entry: Entry) -> Option<u8>
 /// The shared word that an entry acts on, on the machine before it. It does something, and this is what it is answered.
 fn word_of(before: &Machine, entry: Entry, outcome: Outcome) -> Option<u32>
     requires home { AreHome before.now }
-    requires told { outcome ≡ answer_to (flat_state before.now) entry }
+    requires fault { outcome ≡ answer_to (flat_state before.now) entry }
     requires moves { outcome ≡ Outcome.Stalled → ⊥ }
     ensures { result ≡ word_of (flat_state before.now) entry }
 {
@@ -158,7 +161,7 @@ fn word_of(before: &Machine, entry: Entry, outcome: Outcome) -> Option<u32>
 /// The shared word that a processor's turn acts on.
 fn word_of_turn(before: &Machine, p: u8, outcome: Outcome) -> Option<u32>
     requires home { AreHome before.now }
-    requires told { outcome ≡ answer_of (flat_event (flat_state before.now) (entries.Processor p)) }
+    requires fault { outcome ≡ answer_of (flat_event (flat_state before.now) (entries.Processor p)) }
     requires moves { outcome ≡ Outcome.Stalled → ⊥ }
     ensures { result ≡ word_of (flat_state before.now) (entries.Processor p) }
 {

@@ -1,17 +1,17 @@
-//! What `ultra order` tells: the lines of the serial order of a trace's steps.
+//! What `ultra order` says: the lines of the serial order of a trace's steps.
 
 ghost use Rattle.std.specs.Prelude.{◌≡◌, ◌≤◌, List, IfOk, IfErr, string_bytes};
 ghost use Rattle.steps.specs.declared.step.Step.{Step};
 ghost use Rattle.machine_steps.specs.Machines.{MachineLists};
 ghost use Rattle.machine_steps.specs.Runs.{IsOpening, passed};
 ghost use Rattle.command_io.specs.Files.{IsFaultOfSize};
-ghost use Rattle.trace_commands.specs.Explained.{IsBroughtHome};
+ghost use Rattle.trace_commands.specs.Explained.{IsDrainedWithSteps};
 ghost use Rattle.trace_commands.specs.Orders.{AreOrderLines};
 
-use crate::account::Account;
-use crate::draining::brought_home;
+use crate::draining::drained_steps;
 use crate::lines::order_text;
 use crate::states::exit_status;
+use crate::trace_report::TraceReport;
 use command_io::{Fault, opened};
 use elf_image::Image;
 use flat_machine::{Config, Entry};
@@ -19,19 +19,20 @@ use std::alloc::Global;
 use steps::Step;
 use trace_lines::Choice;
 
-/// What `ultra order` tells of a trace ([`crate::account::account_command`]): takes its steps, and then steps until no reference is open.
-/// There are lines of the serial order of whole instructions that explains all of these steps: of each entry that is chosen the line of
-/// what it does in the flat machine that has taken those before it. The exit status is 1 where a processor is faulted.
+/// What `ultra order` says of a trace ([`crate::trace_report::trace_command`]): takes its steps, and then steps until
+/// no reference is open. There are lines of the serial order of whole instructions that explains all of these steps:
+/// of each entry that is chosen the line of what it does in the flat machine that has taken those before it. The exit
+/// status is 1 where a processor is faulted.
 #[derive(Clone, Copy, Debug, Drop)]
 pub struct Order {
     /// Which entries.
     pub choice: Choice,
 }
 
-impl Account for Order {
+impl TraceReport for Order {
     ghost use Rattle.trace_commands.specs.Orders.{AreOrderLines};
 
-    ghost tells = { λ order. AreOrderLines order.choice };
+    ghost reports = { λ order. AreOrderLines order.choice };
 
     fn text(
         &self,
@@ -40,7 +41,7 @@ impl Account for Order {
         config: Config,
         steps: &[Step],
     ) -> Result<(String, u8), Fault> {
-        let all = brought_home(alloc, image, config, steps)?;
+        let all = drained_steps(alloc, image, config, steps)?;
         let entries = entries_of(alloc, image, config, all.as_slice())?;
         lines_of_entries(alloc, image, config, entries.as_slice(), self.choice)
     }
@@ -59,7 +60,8 @@ pub fn entries_of(
     steps: &[Step],
 ) -> Result<Vec<Entry>, Fault>
     requires words { image.now.shared_words ≡ config.shared_words }
-    ensures order { IfOk result (λ entries. (opening : MachineLists) → IsOpening config image.now opening → entries.items ≡ (passed opening steps.now).order) }
+    ensures order { IfOk result (λ entries. (opening : MachineLists) → IsOpening config image.now opening →
+        entries.items ≡ (passed opening steps.now).order) }
     ensures refused { IfErr result (IsFaultOfSize config) }
 {
     let mut machine = opened(alloc, image, config)?;
@@ -69,7 +71,8 @@ pub fn entries_of(
     Ok(entries)
 }
 
-/// The chosen lines of these entries, one behind the other, on a machine of this size that opens on the image, and the exit status.
+/// The chosen lines of these entries, one after another, on a machine of this size that opens on the image, and the
+/// exit status.
 // A function of its own, so that none has many values to drop at each of its ends.
 fn lines_of_entries(
     alloc: Global,
@@ -79,7 +82,7 @@ fn lines_of_entries(
     choice: Choice,
 ) -> Result<(String, u8), Fault>
     requires words { image.now.shared_words ≡ config.shared_words }
-    ensures lines { IfOk result (λ done. (steps all : List Step) → IsBroughtHome config image.now steps all
+    ensures lines { IfOk result (λ done. (steps all : List Step) → IsDrainedWithSteps config image.now steps all
         → ((opening : MachineLists) → IsOpening config image.now opening → entries.now ≡ (passed opening all).order)
         → AreOrderLines choice config image.now steps (string_bytes done.0) done.1) }
     ensures low { IfOk result (λ done. done.1 ≤ 1) }

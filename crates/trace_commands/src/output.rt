@@ -2,7 +2,7 @@
 
 ghost use Rattle.std.specs.Prelude.{◌≡◌, IfErr, OnOk};
 ghost use Rattle.trace_file.specs.Traces.{IsTrace, trace_bytes, trace_of};
-ghost use Rattle.trace_commands.specs.Accounts.{IsPartSaved, IsSaved, IsWorking};
+ghost use Rattle.trace_commands.specs.TraceReports.{IsPartSaved, IsSaved, IsWorking};
 
 use command_io::Fault;
 use flat_machine::Config;

@@ -1,26 +1,27 @@
 //! The report of a log, and its trace.
 
 ghost use Rattle.std.specs.Prelude.{◌≡◌, ◌≤◌, ◌↔◌, true, false, IfOk, IfErr, IfSome, IsErrOf, OnErr, map, string_bytes};
-ghost use Rattle.command_io.specs.Printing.{IsPrinted};
-ghost use Rattle.trace_commands.specs.Causes.{IsNoLogReport};
-ghost use Rattle.trace_commands.specs.Accounts.{CanBeReported, IsLogReport, IsReportOf, IsWorking};
-ghost use Rattle.trace_commands.specs.Retaking.{AreConsoles};
+ghost use Rattle.command_io.specs.Printing.{Prints};
+ghost use Rattle.trace_commands.specs.Causes.{LogReportFails};
+ghost use Rattle.trace_commands.specs.TraceReports.{CanBeReported, IsLogReport, IsReportOf, IsWorking};
+ghost use Rattle.trace_commands.specs.CountedReplays.{AreConsoles};
 
 use crate::output::save;
 use crate::reporting::report_with_status;
-use crate::taking::retaken;
+use crate::taking::replay_counted;
 use command_io::{Fault, opened, print};
 use link::LinkWrite;
 use machine_log::Logged;
-use machine_steps::machine_is_sound;
+use machine_steps::machine_is_well_formed;
 use std::alloc::Global;
 
-/// Writes the trace of a run, where one is asked for, and prints its report: those of a log, once all of it is there. The bytes of the
-/// consoles may come from who has heard them. Answers the exit status.
+/// Writes the trace of a run, where one is asked for, and prints its report: those of a log, once all of it is there.
+/// The bytes of the consoles may come from who has heard them. Answers the exit status.
 ///
 /// # Errors
 ///
-/// [`Fault::Trace`] where the trace cannot be written, exactly [`Fault::Link`] where the report cannot be printed, and [`Fault::Memory`].
+/// [`Fault::Trace`] where the trace cannot be written, exactly [`Fault::Link`] where the report cannot be printed, and
+/// [`Fault::Memory`].
 pub fn print_run<T: LinkWrite, W: LinkWrite>(
     alloc: Global,
     log: &Logged,
@@ -33,10 +34,12 @@ pub fn print_run<T: LinkWrite, W: LinkWrite>(
     requires works { IsWorking T.has_failed trace.old }
     requires prints { W.has_failed out.old ≡ false }
     ensures failed { IsErrOf result Fault.Link ↔ (W.has_failed out.new ≡ true) }
-    ensures reported { IfOk result (λ status. IsPrinted (IsLogReport T.contents log.now trace.old trace.new status) (W.contents out.old)
+    ensures reported { IfOk result (λ status. Prints (IsLogReport T.contents log.now trace.old trace.new status)
+        (W.contents out.old)
         (W.contents out.new)) }
     ensures low { IfOk result (λ status. status ≤ 1) }
-    ensures told { IfErr result (IsNoLogReport T.contents log.now trace.old trace.new (W.contents out.old) (W.contents out.new)) }
+    ensures fault { IfErr result (LogReportFails T.contents log.now trace.old trace.new (W.contents out.old)
+        (W.contents out.new)) }
     ensures silent { OnErr result (W.has_failed out.new ≡ false → out.new ≡ out.old) }
 {
     let (text, status) = reported(alloc, log, consoles)?;
@@ -45,8 +48,8 @@ pub fn print_run<T: LinkWrite, W: LinkWrite>(
     Ok(status)
 }
 
-/// The report of a log, and its exit status. The steps are taken again, on a machine that opens on a copy of the image; as the log's
-/// machine opened on it too, none of them stalls.
+/// The report of a log, and its exit status. The steps are taken again, on a machine that opens on a copy of the
+/// image; as the log's machine opened on it too, none of them stalls.
 fn reported(
     alloc: Global,
     log: &Logged,
@@ -54,13 +57,14 @@ fn reported(
 ) -> Result<(String, u8), Fault>
     requires ready { CanBeReported log.now }
     requires heard { IfSome consoles (λ cs. AreConsoles log.now.opening log.now.steps (map (λ v. v.items) cs.now)) }
-    ensures report { IfOk result (λ done. IsReportOf log.now.machine.config log.now.machine.image log.now.steps (string_bytes done.0) done.1) }
+    ensures report { IfOk result (λ done. IsReportOf log.now.machine.config log.now.machine.image log.now.steps
+        (string_bytes done.0) done.1) }
     ensures low { IfOk result (λ done. done.1 ≤ 1) }
     ensures refused { IfErr result (λ fault. fault ≡ Fault.Memory) }
 {
     let machine = log.machine();
     let mut again = opened(alloc, machine.image(), machine.config())?;
-    machine_is_sound(&again);
-    let tally = retaken(alloc, &mut again, log.steps())?;
+    machine_is_well_formed(&again);
+    let tally = replay_counted(alloc, &mut again, log.steps())?;
     Ok(report_with_status(alloc, &again, &tally, consoles)?)
 }

@@ -2,29 +2,30 @@
 
 ghost use Rattle.std.specs.Prelude.{◌≡◌, ◌≤◌, true, false, IsErr};
 ghost use Rattle.trace_commands.specs.Causes.{IsNoReplay};
-ghost use Rattle.trace_commands.specs.Accounts.{IsReplayReport, known_of};
-ghost use Rattle.command_io.specs.Printing.{IsPrinted, IsTold};
+ghost use Rattle.trace_commands.specs.TraceReports.{IsReplayReport, known_of};
+ghost use Rattle.command_io.specs.FaultTexts.{IsReported};
+ghost use Rattle.command_io.specs.Printing.{Prints, ReportsFault};
 
-use crate::account::{Account, account_command};
 use crate::reporting::report_with_status;
-use crate::taking::{drained, retaken};
+use crate::taking::{drained, replay_counted};
+use crate::trace_report::{TraceReport, trace_command};
 use command_io::{Fault, opened};
 use elf_image::Image;
 use flat_machine::Config;
 use link::LinkWrite;
-use machine_steps::machine_is_sound;
+use machine_steps::machine_is_well_formed;
 use std::alloc::Global;
 use std::io;
 use std::io::{Read, Write};
 use steps::Step;
 
-/// Takes the steps of the trace that a file is, on the machine of the trace's size, and of so many shared
+/// Takes the steps of the trace that a file is, on the machine of the trace's size, and of this many shared
 /// words, that opens on the image that another file is; then takes steps until no reference is open, and
 /// prints the report. What processors show in these last steps counts too. That the image's file cannot be
-/// opened is told where the trace has no fault.
+/// opened is reported where the trace has no fault.
 ///
 /// Answers the exit status: 0 where the report is printed, 1 where it is and a processor is faulted, else
-/// that of the fault that is told on standard error. A fault is told in this order: of the trace, of the
+/// that of the fault that is reported on standard error. A fault is reported in this order: of the trace, of the
 /// image, of the machine's size, of a step that stalls, of the report.
 pub fn replay_command<T: Read + Drop, R: Read + Drop, W: LinkWrite, E: Write>(
     alloc: Global,
@@ -35,23 +36,27 @@ pub fn replay_command<T: Read + Drop, R: Read + Drop, W: LinkWrite, E: Write>(
     err: &mut E,
 ) -> u8
     requires { W.has_failed out.old ≡ false }
-    ensures replayed { result ≤ 1 → IsPrinted (IsReplayReport shared_words (T.remaining trace) (known_of R.remaining file) result) (W.contents out.old)
+    ensures replayed { result ≤ 1 →
+        Prints (IsReplayReport shared_words (T.remaining trace) (known_of R.remaining file) result) (W.contents out.old)
         (W.contents out.new) }
-    ensures told { 2 ≤ result → IsTold W.has_failed Fault.Link (IsErr file)
-        (IsNoReplay shared_words (T.remaining trace) (known_of R.remaining file) (W.contents out.old) (W.contents out.new)) out.old out.new result }
+    ensures fault { 2 ≤ result → ReportsFault W.has_failed Fault.Link (IsErr file)
+        (IsNoReplay shared_words (T.remaining trace) (known_of R.remaining file) (W.contents out.old) (W.contents
+        out.new))
+        (IsReported (E.contents err.old) (E.contents err.new)) out.old out.new result }
     ensures failed { W.has_failed out.new ≡ true → result ≡ 3 }
+    ensures quiet { result ≤ 1 → err.new ≡ err.old }
 {
-    account_command(alloc, trace, file, shared_words, &Report, out, err)
+    trace_command(alloc, trace, file, shared_words, &Report, out, err)
 }
 
-/// The report of the machine after the steps of a trace and a drain: what [`replay_command`] tells.
+/// The report of the machine after the steps of a trace and a drain: what [`replay_command`] says.
 #[derive(Clone, Copy, Debug, Drop)]
 pub struct Report;
 
-impl Account for Report {
-    ghost use Rattle.trace_commands.specs.Accounts.{IsDrainedReport};
+impl TraceReport for Report {
+    ghost use Rattle.trace_commands.specs.TraceReports.{IsDrainedReport};
 
-    ghost tells = { λ report. IsDrainedReport };
+    ghost reports = { λ report. IsDrainedReport };
 
     fn text(
         &self,
@@ -61,8 +66,8 @@ impl Account for Report {
         steps: &[Step],
     ) -> Result<(String, u8), Fault> {
         let mut machine = opened(alloc, image, config)?;
-        machine_is_sound(&machine);
-        let mut tally = retaken(alloc, &mut machine, steps)?;
+        machine_is_well_formed(&machine);
+        let mut tally = replay_counted(alloc, &mut machine, steps)?;
         drained(&mut machine, &mut tally)?;
         Ok(report_with_status(alloc, &machine, &tally, None)?)
     }

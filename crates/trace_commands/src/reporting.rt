@@ -1,6 +1,7 @@
 //! The report of a machine: a line for each processor, and a line for each shared word that is not zero.
 
-ghost use Rattle.std.specs.Prelude.{◌≡◌, ◌<◌, ◌≤◌, ◌^◌, ◌++◌, IfOk, IfSome, List, OnOk, Some, length, map, slice_get, slice_index_or, string_bytes};
+ghost use Rattle.std.specs.Prelude.{◌≡◌, ◌<◌, ◌≤◌, ◌^◌, ◌++◌, IfOk, IfSome, List, OnOk, Some, length, map, slice_get};
+ghost use Rattle.std.specs.Prelude.{slice_index_or, string_bytes};
 ghost use Rattle.flat_machine.specs.declared.config.Config.{Config};
 ghost use Rattle.elf_image.specs.Images.{ImageContents};
 ghost use Rattle.steps.specs.declared.step.Step.{Step};
@@ -9,17 +10,17 @@ ghost use Rattle.command_io.specs.Tallies.{nothing_shown};
 ghost use Rattle.machine_steps.specs.Machines.{AreHome, IsIdle, IsMachine, MachineLists};
 ghost use Rattle.machine_steps.specs.Runs.{IsOpening};
 ghost use Rattle.machine_steps.specs.Standing.{processor_of};
-ghost use Rattle.trace_commands.specs.Accounts.{IsReportOf};
+ghost use Rattle.trace_commands.specs.TraceReports.{IsReportOf};
 ghost use Rattle.trace_commands.specs.Reports.{AreHeard, processor_lines, report_of, shared_lines};
-ghost use Rattle.trace_commands.specs.Retaking.{IsRetaken};
+ghost use Rattle.trace_commands.specs.CountedReplays.{IsReplayCounted};
 
 use crate::states::exit_status;
 use command_io::{Shown, Tally, push_processor, push_shared_word};
-use machine_steps::{Machine, machine_is_sound, runs_are_serialized};
+use machine_steps::{Machine, machine_is_well_formed, runs_are_serialized};
 use std::alloc::{AllocError, Global};
 
-/// The report of a machine that has taken steps, in which its processors have shown this, and its exit status. The bytes of their consoles
-/// may come from who has heard them.
+/// The report of a machine that has taken steps, in which its processors have shown this, and its exit status. The
+/// bytes of their consoles may come from who has heard them.
 ///
 /// # Errors
 ///
@@ -33,18 +34,21 @@ pub(crate) fn report_with_status(
     requires home { AreHome machine.now }
     requires all { length tally.now.shown ≡ 2 ^ machine.now.config.k }
     requires heard { IfSome consoles (λ cs. AreHeard tally.now.shown cs.now) }
-    ensures report { IfOk result (λ done. (c : Config) (image : ImageContents) (steps : List Step) (opening : MachineLists)
-        → IsOpening c image opening → IsMachine opening → IsRetaken opening steps machine.now tally.now → IsIdle machine.now
+    ensures report { IfOk result (λ done. (c : Config) (image : ImageContents) (steps : List Step)
+        (opening : MachineLists)
+        → IsOpening c image opening → IsMachine opening → IsReplayCounted opening steps machine.now tally.now →
+        IsIdle machine.now
         → IsReportOf c image steps (string_bytes done.0) done.1) }
     ensures low { IfOk result (λ done. done.1 ≤ 1) }
 {
-    machine_is_sound(machine);
+    machine_is_well_formed(machine);
     runs_are_serialized();
     let text = report(alloc, machine, tally, consoles)?;
     Ok((text, exit_status(machine)))
 }
 
-/// The report of a machine whose processors have shown this, and none of whose cores is away. The bytes of their consoles may come from who has heard them.
+/// The report of a machine whose processors have shown this, and none of whose cores is away. The bytes of their
+/// consoles may come from who has heard them.
 ///
 /// # Errors
 ///
@@ -77,7 +81,8 @@ fn push_processors(
     requires home { AreHome machine.now }
     requires all { length tally.now.shown ≡ 2 ^ machine.now.config.k }
     requires heard { IfSome consoles (λ cs. AreHeard tally.now.shown cs.now) }
-    ensures { OnOk result (string_bytes text.new ≡ string_bytes text.old ++ processor_lines machine.now tally.now.shown (2 ^ machine.now.config.k)) }
+    ensures { OnOk result (string_bytes text.new ≡ string_bytes text.old
+        ++ processor_lines machine.now tally.now.shown (2 ^ machine.now.config.k)) }
 {
     for p in 0..machine.config().processors() {
         push_line(alloc, text, machine, tally, consoles, p)?;
@@ -100,7 +105,8 @@ fn push_line(
     requires all { length tally.now.shown ≡ 2 ^ machine.now.config.k }
     requires heard { IfSome consoles (λ cs. AreHeard tally.now.shown cs.now) }
     ensures { OnOk result (string_bytes text.new ≡ string_bytes text.old
-        ++ processor_line p (processor_of machine.now p).pc (processor_of machine.now p).status (slice_index_or tally.now.shown p nothing_shown)) }
+        ++ processor_line p (processor_of machine.now p).pc (processor_of machine.now p).status (slice_index_or
+        tally.now.shown p nothing_shown)) }
 {
     let Some(pc) = machine.pc(p) else {
         unreachable!()
@@ -132,7 +138,8 @@ fn console_of<'a>(shown: &'a Shown, consoles: Option<&'a [Vec<u8>]>, p: u8) -> &
 ///
 /// [`AllocError`] where there is no memory for them.
 pub fn push_words(alloc: Global, text: &mut String, machine: &Machine) -> Result<(), AllocError>
-    ensures { OnOk result (string_bytes text.new ≡ string_bytes text.old ++ shared_lines machine.now machine.now.config.shared_words) }
+    ensures { OnOk result (string_bytes text.new ≡ string_bytes text.old
+        ++ shared_lines machine.now machine.now.config.shared_words) }
 {
     for number in 0..machine.config().shared_words {
         let Some(word) = machine.word(number) else {

@@ -1,4 +1,4 @@
-//! The exit status that tells how the processors of a machine stopped.
+//! The exit status that says how the processors of a machine stopped.
 
 ghost use Rattle.trace_commands.specs.Reports.{IsExitOf};
 

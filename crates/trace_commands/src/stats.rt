@@ -1,9 +1,9 @@
-//! What `ultra stats` tells: how often the steps of a trace did what.
+//! What `ultra stats` says: how often the steps of a trace did what.
 
-use crate::account::Account;
 use crate::counting::counted;
-use crate::draining::brought_home;
+use crate::draining::drained_steps;
 use crate::states::exit_status;
+use crate::trace_report::TraceReport;
 use command_io::{Fault, opened};
 use elf_image::Image;
 use flat_machine::Config;
@@ -11,15 +11,16 @@ use run_counts::{counts_text, rounds_of};
 use std::alloc::Global;
 use steps::Step;
 
-/// What `ultra stats` tells of a trace ([`crate::account::account_command`]): takes its steps, and then steps until no reference is open.
-/// There are lines of how often all these steps did what. The exit status is 1 where a processor is faulted.
+/// What `ultra stats` says of a trace ([`crate::trace_report::trace_command`]): takes its steps, and then steps until
+/// no reference is open. There are lines of how often all these steps did what. The exit status is 1 where a processor
+/// is faulted.
 #[derive(Clone, Copy, Debug, Drop)]
 pub struct Stats;
 
-impl Account for Stats {
+impl TraceReport for Stats {
     ghost use Rattle.trace_commands.specs.Stats.{AreStatsLines};
 
-    ghost tells = { λ stats. AreStatsLines };
+    ghost reports = { λ stats. AreStatsLines };
 
     fn text(
         &self,
@@ -28,11 +29,11 @@ impl Account for Stats {
         config: Config,
         steps: &[Step],
     ) -> Result<(String, u8), Fault> {
-        let all = brought_home(alloc, image, config, steps)?;
+        let all = drained_steps(alloc, image, config, steps)?;
         let mut machine = opened(alloc, image, config)?;
         let (counts, longest) = counted(alloc, &mut machine, all.as_slice())?;
         let k = machine.config().k;
-        let rounds = rounds_of(all.as_slice(), k);
+        let rounds = rounds_of(all.as_slice());
         let text = counts_text(alloc, &counts, &longest, rounds, k)?;
         Ok((text, exit_status(&machine)))
     }

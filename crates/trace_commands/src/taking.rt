@@ -4,11 +4,11 @@ ghost use Rattle.std.specs.Prelude.{◌≡◌, ◌≤◌, ◌++◌, List, IfOk, 
 ghost use Rattle.steps.specs.declared.step.Step.{Step};
 ghost use Rattle.machine_steps.specs.Machines.{MachineLists, IsIdle};
 ghost use Rattle.machine_steps.specs.Draining.{drain_steps};
-ghost use Rattle.trace_commands.specs.Retaking.{IsRetaken, IsNotRetaken};
+ghost use Rattle.trace_commands.specs.CountedReplays.{IsReplayCounted, IsNotRetaken};
 
 use command_io::{Fault, Tally};
-use machine_log::replay_noted;
-use machine_steps::{Machine, machine_is_sound};
+use machine_log::replay_observed;
+use machine_steps::{Machine, machine_is_well_formed};
 use std::alloc::{AllocError, Global};
 use steps::Step;
 
@@ -18,13 +18,13 @@ use steps::Step;
 ///
 /// [`Fault::Stalled`] at the first step that stalls: then the machine stands after the steps before.
 /// [`Fault::Memory`] where there is no memory for the tally.
-pub fn retaken(alloc: Global, machine: &mut Machine, steps: &[Step]) -> Result<Tally, Fault>
+pub fn replay_counted(alloc: Global, machine: &mut Machine, steps: &[Step]) -> Result<Tally, Fault>
     requires { length steps.now ≤ 4194304 }
-    ensures taken { IfOk result (λ tally. IsRetaken machine.old steps.now machine.new tally) }
+    ensures taken { IfOk result (λ tally. IsReplayCounted machine.old steps.now machine.new tally) }
     ensures refused { IfErr result (IsNotRetaken machine.old steps.now machine.new) }
 {
     let mut tally = Tally::new(alloc, machine.config().processors())?;
-    match replay_noted(machine, steps, &mut tally)? {
+    match replay_observed(machine, steps, &mut tally)? {
         Ok(()) => Ok(tally),
         Err(stalled) => Err(Fault::Stalled(stalled.place)),
     }
@@ -36,12 +36,13 @@ pub fn retaken(alloc: Global, machine: &mut Machine, steps: &[Step]) -> Result<T
 ///
 /// [`AllocError`] where there is no memory for a byte of the console.
 pub fn drained(machine: &mut Machine, tally: &mut Tally) -> Result<(), AllocError>
-    requires { tally.old.noted ≤ 4194304 }
+    requires { tally.old.observed ≤ 4194304 }
     ensures idle { OnOk result (IsIdle machine.new) }
-    ensures taken { OnOk result ((opening : MachineLists) (steps : List Step) → IsRetaken opening steps machine.old tally.old →
-        IsRetaken opening (steps ++ drain_steps machine.old) machine.new tally.new) }
+    ensures taken { OnOk result ((opening : MachineLists) (steps : List Step) →
+        IsReplayCounted opening steps machine.old tally.old →
+        IsReplayCounted opening (steps ++ drain_steps machine.old) machine.new tally.new) }
 {
-    machine_is_sound(machine);
-    machine.drain_noted(tally)?;
+    machine_is_well_formed(machine);
+    machine.drain_observed(tally)?;
     Ok(())
 }

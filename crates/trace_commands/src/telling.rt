@@ -31,7 +31,7 @@ pub fn story_text(
     for (number, step) in steps.iter().enumerate() {
         let outcome = machine.apply(*step);
         push_line(alloc, &mut text, &groups, number, step, &outcome)?;
-        groups.note(alloc, step, &outcome)?;
+        groups.observe(alloc, step, &outcome)?;
     }
     Ok(text)
 }

@@ -212,6 +212,7 @@ module _ (bytes : List ℕ) (h : Header) (is : IsHeader h) (steps : List Step) (
       let begins : BeginsWith h steps (b ∷ rest) bytes = record { header = is; records = records; few = omega arith; spelled = spelled } in
       inr (header_length h + 12 * length steps, error.Trailing, inr (h, steps, b ∷ rest, begins, refl, inr (whole, omega arith, refl)))
 
+-- Bytes spell a trace or have a fault.
 pub spelled_or_faulty : (bytes : List ℕ) → AreBytes bytes → ((t : TraceContents) × Spells bytes t) ⊎ HasFault bytes
 spelled_or_faulty bytes are =
     let small = small_bytes bytes are in

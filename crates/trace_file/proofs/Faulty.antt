@@ -114,6 +114,7 @@ body_once h ss ts us vs f g p q e a b = elim a [
   ]
 ]
 
+-- Two faults of the same bytes are the same, at the same place.
 pub one_fault : (bytes : List ℕ) (m n : ℕ) (f g : TraceError) → FaultAt m bytes f → FaultAt n bytes g → (m ≡ n) × (f ≡ g)
 one_fault bytes m n f g p q = elim p [
   | inl a ↦ elim q [
@@ -149,6 +150,7 @@ no_body_fault h ss ts us f p q whole e fault = elim fault [
   | inr x ↦ omega (arith, ap length (same_steps h.k ss ts us [] p q (x.0 ∙ sym whole) e).1, x.1)
 ]
 
+-- Bytes that spell a trace have no fault.
 pub no_fault : (bytes : List ℕ) (t : TraceContents) (n : ℕ) (f : TraceError) → Spells bytes t → FaultAt n bytes f → ⊥
 no_fault bytes t n f s p =
     let begins = trace_begins bytes t s in
@@ -203,6 +205,7 @@ body_stays h steps rest more f other body = elim body [
   | inr x ↦ inr (x.0, omega (arith, length-append rest more, x.1), x.2)
 ]
 
+-- A fault stays at its place if more bytes follow, unless it is that the bytes are cut short.
 pub fault_stays : (bytes more : List ℕ) (n : ℕ) (f : TraceError) → f ≢ error.Truncated → FaultAt n bytes f → FaultAt n (bytes ++ more) f
 fault_stays bytes more n f other p = elim p [
   | inl a ↦ inl (a.0, header_stays bytes more f other a.1)

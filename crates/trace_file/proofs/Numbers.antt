@@ -121,7 +121,7 @@ length-header_bytes h = go (h.r == 1) refl
     go true e = ap length (short_is h e) ∙ sym (short_length h e)
     go false e = ap length (long_is h e) ∙ sym (long_length h e)
 
--- the number of its format tells how long it is
+-- the number of its format says how long it is
 pub size_is : (h : Header) (rest : List ℕ) → header_size (header_bytes h ++ rest) ≡ header_length h
 size_is h rest = go (h.r == 1) refl
   where
@@ -129,6 +129,7 @@ size_is h rest = go (h.r == 1) refl
     go true e = ap (λ (x : List ℕ). header_size (x ++ rest)) (short_is h e) ∙ short_size h rest ∙ sym (short_length h e)
     go false e = ap (λ (x : List ℕ). header_size (x ++ rest)) (long_is h e) ∙ long_size h rest ∙ sym (long_length h e)
 
+-- A header has 12 to 16 bytes.
 pub length_within : (h : Header) → (12 ≤ header_length h) × (header_length h ≤ 16)
 length_within h = go (h.r == 1) refl
   where
@@ -140,10 +141,12 @@ by_format : (byte : ℕ) (b : Bool) → (byte == 2) ≡ b → (12 ≤ (if byte =
 by_format byte true e = rw e (omega arith, omega arith)
 by_format byte false e = rw e (omega arith, omega arith)
 
+-- The number of the format, whatever it is, gives a header 12 to 16 bytes.
 pub size_within : (bytes : List ℕ) → (12 ≤ header_size bytes) × (header_size bytes ≤ 16)
 unfolding header_size
 size_within bytes = by_format (slice_index bytes 4) (slice_index bytes 4 == 2) refl
 
+-- If byte 4 is 2, a header has 16 bytes.
 pub long_format : (bytes : List ℕ) → slice_index bytes 4 ≡ 2 → header_size bytes ≡ 16
 unfolding header_size
 long_format bytes two = ap (λ (x : ℕ). if x == 2 then 16 else 12) two
@@ -153,6 +156,7 @@ pub same_size : (xs ys : List ℕ) → slice_index xs 4 ≡ slice_index ys 4 →
 unfolding header_size
 same_size xs ys same = ap (λ (x : ℕ). if x == 2 then 16 else 12) same
 
+-- If bytes have a number of the format, more bytes after them do not change the size of the header.
 pub size_stays : (bytes more : List ℕ) → 4 < length bytes → header_size (bytes ++ more) ≡ header_size bytes
 size_stays bytes more long = same_size (bytes ++ more) bytes (get_or_append_left bytes more 0 4 long)
 

@@ -17,6 +17,7 @@ use Rattle.trace_file.proofs.Records.{length-records_bytes, records_bytes-append
 
 -- ---- the records of a piece, one by one
 
+-- If the rest of a piece begins with the record of a step, and this step is appended, it is added too.
 pub adds_more : (k : ℕ) (old new more : List Step) (piece rest bytes behind : List ℕ) (step : Step) → Adds k old new piece rest → rest ≡ bytes ++ behind →
     record_bytes step ≡ bytes → HasRecord k step →
     more ≡ new ++ step ∷ [] → Adds k old more piece behind
@@ -37,6 +38,7 @@ no_record k bytes none step has same =
 
 -- ---- a piece
 
+-- If a piece of n bytes was read whole, and all its whole records were added, n / 12 records were read.
 pub piece_whole : (k : ℕ) (old new : List Step) (a b : Option (List ℕ)) (bytes rest : List ℕ) (n : ℕ) → length bytes ≡ n → n % 12 ≡ 0 → length rest < 12 →
     Adds k old new bytes rest → Consumes a b bytes →
     AddsRead k (n / 12) old new a b
@@ -48,6 +50,7 @@ piece_whole k old new a b bytes rest n size whole short adds consumed =
     adds.spelled ∙ ap (λ (x : List ℕ). records_bytes adds.added ++ x) (nil_from_length rest none) ∙ append-nil (records_bytes adds.added) in
     record { added = adds.added; grown = adds.grown; records = adds.records; whole = omega arith; consumed = subst (Consumes a b) spelled consumed }
 
+-- If the bytes end before a piece of n bytes is full, reading n / 12 records stops: they are cut short.
 pub piece_short : (k : ℕ) (old new : List Step) (a b : Option (List ℕ)) (bytes rest : List ℕ) (n : ℕ) → length bytes < n → n % 12 ≡ 0 → length rest < 12 →
     Adds k old new bytes rest → Consumes a b bytes → IsAtEnd b →
     IsStopped 4092 k (n / 12) a b error.Truncated
@@ -56,6 +59,7 @@ piece_short k old new a b bytes rest n size whole short adds consumed end =
     let lengths : length bytes ≡ 12 * length adds.added + length rest = ap length adds.spelled ∙ omega (arith, length-append (records_bytes adds.added) rest) in
     (adds.added, rest, (subst (Consumes a b) adds.spelled consumed, end), record { records = adds.records; few = omega arith; wrong = short })
 
+-- If the records of a piece of at most n bytes were not all added, reading n / 12 records stops with that fault.
 pub piece_wrong : (k : ℕ) (a b : Option (List ℕ)) (bytes : List ℕ) (n : ℕ) (fault : TraceError) → length bytes ≤ n → n % 12 ≡ 0 → n ≤ 4092 →
     IsNotAdded k bytes fault → Consumes a b bytes →
     IsStopped 4092 k (n / 12) a b fault
@@ -78,6 +82,7 @@ piece_count piece count size few =
     let long : length (take (12 * count) piece) ≡ 12 * count = length-take-le (12 * count) piece (omega arith) in
     omega arith
 
+-- If m records were read and then n more, m + n records were read.
 pub read_more : (k m n count : ℕ) (old mid new : List Step) (a b c : Option (List ℕ)) → m + n ≡ count → AddsRead k m old mid a b → AddsRead k n mid new b c →
     AddsRead k count old new a c
 read_more k m n count old mid new a b c sum p q = record {
@@ -88,7 +93,7 @@ read_more k m n count old mid new a b c sum p q = record {
   consumed = subst (Consumes a c) (sym (records_bytes-append p.added q.added)) (Consumes-trans a b c _ _ p.consumed q.consumed);
 }
 
--- records that were read, and then the rest behind more of them
+-- records that were read, and then the rest after more of them
 joined : (k m : ℕ) (old mid : List Step) (a b c : Option (List ℕ)) (steps : List Step) (rest : List ℕ) → (p : AddsRead k m old mid a b) →
     Consumes b c (records_bytes steps ++ rest) → Consumes a c (records_bytes (p.added ++ steps) ++ rest)
 joined k m old mid a b c steps rest p consumed =
@@ -113,6 +118,7 @@ further k m n count old mid a b c sum p (bytes, few, consumed) =
     let records = length-records_bytes p.added in
     (records_bytes p.added ++ bytes, omega (arith, length-append (records_bytes p.added) bytes, few), Consumes-trans a b c _ _ p.consumed consumed)
 
+-- If m records were read, and reading n more stops with a fault, so does reading m + n records or more.
 pub stopped_later : (k m n count : ℕ) (old mid : List Step) (a b c : Option (List ℕ)) (fault : TraceError) → m + n ≤ count → AddsRead k m old mid a b →
     IsStopped 4092 k n b c fault → IsStopped 4092 k count a c fault
 stopped_later k m n count old mid a b c error.Link sum p q = further k m n count old mid a b c sum p q

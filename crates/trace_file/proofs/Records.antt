@@ -21,7 +21,7 @@ length-records_bytes (step ∷ steps) =
 pub records_bytes-append : (xs ys : List Step) → records_bytes (xs ++ ys) ≡ records_bytes xs ++ records_bytes ys
 records_bytes-append xs ys = flat_map-append record_bytes xs ys
 
--- a record that stands behind others
+-- a record that stands after others
 pub records_bytes-more : (xs : List Step) (step : Step) (rest : List ℕ) →
     records_bytes (xs ++ step ∷ []) ++ rest ≡ records_bytes xs ++ (record_bytes step ++ rest)
 records_bytes-more xs step rest =
@@ -29,8 +29,10 @@ records_bytes-more xs step rest =
     ∙ append_assoc (records_bytes xs) (record_bytes step ++ []) rest
     ∙ ap (λ (z : List ℕ). records_bytes xs ++ (z ++ rest)) (append-nil (record_bytes step))
 
+-- If a step has a record, so has each step of the list that is this step alone.
 pub one_record : (k : ℕ) (step : Step) → HasRecord k step → HaveRecords k (step ∷ [])
 one_record k step has = All-cons (HasRecord k) step [] has (All-nil (HasRecord k))
 
+-- If the steps of two lists have records, so have those of one list followed by the other.
 pub records_join : (k : ℕ) (xs ys : List Step) → HaveRecords k xs → HaveRecords k ys → HaveRecords k (xs ++ ys)
 records_join k xs ys = All-append (HasRecord k) xs ys

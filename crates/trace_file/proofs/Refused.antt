@@ -18,6 +18,7 @@ use Rattle.trace_file.specs.Reading.{AddsRead, IsStopped, IsNoEnd, StopsBehind}
 use Rattle.trace_file.proofs.Numbers.{length-header_bytes, length_within, size_stays, size_within}
 use Rattle.trace_file.proofs.Records.{length-records_bytes}
 
+-- If as many bytes were read as a header has, and they are no header's, the trace is refused for its header.
 pub header_wrong : (a b : Option (List ℕ)) (bytes : List ℕ) → length bytes ≡ header_size bytes → Consumes a b bytes →
     ((h : Header) → IsHeader h → bytes ≢ header_bytes h) →
     IsRefused a b error.Header
@@ -30,7 +31,7 @@ header_wrong a b bytes size consumed none =
 pub header_cut : (a b : Option (List ℕ)) (bytes : List ℕ) → length bytes < 5 → Consumes a b bytes → IsAtEnd b → IsRefused a b error.Truncated
 header_cut a b bytes short consumed end = (bytes, 0, (consumed, end), inl (refl, omega (arith, (size_within bytes).0)))
 
--- they end behind it
+-- they end after it
 pub header_cut_later : (a b c : Option (List ℕ)) (front rest : List ℕ) (size : ℕ) → length front ≡ 5 → length rest < size - 5 → size ≡ header_size front →
     Consumes a b front → Consumes b c rest → IsAtEnd c → IsRefused a c error.Truncated
 header_cut_later a b c front rest size five short is first second end = (
@@ -46,14 +47,14 @@ pub format_read : (front behind : List ℕ) (size : ℕ) → length front ≡ 5 
 unfolding header_size
 format_read front behind size five is = is ∙ ap (λ (x : ℕ). if x == 2 then 16 else 12) (get_or_append_left front behind 0 4 (omega arith))
 
--- the buffer behind both readings
+-- the buffer after both readings
 pub header_filled : (front behind rest : List ℕ) (size : ℕ) → length front ≡ 5 → length rest ≡ size - 5 → 5 ≤ size →
     take size (put_mid 5 (size - 5) (front ++ behind) rest) ≡ front ++ rest
 header_filled front behind rest size five lengths least =
     take-put_mid 5 (size - 5) (front ++ behind) rest size (omega arith) (omega (arith, length-append front behind))
     ∙ ap (λ (x : List ℕ). x ++ rest) (take_at front behind 5 five)
 
--- the link failed behind it
+-- the link failed after it
 pub header_failed : (a b c : Option (List ℕ)) (front : List ℕ) (size : ℕ) → length front ≤ 16 → Consumes a b front → size ≤ 16 → ConsumesLess size b c →
     IsRefused a c error.Link
 header_failed a b c front size few first most (rest, less, second) =
@@ -75,7 +76,7 @@ module _ (h : Header) (header : IsHeader h) where
         length-records_bytes steps,
       )
 
-  -- the header, and fewer bytes behind it than its records have
+  -- the header, and fewer bytes after it than its records have
   body_stopped : (a b c : Option (List ℕ)) → Consumes a b (header_bytes h) → ConsumesAtMost (12 * h.count) b c → ConsumesAtMost most_trace_bytes a c
   body_stopped a b c before (bytes, few, consumed) = (
     header_bytes h ++ bytes,
@@ -83,6 +84,7 @@ module _ (h : Header) (header : IsHeader h) where
     Consumes-trans a b c _ _ before consumed,
   )
 
+  -- If a header was read, and reading its records stops with a fault, the trace is refused with that fault.
   pub body_refused : (a b c : Option (List ℕ)) (fault : TraceError) → Consumes a b (header_bytes h) → IsStopped 4092 h.k h.count b c fault → IsRefused a c fault
   body_refused a b c error.Link before stopped = body_stopped a b c before stopped
   body_refused a b c error.Memory before stopped = body_stopped a b c before stopped
@@ -102,6 +104,7 @@ module _ (h : Header) (header : IsHeader h) where
     omega (arith, length-spelled steps rest),
   )
 
+  -- If a header and all its records were read, and there is no end after them, the trace is refused with that fault.
   pub end_refused : (steps : List Step) (a b c d : Option (List ℕ)) (fault : TraceError) → Consumes a b (header_bytes h) → AddsRead h.k h.count [] steps b c →
       IsNoEnd c d fault → IsRefused a d fault
   end_refused steps a b c d error.Link before adds (bytes, none, consumed) =

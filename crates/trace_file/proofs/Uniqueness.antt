@@ -63,6 +63,7 @@ same_headers h g us vs p q e =
 same_contents : (t u : TraceContents) → header_of t ≡ header_of u → t.steps ≡ u.steps → t ≡ u
 same_contents t u same steps = λ i. record { k = (same i).k; c = (same i).c; b = (same i).b; r = (same i).r; steps = steps i }
 
+-- Two traces with the same bytes are the same.
 pub one_trace : (t u : TraceContents) → IsTrace t → IsTrace u → trace_bytes t ≡ trace_bytes u → t ≡ u
 one_trace t u p q e =
     let parts = same_headers (header_of t) (header_of u) (records_bytes t.steps) (records_bytes u.steps) p.header q.header e in

@@ -6,6 +6,7 @@ use Rattle.steps.specs.declared.step.Step.{Step}
 use Rattle.trace_file.specs.Traces.{records_bytes}
 use Rattle.trace_file.proofs.Records.{records_bytes-append}
 
+-- What holds in any case holds in that of an error.
 pub on_err : {T E : Type 0} (r : Result T E) (P : Type 0) → P → OnErr r P
 on_err (Ok x) P p = tt
 on_err (Err e) P p = p
@@ -29,6 +30,7 @@ written_parts steps written rest n whole =
     ∙ sym (records_bytes-append written rest)
     ∙ ap records_bytes (sym whole)
 
+-- Steps that are those written and a rest are those written, the next n, and what is left after these.
 pub steps_parts : (steps written rest : List Step) (n : ℕ) → steps ≡ written ++ rest → steps ≡ (written ++ take n rest) ++ drop n rest
 steps_parts steps written rest n whole =
     whole ∙ ap (λ (x : List Step). written ++ x) (sym (take-append-drop n rest)) ∙ sym (append_assoc written (take n rest) (drop n rest))

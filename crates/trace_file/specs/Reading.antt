@@ -1,5 +1,6 @@
 -- What the parts of reading give.
-use Rattle.std.specs.Prelude.{◌≡◌, ℕ, ◌*◌, ◌<◌, ◌≤◌, Bool, true, false, List, [], ◌∷◌, ◌++◌, length, slice_index, Option, Result, Ok, Err, ◌==◌, if◌then◌else◌}
+use Rattle.std.specs.Prelude.{◌≡◌, ℕ, ◌*◌, ◌<◌, ◌≤◌, Bool, true, false, List, [], ◌∷◌, ◌++◌, length, slice_index}
+use Rattle.std.specs.Prelude.{Option, Result, Ok, Err, ◌==◌, if◌then◌else◌}
 use Rattle.std.specs.Int.{w32, from_le_bytes}
 use Rattle.std.specs.Io.KnownBytes.{Consumes}
 use Rattle.link.specs.Transfer.{ConsumesAll, ConsumesAtMost, ConsumesLess}
@@ -19,8 +20,20 @@ word_in xs i j k l = from_le_bytes w32 (slice_index xs i ∷ slice_index xs j �
 unfoldable pub header_in : List ℕ → Header
 header_in xs =
     if slice_index xs 4 == 2
-    then record { k = slice_index xs 5; c = slice_index xs 6; b = slice_index xs 7; r = slice_index xs 8; count = word_in xs 12 13 14 15 }
-    else record { k = slice_index xs 5; c = slice_index xs 6; b = slice_index xs 7; r = 1; count = word_in xs 8 9 10 11 }
+    then record {
+      k = slice_index xs 5;
+      c = slice_index xs 6;
+      b = slice_index xs 7;
+      r = slice_index xs 8;
+      count = word_in xs 12 13 14 15;
+    }
+    else record {
+      k = slice_index xs 5;
+      c = slice_index xs 6;
+      b = slice_index xs 7;
+      r = 1;
+      count = word_in xs 8 9 10 11;
+    }
 
 -- the fields of twelve bytes
 unfoldable pub fields_in : List ℕ → Fields
@@ -46,24 +59,25 @@ abbrev pub is_link_fault : {T : Type 0} → Result T TraceError → Bool
 is_link_fault (Ok x) = false
 is_link_fault (Err fault) = is_link fault
 
--- Steps were added, and a piece begins with their records. The rest of the piece stands behind them.
+-- Steps were added, and a piece begins with their records. The rest of the piece stands after them.
 pub record Adds (k : ℕ) (old new : List Step) (piece rest : List ℕ) : Type 0 where
   pub added : List Step
   pub grown : new ≡ old ++ added
   pub records : HaveRecords k added
   pub spelled : piece ≡ records_bytes added ++ rest
 
--- why not all whole records of a piece were added: memory was short, or behind the records of these steps stands none
+-- why not all whole records of a piece were added: memory was short, or after the records of these steps stands none
 abbrev pub IsNotAdded : (k : ℕ) → (piece : List ℕ) → TraceError → Type 0
 IsNotAdded k piece error.Memory = Unit {0}
 IsNotAdded k piece error.Record =
-    (steps : List Step) × (rest : List ℕ) × HaveRecords k steps × (piece ≡ records_bytes steps ++ rest) × RecordFault k rest error.Record
+    (steps : List Step) × (rest : List ℕ) × HaveRecords k steps × (piece ≡ records_bytes steps ++ rest)
+    × RecordFault k rest error.Record
 IsNotAdded k piece error.Truncated = ⊥
 IsNotAdded k piece error.Header = ⊥
 IsNotAdded k piece error.Trailing = ⊥
 IsNotAdded k piece error.Link = ⊥
 
--- so many steps were added, and their records were read
+-- this many steps were added, and their records were read
 pub record AddsRead (k count : ℕ) (old new : List Step) (before after : Option (List ℕ)) : Type 0 where
   pub added : List Step
   pub grown : new ≡ old ++ added
@@ -71,22 +85,24 @@ pub record AddsRead (k count : ℕ) (old new : List Step) (before after : Option
   pub whole : length added ≡ count
   pub consumed : Consumes before after (records_bytes added)
 
--- the records of these steps were read, and the rest behind them, in which the next of so many records is wrong
+-- the records of these steps were read, and the rest after them, in which the next of this many records is wrong
 pub record StopsBehind (k count : ℕ) (steps : List Step) (rest : List ℕ) (fault : TraceError) : Type 0 where
   pub records : HaveRecords k steps
   pub few : length steps < count
   pub wrong : RecordFault k rest fault
 
--- why not so many records were read, and what was
+-- why not this many records were read, and what was
 abbrev pub IsStopped : (piece k count : ℕ) → (old new : Option (List ℕ)) → TraceError → Type 0
 IsStopped piece k count old new error.Link = ConsumesAtMost (12 * count) old new
 IsStopped piece k count old new error.Memory = ConsumesAtMost (12 * count) old new
 IsStopped piece k count old new error.Header = ⊥
 IsStopped piece k count old new error.Trailing = ⊥
 IsStopped piece k count old new error.Truncated =
-    (steps : List Step) × (rest : List ℕ) × ConsumesAll old new (records_bytes steps ++ rest) × StopsBehind k count steps rest error.Truncated
+    (steps : List Step) × (rest : List ℕ) × ConsumesAll old new (records_bytes steps ++ rest)
+    × StopsBehind k count steps rest error.Truncated
 IsStopped piece k count old new error.Record =
-    (steps : List Step) × (rest : List ℕ) × Consumes old new (records_bytes steps ++ rest) × StopsBehind k count steps rest error.Record × (length rest ≤ piece)
+    (steps : List Step) × (rest : List ℕ) × Consumes old new (records_bytes steps ++ rest)
+    × StopsBehind k count steps rest error.Record × (length rest ≤ piece)
 
 -- why there is no end: the link failed, before a byte was read, or there is a byte
 abbrev pub IsNoEnd : (old new : Option (List ℕ)) → TraceError → Type 0

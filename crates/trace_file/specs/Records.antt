@@ -1,4 +1,5 @@
--- The record of a step: 12 bytes, namely kind, A, B, zero, and then address and value, four bytes each, the lowest first.
+-- The record of a step: 12 bytes, namely kind, A, B, zero, and then address and value, four bytes each, the lowest
+-- first.
 --
 -- Kind  Step            A    B        Address                   Value
 -- 1     Turn            p
@@ -10,7 +11,8 @@
 -- 7     Poke Shared                   0x80000000 to 0x800FFFFF  0 to 255
 --
 -- Fields without an entry are 0. With k stages, p, m and w are below 2^k, and s is below k.
-use Rattle.std.specs.Prelude.{◌≡◌, ℕ, ◌^◌, ◌%◌, Bool, true, ◌==◌, Option, Some, None, if◌then◌else◌, ◌&&◌, ◌||◌, nat_lt, List, ◌∷◌, ◌++◌}
+use Rattle.std.specs.Prelude.{◌≡◌, ℕ, ◌^◌, ◌%◌, Bool, true, ◌==◌, Option, Some, None, if◌then◌else◌, ◌&&◌, ◌||◌, nat_lt}
+use Rattle.std.specs.Prelude.{List, ◌∷◌, ◌++◌}
 use Rattle.std.specs.Int.{w32, to_le_bytes, is_in_range}
 use Rattle.flat_machine.specs.declared.poke.Poke.{Poke}
 use Rattle.flat_machine.specs.declared.poke.Poke.TheVariants.{Register, Local, Shared}
@@ -39,10 +41,12 @@ field_bytes f = f.kind ∷ f.a ∷ f.b ∷ f.unused ∷ (to_le_bytes w32 f.addre
 abbrev pub record_bytes : Step → List ℕ
 record_bytes step = field_bytes (fields_of step)
 
--- the entries of a poke's record are in range, for so many processors
+-- the entries of a poke's record are in range, for this many processors
 abbrev pub has_poke_record : (processors : ℕ) → Poke → Bool
-has_poke_record n (Register p r value) = nat_lt p n && is_in_range 1 32 r && (nat_lt r 32 || value % 4 == 0) && nat_lt value (2 ^ 32)
-has_poke_record n (Local p address value) = nat_lt p n && is_in_range 0x00020000 0x0002FFFF address && is_in_range 0 255 value
+has_poke_record n (Register p r value) = nat_lt p n && is_in_range 1 32 r && (nat_lt r 32 || value % 4 == 0)
+    && nat_lt value (2 ^ 32)
+has_poke_record n (Local p address value) = nat_lt p n && is_in_range 0x00020000 0x0002FFFF address
+    && is_in_range 0 255 value
 has_poke_record n (Shared address value) = is_in_range 0x80000000 0x800FFFFF address && is_in_range 0 255 value
 
 -- the entries of a step's record are in range, for a machine with k stages

@@ -19,7 +19,7 @@ pub record TraceContents : Type 0 where
 abbrev pub trace_of : Config → List Step → TraceContents
 trace_of config steps = record { k = config.k; c = config.c; b = config.b; r = config.r; steps = steps }
 
--- the size of a machine with a trace's network and so many shared words
+-- the size of a machine with a trace's network and this many shared words
 abbrev pub config_of : TraceContents → (shared_words : ℕ) → Config
 config_of t shared_words = record { k = t.k; c = t.c; b = t.b; r = t.r; shared_words = shared_words }
 

@@ -20,7 +20,7 @@ pub enum TraceError {
     /// A record is no step's: its kind, a number out of its range, or an unused byte that is not 0.
     #[error("X3")]
     Record,
-    /// There are bytes behind the last record.
+    /// There are bytes after the last record.
     #[error("X4")]
     Trailing,
     /// The link failed.

@@ -138,7 +138,7 @@ impl Fields {
         }
     }
 
-    /// The step that kind, A, B, address and value name, whatever the other fields are.
+    /// The step that kind, A, B, address and value name, for any other fields are.
     #[tactic(auto, unfolding(crate::specs::Records::named_step))]
     fn named_step(&self) -> Option<Step>
         ensures { result ≡ named_step self.now }
@@ -187,7 +187,7 @@ pub fn has_record(step: &Step, k: u8) -> bool
     }
 }
 
-/// Whether the entries of the poke's record are in range, for so many processors.
+/// Whether the entries of the poke's record are in range, for this many processors.
 fn has_poke_record(poke: &Poke, processors: u8) -> bool
     ensures { result ≡ has_poke_record processors poke.now }
 {

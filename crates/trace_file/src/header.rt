@@ -1,6 +1,7 @@
 //! The header of a trace.
 
-ghost use Rattle.std.specs.Prelude.{◌≡◌, ◌≢◌, ◌≤◌, ◌↔◌, ◌==◌, IsTrue, IfSome, IfNone, length, slice_index, if◌then◌else◌};
+ghost use Rattle.std.specs.Prelude.{◌≡◌, ◌≢◌, ◌≤◌, ◌↔◌, ◌==◌, IsTrue, IfSome, IfNone, length, slice_index};
+ghost use Rattle.std.specs.Prelude.{if◌then◌else◌};
 ghost use Rattle.trace_file.specs.Traces.{header_bytes, header_of, long_header, short_header, trace_of, IsHeader};
 ghost use Rattle.trace_file.specs.Faults.{header_size};
 ghost use Rattle.trace_file.specs.Reading.{header_in};

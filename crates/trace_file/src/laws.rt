@@ -8,7 +8,8 @@ ghost use Rattle.trace_file.specs.Laws.{AreBytes, HasFault, Spells};
 
 /// Bytes spell one trace at most.
 pub fn bytes_spell_one_trace()
-    ensures { (one other : TraceContents) → IsTrace one → IsTrace other → trace_bytes one ≡ trace_bytes other → one ≡ other }
+    ensures { (one other : TraceContents) → IsTrace one → IsTrace other → trace_bytes one ≡ trace_bytes other →
+        one ≡ other }
 {}
 
 /// Bytes spell a trace or have a fault, and not both.

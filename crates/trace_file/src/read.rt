@@ -1,6 +1,7 @@
 //! Reading a trace.
 
-ghost use Rattle.std.specs.Prelude.{◌≡◌, ℕ, ◌≤◌, ◌<◌, ◌↔◌, ◌/◌, ◌%◌, true, false, List, [], length, take, OnOk, IfOk, IfErr, IsErrOf};
+ghost use Rattle.std.specs.Prelude.{◌≡◌, ℕ, ◌≤◌, ◌<◌, ◌↔◌, ◌/◌, ◌%◌, true, false, List, [], length, take, OnOk, IfOk};
+ghost use Rattle.std.specs.Prelude.{IfErr, IsErrOf};
 ghost use Rattle.std.specs.Io.KnownBytes.{Consumes};
 ghost use Rattle.link.specs.Transfer.{ConsumesAll};
 ghost use Rattle.trace_file.specs.Traces.{header_bytes, trace_bytes, IsHeader, IsTrace};
@@ -21,7 +22,7 @@ const FORMAT_BYTES: usize = 5;
 
 /// Reads a trace: all that the reader has.
 ///
-/// Room is made for the records that were read, and not for the number that the header tells. Behind
+/// Room is made for the records that were read, and not for the number that the header says. After
 /// the last record one byte is asked for, which shows that the trace ends.
 ///
 /// # Errors
@@ -29,7 +30,7 @@ const FORMAT_BYTES: usize = 5;
 /// The first fault in the order of the bytes, of [`TraceError::Truncated`], [`TraceError::Header`],
 /// [`TraceError::Record`] and [`TraceError::Trailing`]: all before it is as it must be. Where a
 /// record is wrong, at most 4,092 bytes were taken from its place on.
-/// [`TraceError::Link`] exactly where the link failed in this call, and [`TraceError::Memory`] where
+/// [`TraceError::Link`] exactly if the link failed in this call, and [`TraceError::Memory`] where
 /// there was no memory for the steps. With these the reader has given a beginning of its bytes, of no
 /// more than a trace has.
 pub fn read_trace<R: LinkRead>(alloc: Global, reader: &mut R) -> Result<Trace, TraceError>
@@ -49,7 +50,8 @@ pub fn read_trace<R: LinkRead>(alloc: Global, reader: &mut R) -> Result<Trace, T
 fn read_header<R: LinkRead>(reader: &mut R) -> Result<Header, TraceError>
     requires { R.has_failed reader.old ≡ false }
     ensures failed { R.has_failed reader.new ≡ is_link_fault result }
-    ensures ok { IfOk result (λ header. IsHeader header × Consumes (R.remaining reader.old) (R.remaining reader.new) (header_bytes header)) }
+    ensures ok { IfOk result (λ header. IsHeader header
+        × Consumes (R.remaining reader.old) (R.remaining reader.new) (header_bytes header)) }
     ensures refused { IfErr result (IsRefused (R.remaining reader.old) (R.remaining reader.new)) }
 {
     let mut bytes = [0; MAX_HEADER_BYTES];
@@ -81,7 +83,7 @@ fn fill_header<R: LinkRead>(
     Ok(size)
 }
 
-/// Reads the records that the header tells of.
+/// Reads the records that the header says of.
 fn read_records<R: LinkRead>(
     alloc: Global,
     reader: &mut R,
@@ -90,8 +92,10 @@ fn read_records<R: LinkRead>(
     requires works { R.has_failed reader.old ≡ false }
     requires header { IsHeader header.now }
     ensures failed { R.has_failed reader.new ≡ is_link_fault result }
-    ensures ok { IfOk result (λ steps. AddsRead header.now.k header.now.count [] steps.items (R.remaining reader.old) (R.remaining reader.new)) }
-    ensures refused { IfErr result (IsStopped 4092 header.now.k header.now.count (R.remaining reader.old) (R.remaining reader.new)) }
+    ensures ok { IfOk result (λ steps. AddsRead header.now.k header.now.count [] steps.items (R.remaining reader.old)
+        (R.remaining reader.new)) }
+    ensures refused { IfErr result (IsStopped 4092 header.now.k header.now.count (R.remaining reader.old)
+        (R.remaining reader.new)) }
 {
     let mut steps = Vec::new(alloc);
     let mut piece = [0; PIECE_BYTES];
@@ -117,8 +121,10 @@ fn read_piece<R: LinkRead>(
     requires piece { length room.old ≤ 4092 }
     requires whole { length room.old % 12 ≡ 0 }
     ensures failed { R.has_failed reader.new ≡ is_link_fault result }
-    ensures ok { OnOk result (AddsRead k (length room.old / 12) steps.old.items steps.new.items (R.remaining reader.old) (R.remaining reader.new)) }
-    ensures refused { IfErr result (IsStopped 4092 k (length room.old / 12) (R.remaining reader.old) (R.remaining reader.new)) }
+    ensures ok { OnOk result (AddsRead k (length room.old / 12) steps.old.items steps.new.items
+        (R.remaining reader.old) (R.remaining reader.new)) }
+    ensures refused { IfErr result (IsStopped 4092 k (length room.old / 12) (R.remaining reader.old)
+        (R.remaining reader.new)) }
 {
     let filled = fill(reader, room)?;
     add_steps(&room[..filled], k, steps)?;
@@ -131,7 +137,8 @@ fn read_piece<R: LinkRead>(
 /// Adds the steps whose records stand in a piece. A record that is cut short at its end is left out.
 fn add_steps(piece: &[u8], k: u8, steps: &mut Vec<Step>) -> Result<(), TraceError>
     requires { k ≤ 6 }
-    ensures ok { OnOk result ((rest : List ℕ) × (length rest < 12) × Adds k steps.old.items steps.new.items piece.now rest) }
+    ensures ok { OnOk result ((rest : List ℕ) × (length rest < 12)
+        × Adds k steps.old.items steps.new.items piece.now rest) }
     ensures refused { IfErr result (IsNotAdded k piece.now) }
 {
     let mut rest = piece;

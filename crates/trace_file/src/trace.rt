@@ -29,7 +29,8 @@ impl Model for Trace {
 impl Trace {
     /// The trace of these steps, on a network of the header's sizes.
     pub(crate) fn new(header: &Header, steps: Vec<Step>) -> Self
-        ensures { result ≡ record { k = header.now.k; c = header.now.c; b = header.now.b; r = header.now.r; steps = steps.items } }
+        ensures { result
+            ≡ record { k = header.now.k; c = header.now.c; b = header.now.b; r = header.now.r; steps = steps.items } }
     {
         Trace {
             k: header.k,
@@ -40,7 +41,7 @@ impl Trace {
         }
     }
 
-    /// The size of a machine with the trace's network, and with so many shared words, of which a
+    /// The size of a machine with the trace's network, and with this many shared words, of which a
     /// trace says nothing.
     pub fn config(&self, shared_words: u32) -> Config
         ensures { result ≡ config_of self.now shared_words }

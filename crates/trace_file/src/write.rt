@@ -1,6 +1,7 @@
 //! Writing a trace.
 
-ghost use Rattle.std.specs.Prelude.{◌≡◌, ◌≤◌, ◌<◌, ◌+◌, ◌++◌, false, ◌↔◌, IsTrue, OnOk, OnErr, IsOkUnless, is_err, length};
+ghost use Rattle.std.specs.Prelude.{◌≡◌, ◌≤◌, ◌<◌, ◌+◌, ◌++◌, false, ◌↔◌, IsTrue, OnOk, OnErr, IsOkUnless, is_err};
+ghost use Rattle.std.specs.Prelude.{length};
 ghost use Rattle.std.specs.Io.KnownBytes.{Appends};
 ghost use Rattle.arrayvec.specs.ArrayVec.{array_vec_len};
 ghost use Rattle.link.specs.Transfer.{AppendsPart};
@@ -30,7 +31,7 @@ const _: () = prove!(PIECE_BYTES == RECORD_BYTES * RECORDS_IN_PIECE);
 ///
 /// # Errors
 ///
-/// [`TraceError::Link`] exactly where the link failed in this call. A beginning of the trace's
+/// [`TraceError::Link`] exactly if the link failed in this call. A beginning of the trace's
 /// bytes, and not all of them, was written then.
 pub fn write_trace<W: LinkWrite>(
     writer: &mut W,
@@ -41,8 +42,10 @@ pub fn write_trace<W: LinkWrite>(
     requires trace { IsTrace (trace_of config.now steps.now) }
     ensures failed { W.has_failed writer.new ≡ is_err result }
     ensures link { IsOkUnless result TraceError.Link }
-    ensures ok { OnOk result (Appends (W.contents writer.old) (W.contents writer.new) (trace_bytes (trace_of config.now steps.now))) }
-    ensures err { OnErr result (AppendsPart (W.contents writer.old) (W.contents writer.new) (trace_bytes (trace_of config.now steps.now))) }
+    ensures ok { OnOk result (Appends (W.contents writer.old) (W.contents writer.new)
+        (trace_bytes (trace_of config.now steps.now))) }
+    ensures err { OnErr result (AppendsPart (W.contents writer.old) (W.contents writer.new)
+        (trace_bytes (trace_of config.now steps.now))) }
 {
     // A law of what is written in parts, for the proof alone.
     parts_make_a_beginning();

@@ -8,26 +8,28 @@ use Rattle.std.specs.Fmt.{decimal}
 use Rattle.trace_lines.specs.StoryTexts.{members_text}
 use Rattle.trace_lines.specs.StoryLines.{StoriesGoOn, line_of, lines_from, story_of}
 
-lines_more : (groups : List (List ℕ)) (number : ℕ) (told : List Answer) (a : Answer) →
-    lines_from groups number (told ++ a ∷ []) ≡ lines_from groups number told ++ line_of (groups_from groups told) (number + length told) a.step a.outcome
+lines_more : (groups : List (List ℕ)) (number : ℕ) (given_answers : List Answer) (a : Answer) →
+    lines_from groups number (given_answers ++ a ∷ []) ≡ lines_from groups number given_answers
+    ++ line_of (groups_from groups given_answers) (number + length given_answers) a.step a.outcome
 lines_more groups number [] a =
     append-nil (line_of groups number a.step a.outcome) ∙ ap (λ n. line_of groups n a.step a.outcome) (omega arith)
-lines_more groups number (x ∷ told) a =
+lines_more groups number (x ∷ given_answers) a =
     let next = groups_after groups x.step x.outcome in
-    let there : number + 1 + length told ≡ number + length (x ∷ told) = omega arith in
+    let there : number + 1 + length given_answers ≡ number + length (x ∷ given_answers) = omega arith in
     ap (λ rest. line_of groups number x.step x.outcome ++ rest)
-    (lines_more next (number + 1) told a
-    ∙ ap (λ n. lines_from next (number + 1) told ++ line_of (groups_from next told) n a.step a.outcome) there)
-    ∙ sym (append_assoc (line_of groups number x.step x.outcome) (lines_from next (number + 1) told)
-    (line_of (groups_from next told) (number + length (x ∷ told)) a.step a.outcome))
+    (lines_more next (number + 1) given_answers a
+    ∙ ap (λ n. lines_from next (number + 1) given_answers ++ line_of (groups_from next given_answers) n a.step a.outcome) there)
+    ∙ sym (append_assoc (line_of groups number x.step x.outcome) (lines_from next (number + 1) given_answers)
+    (line_of (groups_from next given_answers) (number + length (x ∷ given_answers)) a.step a.outcome))
 
+-- The story of no steps has no line, and one step more is one line more.
 pub stories_more : StoriesGoOn
 unfolding story_of groups_of
 stories_more = record {
   none = refl;
-  story = λ told a.
-      lines_more no_groups 0 told a
-      ∙ ap (λ n. lines_from no_groups 0 told ++ line_of (groups_from no_groups told) n a.step a.outcome) (omega arith);
+  story = λ given_answers a.
+      lines_more no_groups 0 given_answers a
+      ∙ ap (λ n. lines_from no_groups 0 given_answers ++ line_of (groups_from no_groups given_answers) n a.step a.outcome) (omega arith);
 }
 
 -- ---- the members of a group
@@ -38,6 +40,7 @@ members_end (q ∷ ps) p =
     ap (λ rest. (codes " " ++ decimal q) ++ rest) (members_end ps p)
     ∙ sym (append_assoc (codes " " ++ decimal q) (members_text ps) (codes " " ++ decimal p))
 
+-- If the text of some members is followed by one more member, it is the text of them all.
 pub members_more : (old done : List ℕ) (p : ℕ) (more text text2 : List ℕ) → more ≡ done ++ p ∷ [] → text ≡ old ++ members_text done →
     text2 ≡ text ++ (codes " " ++ decimal p) → text2 ≡ old ++ members_text more
 members_more old done p more text text2 is before after =

@@ -1,4 +1,4 @@
--- The shared word that a turn acts on is that of its effect, and the event tells the instruction.
+-- The shared word that a turn acts on is that of its effect, and the event says the instruction.
 use Rattle.std.proofs.Common.{◌≡◌, ℕ, ◌*◌, ◌%◌, Bool, true, false, List, Option, Some, None, refl, sym, ap, ◌∙◌, subst}
 use Rattle.std.specs.Prelude.{Result, Ok, Err, ◌==◌, slice_get, if◌then◌else◌}
 use Rattle.rv_table.specs.declared.insn.Insn.{Insn}
@@ -88,6 +88,7 @@ call_word : (s : Setting) (a7 a0 : ℕ) → word_of_effect s (call_of s a7 a0) �
 unfolding call_of
 call_word s a7 a0 = call_cases s (a7 == 0) (a7 == 1) (a7 == 2) (a7 == 3) (a0 % 256) s.number s.processors
 
+-- An instruction that is no load, no store and no AMO acts on no shared word.
 pub local_word : (s : Setting) (pc : ℕ) (registers : List ℕ) (i : Insn) →
     ((op : LoadOp) (rd rs1 imm : ℕ) → i ≡ Load op rd rs1 imm → ⊥) → ((op : StoreOp) (rs1 rs2 imm : ℕ) → i ≡ Store op rs1 rs2 imm → ⊥) →
     ((op : AmoOp) (rd rs1 rs2 : ℕ) (aq rl : Bool) → i ≡ Amo op rd rs1 rs2 aq rl → ⊥) → word_of_effect s (effect_of s pc registers i) ≡ None
@@ -110,18 +111,21 @@ local_word s pc registers (Amo op rd rs1 rs2 aq rl) no_load no_store no_amo = ab
 
 -- ---- instructions that do
 
+-- The shared word that a load acts on, if any, is the one in which its address lies.
 pub load_word : (s : Setting) (pc : ℕ) (registers : List ℕ) (i : Insn) (op : LoadOp) (rd rs1 imm size address : ℕ) → i ≡ Load op rd rs1 imm →
     size ≡ load_size op → address ≡ plus (register_of registers rs1) (extended 12 imm) →
     word_of_effect s (effect_of s pc registers i) ≡ word_of_region (region_of s size address false)
 unfolding effect_of
 load_word s pc registers i op rd rs1 imm size address is size_is address_is = rw (is, size_is, address_is) refl
 
+-- The shared word that a store acts on, if any, is the one in which its address lies.
 pub store_word : (s : Setting) (pc : ℕ) (registers : List ℕ) (i : Insn) (op : StoreOp) (rs1 rs2 imm size address : ℕ) → i ≡ Store op rs1 rs2 imm →
     size ≡ store_size op → address ≡ plus (register_of registers rs1) (extended 12 imm) →
     word_of_effect s (effect_of s pc registers i) ≡ word_of_region (region_of s size address true)
 unfolding effect_of
 store_word s pc registers i op rs1 rs2 imm size address is size_is address_is = rw (is, size_is, address_is) refl
 
+-- The shared word that an AMO acts on, if any, is the one in which its address lies.
 pub amo_word : (s : Setting) (pc : ℕ) (registers : List ℕ) (i : Insn) (op : AmoOp) (rd rs1 rs2 : ℕ) (aq rl : Bool) (address : ℕ) →
     i ≡ Amo op rd rs1 rs2 aq rl → address ≡ register_of registers rs1 →
     word_of_effect s (effect_of s pc registers i) ≡ word_of_region (region_of s 4 address true)
@@ -137,7 +141,7 @@ turn_word s code p i registers word same e =
 
 -- ---- events
 
--- a turn tells its instruction
+-- a turn says its instruction
 abbrev pub Tells : Insn → Event → Type 0
 Tells i (event.Retired r) = r.insn ≡ i
 Tells i (event.Stopped c) = Unit {0}
@@ -186,6 +190,7 @@ running_event : (m : FlatState) (k : ℕ) (p : Processor) (running : Bool) (show
 running_event m k p true shown e = some_event (step_of m k p).2 shown e
 running_event m k p false shown e = absurd (cc)
 
+-- A turn that retires an instruction acts on the shared word that this instruction acts on, if on any.
 pub retired_words : RetiredTurnsHaveWords
 unfolding flat_event
 retired_words m k p r there e =
@@ -204,6 +209,7 @@ stopped_word : (m : FlatState) (k : ℕ) (p : Option Processor) (c : Cause) → 
 stopped_word m k None c e = refl
 stopped_word m k (Some p) c e = stopped_turn p m.shared (turn_of (setting_of m k) m.code p) c (running_event m k p (is_running p.status) (event.Stopped c) e)
 
+-- A turn that stops its processor acts on no shared word.
 pub stopped_words : StoppedTurnsHaveNone
 unfolding flat_event
 stopped_words m k c e = stopped_word m k (slice_get m.processors k) c e

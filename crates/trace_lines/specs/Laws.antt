@@ -16,15 +16,18 @@ use Rattle.trace_lines.specs.References.{word_of, word_of_turn}
 -- one entry more is one line more
 abbrev pub LinesGoOn : Type 0
 LinesGoOn = (choice : Choice) (m : FlatState) (number : ℕ) (es : List Entry) (e : Entry) →
-    lines_from choice m number (es ++ e ∷ []) ≡ lines_from choice m number es ++ chosen_line choice (flat_run m es) (number + length es) e
+    lines_from choice m number (es ++ e ∷ []) ≡ lines_from choice m number es
+    ++ chosen_line choice (flat_run m es) (number + length es) e
 
 -- a turn that retires an instruction acts on the word that the instruction does, in the processor's state before
 abbrev pub RetiredTurnsHaveWords : Type 0
 RetiredTurnsHaveWords = (m : FlatState) (k : ℕ) (p : Processor) (r : Retired) →
     slice_get m.processors k ≡ Some p → flat_event m (entry.Processor k) ≡ Some (event.Retired r) →
-    word_of m (entry.Processor k) ≡ word_of_turn (performed (setting_of m k) m.code p r.insn (effect_of (setting_of m k) p.pc p.registers r.insn))
+    word_of m (entry.Processor k)
+    ≡ word_of_turn (performed (setting_of m k) m.code p r.insn (effect_of (setting_of m k) p.pc p.registers r.insn))
 
 -- a turn that stops its processor acts on no shared word
 abbrev pub StoppedTurnsHaveNone : Type 0
 StoppedTurnsHaveNone =
-    (m : FlatState) (k : ℕ) (cause : Cause) → flat_event m (entry.Processor k) ≡ Some (event.Stopped cause) → word_of m (entry.Processor k) ≡ None
+    (m : FlatState) (k : ℕ) (cause : Cause) → flat_event m (entry.Processor k) ≡ Some (event.Stopped cause) →
+    word_of m (entry.Processor k) ≡ None

@@ -4,3 +4,4 @@ pub mod OrderLines
 pub mod Laws
 pub mod StoryTexts
 pub mod StoryLines
+pub mod Choices

@@ -1,5 +1,6 @@
 -- The lines of a serial order: what each entry does in the flat machine that has taken those before it.
-use Rattle.std.specs.Prelude.{ℕ, ◌+◌, Bool, true, false, ◌==◌, ◌&&◌, List, [], ◌∷◌, ◌++◌, Option, Some, None, slice_get, if◌then◌else◌}
+use Rattle.std.specs.Prelude.{ℕ, ◌+◌, Bool, true, false, ◌==◌, ◌&&◌, List, [], ◌∷◌, ◌++◌, Option, Some, None, slice_get}
+use Rattle.std.specs.Prelude.{if◌then◌else◌}
 use Rattle.flat_machine.specs.declared.event.Event.{Event}
 use Rattle.flat_machine.specs.declared.poke.Entry.{Entry}
 use Rattle.flat_machine.specs.declared.poke.Entry.TheVariants as entry
@@ -16,11 +17,12 @@ line_of_turn number k (Some p) (Some event) reference = turn_line number k p.pc 
 line_of_turn number k (Some p) None reference = []
 line_of_turn number k None event reference = []
 
--- The line of an entry with this number, in the flat machine before it. An entry that does nothing has none: a processor's that
--- takes no instruction, and an unlawful poke.
+-- The line of an entry with this number, in the flat machine before it. An entry that does nothing has none: a
+-- processor's that takes no instruction, and an unlawful poke.
 abbrev pub line_of : FlatState → (number : ℕ) → Entry → List ℕ
 line_of m number (entry.Processor k) =
-    line_of_turn number k (slice_get m.processors k) (flat_event m (entry.Processor k)) (reference_of m (entry.Processor k))
+    line_of_turn number k (slice_get m.processors k) (flat_event m (entry.Processor k))
+    (reference_of m (entry.Processor k))
 line_of m number (entry.Poke q) = if is_lawful m q then poke_line number q (reference_of m (entry.Poke q)) else []
 
 -- whether something is what is chosen, where something is
@@ -37,8 +39,8 @@ takes choice processor word = is_chosen choice.processor processor && is_chosen 
 abbrev pub chosen_line : Choice → FlatState → (number : ℕ) → Entry → List ℕ
 chosen_line choice m number e = if takes choice (processor_of e) (word_of m e) then line_of m number e else []
 
--- The lines of a list of entries, one after another, each in the flat machine that has taken those before it. They are numbered
--- whether they are chosen or not.
+-- The lines of a list of entries, one after another, each in the flat machine that has taken those before it. They are
+-- numbered whether they are chosen or not.
 abbrev pub lines_from : Choice → FlatState → (number : ℕ) → List Entry → List ℕ
 lines_from choice m number [] = []
 lines_from choice m number (e ∷ es) = chosen_line choice m number e ++ lines_from choice (flat_step m e) (number + 1) es

@@ -23,7 +23,8 @@ console_text (Some byte) = codes " console " ++ hex_of_byte byte
 -- ` word I BBBBBBBB AAAAAAAA`: a shared word, its value before and after
 abbrev pub reference_text : Option Reference → List ℕ
 reference_text None = []
-reference_text (Some r) = codes " word " ++ decimal r.word ++ codes " " ++ hex_of_word r.before ++ codes " " ++ hex_of_word r.after
+reference_text (Some r) = codes " word " ++ decimal r.word ++ codes " " ++ hex_of_word r.before ++ codes " "
+    ++ hex_of_word r.after
 
 -- the instruction, and what it gave; or how the processor stopped, as `halt HH` or `fault N`
 abbrev pub event_text : Event → List ℕ
@@ -33,7 +34,8 @@ event_text (Stopped cause) = status_text (status_of cause)
 -- `N P AAAAAAAA EVENT REFERENCE`
 unfoldable pub turn_line : (number processor pc : ℕ) → Event → Option Reference → List ℕ
 turn_line number processor pc event reference =
-    decimal number ++ codes " " ++ decimal processor ++ codes " " ++ hex_of_word pc ++ codes " " ++ event_text event ++ reference_text reference ++ line_feed
+    decimal number ++ codes " " ++ decimal processor ++ codes " " ++ hex_of_word pc ++ codes " " ++ event_text event
+    ++ reference_text reference ++ line_feed
 
 -- `x1` to `x31`, or `pc`
 abbrev pub register_text : ℕ → List ℕ
@@ -54,4 +56,5 @@ written_text (poke.Shared address value) = hex_of_word address ++ codes " " ++ h
 -- `N P poke WRITTEN REFERENCE`
 unfoldable pub poke_line : (number : ℕ) → Poke → Option Reference → List ℕ
 poke_line number q reference =
-    decimal number ++ codes " " ++ owner_text q ++ codes " poke " ++ written_text q ++ reference_text reference ++ line_feed
+    decimal number ++ codes " " ++ owner_text q ++ codes " poke " ++ written_text q ++ reference_text reference
+    ++ line_feed

@@ -53,7 +53,8 @@ processor_of (entry.Poke q) = processor_of_poke q
 -- A shared word with its values in two lists of the words.
 abbrev pub referred : (before after : List ℕ) → (word : Option ℕ) → Option Reference
 referred before after None = None
-referred before after (Some word) = Some (record { word = word; before = slice_index before word; after = slice_index after word })
+referred before after (Some word) =
+    Some (record { word = word; before = slice_index before word; after = slice_index after word })
 
 -- the shared word that an entry acts on, with its value before the entry and after it
 abbrev pub reference_of : FlatState → Entry → Option Reference

@@ -7,7 +7,8 @@ use Rattle.trace_lines.specs.OrderTexts.{event_text, owner_text, written_text}
 use Rattle.steps.specs.declared.step.Step.{Step}
 use Rattle.steps.specs.declared.step.Step.TheVariants as step
 use Rattle.steps.specs.declared.step.Outcome.{Outcome}
-use Rattle.steps.specs.declared.step.Outcome.TheVariants.{Retired, Issued, Stopped, Moved, Combined, Served, Answered, Poked, Stalled}
+use Rattle.steps.specs.declared.step.Outcome.TheVariants.{Retired, Issued, Stopped, Moved, Combined, Served, Answered}
+use Rattle.steps.specs.declared.step.Outcome.TheVariants.{Poked, Stalled}
 use Rattle.steps.specs.Groups.{group_in}
 
 -- ---- the step
@@ -56,6 +57,7 @@ outcome_text groups s Moved = depth_text s
 outcome_text groups s (Combined first second) =
     decimal second ++ codes " joins " ++ decimal first ++ codes " at stage " ++ decimal (stage_of s)
 outcome_text groups s (Served leader) = codes "serves " ++ group_text (group_in groups leader)
-outcome_text groups s (Answered to) = codes "answers" ++ members_text (seconds_of to) ++ codes " at stage " ++ decimal (stage_of s)
+outcome_text groups s (Answered to) = codes "answers" ++ members_text (seconds_of to) ++ codes " at stage "
+    ++ decimal (stage_of s)
 outcome_text groups s Poked = codes "writes"
 outcome_text groups s Stalled = codes "stalls"

@@ -1,7 +1,10 @@
 //! Which entries are asked for.
 
 ghost use Rattle.std.specs.Prelude.{◌≡◌};
+ghost use Rattle.trace_lines.specs.Choices.{unknown_of, unknown_processor, unknown_word};
 ghost use Rattle.trace_lines.specs.OrderLines.{is_chosen, takes};
+
+use crate::unknown::Unknown;
 
 /// Which entries of a serial order are asked for: those of one processor, those that act on one shared
 /// word, those that do both, or all.
@@ -14,6 +17,16 @@ pub struct Choice {
 }
 
 impl Choice {
+    /// The number that names nothing on a machine of this many processors and shared words: of two, the processor's.
+    pub fn unknown(&self, processors: u8, words: u32) -> Option<Unknown>
+        ensures { result ≡ unknown_of self.now processors words }
+    {
+        match unknown_processor(self.processor, processors) {
+            Some(unknown) => Some(unknown),
+            None => unknown_word(self.word, words),
+        }
+    }
+
     /// Whether an entry of this processor that acts on this shared word is asked for.
     pub fn takes(&self, processor: Option<u8>, word: Option<u32>) -> bool
         ensures { result ≡ takes self.now processor word }
@@ -41,5 +54,25 @@ fn is_word(chosen: Option<u32>, there: Option<u32>) -> bool
         (None, _) => true,
         (Some(_), None) => false,
         (Some(chosen), Some(there)) => chosen == there,
+    }
+}
+
+/// A processor that a machine of this many has not.
+fn unknown_processor(chosen: Option<u8>, processors: u8) -> Option<Unknown>
+    ensures { result ≡ unknown_processor chosen processors }
+{
+    match chosen {
+        Some(number) if number >= processors => Some(Unknown::Processor { number, processors }),
+        _ => None,
+    }
+}
+
+/// A shared word that a machine of this many has not.
+fn unknown_word(chosen: Option<u32>, words: u32) -> Option<Unknown>
+    ensures { result ≡ unknown_word chosen words }
+{
+    match chosen {
+        Some(number) if number >= words => Some(Unknown::Word { number, words }),
+        _ => None,
     }
 }

@@ -1,11 +1,11 @@
 //! The lines of a serial order and of a story.
 //!
-//! `specs/OrderLines.antt` has the line of an entry of a serial order as a function of the flat machine before it (`line_of`).
-//! Here are the parts of such a line: the word that an instruction acts on ([`word_of_instruction`]), and the texts
-//! ([`push_turn`], [`push_poke`]).
+//! `specs/OrderLines.antt` has the line of an entry of a serial order as a function of the flat machine before it
+//! (`line_of`). Here are the parts of such a line: the word that an instruction acts on ([`word_of_instruction`]), and
+//! the texts ([`push_turn`], [`push_poke`]).
 //!
-//! `specs/StoryLines.antt` has the line of a step of a run (`line_of`), read off the step, its outcome and the groups of requests
-//! that were combined, and the lines of a run (`story_of`). [`push_line`] makes one.
+//! `specs/StoryLines.antt` has the line of a step of a run (`line_of`), read off the step, its outcome and the groups
+//! of requests that were combined, and the lines of a run (`story_of`). [`push_line`] makes one.
 #![tactic(auto)]
 
 mod choice;
@@ -14,6 +14,7 @@ mod order_laws;
 mod reference;
 mod story_laws;
 mod texts;
+mod unknown;
 mod words;
 
 pub use choice::Choice;
@@ -22,4 +23,5 @@ pub use order_laws::{lines_go_on, turns_have_lines};
 pub use reference::Reference;
 pub use story_laws::stories_go_on;
 pub use texts::{push_event, push_owner, push_poke, push_turn, push_written};
+pub use unknown::Unknown;
 pub use words::{processor_of_poke, word_of_instruction, word_of_poke};

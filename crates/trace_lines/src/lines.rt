@@ -4,7 +4,8 @@ ghost use Rattle.std.specs.Prelude.{◌≡◌, ◌++◌, OnOk, codes, string_byt
 ghost use Rattle.std.specs.Fmt.{decimal};
 ghost use Rattle.messages.specs.Seconds.{seconds_of};
 ghost use Rattle.trace_lines.specs.StoryLines.{line_of};
-ghost use Rattle.trace_lines.specs.StoryTexts.{depth_behind, depth_text, group_text, members_text, outcome_text, stage_of, step_text};
+ghost use Rattle.trace_lines.specs.StoryTexts.{depth_behind, depth_text, group_text, members_text, outcome_text};
+ghost use Rattle.trace_lines.specs.StoryTexts.{stage_of, step_text};
 
 use crate::texts::{push_event, push_owner, push_written};
 use flat_machine::Event;
@@ -27,7 +28,8 @@ pub fn push_line(
     step: &Step,
     outcome: &Outcome,
 ) -> Result<(), AllocError>
-    ensures { OnOk result (string_bytes text.new ≡ string_bytes text.old ++ line_of groups.now number step.now outcome.now) }
+    ensures { OnOk result (string_bytes text.new ≡ string_bytes text.old
+        ++ line_of groups.now number step.now outcome.now) }
 {
     write!(text, "{number} ")?;
     push_step(alloc, text, step)?;
@@ -62,7 +64,8 @@ fn push_outcome(
     step: &Step,
     outcome: &Outcome,
 ) -> Result<(), AllocError>
-    ensures { OnOk result (string_bytes text.new ≡ string_bytes text.old ++ outcome_text groups.now step.now outcome.now) }
+    ensures { OnOk result (string_bytes text.new ≡ string_bytes text.old
+        ++ outcome_text groups.now step.now outcome.now) }
 {
     match outcome {
         Outcome::Retired(retired) => {
@@ -121,7 +124,8 @@ fn stage_of(step: &Step) -> u8
 /// Appends who is answered at a stage.
 fn push_answered(text: &mut String, to: &Seconds, stage: u8) -> Result<(), AllocError>
     ensures { OnOk result (string_bytes text.new
-        ≡ string_bytes text.old ++ codes "answers" ++ members_text (seconds_of to.now) ++ codes " at stage " ++ decimal stage) }
+        ≡ string_bytes text.old ++ codes "answers" ++ members_text (seconds_of to.now) ++ codes " at stage "
+        ++ decimal stage) }
 {
     text.push_str("answers")?;
     push_seconds(text, to)?;

@@ -31,7 +31,8 @@ pub fn push_turn(
     event: &Event,
     reference: &Option<Reference>,
 ) -> Result<(), AllocError>
-    ensures { OnOk result (string_bytes text.new ≡ string_bytes text.old ++ turn_line number processor pc event.now reference.now) }
+    ensures { OnOk result (string_bytes text.new ≡ string_bytes text.old
+        ++ turn_line number processor pc event.now reference.now) }
 {
     write!(text, "{number} {processor} ")?;
     push_word(alloc, text, pc)?;
@@ -57,7 +58,8 @@ pub fn push_event(alloc: Global, text: &mut String, event: &Event) -> Result<(),
 
 /// Appends an instruction, and what it gave.
 fn push_retired(alloc: Global, text: &mut String, retired: &Retired) -> Result<(), AllocError>
-    ensures { OnOk result (string_bytes text.new ≡ string_bytes text.old ++ text_of retired.now.insn ++ result_text retired.now.result
+    ensures { OnOk result (string_bytes text.new ≡ string_bytes text.old ++ text_of retired.now.insn
+        ++ result_text retired.now.result
         ++ console_text retired.now.out) }
 {
     let mut written = ArrayString::new();
@@ -195,7 +197,8 @@ fn push_register(text: &mut String, register: u8) -> Result<(), AllocError>
 
 /// Appends an address, and a byte that is written there.
 fn push_byte_at(alloc: Global, text: &mut String, address: u32, value: u8) -> Result<(), AllocError>
-    ensures { OnOk result (string_bytes text.new ≡ string_bytes text.old ++ hex_of_word address ++ codes " " ++ hex_of_byte value) }
+    ensures { OnOk result (string_bytes text.new ≡ string_bytes text.old ++ hex_of_word address ++ codes " "
+        ++ hex_of_byte value) }
 {
     push_word(alloc, text, address)?;
     text.push(' ')?;

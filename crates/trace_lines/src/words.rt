@@ -18,7 +18,8 @@ use rv_table::{Immediate, Insn, Register};
 /// many shared words. None where it acts on none, or stops the processor.
 pub fn word_of_instruction(insn: &Insn, registers: &[u32; 32], shared_words: u32) -> Option<u32>
     requires { shared_words ≤ 262144 }
-    ensures { (s : Setting) (code : List ℕ) (p : Processor) → s.shared_words ≡ shared_words → p.registers ≡ registers.now
+    ensures { (s : Setting) (code : List ℕ) (p : Processor) → s.shared_words ≡ shared_words →
+        p.registers ≡ registers.now
         → references.word_of_turn (performed s code p insn.now (effect_of s p.pc p.registers insn.now)) ≡ result }
 {
     match *insn {
@@ -37,7 +38,8 @@ pub fn word_of_instruction(insn: &Insn, registers: &[u32; 32], shared_words: u32
 #[tactic(auto, unfolding(flat_machine::specs::Memory::region_of))]
 fn word_at(size: Size, address: u32, shared_words: u32) -> Option<u32>
     requires { shared_words ≤ 262144 }
-    ensures { (s : Setting) (writes : Bool) → s.shared_words ≡ shared_words → references.word_of_region (region_of s (bytes_of size) address writes) ≡ result }
+    ensures { (s : Setting) (writes : Bool) → s.shared_words ≡ shared_words →
+        references.word_of_region (region_of s (bytes_of size) address writes) ≡ result }
 {
     if is_aligned(size, address)
         && address >= SHARED_START

@@ -1,4 +1,4 @@
-//! The commands that tell what is in a trace, from its bytes and those of an image to the bytes of the lines.
+//! The commands that say what is in a trace, from its bytes and those of an image to the bytes of the lines.
 
 ghost use Rattle.std.specs.Prelude.{◌≡◌, false};
 
@@ -11,16 +11,17 @@ mod orders;
 mod pictures;
 mod stories;
 mod story_lines;
+mod views;
 
 use link::{LinkWrite, Meter};
 use std::alloc::Global;
 use std::fmt::Debug;
 use std::io::{self, Read, Write};
 use std::process::Abort;
-use trace_commands::{Order, Stats, Story, account_command};
+use trace_commands::{Order, Stats, Story, order_command, trace_command};
 use trace_lines::Choice;
 
-/// Ends the test where the two differ, and tells them and the case that they are of ([`assert_same!`]).
+/// Ends the test where the two differ, and says them and the case that they are of ([`assert_same!`]).
 fn same<T: PartialEq + Debug, A: Debug>(rt: &impl Abort, found: &T, wanted: &T, at: &A) {
     assert_eq!(rt; found, wanted, "{at:?}");
 }
@@ -31,22 +32,22 @@ const ALL: Choice = Choice {
     word: None,
 };
 
-/// What is to be told of a trace.
+/// What is to be reported of a trace.
 #[derive(Clone, Copy, Debug)]
-enum Told {
+enum Asked {
     /// The chosen lines of its serial order.
     Order(Choice),
     Story,
     Stats,
 }
 
-/// All that the commands tell.
-const WHOLE: [Told; 3] = [Told::Order(ALL), Told::Story, Told::Stats];
+/// All that the commands say.
+const WHOLE: [Asked; 3] = [Asked::Order(ALL), Asked::Story, Asked::Stats];
 
 /// Carries the command out.
-fn tell<T: Read + Drop, R: Read + Drop, W: LinkWrite, E: Write>(
+fn ask<T: Read + Drop, R: Read + Drop, W: LinkWrite, E: Write>(
     alloc: Global,
-    told: Told,
+    asked: Asked,
     trace: T,
     file: io::Result<R>,
     shared_words: u32,
@@ -55,13 +56,13 @@ fn tell<T: Read + Drop, R: Read + Drop, W: LinkWrite, E: Write>(
 ) -> u8
     requires { W.has_failed out.old ≡ false }
 {
-    match told {
-        Told::Order(choice) => {
+    match asked {
+        Asked::Order(choice) => {
             let order = Order { choice };
-            account_command(alloc, trace, file, shared_words, &order, out, err)
+            order_command(alloc, trace, file, shared_words, &order, out, err)
         }
-        Told::Story => account_command(alloc, trace, file, shared_words, &Story, out, err),
-        Told::Stats => account_command(alloc, trace, file, shared_words, &Stats, out, err),
+        Asked::Story => trace_command(alloc, trace, file, shared_words, &Story, out, err),
+        Asked::Stats => trace_command(alloc, trace, file, shared_words, &Stats, out, err),
     }
 }
 
@@ -73,11 +74,17 @@ struct Ran {
     err: Vec<u8>,
 }
 
-/// What is told of a trace on an image.
-fn run(alloc: Global, told: Told, trace: &[u8], file: io::Result<&[u8]>, shared_words: u32) -> Ran {
+/// What is said of a trace on an image.
+fn run(
+    alloc: Global,
+    asked: Asked,
+    trace: &[u8],
+    file: io::Result<&[u8]>,
+    shared_words: u32,
+) -> Ran {
     let mut out = Meter::new(Vec::new(alloc));
     let mut err = Vec::new(alloc);
-    let status = tell(alloc, told, trace, file, shared_words, &mut out, &mut err);
+    let status = ask(alloc, asked, trace, file, shared_words, &mut out, &mut err);
     Ran {
         status,
         out: out.device,

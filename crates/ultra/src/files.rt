@@ -1,54 +1,79 @@
 //! Files of this machine.
 
 ghost use Rattle.std.specs.Prelude.{◌≡◌, false};
-ghost use Rattle.trace_commands.specs.Accounts.{IsWorking};
+ghost use Rattle.trace_commands.specs.TraceReports.{IsWorking};
 
 use crate::refusal::Refusal;
+use crate::reports::{Explained, Reason};
 use command_io::{CreateAt, OnFirstWrite};
 use link::{Link, Meter};
-use std::fs;
 use std::os::unix::fs::MetadataExt;
 use std::rt::Files;
+use std::{fs, io};
 
-/// Opens a file that is to be read.
-pub(crate) fn open<R: Files>(files: &R, path: &str) -> Result<R::File, Refusal> {
+/// Opens a file that is to be read. A read that fails leaves why.
+pub(crate) fn open<'a, 'r, R: Files>(
+    files: &R,
+    path: &'a str,
+    reason: &'r Reason,
+) -> Result<Explained<'r, R::File>, Refusal<'a>> {
     match fs::open(files, path) {
-        Ok(file) => Ok(file),
-        Err(_) => Err(Refusal::Closed),
+        Ok(device) => Ok(Explained { device, reason }),
+        Err(error) => Err(Refusal::Closed(path, error)),
+    }
+}
+
+/// Opens the image of a trace's run. That it cannot be opened is reported by the command, after what is wrong with the
+/// trace, and leaves why.
+pub(crate) fn open_image<'r, R: Files>(
+    files: &R,
+    path: &str,
+    reason: &'r Reason,
+) -> io::Result<Explained<'r, R::File>> {
+    match fs::open(files, path) {
+        Ok(device) => Ok(Explained { device, reason }),
+        Err(error) => {
+            reason.set(Some(error));
+            Err(error)
+        }
     }
 }
 
 /// Opens a file that is to be read, where it is another than OUT, which is to be written.
-pub(crate) fn open_beside<R: Files>(
+pub(crate) fn open_beside<'a, 'r, R: Files>(
     files: &R,
-    path: &str,
+    path: &'a str,
     out: Option<&str>,
-) -> Result<R::File, Refusal> {
+    reason: &'r Reason,
+) -> Result<Explained<'r, R::File>, Refusal<'a>> {
     if out.is_some_and(|out| are_one_file(files, path, out)) {
         return Err(Refusal::SameFile);
     }
-    open(files, path)
+    open(files, path, reason)
 }
 
-/// A writer to OUT, which is opened by the first write to it.
+/// A writer to OUT, which is opened by the first write to it. A write that fails leaves why.
 pub(crate) fn writer_to<'a, R: Files>(
     files: &'a R,
     path: &'a str,
-) -> Meter<OnFirstWrite<CreateAt<'a, R>>>
-    ensures { ⟦<Meter<OnFirstWrite<CreateAt<'a, R>>> as Link>⟧.has_failed result ≡ false }
+    reason: &'a Reason,
+) -> Meter<Explained<'a, OnFirstWrite<CreateAt<'a, R>>>>
+    ensures { ⟦<Meter<Explained<'a, OnFirstWrite<CreateAt<'a, R>>>> as Link>⟧.has_failed result ≡ false }
 {
-    Meter::new(OnFirstWrite::new(CreateAt { files, path }))
+    let device = OnFirstWrite::new(CreateAt { files, path });
+    Meter::new(Explained { device, reason })
 }
 
 /// A writer to OUT, where a trace is asked for.
 pub(crate) fn trace_to<'a, R: Files>(
     files: &'a R,
     path: Option<&'a str>,
-) -> Option<Meter<OnFirstWrite<CreateAt<'a, R>>>>
-    ensures { IsWorking ⟦<Meter<OnFirstWrite<CreateAt<'a, R>>> as Link>⟧.has_failed result }
+    reason: &'a Reason,
+) -> Option<Meter<Explained<'a, OnFirstWrite<CreateAt<'a, R>>>>>
+    ensures { IsWorking ⟦<Meter<Explained<'a, OnFirstWrite<CreateAt<'a, R>>>> as Link>⟧.has_failed result }
 {
     match path {
-        Some(path) => Some(writer_to(files, path)),
+        Some(path) => Some(writer_to(files, path, reason)),
         None => None,
     }
 }

@@ -2,32 +2,36 @@
 #![tactic(auto)]
 
 ghost use Rattle.std.specs.Prelude.{◌≡◌, false};
-ghost use Rattle.trace_commands.specs.Accounts.{IsWorking};
+ghost use Rattle.trace_commands.specs.TraceReports.{IsWorking};
 
-mod door;
 mod files;
+mod loopback_port;
 mod refusal;
+mod reports;
 mod traces;
 
-use crate::door::Door;
-use crate::files::{open, open_beside, trace_to, writer_to};
+use crate::files::{open, open_beside, open_image, trace_to, writer_to};
+use crate::loopback_port::LoopbackPort;
 use crate::refusal::{Refusal, refuse};
+use crate::reports::{Explained, Place, Reason, Reports, place_of, report_place};
 use crate::traces::TraceFiles;
 use asm_commands::{asm_command, check_command, dis_command};
 use clap::Error;
-use command_io::{Fault, REFUSED, tell};
+use command_io::{Fault, LINK_FAILED, REFUSED, report_fault};
 use debug_session::debug_command;
 use explain_command::{all_topics, explain_command};
 use explore_command::{
-    Asked, SearchProgress, Unwatched, Watch, explore_command, explore_every_size,
+    Asked, NoProgress, SearchObserver, SearchProgress, explore_command, explore_every_size,
 };
 use flat_machine::Config;
-use hunt_command::{Hunt as Hunted, hunt_command};
+use hunt_command::{Hunt as Hunted, HuntProgress, NoHuntProgress, hunt_command};
 use link::{LinkWrite, Meter};
+use machine_picture::Svg;
 use processor_threads::Open;
 use run_command::{Progress, run_command, threaded_run_command};
 use settings::{Explore, Hunt, Replay, Run, Session, Settings, Sizes, settings, status_of};
 use std::alloc::{AllocError, Global};
+use std::env;
 use std::io::{self, ErrorKind, IsTerminal, Read, Write};
 use std::net::Net;
 use std::process::ExitCode;
@@ -35,29 +39,36 @@ use std::rt::{Env, Files};
 use std::sync::Wait;
 use std::thread::Threads;
 use std::time::Clock;
-use std::{env, fs};
-use trace_commands::{Account, Order, Picture, Report, Stats, Story, account_command};
+use trace_commands::{
+    Order, Picture, Report, Stats, Story, TraceReport, order_command, trace_command,
+};
 use trace_lines::Choice;
 use words_command::words_command;
 
 fn main(rt: HostRuntime) -> ExitCode {
     let (stdout, stderr) = (rt.stdout(), rt.stderr());
-    let mut out = Meter::new(io::writer(&stdout));
+    let reason = Reason::new(None);
+    let mut out = Meter::new(Explained {
+        device: io::writer(&stdout),
+        reason: &reason,
+    });
     let status = carry_out(
         &rt,
         stderr.is_terminal(),
+        &reason,
         &mut out,
         &mut io::writer(&stderr),
     );
     ExitCode::from(status)
 }
 
-/// Does what the command line asks for, and answers the exit status. Standard error may be a terminal.
+/// Does what the command line asks for, and answers the exit status. Standard error may be a terminal. A call that
+/// fails leaves why.
 fn carry_out<
     R: Env + Files + Net + Threads + Wait + Clock + Eprint + Sync + AllocGlobal,
     W: LinkWrite,
     E: Write,
->(rt: &R, terminal: bool, out: &mut W, err: &mut E) -> u8
+>(rt: &R, terminal: bool, reason: &Reason, out: &mut W, err: &mut E) -> u8
     requires works { W.has_failed out.old ≡ false }
 {
     let arguments = match env::args(rt) {
@@ -66,9 +77,9 @@ fn carry_out<
     };
     let alloc = rt.alloc();
     let Ok(arguments) = arguments.collect::<Vec<String>>(alloc) else {
-        return tell(Fault::Memory, err);
+        return report_fault(Fault::Memory, err);
     };
-    carry_out_words(rt, arguments.as_slice(), terminal, out, err)
+    carry_out_words(rt, arguments.as_slice(), terminal, reason, out, err)
 }
 
 /// Does what the words of a command line ask for.
@@ -76,65 +87,108 @@ fn carry_out_words<
     R: Files + Net + Threads + Wait + Clock + Eprint + Sync + AllocGlobal,
     W: LinkWrite,
     E: Write,
->(rt: &R, arguments: &[String], terminal: bool, out: &mut W, err: &mut E) -> u8
+>(rt: &R, arguments: &[String], terminal: bool, reason: &Reason, out: &mut W, err: &mut E) -> u8
     requires works { W.has_failed out.old ≡ false }
 {
     let Ok(words) = texts(rt.alloc(), arguments) else {
-        return tell(Fault::Memory, err);
+        return report_fault(Fault::Memory, err);
     };
     match settings(rt.alloc(), words.as_slice()) {
-        Ok(settings) => match obey(rt, &settings, terminal, out, err) {
-            Ok(status) => status,
-            Err(refusal) => refusal.tell(err),
-        },
+        Ok(settings) => execute_and_report(rt, &settings, terminal, reason, out, err),
         Err(error) => refuse_words(&error, out, err),
     }
 }
 
-/// Does what settings ask for.
-fn obey<
+/// Does what settings ask for, and says in a second line which file a fault is of.
+fn execute_and_report<
     R: Files + Net + Threads + Wait + Clock + Eprint + Sync + AllocGlobal,
     W: LinkWrite,
     E: Write,
->(rt: &R, settings: &Settings<'_>, terminal: bool, out: &mut W, err: &mut E) -> Result<u8, Refusal>
+>(rt: &R, settings: &Settings<'_>, terminal: bool, reason: &Reason, out: &mut W, err: &mut E) -> u8
+    requires works { W.has_failed out.old ≡ false }
+{
+    let mut reports = Reports { err, letter: None };
+    let done = execute(rt, settings, terminal, reason, out, &mut reports);
+    let Reports { err, letter } = reports;
+    let status = match done {
+        Ok(status) => status,
+        Err(refusal) => return refusal.report_fault(err),
+    };
+    let place = match letter {
+        None => None,
+        Some(_) if out.failed() => Some(Place::StandardOutput),
+        Some(letter) => place_of(settings, letter),
+    };
+    if let Some(place) = place {
+        let reason = if status == LINK_FAILED {
+            reason.get()
+        } else {
+            None
+        };
+        report_place(place, reason, err);
+    }
+    status
+}
+
+/// Does what settings ask for.
+fn execute<
+    'a,
+    R: Files + Net + Threads + Wait + Clock + Eprint + Sync + AllocGlobal,
+    W: LinkWrite,
+    E: Write,
+>(
+    rt: &R,
+    settings: &Settings<'a>,
+    terminal: bool,
+    reason: &Reason,
+    out: &mut W,
+    err: &mut E,
+) -> Result<u8, Refusal<'a>>
     requires works { W.has_failed out.old ≡ false }
 {
     let alloc = rt.alloc();
     match settings {
         Settings::Words(words) => {
-            let file = open(rt, words.file)?;
+            let file = open(rt, words.file, reason)?;
             Ok(words_command(alloc, file, out, err))
         }
         Settings::Check(check) => {
-            let file = open(rt, check.file)?;
-            Ok(check_command(alloc, file, out, err))
+            let mut file = Meter::new(open(rt, check.file, reason)?);
+            Ok(check_command(alloc, &mut file, out, err))
         }
         Settings::Asm(asm) => {
-            let file = open_beside(rt, asm.file, Some(asm.out))?;
-            Ok(asm_command(alloc, file, &mut writer_to(rt, asm.out), err))
+            let mut file = Meter::new(open_beside(rt, asm.file, Some(asm.out), reason)?);
+            let mut image = writer_to(rt, asm.out, reason);
+            Ok(asm_command(alloc, &mut file, &mut image, err))
         }
         Settings::Dis(dis) => {
-            let file = open(rt, dis.file)?;
-            Ok(dis_command(alloc, file, dis.words, out, err))
+            let mut file = Meter::new(open(rt, dis.file, reason)?);
+            Ok(dis_command(alloc, &mut file, dis.words, out, err))
         }
-        Settings::Run(run) => run_file(rt, run, terminal, out, err),
-        Settings::Hunt(hunt) => hunt_file(rt, hunt, out, err),
-        Settings::Explore(explore) => explore_file(rt, explore, terminal, out, err),
-        Settings::Replay(replay) => tell_steps(rt, replay, &Report, out, err),
+        Settings::Run(run) => run_file(rt, run, terminal, reason, out, err),
+        Settings::Hunt(hunt) => hunt_file(rt, hunt, terminal, reason, out, err),
+        Settings::Explore(explore) => explore_file(rt, explore, terminal, reason, out, err),
+        Settings::Replay(replay) => tell_steps(rt, replay, &Report, reason, out, err),
         Settings::Order(order) => {
             let choice = Choice {
                 processor: order.processor,
                 word: order.word,
             };
-            tell_steps(rt, &order.replay, &Order { choice }, out, err)
+            let trace = open(rt, order.replay.trace, reason)?;
+            let file = open_image(rt, order.replay.file, reason);
+            let words = order.replay.words;
+            Ok(order_command(alloc, trace, file, words, &Order { choice }, out, err))
         }
-        Settings::Story(replay) => tell_steps(rt, replay, &Story, out, err),
-        Settings::Stats(replay) => tell_steps(rt, replay, &Stats, out, err),
+        Settings::Story(replay) => tell_steps(rt, replay, &Story, reason, out, err),
+        Settings::Stats(replay) => tell_steps(rt, replay, &Stats, reason, out, err),
         Settings::Picture(asked) => {
-            let picture = Picture { step: asked.step };
-            tell_steps(rt, &asked.replay, &picture, out, err)
+            let picture = Picture {
+                step: asked.step,
+                drawing: Svg,
+            };
+            tell_steps(rt, &asked.replay, &picture, reason, out, err)
         }
-        Settings::Debug(session) => debug_file(rt, session, out, err),
+        Settings::Debug(session) => debug_file(rt, session, reason, out, err),
         Settings::Explain(explain) => {
             let topics = all_topics();
             Ok(explain_command(alloc, &topics, explain.code, out, err))
@@ -142,37 +196,46 @@ fn obey<
     }
 }
 
-/// Opens a trace, and then the image of its run, and tells of its steps. That the image cannot be opened is told by the command, behind
-/// what is wrong with the trace.
-fn tell_steps<A: Account, R: Files + AllocGlobal, W: LinkWrite, E: Write>(
+/// Opens a trace, and then the image of its run, and says of its steps. That the image cannot be opened is reported by
+/// the command, after what is wrong with the trace.
+fn tell_steps<'a, A: TraceReport, R: Files + AllocGlobal, W: LinkWrite, E: Write>(
     rt: &R,
-    replay: &Replay<'_>,
-    account: &A,
+    replay: &Replay<'a>,
+    trace_report: &A,
+    reason: &Reason,
     out: &mut W,
     err: &mut E,
-) -> Result<u8, Refusal>
+) -> Result<u8, Refusal<'a>>
     requires works { W.has_failed out.old ≡ false }
 {
-    let trace = open(rt, replay.trace)?;
-    let file = fs::open(rt, replay.file);
+    let trace = open(rt, replay.trace, reason)?;
+    let file = open_image(rt, replay.file, reason);
     let words = replay.words;
-    Ok(account_command(rt.alloc(), trace, file, words, account, out, err))
+    Ok(trace_command(rt.alloc(), trace, file, words, trace_report, out, err))
 }
 
 /// Does what `run FILE` asks for. OUT is opened by the first write to it.
 fn run_file<
+    'a,
     R: Files + Threads + Wait + Clock + Eprint + Sync + AllocGlobal,
     W: LinkWrite,
     E: Write,
->(rt: &R, run: &Run<'_>, terminal: bool, out: &mut W, err: &mut E) -> Result<u8, Refusal>
+>(
+    rt: &R,
+    run: &Run<'a>,
+    terminal: bool,
+    reason: &Reason,
+    out: &mut W,
+    err: &mut E,
+) -> Result<u8, Refusal<'a>>
     requires works { W.has_failed out.old ≡ false }
 {
-    let file = open_beside(rt, run.file, run.trace)?;
-    let mut trace = trace_to(rt, run.trace);
+    let file = open_beside(rt, run.file, run.trace, reason)?;
+    let mut trace = trace_to(rt, run.trace, reason);
     Ok(run_image(rt, file, run, terminal, &mut trace, out, err))
 }
 
-/// Runs an image: on threads, or by the sweep. How far the threads are is told on a terminal.
+/// Runs an image: on threads, or by the sweep. How far the threads are is reported on a terminal.
 fn run_image<
     F: Read + Drop,
     T: LinkWrite,
@@ -208,7 +271,11 @@ fn run_image<
 }
 
 /// The machine's size, of the command line's.
-fn config_of(sizes: &Sizes) -> Config {
+fn config_of(sizes: &Sizes) -> Config
+    ensures network { (result.k ≡ sizes.now.k) × (result.c ≡ sizes.now.c) × (result.b ≡ sizes.now.b)
+        × (result.r ≡ sizes.now.r) }
+    ensures words { result.shared_words ≡ sizes.now.words }
+{
     Config {
         k: sizes.k,
         c: sizes.c,
@@ -219,13 +286,14 @@ fn config_of(sizes: &Sizes) -> Config {
 }
 
 /// Does what `explore FILE` asks for. OUT is opened by the first write to it.
-fn explore_file<R: Files + Clock + Eprint + AllocGlobal, W: LinkWrite, E: Write>(
+fn explore_file<'a, R: Files + Clock + Eprint + AllocGlobal, W: LinkWrite, E: Write>(
     rt: &R,
-    explore: &Explore<'_>,
+    explore: &Explore<'a>,
     terminal: bool,
+    reason: &Reason,
     out: &mut W,
     err: &mut E,
-) -> Result<u8, Refusal>
+) -> Result<u8, Refusal<'a>>
     requires works { W.has_failed out.old ≡ false }
 {
     if explore.every && (explore.witness.is_some() || explore.trace.is_some()) {
@@ -234,12 +302,12 @@ fn explore_file<R: Files + Clock + Eprint + AllocGlobal, W: LinkWrite, E: Write>
     if explore.witness.is_some() != explore.trace.is_some() {
         return Err(Refusal::Half);
     }
-    let file = open_beside(rt, explore.file, explore.trace)?;
-    let mut trace = trace_to(rt, explore.trace);
+    let file = open_beside(rt, explore.file, explore.trace, reason)?;
+    let mut trace = trace_to(rt, explore.trace, reason);
     Ok(explore_image(rt, file, explore, terminal, &mut trace, out, err))
 }
 
-/// Explores an image. How far the search is is told on a terminal.
+/// Explores an image. How far the search is is reported on a terminal.
 fn explore_image<
     F: Read + Drop,
     T: LinkWrite,
@@ -260,20 +328,20 @@ fn explore_image<
 {
     let alloc = rt.alloc();
     if terminal && !explore.quiet {
-        let mut watch = SearchProgress::new(rt, rt);
-        explore_watched(alloc, file, explore, trace, &mut watch, out, err)
+        let mut observer = SearchProgress::new(rt, rt);
+        explore_watched(alloc, file, explore, trace, &mut observer, out, err)
     } else {
-        explore_watched(alloc, file, explore, trace, &mut Unwatched, out, err)
+        explore_watched(alloc, file, explore, trace, &mut NoProgress, out, err)
     }
 }
 
 /// Explores an image, on a machine of one size or of every size.
-fn explore_watched<F: Read + Drop, T: LinkWrite, G: Watch, W: LinkWrite, E: Write>(
+fn explore_watched<F: Read + Drop, T: LinkWrite, G: SearchObserver, W: LinkWrite, E: Write>(
     alloc: Global,
     file: F,
     explore: &Explore<'_>,
     trace: &mut Option<T>,
-    watch: &mut G,
+    observer: &mut G,
     out: &mut W,
     err: &mut E,
 ) -> u8
@@ -287,22 +355,25 @@ fn explore_watched<F: Read + Drop, T: LinkWrite, G: Watch, W: LinkWrite, E: Writ
         witness: explore.witness.unwrap_or(0),
     };
     if explore.every {
-        explore_every_size(alloc, file, config, asked, watch, out, err)
+        explore_every_size(alloc, file, config, asked, observer, out, err)
     } else {
-        explore_command(alloc, file, config, asked, trace, watch, out, err)
+        explore_command(alloc, file, config, asked, trace, observer, out, err)
     }
 }
 
-/// Does what `hunt FILE` asks for. Each trace is opened by the first write to it.
-fn hunt_file<R: Files + AllocGlobal, W: LinkWrite, E: Write>(
+/// Does what `hunt FILE` asks for. Each trace is opened by the first write to it. How far the hunt is is reported on a
+/// terminal.
+fn hunt_file<'a, R: Files + Clock + Eprint + AllocGlobal, W: LinkWrite, E: Write>(
     rt: &R,
-    hunt: &Hunt<'_>,
+    hunt: &Hunt<'a>,
+    terminal: bool,
+    reason: &Reason,
     out: &mut W,
     err: &mut E,
-) -> Result<u8, Refusal>
+) -> Result<u8, Refusal<'a>>
     requires works { W.has_failed out.old ≡ false }
 {
-    let file = open(rt, hunt.file)?;
+    let file = open(rt, hunt.file, reason)?;
     let config = config_of(&hunt.sizes);
     let runs = Hunted {
         budget: hunt.budget,
@@ -316,28 +387,65 @@ fn hunt_file<R: Files + AllocGlobal, W: LinkWrite, E: Write>(
             files: rt,
             image: hunt.file,
             prefix,
+            overwrite: hunt.overwrite,
         }),
         None => None,
     };
-    Ok(hunt_command(alloc, file, config, runs, &mut traces, out, err))
+    Ok(if terminal && !hunt.quiet {
+        let mut observer = HuntProgress::new(rt, rt);
+        hunt_command(
+            alloc,
+            file,
+            config,
+            runs,
+            &mut traces,
+            &mut observer,
+            out,
+            err,
+        )
+    } else {
+        let mut observer = NoHuntProgress;
+        hunt_command(
+            alloc,
+            file,
+            config,
+            runs,
+            &mut traces,
+            &mut observer,
+            out,
+            err,
+        )
+    })
 }
 
-/// Does what `debug FILE` asks for.
-fn debug_file<R: Files + Net + Wait + AllocGlobal, W: Write, E: Write>(
+/// Does what `debug FILE` asks for. OUT is opened by the first write to it.
+fn debug_file<'a, R: Files + Net + Wait + AllocGlobal, W: Write, E: Write>(
     rt: &R,
-    session: &Session<'_>,
+    session: &Session<'a>,
+    reason: &Reason,
     out: &mut W,
     err: &mut E,
-) -> Result<u8, Refusal> {
-    let file = open(rt, session.file)?;
+) -> Result<u8, Refusal<'a>> {
+    let file = open_beside(rt, session.file, session.trace, reason)?;
     let config = config_of(&session.sizes);
-    let mut door = Door {
+    let mut trace = trace_to(rt, session.trace, reason);
+    let mut loopback_port = LoopbackPort {
         net: rt,
         port: session.port,
+        reason,
         out,
     };
     let budget = session.budget;
-    Ok(debug_command(rt, rt.alloc(), file, config, budget, &mut door, err))
+    Ok(debug_command(
+        rt,
+        rt.alloc(),
+        file,
+        config,
+        budget,
+        &mut loopback_port,
+        &mut trace,
+        err,
+    ))
 }
 
 /// The arguments as texts.
@@ -352,7 +460,7 @@ fn texts<'a>(alloc: Global, arguments: &'a [String]) -> Result<Vec<&'a str>, All
 /// Tells that the arguments could not be read: one of them is no text, or there is no memory.
 fn refuse_arguments<E: Write>(kind: ErrorKind, err: &mut E) -> u8 {
     if kind == ErrorKind::OutOfMemory {
-        return tell(Fault::Memory, err);
+        return report_fault(Fault::Memory, err);
     }
     refuse("an argument is not UTF-8", err)
 }
@@ -362,7 +470,7 @@ fn refuse_arguments<E: Write>(kind: ErrorKind, err: &mut E) -> u8 {
 fn refuse_words<W: Write, E: Write>(error: &Error, out: &mut W, err: &mut E) -> u8 {
     let status = status_of(error);
     if status != REFUSED {
-        return tell(Fault::Memory, err);
+        return report_fault(Fault::Memory, err);
     }
     let _ = if error.use_stderr() {
         write!(err, "{error}")

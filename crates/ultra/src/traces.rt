@@ -7,8 +7,8 @@ use command_io::{OnFirstWrite, Open};
 use hunt_command::Traces;
 use link::Meter;
 use std::alloc::{AllocError, Global};
-use std::fs;
-use std::io::{self, ErrorKind};
+use std::fs::{self, File};
+use std::io::{self, ErrorKind, Write};
 use std::rt::Files;
 
 /// Files whose names are a text, the number of a run and `.trace`.
@@ -19,14 +19,25 @@ pub(crate) struct TraceFiles<'a, R: Files> {
     /// The image, which no trace is to be written over.
     pub(crate) image: &'a str,
     pub(crate) prefix: &'a str,
+    /// Whether a trace may be written over a file that exists.
+    pub(crate) overwrite: bool,
 }
 
-/// A file that is created, or emptied, where it is opened. Where it is the image itself it cannot be opened.
+impl<R: Files> TraceFiles<'_, R> {
+    /// Where the trace of the run of a number goes.
+    fn path_of(&self, number: u32) -> Result<String, AllocError> {
+        format!(in self.alloc; "{}{number}.trace", self.prefix)
+    }
+}
+
+/// A file that is created, or emptied where it may be overwritten, where it is opened. Where it is the image itself it
+/// cannot be opened.
 #[derive(Drop)]
 pub(crate) struct CreateNamed<'a, R> {
     files: &'a R,
     image: &'a str,
     path: String,
+    overwrite: bool,
 }
 
 impl<'a, R: Files> Open for CreateNamed<'a, R> {
@@ -36,6 +47,10 @@ impl<'a, R: Files> Open for CreateNamed<'a, R> {
     ghost opens = { λ c file. ⊤ };
 
     fn open(&mut self) -> io::Result<R::File> {
+        if !self.overwrite {
+            // So a file that has come since it was looked for is not lost.
+            return File::create_new(self.files, self.path.as_str());
+        }
         if are_one_file(self.files, self.image, self.path.as_str()) {
             return Err(io::Error::from(ErrorKind::AlreadyExists));
         }
@@ -46,12 +61,35 @@ impl<'a, R: Files> Open for CreateNamed<'a, R> {
 impl<'a, R: Files> Traces for TraceFiles<'a, R> {
     type Writer = Meter<OnFirstWrite<CreateNamed<'a, R>>>;
 
-    fn of(&mut self, number: u32) -> Result<Meter<OnFirstWrite<CreateNamed<'a, R>>>, AllocError> {
-        let path = format!(in self.alloc; "{}{number}.trace", self.prefix)?;
+    // Which files there are, and what they have, is known to no contract.
+    ghost finds = { λ traces number is_there. ⊤ };
+
+    ghost opens = { λ traces number writer after. ⊤ };
+
+    ghost closes = { λ traces writer after. ⊤ };
+
+    fn is_there(&self, number: u32) -> Result<bool, AllocError> {
+        if self.overwrite {
+            return Ok(false);
+        }
+        let path = self.path_of(number)?;
+        Ok(fs::symlink_metadata(self.files, path.as_str()).is_ok())
+    }
+
+    fn tell_there<E: Write>(&self, number: u32, err: &mut E) {
+        let prefix = self.prefix;
+        // Where standard error fails too, the exit status alone reports it.
+        let _ = writeln!(err, "error: {prefix}{number}.trace exists: use --overwrite");
+    }
+
+    fn open(&mut self, number: u32) -> Result<Meter<OnFirstWrite<CreateNamed<'a, R>>>, AllocError> {
         Ok(Meter::new(OnFirstWrite::new(CreateNamed {
             files: self.files,
             image: self.image,
-            path,
+            path: self.path_of(number)?,
+            overwrite: self.overwrite,
         })))
     }
+
+    fn close(&mut self, _writer: Meter<OnFirstWrite<CreateNamed<'a, R>>>) {}
 }

@@ -1,9 +1,11 @@
 //! Wait buffers: the records that one output of a combining switch keeps of its combinations.
 //!
-//! A record says which request was combined with which, and what its reply is. It stays in the buffer until the reply of
-//! the request that went on comes back. `specs/Waiting.antt` says what a contract sees of a buffer. No call takes memory.
+//! A record says which request was combined with which, and what its reply is. It stays in the buffer until the reply
+//! of the request that went on comes back. `specs/Waiting.antt` says what a contract sees of a buffer. No call takes
+//! memory.
 //!
-//! Source: the wait buffer is that of Gottlieb et al., "The NYU Ultracomputer", IEEE Transactions on Computers C-32(2), 1983.
+//! Source: the wait buffer is that of Gottlieb et al., "The NYU Ultracomputer", IEEE Transactions on Computers
+//! C-32(2), 1983.
 #![tactic(auto)]
 
 mod wait_buffer;

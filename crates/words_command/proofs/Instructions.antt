@@ -51,9 +51,9 @@ worth (Some event) = cond (is_retirement event) 1 0
 
 run_more : (a b c : FlatState) (retired : ℕ) (shown : Option Event) → HasRunAlone a b retired → c ≡ flat_step b (entry.Processor 0) →
     shown ≡ flat_event b (entry.Processor 0) → HasRunAlone a c (retired + worth shown)
-run_more a b c retired shown run is told =
+run_more a b c retired shown run is fact =
     let n : ℕ = run.turns in
-    let there : flat_event (flat_run a (turns_of_zero n)) (entry.Processor 0) ≡ shown = ap (λ f. flat_event f (entry.Processor 0)) (sym run.state) ∙ sym told in
+    let there : flat_event (flat_run a (turns_of_zero n)) (entry.Processor 0) ≡ shown = ap (λ f. flat_event f (entry.Processor 0)) (sym run.state) ∙ sym fact in
     let all : flat_events a (turns_of_zero (suc n)) ≡ flat_events a (turns_of_zero n) ++ with_processor_number (entry.Processor 0) shown =
     events_more a n ∙ ap (λ e. flat_events a (turns_of_zero n) ++ with_processor_number (entry.Processor 0) e) there in
     record {
@@ -92,12 +92,14 @@ worth_else (outcome.Answered to) e = refl
 worth_else outcome.Poked e = refl
 worth_else outcome.Stalled e = refl
 
+-- A run of processor 0 alone, after one turn more that retires an instruction, has retired one more.
 pub run_retired : (a : FlatState) (old new : MachineLists) (o : Outcome) (retired : ℕ) → HasRunAlone a (flat_state old) retired → IsOne old 0 o new →
     is_retired o ≡ true → HasRunAlone a (flat_state new) (retired + 1)
 run_retired a old new o retired run one e =
     subst (λ n. HasRunAlone a (flat_state new) (retired + n)) (worth_retired o e)
     (run_more a (flat_state old) (flat_state new) retired (event_of o) run one.flat one.event)
 
+-- A run of processor 0 alone, after one turn more that retires no instruction, has retired as many as before.
 pub run_stopped : (a : FlatState) (old new : MachineLists) (o : Outcome) (retired : ℕ) → HasRunAlone a (flat_state old) retired → IsOne old 0 o new →
     is_retired o ≡ false → HasRunAlone a (flat_state new) retired
 run_stopped a old new o retired run one e =

@@ -1,4 +1,4 @@
--- The first line of a text, and the lines behind it.
+-- The first line of a text, and the lines after it.
 use Rattle.std.proofs.Common.{◌≡◌, ℕ, zero, suc, ◌+◌, ◌-◌, ◌<◌, Bool, true, false, cond, eqb, List, [], ◌∷◌, ◌++◌}
 use Rattle.std.proofs.Common.{length, take, drop, get_or, Some, None, Result, Ok, Err, refl, sym, ap, arith}
 use Rattle.std.proofs.Common.{append_assoc}
@@ -13,6 +13,7 @@ use Rattle.words_command.specs.HexText.{lines_of, before_lines, word_of_line, wo
 abbrev pub is_lf : ℕ → Bool
 is_lf byte = eqb byte 10
 
+-- If the first line feed of a text is at place i, the first line ends there, and the others are those of the rest.
 pub lines_cut : (text : List ℕ) (i : ℕ) → i < length text → is_lf (get_or text i 0) ≡ true → ((k : ℕ) → k < i → is_lf (get_or text k 0) ≡ false) →
     lines_of text ≡ take i text ∷ lines_of (drop (suc i) text)
 lines_cut [] i inside at before = absurd (omega arith)
@@ -22,6 +23,7 @@ lines_cut (byte ∷ text) (suc i) inside at before =
     let rest = lines_cut text i (omega arith) at (λ k h. before (suc k) (omega arith)) in
     rw (here, rest) refl
 
+-- If a search finds a line feed at place i, the first line ends there, and the others are those of the rest.
 pub line_found : (text : List ℕ) (i : ℕ) → position is_lf text ≡ Some i → lines_of text ≡ take i text ∷ lines_of (drop (suc i) text)
 line_found text i e = let at = position-Some is_lf text i 0 e in lines_cut text i at.0 at.1 at.2
 
@@ -33,6 +35,7 @@ lines_whole (byte ∷ next ∷ text) none some =
     let rest = lines_whole (next ∷ text) (λ k h. none (suc k) (omega arith)) (omega arith) in
     rw here (ap (before_lines byte) rest)
 
+-- If a search finds no line feed, no byte of the text is one.
 pub no_lf : (text : List ℕ) → position is_lf text ≡ None → (k : ℕ) → k < length text → is_lf (get_or text k 0) ≡ false
 no_lf text e = by_place (nat_lt place (length text)) refl e
   where
@@ -44,19 +47,21 @@ no_lf text e = by_place (nat_lt place (length text)) refl e
     by_place false outside none k h =
         not-true (is_lf (get_or text k 0)) (prefix_len_passes (λ byte. not (is_lf byte)) text k 0 (omega (arith, ltb-false place (length text) outside)))
 
+-- A text that is not empty and in which a search finds no line feed is one line.
 pub line_last : (text : List ℕ) → position is_lf text ≡ None → 0 < length text → lines_of text ≡ text ∷ []
 line_last text e some = lines_whole text (no_lf text e) some
 
--- what slicing leaves behind a line
+-- what slicing leaves after a line
 pub rest_of : (text : List ℕ) (i : ℕ) → drop (suc i) text ≡ take (length text - (i + 1)) (drop (i + 1) text)
 rest_of text i = grind (arith, common_steps)
 
+-- After a whole text nothing is left of it.
 pub nothing_left : (text : List ℕ) → take (length text - length text) (drop (length text) text) ≡ []
 nothing_left text = grind (arith, common_steps)
 
 -- ---- words
 
--- words that were read, in front of what the rest gives
+-- words that were read, before what the rest gives
 abbrev pub prepended : List ℕ → Result (List ℕ) ℕ → Result (List ℕ) ℕ
 prepended front (Ok words) = Ok (front ++ words)
 prepended front (Err bad) = Err bad

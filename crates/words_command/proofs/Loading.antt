@@ -29,6 +29,7 @@ bytes_append [] ys = refl
 bytes_append (x ∷ xs) ys =
     ap (λ rest. to_le_bytes w32 x ++ rest) (bytes_append xs ys) ∙ sym (append_assoc (to_le_bytes w32 x) (bytes_of_words xs) (bytes_of_words ys))
 
+-- The bytes of the first i + 1 words are those of the first i, and then the next word's.
 pub one_word_more : (words : List ℕ) (i : ℕ) → i < length words →
     bytes_of_words (take (i + 1) words) ≡ bytes_of_words (take i words) ++ to_le_bytes w32 (get_or words i 0)
 one_word_more words i inside =
@@ -39,6 +40,7 @@ one_word_more words i inside =
 four_bytes : (word : ℕ) → length (to_le_bytes w32 word) ≡ 4
 four_bytes word = refl
 
+-- Words have four bytes each.
 pub count_of_bytes : (words : List ℕ) → length (bytes_of_words words) ≡ 4 * length words
 count_of_bytes [] = refl
 count_of_bytes (w ∷ ws) = omega (arith, length-append (to_le_bytes w32 w) (bytes_of_words ws), four_bytes w, count_of_bytes ws)
@@ -54,6 +56,7 @@ placed words few = record {
   shared = omega arith;
 }
 
+-- The layout of at most 16,384 words fits a machine with 1,024 shared words.
 pub words_are_placed : (words : List ℕ) (layout : Layout) → layout ≡ layout_of_words words → length words ≤ 16384 → IsPlaced layout 1024
 words_are_placed words layout is few = rw is (placed words few)
 
@@ -85,6 +88,7 @@ length_of_file code =
       length_of_program_header 84 (2 ^ 16) (length code) 5,
     )
 
+-- The file that spells the layout of at most 16,384 words has at most 1,048,576 bytes.
 pub file_is_short : (words : List ℕ) (layout : Layout) → layout ≡ layout_of_words words → length words ≤ 16384 → length (spelling layout) ≤ 1048576
 file_is_short words layout is few = rw is (omega (arith, length_of_file (bytes_of_words words), count_of_bytes words, few))
 
@@ -112,11 +116,13 @@ open_on words = ap (λ (shared : List ℕ). with_shared shared) (zeros 0 1024)
       code = region_of_bytes (bytes_of_words words);
     }
 
+-- A flat machine that opens on the image of words is the flat machine of the words.
 pub words_open : (words : List ℕ) (layout : Layout) (image : ImageContents) (m : FlatState) → layout ≡ layout_of_words words →
     image ≡ record { layout = layout; shared_words = 1024 } →
     m ≡ opening size image.layout → m ≡ flat_of_words words
 words_open words layout image m is read opens = opens ∙ ap (λ (i : ImageContents). opening size i.layout) read ∙ ap (opening size) is ∙ open_on words
 
+-- The machine's size is within its limits, and has as many shared words as the image.
 pub made_for : (layout : Layout) (image : ImageContents) → image ≡ record { layout = layout; shared_words = 1024 } →
     IsWithinLimits size × (image.shared_words ≡ size.shared_words)
 made_for layout image read = (
@@ -160,7 +166,7 @@ unlike file new error none refused =
     let clash : None ≡ Some error = sym none ∙ there in
     cc
 
--- the file that is accepted is refused for no other cause than want of memory
+-- the file that is accepted is refused for no other cause than out of memory
 pub none_refused : (file : List ℕ) (new : Option (List ℕ)) (error : ImageError) → length file ≤ 1048576 → refusal_of 1024 file ≡ None →
     IsRefused 1024 (Some file) new error →
     IsWantOfMemory error

@@ -1,5 +1,5 @@
--- The bytes that are read of a file tell what all of it spells: a line that spells a word has eight bytes and its LF, and
--- the line behind the 16,384th is refused whatever it is.
+-- The bytes that are read of a file say what all of it spells: a line that spells a word has eight bytes and its LF, and
+-- the line after the 16,384th is refused whatever it is.
 use Rattle.std.proofs.Common.{◌≡◌, ℕ, zero, suc, ◌+◌, ◌-◌, ◌*◌, ◌<◌, ◌≤◌, Bool, true, false, eqb, List, [], ◌∷◌}
 use Rattle.std.proofs.Common.{length, take, drop, get_or, get_or-take, take_all, take-take, length-take-le, Option}
 use Rattle.std.proofs.Common.{Some, None, Err, ◌⊎◌, inl, inr, refl, sym, ap, ap₂, ◌∙◌, subst, arith}
@@ -65,7 +65,7 @@ same_front : (n : ℕ) (line : List ℕ) (lines lines' : List (List ℕ)) → wo
     words_of_lines n (line ∷ lines) ≡ words_of_lines n (line ∷ lines')
 same_front n line lines lines' e = ap (λ rest. if n == 16384 then Err 16385 else in_front (word_of_line line) (n + 1) rest) e
 
--- what the lines behind the first are told by, where `m` more may follow
+-- what the lines after the first are reported by, where `m` more may follow
 abbrev pub Tells : ℕ → Type 0
 Tells m = (n size : ℕ) (text : List ℕ) → n + m ≡ 16384 → 9 * m < size → words_of_lines n (lines_of (take size text)) ≡ words_of_lines n (lines_of text)
 
@@ -120,7 +120,7 @@ tells_one_more m further n size text sum enough = by_length (cases_lt size (leng
     by_length (inr all) = ap (λ t. words_of_lines n (lines_of t)) (take_all size text all)
     by_length (inl more) = by_end more (position is_lf text) refl
 
--- The beginning of a text that has nine bytes for each line that may follow, and one more, tells what the text spells.
+-- The beginning of a text that has nine bytes for each line that may follow, and one more, says what the text spells.
 beginning_tells : (m : ℕ) → Tells m
 beginning_tells zero = tells_nothing_more
 beginning_tells (suc m) = tells_one_more m (beginning_tells m)

@@ -5,13 +5,14 @@ use Rattle.flat_machine.specs.declared.event.Status.TheVariants.{Running, Halted
 use Rattle.flat_machine.specs.State.{Processor, FlatState, is_running}
 use Rattle.command_io.specs.declared.fault.Fault.{Fault}
 use Rattle.command_io.specs.declared.fault.Fault.TheVariants as fault
-use Rattle.command_io.specs.Printing.{IsPartPrinted}
+use Rattle.command_io.specs.Printing.{PrintsPrefix}
 use Rattle.words_command.specs.HexText.{words_of_text}
 use Rattle.words_command.specs.Loading.{flat_of_words}
 use Rattle.words_command.specs.Report.{report_of}
 use Rattle.words_command.specs.Running.{HasRunAlone}
 
--- The text spells what the file does, where the file's bytes are known. (It is their beginning: not all bytes need be read.)
+-- The text spells what the file does, where the file's bytes are known. (It is their beginning: not all bytes need be
+-- read.)
 abbrev pub IsRead : Option (List ℕ) → List ℕ → Type 0
 IsRead None text = Unit {0}
 IsRead (Some bytes) text = words_of_text text ≡ words_of_text bytes
@@ -25,8 +26,8 @@ exit_status_of Running = 0
 exit_status_of (Halted byte) = 0
 exit_status_of (Faulted fault) = 1
 
--- The program that a text spells has run on the flat machine until its processor stopped; this is the report of that processor,
--- and this the exit status.
+-- The program that a text spells has run on the flat machine until its processor stopped; this is the report of that
+-- processor, and this the exit status.
 pub record IsProcessorReport (text : List ℕ) (status : ℕ) (report : List ℕ) : Type 0 where
   pub words : List ℕ
   pub spelled : words_of_text text ≡ Ok words
@@ -58,18 +59,21 @@ pub record IsOverBudget (text : List ℕ) : Type 0 where
   pub run : HasRunAlone (flat_of_words words) last 1000000
 
 -- why a text's program is not reported, or not all of it: what each fault says of the text, and of what is printed
-abbrev pub IsNoReportOf : Fault → List ℕ → (old new : Option (List ℕ)) → Type 0
-IsNoReportOf (fault.Line number) text old new = words_of_text text ≡ Err number
-IsNoReportOf fault.Budget text old new = IsOverBudget text
-IsNoReportOf fault.Link text old new = IsPartPrinted (IsSomeReport text) old new
-IsNoReportOf fault.Memory text old new = Unit {0}
-IsNoReportOf other text old new = ⊥
+abbrev pub ReportOfFails : Fault → List ℕ → (old new : Option (List ℕ)) → Type 0
+ReportOfFails (fault.Line number) text old new = words_of_text text ≡ Err number
+ReportOfFails fault.Budget text old new = IsOverBudget text
+ReportOfFails fault.Link text old new = PrintsPrefix (IsSomeReport text) old new
+ReportOfFails fault.Memory text old new = Unit {0}
+ReportOfFails other text old new = ⊥
 
--- Why a file's program is not reported, or not all of it. A failed read says nothing of the bytes, and nothing is printed then.
--- Want of memory says nothing.
-abbrev pub IsNoWordsReport : Option (List ℕ) → (old new : Option (List ℕ)) → Fault → Type 0
-IsNoWordsReport bytes old new (fault.Line number) = (text : List ℕ) × IsRead bytes text × IsNoReportOf (fault.Line number) text old new
-IsNoWordsReport bytes old new fault.Budget = (text : List ℕ) × IsRead bytes text × IsNoReportOf fault.Budget text old new
-IsNoWordsReport bytes old new fault.Link = (new ≡ old) ⊎ ((text : List ℕ) × IsRead bytes text × IsNoReportOf fault.Link text old new)
-IsNoWordsReport bytes old new fault.Memory = Unit {0}
-IsNoWordsReport bytes old new other = ⊥
+-- Why a file's program is not reported, or not all of it. A failed read says nothing of the bytes, and nothing is
+-- printed then. out of memory says nothing.
+abbrev pub WordsReportFails : Option (List ℕ) → (old new : Option (List ℕ)) → Fault → Type 0
+WordsReportFails bytes old new (fault.Line number) = (text : List ℕ) × IsRead bytes text
+    × ReportOfFails (fault.Line number) text old new
+WordsReportFails bytes old new fault.Budget = (text : List ℕ) × IsRead bytes text
+    × ReportOfFails fault.Budget text old new
+WordsReportFails bytes old new fault.Link = (new ≡ old)
+    ⊎ ((text : List ℕ) × IsRead bytes text × ReportOfFails fault.Link text old new)
+WordsReportFails bytes old new fault.Memory = Unit {0}
+WordsReportFails bytes old new other = ⊥

@@ -22,14 +22,14 @@ word_of_bytes (Err error) = None
 abbrev pub word_of_line : List ℕ → Option ℕ
 word_of_line line = word_of_bytes (decode_sized line 4)
 
--- a word in front of the words of the lines that follow it
+-- a word before the words of the lines that follow it
 abbrev pub in_front : Option ℕ → ℕ → Result (List ℕ) ℕ → Result (List ℕ) ℕ
 in_front None number rest = Err number
 in_front (Some word) number (Ok words) = Ok (word ∷ words)
 in_front (Some word) number (Err bad) = Err bad
 
--- The words of lines, of which `before` stand before them, or the number (from 1) of the first bad line. It is the first
--- that does not spell a word, or the one behind the 16,384th.
+-- The words of lines, of which `before` stand before them, or the number (from 1) of the first bad line. It is the
+-- first that does not spell a word, or the one after the 16,384th.
 abbrev pub words_of_lines : (before : ℕ) → List (List ℕ) → Result (List ℕ) ℕ
 words_of_lines before [] = Ok []
 words_of_lines before (line ∷ lines) =

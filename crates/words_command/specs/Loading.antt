@@ -25,7 +25,7 @@ flat_of_words words = record {
 abbrev pub layout_of_words : List ℕ → Layout
 layout_of_words words = record { entry = 2 ^ 16; code = bytes_of_words words; local = []; shared = [] }
 
--- An image was not written to memory, or not read back, for want of memory: nothing else can be wrong with it.
+-- An image was not written to memory, or not read back, if out of memory: nothing else can be wrong with it.
 abbrev pub IsWantOfMemory : ImageError → Type 0
 IsWantOfMemory error.Link = Unit {0}
 IsWantOfMemory error.Memory = Unit {0}

@@ -14,4 +14,5 @@ register_lines number (value ∷ values) = register_line number value ++ registe
 
 -- the registers of a processor, its pc, and its status
 unfoldable pub report_of : Processor → List ℕ
-report_of p = register_lines 0 p.registers ++ codes "pc " ++ hex_of_word p.pc ++ line_feed ++ status_text p.status ++ line_feed
+report_of p = register_lines 0 p.registers ++ codes "pc " ++ hex_of_word p.pc ++ line_feed ++ status_text p.status
+    ++ line_feed

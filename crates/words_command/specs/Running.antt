@@ -11,7 +11,7 @@ use Rattle.steps.specs.declared.step.Outcome.TheVariants as outcome
 use Rattle.machine_steps.specs.Machines.{MachineLists}
 use Rattle.machine_steps.specs.machine_theory.Processors.{port_at}
 
--- so many turns of processor 0
+-- this many turns of processor 0
 abbrev pub turns_of_zero : ℕ → List Entry
 turns_of_zero count = replicate count (entry.Processor 0)
 
@@ -23,7 +23,8 @@ is_retirement (Stopped cause) = false
 abbrev pub retirements : List (ℕ × Event) → ℕ
 retirements events = count_by (λ e. is_retirement e.1) events
 
--- The flat machine has gone from one state to another in turns of processor 0 alone, which retired so many instructions.
+-- The flat machine has gone from one state to another in turns of processor 0 alone, which retired this many
+-- instructions.
 pub record HasRunAlone (old new : FlatState) (retired : ℕ) : Type 0 where
   pub turns : ℕ
   pub state : new ≡ flat_run old (turns_of_zero turns)

@@ -1,8 +1,10 @@
 //! The command: from the bytes of a file to the bytes of a report.
 
 ghost use Rattle.std.specs.Prelude.{◌≡◌, ◌⊎◌, ⊤, ◌≤◌, true, false, IfOk, IfErr, IsErrOf, OnErr};
-ghost use Rattle.command_io.specs.Printing.{IsPrinted, IsTold};
-ghost use Rattle.words_command.specs.Command.{IsRead, IsProcessorReport, IsWordsReport, IsNoReportOf, IsNoWordsReport, exit_status_of};
+ghost use Rattle.command_io.specs.FaultTexts.{IsReported};
+ghost use Rattle.command_io.specs.Printing.{Prints, ReportsFault};
+ghost use Rattle.words_command.specs.Command.{IsRead, IsProcessorReport, IsWordsReport, ReportOfFails};
+ghost use Rattle.words_command.specs.Command.{WordsReportFails, exit_status_of};
 ghost use Rattle.words_command.specs.Faults.{fault_of_reading, fault_of_running, fault_of_printing};
 ghost use Rattle.words_command.specs.Running.{processor_of};
 
@@ -10,7 +12,7 @@ use crate::load::words_machine;
 use crate::print::{PrintError, words_print};
 use crate::read::{MAX_WORDS, WordsError, words_read};
 use crate::run::{WordsEnd, words_run};
-use command_io::{DONE, Fault, STOPPED_BY_FAULT, tell};
+use command_io::{DONE, Fault, STOPPED_BY_FAULT, report_fault};
 use flat_machine::Status;
 use link::{Link, LinkWrite, Meter};
 use machine_log::Logged;
@@ -55,7 +57,7 @@ impl From<PrintError> for Fault {
 }
 
 /// Reads a program from a file, runs it, and prints its processor. Answers the exit status: 0 where
-/// the processor halted, 1 where a fault stopped it, else that of the fault that is told on
+/// the processor halted, 1 where a fault stopped it, else that of the fault that is reported on
 /// standard error. Nothing is printed then, unless it is printing that failed.
 pub fn words_command<R: Read + Drop, W: LinkWrite, E: Write>(
     alloc: Global,
@@ -64,26 +66,26 @@ pub fn words_command<R: Read + Drop, W: LinkWrite, E: Write>(
     err: &mut E,
 ) -> u8
     requires works { W.has_failed out.old ≡ false }
-    ensures reported { result ≤ 1 → IsPrinted (IsWordsReport (R.remaining file) result) (W.contents out.old) (W.contents out.new) }
-    ensures told { 2 ≤ result → IsTold W.has_failed Fault.Link ⊤
-        (IsNoWordsReport (R.remaining file) (W.contents out.old) (W.contents out.new)) out.old out.new result }
+    ensures reported { result ≤ 1 →
+        Prints (IsWordsReport (R.remaining file) result) (W.contents out.old) (W.contents out.new) }
+    ensures fault { 2 ≤ result → ReportsFault W.has_failed Fault.Link ⊤
+        (WordsReportFails (R.remaining file) (W.contents out.old) (W.contents out.new))
+        (IsReported (E.contents err.old) (E.contents err.new)) out.old out.new result }
     ensures failed { W.has_failed out.new ≡ true → result ≡ 3 }
+    ensures quiet { result ≤ 1 → err.new ≡ err.old }
 {
-    match carried_out(alloc, file, out) {
+    match execute(alloc, file, out) {
         Ok(status) => status,
-        Err(fault) => tell(fault, err),
+        Err(fault) => report_fault(fault, err),
     }
 }
 
 /// Carries the command out.
-fn carried_out<R: Read + Drop, W: LinkWrite>(
-    alloc: Global,
-    file: R,
-    out: &mut W,
-) -> Result<u8, Fault>
+fn execute<R: Read + Drop, W: LinkWrite>(alloc: Global, file: R, out: &mut W) -> Result<u8, Fault>
     requires works { W.has_failed out.old ≡ false }
-    ensures reported { IfOk result (λ status. IsPrinted (IsWordsReport (R.remaining file) status) (W.contents out.old) (W.contents out.new)) }
-    ensures told { IfErr result (IsNoWordsReport (R.remaining file) (W.contents out.old) (W.contents out.new)) }
+    ensures reported { IfOk result (λ status. Prints (IsWordsReport (R.remaining file) status) (W.contents out.old)
+        (W.contents out.new)) }
+    ensures fault { IfErr result (WordsReportFails (R.remaining file) (W.contents out.old) (W.contents out.new)) }
     ensures failed { W.has_failed out.new ≡ true → IsErrOf result Fault.Link }
     ensures silent { OnErr result (W.has_failed out.new ≡ false → out.new ≡ out.old) }
 {
@@ -96,7 +98,7 @@ fn carried_out<R: Read + Drop, W: LinkWrite>(
 /// The bytes of a file, as many as can matter.
 fn read_text<R: Read + Drop>(alloc: Global, file: R) -> Result<Vec<u8>, Fault>
     ensures read { IfOk result (λ text. IsRead (R.remaining file) text.items) }
-    ensures told { IfErr result (λ fault. (fault ≡ Fault.Memory) ⊎ (fault ≡ Fault.Link)) }
+    ensures fault { IfErr result (λ fault. (fault ≡ Fault.Memory) ⊎ (fault ≡ Fault.Link)) }
 {
     let mut text = Vec::new(alloc);
     // Where a read is interrupted, `read_to_end` tries again: a meter that has failed does not call the file then.
@@ -111,8 +113,9 @@ fn read_text<R: Read + Drop>(alloc: Global, file: R) -> Result<Vec<u8>, Fault>
 /// Runs the program that a text spells, and prints its processor.
 fn run_text<W: LinkWrite>(alloc: Global, text: &[u8], out: &mut W) -> Result<u8, Fault>
     requires works { W.has_failed out.old ≡ false }
-    ensures reported { IfOk result (λ status. IsPrinted (IsProcessorReport text.now status) (W.contents out.old) (W.contents out.new)) }
-    ensures told { IfErr result (λ fault. IsNoReportOf fault text.now (W.contents out.old) (W.contents out.new)) }
+    ensures reported { IfOk result (λ status. Prints (IsProcessorReport text.now status) (W.contents out.old)
+        (W.contents out.new)) }
+    ensures fault { IfErr result (λ fault. ReportOfFails fault text.now (W.contents out.old) (W.contents out.new)) }
     ensures failed { W.has_failed out.new ≡ true → IsErrOf result Fault.Link }
     ensures silent { OnErr result (W.has_failed out.new ≡ false → out.new ≡ out.old) }
 {
@@ -126,7 +129,7 @@ fn run_text<W: LinkWrite>(alloc: Global, text: &[u8], out: &mut W) -> Result<u8,
     Ok(exit_status(&log))
 }
 
-/// The exit status that tells how the processor stopped.
+/// The exit status that says how the processor stopped.
 fn exit_status(log: &Logged) -> u8
     ensures { result ≡ exit_status_of (processor_of log.now.machine).status }
 {

@@ -71,7 +71,7 @@ fn words_layout(alloc: Global, words: &[u32]) -> Result<Layout, AllocError>
 ///
 /// # Errors
 ///
-/// Want of memory: of the file, which is a failed link then, or of the image.
+/// out of memory: of the file, which is a failed link then, or of the image.
 fn image_of(alloc: Global, layout: &Layout) -> Result<Image, ImageError>
     requires placed { IsPlaced layout.now 1024 }
     requires short { length (spelling layout.now) ≤ 1048576 }

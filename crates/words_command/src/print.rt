@@ -28,13 +28,15 @@ pub enum PrintError {
 ///
 /// # Errors
 ///
-/// [`PrintError::Link`] exactly where the link failed in this call, and [`PrintError::Memory`] where there
+/// [`PrintError::Link`] exactly if the link failed in this call, and [`PrintError::Memory`] where there
 /// was no memory for the report.
 pub fn words_print<W: LinkWrite>(alloc: Global, log: &Logged, out: &mut W) -> Result<(), PrintError>
     requires { W.has_failed out.old ≡ false }
     ensures failed { IsErrOf result PrintError.Link ↔ (W.has_failed out.new ≡ true) }
-    ensures printed { OnOk result (Appends (W.contents out.old) (W.contents out.new) (report_of (processor_of log.now.machine))) }
-    ensures begun { result ≡ Err PrintError.Link → AppendsPart (W.contents out.old) (W.contents out.new) (report_of (processor_of log.now.machine)) }
+    ensures printed { OnOk result (Appends (W.contents out.old) (W.contents out.new)
+        (report_of (processor_of log.now.machine))) }
+    ensures begun { result ≡ Err PrintError.Link →
+        AppendsPart (W.contents out.old) (W.contents out.new) (report_of (processor_of log.now.machine)) }
     ensures memory { result ≡ Err PrintError.Memory → out.new ≡ out.old }
 {
     let machine = log.machine();

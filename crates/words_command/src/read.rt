@@ -1,6 +1,7 @@
 //! Reading a file of hex words.
 
-ghost use Rattle.std.specs.Prelude.{◌≡◌, ◌<◌, ◌≤◌, ◌+◌, ◌∷◌, ◌++◌, [], Ok, Err, Some, None, IfOk, IfErr, OnOk, ◌==◌, position, vec_len, length, option_map};
+ghost use Rattle.std.specs.Prelude.{◌≡◌, ◌<◌, ◌≤◌, ◌+◌, ◌∷◌, ◌++◌, [], Ok, Err, Some, None, IfOk, IfErr, OnOk, ◌==◌};
+ghost use Rattle.std.specs.Prelude.{position, vec_len, length, option_map};
 ghost use Rattle.words_command.specs.HexText.{lines_of, word_of_line, words_of_text};
 ghost use Rattle.words_command.specs.Refused.{IsFirstBad};
 
@@ -13,7 +14,7 @@ pub const MAX_WORDS: usize = 16_384;
 /// Why a file of words was refused.
 #[derive(Clone, Copy, Debug, PartialEq, Eq, Drop, Error)]
 pub enum WordsError {
-    /// The first line, from 1, that is not eight hex digits, or that stands behind the last word
+    /// The first line, from 1, that is not eight hex digits, or that stands after the last word
     /// that code has room for.
     #[error("V1 line {0}")]
     Line(u32),

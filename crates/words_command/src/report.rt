@@ -19,7 +19,8 @@ pub fn report(
     pc: u32,
     status: Status,
 ) -> Result<String, AllocError>
-    ensures { IfOk result (λ text. (p : Processor) → p.registers ≡ registers.now → p.pc ≡ pc → p.status ≡ status → string_bytes text ≡ report_of p) }
+    ensures { IfOk result (λ text. (p : Processor) → p.registers ≡ registers.now → p.pc ≡ pc → p.status ≡ status →
+        string_bytes text ≡ report_of p) }
 {
     let mut text = String::new(alloc);
     push_registers(alloc, &mut text, registers)?;

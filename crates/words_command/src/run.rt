@@ -9,7 +9,7 @@ ghost use Rattle.words_command.specs.Command.{HasProcessor};
 ghost use Rattle.words_command.specs.Running.{HasRunAlone, is_retired, processor_of};
 
 use flat_machine::Status;
-use machine_log::{LockRefusal, Logged, log_is_kept};
+use machine_log::{LockRefusal, Logged, log_is_well_formed};
 use std::alloc::AllocError;
 use steps::Outcome;
 use thiserror::Error;
@@ -41,12 +41,15 @@ pub fn words_run(log: &mut Logged) -> Result<(), WordsEnd>
     requires one { log.old.machine.config.k ≡ 0 }
     ensures opening { log.new.opening ≡ log.old.opening }
     ensures idle { IsIdle log.new.machine }
-    ensures ran { (retired : ℕ) × (retired ≤ BUDGET) × HasRunAlone (flat_state log.old.machine) (flat_state log.new.machine) retired }
+    ensures ran { (retired : ℕ) × (retired ≤ BUDGET)
+        × HasRunAlone (flat_state log.old.machine) (flat_state log.new.machine) retired }
     ensures stopped { OnOk result (is_running (processor_of log.new.machine).status ≡ false) }
     ensures budget { result ≡ Err WordsEnd.Budget →
-        HasRunAlone (flat_state log.old.machine) (flat_state log.new.machine) BUDGET × (is_running (processor_of log.new.machine).status ≡ true) }
+        HasRunAlone (flat_state log.old.machine) (flat_state log.new.machine) BUDGET
+        × (is_running (processor_of log.new.machine).status ≡ true) }
     ensures memory { result ≡ Err WordsEnd.Memory →
-        (retired : ℕ) × (retired < BUDGET) × HasRunAlone (flat_state log.old.machine) (flat_state log.new.machine) retired
+        (retired : ℕ) × (retired < BUDGET)
+        × HasRunAlone (flat_state log.old.machine) (flat_state log.new.machine) retired
         × (is_running (processor_of log.new.machine).status ≡ true) }
     ensures alone { HasProcessor (flat_state log.new.machine) (processor_of log.new.machine) }
     ensures one { log.new.machine.config.k ≡ 0 }
@@ -74,7 +77,7 @@ fn runs(log: &Logged) -> bool
     ensures sound { IsMachine log.now.machine }
     ensures alone { HasProcessor (flat_state log.now.machine) (processor_of log.now.machine) }
 {
-    log_is_kept(log);
+    log_is_well_formed(log);
     log.machine().status(0) == Some(Status::Running)
 }
 
@@ -97,7 +100,7 @@ fn take_instruction(log: &mut Logged) -> Result<Outcome, AllocError>
     ensures refused { IfErr result (λ e. log.new ≡ log.old) }
 {
     let outcome = log.one(0);
-    log_is_kept(log);
+    log_is_well_formed(log);
     match outcome {
         Ok(outcome) => Ok(outcome),
         Err(LockRefusal::Memory) => Err(AllocError),

@@ -1,6 +1,6 @@
-# A wrong barrier: a processor reads late which barrier it is at.
+# A wrong barrier: a processor reads too late which barrier it is at.
 #
-# As barrier.s, but for one line: word 1 is read behind the fetch-and-add that counts the processor, and not before it.
+# As barrier.s, but for one line: word 1 is read after the fetch-and-add that counts the processor, and not before it.
 start: addi a7, x0, 2           # call 2: the processor's own number
  ecall
  addi s0, a0, 0

@@ -1,6 +1,6 @@
-# A wrong barrier: the count is set back late.
+# A wrong barrier: the count is set back too late.
 #
-# As barrier.s, but for two lines: who comes last lets the others go, and only then sets the count back.
+# As barrier.s, but for two lines: the last to come lets the others go, and only then sets the count back.
 start: addi a7, x0, 2           # call 2: the processor's own number
  ecall
  addi s0, a0, 0
@@ -31,7 +31,7 @@ barrier: lw t0, 4(s2)           # before it is counted, since all may be let go 
  bne t1, s1, wait
  addi t2, s2, 4
  amoadd.w x0, s5, (t2)
- sw x0, 0(s2)                   # wrong: who was let go may have been counted for the next barrier by now
+ sw x0, 0(s2)                   # wrong: one that was let go may have been counted for the next barrier by now
  jalr x0, 0(ra)
 wait: lw t1, 4(s2)
  beq t1, t0, wait

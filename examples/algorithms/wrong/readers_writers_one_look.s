@@ -1,6 +1,6 @@
 # Wrong readers and writers: a reader looks for a writer only once.
 #
-# As readers_writers.s, but for the three lines of the second look.
+# As readers_writers.s, but without the three lines of the second look.
 start: addi a7, x0, 2           # call 2: the processor's own number
  ecall
  andi s0, a0, 1                 # 0: it writes

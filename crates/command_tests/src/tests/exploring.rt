@@ -6,13 +6,13 @@ mod ends;
 mod sizes;
 mod witnesses;
 
-use explore_command::{Asked, Unwatched, explore_command, explore_every_size};
+use explore_command::{Asked, NoProgress, explore_command, explore_every_size};
 use flat_machine::Config;
 use link::Meter;
 use std::alloc::Global;
 use test_support::size;
 
-/// A machine of so many processors, with 16 shared words.
+/// A machine of this many processors, with 16 shared words.
 fn config_of(k: u8) -> Config {
     Config {
         shared_words: 16,
@@ -57,7 +57,7 @@ fn explore(alloc: Global, file: &[u8], config: Config, asked: Asked) -> Ran {
         config,
         asked,
         &mut trace,
-        &mut Unwatched,
+        &mut NoProgress,
         &mut out,
         &mut err,
     );
@@ -77,7 +77,7 @@ fn explore_sizes(alloc: Global, file: &[u8], config: Config, asked: Asked) -> Ra
         file,
         config,
         asked,
-        &mut Unwatched,
+        &mut NoProgress,
         &mut out,
         &mut err,
     );

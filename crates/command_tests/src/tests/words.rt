@@ -1,6 +1,6 @@
 //! The command, from the bytes of a file to the bytes of a report: what no clause says of it.
 
-use command_io::{Fault, tell};
+use command_io::{Fault, report_fault};
 use std::alloc::{AllocError, Global};
 use std::fmt::Write as _;
 use std::io::{Read, Write};
@@ -111,13 +111,13 @@ fn reports_the_processor(rt: HostRuntime) -> Result<(), Fail> {
 
 #[test]
 fn refuses_what_is_no_program(rt: HostRuntime) -> Result<(), Fail> {
-    for (text, told) in &REFUSED {
-        run_text(rt.alloc(), text.as_bytes()).comes_to(2, b"", told)?;
+    for (text, reported) in &REFUSED {
+        run_text(rt.alloc(), text.as_bytes()).comes_to(2, b"", reported)?;
     }
     Ok(())
 }
 
-/// So many lines of `addi x0, x0, 0`.
+/// This many lines of `addi x0, x0, 0`.
 fn idle_lines(alloc: Global, count: usize) -> Result<Vec<u8>, AllocError> {
     let mut text = Vec::new(alloc);
     for _ in 0..count {
@@ -150,11 +150,11 @@ fn tells_what_the_outside_refuses(rt: HostRuntime) -> Result<(), Fail> {
     run(alloc, Broken, Vec::new(alloc)).comes_to(3, b"", "ultra: link\n")?;
     run(alloc, Endless, Vec::new(alloc)).comes_to(2, b"", "ultra: V1 line 1\n")?;
 
-    // Standard output comes before the processor's fault, and the exit status is told without
+    // Standard output comes before the processor's fault, and the exit status is reported without
     // standard error too.
     let ran = run(alloc, b"00100093".as_slice(), Full);
     assert!(rt; ran.has_failed);
     ran.comes_to(3, b"", "ultra: link\n")?;
-    assert_same!(rt; tell(Fault::Memory, &mut Full), 4);
+    assert_same!(rt; report_fault(Fault::Memory, &mut Full), 4);
     Ok(())
 }

@@ -1,4 +1,5 @@
-//! Runs of local instructions on a core by itself. The words come from the manual, and what they do is worked out by hand.
+//! Runs of local instructions on a core by itself. The words come from the manual, and what they do is worked out by
+//! hand.
 
 use flat_machine::{CODE_START, Cause, Setting, Status};
 use hart::{Core, LocalEnd, Retirements, run_local};
@@ -8,11 +9,12 @@ use std::process::Abort;
 use std::test::Fail;
 use test_support::assert_same;
 
-/// `lui x5, 0x80000`, `addi x6, x0, 100`, `addi x7, x0, 1`, and then `amoadd.w x8, x7, (x5)`, which refers to the shared word 0.
+/// `lui x5, 0x80000`, `addi x6, x0, 100`, `addi x7, x0, 1`, and then `amoadd.w x8, x7, (x5)`, which refers to the
+/// shared word 0.
 static ADDS: [u32; 4] = [0x8000_02B7, 0x0640_0313, 0x0010_0393, 0x0072_A42F];
 
-/// `addi x17, x0, 1`, `addi x10, x0, 65`, `addi x6, x0, 300`, and then the loop `ecall`, `addi x6, x6, -1`, `bne x6, x0, -8`,
-/// which prints `A` 300 times.
+/// `addi x17, x0, 1`, `addi x10, x0, 65`, `addi x6, x0, 300`, and then the loop `ecall`, `addi x6, x6, -1`, `bne x6,
+/// x0, -8`, which prints `A` 300 times.
 static PRINTS: [u32; 6] = [
     0x0010_0893,
     0x0410_0513,

@@ -138,7 +138,7 @@ fn numbers(rt: HostRuntime) {
     }
 }
 
-/// A stop leaves the status that tells its cause.
+/// A stop leaves the status that says its cause.
 #[test]
 fn status_of_each_cause(rt: HostRuntime) {
     for (cause, status) in [

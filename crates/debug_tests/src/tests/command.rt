@@ -1,6 +1,8 @@
-//! Exit statuses, and what standard error is told.
+//! Exit statuses, and what standard error is reported.
 
 ghost use Rattle.std.specs.Prelude.{⊤};
+
+mod saving;
 
 use debug_session::{Connect, SessionEnd, debug_command, debug_end};
 use flat_machine::Config;
@@ -14,7 +16,7 @@ use test_support::{Broken, EBREAK, Sink, Source, assert_same, lend, machine_of, 
 
 /// A link over memory, of which a read or a write fails, or none.
 #[derive(Drop)]
-struct Door {
+struct LoopbackPort {
     alloc: Global,
     input: &'static [u8],
     read_fails_at: usize,
@@ -23,7 +25,7 @@ struct Door {
     knocks: usize,
 }
 
-impl Connect for Door {
+impl Connect for LoopbackPort {
     type Reader = Meter<Source<'static>>;
 
     type Writer = Meter<Sink>;
@@ -41,9 +43,9 @@ impl Connect for Door {
     }
 }
 
-/// A door that is open, behind which these lines come.
-fn open_door(alloc: Global, input: &'static [u8]) -> Door {
-    Door {
+/// A door that is open, after which these lines come.
+fn open_door(alloc: Global, input: &'static [u8]) -> LoopbackPort {
+    LoopbackPort {
         alloc,
         input,
         read_fails_at: 0,
@@ -53,18 +55,28 @@ fn open_door(alloc: Global, input: &'static [u8]) -> Door {
     }
 }
 
-/// A command on this file has this exit status, and standard error is told this.
+/// A command on this file has this exit status, and standard error is reported this.
 fn ends<F: Read + Drop>(
     rt: &(impl Wait + Abort + AllocGlobal),
     (file, config): (F, Config),
-    door: &mut Door,
+    door: &mut LoopbackPort,
     status: u8,
-    told: &str,
+    reported: &str,
 ) {
     let mut err = Vec::new(rt.alloc());
-    let ended = debug_command(rt, rt.alloc(), file, config, 1000, door, &mut err);
+    let mut trace: Option<Meter<Sink>> = None;
+    let ended = debug_command(
+        rt,
+        rt.alloc(),
+        file,
+        config,
+        1000,
+        door,
+        &mut trace,
+        &mut err,
+    );
     assert_same!(rt; ended, status);
-    assert_same!(rt; err.as_slice(), told.as_bytes());
+    assert_same!(rt; err.as_slice(), reported.as_bytes());
 }
 
 /// A session that ends well has status 0, or 1 where a processor is faulted.
@@ -83,7 +95,7 @@ fn sessions_end(rt: HostRuntime) {
     }
 }
 
-/// A fault of the link is told, whatever the processors did.
+/// A fault of the link is reported, for any processors did.
 #[test]
 fn links_fail(rt: HostRuntime) {
     for (read_fails_at, write_fails_at, is_shut) in [
@@ -92,7 +104,7 @@ fn links_fail(rt: HostRuntime) {
         (0, 2, false),
         (0, 0, true),
     ] {
-        let mut door = Door {
+        let mut door = LoopbackPort {
             read_fails_at,
             write_fails_at,
             is_shut,
@@ -124,7 +136,7 @@ fn images_are_refused(rt: HostRuntime) {
     assert_same!(rt; door.knocks, 0);
 }
 
-/// How a session ends, the exit status then, and what is told.
+/// How a session ends, the exit status then, and what is reported.
 static ENDS: [(SessionEnd, u8, &str); 4] = [
     (SessionEnd::Quit, 0, ""),
     (SessionEnd::ReadFailed, 3, "ultra: link\n"),
@@ -132,14 +144,14 @@ static ENDS: [(SessionEnd, u8, &str); 4] = [
     (SessionEnd::TraceFull, 4, "ultra: L2\n"),
 ];
 
-/// Want of memory and of room.
+/// out of memory and of room.
 #[test]
 fn ends_are_told(rt: HostRuntime) -> Result<(), Fail> {
     lend(machine_of(rt.alloc(), "ebreak", size(2))?, |machine| {
-        for (end, status, told) in &ENDS {
+        for (end, status, reported) in &ENDS {
             let mut err = Vec::new(rt.alloc());
             assert_same!(rt; debug_end(*end, machine, &mut err), *status);
-            assert_same!(rt; err.as_slice(), told.as_bytes());
+            assert_same!(rt; err.as_slice(), reported.as_bytes());
         }
     });
     Ok(())

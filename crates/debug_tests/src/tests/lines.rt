@@ -110,12 +110,12 @@ fn longest_write(rt: HostRuntime) -> Result<(), Fail> {
     Ok(())
 }
 
-/// The events of a stream that comes in pieces of this size: each line with a bar behind it, `!` where it is too
+/// The events of a stream that comes in pieces of this size: each line with a bar after it, `!` where it is too
 /// long.
-fn told(alloc: Global, stream: &[u8], size: usize) -> Result<Vec<u8>, AllocError>
+fn reported(alloc: Global, stream: &[u8], size: usize) -> Result<Vec<u8>, AllocError>
     requires { 0 < size }
 {
-    let mut told = Vec::new(alloc);
+    let mut reported = Vec::new(alloc);
     let mut reader = LineReader::new();
     for piece in stream.chunks(size) {
         let mut rest = piece;
@@ -123,22 +123,22 @@ fn told(alloc: Global, stream: &[u8], size: usize) -> Result<Vec<u8>, AllocError
             let (count, event) = reader.feed(rest);
             rest = &rest[count..];
             match event {
-                Some(Event::Line(line)) => told.extend_from_slice(line.bytes())?,
-                Some(Event::TooLong) => told.push(b'!')?,
+                Some(Event::Line(line)) => reported.extend_from_slice(line.bytes())?,
+                Some(Event::TooLong) => reported.push(b'!')?,
                 None => continue,
             }
-            told.push(b'|')?;
+            reported.push(b'|')?;
         }
     }
-    Ok(told)
+    Ok(reported)
 }
 
-/// Lines are the same wherever the stream is cut. Bytes behind the last line feed are none.
+/// Lines are the same wherever the stream is cut. Bytes after the last line feed are none.
 #[test]
 fn lines_in_any_pieces(rt: HostRuntime) -> Result<(), Fail> {
     let stream = b"state 0\n\n cont\r\n\xFF\0\nquit";
     for size in 1..=stream.len() {
-        let lines = told(rt.alloc(), stream, size)?;
+        let lines = reported(rt.alloc(), stream, size)?;
         assert_same!(rt; lines.as_slice(), b"state 0|| cont\r|\xFF\0|".as_slice(), size);
     }
     Ok(())
@@ -165,7 +165,7 @@ fn longest_line(rt: HostRuntime) -> Result<(), Fail> {
         }
         expected.extend_from_slice(b"|quit|")?;
         for size in [1, 256, 1023, 1024, 1025, 6000] {
-            let lines = told(alloc, stream.as_slice(), size)?;
+            let lines = reported(alloc, stream.as_slice(), size)?;
             assert!(rt;
                 lines.as_slice() == expected.as_slice(),
                 "{length} bytes in pieces of {size}"

@@ -18,7 +18,7 @@ fn breaks_at(rt: &impl Abort, addresses: &[u32]) -> Breaks {
     breaks
 }
 
-/// Goes on, and gives the answer; no reference is open behind it.
+/// Goes on, and gives the answer; no reference is open after it.
 fn go_on(
     rt: &impl Abort,
     log: &mut Logged,
@@ -31,7 +31,7 @@ fn go_on(
     answer
 }
 
-/// Goes on, which nothing refuses, until the log has so many steps.
+/// Goes on, which nothing refuses, until the log has this many steps.
 fn goes_on(rt: &impl Abort, log: &mut Logged, breaks: &Breaks, budget: u32, steps: usize) {
     assert_same!(rt; go_on(rt, log, breaks, budget), Ok(()));
     assert_same!(rt; log.steps().len(), steps);

@@ -6,7 +6,7 @@ use super::texts::{
     UNKNOWN_CALL,
 };
 use super::{each, exchanged, found};
-use exploration::{Explored, FinalResult, ProcessorResult, Schedules};
+use exploration::{Explored, FinalResult, ProcessorResult, Termination};
 use std::process::Abort;
 use std::test::Fail;
 use test_support::assert_same;
@@ -85,12 +85,12 @@ fn standing_for(results: &[FinalResult], last: &FinalResult, classes: &[u8]) -> 
     count
 }
 
-/// What is told of schedules, without the number of states.
-fn kind(schedules: Schedules) -> u8 {
+/// What is said of schedules, without the number of states.
+fn kind(schedules: Termination) -> u8 {
     match schedules {
-        Schedules::End => 0,
-        Schedules::MayEnd => 1,
-        Schedules::MayBeStuck { .. } => 2,
+        Termination::Always => 0,
+        Termination::Possible => 1,
+        Termination::Deadlock { .. } => 2,
     }
 }
 
@@ -114,7 +114,7 @@ fn see_agreement(rt: &impl Abort, some: &Explored, all: &Explored, text: &str) {
             "{text}"
         );
     }
-    assert_same!(rt; kind(some.schedules), kind(all.schedules), text);
+    assert_same!(rt; kind(some.termination), kind(all.termination), text);
 }
 
 #[test]

@@ -1,10 +1,10 @@
 //! How many results and states there are.
 
 use super::texts::{
-    ASKS_LATE, CALL, COUNTER, DEADLOCK, LOST_SUM, NEIGHBOURS, PRINTED, SECOND_ASKS, SEEN, SUM,
-    TICKETS,
+    ASKS_LATE, CALL, COUNTER, COUNTS_ON, DEADLOCK, LONG_STRETCH, LOST_SUM, NEIGHBOURS, PRINTED,
+    SECOND_ASKS, SEEN, SUM, TICKETS, TOO_LONG_STRETCH,
 };
-use super::{each, exchanged, explored, found, told};
+use super::{each, exchanged, explored, found, reported};
 use exploration::{Refusal, Search};
 use std::alloc::Global;
 use std::test::Fail;
@@ -91,7 +91,7 @@ fn results_are_told(rt: HostRuntime) -> Result<(), Fail> {
     ] {
         let found = found(rt.alloc(), text, k, each(100))?;
         for last in found.results.iter() {
-            assert_same!(rt; told(rt.alloc(), last)?.as_str(), lines);
+            assert_same!(rt; reported(rt.alloc(), last)?.as_str(), lines);
             assert_same!(rt; last.words.as_slice(), words);
             assert_same!(rt; last.shared_words, 16);
         }
@@ -99,7 +99,8 @@ fn results_are_told(rt: HostRuntime) -> Result<(), Fail> {
     Ok(())
 }
 
-/// As many states as the limit are too many, in the search that is made once more too.
+/// As many states as the limit are too many, in the search that is made once more too; and so are a million
+/// instructions before a reference, of which the loop here has 999,999.
 #[test]
 fn limits(rt: HostRuntime) -> Result<(), Fail> {
     for (text, k, search, count) in [
@@ -111,15 +112,17 @@ fn limits(rt: HostRuntime) -> Result<(), Fail> {
         (SUM, 6, exchanged(65), Err(Refusal::States)),
         (ASKS_LATE, 2, exchanged(17), Ok(16)),
         (ASKS_LATE, 2, exchanged(16), Err(Refusal::States)),
-        ("spin: jal x0, spin", 0, each(10), Err(Refusal::Alone)),
-        ("spin: jal x0, spin", 1, exchanged(10), Err(Refusal::Alone)),
+        (LONG_STRETCH, 0, each(10), Ok(2)),
+        (TOO_LONG_STRETCH, 0, each(10), Err(Refusal::Alone)),
+        (COUNTS_ON, 0, each(10), Err(Refusal::Alone)),
+        (COUNTS_ON, 1, exchanged(10), Err(Refusal::Alone)),
     ] {
         assert_same!(rt; states(rt.alloc(), text, k, search)?, count, text);
     }
     Ok(())
 }
 
-/// What a register holds that is written before it is read tells no states apart. Three adds are four states of each
+/// What a register holds that is written before it is read distinguishes no states. Three adds are four states of each
 /// processor, 4^n of all; the others were counted by a search of another program. Before a jump to an address in a
 /// register all are kept, and so two that add in a call stand at the add, or have stopped: four states.
 #[test]

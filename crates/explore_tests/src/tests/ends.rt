@@ -5,20 +5,20 @@ use super::texts::{
     SUM,
 };
 use super::{each, exchanged, found};
-use exploration::{Schedules, Search};
+use exploration::{Search, Termination};
 use std::alloc::Global;
 use std::test::Fail;
 use test_support::assert_same;
 
-/// What is told of the schedules of a text.
-fn schedules(alloc: Global, text: &str, k: u8, search: Search) -> Result<Schedules, Fail> {
+/// What is said of the schedules of a text.
+fn schedules(alloc: Global, text: &str, k: u8, search: Search) -> Result<Termination, Fail> {
     let found = found(alloc, text, k, search)?;
-    Ok(found.schedules)
+    Ok(found.termination)
 }
 
-/// No end can be reached from so many states, of which this is the first.
-fn stuck(states: usize, first: u32) -> Schedules {
-    Schedules::MayBeStuck { states, first }
+/// No end can be reached from this many states, of which this is the first.
+fn stuck(states: usize, first: u32) -> Termination {
+    Termination::Deadlock { states, first }
 }
 
 /// Straight programs end on every schedule. One that waits for another may go on for ever, but can always end where the
@@ -26,20 +26,20 @@ fn stuck(states: usize, first: u32) -> Schedules {
 /// ever, from when both have loaded: one has stored then or the other, or both.
 #[test]
 fn schedules_are_told(rt: HostRuntime) -> Result<(), Fail> {
-    for (text, k, told) in [
-        (SUM, 1, Schedules::End),
-        (LOST_SUM, 1, Schedules::End),
-        (NEIGHBOURS, 1, Schedules::End),
-        (PRINTED, 0, Schedules::End),
-        (SIGNAL, 0, Schedules::End),
-        (SIGNAL, 1, Schedules::MayEnd),
-        (SIGNAL, 2, Schedules::MayEnd),
+    for (text, k, reported) in [
+        (SUM, 1, Termination::Always),
+        (LOST_SUM, 1, Termination::Always),
+        (NEIGHBOURS, 1, Termination::Always),
+        (PRINTED, 0, Termination::Always),
+        (SIGNAL, 0, Termination::Always),
+        (SIGNAL, 1, Termination::Possible),
+        (SIGNAL, 2, Termination::Possible),
         (DEADLOCK, 0, stuck(1, 0)),
         (DEADLY_EMBRACE, 1, stuck(1, 0)),
         (MISSED, 1, stuck(1, 3)),
         (NEEDED_SUM, 1, stuck(4, 4)),
     ] {
-        assert_same!(rt; schedules(rt.alloc(), text, k, each(1000))?, told, text);
+        assert_same!(rt; schedules(rt.alloc(), text, k, each(1000))?, reported, text);
     }
     Ok(())
 }
@@ -47,19 +47,19 @@ fn schedules_are_told(rt: HostRuntime) -> Result<(), Fail> {
 /// The same up to exchanges. Which of two has stored that have lost an addition is no matter then.
 #[test]
 fn schedules_are_told_up_to_exchanges(rt: HostRuntime) -> Result<(), Fail> {
-    for (text, k, told) in [
-        (SUM, 6, Schedules::End),
-        (LOST_SUM, 1, Schedules::End),
-        (NEIGHBOURS, 1, Schedules::End),
-        (PRINTED, 6, Schedules::End),
-        (LEADER, 0, Schedules::End),
-        (LEADER, 1, Schedules::MayEnd),
-        (LEADER, 6, Schedules::MayEnd),
+    for (text, k, reported) in [
+        (SUM, 6, Termination::Always),
+        (LOST_SUM, 1, Termination::Always),
+        (NEIGHBOURS, 1, Termination::Always),
+        (PRINTED, 6, Termination::Always),
+        (LEADER, 0, Termination::Always),
+        (LEADER, 1, Termination::Possible),
+        (LEADER, 6, Termination::Possible),
         (DEADLOCK, 6, stuck(1, 0)),
         (DEADLY_EMBRACE, 1, stuck(1, 0)),
         (NEEDED_SUM, 1, stuck(3, 2)),
     ] {
-        assert_same!(rt; schedules(rt.alloc(), text, k, exchanged(1000))?, told, text);
+        assert_same!(rt; schedules(rt.alloc(), text, k, exchanged(1000))?, reported, text);
     }
     Ok(())
 }

@@ -11,7 +11,7 @@ use std::process::Abort;
 use std::test::Fail;
 use test_support::assert_same;
 
-/// Sees that the processors have these classes, and that so many states are found.
+/// Sees that the processors have these classes, and that this many states are found.
 fn see(
     rt: &impl Abort,
     alloc: Global,
@@ -25,7 +25,7 @@ fn see(
     Ok(())
 }
 
-/// Processors that stand alike before their first reference are of one class. A number tells them apart that one of
+/// Processors that stand alike before their first reference are of one class. A number distinguishes the m that one of
 /// them may still read, in a register or in local memory.
 #[test]
 fn alike_processors_are_exchanged(rt: HostRuntime) -> Result<(), Fail> {
@@ -46,7 +46,7 @@ fn alike_processors_are_exchanged(rt: HostRuntime) -> Result<(), Fail> {
     Ok(())
 }
 
-/// If they are not to be exchanged, or one asks for its number behind a reference, each has a class of its own.
+/// If they are not to be exchanged, or one asks for its number after a reference, each has a class of its own.
 #[test]
 fn others_have_classes_of_their_own(rt: HostRuntime) -> Result<(), Fail> {
     for (text, k, search, classes, states) in [

@@ -1,27 +1,90 @@
-//! `ultra hunt`, from the bytes of an image to the bytes of the lines. Images are those of texts that are assembled; the results are
-//! worked out by hand.
+//! `ultra hunt`, from the bytes of an image to the bytes of the lines. Images are those of texts that are assembled;
+//! the results are worked out by hand.
+
+ghost use Rattle.std.specs.Prelude.{⊤};
 
 mod devices;
 
-use elf_image::read_image;
 use flat_machine::Config;
-use hunt_command::{Hunt, Traces, hunt_command, save_run};
+use hunt_command::{Hunt, HuntObserver, Traces, hunt_command};
 use link::Meter;
-use std::alloc::{AllocError, Global};
+use std::alloc::{AllocError, AllocGlobal, Global};
+use std::io::Write;
+use std::process::Abort;
 use std::test::Fail;
-use test_support::{assert_same, image_of, size};
+use test_support::{Sink, assert_same, image_of, size};
 
-/// Traces that are thrown away.
+/// Traces that are kept, in the order in which they come.
 #[derive(Drop)]
-struct Nowhere {
+struct Kept {
     alloc: Global,
+    /// The number under which there is one already, if any.
+    there: Option<u32>,
+    /// Which call on the writer of which number fails, if any.
+    fails: Option<(u32, usize)>,
+    /// What the writer that was handed out last is for.
+    number: u32,
+    traces: Vec<(u32, Vec<u8>)>,
 }
 
-impl Traces for Nowhere {
-    type Writer = Meter<Vec<u8>>;
+/// Traces of which none is there, and no write fails.
+fn keeping(alloc: Global) -> Kept {
+    Kept {
+        alloc,
+        there: None,
+        fails: None,
+        number: 0,
+        traces: Vec::new(alloc),
+    }
+}
 
-    fn of(&mut self, _number: u32) -> Result<Meter<Vec<u8>>, AllocError> {
-        Ok(Meter::new(Vec::new(self.alloc)))
+impl Traces for Kept {
+    type Writer = Meter<Sink>;
+
+    ghost finds = { λ kept number is_there. ⊤ };
+
+    ghost opens = { λ kept number writer after. ⊤ };
+
+    ghost closes = { λ kept writer after. ⊤ };
+
+    fn is_there(&self, number: u32) -> Result<bool, AllocError> {
+        Ok(self.there == Some(number))
+    }
+
+    fn tell_there<E: Write>(&self, number: u32, err: &mut E) {
+        let _ = writeln!(err, "{number} is there");
+    }
+
+    fn open(&mut self, number: u32) -> Result<Meter<Sink>, AllocError> {
+        self.number = number;
+        let fails_at = match self.fails {
+            Some((failing, call)) if failing == number => call,
+            _ => 0,
+        };
+        Ok(Meter::new(Sink::new(Vec::new(self.alloc), fails_at)))
+    }
+
+    fn close(&mut self, writer: Meter<Sink>) {
+        let _ = self.traces.push((self.number, writer.device.bytes));
+    }
+}
+
+/// What is said of how far a hunt is: the last numbers of runs and of results, and how often it was over.
+#[derive(Drop)]
+struct Heard {
+    runs: u32,
+    results: usize,
+    over: u8,
+}
+
+impl HuntObserver for Heard {
+    fn ran(&mut self, runs: u32, results: usize) {
+        self.runs = runs;
+        self.results = results;
+    }
+
+    fn over(&mut self) {
+        self.over = self.over.saturating_add(1);
     }
 }
 
@@ -31,27 +94,56 @@ struct Ran {
     status: u8,
     out: Vec<u8>,
     err: Vec<u8>,
+    traces: Vec<(u32, Vec<u8>)>,
+    heard: Heard,
 }
 
-/// Hunts on the image of a text, for 1,000 steps a run.
-fn hunted(alloc: Global, image: &[u8], config: Config, start: u32, runs: u32) -> Ran {
+/// Hunts on the image of a text, for 1,000 steps a run, and keeps the traces.
+fn hunted(image: &[u8], config: Config, start: u32, runs: u32, kept: Kept) -> Ran {
+    let alloc = kept.alloc;
     let hunt = Hunt {
         budget: 1000,
         runs,
         start,
     };
-    let mut traces = Some(Nowhere { alloc });
+    let mut heard = Heard {
+        runs: 0,
+        results: 0,
+        over: 0,
+    };
+    let mut traces = Some(kept);
     let mut out = Meter::new(Vec::new(alloc));
     let mut err = Vec::new(alloc);
-    let status = hunt_command(alloc, image, config, hunt, &mut traces, &mut out, &mut err);
+    let status = hunt_command(
+        alloc,
+        image,
+        config,
+        hunt,
+        &mut traces,
+        &mut heard,
+        &mut out,
+        &mut err,
+    );
     Ran {
         status,
         out: out.device,
         err,
+        traces: match traces {
+            Some(kept) => kept.traces,
+            None => Vec::new(alloc),
+        },
+        heard,
     }
 }
 
-/// Where all runs come to one result. The numbers go on from the greatest to 0.
+/// The one turn in which the processor of `ecall` halts.
+const HALTS: [u8; 24] = [
+    0x55, 0x4C, 0x54, 0x52, 1, 0, 4, 4, 1, 0, 0, 0, // the header
+    1, 0, 0, 0, 0, 0, 0, 0, 0, 0, 0, 0, // the record
+];
+
+/// Where all runs come to one result. The numbers go on from the greatest to 0. The first run's trace is written, and
+/// no other.
 #[test]
 fn one_result(rt: HostRuntime) -> Result<(), Fail> {
     let alloc = rt.alloc();
@@ -76,44 +168,78 @@ fn one_result(rt: HostRuntime) -> Result<(), Fail> {
         ),
     ] {
         let image = image_of(alloc, text)?;
-        let ran = hunted(alloc, image.as_slice(), size(0), start, 3);
+        let ran = hunted(image.as_slice(), size(0), start, 3, keeping(alloc));
         assert_same!(rt; str::from_utf8(ran.out.as_slice())?, lines);
         assert_same!(rt; ran.err.len(), 0);
         assert_same!(rt; ran.status, status);
+        assert_same!(rt; ran.traces.len(), 1);
+        let (number, trace) = ran.traces.get(0).ok_or("no trace")?;
+        assert_same!(rt; *number, start);
+        if text == "ecall" {
+            assert_same!(rt; trace.as_slice(), HALTS.as_slice());
+        }
     }
     Ok(())
 }
 
 /// Both of two processors add 1 to word 0 by a load and a store, and one of the adds may be lost.
+const ADDS: &str = "lui x5, 0x80000\nlw x6, 0(x5)\naddi x6, x6, 1\nsw x6, 0(x5)\necall";
+
+/// Each result is printed, its trace is written under the number of its first run, and how far the hunt is is reported.
 #[test]
 fn lost_add(rt: HostRuntime) -> Result<(), Fail> {
     let alloc = rt.alloc();
-    let text = "lui x5, 0x80000\nlw x6, 0(x5)\naddi x6, x6, 1\nsw x6, 0(x5)\necall";
-    let image = image_of(alloc, text)?;
-    let ran = hunted(alloc, image.as_slice(), size(1), 1, 24);
+    let image = image_of(alloc, ADDS)?;
+    let ran = hunted(image.as_slice(), size(1), 1, 24, keeping(alloc));
     let text = str::from_utf8(ran.out.as_slice())?;
     assert!(rt; text.contains("word 0 00000001\n"), "{text}");
     assert!(rt; text.contains("word 0 00000002\n"), "{text}");
     assert_same!(rt; text.lines().count(), 8);
     assert_same!(rt; ran.status, 0);
-    Ok(())
+    assert_same!(rt; ran.traces.len(), 2);
+    let (first, second) = two_of(&ran.traces)?;
+    for number in [first.0, second.0] {
+        let line = format!(in alloc; " first {number} over\n")?;
+        assert!(rt; text.contains(line.as_str()), "{text}");
+    }
+    assert!(rt; first.0 == 1 && first.0 < second.0);
+    let Heard {
+        runs,
+        results,
+        over,
+    } = ran.heard;
+    assert_same!(rt; (runs, results, over), (24, 2, 1));
+    cut_traces(&rt, image.as_slice(), &ran)
 }
 
-/// The trace of a run is the one turn in which the processor halts.
-#[test]
-fn saves_a_trace(rt: HostRuntime) -> Result<(), Fail> {
-    let alloc = rt.alloc();
-    let file = image_of(alloc, "ecall")?;
-    let config = size(0);
-    let image = read_image(alloc, &mut Meter::new(file.as_slice()), &config)?;
-    assert_same!(rt; image.shared_words(), config.shared_words);
-    let mut writer = Meter::new(Vec::new(alloc));
-    let saved = save_run(alloc, &image, config, 1000, 1, &mut writer);
-    assert_same!(rt; saved, Ok(()));
-    let trace = [
-        0x55, 0x4C, 0x54, 0x52, 1, 0, 4, 4, 1, 0, 0, 0, // the header
-        1, 0, 0, 0, 0, 0, 0, 0, 0, 0, 0, 0, // the record
-    ];
-    assert_same!(rt; writer.device.as_slice(), trace.as_slice());
+/// The first two of some traces, each with the number of its run.
+fn two_of(traces: &Vec<(u32, Vec<u8>)>) -> Result<(&(u32, Vec<u8>), &(u32, Vec<u8>)), Fail> {
+    let first = traces.get(0).ok_or("no first trace")?;
+    let second = traces.get(1).ok_or("no second trace")?;
+    Ok((first, second))
+}
+
+/// Where the write of the second trace fails, the first is whole, the second has a beginning, and nothing is printed;
+/// nothing is written where one of them is there.
+fn cut_traces(rt: &(impl Abort + AllocGlobal), image: &[u8], ran: &Ran) -> Result<(), Fail> {
+    let (first, second) = two_of(&ran.traces)?;
+    let mut fails = keeping(rt.alloc());
+    fails.fails = Some((second.0, 15));
+    let cut = hunted(image, size(1), 1, 24, fails);
+    assert_same!(rt; cut.status, 3);
+    assert_same!(rt; cut.out.len(), 0);
+    assert_same!(rt; cut.traces.len(), 2);
+    let (whole, part) = two_of(&cut.traces)?;
+    assert_same!(rt; whole, first);
+    assert_same!(rt; part.0, second.0);
+    assert_same!(rt; Some(part.1.as_slice()), second.1.as_slice().get(..14));
+    let mut there = keeping(rt.alloc());
+    there.there = Some(second.0);
+    let refused = hunted(image, size(1), 1, 24, there);
+    let reported = format!(in rt.alloc(); "{} is there\n", second.0)?;
+    assert_same!(rt; refused.status, 2);
+    assert_same!(rt; refused.out.len(), 0);
+    assert_same!(rt; refused.err.as_slice(), reported.as_bytes());
+    assert_same!(rt; refused.traces.len(), 0);
     Ok(())
 }

@@ -4,7 +4,7 @@ use super::texts::{
     BREAK_BEFORE, BREAK_BEHIND, DRAWS, DRAWS_BACK, NO_ADDRESS, PRINTS, PRINTS_AND_HALTS,
     PRINTS_OFTEN, SIDES, UNKNOWN_CALL,
 };
-use super::{each, exchanged, found, told};
+use super::{each, exchanged, found, reported};
 use std::alloc::Global;
 use std::test::Fail;
 use test_support::assert_same;
@@ -13,7 +13,7 @@ use test_support::assert_same;
 fn only_result(alloc: Global, text: &str, k: u8) -> Result<String, Fail> {
     let found = found(alloc, text, k, exchanged(1000))?;
     match found.results.as_slice() {
-        [last] => told(alloc, last),
+        [last] => reported(alloc, last),
         results => Err(Fail::new(format_args!("{text}: {} results", results.len()))),
     }
 }
@@ -80,7 +80,7 @@ fn processors_are_in_order_in_their_classes(rt: HostRuntime) -> Result<(), Fail>
     assert_same!(rt; found.results.len(), 6);
     let mut met = 0;
     for last in found.results.iter() {
-        let lines = told(rt.alloc(), last)?;
+        let lines = reported(rt.alloc(), last)?;
         for (number, wanted) in [
             "1002c Halted(0) []\n1002c Halted(82) []\n1002c Halted(9) []\n1002c Halted(91) []\n",
             "1002c Halted(0) []\n1002c Halted(73) []\n1002c Halted(18) []\n1002c Halted(91) []\n",
@@ -111,7 +111,7 @@ fn processors_are_by_their_numbers(rt: HostRuntime) -> Result<(), Fail> {
     ];
     assert_same!(rt; found.results.len(), 2);
     for (last, lines) in found.results.iter().zip(wanted) {
-        assert_same!(rt; told(rt.alloc(), last)?.as_str(), lines);
+        assert_same!(rt; reported(rt.alloc(), last)?.as_str(), lines);
     }
     Ok(())
 }

@@ -9,7 +9,7 @@ use std::test::Fail;
 use steps::Step;
 use test_support::{assert_same, log_of, tight_size};
 
-/// The schedule has these turns, each with whether the network moves behind it, and no more.
+/// The schedule has these turns, each with whether the network moves after it, and no more.
 fn compare(rt: &impl Abort, k: u8, number: u32, turns: &[(u8, bool)])
     requires { k ≤ 6 }
 {
@@ -31,7 +31,8 @@ fn compare(rt: &impl Abort, k: u8, number: u32, turns: &[(u8, bool)])
     assert_same!(rt; schedule.next(), None);
 }
 
-/// Run 6 chooses a processor in each turn, run 1 where the upper half of the state is even, and run 8 where 4 divides it.
+/// Run 6 chooses a processor in each turn, run 1 where the upper half of the state is even, and run 8 where 4 divides
+/// it.
 #[test]
 fn schedules(rt: HostRuntime) {
     compare(
@@ -72,7 +73,8 @@ fn schedules(rt: HostRuntime) {
     );
 }
 
-/// In run 1 the network moves behind each of the first three turns. A budget of two steps ends while the request is on its way.
+/// In run 1 the network moves after each of the first three turns. A budget of two steps ends while the request is on
+/// its way.
 #[test]
 fn runs_of_one_processor(rt: HostRuntime) -> Result<(), Fail> {
     let text = "lui x5, 0x80000\nlw x6, 0(x5)\necall";

@@ -15,7 +15,16 @@ pub const NEEDED_SUM: &str =
 
 /// Each adds 1 to the first word, three times, and never reads what it gets.
 pub const COUNTER: &str =
-    "lui x1, 0x80000\naddi x4, x0, 1\namoadd.w x5, x4, (x1)\namoadd.w x5, x4, (x1)\namoadd.w x5, x4, (x1)\necall";
+    "lui x1, 0x80000\naddi x4, x0, 1\namoadd.w x5, x4, (x1)\namoadd.w x31, x4, (x1)\namoadd.w x5, x4, (x1)\necall";
+
+/// Three instructions, a loop of two that is taken 499,998 times, and then a load.
+pub const LONG_STRETCH: &str =
+    "lui x1, 0x80000\nlui x3, 122\naddi x3, x3, 286\nloop: addi x3, x3, -1\nbne x3, x0, loop\nlw x2, 0(x1)\necall";
+
+/// The same with one instruction more.
+pub const TOO_LONG_STRETCH: &str =
+    "lui x1, 0x80000\naddi x0, x0, 0\nlui x3, 122\naddi x3, x3, 286\nloop: addi x3, x3, -1\nbne x3, x0, loop\n\
+    lw x2, 0(x1)\necall";
 
 /// Each adds 1 to the first word, and halts with the sum that it then reads.
 pub const SEEN: &str =
@@ -54,7 +63,7 @@ pub const LEADER: &str =
     "addi a7, x0, 2\necall\nlui x1, 0x80000\nbne a0, x0, wait\naddi x4, x0, 1\nsw x4, 0(x1)\nwait: lw x2, 0(x1)\n\
     beq x2, x0, wait\naddi a7, x0, 0\naddi a0, x0, 0\necall";
 
-/// Each waits for a word that only the other writes, and only behind its own wait.
+/// Each waits for a word that only the other writes, and only after its own wait.
 pub const DEADLY_EMBRACE: &str =
     "addi a7, x0, 2\necall\nlui x1, 0x80000\nslli x2, a0, 2\nadd x3, x1, x2\nxori x2, x2, 4\nadd x4, x1, x2\n\
     wait: lw x5, 0(x3)\nbeq x5, x0, wait\naddi x6, x0, 1\nsw x6, 0(x4)\necall";
@@ -132,7 +141,7 @@ pub const HALVES: &str =
 pub const UNKNOWN_CALL: &str =
     "lui x1, 0x80000\naddi x4, x0, 1\namoadd.w x5, x4, (x1)\nbne x5, x4, end\naddi a7, x0, 9\nend: ecall";
 
-/// Who draws 1 breaks, behind where the others halt.
+/// Who draws 1 breaks, after where the others halt.
 pub const BREAK_BEHIND: &str =
     "lui x1, 0x80000\naddi x4, x0, 1\namoadd.w x5, x4, (x1)\nbeq x5, x4, bad\necall\nbad: ebreak";
 
@@ -159,3 +168,62 @@ pub const PRINTS_OFTEN: &str =
     "lui x1, 0x80000\naddi x4, x0, 1\namoadd.w x5, x4, (x1)\naddi x6, x0, 3\nsub x6, x6, x5\naddi a0, x0, 65\n\
     addi a7, x0, 1\nmore: beq x6, x0, end\necall\naddi x6, x6, -1\njal x0, more\nend: addi a7, x0, 0\n\
     addi a0, x0, 0\necall";
+
+// ---- processors that spin: that go on for ever without a reference
+
+/// Goes to itself.
+pub const SPIN: &str = "spin: jal x0, spin";
+
+/// Turns a bit of a register over, and so stands as it did after four instructions.
+pub const TURNS_OVER: &str = "loop: xori x3, x3, 1\njal x0, loop";
+
+/// The same of a word of local memory.
+pub const TURNS_OVER_LOCALLY: &str =
+    "lui x2, 0x20\nloop: lw x3, 0(x2)\nxori x3, x3, 1\nsw x3, 0(x2)\njal x0, loop";
+
+/// Takes 4,001 instructions before it spins.
+pub const SPINS_LATE: &str =
+    "addi x3, x0, 2000\nloop: addi x3, x3, -1\nbne x3, x0, loop\nspin: jal x0, spin";
+
+/// Stands as it did only after 4,002 instructions.
+pub const SPINS_WIDELY: &str =
+    "again: addi x3, x0, 2000\nloop: addi x3, x3, -1\nbne x3, x0, loop\njal x0, again";
+
+/// Counts for ever, in a register, and never stands as it did within a million instructions.
+pub const COUNTS_ON: &str = "loop: addi x3, x3, 1\njal x0, loop";
+
+/// The same in local memory.
+pub const COUNTS_ON_LOCALLY: &str =
+    "lui x2, 0x20\nloop: lw x3, 0(x2)\naddi x3, x3, 1\nsw x3, 0(x2)\njal x0, loop";
+
+/// Prints for ever.
+pub const PRINTS_ON: &str = "addi a7, x0, 1\naddi a0, x0, 65\nagain: ecall\njal x0, again";
+
+/// Counts down from 50,000 before it adds 1 to the first word: 100,000 instructions and some.
+pub const LOOPS: &str =
+    "lui x1, 0x80000\naddi x4, x0, 1\nlui x3, 12\naddi x3, x3, 848\nloop: addi x3, x3, -1\nbne x3, x0, loop\n\
+    amoadd.w x5, x4, (x1)\necall";
+
+/// Each adds 1 to the first word, and spins when it is done.
+pub const DONE: &str = "lui x1, 0x80000\naddi x4, x0, 1\namoadd.w x5, x4, (x1)\ndone: jal x0, done";
+
+/// Each adds 1 to the first word by a load and a store, and spins unless it has loaded 0.
+pub const SPINS_IF_NOT_FIRST: &str =
+    "lui x1, 0x80000\nlw x2, 0(x1)\naddi x3, x2, 1\nsw x3, 0(x1)\nspin: bne x2, x0, spin\necall";
+
+/// Processor 0 writes 1, and then 0 again. The others look once, and spin if they see the 1.
+pub const GLIMPSE: &str =
+    "addi a7, x0, 2\necall\nlui x1, 0x80000\nbne a0, x0, look\naddi x4, x0, 1\nsw x4, 0(x1)\nsw x0, 0(x1)\n\
+    jal x0, done\nlook: lw x2, 0(x1)\nspin: bne x2, x0, spin\ndone: addi a7, x0, 0\naddi a0, x0, 0\necall";
+
+/// Processor 0 spins, and the others add 1 to the first word.
+pub const FIRST_SPINS: &str =
+    "addi a7, x0, 2\necall\nspin: beq a0, x0, spin\nlui x1, 0x80000\naddi x4, x0, 1\namoadd.w x5, x4, (x1)\n\
+    addi a7, x0, 0\naddi a0, x0, 0\necall";
+
+/// Asks for its number for ever.
+pub const ASKS_ON: &str = "addi a7, x0, 2\nagain: ecall\njal x0, again";
+
+/// The same after a reference.
+pub const ASKS_ON_LATE: &str =
+    "lui x1, 0x80000\naddi x4, x0, 1\namoadd.w x5, x4, (x1)\naddi a7, x0, 2\nagain: ecall\njal x0, again";

@@ -99,7 +99,7 @@ fn see_ways(
     Ok(())
 }
 
-/// Where processors halt with the numbers that they have drawn, a result tells its way. With exchange processors have
+/// Where processors halt with the numbers that they have drawn, a result says its way. With exchange processors have
 /// the names that they have in the result.
 #[test]
 fn ways_lead_to_numbers(rt: HostRuntime) -> Result<(), Fail> {

@@ -18,7 +18,7 @@ use test_support::{EBREAK, assert_same, layout_text, with_bytes};
 /// A segment of a file that is made for a test: its `p_vaddr`, `p_offset`, `p_filesz`, `p_memsz` and `p_flags`.
 type Part = (u32, u32, u32, u32, u32);
 
-/// The size of a machine with so many shared words.
+/// The size of a machine with this many shared words.
 fn config(shared_words: u32) -> Config {
     Config {
         k: 0,
@@ -34,9 +34,9 @@ fn read(alloc: Global, file: &[u8], shared_words: u32) -> Result<Image, ImageErr
     read_image(alloc, &mut Meter::new(file), &config(shared_words))
 }
 
-/// Compares what is told of a file.
+/// Compares what is said of a file.
 fn compare(rt: &(impl Abort + AllocGlobal), file: &[u8], shared_words: u32, wanted: &str) {
-    let text = told(rt.alloc(), file, shared_words).expect(rt, "memory");
+    let text = reported(rt.alloc(), file, shared_words).expect(rt, "memory");
     assert_same!(rt; text.as_str(), wanted);
 }
 
@@ -45,13 +45,13 @@ fn refusal(alloc: Global, file: &[u8], shared_words: u32) -> Option<ImageError> 
     read(alloc, file, shared_words).err()
 }
 
-/// What is told of a file: its refusal, or what it places.
-fn told(alloc: Global, file: &[u8], shared_words: u32) -> Result<String, AllocError> {
-    told_of(alloc, read(alloc, file, shared_words))
+/// What is said of a file: its refusal, or what it places.
+fn reported(alloc: Global, file: &[u8], shared_words: u32) -> Result<String, AllocError> {
+    outcomes_of(alloc, read(alloc, file, shared_words))
 }
 
-/// What is told of an image that is read.
-fn told_of(alloc: Global, read: Result<Image, ImageError>) -> Result<String, AllocError> {
+/// What is said of an image that is read.
+fn outcomes_of(alloc: Global, read: Result<Image, ImageError>) -> Result<String, AllocError> {
     match read {
         Ok(image) => layout_text(alloc, image.layout()),
         Err(error) => format!(in alloc; "{error}"),
@@ -126,7 +126,7 @@ fn bytes_are_added_behind_the_last(rt: HostRuntime) {
     assert_same!(rt; (bytes.as_slice(), bytes.len()), ([7, 8, 9, 0, 0].as_slice(), 5));
 }
 
-/// What is told of a layout of one instruction.
+/// What is said of a layout of one instruction.
 fn one_instruction(alloc: Global) -> Result<String, AllocError> {
     layout_text(alloc, &layout_of(alloc, &[0x73, 0, 0x10, 0], &[], &[])?)
 }

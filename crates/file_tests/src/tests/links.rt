@@ -44,7 +44,7 @@ fn metered_sink(alloc: Global, fails_at: usize, is_quiet: bool) -> Meter<Fickle>
     })
 }
 
-/// The five bytes take five calls, and the sixth tells that there are no more.
+/// The five bytes take five calls, and the sixth says that there are no more.
 #[test]
 fn reads_to_the_end_or_fails(rt: HostRuntime) {
     for fails_at in 0..8 {
@@ -92,7 +92,7 @@ fn a_failed_reader_has_ended(rt: HostRuntime) {
 }
 
 /// Four bytes of the six and then the other two, where no call fails. The first four calls are for
-/// the first buffer, two more give bytes, and the seventh tells that there are no more.
+/// the first buffer, two more give bytes, and the seventh says that there are no more.
 #[test]
 fn fills_buffers(rt: HostRuntime) {
     for fails_at in 0..9 {

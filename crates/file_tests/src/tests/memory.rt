@@ -1,5 +1,5 @@
-//! Each allocation of these tests is to be refused in turn. Then a call tells that there is no memory, which ends the test, or its answer
-//! is that of ample memory.
+//! Each allocation of these tests is to be refused in turn. Then a call says that there is no memory, which ends the
+//! test, or its answer is that of ample memory.
 
 use elf_image::{Bytes, Image, ImageError, read_image};
 use flat_machine::Config;
@@ -41,8 +41,8 @@ fn image(alloc: Global) -> Result<Image, ImageError> {
     image.copy(alloc)
 }
 
-/// What is told of a copy of an image's layout.
-fn told(alloc: Global, image: &Image) -> Result<String, AllocError> {
+/// What is said of a copy of an image's layout.
+fn reported(alloc: Global, image: &Image) -> Result<String, AllocError> {
     let layout = image.layout().copy(alloc)?;
     layout_text(alloc, &layout)
 }
@@ -50,7 +50,7 @@ fn told(alloc: Global, image: &Image) -> Result<String, AllocError> {
 #[test]
 fn image_is_short_of_memory(rt: HostRuntime) -> Result<(), Fail> {
     let image = image(rt.alloc())?;
-    let text = told(rt.alloc(), &image)?;
+    let text = reported(rt.alloc(), &image)?;
     assert_same!(rt; text.as_str(), "00100073");
     Ok(())
 }

@@ -15,8 +15,8 @@ use local_memory::Code;
 use rv_table::{AmoOp, LoadOp, StoreOp};
 
 impl Core {
-    /// What the next turn of the processor is, where it runs. One that is local may be taken ([`Core::take_local`]), and a
-    /// reference may retire ([`Core::retire`]).
+    /// What the next turn of the processor is, where it runs. One that is local may be taken ([`Core::take_local`]),
+    /// and a reference may retire ([`Core::retire`]).
     #[tactic(auto, using(crate::proofs::Decisions::allowed))]
     pub fn decide(&self, code: &Code) -> Decision
         ensures turn { Decides result (turn_of self.now.setting code.now self.now.state) }
@@ -33,7 +33,8 @@ impl Core {
 
     /// What an effect asks for.
     pub(super) fn decision(&self, effect: Effect) -> Decision
-        ensures turn { (code : List ℕ) (insn : Insn) → Decides result (performed self.now.setting code self.now.state insn effect) }
+        ensures turn { (code : List ℕ) (insn : Insn) →
+            Decides result (performed self.now.setting code self.now.state insn effect) }
         ensures table { IsOfEffect result effect }
         ensures word { NamesWord result self.now.setting }
     {
@@ -77,7 +78,8 @@ impl Core {
 
     /// What a store asks for.
     fn store_decision(&self, op: StoreOp, address: u32, value: u32) -> Decision
-        ensures turn { (code : List ℕ) (insn : Insn) → Decides result (performed self.now.setting code self.now.state insn (Effect.Store op address value)) }
+        ensures turn { (code : List ℕ) (insn : Insn) →
+            Decides result (performed self.now.setting code self.now.state insn (Effect.Store op address value)) }
         ensures table { IsOfEffect result (Effect.Store op address value) }
         ensures word { NamesWord result self.now.setting }
     {

@@ -98,7 +98,8 @@ impl Core {
     /// What a branch does.
     #[tactic(auto, unfolding(flat_machine::specs::Effects::effect_of))]
     fn branch(&self, op: BranchOp, rs1: Register, rs2: Register, offset: Immediate<12>) -> Effect
-        ensures { result ≡ effect_of self.now.setting self.now.state.pc self.now.state.registers (Insn.Branch op rs1 rs2 offset) }
+        ensures { result
+            ≡ effect_of self.now.setting self.now.state.pc self.now.state.registers (Insn.Branch op rs1 rs2 offset) }
     {
         if is_branch_taken(op, self.read(rs1), self.read(rs2)) {
             Effect::Jump {
@@ -114,7 +115,8 @@ impl Core {
     /// What LUI and AUIPC do.
     #[tactic(auto, unfolding(flat_machine::specs::Effects::effect_of))]
     fn upper(&self, op: UpperOp, rd: Register, upper: Immediate<20>) -> Effect
-        ensures { result ≡ effect_of self.now.setting self.now.state.pc self.now.state.registers (Insn.Upper op rd upper) }
+        ensures { result
+            ≡ effect_of self.now.setting self.now.state.pc self.now.state.registers (Insn.Upper op rd upper) }
     {
         let high = upper.field() << 12;
         let value = match op {
@@ -138,7 +140,9 @@ impl Core {
     /// What the environment call that `a7` names does, with the argument in `a0`.
     #[tactic(auto, unfolding(flat_machine::specs::Effects::call_of))]
     fn call(&self) -> Effect
-        ensures { result ≡ call_of self.now.setting (register_of self.now.state.registers 17) (register_of self.now.state.registers 10) }
+        ensures { result
+            ≡ call_of self.now.setting (register_of self.now.state.registers 17)
+            (register_of self.now.state.registers 10) }
     {
         let a0 = Register::new(10);
         let byte = (self.read(a0) % 256) as u8;

@@ -3,7 +3,8 @@
 ghost use Rattle.std.specs.Prelude.{◌≡◌, ◌%◌, Ok, Some};
 ghost use Rattle.rv_table.specs.declared.insn.Insn.{Insn};
 ghost use Rattle.flat_machine.specs.Effects.{effect_of, with_register};
-ghost use Rattle.flat_machine.specs.Turns.{Retires, fetched, gone_to, next_pc, performed, retired_printing, retired_writing, turn_of};
+ghost use Rattle.flat_machine.specs.Turns.{Retires, fetched, gone_to, next_pc, performed, retired_printing};
+ghost use Rattle.flat_machine.specs.Turns.{retired_writing, turn_of};
 ghost use Rattle.hart.specs.Deciding.{HasPhiOf, IsLocal, IsReference, IsTaken, after_reply};
 
 use super::Core;
@@ -51,7 +52,8 @@ impl Core {
 
     /// Does what the effect says, where it needs nothing but what the core has.
     fn take_effect(&mut self, code: &Code, insn: Insn, effect: Effect) -> Taken
-        ensures turn { IsTaken result self.old.state self.new.state (performed self.old.setting code.now self.old.state insn effect) }
+        ensures turn { IsTaken result self.old.state self.new.state
+            (performed self.old.setting code.now self.old.state insn effect) }
         ensures table { HasPhiOf result effect }
         ensures setting { self.new.setting ≡ self.old.setting }
     {
@@ -68,7 +70,8 @@ impl Core {
     #[inline(always)]
     pub fn retire(&mut self, code: &Code, reply: u32) -> Retired
         requires { IsReference (turn_of self.old.setting code.now self.old.state) }
-        ensures turn { after_reply (turn_of self.old.setting code.now self.old.state) reply ≡ Some (self.new.state, result) }
+        ensures turn { after_reply (turn_of self.old.setting code.now self.old.state) reply
+            ≡ Some (self.new.state, result) }
         ensures setting { self.new.setting ≡ self.old.setting }
     {
         match code.fetch(self.pc()) {
@@ -109,7 +112,8 @@ impl Core {
     /// Loads from local memory or from code.
     fn load(&mut self, code: &Code, insn: Insn, op: LoadOp, rd: Register, address: u32) -> Retired
         requires { IsLocal (performed self.old.setting code.now self.old.state insn (Effect.Load op rd address)) }
-        ensures turn { performed self.old.setting code.now self.old.state insn (Effect.Load op rd address) ≡ Retires self.new.state result }
+        ensures turn { performed self.old.setting code.now self.old.state insn (Effect.Load op rd address)
+            ≡ Retires self.new.state result }
         ensures setting { self.new.setting ≡ self.old.setting }
     {
         let size = load_size(op);
@@ -124,7 +128,8 @@ impl Core {
     /// Stores into local memory.
     fn store(&mut self, code: &Code, insn: Insn, op: StoreOp, address: u32, value: u32) -> Retired
         requires { IsLocal (performed self.old.setting code.now self.old.state insn (Effect.Store op address value)) }
-        ensures turn { performed self.old.setting code.now self.old.state insn (Effect.Store op address value) ≡ Retires self.new.state result }
+        ensures turn { performed self.old.setting code.now self.old.state insn (Effect.Store op address value)
+            ≡ Retires self.new.state result }
         ensures setting { self.new.setting ≡ self.old.setting }
     {
         let size = store_size(op);
@@ -148,7 +153,8 @@ impl Core {
         value: u32,
     ) -> Retired
         requires { IsLocal (performed self.old.setting code.now self.old.state insn (Effect.Amo op rd address value)) }
-        ensures turn { performed self.old.setting code.now self.old.state insn (Effect.Amo op rd address value) ≡ Retires self.new.state result }
+        ensures turn { performed self.old.setting code.now self.old.state insn (Effect.Amo op rd address value)
+            ≡ Retires self.new.state result }
         ensures setting { self.new.setting ≡ self.old.setting }
     {
         match self.region(Size::Word, address, true) {
@@ -166,7 +172,8 @@ impl Core {
     #[tactic(auto, using(crate::proofs::References::amo_leaves))]
     fn finish(&mut self, code: &Code, insn: Insn, effect: Effect, reply: u32) -> Retired
         requires { IsReference (performed self.old.setting code.now self.old.state insn effect) }
-        ensures turn { after_reply (performed self.old.setting code.now self.old.state insn effect) reply ≡ Some (self.new.state, result) }
+        ensures turn { after_reply (performed self.old.setting code.now self.old.state insn effect) reply
+            ≡ Some (self.new.state, result) }
         ensures setting { self.new.setting ≡ self.old.setting }
     {
         match effect {

@@ -1,5 +1,5 @@
-//! The first steps of the program's arbiter. They were computed apart: from state 1 the generator goes on with 270369, 67634689,
-//! 2647435461, 307599695 and 2398689233.
+//! The first steps of the program's arbiter. They were computed apart: from state 1 the generator goes on with 270369,
+//! 67634689, 2647435461, 307599695 and 2398689233.
 
 ghost use Rattle.std.specs.Prelude.{◌≤◌};
 

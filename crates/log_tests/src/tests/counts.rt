@@ -8,7 +8,8 @@ use std::test::Fail;
 use steps::{Outcome, Step};
 use test_support::{assert_same, lend};
 
-/// Notes eight steps: two requests meet at a stage, one is served for both and one for itself, and the reply for two is split.
+/// Notes eight steps: two requests meet at a stage, one is served for both and one for itself, and the reply for two
+/// is split.
 fn note_all(rt: &impl Abort, counts: &mut Counts) {
     for (step, outcome, size) in [
         (Step::Turn(0), Outcome::Issued, 0),
@@ -33,8 +34,8 @@ fn note_all(rt: &impl Abort, counts: &mut Counts) {
         (Step::Serve(1), Outcome::Served { leader: 1 }, 1),
         (Step::Down { stage: 0, wire: 1 }, Outcome::Moved, 0),
     ] {
-        assert!(rt; counts.noted() < 8);
-        counts.note(&step, &outcome, size);
+        assert!(rt; counts.observed() < 8);
+        counts.observe(&step, &outcome, size);
     }
 }
 
@@ -75,14 +76,15 @@ fn down(stage: u8, wire: u8) -> Step {
     Step::Down { stage, wire }
 }
 
-/// A round takes the turns, the moves of requests at the last stage first, the services, and the moves of replies at the first stage first.
+/// A round takes the turns, the moves of requests at the last stage first, the services, and the moves of replies at
+/// the first stage first.
 #[test]
 fn rounds(rt: HostRuntime) -> Result<(), Fail> {
     let poke = Step::Poke(Poke::Shared {
         address: 0x8000_0000,
         value: 1,
     });
-    assert_same!(rt; rounds_of(&[], 2), 0);
+    assert_same!(rt; rounds_of(&[]), 0);
     for (steps, rounds) in [
         (
             [
@@ -134,7 +136,7 @@ fn rounds(rt: HostRuntime) -> Result<(), Fail> {
         ),
         ([poke, turn(1), poke, turn(2), poke, poke, turn(2)], 2),
     ] {
-        assert_same!(rt; rounds_of(&steps, 2), rounds);
+        assert_same!(rt; rounds_of(&steps), rounds);
     }
     Ok(())
 }

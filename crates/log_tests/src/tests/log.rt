@@ -79,7 +79,7 @@ fn result_of(outcome: Outcome) -> Option<u32> {
     }
 }
 
-/// Whether a log has room for so many steps more.
+/// Whether a log has room for this many steps more.
 fn room_for(log: &mut Logged, extra: u32) -> Result<(), LockRefusal> {
     match log.room(extra) {
         Ok(_) => Ok(()),

@@ -68,8 +68,8 @@ fn with_a_stall(alloc: Global, place: usize) -> Result<Vec<Step>, AllocError> {
     Ok(steps)
 }
 
-/// Wherever a step stalls, its place is told, and the machine stands after those before it: a step that
-/// names nothing of the machine, put before each step of the trace and behind the last.
+/// Wherever a step stalls, its place is reported, and the machine stands after those before it: a step that
+/// names nothing of the machine, put before each step of the trace and after the last.
 #[test]
 fn stops_at_a_step_that_stalls(rt: HostRuntime) -> Result<(), Fail> {
     for place in 0..=COMBINED.len() {

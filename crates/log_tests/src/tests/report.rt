@@ -7,7 +7,7 @@ use flat_machine::{Fault, Retired, Status};
 use rv_table::Insn;
 use std::alloc::{AllocError, Global};
 use std::test::Fail;
-use steps::{Notes, Outcome, Step};
+use steps::{Outcome, Step, StepObserver};
 use test_support::{assert_same, lend};
 
 /// An environment call that has retired, and given this byte to the console.
@@ -22,14 +22,14 @@ fn call(out: Option<u8>) -> Outcome {
 
 /// Notes steps of two processors, and one that names no processor.
 fn note_all(tally: &mut Tally) -> Result<(), AllocError>
-    requires { tally.old.noted ≡ 0 }
+    requires { tally.old.observed ≡ 0 }
 {
-    tally.note(Step::Turn(0), &call(Some(0x41)))?;
-    tally.note(Step::Turn(1), &call(None))?;
-    tally.note(Step::Turn(1), &Outcome::Issued)?;
-    tally.note(Step::Serve(1), &Outcome::Served { leader: 1 })?;
-    tally.note(Step::Turn(0), &call(Some(0x0A)))?;
-    tally.note(Step::Turn(2), &call(Some(0x42)))
+    tally.observe(Step::Turn(0), &call(Some(0x41)))?;
+    tally.observe(Step::Turn(1), &call(None))?;
+    tally.observe(Step::Turn(1), &Outcome::Issued)?;
+    tally.observe(Step::Serve(1), &Outcome::Served { leader: 1 })?;
+    tally.observe(Step::Turn(0), &call(Some(0x0A)))?;
+    tally.observe(Step::Turn(2), &call(Some(0x42)))
 }
 
 /// Of these steps only retirements count.

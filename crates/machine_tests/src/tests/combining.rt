@@ -90,8 +90,8 @@ static CASES: [Case; 13] = [
         order: "turn 0, turn 2",
         ..ADDS
     },
-    // Three requests combine with the first, and its reply is split in four, in the order of the combinations. Each second gets what
-    // the functions before it make of the word.
+    // Three requests combine with the first, and its reply is split in four, in the order of the combinations. Each
+    // second gets what the functions before it make of the word.
     Case {
         name: "an entry is combined three times",
         machine: "machine_3 2 4 4 1024",

@@ -10,7 +10,8 @@ fn machines_drain(rt: HostRuntime) -> Result<(), Fail> {
 }
 
 static CASES: [Case; 7] = [
-    // Where no request has moved, each goes to the module and back by itself, which is the most that a drain of four takes.
+    // Where no request has moved, each goes to the module and back by itself, which is the most that a drain of four
+    // takes.
     Case {
         name: "all that is open drains by steps",
         calls: &[
@@ -56,8 +57,8 @@ static CASES: [Case; 7] = [
         ],
         ..ADDS
     },
-    // An idle machine drains in no step. One reference goes through two stages and back: six steps, the last of them its
-    // turn.
+    // An idle machine drains in no step. One reference goes through two stages and back: six steps, the last of them
+    // its turn.
     Case {
         name: "an idle machine, and one reference",
         calls: &[

@@ -10,7 +10,7 @@ use std::process::Abort;
 use std::test::Fail;
 use test_support::{Case, assert_same, check};
 
-/// The image of most tests, read for machines with so many shared words.
+/// The image of most tests, read for machines with this many shared words.
 fn image(alloc: Global, shared_words: u32) -> Result<Image, Fail> {
     let config = Config {
         k: 2,
@@ -22,8 +22,8 @@ fn image(alloc: Global, shared_words: u32) -> Result<Image, Fail> {
     REFERENCES.image(alloc, &config)
 }
 
-/// Each number of a configuration at its limits, and one past them; and an image that was read for another number of shared
-/// words than the configuration's.
+/// Each number of a configuration at its limits, and one past them; and an image that was read for another number of
+/// shared words than the configuration's.
 #[test]
 fn limits_of_a_machine(rt: HostRuntime) -> Result<(), Fail> {
     for (k, c, b, r, shared_words, read_for, refusal) in [
@@ -61,8 +61,8 @@ fn limits_of_a_machine(rt: HostRuntime) -> Result<(), Fail> {
     Ok(())
 }
 
-/// The refusal of a machine of this size on an image that was read for so many shared words. One that is not refused is
-/// idle, and of this size.
+/// The refusal of a machine of this size on an image that was read for this many shared words. One that is not refused
+/// is idle, and of this size.
 fn refusal_of(
     rt: &(impl Abort + AllocGlobal),
     config: Config,
@@ -83,7 +83,7 @@ fn expect_idle(rt: &impl Abort, machine: &Machine, config: Config) {
     assert!(rt; machine.is_idle());
 }
 
-/// The codes that refusals are told by.
+/// The codes that refusals are reported by.
 #[test]
 fn codes_of_refusals(rt: HostRuntime) -> Result<(), Fail> {
     let code = text_of(rt.alloc(), NewError::Config)?;
@@ -103,8 +103,8 @@ fn readers_at_their_ends(rt: HostRuntime) -> Result<(), Fail> {
 }
 
 static CASES: [Case; 3] = [
-    // A machine has four processors, numbered from 0, with 32 registers each. The address of processor 2's word is 0, in no
-    // region.
+    // A machine has four processors, numbered from 0, with 32 registers each. The address of processor 2's word is 0,
+    // in no region.
     Case {
         name: "processors and registers",
         pokes: &["poke 0 11 5, poke 1 11 6, poke 2 11 7, poke 3 11 8, poke 2 32 0x10004"],
@@ -153,8 +153,8 @@ static CASES: [Case; 3] = [
         order: "poke_local 0 0x20000 1, poke_local 1 0x20000 2, poke_local 3 0x2FFFF 3",
         ..ADDS
     },
-    // Shared words go round the modules, and there are as many as the configuration says. There is room for two more in the
-    // modules.
+    // Shared words go round the modules, and there are as many as the configuration says. There is room for two more
+    // in the modules.
     Case {
         name: "shared words",
         machine: "machine 2 4 4 6",

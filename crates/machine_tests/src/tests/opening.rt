@@ -46,8 +46,8 @@ const THERE_AND_BACK: &str = "
     idle: no";
 
 static CASES: [Case; 3] = [
-    // Each processor stands at the entry and runs, with registers of zero and the local bytes of the image in a memory of
-    // its own; the shared bytes of the image are in the words, the lowest first.
+    // Each processor stands at the entry and runs, with registers of zero and the local bytes of the image in a memory
+    // of its own; the shared bytes of the image are in the words, the lowest first.
     Case {
         name: "the opening of an image",
         machine: "machine 2 4 4 1024",

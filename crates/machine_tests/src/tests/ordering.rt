@@ -10,7 +10,7 @@ fn orders_are_listed(rt: HostRuntime) -> Result<(), Fail> {
     check_orders(rt.alloc(), &CASES)
 }
 
-/// An instruction of its own processor alone. What stands behind it is no instruction.
+/// An instruction of its own processor alone. What stands after it is no instruction.
 const LOCAL: Program<'static> = Program {
     entry: CODE_START,
     code: &[0x0010_8093], // addi x1, x1, 1

@@ -24,8 +24,8 @@ const ALL_MOVES: &str = "
     up 0 2, up 1 2, serve 2, down 1 2, down 0 2, up 0 3, up 1 3, serve 3, down 1 3, down 0 3: stalled
 ";
 
-/// All that is not on the way of a message of processor 3 to module 0, which goes from wire 3 by switch 1 and wire 2, and
-/// then by switch 0 and wire 0; and pokes.
+/// All that is not on the way of a message of processor 3 to module 0, which goes from wire 3 by switch 1 and wire 2,
+/// and then by switch 0 and wire 0; and pokes.
 const OFF_THE_WAY: &str = "
     up 0 0, up 0 1, up 0 2, up 1 0, up 1 1, up 1 3, serve 1, serve 2, serve 3: stalled
     down 1 1, down 1 2, down 1 3, down 0 0, down 0 1, down 0 3, poke 0 11 7, poke 3 11 7: stalled
@@ -64,8 +64,8 @@ static CASES: [Case; 7] = [
         calls: &[ALL_MOVES],
         ..ADDS
     },
-    // One request goes to the module and back. Before each of its moves all others stall, and pokes stall as long as its
-    // reference is open.
+    // One request goes to the module and back. Before each of its moves all others stall, and pokes stall as long as
+    // its reference is open.
     Case {
         name: "one message moves",
         calls: &[

@@ -92,8 +92,8 @@ static CASES: [Case; 5] = [
         ],
         order: "turn 5, turn 5, turn 5",
     },
-    // Where a reference is open, or there is no such processor, nothing changes. Then the drain takes three stages up, a
-    // service, three down, and the turn.
+    // Where a reference is open, or there is no such processor, nothing changes. Then the drain takes three stages up,
+    // a service, three down, and the turn.
     Case {
         name: "nothing is done beside a reference",
         machine: "machine 3 2 1 64",

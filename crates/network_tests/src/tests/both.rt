@@ -1,5 +1,5 @@
-//! Long random runs of the network with rings and of the network with a pool, side by side. Their steps are picked as the program's
-//! arbiter picks them.
+//! Long random runs of the network with rings and of the network with a pool, side by side. Their steps are picked as
+//! the program's arbiter picks them.
 
 use super::random::{Random, request_of};
 use messages::Reply;
@@ -57,8 +57,9 @@ impl Both {
         true
     }
 
-    /// A step of the list of all moves up, by stage and wire, then all services, then all moves down: that at the place of the next number,
-    /// counted round and round. This is the rule of the program's arbiter (`schedules`, `Shuffled`), whose numbers are those of [`Random`].
+    /// A step of the list of all moves up, by stage and wire, then all services, then all moves down: that at the
+    /// place of the next number, counted round and round. This is the rule of the program's arbiter (`schedules`,
+    /// `Shuffled`), whose numbers are those of [`Random`].
     fn asked(&mut self) -> bool {
         let stages = self.rings.stages();
         let wires = u32::from(self.rings.wires());

@@ -1,4 +1,4 @@
-//! Records that are told apart by their leaders.
+//! Records that are distinguished by their leaders.
 
 use messages::Record;
 use phi_algebra::Phi;

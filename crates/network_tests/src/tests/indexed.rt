@@ -20,8 +20,8 @@ fn bits(set: WireSet) -> u8 {
 }
 
 /// Four processors add to one word: their requests combine at both stages, and their replies part at both. Each
-/// step of a network of two stages, as runs have it, and then the wires of requests at depths 0, 1 and 2, and those of replies.
-/// Module 0 serves processor 0, and replies with a value.
+/// step of a network of two stages, as runs have it, and then the wires of requests at depths 0, 1 and 2, and those of
+/// replies. Module 0 serves processor 0, and replies with a value.
 static FOUR_ADDS: [(&str, [u8; 3], [u8; 3]); 18] = [
     ("add 0 0 1: put", [0b0001, 0, 0], [0; 3]),
     ("add 1 0 1: put", [0b0011, 0, 0], [0; 3]),

@@ -1,5 +1,5 @@
-//! Each allocation of these tests is to be refused in turn. Then what is made tells that there is no memory, which ends the test, or it
-//! is as with ample memory.
+//! Each allocation of these tests is to be refused in turn. Then what is made says that there is no memory, which ends
+//! the test, or it is as with ample memory.
 
 use combining_switch::Pool;
 use omega_network::{IndexedNetwork, Network};

@@ -5,7 +5,7 @@ use messages::{DownMove, Record, Reply, Request, Seconds, UpMove};
 use phi_algebra::{Phi, compose};
 use std::alloc::{AllocError, Global};
 
-/// Lists for each place. Those of a stage stand behind those of the stages before it.
+/// Lists for each place. Those of a stage stand after those of the stages before it.
 #[derive(Drop)]
 pub struct Plain {
     stages: usize,

@@ -9,17 +9,19 @@ use std::process::Abort;
 use std::test::Fail;
 use test_support::{Words, asked_and_wanted, assert_same, low, read_words};
 
-/// A run of a network of so many stages, with queues of so many places, so many records and so many combinations for an entry.
+/// A run of a network of this many stages, with queues of this many places, this many records and this many
+/// combinations for an entry.
 struct Run {
     name: &'static str,
     sizes: (u8, u8, u8, u8),
     /// The word of each module before. All requests at a module do as if they were for it.
     before: u32,
-    /// Calls, with the answer that each of a line has to have behind a colon.
+    /// Calls, with the answer that each of a line has to have after a colon.
     ///
-    /// - `add P W A`, `swap P W A` and `minimum P W A`: processor P puts a request for word W into its slot, which is `put`.
-    /// - `up S W` and `down S W` are `moved`, `combined FIRST SECOND`, `answered P`, `answered_two P P`, `answered_three P P P` or
-    ///   `stalled`.
+    /// - `add P W A`, `swap P W A` and `minimum P W A`: processor P puts a request for word W into its slot, which is
+    /// `put`.
+    /// - `up S W` and `down S W` are `moved`, `combined FIRST SECOND`, `answered P`, `answered_two P P`,
+    /// `answered_three P P P` or `stalled`.
     /// - `serve M`: the request that module M serves, as `add LEADER A`.
     /// - `take P`: `is` the value that the processor takes.
     steps: &'static [&'static str],

@@ -20,7 +20,7 @@ DisplayHelp
 Usage: ultra explain [CODE]
 $ ultra help explain
 DisplayHelp
-Tell what a code that ultra prints means, what usually causes it and what to do
+Explain what a code that ultra prints means, what usually causes it and what to do
 
 Usage: ultra explain [CODE]
 $ ultra explain --help
@@ -31,5 +31,5 @@ DisplayHelp
 Exit status: 0 done, 2 nothing has that name, or a refused command line, 3 standard output cannot be\
 $ ultra --help
 DisplayHelp
-  explain  Tell what a code that ultra prints means, what usually causes it and what to do
+  explain  Explain what a code that ultra prints means, what usually causes it and what to do
 ";

@@ -38,13 +38,13 @@ DisplayHelp
 Usage: ultra explore [OPTIONS] <FILE>
 $ ultra help explore
 DisplayHelp
---states <NUMBER>   Give up where as many states as this are found, 1 to 4294967295 [default: 1000000]
+--states <NUMBER>   Give up when this many states are found, 1 to 4294967295 [default: 1000000]
 $ ultra explore --help
 DisplayHelp
---each              List every result by itself; processors that stand alike are not exchanged
+--each              Print every result by itself; alike processors are not exchanged
 $ ultra explore --help
 DisplayHelp
---every             Explore each k from 0 to 6, whatever --k says,\
+--every             Explore every k from 0 to 6,\
 $ ultra explore --help
 DisplayHelp
 --witness <NUMBER>  Write the trace of a way to the result of this number,\

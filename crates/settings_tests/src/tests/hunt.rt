@@ -1,15 +1,20 @@
 //! `hunt FILE` and its options.
 
 /// Ways to ask for `hunt`.
-pub const TAKEN: &str = r#"$ ultra hunt a.elf
-Hunt(Hunt { file: "a.elf", trace: None, sizes: Sizes { k: 2, c: 4, b: 4, r: 1, words: 1024 }, budget: 100000, runs: 1000, start: 1 })
+pub const TAKEN: &str = "\
+$ ultra hunt a.elf
+Hunt(Hunt { file: \"a.elf\", trace: None, overwrite: false, quiet: false, \
+    sizes: Sizes { k: 2, c: 4, b: 4, r: 1, words: 1024 }, budget: 100000, runs: 1000, start: 1 })
 $ ultra hunt --runs 1 a.elf --start 0
-Hunt(Hunt { file: "a.elf", trace: None, sizes: Sizes { k: 2, c: 4, b: 4, r: 1, words: 1024 }, budget: 100000, runs: 1, start: 0 })
-$ ultra hunt a.elf --trace late- --budget 4000000
-Hunt(Hunt { file: "a.elf", trace: Some("late-"), sizes: Sizes { k: 2, c: 4, b: 4, r: 1, words: 1024 }, budget: 4000000, runs: 1000, start: 1 })
-$ ultra hunt a.elf --runs=1000000 --start=4294967295 --k 1 --c 2 --b 0 --words 7 --budget 1
-Hunt(Hunt { file: "a.elf", trace: None, sizes: Sizes { k: 1, c: 2, b: 0, r: 1, words: 7 }, budget: 1, runs: 1000000, start: 4294967295 })
-"#;
+Hunt(Hunt { file: \"a.elf\", trace: None, overwrite: false, quiet: false, \
+    sizes: Sizes { k: 2, c: 4, b: 4, r: 1, words: 1024 }, budget: 100000, runs: 1, start: 0 })
+$ ultra hunt a.elf --overwrite --trace late- --budget 4000000
+Hunt(Hunt { file: \"a.elf\", trace: Some(\"late-\"), overwrite: true, quiet: false, \
+    sizes: Sizes { k: 2, c: 4, b: 4, r: 1, words: 1024 }, budget: 4000000, runs: 1000, start: 1 })
+$ ultra hunt a.elf --runs=1000000 --start=4294967295 --k 1 --c 2 --b 0 --words 7 --budget 1 --quiet
+Hunt(Hunt { file: \"a.elf\", trace: None, overwrite: false, quiet: true, \
+    sizes: Sizes { k: 1, c: 2, b: 0, r: 1, words: 7 }, budget: 1, runs: 1000000, start: 4294967295 })
+";
 
 /// Parts of the help.
 pub const HELP: &str = "\
@@ -18,11 +23,14 @@ DisplayHelp
 Usage: ultra hunt [OPTIONS] <FILE>
 $ ultra help hunt
 DisplayHelp
---runs <NUMBER>    Runs that are taken, 1 to 1000000 [default: 1000]
+--runs <NUMBER>    Runs to take, 1 to 1000000 [default: 1000]
 $ ultra hunt --help
 DisplayHelp
 --trace <PREFIX>   Write a trace for each result,\
 $ ultra hunt --help
 DisplayHelp
-Exit status: 0 done, 1 a processor stopped by a fault in a run, 2 a refused image or command line, 3 a\
+--overwrite        Overwrite traces that exist;\
+$ ultra hunt --help
+DisplayHelp
+Exit status: 0 done, 1 a fault stopped a processor in a run, 2 a refused image or command line, 3 a\
 ";

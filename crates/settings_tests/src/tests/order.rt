@@ -31,5 +31,5 @@ DisplayHelp
 --word <NUMBER>       Print the lines that act on this shared word alone, 0 to 262143
 $ ultra order --help
 DisplayHelp
-Exit status: 0 done, 1 a processor stopped by a fault, 2 a refused trace, image or command line, 3 a\
+Exit status: 0 done, 1 a fault stopped a processor, 2 a refused trace, image or command line, 3 a\
 ";

@@ -19,10 +19,10 @@ DisplayHelp
 Usage: ultra picture [OPTIONS] <TRACE> <FILE>
 $ ultra help picture
 DisplayHelp
-Draw the machine behind some steps of a trace, as an SVG
+Draw the machine after some steps of a trace, as an SVG
 $ ultra picture --help
 DisplayHelp
---step <NUMBER>   Draw the machine behind so many steps, 0 to 4294967295 [default: behind all]
+--step <NUMBER>   Draw the machine after this many steps, 0 to 4294967295 [default: after all]
 $ ultra picture --help
 DisplayHelp
 Exit status: 0 done, 1 a fault has stopped a processor of the machine drawn,\

@@ -4,7 +4,7 @@ use super::compare_made;
 use std::alloc::AllocGlobal;
 use std::process::Abort;
 
-/// Compares the answers to the first of these words of each form, so many at most. Whether there was memory for each.
+/// Compares the answers to the first of these words of each form, this many at most. Whether there was memory for each.
 pub fn compare_first(rt: &(impl Abort + AllocGlobal), most: usize) -> bool {
     out_of_range(rt, most)
         & no_numbers(rt, most)
@@ -151,7 +151,7 @@ fn out_of_range(rt: &(impl Abort + AllocGlobal), most: usize) -> bool {
     all
 }
 
-/// Words with what is no number: the option, and what stands behind it.
+/// Words with what is no number: the option, and what stands after it.
 static NO_NUMBERS: [(&str, &str, &str); 10] = [
     ("dis a.elf --words 1k", "--words", "1k"),
     ("run a.elf --k two", "--k", "two"),

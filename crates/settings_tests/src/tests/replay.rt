@@ -39,5 +39,5 @@ DisplayHelp
 `ultra: X1` TRACE is cut short\
 $ ultra replay --help
 DisplayHelp
-Exit status: 0 done, 1 a processor stopped by a fault, 2 a refused trace, image or command line,\
+Exit status: 0 done, 1 a fault stopped a processor, 2 a refused trace, image or command line,\
 ";

@@ -121,7 +121,7 @@ DisplayHelp
 `processor P pc VVVVVVVV STATUS retired N console HEX`\
 $ ultra run --help
 DisplayHelp
-Exit status: 0 done, 1 a processor stopped by a fault, 2 a refused image or command line,\
+Exit status: 0 done, 1 a fault stopped a processor, 2 a refused image or command line,\
 $ ultra run --help --k 9
 DisplayHelp
 Usage: ultra run [OPTIONS] <FILE>

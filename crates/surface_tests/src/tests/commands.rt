@@ -56,11 +56,11 @@ fn words_are_run(rt: HostRuntime) -> Result<(), Fail> {
 fn texts_become_images_and_lines(rt: HostRuntime) -> Result<(), Fail> {
     let alloc = rt.alloc();
     ran!(Vec::new(alloc), Vec::new(alloc), |out, err| {
-        asm_command(alloc, b"ebreak".as_slice(), out, err)
+        asm_command(alloc, &mut Meter::new(b"ebreak".as_slice()), out, err)
     })
     .comes_to(0, &EBREAK, "")?;
     ran!(Vec::new(alloc), Vec::new(alloc), |out, err| {
-        dis_command(alloc, EBREAK.as_slice(), 1024, out, err)
+        dis_command(alloc, &mut Meter::new(EBREAK.as_slice()), 1024, out, err)
     })
     .comes_to(0, b"00010000 00100073 ebreak\n", "")
 }

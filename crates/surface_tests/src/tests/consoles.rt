@@ -61,7 +61,7 @@ fn left<R: Wait + Abort>(rt: &R, alloc: Global) -> Result<Vec<Vec<u8>>, ConsoleR
     monitor.finish(rt, alloc, ends)
 }
 
-/// What nobody has taken comes at the end, and behind it what each sender still had.
+/// What nobody has taken comes at the end, and after it what each sender still had.
 #[test]
 fn bytes_are_left(rt: HostRuntime) -> Result<(), Fail> {
     let left = left(&rt, rt.alloc())?;

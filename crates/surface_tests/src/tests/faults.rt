@@ -13,8 +13,8 @@ use std::process::Abort;
 use test_support::assert_same;
 use trace_file::TraceError;
 
-/// The texts of these, with a blank behind each.
-fn told<T: Display>(alloc: Global, faults: &[T]) -> Result<String, AllocError> {
+/// The texts of these, with a blank after each.
+fn reported<T: Display>(alloc: Global, faults: &[T]) -> Result<String, AllocError> {
     let mut text = String::new(alloc);
     for fault in faults {
         write!(text, "{fault} ")?;
@@ -24,7 +24,7 @@ fn told<T: Display>(alloc: Global, faults: &[T]) -> Result<String, AllocError> {
 
 /// Compares the texts of these.
 fn compare<T: Display>(rt: &(impl Abort + AllocGlobal), faults: &[T], wanted: &str) {
-    let text = told(rt.alloc(), faults).expect(rt, "memory");
+    let text = reported(rt.alloc(), faults).expect(rt, "memory");
     assert_same!(rt; text.as_str(), wanted);
 }
 
@@ -92,6 +92,7 @@ fn faults_of_runs(rt: HostRuntime) {
         RunFault::Console,
         RunFault::Budget,
         RunFault::Start,
+        RunFault::Cancelled,
     ];
-    compare(&rt, &runs, "memory L2 L4 memory budget Start ");
+    compare(&rt, &runs, "memory L2 L4 memory budget Start cancelled ");
 }

@@ -27,7 +27,7 @@ fn log_from(rt: &(impl Abort + AllocGlobal), machine: Machine) -> Logged {
     Logged::new(rt.alloc(), machine)
 }
 
-/// Whether a log has room for so many steps more.
+/// Whether a log has room for this many steps more.
 fn room_for(log: &mut Logged, extra: u32) -> Result<(), LockRefusal> {
     match log.room(extra) {
         Ok(_) => Ok(()),

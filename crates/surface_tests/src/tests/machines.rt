@@ -40,7 +40,7 @@ static POKES: [Poke; 6] = [
     register!(1, 12, 0x8000_0000),
 ];
 
-/// The machine behind these writes.
+/// The machine after these writes.
 fn adders(rt: &impl Abort, alloc: Global) -> Result<Machine, Fail> {
     let mut machine = machine_of(alloc, TEXT, size(1))?;
     for poke in &POKES {
@@ -132,7 +132,8 @@ fn order_of(
     machine.order(alloc, steps)
 }
 
-/// One service answers both references, processor 0 first. A turn of no processor is not in the order; a write and a stop are.
+/// One service answers both references, processor 0 first. A turn of no processor is not in the order; a write and a
+/// stop are.
 #[test]
 fn steps_have_an_order(rt: HostRuntime) -> Result<(), Fail> {
     lend(adders(&rt, rt.alloc())?, |machine| {

@@ -4,7 +4,7 @@ ghost use Rattle.std.specs.Prelude.{◌≡◌, ◌^◌};
 ghost use Rattle.machine_lock.specs.Passes.{IsWhole};
 
 use super::{log_of, size};
-use machine_lock::{Loan, LocalEnd, LockRefusal, Logged, Pass, Room, Row, Run, Shared};
+use machine_lock::{Loan, LocalEnd, LockRefusal, Logged, NewTable, Pass, PassState, Run, Shared};
 use machine_steps::{Outcome, Step};
 use std::alloc::Global;
 use std::marker::Brand;
@@ -80,12 +80,12 @@ fn take_all_first<N: Run, R: Wait + Abort>(
     take_all(rt, alloc, shared, &mut passes[0])
 }
 
-/// A pass has three retirements, at places 0, 1 and 4, and was told last of the turn at place 4.
+/// A pass has three retirements, at places 0, 1 and 4, and was reported last of the turn at place 4.
 fn has_retired<N: Run>(rt: &impl Abort, pass: &Pass<N>) {
     assert_same!(rt; (pass.processor(), pass.steps(), pass.is_lent()), (0, 5, false));
-    assert_same!(rt; pass.notices().len(), 3);
-    for (notice, place) in pass.notices().iter().zip([0, 1, 4]) {
-        assert_same!(rt; notice.place, place);
+    assert_same!(rt; pass.pass_events().len(), 3);
+    for (pass_event, place) in pass.pass_events().iter().zip([0, 1, 4]) {
+        assert_same!(rt; pass_event.place, place);
     }
     match pass.last() {
         Some(answer) => {
@@ -121,7 +121,7 @@ fn by_passes<N: Run, R: Wait + Abort>(
 fn go<N: Run, R: Wait + Abort>(
     rt: &R,
     alloc: Global,
-    room: Room<Row>,
+    room: NewTable<PassState>,
     logged: Logged,
 ) -> Result<(), Fail>
     requires room { room ≡ N.table }
@@ -137,7 +137,7 @@ fn go<N: Run, R: Wait + Abort>(
 
 /// The same for a log that is just made.
 fn attempt<R: Wait + Abort>(rt: &R, alloc: Global, logged: Logged) -> Result<(), Fail> {
-    match Room::new(alloc) {
+    match NewTable::new(alloc) {
         Ok(room) => go::<Brand, R>(rt, alloc, room, logged),
         Err(error) => Err(Fail::from(error)),
     }

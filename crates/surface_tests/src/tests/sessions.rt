@@ -25,7 +25,7 @@ fn shown(rt: &impl Abort, machine: &Machine, line: &[u8]) -> ArrayVec<u8, 1024> 
     text
 }
 
-/// What is told of a machine in which nothing has stopped since it opened: no processor is named.
+/// What is said of a machine in which nothing has stopped since it opened: no processor is named.
 fn stop_of(rt: &impl Abort, machine: &Machine) -> ArrayVec<u8, 1024> {
     let mut text = ArrayVec::new();
     assert!(rt; machine.are_home());

@@ -3,7 +3,7 @@
 ghost use Rattle.std.specs.Prelude.{◌≡◌, ◌^◌, IfOk, vec_len};
 
 use super::{log_of, size};
-use machine_lock::{Logged, Room, Row, Run};
+use machine_lock::{Logged, NewTable, PassState, Run};
 use machine_steps::{Status, Step};
 use processor_threads::{Arbiter, Ended, Gate, Shuffled, run_threads};
 use std::alloc::Global;
@@ -58,6 +58,8 @@ fn arbiters(alloc: Global, logged: &Logged) -> Result<Vec<Shuffled>, Fail>
 /// The machine has the adds, and each console its byte.
 fn has_run<N: Run>(rt: &impl Abort, ended: &Ended<N>) {
     assert_same!(rt; ended.fault, None);
+    assert_same!(rt; ended.faults.as_slice(), [None, None].as_slice());
+    assert_same!(rt; ended.listener, None);
     assert_same!(rt; ended.passes.len(), 2);
     assert_same!(rt; ended.consoles.len(), 2);
     for bytes in &ended.consoles {
@@ -72,7 +74,7 @@ fn has_run<N: Run>(rt: &impl Abort, ended: &Ended<N>) {
 fn go<N: Run + Send + Sync, R: Threads + Wait + Sync + Abort>(
     rt: &R,
     alloc: Global,
-    room: Room<Row>,
+    room: NewTable<PassState>,
     logged: Logged,
     arbiters: Vec<Shuffled>,
 ) -> Result<(), Fail>
@@ -98,7 +100,7 @@ fn go<N: Run + Send + Sync, R: Threads + Wait + Sync + Abort>(
 /// Runs the program on two threads.
 fn run_two<R: Threads + Wait + Sync + Abort>(rt: &R, alloc: Global) -> Result<(), Fail> {
     let logged = log_of(alloc, TEXT, size(1))?;
-    let room = Room::new(alloc)?;
+    let room = NewTable::new(alloc)?;
     let arbiters = arbiters(alloc, &logged)?;
     go::<Brand, R>(rt, alloc, room, logged, arbiters)
 }
@@ -108,8 +110,8 @@ fn two_threads(rt: HostRuntime) -> Result<(), Fail> {
     run_two(&rt, rt.alloc())
 }
 
-/// From state 1 the generator goes on with 270369 and 67634689. On two stages the steps are 20, of which the tenth is the
-/// service of module 1: both pick it.
+/// From state 1 the generator goes on with 270369 and 67634689. On two stages the steps are 20, of which the tenth is
+/// the service of module 1: both pick it.
 #[test]
 fn steps_are_shuffled(rt: HostRuntime) {
     let mut arbiter = Shuffled::new(1, 0);

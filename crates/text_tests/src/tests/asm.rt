@@ -1,21 +1,25 @@
 //! The command, from the bytes of a text to the bytes of an image: what no clause says of it.
 
-use super::door::Door;
+use super::door::LoopbackPort;
 use asm_commands::asm_command;
 use command_io::OnFirstWrite;
 use std::alloc::Global;
 use std::io::{Read, Write};
 use std::test::Fail;
-use test_support::{Deaf, EBREAK, Endless, Ran, Sink, Source, assert_same, ran};
+use test_support::{Deaf, EBREAK, Endless, Meter, Ran, Sink, Source, assert_same, ran};
 
 /// What assembling a file comes to on two devices.
 fn run_on<R: Read + Drop, W: Write + Drop, E: Write + Drop>(
     alloc: Global,
     file: R,
     image: W,
-    told: E,
+    reported: E,
 ) -> Ran<W, E> {
-    ran!(image, told, |out, err| asm_command(alloc, file, out, err))
+    ran!(
+        image,
+        reported,
+        |out, err| asm_command(alloc, &mut Meter::new(file), out, err)
+    )
 }
 
 /// What assembling a file comes to, with this device for the image.
@@ -23,7 +27,7 @@ fn run<R: Read + Drop, W: Write + Drop>(alloc: Global, file: R, image: W) -> Ran
     run_on(alloc, file, image, Vec::new(alloc))
 }
 
-/// Texts that are refused, with what is told.
+/// Texts that are refused, with what is reported.
 static REFUSED: [(&[u8], &str); 9] = [
     (b"frob x1, x2, x3", "ultra: A1 line 1\n"),
     (b"ebreak\naddi x1, x0\n", "ultra: A2 line 2\n"),
@@ -39,7 +43,7 @@ static REFUSED: [(&[u8], &str); 9] = [
 /// Bytes that are no text: a byte that no UTF-8 has, and a character that is cut short, each within a comment.
 static NO_TEXTS: [&[u8]; 2] = [b"ebreak # \xFF\n", b"ebreak # \xE2\x82"];
 
-/// Texts that are refused, with the exit status that tells it.
+/// Texts that are refused, with the exit status that reports it.
 static FAULTS: [(&[u8], u8); 2] = [(b"frob", 2), (b"\xFF", 3)];
 
 #[test]
@@ -50,11 +54,11 @@ fn assembles_a_text(rt: HostRuntime) -> Result<(), Fail> {
     Ok(())
 }
 
-/// The whole image or nothing, and each refused line is told.
+/// The whole image or nothing, and each refused line is reported.
 #[test]
 fn refuses_a_text(rt: HostRuntime) -> Result<(), Fail> {
-    for (text, told) in &REFUSED {
-        run(rt.alloc(), *text, Vec::new(rt.alloc())).comes_to(2, b"", told)?;
+    for (text, reported) in &REFUSED {
+        run(rt.alloc(), *text, Vec::new(rt.alloc())).comes_to(2, b"", reported)?;
     }
     Ok(())
 }
@@ -67,16 +71,16 @@ fn refuses_what_is_not_text(rt: HostRuntime) -> Result<(), Fail> {
     Ok(())
 }
 
-/// The six bytes take six calls, and the seventh tells that there are no more.
+/// The six bytes take six calls, and the seventh says that there are no more.
 #[test]
 fn reads_the_file_or_tells_a_link(rt: HostRuntime) -> Result<(), Fail> {
     for fails_at in 0..9 {
         let file = Source::new(b"ebreak", fails_at);
-        let (status, image, told) = match fails_at {
+        let (status, image, reported) = match fails_at {
             1..8 => (3, &[][..], "ultra: link\n"),
             _ => (0, EBREAK.as_slice(), ""),
         };
-        run(rt.alloc(), file, Vec::new(rt.alloc())).comes_to(status, image, told)?;
+        run(rt.alloc(), file, Vec::new(rt.alloc())).comes_to(status, image, reported)?;
     }
     Ok(())
 }
@@ -91,16 +95,16 @@ fn refuses_a_text_without_end(rt: HostRuntime) -> Result<(), Fail> {
 fn tells_that_the_image_is_not_written(rt: HostRuntime) -> Result<(), Fail> {
     for fails_at in 0..90 {
         let sink = Sink::new(Vec::new(rt.alloc()), fails_at);
-        let (status, image, told) = match fails_at {
+        let (status, image, reported) = match fails_at {
             1..89 => (3, &EBREAK[..fails_at - 1], "ultra: I9\n"),
             _ => (0, EBREAK.as_slice(), ""),
         };
-        run(rt.alloc(), b"ebreak".as_slice(), sink).comes_to(status, image, told)?;
+        run(rt.alloc(), b"ebreak".as_slice(), sink).comes_to(status, image, reported)?;
     }
     run(rt.alloc(), b"ebreak".as_slice(), Deaf).comes_to(3, b"", "ultra: I9\n")
 }
 
-/// Where standard error fails too, the exit status alone tells the fault.
+/// Where standard error fails too, the exit status alone says the fault.
 #[test]
 fn tells_by_its_status(rt: HostRuntime) -> Result<(), Fail> {
     for (text, status) in &FAULTS {
@@ -110,8 +114,12 @@ fn tells_by_its_status(rt: HostRuntime) -> Result<(), Fail> {
 }
 
 /// What assembling a text comes to where the image is opened by its first write, or cannot be.
-fn run_behind_door(alloc: Global, text: &[u8], is_shut: bool) -> Ran<OnFirstWrite<Door>> {
-    run(alloc, text, OnFirstWrite::new(Door::new(alloc, is_shut)))
+fn run_behind_door(alloc: Global, text: &[u8], is_shut: bool) -> Ran<OnFirstWrite<LoopbackPort>> {
+    run(
+        alloc,
+        text,
+        OnFirstWrite::new(LoopbackPort::new(alloc, is_shut)),
+    )
 }
 
 #[test]
@@ -135,16 +143,17 @@ fn tells_that_the_image_is_not_opened(rt: HostRuntime) {
     assert_same!(rt; ran.err.as_slice(), b"ultra: I9\n".as_slice());
 }
 
-/// Each allocation of this test is to be refused in turn. Then the answer is that of ample memory, or that there is none.
+/// Each allocation of this test is to be refused in turn. Then the answer is that of ample memory, or that there is
+/// none.
 #[test]
 fn is_short_of_memory(rt: HostRuntime) -> Result<(), Fail> {
     let image = Vec::with_capacity(rt.alloc(), 88)?;
-    let told = Vec::with_capacity(rt.alloc(), 64)?;
+    let reported = Vec::with_capacity(rt.alloc(), 64)?;
     run_on(
         rt.alloc(),
         b"start: ebreak".as_slice(),
         Sink::new(image, 0),
-        told,
+        reported,
     )
     .comes_to_or_lacks_memory(0, &EBREAK, "")
 }
@@ -152,8 +161,8 @@ fn is_short_of_memory(rt: HostRuntime) -> Result<(), Fail> {
 /// Likewise, of a text that is refused.
 #[test]
 fn refusal_is_short_of_memory(rt: HostRuntime) -> Result<(), Fail> {
-    let told = Vec::with_capacity(rt.alloc(), 64)?;
-    run_on(rt.alloc(), b"addi x1, x0, 2048".as_slice(), Deaf, told).comes_to_or_lacks_memory(
+    let reported = Vec::with_capacity(rt.alloc(), 64)?;
+    run_on(rt.alloc(), b"addi x1, x0, 2048".as_slice(), Deaf, reported).comes_to_or_lacks_memory(
         2,
         b"",
         "ultra: A3 line 1\n",

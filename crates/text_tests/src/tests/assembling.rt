@@ -1,6 +1,6 @@
 //! Texts with the words, bytes and faults that they must have.
 //!
-//! What a text assembles to is told as a text: its refusal, or what its sections have (`layout_text`).
+//! What a text assembles to is reported as a text: its refusal, or what its sections have (`layout_text`).
 
 mod faults;
 mod images;

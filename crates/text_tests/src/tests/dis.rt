@@ -7,7 +7,7 @@ use std::alloc::Global;
 use std::io::{Read, Write};
 use std::test::Fail;
 use test_support::{
-    Deaf, EBREAK, Endless, HUNDRED_ADDS, Ran, Source, assert_same, ran, with_bytes,
+    Deaf, EBREAK, Endless, HUNDRED_ADDS, Meter, Ran, Source, assert_same, ran, with_bytes,
 };
 
 /// What disassembling a file comes to on two devices.
@@ -16,12 +16,12 @@ fn run_on<R: Read + Drop, W: Write + Drop, E: Write + Drop>(
     file: R,
     shared_words: u32,
     lines: W,
-    told: E,
+    reported: E,
 ) -> Ran<W, E> {
     ran!(
         lines,
-        told,
-        |out, err| dis_command(alloc, file, shared_words, out, err)
+        reported,
+        |out, err| dis_command(alloc, &mut Meter::new(file), shared_words, out, err)
     )
 }
 
@@ -86,7 +86,7 @@ static LISTED: [(&str, &str); 6] = [
     (".zero 64\n", ""),
 ];
 
-/// What is put into the image of `ebreak`, and what is told of it.
+/// What is put into the image of `ebreak`, and what is said of it.
 static REFUSED: [(usize, &[u8], &str); 7] = [
     // e_machine
     (18, &[0x3E], "ultra: I2\n"),
@@ -130,9 +130,9 @@ fn lists_as_many_words_as_code_has(rt: HostRuntime) -> Result<(), Fail> {
 
 #[test]
 fn refuses_an_image(rt: HostRuntime) -> Result<(), Fail> {
-    for (place, bytes, told) in &REFUSED {
+    for (place, bytes, reported) in &REFUSED {
         let image = with_bytes(EBREAK, *place, bytes);
-        run_image(rt.alloc(), &image, 1024).comes_to(2, b"", told)?;
+        run_image(rt.alloc(), &image, 1024).comes_to(2, b"", reported)?;
     }
     Ok(())
 }
@@ -140,11 +140,11 @@ fn refuses_an_image(rt: HostRuntime) -> Result<(), Fail> {
 #[test]
 fn refuses_an_image_that_is_cut_short(rt: HostRuntime) -> Result<(), Fail> {
     for cut in 0..88 {
-        let told = match cut {
+        let reported = match cut {
             0..84 => "ultra: I1\n",
             _ => "ultra: I4\n",
         };
-        run_image(rt.alloc(), &EBREAK[..cut], 1024).comes_to(2, b"", told)?;
+        run_image(rt.alloc(), &EBREAK[..cut], 1024).comes_to(2, b"", reported)?;
     }
     Ok(())
 }
@@ -173,16 +173,20 @@ fn reads_for_so_many_words(rt: HostRuntime) -> Result<(), Fail> {
     run_text(rt.alloc(), text, 1)?.comes_to(2, b"", "ultra: I5\n")
 }
 
-/// The 88 bytes take 88 calls, and the next tells that there are no more.
+/// The 88 bytes take 88 calls, and the next says that there are no more.
 #[test]
 fn reads_the_file_or_tells_it(rt: HostRuntime) -> Result<(), Fail> {
     for fails_at in 0..91 {
         let file = Source::new(&EBREAK, fails_at);
-        let (status, lines, told) = match fails_at {
+        let (status, lines, reported) = match fails_at {
             1..90 => (3, "", "ultra: I9\n"),
             _ => (0, LINES, ""),
         };
-        run(rt.alloc(), file, 1024, Vec::new(rt.alloc())).comes_to(status, lines.as_bytes(), told)?;
+        run(rt.alloc(), file, 1024, Vec::new(rt.alloc())).comes_to(
+            status,
+            lines.as_bytes(),
+            reported,
+        )?;
     }
     Ok(())
 }
@@ -194,18 +198,19 @@ fn tells_that_nothing_can_be_printed(rt: HostRuntime) -> Result<(), Fail> {
     ran.comes_to(3, b"", "ultra: link\n")
 }
 
-/// Where standard error fails too, the exit status alone tells the fault.
+/// Where standard error fails too, the exit status alone says the fault.
 #[test]
 fn tells_by_its_status(rt: HostRuntime) -> Result<(), Fail> {
     run_on(rt.alloc(), &EBREAK[..51], 1024, Vec::new(rt.alloc()), Deaf).comes_to(2, b"", "")
 }
 
-/// Each allocation of this test is to be refused in turn. Then the answer is that of ample memory, or that there is none.
+/// Each allocation of this test is to be refused in turn. Then the answer is that of ample memory, or that there is
+/// none.
 #[test]
 fn is_short_of_memory(rt: HostRuntime) -> Result<(), Fail> {
     let lines = Vec::with_capacity(rt.alloc(), 64)?;
-    let told = Vec::with_capacity(rt.alloc(), 64)?;
-    run_on(rt.alloc(), EBREAK.as_slice(), 1024, lines, told).comes_to_or_lacks_memory(
+    let reported = Vec::with_capacity(rt.alloc(), 64)?;
+    run_on(rt.alloc(), EBREAK.as_slice(), 1024, lines, reported).comes_to_or_lacks_memory(
         0,
         LINES.as_bytes(),
         "",
@@ -215,8 +220,8 @@ fn is_short_of_memory(rt: HostRuntime) -> Result<(), Fail> {
 /// Likewise, of an image that is refused.
 #[test]
 fn refusal_is_short_of_memory(rt: HostRuntime) -> Result<(), Fail> {
-    let told = Vec::with_capacity(rt.alloc(), 64)?;
-    run_on(rt.alloc(), &EBREAK[..87], 1024, Deaf, told).comes_to_or_lacks_memory(
+    let reported = Vec::with_capacity(rt.alloc(), 64)?;
+    run_on(rt.alloc(), &EBREAK[..87], 1024, Deaf, reported).comes_to_or_lacks_memory(
         2,
         b"",
         "ultra: I4\n",

@@ -8,16 +8,16 @@ use std::io::{self, ErrorKind};
 
 /// Opens a buffer, or fails, and counts the openings.
 #[derive(Drop)]
-pub struct Door {
+pub struct LoopbackPort {
     pub alloc: Global,
     pub is_shut: bool,
     pub openings: usize,
 }
 
-impl Door {
+impl LoopbackPort {
     /// A buffer that is not opened yet, or cannot be.
     pub fn new(alloc: Global, is_shut: bool) -> Self {
-        Door {
+        LoopbackPort {
             alloc,
             is_shut,
             openings: 0,
@@ -25,7 +25,7 @@ impl Door {
     }
 }
 
-impl Open for Door {
+impl Open for LoopbackPort {
     type Device = Vec<u8>;
 
     ghost opens = { λ d bytes. bytes.items ≡ [] };

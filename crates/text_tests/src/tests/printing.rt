@@ -2,7 +2,7 @@
 
 ghost use Rattle.std.specs.Prelude.{⊤, None};
 
-use super::door::Door;
+use super::door::LoopbackPort;
 use command_io::{Fault, OnFirstWrite, Open, print, push_bytes, push_status, push_word};
 use flat_machine::{Fault as ProcessorFault, Status};
 use link::{Link, Meter};
@@ -39,7 +39,7 @@ fn statuses(rt: HostRuntime) -> Result<(), Fail> {
 
 #[test]
 fn opens_at_the_first_write(rt: HostRuntime) {
-    let mut writer = OnFirstWrite::new(Door::new(rt.alloc(), false));
+    let mut writer = OnFirstWrite::new(LoopbackPort::new(rt.alloc(), false));
     let is_flushed = writer.flush().is_ok();
     assert_same!(rt; (is_flushed, writer.opener.openings, writer.device.is_none()), (true, 0, true));
     let is_written = writer.write_all(b"a").is_ok() && writer.write_all(b"b").is_ok();
@@ -50,7 +50,7 @@ fn opens_at_the_first_write(rt: HostRuntime) {
 
 #[test]
 fn failed_opening_is_a_failed_write(rt: HostRuntime) {
-    let mut writer = OnFirstWrite::new(Door::new(rt.alloc(), true));
+    let mut writer = OnFirstWrite::new(LoopbackPort::new(rt.alloc(), true));
     let fails = writer.write(b"a").is_err() && writer.write(b"a").is_err();
     assert_same!(rt; (fails, writer.opener.openings, writer.device.is_none()), (true, 2, true));
 }
@@ -114,7 +114,7 @@ fn prints_without_a_flush(rt: HostRuntime) {
 /// No byte opens no device.
 #[test]
 fn prints_on_what_cannot_be_opened(rt: HostRuntime) {
-    let mut shut = Meter::new(OnFirstWrite::new(Door::new(rt.alloc(), true)));
+    let mut shut = Meter::new(OnFirstWrite::new(LoopbackPort::new(rt.alloc(), true)));
     assert!(rt; print(&mut shut, "").is_ok());
     assert!(rt; print(&mut shut, "hello").is_err());
     assert_same!(rt; shut.device.opener.openings, 1);

@@ -44,7 +44,8 @@ fn full_queue(rt: HostRuntime) -> Result<(), Fail> {
     Ok(())
 }
 
-/// The end of a sender that has sent two bytes and holds a third, of which this is the first, and each follows the one before.
+/// The end of a sender that has sent two bytes and holds a third, of which this is the first, and each follows the one
+/// before.
 fn end_of<R: Wait + Abort>(rt: &R, mut sender: Sender, first: u8) -> End
     ensures { end_queue result ≡ sender_queue sender }
 {
@@ -71,8 +72,8 @@ fn ends_of<R: Wait + Abort>(
     Ok(ends)
 }
 
-/// What is left of each sender's bytes is what was not taken. Each allocation of this test is to be refused in turn: then a call tells
-/// that there is no memory.
+/// What is left of each sender's bytes is what was not taken. Each allocation of this test is to be refused in turn:
+/// then a call says that there is no memory.
 #[test]
 fn finish_is_short_of_memory(rt: HostRuntime) -> Result<(), Fail> {
     let alloc = rt.alloc();

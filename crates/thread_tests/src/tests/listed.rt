@@ -1,10 +1,10 @@
-//! Arbiters that name steps by a list: each is asked for once, in that order, whether a thread has its arbiter name one at a time or many
-//! ahead. So it is known how many rounds a run has.
+//! Arbiters that name steps by a list: each is asked for once, in that order, whether a thread has its arbiter name
+//! one at a time or many ahead. So it is known how many rounds a run has.
 
 ghost use Rattle.std.specs.Prelude.{◌≤◌};
 
 use super::rounds::{Seen, run_text};
-use processor_threads::{Gate, Open, RunFault};
+use processor_threads::{Gate, RunFault};
 use schedules::Arbiter;
 use std::alloc::{AllocGlobal, Global};
 use std::process::Abort;
@@ -41,9 +41,10 @@ static WAY: [Step; 7] = [
     Step::Down { stage: 0, wire: 0 },
 ];
 
-/// Names the steps of a list from a place on, and then steps that do nothing.
+/// Names this many steps that do nothing, then the steps of a list from a place on, and then others that do nothing.
 #[derive(Drop)]
 struct ByList {
+    idle: usize,
     place: usize,
 }
 
@@ -51,6 +52,10 @@ impl Arbiter for ByList {
     fn next(&mut self, _k: u8) -> Step
         requires { _k ≤ 6 }
     {
+        if self.idle > 0 {
+            self.idle -= 1;
+            return NOTHING;
+        }
         let step = match WAY.get(self.place) {
             Some(step) => *step,
             None => NOTHING,
@@ -60,69 +65,161 @@ impl Arbiter for ByList {
     }
 }
 
-/// Runs the program with such arbiters. That of processor 0 begins at the beginning, and that of the other behind the end.
+/// Runs the program with such arbiters. That of processor 0 begins at the beginning, and that of the other after the
+/// end.
 fn run_listed<G: Gate + Sync, R: Threads + Wait + Sync>(
     rt: &R,
     alloc: Global,
     gate: &G,
+    idle: usize,
     budget: u32,
 ) -> Result<Seen, Fail> {
     let arbiter = |p: u8| ByList {
+        idle,
         place: usize::from(p) * WAY.len(),
     };
     run_text(rt, alloc, ADDS, 1, arbiter, gate, budget)
 }
 
-/// A gate that counts who passes it, and so lets one pass at a time.
+/// A gate that lets this many rounds pass at once, and sums up what threads call it with.
 #[derive(Drop)]
-struct Counting {
+struct Sums {
+    at_once: usize,
+    /// How often it was passed, and the sums of the processors and of the turns with which it was.
     passed: AtomicU64,
+    processors: AtomicU64,
+    turns: AtomicU64,
+    /// The rounds and the instructions that were reported.
+    rounds: AtomicU64,
+    retired: AtomicU64,
 }
 
-impl Gate for Counting {
-    fn before(&self, _p: u8, _turn: u64) {
-        self.passed.fetch_add(1, Ordering::SeqCst);
+impl Sums {
+    fn new(at_once: usize) -> Self {
+        Sums {
+            at_once,
+            passed: AtomicU64::new(0),
+            processors: AtomicU64::new(0),
+            turns: AtomicU64::new(0),
+            rounds: AtomicU64::new(0),
+            retired: AtomicU64::new(0),
+        }
+    }
+
+    fn all(&self) -> [u64; 5] {
+        [
+            self.passed.load(Ordering::SeqCst),
+            self.processors.load(Ordering::SeqCst),
+            self.turns.load(Ordering::SeqCst),
+            self.rounds.load(Ordering::SeqCst),
+            self.retired.load(Ordering::SeqCst),
+        ]
     }
 }
 
-/// A run with this budget has this fault, and the processors have retired so many.
-fn ends<G: Gate + Sync>(
+impl Gate for Sums {
+    fn before(&self, p: u8, turn: u64) {
+        self.passed.fetch_add(1, Ordering::SeqCst);
+        self.processors.fetch_add(u64::from(p), Ordering::SeqCst);
+        self.turns.fetch_add(turn, Ordering::SeqCst);
+    }
+
+    fn at_once(&self) -> usize {
+        self.at_once
+    }
+
+    fn gone(&self, rounds: u64, retired: u64) {
+        self.rounds.fetch_add(rounds, Ordering::SeqCst);
+        self.retired.fetch_add(retired, Ordering::SeqCst);
+    }
+}
+
+/// How many rounds pass a gate at once, how many steps that do nothing stand before the list, how many rounds count,
+/// and what the gate has summed up.
+///
+/// Processor 0 sends its request in its first round, after what it does alone. With no step before the list the fourth
+/// moves it, the sixth serves it, the seventh moves the reply, the eighth takes it, and in the ninth it halts. The
+/// other halts in its first. Where one round passes at once, each counts. Where many do, six of processor 0 do
+/// something, and of the others the first of each 512 counts: with 507 before the list the move is in the 511th, and
+/// with 508 the 513th finds nothing.
+static RUNS: [(usize, usize, u32, [u64; 5]); 6] = [
+    (1, 0, 9, [10, 1, 36, 10, 12]),
+    (1, 3, 12, [13, 1, 66, 13, 12]),
+    (usize::MAX, 0, 7, [3, 1, 8, 10, 12]),
+    (usize::MAX, 507, 7, [4, 1, 1027, 517, 12]),
+    (usize::MAX, 508, 8, [4, 1, 1028, 518, 12]),
+    (usize::MAX, 1100, 9, [5, 1, 2644, 1110, 12]),
+];
+
+/// A run of this row with this budget has this fault, which is that of processor 0's thread, and the processors have
+/// retired this many; the gate of the run.
+fn ends(
     rt: &(impl Threads + Wait + Abort + Sync + AllocGlobal),
-    gate: &G,
+    (at_once, idle): (usize, usize),
     budget: u32,
     fault: Option<RunFault>,
     retired: [usize; 2],
-) -> Result<(), Fail> {
-    lend(run_listed(rt, rt.alloc(), gate, budget)?, |seen| {
-        assert_same!(rt; seen.fault, fault);
-        assert_same!(rt; seen.retired.as_slice(), retired.as_slice());
+) -> Result<Sums, Fail> {
+    let gate = Sums::new(at_once);
+    lend(run_listed(rt, rt.alloc(), &gate, idle, budget)?, |seen| {
+        assert_same!(rt; seen.fault, fault, (at_once, idle, budget));
+        assert_same!(rt; seen.faults.as_slice(), [fault, None].as_slice(), (at_once, idle, budget));
+        assert_same!(rt; seen.retired.as_slice(), retired.as_slice(), (at_once, idle, budget));
     });
-    Ok(())
+    Ok(gate)
 }
 
-/// Processor 0 sends its request in its first round, behind what it does alone. The fourth moves it, the sixth serves it, the seventh moves
-/// the reply, the eighth takes it, and in the ninth it halts. The other halts in its first.
+/// Each step is used once, so it is known how many rounds there are. As many as count are needed, and what is reported
+/// does not depend on the budget.
 #[test]
 fn each_step_once(rt: HostRuntime) -> Result<(), Fail> {
-    let gate = Counting {
-        passed: AtomicU64::new(0),
-    };
-    ends(&rt, &gate, 9, None, [7, 5])?;
-    assert_same!(rt; gate.passed.load(Ordering::SeqCst), 10);
-    lend(run_listed(&rt, rt.alloc(), &Open, 9)?, |seen| {
-        assert_same!(rt; seen.fault, None);
-        assert_same!(rt; seen.retired.as_slice(), [7, 5].as_slice());
-        assert_same!(rt; seen.logged.machine().word(0), Some(2));
-    });
+    for (at_once, idle, rounds, sums) in RUNS {
+        let row = (at_once, idle);
+        let gate = ends(&rt, row, 1_000_000, None, [7, 5])?;
+        assert_same!(rt; gate.all(), sums, row);
+        ends(&rt, row, rounds, None, [7, 5])?;
+        ends(
+            &rt,
+            row,
+            rounds.saturating_sub(1),
+            Some(RunFault::Budget),
+            [5, 5],
+        )?;
+    }
     Ok(())
 }
 
-/// One round less, and the processor has not halted.
-#[test]
-fn one_round_less(rt: HostRuntime) -> Result<(), Fail> {
-    let gate = Counting {
-        passed: AtomicU64::new(0),
+/// A processor that sends two bytes, and then halts.
+const SENDS_TWO: &str = "addi x17, x0, 1\naddi x10, x0, 65\necall\necall\naddi x17, x0, 0\necall\n";
+
+/// Runs it with an arbiter that names nothing of the list.
+fn run_sending<G: Gate + Sync, R: Threads + Wait + Sync>(
+    rt: &R,
+    alloc: Global,
+    gate: &G,
+    budget: u32,
+) -> Result<Seen, Fail> {
+    let arbiter = |_p: u8| ByList {
+        idle: 0,
+        place: WAY.len(),
     };
-    ends(&rt, &gate, 8, Some(RunFault::Budget), [5, 5])?;
-    ends(&rt, &Open, 8, Some(RunFault::Budget), [5, 5])
+    run_text(rt, alloc, SENDS_TWO, 0, arbiter, gate, budget)
+}
+
+/// Each byte ends a loan, is held, and is sent in a round of its own, in which no gate is passed. With the halt they
+/// are five rounds.
+#[test]
+fn byte_takes_a_round(rt: HostRuntime) -> Result<(), Fail> {
+    let gate = Sums::new(usize::MAX);
+    lend(run_sending(&rt, rt.alloc(), &gate, 5)?, |seen| {
+        assert_same!(rt; seen.fault, None);
+        assert_same!(rt; gate.all(), [3, 0, 3, 5, 5]);
+        for bytes in &seen.consoles {
+            assert_same!(rt; bytes.as_slice(), b"AA".as_slice());
+        }
+    });
+    lend(run_sending(&rt, rt.alloc(), &Sums::new(1), 4)?, |seen| {
+        assert_same!(rt; seen.fault, Some(RunFault::Budget));
+    });
+    Ok(())
 }

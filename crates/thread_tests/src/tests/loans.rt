@@ -1,8 +1,10 @@
-//! Cores on loan: two at once on one thread, one that is lent twice, one that leaves the log no room, and one that is lost.
+//! Cores on loan: two at once on one thread, one that is lent twice, one that leaves the log no room, and one that is
+//! lost.
 
 ghost use Rattle.std.specs.Prelude.{◌≡◌, ◌≤◌, ℕ, Some};
 ghost use Rattle.machine_lock.specs.Passes.{IsWhole};
 
+use super::refusals::{finds_it_full, refuses_to_lend, refuses_unnamed};
 use super::trials::{Trial, attempt};
 use flat_machine::{CODE_START, Status};
 use hart::LocalEnd;
@@ -19,7 +21,8 @@ use test_support::{HUNDRED_ADDS, assert_same, lend, log_of, poke_often, prepared
 const WRITES: &str =
     "addi x17, x0, 1\naddi x10, x0, 65\naddi x6, x0, 300\nloop: ecall\naddi x6, x6, -1\nbne x6, x0, loop\n";
 
-/// Lends the core of a pass for so many instructions, runs it once, and takes it back: how the run ended, and how many it retired.
+/// Lends the core of a pass for this many instructions, runs it once, and takes it back: how the run ended, and how
+/// many it retired.
 fn run_once<N: Run, R: Wait + Abort>(
     rt: &R,
     alloc: Global,
@@ -40,7 +43,7 @@ fn run_once<N: Run, R: Wait + Abort>(
     Ok((end, retired))
 }
 
-/// Whether a turn of the pass's processor is answered so. While its core is lent, the pass is not told.
+/// Whether a turn of the pass's processor is answered so. While its core is lent, the pass is not reported.
 fn turn_is<N: Run, R: Wait>(rt: &R, shared: &Shared<N>, pass: &mut Pass<N>, wanted: Outcome) -> bool
     ensures { (most : ℕ) → pass.old.row.lent ≡ Some most → pass.new ≡ pass.old }
 {
@@ -58,8 +61,8 @@ fn last_place<N: Run>(pass: &Pass<N>) -> Option<u32> {
     }
 }
 
-/// Runs the core of one pass while that of another is away: how the two runs ended, and how many instructions each retired. While it is
-/// away, a turn stalls.
+/// Runs the core of one pass while that of another is away: how the two runs ended, and how many instructions each
+/// retired. While it is away, a turn stalls.
 fn run_both<N: Run, R: Wait + Abort>(
     rt: &R,
     alloc: Global,
@@ -101,8 +104,8 @@ pub(super) fn both_away<N: Run, R: Wait + Abort>(
     })
 }
 
-/// Both cores are away at once, on one thread, so no loan keeps the lock. Each takes the three instructions before its first add,
-/// and the log has six steps then.
+/// Both cores are away at once, on one thread, so no loan keeps the lock. Each takes the three instructions before its
+/// first add, and the log has six steps then.
 #[test]
 fn both_cores_away(rt: HostRuntime) -> Result<(), Fail> {
     let logged = log_of(rt.alloc(), HUNDRED_ADDS, size(1))?;
@@ -125,16 +128,16 @@ pub(super) fn lend_twice<N: Run, R: Wait + Abort>(
     })
 }
 
-/// The first loan ends where it has taken all that it may, and the second with the byte that its first instruction gives. Where a
-/// request for memory is refused (`.ci/checks`), a call tells it.
+/// The first loan ends where it has taken all that it may, and the second with the byte that its first instruction
+/// gives. If a request for memory is refused (`tests/cli/memory.sh`), a call reports it.
 #[test]
 fn one_core_twice_or_short_of_memory(rt: HostRuntime) -> Result<(), Fail> {
     let logged = log_of(rt.alloc(), WRITES, size(0))?;
     attempt(&rt, rt.alloc(), logged, Trial::LentTwice)
 }
 
-/// Lends the core of one pass for three instructions, runs it, and takes it back: how the run ended, and how many it retired. While it is
-/// away, there is no room for a turn of another.
+/// Lends the core of one pass for three instructions, runs it, and takes it back: how the run ended, and how many it
+/// retired. While it is away, no place is left for another step or loan.
 fn run_in_the_last_places<N: Run, R: Wait + Abort>(
     rt: &R,
     alloc: Global,
@@ -146,7 +149,10 @@ fn run_in_the_last_places<N: Run, R: Wait + Abort>(
         Ok(loan) => loan,
         Err(refusal) => return Err(Fail::from(refusal)),
     };
-    assert_same!(rt; shared.turn(rt, other), Err(LockRefusal::Full));
+    finds_it_full(rt, shared, other);
+    refuses_unnamed(rt, shared, other);
+    refuses_to_lend(rt, alloc, shared, other, 1, LockRefusal::Full);
+    assert!(rt; turn_is(rt, shared, one, Outcome::Stalled));
     let end = loan.run_local();
     let retired = loan.retired().len();
     assert!(rt; shared.give_back(rt, one, loan).is_ok());
@@ -164,19 +170,22 @@ pub(super) fn lend_at_the_limit<N: Run, R: Wait + Abort>(
     let one = passes.pop().expect(rt, "a pass");
     lend((shared, one, other), |(shared, one, other)| {
         assert_same!(rt; run_once(rt, alloc, shared, one, 3)?, (LocalEnd::Most, 3));
+        refuses_to_lend(rt, alloc, shared, one, 4, LockRefusal::Full);
         let last = run_in_the_last_places(rt, alloc, shared, one, other)?;
         assert_same!(rt; last, (LocalEnd::Out(65), 1));
+        refuses_to_lend(rt, alloc, shared, one, 3, LockRefusal::Full);
         for place in [4_194_302, 4_194_303] {
             assert!(rt; matches!(shared.turn(rt, other), Ok(Outcome::Retired(_))));
             assert_same!(rt; last_place(other), Some(place));
         }
-        assert_same!(rt; shared.turn(rt, other), Err(LockRefusal::Full));
+        finds_it_full(rt, shared, other);
+        refuses_unnamed(rt, shared, other);
         Ok(())
     })
 }
 
-/// The second loan takes one instruction of the three that it may. So the two places that were promised beyond it are free again: two
-/// turns find room, and a third does not.
+/// The second loan takes one instruction of the three that it may. So the two places that were promised beyond it are
+/// free again: two turns find room, and a third does not. Nothing that was refused has taken a place.
 #[test]
 fn places_are_released(rt: HostRuntime) -> Result<(), Fail> {
     let log = log_of(rt.alloc(), WRITES, size(1))?;
@@ -225,7 +234,8 @@ pub(super) fn lose<N: Run, R: Wait + Abort>(
     Ok(())
 }
 
-/// A core that was lent and does not come back stands in the machine as it was lent: what it did alone has not happened.
+/// A core that was lent and does not come back stands in the machine as it was lent: what it did alone has not
+/// happened.
 #[test]
 fn core_that_is_lost(rt: HostRuntime) -> Result<(), Fail> {
     let logged = log_of(rt.alloc(), HUNDRED_ADDS, size(0))?;

@@ -1,5 +1,5 @@
-//! One thread with the passes of four processors: what each call answers, and what the passes and the log have at the end. The program
-//! and its steps are those by which four adds combine, worked out by hand.
+//! One thread with the passes of four processors: what each call answers, and what the passes and the log have at the
+//! end. The program and its steps are those by which four adds combine, worked out by hand.
 
 ghost use Rattle.std.specs.Prelude.{◌≡◌};
 ghost use Rattle.machine_lock.specs.Passes.{IsWhole};
@@ -16,7 +16,8 @@ use test_support::{
     COMBINED_ADDS, FOUR_ADDENDS, add_pokes, adders_log, assert_same, combined_add, lend, size,
 };
 
-/// The processor whose pass asks for each of the steps: that of a turn, and any of them where a message moves or is served.
+/// The processor whose pass asks for each of the steps: that of a turn, and any of them where a message moves or is
+/// served.
 static ASKERS: [u8; 18] = [0, 1, 2, 3, 3, 2, 1, 0, 0, 1, 2, 3, 0, 1, 0, 1, 2, 3];
 
 /// Asks for a step with a pass.
@@ -89,8 +90,8 @@ fn last_is<N: Run>(rt: &impl Abort, passes: &[Pass<N>], step: Step, outcome: Out
     assert_same!(rt; last, Some(wanted), step);
 }
 
-/// Asks for all steps, and then for a move of a message that stands nowhere. The pokes are nine steps, so the first turn has
-/// place 9, and that by which processor 0 retires place 9 + 14.
+/// Asks for all steps, and then for a move of a message that stands nowhere. The pokes are nine steps, so the first
+/// turn has place 9, and that by which processor 0 retires place 9 + 14.
 fn ask_for_adds<N: Run, R: Wait + Abort>(
     rt: &R,
     shared: &Shared<N>,
@@ -107,7 +108,7 @@ fn ask_for_adds<N: Run, R: Wait + Abort>(
     Ok(())
 }
 
-/// The log has the pokes, and behind them the steps of the adds.
+/// The log has the pokes, and after them the steps of the adds.
 fn assert_entered(rt: &impl Abort, alloc: Global, steps: &[Step]) {
     let (before, behind) = steps.split_at(steps.len().min(9));
     let pokes = add_pokes(alloc, 10, &FOUR_ADDENDS).expect(rt, "memory");
@@ -122,7 +123,10 @@ static ENDS: [(u8, u32, u32); 4] = [(0, 23, 5), (1, 24, 5), (2, 25, 4), (3, 26, 
 fn assert_ended<N: Run>(rt: &impl Abort, passes: &[Pass<N>]) {
     assert_same!(rt; passes.len(), ENDS.len());
     for (pass, end) in passes.iter().zip(ENDS) {
-        let place = pass.notices().first().map_or(0, |notice| notice.place);
+        let place = pass
+            .pass_events()
+            .first()
+            .map_or(0, |pass_event| pass_event.place);
         assert_same!(rt; (pass.processor(), place, pass.steps()), end);
     }
 }

@@ -3,8 +3,8 @@
 ghost use Rattle.std.specs.Prelude.{◌≡◌, ◌^◌, IfOk, vec_len};
 
 use flat_machine::{Event, Status};
-use ghost_map::Room;
-use machine_lock::{Pass, Row, Run};
+use ghost_map::NewTable;
+use machine_lock::{Pass, PassState, Run};
 use machine_log::Logged;
 use processor_threads::{Gate, Open, RunFault, run_threads};
 use schedules::{Arbiter, Shuffled};
@@ -40,6 +40,9 @@ fn arbiters<A: Drop, F: Fn(u8) -> A>(
 pub(super) struct Seen {
     pub(super) logged: Logged,
     pub(super) fault: Option<RunFault>,
+    /// Those of the processors' threads, and of the one that listens.
+    pub(super) faults: Vec<Option<RunFault>>,
+    pub(super) listener: Option<RunFault>,
     pub(super) consoles: Vec<Vec<u8>>,
     /// How many instructions each processor has retired, as its pass has them.
     pub(super) retired: Vec<usize>,
@@ -49,7 +52,7 @@ pub(super) struct Seen {
 fn run<N: Run + Send + Sync, A: Arbiter + Send + Drop, G: Gate + Sync, R: Threads + Wait + Sync>(
     rt: &R,
     limits: (Global, &G, u32),
-    room: Room<Row>,
+    room: NewTable<PassState>,
     logged: Logged,
     arbiters: Vec<A>,
 ) -> Result<Seen, Fail>
@@ -68,6 +71,8 @@ fn run<N: Run + Send + Sync, A: Arbiter + Send + Drop, G: Gate + Sync, R: Thread
     Ok(Seen {
         logged: ended.logged,
         fault: ended.fault,
+        faults: ended.faults,
+        listener: ended.listener,
         consoles: ended.consoles,
         retired,
     })
@@ -75,10 +80,10 @@ fn run<N: Run + Send + Sync, A: Arbiter + Send + Drop, G: Gate + Sync, R: Thread
 
 /// How many instructions a processor has retired, as its pass has them.
 fn retired_by<N: Run>(pass: &Pass<N>) -> usize {
-    let notices = pass.notices();
-    notices
+    let pass_events = pass.pass_events();
+    pass_events
         .iter()
-        .filter(|notice| matches!(notice.event, Event::Retired(_)))
+        .filter(|pass_event| matches!(pass_event.event, Event::Retired(_)))
         .count()
 }
 
@@ -92,13 +97,13 @@ pub(super) fn run_text<
     requires { F.IsAlwaysCallable arbiter }
 {
     let logged = log_of(alloc, text, size(k))?;
-    let room = Room::new(alloc)?;
+    let room = NewTable::new(alloc)?;
     let arbiters = arbiters(alloc, &logged, arbiter)?;
     run::<Brand, A, G, R>(rt, (alloc, gate, budget), room, logged, arbiters)
 }
 
 /// The arbiter of a processor, in a run that begins with 1.
-fn shuffled(p: u8) -> Shuffled {
+pub(super) fn shuffled(p: u8) -> Shuffled {
     Shuffled::new(1, p)
 }
 
@@ -108,6 +113,8 @@ const AMPLE: u32 = 10_000_000;
 /// Each of two processors has retired its 311 instructions, and the word has all adds.
 fn have_added(rt: &impl Abort, seen: &Seen) {
     assert_same!(rt; seen.fault, None);
+    assert_same!(rt; seen.faults.as_slice(), [None, None].as_slice());
+    assert_same!(rt; seen.listener, None);
     assert_same!(rt; seen.retired.as_slice(), [311, 311].as_slice());
     assert_same!(rt; seen.logged.machine().word(0), Some(200));
 }
@@ -162,14 +169,15 @@ fn more_bytes_than_a_queue_holds(rt: HostRuntime) -> Result<(), Fail> {
     Ok(())
 }
 
-/// Holds the first turn of processor 1 back until that of processor 0 is about to be taken, and this one until processor 1 is about to
-/// take its second. So no thread can take all turns, one after another, and none can come to the gate with the lock in its hand.
+/// Holds the first turn of processor 1 back until that of processor 0 is about to be taken, and this one until
+/// processor 1 is about to take its second. So no thread can take all turns, one after another, and none can come to
+/// the gate with the lock in its hand.
 #[derive(Drop)]
 struct Turnstile<'a, C: Clock> {
     clock: &'a C,
     /// Not 0 once processor 0 is about to take its first turn.
     begun: AtomicU64,
-    /// Not 0 once processor 1 is about to take its second turn, with its first behind it.
+    /// Not 0 once processor 1 is about to take its second turn, with its first after it.
     answered: AtomicU64,
     /// Not 0 once a wait was too long.
     gave_up: AtomicU64,
@@ -202,8 +210,8 @@ impl<C: Clock> Gate for Turnstile<'_, C> {
     }
 }
 
-/// Two threads run side by side: neither order in which one thread would run both processors gets through the gate. Both flags are up
-/// behind it, so the gate was told of each turn that it waits for.
+/// Two threads run side by side: neither order in which one thread would run both processors gets through the gate.
+/// Both flags are up after it, so the gate was reported of each turn that it waits for.
 #[test]
 fn side_by_side(rt: HostRuntime) -> Result<(), Fail> {
     let gate = Turnstile {

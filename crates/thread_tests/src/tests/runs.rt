@@ -1,12 +1,12 @@
-//! Runs on threads, from the bytes of files to the bytes of a report. Images are those of texts that are assembled; what is expected is
-//! worked out by hand, and is the same whatever the threads do.
+//! Runs on threads, from the bytes of files to the bytes of a report. Images are those of texts that are assembled;
+//! what is expected is worked out by hand, and is the same for any threads do.
 
 mod ends;
 mod reports;
 
 use flat_machine::Config;
 use link::Meter;
-use processor_threads::Open;
+use processor_threads::{Gate, Open};
 use run_command::threaded_run_command;
 use std::alloc::Global;
 use std::sync::Wait;
@@ -26,10 +26,23 @@ struct Ran {
     trace: Vec<u8>,
 }
 
-/// Runs an image, with a trace.
+/// Runs an image from 1 on, with a trace.
 fn run<R: Threads + Wait + Sync>(
     rt: &R,
     alloc: Global,
+    image: &[u8],
+    config: Config,
+    budget: u32,
+) -> Ran {
+    run_from(rt, alloc, &Open, 1, image, config, budget)
+}
+
+/// Runs an image from this number on, by this gate, with a trace.
+fn run_from<G: Gate + Sync, R: Threads + Wait + Sync>(
+    rt: &R,
+    alloc: Global,
+    gate: &G,
+    start: u32,
     image: &[u8],
     config: Config,
     budget: u32,
@@ -38,7 +51,7 @@ fn run<R: Threads + Wait + Sync>(
     let mut err = Vec::new(alloc);
     let mut trace = Some(Meter::new(Vec::new(alloc)));
     let status = threaded_run_command(
-        rt, alloc, image, config, 1, &Open, budget, &mut trace, &mut out, &mut err,
+        rt, alloc, image, config, start, gate, budget, &mut trace, &mut out, &mut err,
     );
     let trace = match trace {
         Some(trace) => trace.device,

@@ -1,4 +1,5 @@
-//! Arbiters that name a place which the machine has not. The program is that of the other rounds; what is expected is worked out by hand.
+//! Arbiters that name a place which the machine has not. The program is that of the other rounds; what is expected is
+//! worked out by hand.
 
 ghost use Rattle.std.specs.Prelude.{◌≤◌};
 
@@ -21,13 +22,14 @@ impl Arbiter for Stray {
     }
 }
 
-/// No reference gets on: each of two processors retires what stands before its first, sends that, and uses its budget up. Both passes come
-/// back. A drain then brings both references home, with four moves each.
+/// No reference gets on: each of two processors retires what stands before its first, sends that, and uses its budget
+/// up. Both passes come back. A drain then brings both references home, with four moves each.
 #[test]
 fn no_place_of_the_machine(rt: HostRuntime) -> Result<(), Fail> {
     let seen = run_text(&rt, rt.alloc(), HUNDRED_ADDS, 1, |_| Stray, &Open, 1000)?;
     lend(seen, |seen| {
         assert_same!(rt; seen.fault, Some(RunFault::Budget));
+        assert_same!(rt; seen.faults.as_slice(), [Some(RunFault::Budget); 2].as_slice());
         assert_same!(rt; seen.retired.as_slice(), [3, 3].as_slice());
         assert_same!(rt; seen.logged.machine().word(0), Some(0));
         assert_same!(rt; seen.logged.drain(), Ok(8));

@@ -1,4 +1,5 @@
-//! Rounds of one processor with no other thread's step between them: how many there are, and what the last of them answers.
+//! Rounds of one processor with no other thread's step between them: how many there are, and what the last of them
+//! answers.
 
 use super::trials::{Trial, attempt};
 use machine_lock::{Pass, Round, Rounds, Run, Shared};
@@ -13,7 +14,8 @@ use test_support::{assert_same, lend, log_of, size};
 /// A processor that adds to a shared word, and then halts.
 const ADDS: &str = "lui x12, 0x80000\namoadd.w x10, x11, (x12)\naddi x17, x0, 0\necall\n";
 
-/// The way of its request and of the reply, on a machine of two processors, and a service at a module to which no request comes.
+/// The way of its request and of the reply, on a machine of two processors, and a service at a module to which no
+/// request comes.
 static WAY: [Step; 4] = [
     Step::Up { stage: 0, wire: 0 },
     Step::Serve(0),
@@ -22,9 +24,10 @@ static WAY: [Step; 4] = [
 ];
 
 /// Rounds of which the last waits, and its step of the network was answered so.
-const fn waits(gone: usize, net: Result<Outcome, LockRefusal>) -> Rounds {
+const fn waits(gone: usize, idle: usize, net: Result<Outcome, LockRefusal>) -> Rounds {
     Rounds {
         gone,
+        idle,
         answer: Ok(Round {
             turn: Outcome::Stalled,
             net: Some(net),
@@ -32,9 +35,9 @@ const fn waits(gone: usize, net: Result<Outcome, LockRefusal>) -> Rounds {
     }
 }
 
-/// There were so many rounds, and the turn of the last has retired an instruction.
-fn assert_retired(rt: &impl Abort, rounds: &Rounds, gone: usize) {
-    assert_same!(rt; rounds.gone, gone);
+/// There were this many rounds, of which this many found nothing, and the turn of the last has retired an instruction.
+fn assert_retired(rt: &impl Abort, rounds: &Rounds, gone: usize, idle: usize) {
+    assert_same!(rt; (rounds.gone, rounds.idle), (gone, idle));
     assert!(rt;
         matches!(
             rounds.answer,
@@ -59,27 +62,27 @@ pub(super) fn turn_by_turn<N: Run, R: Wait + Abort>(
     passes: Vec<Pass<N>>,
 ) -> Result<(), Fail> {
     lend((shared, first_of(rt, passes)), |(shared, pass)| {
-        assert_retired(rt, &shared.rounds(rt, pass, &WAY), 1);
+        assert_retired(rt, &shared.rounds(rt, pass, &WAY), 1, 0);
         let unnamed = [WAY[0], Step::Serve(2), WAY[1]];
-        let refused = waits(2, Err(LockRefusal::Unnamed));
+        let refused = waits(2, 0, Err(LockRefusal::Unnamed));
         assert_same!(rt; shared.rounds(rt, pass, &unnamed), refused);
-        let served = waits(1, Ok(Outcome::Served { leader: 0 }));
+        let served = waits(1, 0, Ok(Outcome::Served { leader: 0 }));
         assert_same!(rt; shared.rounds(rt, pass, &WAY[1..2]), served);
-        assert_retired(rt, &shared.rounds(rt, pass, &WAY[2..]), 2);
+        assert_retired(rt, &shared.rounds(rt, pass, &WAY[2..]), 2, 0);
         assert_same!(rt; pass.steps(), 6);
         Ok(())
     })
 }
 
-/// An instruction that retires ends them, and so does a step that the machine has not, or that no other is left. Else they go on, from the
-/// turn that begins a reference to that which takes the reply.
+/// An instruction that retires ends them, and so does a step that the machine has not, or that no other is left. Else
+/// they go on, from the turn that begins a reference to that which takes the reply.
 #[test]
 fn until_the_reply_comes(rt: HostRuntime) -> Result<(), Fail> {
     let logged = log_of(rt.alloc(), ADDS, size(1))?;
     attempt(&rt, rt.alloc(), logged, Trial::TurnByTurn)
 }
 
-/// Rounds behind a loan.
+/// Rounds after a loan.
 fn end_a_loan<N: Run, R: Wait + Abort>(
     rt: &R,
     alloc: Global,
@@ -98,7 +101,8 @@ fn end_a_loan<N: Run, R: Wait + Abort>(
     Ok(rounds)
 }
 
-/// The core takes one instruction on loan, and then the processor adds, in four rounds: the turn that takes the reply is in the last.
+/// The core takes one instruction on loan, and then the processor adds, in four rounds: the turn that takes the reply
+/// is in the last.
 pub(super) fn behind_a_loan<N: Run, R: Wait + Abort>(
     rt: &R,
     alloc: Global,
@@ -106,7 +110,7 @@ pub(super) fn behind_a_loan<N: Run, R: Wait + Abort>(
     passes: Vec<Pass<N>>,
 ) -> Result<(), Fail> {
     lend((shared, first_of(rt, passes)), |(shared, pass)| {
-        assert_retired(rt, &end_a_loan(rt, alloc, shared, pass)?, 4);
+        assert_retired(rt, &end_a_loan(rt, alloc, shared, pass)?, 4, 0);
         assert!(rt; !pass.is_lent());
         assert_same!(rt; pass.steps(), 6);
         Ok(())

@@ -4,9 +4,10 @@ ghost use Rattle.std.specs.Prelude.{◌≡◌, ◌^◌};
 
 use super::loans::{both_away, lend_at_the_limit, lend_twice, lose};
 use super::passes::add_by_passes;
+use super::refusals::refuse_without_memory;
 use super::together::{behind_a_loan, turn_by_turn};
-use ghost_map::Room;
-use machine_lock::{Row, Run, Shared};
+use ghost_map::NewTable;
+use machine_lock::{PassState, Run, Shared};
 use machine_log::Logged;
 use std::alloc::Global;
 use std::marker::Brand;
@@ -22,6 +23,7 @@ pub(super) enum Trial {
     LentTwice,
     AtTheLimit,
     Lost,
+    Refused,
     TurnByTurn,
     BehindALoan,
 }
@@ -30,7 +32,7 @@ pub(super) enum Trial {
 fn go<N: Run, R: Wait + Abort>(
     rt: &R,
     alloc: Global,
-    room: Room<Row>,
+    room: NewTable<PassState>,
     logged: Logged,
     trial: Trial,
 ) -> Result<(), Fail>
@@ -49,6 +51,7 @@ fn go<N: Run, R: Wait + Abort>(
         Trial::LentTwice => lend_twice(rt, alloc, shared, passes),
         Trial::AtTheLimit => lend_at_the_limit(rt, alloc, shared, passes),
         Trial::Lost => lose(rt, alloc, shared, passes),
+        Trial::Refused => refuse_without_memory(rt, alloc, shared, passes),
         Trial::TurnByTurn => turn_by_turn(rt, shared, passes),
         Trial::BehindALoan => behind_a_loan(rt, alloc, shared, passes),
     }
@@ -61,7 +64,7 @@ pub(super) fn attempt<R: Wait + Abort>(
     logged: Logged,
     trial: Trial,
 ) -> Result<(), Fail> {
-    match Room::new(alloc) {
+    match NewTable::new(alloc) {
         Ok(room) => go::<Brand, R>(rt, alloc, room, logged, trial),
         Err(error) => Err(Fail::from(error)),
     }

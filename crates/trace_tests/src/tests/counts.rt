@@ -1,6 +1,6 @@
 //! Counts of small traces, by hand, and of a hot spot.
 
-use super::{Told, run};
+use super::{Asked, run};
 use flat_machine::Config;
 use link::Meter;
 use run_command::run_command;
@@ -25,10 +25,11 @@ processor 2 turns 2 retired 1
 processor 3 turns 2 retired 1
 ";
 
-/// The whole trace; and cut behind the service, so that a drain brings all home. Of the first stage's four requests two move in the
-/// first round, and two that stand on smaller wires than the last in the second; in the third both requests of the second stage move,
-/// the module serves, and the reply goes down; in the fourth both replies do, and in the fifth all retire. A drain takes a turn as soon as
-/// a reply has come: so it needs one round for the first of the two replies, and two more for the turns that the second is between.
+/// The whole trace; and cut after the service, so that a drain brings all home. Of the first stage's four requests two
+/// move in the first round, and two that stand on smaller wires than the last in the second; in the third both
+/// requests of the second stage move, the module serves, and the reply goes down; in the fourth both replies do, and
+/// in the fifth all retire. A drain takes a turn as soon as a reply has come: so it needs one round for the first of
+/// the two replies, and two more for the turns that the second is between.
 #[test]
 fn four_adds(rt: HostRuntime) -> Result<(), Fail> {
     let alloc = rt.alloc();
@@ -37,7 +38,7 @@ fn four_adds(rt: HostRuntime) -> Result<(), Fail> {
         let trace = trace_of(alloc, (2, 4, 4), &FOUR_ADDS[..steps])?;
         let ran = run(
             alloc,
-            Told::Stats,
+            Asked::Stats,
             trace.as_slice(),
             Ok(image.as_slice()),
             1,
@@ -94,10 +95,11 @@ fn hot_spot(alloc: Global, image: &[u8], b: u8) -> Result<Vec<u8>, Fail> {
     }
 }
 
-/// All eight processors meet at one word 200 times. Without combining each reference takes three moves there, a service and three moves
-/// back. With combining half of the requests that come to a stage go on from there, one of eight comes to the module, and its reply is
-/// split again at each stage. A processor retires 605 instructions, of which 200 take two turns, and halts in one turn more. The longest
-/// queues and the rounds are those of a simulator of the sweep that was written for this test alone.
+/// All eight processors meet at one word 200 times. Without combining each reference takes three moves there, a
+/// service and three moves back. With combining half of the requests that come to a stage go on from there, one of
+/// eight comes to the module, and its reply is split again at each stage. A processor retires 605 instructions, of
+/// which 200 take two turns, and halts in one turn more. The longest queues and the rounds are those of a simulator of
+/// the sweep that was written for this test alone.
 #[test]
 fn all_meet_at_one_word(rt: HostRuntime) -> Result<(), Fail> {
     let alloc = rt.alloc();
@@ -127,7 +129,7 @@ module 1 serves 0
         let trace = hot_spot(alloc, image.as_slice(), b)?;
         let ran = run(
             alloc,
-            Told::Stats,
+            Asked::Stats,
             trace.as_slice(),
             Ok(image.as_slice()),
             1024,

@@ -26,8 +26,8 @@ fn run(alloc: Global, word: Option<&str>) -> Ran {
     }
 }
 
-/// What is to be explained, in the order of the list: all that commands and libraries tell, the faults of a processor, the
-/// errors of the debugger, the pages.
+/// What is to be explained, in the order of the list: all that commands and libraries say, the faults of a processor,
+/// the errors of the debugger, the pages.
 static NAMES: [&str; 50] = [
     "V1",
     "A1",
@@ -172,8 +172,8 @@ fn refuses_an_unknown_word(rt: HostRuntime) -> Result<(), Fail> {
     ] {
         assert!(rt; all_topics().named(word).is_none(), "{word}");
         let ran = run(rt.alloc(), Some(word));
-        let told = refusal_of(rt.alloc(), word)?;
-        assert_same!(rt; ran.err.as_slice(), told.as_bytes());
+        let asked = refusal_of(rt.alloc(), word)?;
+        assert_same!(rt; ran.err.as_slice(), asked.as_bytes());
         assert_same!(rt; ran.out.len(), 0, word);
         assert_same!(rt; ran.status, 2, word);
     }
@@ -200,7 +200,8 @@ fn tells_that_it_cannot_print(rt: HostRuntime) {
     assert!(rt; !out.failed());
 }
 
-/// Each allocation of this test is to be refused in turn. Then the answer is that of ample memory, or that there is none.
+/// Each allocation of this test is to be refused in turn. Then the answer is that of ample memory, or that there is
+/// none.
 #[test]
 fn is_short_of_memory(rt: HostRuntime) -> Result<(), Fail> {
     let alloc = rt.alloc();

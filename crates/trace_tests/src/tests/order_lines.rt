@@ -20,7 +20,7 @@ fn add() -> Insn {
     }
 }
 
-/// A load to `x1`, from so far behind what `x5` has.
+/// A load to `x1`, from so far after what `x5` has.
 fn load(op: LoadOp, imm: Immediate<12>) -> Insn {
     Insn::Load {
         op,

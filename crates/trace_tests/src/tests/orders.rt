@@ -1,6 +1,6 @@
 //! Orders of small traces, an entry at a time.
 
-use super::{ALL, Told, run};
+use super::{ALL, Asked, run};
 use flat_machine::Config;
 use link::Meter;
 use run_command::run_command;
@@ -17,8 +17,8 @@ const ONE_ADD: &str = "
 ";
 
 /// `x7` of processor 0 is made 5, that of processor 1 is made 7, and shared word 0 is made 0x100. Processor 0 sends its
-/// request first. That of processor 1 is moved first, so that of processor 0 is combined into it: processor 1 leads, and
-/// finds what was there. It takes its reply and halts. Processor 0 takes its own in the drain.
+/// request first. That of processor 1 is moved first, so that of processor 0 is combined into it: processor 1 leads,
+/// and finds what was there. It takes its reply and halts. Processor 0 takes its own in the drain.
 static COMBINED: [[u8; 12]; 13] = [
     [5, 0, 7, 0, 0, 0, 0, 0, 5, 0, 0, 0],
     [5, 1, 7, 0, 0, 0, 0, 0, 7, 0, 0, 0],
@@ -64,7 +64,6 @@ fn two_adds_combine(rt: HostRuntime) -> Result<(), Fail> {
         (None, None, [0, 1, 2, 3, 4, 5, 6, 7].as_slice()),
         (Some(0), None, [0, 3, 6].as_slice()),
         (Some(1), None, [1, 4, 5, 7].as_slice()),
-        (Some(2), None, [].as_slice()),
         (None, Some(0), [2, 5, 6].as_slice()),
         (None, Some(1), [].as_slice()),
         (Some(0), Some(0), [6].as_slice()),
@@ -79,10 +78,10 @@ fn two_adds_combine(rt: HostRuntime) -> Result<(), Fail> {
         let choice = Choice { processor, word };
         let ran = run(
             alloc,
-            Told::Order(choice),
+            Asked::Order(choice),
             trace.as_slice(),
             Ok(image.as_slice()),
-            1,
+            2,
         );
         assert_same!(rt; ran.out.as_slice(), lines.as_bytes(), choice);
         assert_same!(rt; ran.err.len(), 0, choice);
@@ -91,7 +90,62 @@ fn two_adds_combine(rt: HostRuntime) -> Result<(), Fail> {
     Ok(())
 }
 
-/// Cut behind the two requests: in the drain that of processor 0 goes up and is served, before that of processor 1
+/// Numbers that a machine of two processors and 1,024 shared words has not, and what is said of them: of two, the
+/// processor's.
+static UNKNOWN: [(Option<u8>, Option<u32>, &str); 4] = [
+    (
+        Some(2),
+        None,
+        "error: invalid value '2' for '--processor <NUMBER>': 2 is not in 0..=1, the machine's processors\n",
+    ),
+    (
+        None,
+        Some(1024),
+        "error: invalid value '1024' for '--word <NUMBER>': 1024 is not in 0..=1023, the machine's shared words (--words)\n",
+    ),
+    (
+        Some(1),
+        Some(2048),
+        "error: invalid value '2048' for '--word <NUMBER>': 2048 is not in 0..=1023, the machine's shared words (--words)\n",
+    ),
+    (
+        Some(63),
+        Some(2048),
+        "error: invalid value '63' for '--processor <NUMBER>': 63 is not in 0..=1, the machine's processors\n",
+    ),
+];
+
+/// What is wrong with the trace is reported before that, and what is wrong with the image after it.
+#[test]
+fn refuses_what_the_machine_has_not(rt: HostRuntime) -> Result<(), Fail> {
+    let alloc = rt.alloc();
+    let trace = trace_of(alloc, (1, 2, 1), &COMBINED)?;
+    for (processor, word, asked) in UNKNOWN {
+        let choice = Asked::Order(Choice { processor, word });
+        let ran = run(alloc, choice, trace.as_slice(), Ok(b"".as_slice()), 1024);
+        assert_same!(rt; ran.err.as_slice(), asked.as_bytes(), choice);
+        assert_same!(rt; ran.out.len(), 0, choice);
+        assert_same!(rt; ran.status, 2, choice);
+        let ran = run(alloc, choice, b"".as_slice(), Ok(b"".as_slice()), 1024);
+        assert_same!(rt; ran.err.as_slice(), b"ultra: X1\n".as_slice(), choice);
+    }
+    let last = Asked::Order(Choice {
+        processor: Some(1),
+        word: Some(1023),
+    });
+    let ran = run(
+        alloc,
+        last,
+        trace.as_slice(),
+        Ok(image_of(alloc, ONE_ADD)?.as_slice()),
+        1024,
+    );
+    assert_same!(rt; ran.status, 0);
+    assert_same!(rt; ran.err.len(), 0);
+    Ok(())
+}
+
+/// Cut after the two requests: in the drain that of processor 0 goes up and is served, before that of processor 1
 /// does.
 #[test]
 fn served_in_the_drain(rt: HostRuntime) -> Result<(), Fail> {
@@ -104,7 +158,7 @@ fn served_in_the_drain(rt: HostRuntime) -> Result<(), Fail> {
     };
     let ran = run(
         alloc,
-        Told::Order(on_the_word),
+        Asked::Order(on_the_word),
         trace.as_slice(),
         Ok(image.as_slice()),
         1,
@@ -154,7 +208,7 @@ on: ebreak
     let trace = trace_of(alloc, (0, 2, 1), records.as_slice())?;
     let ran = run(
         alloc,
-        Told::Order(ALL),
+        Asked::Order(ALL),
         trace.as_slice(),
         Ok(image.as_slice()),
         1024,
@@ -185,7 +239,7 @@ fn no_steps(rt: HostRuntime) -> Result<(), Fail> {
     let trace = trace_of(alloc, (6, 2, 1), &[])?;
     let ran = run(
         alloc,
-        Told::Order(ALL),
+        Asked::Order(ALL),
         trace.as_slice(),
         Ok(image.as_slice()),
         1,
@@ -193,13 +247,13 @@ fn no_steps(rt: HostRuntime) -> Result<(), Fail> {
     assert_same!(rt; ran.out.len(), 0);
     assert_same!(rt; ran.err.len(), 0);
     assert_same!(rt; ran.status, 0);
-    let ran = run(alloc, Told::Order(ALL), &ONE_TURN, Ok(image.as_slice()), 1);
+    let ran = run(alloc, Asked::Order(ALL), &ONE_TURN, Ok(image.as_slice()), 1);
     assert_same!(rt; ran.out.as_slice(), b"0 0 00010000 fault 8\n".as_slice());
     assert_same!(rt; ran.status, 1);
     Ok(())
 }
 
-/// However the requests of 64 processors combine, each of the 6,400 adds finds what the one before it left; and behind
+/// However the requests of 64 processors combine, each of the 6,400 adds finds what the one before it left; and after
 /// them each processor loads the word.
 #[test]
 fn each_add_goes_on_from_the_last(rt: HostRuntime) -> Result<(), Fail> {
@@ -232,7 +286,7 @@ fn each_add_goes_on_from_the_last(rt: HostRuntime) -> Result<(), Fail> {
     };
     let ran = run(
         alloc,
-        Told::Order(on_the_word),
+        Asked::Order(on_the_word),
         trace.device.as_slice(),
         Ok(image.as_slice()),
         1024,

@@ -1,14 +1,15 @@
-//! Pictures of small traces: which messages stand where is worked out by hand from the wires of the network, and what is told
-//! where there is no picture.
+//! Pictures of small traces: which messages stand where is worked out by hand from the wires of the network, and what
+//! is reported where there is no picture.
 
 mod ends;
 mod travelling;
 
 use super::same;
 use link::Meter;
+use machine_picture::Svg;
 use std::alloc::Global;
 use std::io;
-use trace_commands::{Picture, account_command};
+use trace_commands::{Picture, trace_command};
 
 /// What the command comes to.
 #[derive(Drop)]
@@ -18,7 +19,7 @@ struct Ran {
     err: Vec<u8>,
 }
 
-/// The picture of a trace on an image, with so many shared words, behind so many steps.
+/// The picture of a trace on an image, with this many shared words, after this many steps.
 fn run(
     alloc: Global,
     trace: &[u8],
@@ -28,8 +29,8 @@ fn run(
 ) -> Ran {
     let mut out = Meter::new(Vec::new(alloc));
     let mut err = Vec::new(alloc);
-    let picture = Picture { step };
-    let status = account_command(
+    let picture = Picture { step, drawing: Svg };
+    let status = trace_command(
         alloc,
         trace,
         file,

@@ -1,6 +1,6 @@
 //! Stories of small traces, step by step.
 
-use super::{Told, run};
+use super::{Asked, run};
 use std::test::Fail;
 use test_support::{ADD_AT_X12, FOUR_ADDS, assert_same, image_of, trace_of};
 
@@ -27,7 +27,7 @@ const GOING_UP: &str = "0 poke 0 x11 00000001: writes
 19 serve 0: serves 4: 0 2 1 3
 ";
 
-/// Behind it the trace answers all, and then takes all turns.
+/// After it the trace answers all, and then takes all turns.
 const BY_THE_TRACE: &str = "20 down 1 0: answers 1 at stage 1
 21 down 0 0: answers 2 at stage 0
 22 down 0 2: answers 3 at stage 0
@@ -47,7 +47,7 @@ const BY_A_DRAIN: &str = "20 down 1 0: answers 1 at stage 1
 26 turn 3: retires amoadd.w x10, x11, (x12) = 00000011
 ";
 
-/// The whole trace; and cut behind the service, so that a drain brings all home.
+/// The whole trace; and cut after the service, so that a drain brings all home.
 #[test]
 fn four_adds(rt: HostRuntime) -> Result<(), Fail> {
     let alloc = rt.alloc();
@@ -56,7 +56,7 @@ fn four_adds(rt: HostRuntime) -> Result<(), Fail> {
         let trace = trace_of(alloc, (2, 4, 4), &FOUR_ADDS[..steps])?;
         let ran = run(
             alloc,
-            Told::Story,
+            Asked::Story,
             trace.as_slice(),
             Ok(image.as_slice()),
             1,
@@ -86,7 +86,7 @@ fn console_and_fault(rt: HostRuntime) -> Result<(), Fail> {
     let trace = trace_of(alloc, (0, 4, 4), &[turn, turn, turn, turn])?;
     let ran = run(
         alloc,
-        Told::Story,
+        Asked::Story,
         trace.as_slice(),
         Ok(image.as_slice()),
         1024,

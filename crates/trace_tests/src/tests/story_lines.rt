@@ -58,7 +58,7 @@ fn adds_that_meet(rt: HostRuntime) -> Result<(), Fail> {
     for (number, (step, outcome, expected)) in MEETING.iter().enumerate() {
         let mut line = String::new(alloc);
         push_line(alloc, &mut line, &groups, number, step, outcome)?;
-        groups.note(alloc, step, outcome)?;
+        groups.observe(alloc, step, outcome)?;
         assert_same!(rt; line.as_str(), *expected);
     }
     Ok(())

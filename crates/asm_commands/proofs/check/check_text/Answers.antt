@@ -5,8 +5,8 @@ use Rattle.link.specs.Transfer.{AppendsPart}
 use Rattle.asm_commands.specs.Checking.{status_of}
 use Rattle.asm_commands.proofs.check.check_text.Goals as goal
 
-pub returns-in_err-print-clause-told : goal.returns-in_err-print-clause-told
-returns-in_err-print-clause-told g c =
+pub returns-in_err-print-clause-fault : goal.returns-in_err-print-clause-fault
+returns-in_err-print-clause-fault g c =
     let p = err_from_is_err_and c.from_residual-in_err-print.result c.from_residual-in_err-print.ensures.1 in
     let f = c.in_err-print.ensures.begun in
     rw (p.1, p.2, f.0)
@@ -14,7 +14,7 @@ returns-in_err-print-clause-told g c =
       text = string_bytes c.in_ok-list.list;
       meant = record {
         status = status_of c.in_ok-faults.faults.items;
-        check = record { faults = c.in_ok-faults.faults.items; all = search rules; list = search rules; told = refl };
+        check = record { faults = c.in_ok-faults.faults.items; all = search rules; list = search rules; fact = refl };
       };
       part = subst (λ bytes. AppendsPart (g.W.Write.contents c.args.out.now) (g.W.Write.contents c.print.new.out) bytes) c.as_str.ensures.value f.1;
     })

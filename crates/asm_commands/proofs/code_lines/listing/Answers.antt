@@ -1,4 +1,4 @@
-use Rattle.std.proofs.Common.{◌≡◌, ◌∙◌, ◌≤◌, ap, sym, arith}
+use Rattle.std.proofs.Common.{◌≡◌, ◌∙◌, ap, arith}
 use Rattle.asm_commands.specs.CodeLines.{lines_of}
 use Rattle.asm_commands.proofs.code_lines.listing.Goals as goal
 

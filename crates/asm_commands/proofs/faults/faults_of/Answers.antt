@@ -1,4 +1,4 @@
-use Rattle.std.proofs.Common.{arith, Bor, List, [], ℕ, rules}
+use Rattle.std.proofs.Common.{arith, Bor, List, [], ℕ}
 use Rattle.line_faults.specs.Places.{label_values}
 use Rattle.asm_commands.proofs.Found.{found_more, found_all}
 use Rattle.asm_commands.proofs.faults.faults_of.Goals as goal

@@ -1,4 +1,4 @@
-use Rattle.std.proofs.Common.{arith, refl, ◌≡◌, ◌+◌, ◌-◌}
+use Rattle.std.proofs.Common.{arith, ◌≡◌, ◌+◌, ◌-◌}
 use Rattle.assembler.specs.Meaning.{lines_of, pieces_of}
 use Rattle.asm_commands.proofs.Present.{present_listed, listed_present}
 use Rattle.asm_commands.proofs.laws.listed_where_present.Goals as goal

@@ -1,7 +1,7 @@
 use Rattle.std.proofs.Common.{◌≡◌, ◌++◌, take}
 use Rattle.std.specs.Prelude.{string_bytes}
 use Rattle.std.specs.List.{flat_map}
-use Rattle.asm_commands.specs.Lines.{shown_byte}
+use Rattle.asm_commands.specs.Words.{shown_byte}
 use Rattle.asm_commands.proofs.words.push_shown.Given as goal
 
 abbrev pub invariant-loop-byte : goal.invariant-loop-byte

@@ -1,10 +1,10 @@
-//! Lines of sizes that cannot be printed or told; and each allocation of a test is to be refused in turn. The checks of the
-//! program fail each read and write of the command in turn.
+//! Lines of sizes that cannot be printed or reported; and each allocation of a test is to be refused in turn. The
+//! checks of the program fail each read and write of the command in turn.
 
 ghost use Rattle.std.specs.Prelude.{◌≡◌, false};
 
 use super::{config_of, each};
-use explore_command::{Unwatched, explore_command, explore_every_size};
+use explore_command::{NoProgress, explore_command, explore_every_size};
 use link::{LinkWrite, Meter};
 use std::alloc::Global;
 use std::io::{Read, Write};
@@ -34,7 +34,7 @@ fn explored<R: Read + Drop, W: LinkWrite, E: Write>(
         config_of(0),
         each(10),
         &mut trace,
-        &mut Unwatched,
+        &mut NoProgress,
         out,
         err,
     )
@@ -75,18 +75,18 @@ fn explored_sizes<R: Read + Drop, W: LinkWrite, E: Write>(
         file,
         config_of(0),
         each(limit),
-        &mut Unwatched,
+        &mut NoProgress,
         out,
         err,
     )
 }
 
-/// Of each size before, and of the one whose line fails, is told why it is not explored; and then that the line has
+/// Of each size before, and of the one whose line fails, it is said why it is not explored; and then that the line has
 /// failed.
 #[test]
 fn refused_sizes_that_cannot_be_printed(rt: HostRuntime) {
     let alloc = rt.alloc();
-    for (fails_at, told, status) in [
+    for (fails_at, reported, status) in [
         (20, b"ultra: states\nultra: link\n".as_slice(), 3),
         (
             60,
@@ -98,12 +98,12 @@ fn refused_sizes_that_cannot_be_printed(rt: HostRuntime) {
         let mut err = Sink::new(Vec::new(alloc), 0);
         let found = explored_sizes(alloc, EBREAK.as_slice(), 1, &mut out, &mut err);
         assert_same!(rt; Some(out.device.bytes.as_slice()), NONE_EXPLORED.get(..fails_at - 1));
-        assert_same!(rt; err.bytes.as_slice(), told);
+        assert_same!(rt; err.bytes.as_slice(), reported);
         assert_same!(rt; found, status);
     }
 }
 
-/// Where nothing can be told of a size, its line and the exit status are the same.
+/// Where nothing can be reported of a size, its line and the exit status are the same.
 #[test]
 fn sizes_that_cannot_be_told(rt: HostRuntime) {
     let alloc = rt.alloc();
@@ -131,8 +131,8 @@ fn short_of_memory(rt: HostRuntime) -> Result<(), Fail> {
     Ok(())
 }
 
-/// The size that lacks memory is not explored, and its line tells it; or there is none for a line, and those before are
-/// there.
+/// The size that lacks memory is not explored, and its line reports it; or there is none for a line, and those before
+/// are there.
 #[test]
 fn every_size_is_short_of_memory(rt: HostRuntime) -> Result<(), Fail> {
     let alloc = rt.alloc();
@@ -166,10 +166,11 @@ fn lacks_a_size(lines: &str) -> bool {
     wanted.next().is_none() && lacking == 1
 }
 
-/// Whether the line tells of the same size as the other that there was no memory for it.
+/// Whether the line says of the same size as the other that there was no memory for it.
 fn is_lacking(line: &str, all: &str) -> bool {
     match (line.split_once(", "), all.split_once(", ")) {
-        (Some((size, told)), Some((same, _))) => size == same && told == "not explored: memory",
+        (Some((size, reported)), Some((same, _))) => size == same
+            && reported == "not explored: memory",
         _ => false,
     }
 }

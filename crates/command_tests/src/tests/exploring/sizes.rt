@@ -67,7 +67,7 @@ k 5: 32 processors, 1 result, 33 states, every schedule ends, fault 8
 k 6: 64 processors, 1 result, 65 states, every schedule ends, fault 8
 ";
 
-/// That the states are too many is told behind the fault.
+/// That the states are too many is reported after the fault.
 const DRAWS_UP_TO_10: &str = "\
 k 0: 1 processor, 1 result, 2 states, every schedule ends, halt 00
 k 1: 2 processors, 1 result, 3 states, every schedule ends, halt 01
@@ -91,7 +91,7 @@ wait: lw x2, 0(x1)
 ";
 
 /// One alone is stuck from its load on. Of two that is so from when both have loaded: up to exchanges one of them has
-/// stored then, or both; the other states are those before, and those behind a load of what the other has stored.
+/// stored then, or both; the other states are those before, and those after a load of what the other has stored.
 const NEEDS: &str = "\
 k 0: 1 processor, 0 results, 3 states, from 3 states no end can be reached, -
 k 1: 2 processors, 1 result, 10 states, from 3 states no end can be reached, halt 00
@@ -117,7 +117,7 @@ wait: lw x2, 0(x1)
  ecall
 ";
 
-/// Behind the write 0 to n - 1 of the others have stopped, and processor 0 has or has not.
+/// After the write 0 to n - 1 of the others have stopped, and processor 0 has or has not.
 const LED: &str = "\
 k 0: 1 processor, 1 result, 3 states, every schedule ends, halt ff
 k 1: 2 processors, 1 result, 5 states, some schedule never ends; an end can always be reached, halt ff
@@ -128,10 +128,10 @@ k 5: 32 processors, 1 result, 65 states, some schedule never ends; an end can al
 k 6: 64 processors, 1 result, 129 states, some schedule never ends; an end can always be reached, halt ff
 ";
 
-/// A loop that needs no shared word.
-const SPIN: &str = "spin: jal x0, spin";
+/// Counts for ever, and so never stands as it did.
+const COUNT: &str = "loop: addi x3, x3, 1\njal x0, loop";
 
-const SPINS: &str = "\
+const COUNTS: &str = "\
 k 0: 1 processor, not explored: alone
 k 1: 2 processors, not explored: alone
 k 2: 4 processors, not explored: alone
@@ -141,7 +141,20 @@ k 5: 32 processors, not explored: alone
 k 6: 64 processors, not explored: alone
 ";
 
-/// The fault of each size that is not explored is told too. What a size has for `k` is of no account.
+/// Each adds 1 to the first word, and spins. Once one does, it is no matter what the others do.
+const DONE: &str = "lui x1, 0x80000\naddi x4, x0, 1\namoadd.w x5, x4, (x1)\ndone: jal x0, done";
+
+const NEVER_DONE: &str = "\
+k 0: 1 processor, 0 results, 2 states, from 2 states no end can be reached, -
+k 1: 2 processors, 0 results, 2 states, from 2 states no end can be reached, -
+k 2: 4 processors, 0 results, 2 states, from 2 states no end can be reached, -
+k 3: 8 processors, 0 results, 2 states, from 2 states no end can be reached, -
+k 4: 16 processors, 0 results, 2 states, from 2 states no end can be reached, -
+k 5: 32 processors, 0 results, 2 states, from 2 states no end can be reached, -
+k 6: 64 processors, 0 results, 2 states, from 2 states no end can be reached, -
+";
+
+/// The fault of each size that is not explored is reported too. What a size has for `k` is of no account.
 #[test]
 fn sizes_are_printed(rt: HostRuntime) -> Result<(), Fail> {
     let alloc = rt.alloc();
@@ -160,19 +173,20 @@ fn sizes_are_printed(rt: HostRuntime) -> Result<(), Fail> {
         ),
         (NEEDED, 0, up_to_exchanges(11), NEEDS, ("states", 5), 4),
         (LEADER, 0, up_to_exchanges(130), LED, ("", 0), 0),
-        (SPIN, 0, up_to_exchanges(10), SPINS, ("alone", 7), 4),
+        (COUNT, 0, up_to_exchanges(10), COUNTS, ("alone", 7), 4),
+        (DONE, 0, up_to_exchanges(10), NEVER_DONE, ("", 0), 1),
     ] {
         let image = image_of(alloc, text)?;
         let ran = explore_sizes(alloc, image.as_slice(), config_of(k), asked);
         assert_same!(rt; str::from_utf8(ran.out.as_slice())?, out);
-        assert_same!(rt; str::from_utf8(ran.err.as_slice())?, told(alloc, fault, times)?.as_str());
+        assert_same!(rt; str::from_utf8(ran.err.as_slice())?, reported(alloc, fault, times)?.as_str());
         assert_same!(rt; ran.status, status);
     }
     Ok(())
 }
 
-/// What is told of a fault so many times.
-fn told(alloc: Global, fault: &str, times: u8) -> Result<String, AllocError> {
+/// What is said of a fault this many times.
+fn reported(alloc: Global, fault: &str, times: u8) -> Result<String, AllocError> {
     let mut text = String::new(alloc);
     for _ in 0..times {
         writeln!(text, "ultra: {fault}")?;
@@ -192,7 +206,7 @@ fn sizes_that_are_refused(rt: HostRuntime) -> Result<(), Fail> {
     let ran = explore_sizes(alloc, image.as_slice(), config, each(100));
     let wanted = "k 0: 1 processor, not explored: K1\nk 1: 2 processors, not explored: K1\n";
     assert_same!(rt; str::from_utf8(ran.out.as_slice())?.get(..wanted.len()), Some(wanted));
-    assert_same!(rt; str::from_utf8(ran.err.as_slice())?, told(alloc, "K1", 7)?.as_str());
+    assert_same!(rt; str::from_utf8(ran.err.as_slice())?, reported(alloc, "K1", 7)?.as_str());
     assert_same!(rt; ran.status, 2);
     Ok(())
 }

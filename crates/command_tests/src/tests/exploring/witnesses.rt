@@ -1,7 +1,7 @@
 //! Witnesses: the trace of each result replays to it, and none is written where there is none.
 
 use super::{config_of, each, up_to_exchanges};
-use explore_command::{Asked, Unwatched, explore_command};
+use explore_command::{Asked, NoProgress, explore_command};
 use link::Meter;
 use std::alloc::Global;
 use std::test::Fail;
@@ -10,6 +10,14 @@ use trace_commands::replay_command;
 
 /// Each adds 1 by a load and a store.
 const LOST: &str = "lui x1, 0x80000\nlw x2, 0(x1)\naddi x2, x2, 1\nsw x2, 0(x1)\necall";
+
+/// Processor 0 writes 1, and then 0 again. Processor 1 looks once, and spins if it sees the 1.
+const GLIMPSE: &str =
+    "addi a7, x0, 2\necall\nlui x1, 0x80000\nbne a0, x0, look\naddi x4, x0, 1\nsw x4, 0(x1)\nsw x0, 0(x1)\n\
+    jal x0, done\nlook: lw x2, 0(x1)\nspin: bne x2, x0, spin\ndone: addi a7, x0, 0\naddi a0, x0, 0\necall";
+
+/// Goes to itself.
+const SPIN: &str = "spin: jal x0, spin";
 
 /// What a search for a witness leaves.
 #[derive(Drop)]
@@ -33,7 +41,7 @@ fn explored(alloc: Global, file: &[u8], k: u8, search: Asked, witness: u32) -> R
         config_of(k),
         asked,
         &mut trace,
-        &mut Unwatched,
+        &mut NoProgress,
         &mut out,
         &mut err,
     );
@@ -89,6 +97,34 @@ fn results_are_come_to(rt: HostRuntime) -> Result<(), Fail> {
             assert_same!(rt; ran.out.len(), 0);
             assert_same!(rt; ran.trace.len(), 0);
             assert_same!(rt; ran.err.as_slice(), said.as_bytes());
+        }
+    }
+    Ok(())
+}
+
+/// A processor that spins is a state from which no end can be reached. The steps end where it has looked, and begins to
+/// spin; where it spins from the first on, there are none.
+#[test]
+fn spinning_is_come_to(rt: HostRuntime) -> Result<(), Fail> {
+    let alloc = rt.alloc();
+    for (text, report) in [
+        (
+            GLIMPSE,
+            "processor 0 pc 00010018 run retired 6 console -\n\
+            processor 1 pc 00010024 run retired 5 console -\nword 0 00000001\n",
+        ),
+        (
+            SPIN,
+            "processor 0 pc 00010000 run retired 0 console -\n\
+            processor 1 pc 00010000 run retired 0 console -\n",
+        ),
+    ] {
+        let file = image_of(alloc, text)?;
+        for search in [each(100), up_to_exchanges(100)] {
+            let ran = explored(alloc, file.as_slice(), 1, search, 0);
+            assert_same!(rt; ran.status, 1);
+            assert!(rt; ran.err.is_empty());
+            assert_same!(rt; str::from_utf8(replayed(alloc, ran.trace.as_slice(), file.as_slice()).as_slice())?, report);
         }
     }
     Ok(())

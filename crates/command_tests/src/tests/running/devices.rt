@@ -1,7 +1,7 @@
 //! A read or a write that fails, at each call.
 
 ghost use Rattle.std.specs.Prelude.{◌≡◌, false};
-ghost use Rattle.trace_commands.specs.Accounts.{IsWorking};
+ghost use Rattle.trace_commands.specs.TraceReports.{IsWorking};
 
 use super::{AMPLE, Ran};
 use link::{Link, LinkWrite, Meter};
@@ -70,23 +70,23 @@ fn replay_over<T: Read + Drop, R: Read + Drop>(
     }
 }
 
-/// Sees that a command has printed this, told that, and answered a status.
-fn see(rt: &impl Abort, ran: &Ran, (out, told, status): (&[u8], &str, u8), at: usize) {
+/// Sees that a command has printed this, reported that, and answered a status.
+fn see(rt: &impl Abort, ran: &Ran, (out, reported, status): (&[u8], &str, u8), at: usize) {
     assert_same!(rt; ran.out.as_slice(), out, at);
-    assert_same!(rt; ran.err.as_slice(), told.as_bytes(), at);
+    assert_same!(rt; ran.err.as_slice(), reported.as_bytes(), at);
     assert_same!(rt; ran.status, status, at);
 }
 
-/// What is left where a file cannot be read, for which this is told; else the report.
-fn report_unless(fails: bool, told: &str) -> (&[u8], &str, u8) {
+/// What is left where a file cannot be read, for which this is reported; else the report.
+fn report_unless(fails: bool, reported: &str) -> (&[u8], &str, u8) {
     if fails {
-        (&[], told, 3)
+        (&[], reported, 3)
     } else {
         (STOPPED, "", 1)
     }
 }
 
-/// The 88 bytes take 88 calls, and the next tells that there are no more.
+/// The 88 bytes take 88 calls, and the next says that there are no more.
 #[test]
 fn image_that_cannot_be_read(rt: HostRuntime) {
     let alloc = rt.alloc();
@@ -105,7 +105,7 @@ fn image_that_cannot_be_read(rt: HostRuntime) {
     }
 }
 
-/// The 24 bytes take 24 calls, and the next tells that there are no more.
+/// The 24 bytes take 24 calls, and the next says that there are no more.
 #[test]
 fn trace_that_cannot_be_read(rt: HostRuntime) {
     let alloc = rt.alloc();
@@ -170,7 +170,7 @@ fn report_that_cannot_be_printed(rt: HostRuntime) {
     }
 }
 
-/// Where standard error fails too, the exit status alone tells the fault.
+/// Where standard error fails too, the exit status alone says the fault.
 #[test]
 fn fault_that_cannot_be_told(rt: HostRuntime) {
     let alloc = rt.alloc();

@@ -1,4 +1,4 @@
-//! How runs end, and what is told where there is no report.
+//! How runs end, and what is reported where there is no report.
 
 use super::{AMPLE, Ran, replay, run, run_text};
 use command_io::Fault;
@@ -9,12 +9,12 @@ use std::process::Abort;
 use std::test::Fail;
 use test_support::{EBREAK, Endless, ONE_TURN, assert_same, image_of, size};
 
-/// Nothing is printed and no trace is written, and this is told.
-fn assert_told(rt: &impl Abort, ran: &Ran, told: &str, status: u8) {
-    assert_same!(rt; ran.err.as_slice(), told.as_bytes());
-    assert_same!(rt; ran.out.len(), 0, told);
-    assert_same!(rt; ran.trace.len(), 0, told);
-    assert_same!(rt; ran.status, status, told);
+/// Nothing is printed and no trace is written, and this is reported.
+fn assert_told(rt: &impl Abort, ran: &Ran, reported: &str, status: u8) {
+    assert_same!(rt; ran.err.as_slice(), reported.as_bytes());
+    assert_same!(rt; ran.out.len(), 0, reported);
+    assert_same!(rt; ran.trace.len(), 0, reported);
+    assert_same!(rt; ran.status, status, reported);
 }
 
 /// Two instructions take two steps: the first retires, and the second halts.
@@ -156,7 +156,7 @@ fn refuses_an_image(rt: HostRuntime) -> Result<(), Fail> {
     Ok(())
 }
 
-/// A size that is out of its limits is told behind a refused image, and before the run.
+/// A size that is out of its limits is reported after a refused image, and before the run.
 #[test]
 fn refuses_a_size(rt: HostRuntime) {
     let alloc = rt.alloc();
@@ -183,7 +183,7 @@ fn refuses_a_size(rt: HostRuntime) {
     assert_told(&rt, &ran, "ultra: K1\n", 2);
 }
 
-/// A trace's fault is told before the file of the image is looked at.
+/// A trace's fault is reported before the file of the image is looked at.
 #[test]
 fn tells_the_first_fault(rt: HostRuntime) {
     let alloc = rt.alloc();

@@ -53,7 +53,7 @@ fn refuses_what_is_no_trace(rt: HostRuntime) -> Result<(), Fail> {
     let ran = replay(alloc, long.as_slice(), Ok(image.as_slice()), 1024);
     assert_same!(rt; ran.err.as_slice(), b"ultra: X4\n".as_slice());
     assert_same!(rt; ran.status, 2);
-    for (place, byte, told) in [
+    for (place, byte, reported) in [
         (0, 0, "ultra: X2\n"),
         (5, 7, "ultra: X2\n"),
         (23, 1, "ultra: X3\n"),
@@ -63,8 +63,8 @@ fn refuses_what_is_no_trace(rt: HostRuntime) -> Result<(), Fail> {
             *there = byte;
         }
         let ran = replay(alloc, &wrong, Ok(image.as_slice()), 1024);
-        assert_same!(rt; ran.err.as_slice(), told.as_bytes());
-        assert_same!(rt; ran.status, 2, told);
+        assert_same!(rt; ran.err.as_slice(), reported.as_bytes());
+        assert_same!(rt; ran.status, 2, reported);
     }
     Ok(())
 }

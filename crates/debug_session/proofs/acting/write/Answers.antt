@@ -7,7 +7,7 @@ use Rattle.debug_session.proofs.acting.write.Goals as goal
 pub overflow_cast-processor : goal.overflow_cast-processor
 overflow_cast-processor c =
     let m = c.args.log.now.machine in
-    let is = c.log_is_kept.ensures.kept.sound in
+    let is = c.log_is_well_formed.ensures.kept.sound in
     let there = write_processor (flat_state m) c.args.processor c.args.address c.args.bytes.now c.requires.sound in
     let small = few m c.args.processor is (c.flat_states_are_read.ensures.processors m is).0 there in
     omega (arith, small)
@@ -28,7 +28,7 @@ loop-i-preserved c =
 pub pokes-requires-clause-lawful : goal.pokes-requires-clause-lawful
 pokes-requires-clause-lawful c =
     let m = c.args.log.now.machine in
-    let is = c.log_is_kept.ensures.kept.sound in
+    let is = c.log_is_well_formed.ensures.kept.sound in
     let there = write_processor (flat_state m) c.args.processor c.args.address c.args.bytes.now c.requires.sound in
     let count = (c.flat_states_are_read.ensures.processors m is).0 in
     array_is_lawful m.config (flat_state m) c.args.processor c.args.address c.loop-i.i c.bytes-values.result.now c.args.bytes.now c.loop-i.pokes

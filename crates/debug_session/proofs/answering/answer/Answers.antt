@@ -13,7 +13,7 @@ reply-requires g c =
     let new : Session = record { log = c.carry_out.new.log; breaks = c.carry_out.new.breaks } in
     let is = c.machine.ensures.kept.sound in
     let count = (c.flat_states_are_read.ensures.processors c.args.log.now.machine is).0 in
-    record { named = λ p same. step_is_small old new c.args.command.now c.in-Ok.field-0 p is count c.in-Ok.ensures.acts same }
+    record { named = λ p same. step_is_small (g.C.Runner.spec c.args.budget) old new c.args.command.now c.in-Ok.field-0 p is count c.in-Ok.ensures.acts same }
 
 pub returns-in-Ok-clause-answers : goal.returns-in-Ok-clause-answers
 returns-in-Ok-clause-answers g c = record {

@@ -12,7 +12,7 @@ loop-init g c = (
   c.in-Ok.ensures.drained.idle,
   record { opening = c.drain.ensures.opening; steps = c.in-Ok.ensures.entered; count = c.in-Ok.field-0; drained = c.in-Ok.ensures.drained },
   c.new-breaks.ensures,
-  (c.new-lines.result, [], c.new-lines.ensures, Consumes-nil _, goes_none _ _ _),
+  (c.new-lines.result, [], c.new-lines.ensures, Consumes-nil _, goes_none _ _ _ _),
 )
 
 pub returns-in-Ok-eq0-clause-served : goal.returns-in-Ok-eq0-clause-served
@@ -20,8 +20,8 @@ returns-in-Ok-eq0-clause-served g c =
     let inv = c.loop.invariant in
     let w = inv.6 in
     let bytes = c.in-Ok-eq0.ensures.bytes in
-    has_served _ _ _ _ _ c.drain.new.self _ c.new-breaks.result c.loop.breaks _ inv.4 inv.5
-    (ends_at_reader w.0 _ _ _ _ _ _ _ w.1 EndOfInput w.2
+    has_served _ _ _ _ _ _ c.drain.new.self _ c.new-breaks.result c.loop.breaks _ inv.4 inv.5
+    (ends_at_reader _ w.0 _ _ _ _ _ _ _ w.1 EndOfInput w.2
     (takes_nothing _ _ _ w.1 c.receive.new.buf c.in-Ok-eq0.field-0 c.in-Ok-eq0.field-0-test w.3 bytes.0) w.4
     (λ events replies none. (refl, none, refl, bytes.1 c.in-Ok-eq0.field-0-test (omega arith)))) inv.3
 
@@ -29,8 +29,8 @@ pub returns-in-Err-receive-clause-served : goal.returns-in-Err-receive-clause-se
 returns-in-Err-receive-clause-served g c =
     let inv = c.loop.invariant in
     let w = inv.6 in
-    has_served _ _ _ _ _ c.drain.new.self _ c.new-breaks.result c.loop.breaks _ inv.4 inv.5
-    (ends_at_reader w.0 _ _ _ _ _ _ _ w.1 ReadFailed w.2 (Consumes-kept _ _ _ w.1 w.3 c.in-Err-receive.ensures.bytes) w.4
+    has_served _ _ _ _ _ _ c.drain.new.self _ c.new-breaks.result c.loop.breaks _ inv.4 inv.5
+    (ends_at_reader _ w.0 _ _ _ _ _ _ _ w.1 ReadFailed w.2 (Consumes-kept _ _ _ w.1 w.3 c.in-Err-receive.ensures.bytes) w.4
     (λ events replies none. (refl, none, refl))) inv.3
 
 pub returns-in-Some-serve_piece-clause-served : goal.returns-in-Some-serve_piece-clause-served
@@ -39,10 +39,10 @@ returns-in-Some-serve_piece-clause-served g c =
     let w = inv.6 in
     let stop = c.in-Some-serve_piece.ensures.stops in
     served c.in-Some-serve_piece.end _
-    (has_served _ _ _ _ _ c.drain.new.self _ c.new-breaks.result c.serve_piece.new.breaks _ inv.4 inv.5
-    (ends_at_event w.0 _ _ _ _ _ _ _ (w.1 ++ stop.0) stop.1 _ w.2
+    (has_served _ _ _ _ _ _ c.drain.new.self _ c.new-breaks.result c.serve_piece.new.breaks _ inv.4 inv.5
+    (ends_at_event _ w.0 _ _ _ _ _ _ _ (w.1 ++ stop.0) stop.1 _ w.2
     (takes_part _ _ _ w.1 stop.0 stop.1 _ w.3 c.in-Ok-receive.ensures.bytes.0 stop.2)
-    (goes_and_stops _ _ _ _ _ _ _ _ _ w.1 stop.0 _ w.4 stop.3)) c.in-Some-serve_piece.ensures.idle)
+    (goes_and_stops _ _ _ _ _ _ _ _ _ _ w.1 stop.0 _ w.4 stop.3)) c.in-Some-serve_piece.ensures.idle)
 
 pub loop-preserved : goal.loop-preserved
 loop-preserved g c =
@@ -60,6 +60,6 @@ loop-preserved g c =
         w.1 ++ piece,
         w.2,
         Consumes-trans _ _ _ w.1 piece w.3 c.in-Ok-receive.ensures.bytes.0,
-        goes_both _ _ _ _ _ _ _ _ _ w.1 piece w.4 c.in_default.ensures.goes,
+        goes_both _ _ _ _ _ _ _ _ _ _ w.1 piece w.4 c.in_default.ensures.goes,
       ),
     )

@@ -12,5 +12,5 @@ invariant-loop g l =
     (g.R.Link.has_failed l.reader ≡ false) × (g.W.Link.has_failed l.writer ≡ false) × (length l.piece ≡ 256) × IsIdle l.log.machine
     × HasDrained l.fn.log l.initial.log × ((a : ℕ) → is_break l.initial.breaks a ≡ false)
     × ((held : Held) × (input : List ℕ) × IsAfter [] [] held × Consumes (g.R.Read.remaining l.fn.reader) (g.R.Read.remaining l.reader) input
-    × Goes held (record { log = l.initial.log; breaks = l.initial.breaks }) (g.W.Write.contents l.fn.writer) input l.lines
+    × Goes (g.C.Runner.spec l.budget) held (record { log = l.initial.log; breaks = l.initial.breaks }) (g.W.Write.contents l.fn.writer) input l.lines
     (record { log = l.log; breaks = l.breaks }) (g.W.Write.contents l.writer))

@@ -4,34 +4,34 @@ use Rattle.debug_session.specs.declared.session_end.SessionEnd.TheVariants.{Quit
 use Rattle.debug_session.proofs.serving.serve_piece.Goals as goal
 
 pub loop-rest-init : goal.loop-rest-init
-loop-rest-init g c = (c.requires.writes, c.requires.idle, ([], refl, goes_none _ _ _))
+loop-rest-init g c = (c.requires.writes, c.requires.idle, ([], refl, goes_none _ _ _ _))
 
 pub returns-in-Ok-true-clause-stops : goal.returns-in-Ok-true-clause-stops
 returns-in-Ok-true-clause-stops g c =
     let w = c.loop-rest.invariant.2 in
     let reads = rw c.in-Some.is at c.feed-count.ensures.events in
-    let told = c.in-Ok-true.ensures.answered in
+    let fact = c.in-Ok-true.ensures.answered in
     let fed = take c.feed-count.result.0 c.loop-rest.rest.now in (
       w.0 ++ fed,
       drop c.feed-count.result.0 c.loop-rest.rest.now,
       fed_part c.args.piece.now w.0 c.loop-rest.rest.now c.feed-count.result.0 w.1,
-      goes_and_stops _ _ _ _ _ _ _ _ _ w.0 fed Quit w.2
-          (stops_at_quit _ _ _ _ _ _ fed c.in-Some.event told.0 reads told.1 (sym told.2.0 ∙ c.in-Ok-true.field-0-test) told.2.1),
+      goes_and_stops _ _ _ _ _ _ _ _ _ _ w.0 fed Quit w.2
+          (stops_at_quit _ _ _ _ _ _ _ fed c.in-Some.event fact.0 reads fact.1 (sym fact.2.0 ∙ c.in-Ok-true.field-0-test) fact.2.1),
     )
 
 pub loop-rest-preserved-in-Ok-false : goal.loop-rest-preserved-in-Ok-false
 loop-rest-preserved-in-Ok-false g c =
     let w = c.loop-rest.invariant.2 in
     let reads = rw c.in-Some.is at c.feed-count.ensures.events in
-    let told = c.in-Ok-false.ensures.answered in
+    let fact = c.in-Ok-false.ensures.answered in
     let fed = take c.feed-count.result.0 c.loop-rest.rest.now in (
       c.in-Ok-false.ensures.failed,
       c.in-Ok-false.ensures.idle,
       (
         w.0 ++ fed,
         fed_more c.args.piece.now w.0 c.loop-rest.rest.now c.feed-count.result.0 (length c.loop-rest.rest.now) (omega arith) w.1,
-        goes_both _ _ _ _ _ _ _ _ _ w.0 fed w.2
-            (goes_one _ _ _ _ _ _ fed c.in-Some.event told.0 reads told.1 (sym told.2.0 ∙ c.in-Ok-false.field-0-test) told.2.1),
+        goes_both _ _ _ _ _ _ _ _ _ _ w.0 fed w.2
+            (goes_one _ _ _ _ _ _ _ fed c.in-Some.event fact.0 reads fact.1 (sym fact.2.0 ∙ c.in-Ok-false.field-0-test) fact.2.1),
       ),
     )
 
@@ -39,13 +39,13 @@ pub returns-in-Err-clause-stops : goal.returns-in-Err-clause-stops
 returns-in-Err-clause-stops g c =
     let w = c.loop-rest.invariant.2 in
     let reads = rw c.in-Some.is at c.feed-count.ensures.events in
-    let told = c.in-Err.ensures.answered in
+    let fact = c.in-Err.ensures.answered in
     let fed = take c.feed-count.result.0 c.loop-rest.rest.now in (
       w.0 ++ fed,
       drop c.feed-count.result.0 c.loop-rest.rest.now,
       fed_part c.args.piece.now w.0 c.loop-rest.rest.now c.feed-count.result.0 w.1,
-      goes_and_stops _ _ _ _ _ _ _ _ _ w.0 fed WriteFailed w.2
-          (stops_at_write _ _ _ _ _ _ fed c.in-Some.event told.0 reads told.1 told.2),
+      goes_and_stops _ _ _ _ _ _ _ _ _ _ w.0 fed WriteFailed w.2
+          (stops_at_write _ _ _ _ _ _ _ fed c.in-Some.event fact.0 reads fact.1 fact.2),
     )
 
 pub loop-rest-preserved : goal.loop-rest-preserved
@@ -58,6 +58,6 @@ loop-rest-preserved g c =
       (
         w.0 ++ fed,
         fed_more c.args.piece.now w.0 c.loop-rest.rest.now c.feed-count.result.0 (length c.loop-rest.rest.now) (omega arith) w.1,
-        goes_both _ _ _ _ _ _ _ _ _ w.0 fed w.2 (goes_quietly _ _ _ _ fed reads),
+        goes_both _ _ _ _ _ _ _ _ _ _ w.0 fed w.2 (goes_quietly _ _ _ _ _ fed reads),
       ),
     )

@@ -8,7 +8,7 @@ abbrev pub invariant-loop-rest : goal.invariant-loop-rest
 invariant-loop-rest g l =
     (g.W.Link.has_failed l.writer ≡ false) × IsIdle l.log.machine
     × ((input : List ℕ) × (l.piece ≡ input ++ l.rest)
-    × Goes l.fn.lines (record { log = l.fn.log; breaks = l.fn.breaks }) (g.W.Write.contents l.fn.writer) input
+    × Goes (g.C.Runner.spec l.budget) l.fn.lines (record { log = l.fn.log; breaks = l.fn.breaks }) (g.W.Write.contents l.fn.writer) input
     l.lines (record { log = l.log; breaks = l.breaks }) (g.W.Write.contents l.writer))
 
 abbrev pub decreases-loop-rest : goal.decreases-loop-rest

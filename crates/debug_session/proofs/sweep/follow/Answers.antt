@@ -6,8 +6,8 @@ use Rattle.debug_session.proofs.sweep.follow.Goals as goal
 pub loop-retired-init : goal.loop-retired-init
 loop-retired-init c = record {
   config = refl;
-  places = refl;
-  under_way = begins c.args.breaks.now c.args.limit c.args.log.now.log c.none_retired-retired.result c.roomy_is_kept.ensures.replay c.requires.few
+  capacity_left = refl;
+  under_way = begins c.args.breaks.now c.args.limit c.args.log.now.log c.none_retired-retired.result c.reserved_log_is_well_formed.ensures.replay c.requires.few
       (λ p within. c.none_retired-retired.ensures p);
 }
 

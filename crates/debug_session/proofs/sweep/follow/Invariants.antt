@@ -5,7 +5,7 @@ use Rattle.debug_session.proofs.sweep.follow.Given as goal
 abbrev pub invariant-loop-retired : goal.invariant-loop-retired
 invariant-loop-retired l = record {
   config : l.log.log.machine.config ≡ l.initial.log.log.machine.config;
-  places : length l.log.log.steps + l.log.places ≡ length l.initial.log.log.steps + l.initial.log.places;
+  capacity_left : length l.log.log.steps + l.log.capacity_left ≡ length l.initial.log.log.steps + l.initial.log.capacity_left;
   under_way : IsUnderWay l.breaks l.limit l.initial.log.log l.retired l.log.log;
 }
 

@@ -11,5 +11,5 @@ bounds-retired-from c =
     let there : c.args.p < 2 ^ m.config.k =
     is_there c.args.p (2 ^ m.config.k) (not (away_at m c.args.p)) (port_at m.ports c.args.p).core.state.pc c.in-Some.pc (sym c.pc.ensures.value
     ∙ c.in-Some.is) in
-    let within = below_64 m.config.k c.args.p c.machine_is_sound.ensures.limits.stages there in
+    let within = below_64 m.config.k c.args.p c.machine_is_well_formed.ensures.limits.stages there in
     let same = c.from.ensures in omega (arith, within, same)

@@ -17,5 +17,6 @@ returns-clause-ran c =
       steps = c.drain.ensures.entered;
       idle = c.drain.ensures.drained.idle;
     } in
-    has_run c.replays_are_cut.ensures.cut c.sweeps_write_nothing.ensures.drains c.args.breaks.now c.args.budget old new continued c.roomy_is_kept.ensures.replay
-    c.roomy_is_kept-2.ensures.replay
+    has_run c.replays_are_cut.ensures.cut c.sweeps_write_nothing.ensures.drains c.args.breaks.now c.args.budget old new continued
+    c.reserved_log_is_well_formed.ensures.replay
+    c.reserved_log_is_well_formed-2.ensures.replay

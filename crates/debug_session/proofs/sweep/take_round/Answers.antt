@@ -36,7 +36,7 @@ returns-then-is_fault-clause-over c e first before =
     ends_by_fault c.args.breaks.now c.args.limit first l c.step-outcome.new.self.log c.loop-round.retired
     (c.loop-round.invariant.under_way first before) step c.step-outcome.result c.step-outcome.ensures.taken c.step-outcome.ensures.answer
     (c.sweeps_write_nothing.ensures.rounds l.machine.config.k n.place step n.there)
-    c.roomy_is_kept.ensures.replay
+    c.reserved_log_is_well_formed.ensures.replay
     (λ meets. true≢false (sym (c.if-meets_break.ensures.1
     (subst (λ m. MeetsBreak m c.args.breaks.now c.loop-round.retired step) (sym c.machine-in-loop-round-2.ensures.machine) meets))))
     (let there = ap length c.steps.ensures.steps in omega (arith, there, c.loop-round-test.true))
@@ -55,7 +55,7 @@ loop-round-preserved c =
     let room : length l.steps < c.args.limit = (let there = ap length c.steps.ensures.steps in omega (arith, there, c.loop-round-test.true)) in
     record {
       config = config ∙ i.config;
-      places = c.step-outcome.ensures.places ∙ i.places;
+      capacity_left = c.step-outcome.ensures.capacity_left ∙ i.capacity_left;
       size = c.next.ensures.size ∙ i.size ∙ ap (λ (d : Config). d.k) (sym config);
       few = (let one = at_most_one l.steps new.steps step c.step-outcome.result taken.steps in omega (arith, one, room));
       moved = moved_more (length c.args.log.now.log.steps) c.loop-round.round.place c.next.new.self.place l new step c.step-outcome.result taken n i.moved;
@@ -64,11 +64,11 @@ loop-round-preserved c =
           let stages = subst (λ (d : Config). d.k ≤ 6) (kept.replay.run.config ∙ ap (λ (m : MachineLists). m.config) u.opening) kept.sound.limits.stages in
           goes_on c.args.breaks.now c.args.limit first l new c.loop-round.retired u step c.step-outcome.result taken c.step-outcome.ensures.answer
           (c.sweeps_write_nothing.ensures.rounds l.machine.config.k n.place step n.there)
-          c.roomy_is_kept.ensures.replay
+          c.reserved_log_is_well_formed.ensures.replay
           (λ meets. true≢false (sym (c.if-meets_break.ensures.1
           (subst (λ m. MeetsBreak m c.args.breaks.now c.loop-round.retired step) (sym c.machine-in-loop-round-2.ensures.machine) meets))))
           room
-          c.note.new.retired
-          (λ p within. c.note.ensures p (below_64 first.opening.config.k p stages within))
+          c.mark_retired.new.retired
+          (λ p within. c.mark_retired.ensures p (below_64 first.opening.config.k p stages within))
           (λ fault. true≢false (sym (c.if-is_fault.ensures.1 fault)));
     }

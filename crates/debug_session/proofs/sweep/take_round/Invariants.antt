@@ -8,7 +8,7 @@ use Rattle.debug_session.proofs.sweep.take_round.Given as goal
 abbrev pub invariant-loop-round : goal.invariant-loop-round
 invariant-loop-round l = record {
   config : l.log.log.machine.config ≡ l.initial.log.log.machine.config;
-  places : length l.log.log.steps + l.log.places ≡ length l.initial.log.log.steps + l.initial.log.places;
+  capacity_left : length l.log.log.steps + l.log.capacity_left ≡ length l.initial.log.log.steps + l.initial.log.capacity_left;
   size : l.round.k ≡ l.log.log.machine.config.k;
   few : length l.log.log.steps ≤ l.limit;
   moved : HasMoved (length l.initial.log.log.steps) l.round.place l.log.log;

@@ -53,7 +53,7 @@ fn names(rt: HostRuntime) -> Result<(), Fail> {
     Ok(())
 }
 
-/// `halted` is told once all processors are: the word at 0x00010008 is an `ecall`, which halts where `a7` is 0.
+/// `halted` is reported once all processors are: the word at 0x00010008 is an `ecall`, which halts where `a7` is 0.
 #[test]
 fn halts(rt: HostRuntime) -> Result<(), Fail> {
     lend(two(rt.alloc())?, |machine| {

@@ -18,8 +18,8 @@ reg 0 1
 mem 0 20000 2
 ";
 
-/// A command whose steps have no room has an error and changes nothing; one that takes none has no error. With one processor a
-/// session begins where there is room for two steps, and an instruction asks for three.
+/// A command whose steps have no room has an error and changes nothing; one that takes none has no error. With one
+/// processor a session begins where there is room for two steps, and an instruction asks for three.
 #[test]
 fn asks_for_room(rt: HostRuntime) -> Result<(), Fail> {
     lend(log_of(rt.alloc(), THREE, size(0))?, |log| {

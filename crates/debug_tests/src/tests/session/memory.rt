@@ -1,5 +1,5 @@
-//! Each allocation of this test is to be refused in turn. Then there is no session, or the command that asked for the memory is
-//! answered `E06`, and all others as with ample memory.
+//! Each allocation of this test is to be refused in turn. Then there is no session, or the command that asked for the
+//! memory is answered `E06`, and all others as with ample memory.
 
 use super::{BUDGET, THREE};
 use debug_session::{SessionEnd, Sweep, serve};
@@ -13,7 +13,7 @@ use test_support::{Sink, assert_same, lend, log_of, size};
 /// Commands that ask for steps, and one that asks for none.
 const INPUT: &[u8] = b"write 0 20000 0102030405060708\nstep 0\ncont\nquit\n";
 
-/// Whether the reply tells that the command was carried out, as this one does. Else it tells that there was no memory.
+/// Whether the reply says that the command was carried out, as this one does. Else it says that there was no memory.
 fn is_done(rt: &impl Abort, reply: &str, wanted: &str) -> bool {
     if reply == "E06" {
         return false;
@@ -22,7 +22,7 @@ fn is_done(rt: &impl Abort, reply: &str, wanted: &str) -> bool {
     true
 }
 
-/// The machine and its log stand as these replies tell.
+/// The machine and its log stand as these replies say.
 fn is_left(rt: &impl Abort, log: &Logged, replies: &str) {
     let mut lines = replies.lines();
     let has_written = is_done(rt, lines.next().unwrap_or(""), "ok");

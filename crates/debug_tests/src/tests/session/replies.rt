@@ -38,7 +38,7 @@ static FOUR: &[(&str, &str)] = &[
         "write 0 80000ffe 010203\nwrite 0 80000ffe 0102\nmem 0 80000ffe 2\nwrite 0 1fffe 010203\nmem 0 10000 4\n",
         "E02\nok\n0102\nE02\n2f25b600\n",
     ),
-    // The smallest number is told: an address before a processor.
+    // The smallest number is reported: an address before a processor.
     (
         "mem 4 0 1\nset 4 21 1\nset 3 21 1\nbreak 10002\nclear 20000\n",
         "E02\nE03\nE04\nE02\nE02\n",
@@ -48,7 +48,7 @@ static FOUR: &[(&str, &str)] = &[
         "state 0\r\nSTATE 0\nstate  0\n\nreg 0 1F\n",
         "E01\nE01\nE01\nE01\n00000000\n",
     ),
-    // Bytes behind the last line feed do nothing.
+    // Bytes after the last line feed do nothing.
     ("set 0 1 7\nset 0 1 8", "ok\n"),
 ];
 
@@ -114,7 +114,7 @@ fn used_up_budget(rt: HostRuntime) -> Result<(), Fail> {
     Ok(())
 }
 
-/// The reply to `regs 0`: the word that an add has found, its addend, the word's address, and the place behind it.
+/// The reply to `regs 0`: the word that an add has found, its addend, the word's address, and the place after it.
 fn registers(alloc: Global) -> Result<Vec<u8>, AllocError> {
     let mut reply = Vec::new(alloc);
     for register in 0..33u8 {
@@ -149,7 +149,7 @@ fn answers_behind_the_drain(rt: HostRuntime) -> Result<(), Fail> {
     })
 }
 
-/// A line: its start, and so many of a byte behind that.
+/// A line: its start, and this many of a byte after that.
 fn line(alloc: Global, start: &str, byte: u8, count: usize) -> Result<Vec<u8>, AllocError> {
     let mut line = vec![in alloc; byte; count]?;
     line.push(b'\n')?;
@@ -158,7 +158,7 @@ fn line(alloc: Global, start: &str, byte: u8, count: usize) -> Result<Vec<u8>, A
     Ok(whole)
 }
 
-/// A line of 1,025 bytes is none, whatever it says; one of 1,024 may be: 504 bytes in digits behind 16 bytes.
+/// A line of 1,025 bytes is none, whatever it says; one of 1,024 may be: 504 bytes in digits after 16 bytes.
 #[test]
 fn longest_lines(rt: HostRuntime) -> Result<(), Fail> {
     for (start, byte, count, output, steps) in [

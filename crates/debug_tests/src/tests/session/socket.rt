@@ -14,8 +14,8 @@ use std::sync::Wait;
 use std::test::Fail;
 use test_support::{assert_same, lend, log_of, size};
 
-/// The two ends of a connection to a port of this machine that is free: that of who debugs, and that of the session. The first is there
-/// before the other is accepted.
+/// The two ends of a connection to a port of this machine that is free: that of who debugs, and that of the session.
+/// The first is there before the other is accepted.
 fn both_ends<R: Net>(net: &R) -> io::Result<(R::Stream, R::Stream)> {
     let listener = TcpListener::bind(net, SocketAddr::from((Ipv4Addr::LOCALHOST, 0)))?;
     let theirs = TcpStream::connect(net, listener.local_addr()?)?;
@@ -23,8 +23,9 @@ fn both_ends<R: Net>(net: &R) -> io::Result<(R::Stream, R::Stream)> {
     Ok((theirs, ours))
 }
 
-/// How a session ends whose lines are all sent before it begins, and the replies that have come when it is over. These are few, so the
-/// connection holds them until they are read. Who debugs sends no more behind the lines, and says so where it is to be known.
+/// How a session ends whose lines are all sent before it begins, and the replies that have come when it is over. These
+/// are few, so the connection holds them until they are read. Who debugs sends no more after the lines, and says so
+/// where it is to be known.
 fn talk_over<R: Net + Wait + AllocGlobal>(
     rt: &R,
     log: &mut Logged,
@@ -58,12 +59,12 @@ static SESSIONS: &[(&str, &str, SessionEnd)] = &[
         "ok\nok\nab00\nE03\nE01\nok\n",
         SessionEnd::Quit,
     ),
-    // Bytes behind the last line feed do nothing.
+    // Bytes after the last line feed do nothing.
     ("set 0 1 7\nset 0 1 8", "ok\n", SessionEnd::EndOfInput),
     ("", "", SessionEnd::EndOfInput),
 ];
 
-/// Behind `quit` a session does not wait for the end of its input.
+/// After `quit` a session does not wait for the end of its input.
 #[test]
 fn over_a_connection(rt: HostRuntime) -> Result<(), Fail> {
     for (lines, replies, ends) in SESSIONS {

@@ -1,24 +1,26 @@
 use Rattle.std.proofs.Common.{◌≡◌, ◌∙◌, ap, refl, sym, subst, inr, true≢false}
 use Rattle.std.specs.Prelude.{IfOk, option_map, string_bytes}
 use Rattle.command_io.specs.Faults.{status_of_fault}
+use Rattle.command_io.specs.FaultTexts.{IsReported}
 use Rattle.command_io.specs.declared.fault.Fault.TheVariants as fault
 use Rattle.explain_command.specs.Explaining.{IsExplanation}
 use Rattle.explain_command.specs.Topics.{list_of, text_of}
 use Rattle.explain_command.proofs.command.explain_command.Goals.{in-None, in-Some+in-Some-named}
 use Rattle.explain_command.proofs.command.explain_command.Goals as goal
 
-pub returns-in_default-clause-told : goal.returns-in_default-clause-told
-returns-in_default-clause-told g c done unknown = record {
+pub returns-in_default-clause-fault : goal.returns-in_default-clause-fault
+returns-in_default-clause-fault g c done unknown = record {
   fault = fault.Memory;
-  tells = c.tell.ensures.told;
+  tells = c.report_fault.ensures.fault;
   cause = tt;
+  reported = c.report_fault.ensures.reported;
   failed = λ e. absurd (true≢false (sym e ∙ c.requires.works));
   source = λ e. cc;
   silent = λ e. refl;
 }
 
-pub returns-clause-told : goal.returns-clause-told
-returns-clause-told g c done unknown =
+pub returns-clause-fault : goal.returns-clause-fault
+returns-clause-fault g c done unknown =
     let begun = c.in-Err.ensures.begun in
     let topics = c.args.topics.now in
     let text = c.as_str.result.now in
@@ -29,14 +31,16 @@ returns-clause-told g c done unknown =
           subst (λ word. IsExplanation topics (option_map (λ w. w.now) word) text) (sym w.in-None.is) (c.as_str.ensures.value ∙ listed)
       | in-Some+in-Some-named w ↦
           let topic = w.in-Some-named.topic in
-          let told = subst (λ r. IfOk r (λ t. string_bytes t ≡ text_of topic.now)) (sym w.text-is ∙ c.in-Ok.is) w.topic_text.ensures in
+          let fact = subst (λ r. IfOk r (λ t. string_bytes t ≡ text_of topic.now)) (sym w.text-is ∙ c.in-Ok.is) w.topic_text.ensures in
           let named = sym w.named.ensures ∙ ap (option_map (λ t. t.now)) w.in-Some-named.is in
-          subst (λ word. IsExplanation topics (option_map (λ w. w.now) word) text) (sym w.in-Some.is) (topic.now, named, c.as_str.ensures.value ∙ told)
+          subst (λ word. IsExplanation topics (option_map (λ w. w.now) word) text) (sym w.in-Some.is) (topic.now, named, c.as_str.ensures.value ∙ fact)
     ] in
     record {
       fault = fault.Link;
-      tells = c.tell-in-Err.ensures.told ∙ ap status_of_fault begun.0;
+      tells = c.report_fault-in-Err.ensures.fault ∙ ap status_of_fault begun.0;
       cause = record { text = text; meant = meant; part = begun.1 };
+      reported = subst (IsReported (g.E.Write.contents c.args.err.now)
+          (g.E.Write.contents c.report_fault-in-Err.new.err)) begun.0 c.report_fault-in-Err.ensures.reported;
       failed = λ e. refl;
       source = λ e. inr c.in-Err.ensures.failed;
       silent = λ e. absurd (true≢false (sym c.in-Err.ensures.failed ∙ e));

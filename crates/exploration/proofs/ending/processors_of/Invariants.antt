@@ -1,11 +1,11 @@
 use Rattle.std.proofs.Common.{◌≡◌, map}
 use Rattle.std.specs.Prelude.{slice_index}
 use Rattle.std.specs.List.{range_with_len}
-use Rattle.local_reduction.specs.Results.{station_result}
-use Rattle.state_search.specs.Tables.{placed_at}
+use Rattle.local_reduction.specs.Results.{local_state_result}
+use Rattle.state_search.specs.StateTables.{placed_at}
 use Rattle.exploration.proofs.ending.processors_of.Given as goal
 
 abbrev pub invariant-loop-p : goal.invariant-loop-p
 invariant-loop-p g l = record {
-  shown : l.processors.items ≡ map (λ q. station_result (placed_at l.tables (slice_index l.row q)).station) (range_with_len 0 l.p);
+  shown : l.processors.items ≡ map (λ q. local_state_result (placed_at l.state_tables (slice_index l.row q)).local_state) (range_with_len 0 l.p);
 }

@@ -1,29 +1,32 @@
 use Rattle.std.proofs.Common.{◌≡◌, sym, ap, subst, ◌∙◌, arith}
 use Rattle.std.specs.Prelude.{◌↔◌}
 use Rattle.flat_machine.specs.State.{FlatState}
+use Rattle.std.proofs.lemmas.Result.{err_from_is_err_and}
 use Rattle.local_reduction.specs.Results.{FinalResult, IsFlatResult}
-use Rattle.state_graph.specs.Laws.{AreSchedulesOf}
+use Rattle.state_graph.specs.Laws.{IsTerminationOf}
 use Rattle.machine_steps.specs.Openings.{flat_state}
 use Rattle.exploration.specs.Results.{IsMachineResult}
-use Rattle.state_search.specs.declared.tables.Extent.{Extent}
+use Rattle.exploration.specs.States.{AreAllStates, HasManyStates}
+use Rattle.state_search.specs.declared.state_tables.Extent.{Extent}
+use Rattle.state_search.proofs.Lemmas.{given_up_on}
 use Rattle.state_search.specs.Opening.{flat_of}
 use Rattle.exploration.proofs.Exploring.{are_read, few_processors, flat_is, of_extent, wide, single}
 use Rattle.exploration.proofs.run.explore_as.Goals as goal
 
 pub explored_by_width-requires : goal.explored_by_width-requires
 explored_by_width-requires g c =
-    let seen = are_read c.machine_is_sound.ensures c.extent_of-extent.ensures (c.as_slice-all.ensures.value ∙ c.in-Ok.ensures) c.in-Ok-words_of.ensures in
-    let few = few_processors c.args.machine.now.config.k c.machine_is_sound.ensures.limits.stages in
+    let seen = are_read c.machine_is_well_formed.ensures c.extent_of-extent.ensures (c.as_slice-all.ensures.value ∙ c.in-Ok.ensures) c.in-Ok-words_of.ensures in
+    let few = few_processors c.args.machine.now.config.k c.machine_is_well_formed.ensures.limits.stages in
     record { cores = of_extent seen; room = omega (arith, seen.processors, few); words = wide seen }
 
 pub returns : goal.returns
 returns g c =
     let m = c.args.machine.now in
-    let seen = are_read c.machine_is_sound.ensures c.extent_of-extent.ensures (c.as_slice-all.ensures.value ∙ c.in-Ok.ensures) c.in-Ok-words_of.ensures in
+    let seen = are_read c.machine_is_well_formed.ensures c.extent_of-extent.ensures (c.as_slice-all.ensures.value ∙ c.in-Ok.ensures) c.in-Ok-words_of.ensures in
     let flat : flat_of c.deref-code.result.now c.as_slice-all.result.now c.in-Ok-words_of.words.items ≡ flat_state m =
     ap (λ k. flat_of k c.as_slice-all.result.now c.in-Ok-words_of.words.items) (c.deref-code.ensures ∙ c.code.ensures) ∙ flat_is seen in
     let law : (r : FinalResult) → IsMachineResult m r ↔ IsFlatResult (flat_state m) r =
-    λ r. c.results_are_those_of_the_flat_machine.ensures.results m r c.machine_is_sound.ensures c.requires.idle in
+    λ r. c.results_are_those_of_the_flat_machine.ensures.results m r c.machine_is_well_formed.ensures c.requires.idle in
     let found = c.in_ok-explored.explored in
     record {
       sound = λ r q there stands. (law q).1
@@ -33,5 +36,19 @@ returns g c =
       classes = c.in_ok-explored.ensures.classes.all ∙ seen.processors;
       single = λ off. single seen.processors c.in_ok-explored.ensures.classes
           (ap (λ (e : Extent). e.exchanged) c.extent_of-extent.ensures ∙ off);
-      schedules = subst (λ (n : FlatState). AreSchedulesOf n found.schedules) flat c.in_ok-explored.ensures.schedules;
+      termination = subst (λ (n : FlatState). IsTerminationOf n found.termination) flat c.in_ok-explored.ensures.termination;
+      states = subst (λ (n : FlatState). AreAllStates n found.classes.items found.results.items found.termination found.states) flat
+          c.in_ok-explored.ensures.states;
+      few = c.in_ok-explored.ensures.few;
+      given_up = tt;
     }
+
+pub returns-in_err-explored-clause-given_up : goal.returns-in_err-explored-clause-given_up
+returns-in_err-explored-clause-given_up g c =
+    let m = c.args.machine.now in
+    let seen = are_read c.machine_is_well_formed.ensures c.extent_of-extent.ensures (c.as_slice-all.ensures.value ∙ c.in-Ok.ensures) c.in-Ok-words_of.ensures in
+    let flat : flat_of c.deref-code.result.now c.as_slice-all.result.now c.in-Ok-words_of.words.items ≡ flat_state m =
+    ap (λ k. flat_of k c.as_slice-all.result.now c.in-Ok-words_of.words.items) (c.deref-code.ensures ∙ c.code.ensures) ∙ flat_is seen in
+    let p = err_from_is_err_and c.from_residual.result c.from_residual.ensures.1 in
+    rw (p.1, p.2)
+    (given_up_on _ _ (subst (λ (n : FlatState). HasManyStates n c.args.wish.limit) flat) _ c.in_err-explored.ensures.given_up)

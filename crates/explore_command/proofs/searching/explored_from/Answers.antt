@@ -1,4 +1,4 @@
-use Rattle.std.proofs.Common.{◌^◌, List, ℕ, not, ap, ap₂, subst, ◌∙◌}
+use Rattle.std.proofs.Common.{◌<◌, ◌^◌, List, ℕ, not, ap, ap₂, subst, ◌∙◌}
 use Rattle.flat_machine.specs.declared.config.Config.{Config}
 use Rattle.exploration.specs.Endings.{AreSingle}
 use Rattle.exploration.specs.local_reduction.Results.{FinalResult}
@@ -9,25 +9,27 @@ use Rattle.explore_command.proofs.searching.explored_from.Goals as goal
 pub returns-clause-lines : goal.returns-clause-lines
 returns-clause-lines g c =
     let found = c.in_ok-found.found in
-    let shown = ap₂ (λ (rs : List FinalResult) (cs : List ℕ). results_lines rs cs found.states found.schedules)
+    let shown = ap₂ (λ (rs : List FinalResult) (cs : List ℕ). results_lines rs cs found.states found.termination)
     c.as_slice-results.ensures.value c.as_slice-classes.ensures.value in
     record {
       found = record {
         classes = found.classes.items;
         results = found.results.items;
-        schedules = found.schedules;
+        termination = found.termination;
         states = found.states;
         is = record {
           opening = c.args.machine.now;
           opens = c.requires.opens;
           all = c.in_ok-found.ensures.results;
           single = λ each. subst (λ (d : Config). AreSingle (2 ^ d.k) found.classes.items) c.requires.opens.config
-              (c.in_ok-found.ensures.single (c.search_of-search.ensures ∙ ap not each));
-          told = c.in_ok-found.ensures.schedules;
+              (c.in_ok-found.ensures.single (c.search_of-search.ensures.exchanged ∙ ap not each));
+          fact = c.in_ok-found.ensures.termination;
+          counted = c.in_ok-found.ensures.states;
+          few = subst (λ n. found.states < n) c.search_of-search.ensures.limit c.in_ok-found.ensures.few;
         };
       };
       lines = c.in_ok-text.ensures ∙ shown;
-      exit = subst (λ rs. IsExitOf rs found.schedules c.exit_status.result) c.as_slice-results.ensures.value c.exit_status.ensures.exit;
+      exit = subst (λ rs. IsExitOf rs found.termination c.exit_status.result) c.as_slice-results.ensures.value c.exit_status.ensures.exit;
       witnessed = subst (λ image. IsWitnessed g.T.Write.contents c.args.config image found.results.items c.args.asked.witness c.args.trace.now
           c.save_witness.new.trace) c.image.ensures c.in_ok-save_witness.ensures.saved;
     }

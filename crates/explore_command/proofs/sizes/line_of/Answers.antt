@@ -7,17 +7,17 @@ returns-in_ok-line_of_explored-in-Ok g c =
     let found = c.in-Ok.explored in
     let line = c.in_ok-line_of_explored-in-Ok.ensures in
     record {
-      told = inl (record {
+      fault = inl (record {
         found = record {
           classes = found.classes.items;
           results = found.results.items;
-          schedules = found.schedules;
+          termination = found.termination;
           states = found.states;
           is = c.in-Ok.ensures.found;
         };
         greatest = line.0;
         is = line.1;
         line_is = line.2;
-        exit = subst (λ rs. IsExitOf rs found.schedules c.exit_status.result) c.as_slice.ensures.value c.exit_status.ensures.exit;
+        exit = subst (λ rs. IsExitOf rs found.termination c.exit_status.result) c.as_slice.ensures.value c.exit_status.ensures.exit;
       });
     }

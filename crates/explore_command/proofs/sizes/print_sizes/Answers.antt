@@ -9,7 +9,7 @@ loop-k-init g c = record { printed = none_printed _ _ _ _; works = c.requires.pr
 
 pub loop-k-preserved : goal.loop-k-preserved
 loop-k-preserved g c = record {
-  printed = subst (λ n. AreSizesPrinted c.args.config c.args.image.now c.args.asked.each (c.loop-k.k + 1) n
+  printed = subst (λ n. AreSizesPrinted c.args.config c.args.image.now c.args.asked (c.loop-k.k + 1) n
       (g.W.Write.contents c.args.out.now) (g.W.Write.contents c.print_size.new.out)) (sym c.greater-status.ensures)
       (printed_more _ _ _ _ _ _ _ _ _ c.loop-k.invariant.printed c.in_ok-exit.ensures.printed);
   works = c.in_ok-exit.ensures.works;
@@ -19,6 +19,6 @@ pub returns-in_err-exit-clause-refused : goal.returns-in_err-exit-clause-refused
 returns-in_err-exit-clause-refused g c =
     let p = err_from_is_err_and c.from_residual.result c.from_residual.ensures.1 in
     rw (p.1, p.2)
-    (not_printed c.args.config c.args.image.now c.args.asked.each c.parts_make_a_beginning.ensures.rest c.loop-k.k c.loop-k.status
+    (not_printed c.args.config c.args.image.now c.args.asked c.parts_make_a_beginning.ensures.rest c.loop-k.k c.loop-k.status
     (g.W.Write.contents c.args.out.now) (g.W.Write.contents c.loop-k.out) (g.W.Write.contents c.print_size.new.out) _
     c.loop-k-test.true c.loop-k.invariant.printed c.in_err-exit.ensures.refused)

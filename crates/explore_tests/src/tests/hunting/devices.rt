@@ -1,9 +1,8 @@
 //! What is refused, a write that fails, at each call; and each allocation of a test is to be refused in turn.
 
-use super::{hunted, size};
-use hunt_command::{Hunt, Traces, hunt_command};
+use super::{Kept, hunted, keeping, size};
+use hunt_command::{Hunt, NoHuntProgress, hunt_command};
 use link::Meter;
-use std::alloc::{AllocError, Global};
 use std::test::Fail;
 use test_support::{EBREAK, Sink, assert_same};
 
@@ -16,55 +15,51 @@ const HUNT: Hunt = Hunt {
     start: 1,
 };
 
-/// Traces that are written to a sink.
-#[derive(Drop)]
-struct Sinks {
-    alloc: Global,
-    fails_at: usize,
-}
-
-impl Traces for Sinks {
-    type Writer = Meter<Sink>;
-
-    fn of(&mut self, _number: u32) -> Result<Meter<Sink>, AllocError> {
-        Ok(Meter::new(Sink::new(Vec::new(self.alloc), self.fails_at)))
-    }
-}
-
 #[test]
 fn refusals(rt: HostRuntime) {
     let alloc = rt.alloc();
-    for (image, k, told) in [
+    for (image, k, reported) in [
         (&EBREAK[..51], 0, b"ultra: I1\n".as_slice()),
         (&EBREAK[..], 7, b"ultra: K1\n"),
     ] {
-        let ran = hunted(alloc, image, size(k), 1, 1);
-        assert_same!(rt; ran.err.as_slice(), told);
+        let ran = hunted(image, size(k), 1, 1, keeping(alloc));
+        assert_same!(rt; ran.err.as_slice(), reported);
         assert_same!(rt; ran.out.len(), 0);
         assert_same!(rt; ran.status, 2);
     }
 }
 
-/// A trace that cannot be written is told, and then nothing is printed; a beginning of the lines is, where they fail.
+/// A trace that cannot be written is reported, and then nothing is printed; a beginning of the lines is, where they
+/// fail.
 #[test]
 fn writes_that_fail(rt: HostRuntime) {
     let alloc = rt.alloc();
-    for (trace_fails_at, fails_at, printed, told, expected) in [
+    for (trace_fails_at, fails_at, printed, reported, expected) in [
         (1, 0, 0, b"ultra: X5\n".as_slice(), 3),
         (0, 1, 0, b"ultra: link\n", 3),
         (0, 5, 4, b"ultra: link\n", 3),
         (0, 0, STOPPED.len(), b"", 1),
     ] {
-        let mut traces = Some(Sinks {
-            alloc,
-            fails_at: trace_fails_at,
-        });
+        let mut traces = Some(keeping(alloc));
+        if let Some(kept) = &mut traces {
+            kept.fails = Some((1, trace_fails_at));
+        }
         let mut out = Meter::new(Sink::new(Vec::new(alloc), fails_at));
         let mut err = Sink::new(Vec::new(alloc), 0);
         let file = EBREAK.as_slice();
-        let status = hunt_command(alloc, file, size(0), HUNT, &mut traces, &mut out, &mut err);
+        let observer = &mut NoHuntProgress;
+        let status = hunt_command(
+            alloc,
+            file,
+            size(0),
+            HUNT,
+            &mut traces,
+            observer,
+            &mut out,
+            &mut err,
+        );
         assert_same!(rt; Some(out.device.bytes.as_slice()), STOPPED.get(..printed));
-        assert_same!(rt; err.bytes.as_slice(), told);
+        assert_same!(rt; err.bytes.as_slice(), reported);
         assert_same!(rt; status, expected);
     }
 }
@@ -72,11 +67,21 @@ fn writes_that_fail(rt: HostRuntime) {
 #[test]
 fn short_of_memory(rt: HostRuntime) -> Result<(), Fail> {
     let alloc = rt.alloc();
-    let mut traces: Option<Sinks> = None;
+    let mut traces: Option<Kept> = None;
     let mut out = Meter::new(Sink::new(Vec::with_capacity(alloc, 128)?, 0));
     let mut err = Sink::new(Vec::with_capacity(alloc, 128)?, 0);
     let file = EBREAK.as_slice();
-    let status = hunt_command(alloc, file, size(0), HUNT, &mut traces, &mut out, &mut err);
+    let observer = &mut NoHuntProgress;
+    let status = hunt_command(
+        alloc,
+        file,
+        size(0),
+        HUNT,
+        &mut traces,
+        observer,
+        &mut out,
+        &mut err,
+    );
     if status == 1 {
         assert_same!(rt; out.device.bytes.as_slice(), STOPPED);
         assert_same!(rt; err.bytes.len(), 0);

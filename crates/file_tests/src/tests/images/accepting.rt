@@ -18,8 +18,8 @@ fn fields_not_looked_at(rt: HostRuntime) {
     }
 }
 
-/// Fields at their offsets, and what the file places then: the last address of code, as an entry and for a segment, and flags
-/// without the right to execute.
+/// Fields at their offsets, and what the file places then: the last address of code, as an entry and for a segment,
+/// and flags without the right to execute.
 static ENDS: [(usize, u32, &str); 3] = [
     (24, 0x0001_FFFC, "00100073 entry 0001fffc"),
     (60, 0x0001_FFFC, "00000000*16383 00100073"),
@@ -44,7 +44,8 @@ fn other_types(rt: HostRuntime) {
     }
 }
 
-/// Addresses and offsets of a segment of no address, which may have any, while its bytes in the file end within the input.
+/// Addresses and offsets of a segment of no address, which may have any, while its bytes in the file end within the
+/// input.
 static EMPTY: [(u32, u32, Option<ImageError>); 5] = [
     (0, 0, None),
     (0xFFFF_FFFF, 84, None),
@@ -61,7 +62,7 @@ fn segments_of_no_address(rt: HostRuntime) {
     }
 }
 
-/// The error of a file with so many segments of sixteen bytes.
+/// The error of a file with this many segments of sixteen bytes.
 fn refusal_of_count(alloc: Global, count: u32) -> Result<Option<ImageError>, AllocError> {
     let mut parts: Vec<Part> = Vec::new(alloc);
     for number in 0..count {
@@ -84,7 +85,7 @@ fn counts_of_headers(rt: HostRuntime) {
     }
 }
 
-/// The copy of an image that is read for so many shared words.
+/// The copy of an image that is read for this many shared words.
 fn copied(alloc: Global, shared_words: u32) -> Result<Image, ImageError> {
     let image = read(alloc, &EBREAK, shared_words)?;
     image.copy(alloc)

@@ -1,20 +1,20 @@
 //! Devices that fail at a call, or take and hand over one byte at a call.
 
 use super::writing::fits;
-use super::{config, layout_of, told_of};
+use super::{config, layout_of, outcomes_of};
 use elf_image::{ImageError, read_image, write_image};
 use link::{Link, Meter};
 use std::alloc::{AllocError, Global};
 use test_support::{EBREAK, Sink, Source, assert_same};
 
-/// What is told of the image of EBREAK where a call of its reader fails, and whether the reader has failed then.
+/// What is said of the image of EBREAK where a call of its reader fails, and whether the reader has failed then.
 fn read(alloc: Global, fails_at: usize) -> Result<(String, bool), AllocError> {
     let mut reader = Meter::new(Source::new(&EBREAK, fails_at));
     let image = read_image(alloc, &mut reader, &config(1024));
-    Ok((told_of(alloc, image)?, reader.failed()))
+    Ok((outcomes_of(alloc, image)?, reader.failed()))
 }
 
-/// The 88 bytes take 88 calls, and one more tells that there are no more.
+/// The 88 bytes take 88 calls, and one more says that there are no more.
 #[test]
 fn each_read_fails_in_turn(rt: HostRuntime) {
     for fails_at in 0..91 {

@@ -4,8 +4,8 @@ use super::{compare, refusal};
 use elf_image::ImageError;
 use test_support::assert_same;
 
-/// `examples/c/sum.c` and `start.S`, as GNU ld 2.40 linked them with `image.ld`, `-n` and `-s`. Behind
-/// the three segments stand section names and section headers.
+/// A C program that adds to a shared sum, compiled by clang 14 and linked by GNU ld 2.40 with `-n` and `-s`. Section
+/// names and section headers come after the three segments.
 static SUM: [u8; 544] = [
     0x7F, 0x45, 0x4C, 0x46, 1, 1, 1, 0, 0, 0, 0, 0, 0, 0, 0, 0, 2, 0, 0xF3, 0, 1, 0, 0, 0, 0, 0, 1,
     0, 0x34, 0, 0, 0, 0x30, 1, 0, 0, 0, 0, 0, 0, 0x34, 0, 0x20, 0, 3, 0, 0x28, 0, 6, 0, 5, 0, 1, 0,

@@ -99,7 +99,7 @@ fn sums_do_not_wrap(rt: HostRuntime) {
     assert_same!(rt; refusal(rt.alloc(), &file, 1024), Some(OutsideRegions));
 }
 
-/// In memory with so many shared words, a segment's address, its length and its flags, and whether it is accepted.
+/// In memory with this many shared words, a segment's address, its length and its flags, and whether it is accepted.
 static REGIONS: [(u32, u32, u32, u32, bool); 20] = [
     (1024, 0x0001_0000, 0x0001_0000, 4, true),
     (1024, 0x0001_0000, 0x0001_0001, 4, false),
@@ -137,8 +137,8 @@ fn regions(rt: HostRuntime) {
     }
 }
 
-/// Addresses and lengths of two segments, and whether they are accepted: those that touch are, in any order, and those that
-/// share an address are not.
+/// Addresses and lengths of two segments, and whether they are accepted: those that touch are, in any order, and those
+/// that share an address are not.
 static OVERLAPS: [((u32, u32), (u32, u32), bool); 12] = [
     ((0x0002_0000, 8), (0x0002_0008, 8), true),
     ((0x0002_0008, 8), (0x0002_0000, 8), true),
@@ -172,7 +172,7 @@ const GOOD: Part = (0x0001_0000, 0, 4, 4, 5);
 /// At an address of no region.
 const UNPLACED: Part = (0, 0, 4, 4, 5);
 
-/// With bytes behind the file's end.
+/// With bytes after the file's end.
 const UNFILED: Part = (0x0001_0000, 1_000_000, 4, 4, 5);
 
 const NEITHER: Part = (0, 1_000_000, 4, 4, 5);
@@ -201,7 +201,8 @@ fn refusal_with(
     Ok(refusal(alloc, file.as_slice(), 1024))
 }
 
-/// The errors of a file of these segments with a wrong entry, with a wrong version too, and with a wrong first byte too.
+/// The errors of a file of these segments with a wrong entry, with a wrong version too, and with a wrong first byte
+/// too.
 fn first_faults(alloc: Global, parts: &[Part]) -> Result<[Option<ImageError>; 3], AllocError> {
     let entry = refusal_with(alloc, parts, &[(24, 2)])?;
     let version = refusal_with(alloc, parts, &[(24, 2), (20, 2)])?;
@@ -209,7 +210,8 @@ fn first_faults(alloc: Global, parts: &[Part]) -> Result<[Option<ImageError>; 3]
     Ok([entry, version, first_byte])
 }
 
-/// Of several faults the first in the order is answered: a segment's comes before the entry's, and behind those of the header.
+/// Of several faults the first in the order is answered: a segment's comes before the entry's, and after those of the
+/// header.
 #[test]
 fn first_fault_first(rt: HostRuntime) {
     for (parts, expected) in &FIRST_FAULTS {
@@ -223,7 +225,7 @@ fn first_fault_first(rt: HostRuntime) {
     }
 }
 
-/// A file of so many bytes that begins with the image of EBREAK.
+/// A file of this many bytes that begins with the image of EBREAK.
 fn long_file(alloc: Global, length: usize) -> Result<Vec<u8>, AllocError> {
     let mut file = Vec::from_slice(alloc, &EBREAK)?;
     file.resize(length, 0xFF)?;

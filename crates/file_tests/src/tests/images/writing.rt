@@ -40,7 +40,7 @@ fn spelling_of_one_instruction(rt: HostRuntime) {
     compare_file(&rt, &layout, &EBREAK);
 }
 
-/// Bytes of code, of local memory and of shared memory, each present or not, and what is told of them.
+/// Bytes of code, of local memory and of shared memory, each present or not, and what is said of them.
 static LAYOUTS: [(&[u8], &[u8], &[u8], &str); 5] = [
     (&[], &[], &[], ""),
     (&[1, 2, 3, 4], &[5], &[], "04030201 local 05"),
@@ -100,7 +100,7 @@ static ERRORS: [(ImageError, &str); 10] = [
 #[test]
 fn numbers_of_errors(rt: HostRuntime) {
     for (error, text) in &ERRORS {
-        let told = format!(in rt.alloc(); "{error}").expect(&rt, "memory");
-        assert_same!(rt; told.as_str(), *text);
+        let reported = format!(in rt.alloc(); "{error}").expect(&rt, "memory");
+        assert_same!(rt; reported.as_str(), *text);
     }
 }

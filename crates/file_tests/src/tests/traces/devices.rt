@@ -27,7 +27,7 @@ impl Write for Counter {
     }
 }
 
-/// The 24 bytes take 24 calls, and one more tells that there are no more.
+/// The 24 bytes take 24 calls, and one more says that there are no more.
 #[test]
 fn each_read_fails_in_turn(rt: HostRuntime) {
     for fails_at in 0..28 {
@@ -65,7 +65,7 @@ fn each_write_fails_in_turn(rt: HostRuntime) {
     }
 }
 
-/// No byte past the trailing one is taken, and none behind a wrong header.
+/// No byte past the trailing one is taken, and none after a wrong header.
 #[test]
 fn takes_no_more_than_tells(rt: HostRuntime) {
     let mut rest: &[u8] = &LONGER;

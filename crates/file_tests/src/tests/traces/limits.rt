@@ -6,7 +6,7 @@ use steps::{MAX_STEPS, Step};
 use test_support::assert_same;
 use trace_file::is_trace;
 
-/// So many turns, of one processor after another.
+/// This many turns, of one processor after another.
 fn turns(alloc: Global, count: u32) -> Result<Vec<Step>, AllocError> {
     let mut steps = Vec::new(alloc);
     for number in 0..count {
@@ -26,7 +26,7 @@ fn several_pieces(rt: HostRuntime) {
     }
 }
 
-/// Whether so many steps have a trace.
+/// Whether this many steps have a trace.
 fn have_trace(alloc: Global, count: usize) -> Result<bool, AllocError> {
     let steps = vec![in alloc; Step::Serve(0); count]?;
     Ok(is_trace(&config(0), steps.as_slice()))

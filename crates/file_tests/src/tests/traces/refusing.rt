@@ -115,8 +115,8 @@ fn entries(rt: HostRuntime) {
     }
 }
 
-/// Bytes with several faults, and the one that is told, which is the first. A header or a record that is cut short is that fault
-/// whatever its bytes.
+/// Bytes with several faults, and the one that is reported, which is the first. A header or a record that is cut short
+/// is that fault whatever its bytes.
 static SEVERAL_FAULTS: [(&[u8], TraceError); 5] = [
     (&[0xFF; 11], Truncated),
     (&[0xFF; 12], Header),
@@ -166,7 +166,7 @@ static NUMBERS: [(TraceError, &str); 6] = [
 #[test]
 fn numbers(rt: HostRuntime) {
     for (error, number) in &NUMBERS {
-        let told = error.to_string(rt.alloc()).expect(&rt, "memory");
-        assert_same!(rt; told.as_str(), *number);
+        let reported = error.to_string(rt.alloc()).expect(&rt, "memory");
+        assert_same!(rt; reported.as_str(), *number);
     }
 }

@@ -3,5 +3,5 @@ use Rattle.std.specs.Prelude.{string_bytes}
 use Rattle.hunt_command.specs.Findings.{findings_lines}
 use Rattle.hunt_command.proofs.findings.findings_text.Given as goal
 
-abbrev pub invariant-loop-finding : goal.invariant-loop-finding
-invariant-loop-finding l = string_bytes l.text ≡ findings_lines (take l.finding-index l.found)
+abbrev pub invariant-loop-place : goal.invariant-loop-place
+invariant-loop-place l = string_bytes l.text ≡ findings_lines (take l.place l.findings.found)

@@ -1,19 +1,19 @@
 use Rattle.std.proofs.Common.{◌+◌, ◌∙◌, refl, ap, arith, rules}
 use Rattle.schedules.specs.Sweeps.{most_of}
 use Rattle.hunt_command.specs.Findings.{FindingsState}
-use Rattle.hunt_command.proofs.Gathering.{none_found, one_noted}
+use Rattle.hunt_command.proofs.Gathering.{none_found, one_observed}
 use Rattle.hunt_command.proofs.runs.findings_of.Goals as goal
 
 pub loop-place-init : goal.loop-place-init
-loop-place-init c =
+loop-place-init g c =
     rw c.new-findings.ensures
     (record { found = none_found c.args.config c.args.image.now (most_of c.args.budget) c.args.start; noted = refl; low = omega arith })
 
 pub loop-place-preserved : goal.loop-place-preserved
-loop-place-preserved c =
+loop-place-preserved g c =
     let i = c.loop-place.invariant in
     record {
-      found = one_noted _ _ _ _ _ _ _ _ _ _ _ _ i.found (search rules) c.in_ok-text.ensures.result c.in_ok-note.ensures (search rules);
-      noted = ap (λ (f : FindingsState). f.noted) c.in_ok-note.ensures ∙ ap (λ n. n + 1) i.noted;
+      found = one_observed _ _ _ _ _ _ _ _ _ _ _ _ i.found (search rules) c.in_ok-text.ensures.result c.in_ok-add.ensures (search rules);
+      noted = ap (λ (f : FindingsState). f.noted) c.in_ok-add.ensures ∙ ap (λ n. n + 1) i.noted;
       low = search rules;
     }

@@ -1,10 +1,47 @@
+use Rattle.std.proofs.Common.{◌^◌, ◌∙◌, sym, ap, subst}
+use Rattle.std.specs.Prelude.{replicate, string_bytes}
 use Rattle.std.proofs.lemmas.Result.{IfOk-weaker}
+use Rattle.flat_machine.specs.declared.config.Config.{Config}
+use Rattle.machine_steps.specs.Machines.{MachineLists}
 use Rattle.schedules.specs.Sweeps.{most_of}
+use Rattle.command_io.specs.Tallies.{nothing_shown}
+use Rattle.trace_commands.specs.CountedReplays.{IsReplayCounted}
+use Rattle.hunt_command.specs.Hunts.{IsDrainedTo}
+use Rattle.hunt_command.proofs.RunsOfSchedules.{log_retaken, result_of_drain}
 use Rattle.hunt_command.proofs.runs.result_of.Goals as goal
 
-pub result_of_log-requires-clause-ran : goal.result_of_log-requires-clause-ran
-result_of_log-requires-clause-ran c = (most_of c.args.budget, c.args.number, c.in_ok-log.ensures.ran)
+pub drained_result-requires : goal.drained_result-requires
+drained_result-requires c =
+    let m = c.in_ok-machine.machine in
+    let log = c.observed_run.new.log in
+    let kept = c.log_is_well_formed.ensures.kept in
+    record {
+      shown = (
+        log.opening,
+        log.steps,
+        kept.home,
+        kept.room,
+        subst (λ (n : MachineLists). IsReplayCounted log.opening log.steps n c.observed_run.new.tally) (sym c.into_parts-machine.ensures.machine)
+            (log_retaken m c.new-log.result log c.in_ok-tally.tally c.observed_run.new.tally c.new-log.ensures kept c.in_ok-end.ensures.asked.opening
+            (c.in_ok-tally.ensures ∙ ap (λ n. record { shown = replicate n nothing_shown; observed = 0 })
+            (c.processors.ensures ∙ ap (λ (d : Config). 2 ^ d.k) c.config.ensures.config)) c.in_ok-end.ensures.noted),
+      );
+    }
 
 pub returns-clause-result : goal.returns-clause-result
 returns-clause-result c =
-    IfOk-weaker c.result_of_log.result _ _ (λ done all. all (most_of c.args.budget) c.args.number c.in_ok-log.ensures.ran) c.result_of_log.ensures.result
+    let m = c.in_ok-machine.machine in
+    let log = c.observed_run.new.log in
+    let kept = c.log_is_well_formed.ensures.kept in
+    let machine = c.into_parts-machine.ensures.machine in
+    let replay_counted = log_retaken m c.new-log.result log c.in_ok-tally.tally c.observed_run.new.tally c.new-log.ensures kept
+    c.in_ok-end.ensures.asked.opening
+    (c.in_ok-tally.ensures ∙ ap (λ n. record { shown = replicate n nothing_shown; observed = 0 })
+    (c.processors.ensures ∙ ap (λ (d : Config). 2 ^ d.k) c.config.ensures.config)) c.in_ok-end.ensures.noted in
+    IfOk-weaker c.drained_result.result _ _
+    (λ done all. result_of_drain c.args.config c.args.image.now (most_of c.args.budget) c.args.number m c.new-log.result log c.in_ok-end.end
+    (string_bytes done.0) done.1 c.in_ok-machine.ensures.opening c.new-log.ensures c.in_ok-end.ensures.asked
+    (subst (λ (n : MachineLists). IsDrainedTo log.opening log.steps n c.in_ok-end.end (string_bytes done.0) done.1) machine
+    (all log.opening log.steps
+    (subst (λ (n : MachineLists). IsReplayCounted log.opening log.steps n c.observed_run.new.tally)
+    (sym machine) replay_counted)))) c.drained_result.ensures.result

@@ -1,5 +1,5 @@
-//! Each allocation of these tests is to be refused in turn. Then a call tells that there is no memory, which ends the test, or
-//! its answer is that of ample memory.
+//! Each allocation of these tests is to be refused in turn. Then a call says that there is no memory, which ends the
+//! test, or its answer is that of ample memory.
 
 use super::pokes::write;
 use super::{log_from, room_for};
@@ -65,8 +65,8 @@ fn halts(log: &mut Logged, processor: u8) -> Result<bool, LockRefusal> {
     }
 }
 
-/// Behind its turn a reference through one stage takes two moves, the module's service and the turn that retires it. Then processor 0
-/// halts, and processor 1 stops by a fault, since its address is 0.
+/// After its turn a reference through one stage takes two moves, the module's service and the turn that retires it.
+/// Then processor 0 halts, and processor 1 stops by a fault, since its address is 0.
 #[test]
 fn log_is_short_of_memory(rt: HostRuntime) -> Result<(), Fail> {
     lend(log_from(&rt, machine(rt.alloc())?), |log| {

@@ -40,7 +40,7 @@ fn expect_found(rt: &impl Abort, machine: &Machine, found: [u32; 4]) {
     }
 }
 
-/// Each step of four adds that combine does something and is entered. A machine that is made anew and takes
+/// Each step of four adds that combine does something and is entered. A machine that is made again and takes
 /// the entered steps comes to stand as this one does.
 #[test]
 fn entered_steps_replay(rt: HostRuntime) -> Result<(), Fail> {

@@ -76,7 +76,7 @@ fn one_wants_an_idle_machine(rt: HostRuntime) -> Result<(), Fail> {
     })
 }
 
-/// Behind so many steps of the adds that combine, a drain takes and enters so many, and then none.
+/// After this many steps of the adds that combine, a drain takes and enters this many, and then none.
 fn expect_drain(
     rt: &(impl Abort + AllocGlobal),
     taken: usize,

@@ -2,6 +2,7 @@
 
 ghost use Rattle.std.specs.Prelude.{◌≤◌};
 
+use run_counts::rounds_of;
 use schedules::step_at;
 use std::alloc::{AllocError, AllocGlobal, Global};
 use std::process::Abort;
@@ -51,7 +52,7 @@ fn round_of_one_stage(rt: HostRuntime) -> Result<(), Fail> {
     Ok(())
 }
 
-/// A round of machines with so many stages has so many steps, and these at these places.
+/// A round of machines with this many stages has this many steps, and these at these places.
 fn expect_steps(
     rt: &(impl Abort + AllocGlobal),
     k: u8,
@@ -92,4 +93,19 @@ static SIX_STAGES: [(usize, Step); 2] = [
 #[test]
 fn round_of_six_stages(rt: HostRuntime) -> Result<(), Fail> {
     expect_steps(&rt, 6, 896, &SIX_STAGES)
+}
+
+/// Rounds are counted by the order in which the sweep asks: its round is one, and taken from its end each step is one.
+#[test]
+fn counts_rounds_by_the_order_of_the_sweep(rt: HostRuntime) -> Result<(), Fail> {
+    for k in 0..7 {
+        let round = round_of(rt.alloc(), k)?;
+        let mut back = Vec::new(rt.alloc());
+        for step in round.iter().rev() {
+            back.push(*step)?;
+        }
+        assert_same!(rt; rounds_of(round.as_slice()), 1, k);
+        assert_same!(rt; rounds_of(back.as_slice()), round.len(), k);
+    }
+    Ok(())
 }

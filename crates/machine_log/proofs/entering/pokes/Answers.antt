@@ -7,7 +7,7 @@ use Rattle.machine_log.proofs.Taking.{entered_length, poked_none, poked_more}
 use Rattle.machine_log.proofs.entering.pokes.Goals as goal
 
 pub loop-poke-init : goal.loop-poke-init
-loop-poke-init c = record { poked = poked_none c.args.machine.now c.args.steps.now.items c.machine_is_sound.ensures c.requires.idle; capacity = refl }
+loop-poke-init c = record { poked = poked_none c.args.machine.now c.args.steps.now.items c.machine_is_well_formed.ensures c.requires.idle; capacity = refl }
 
 pub enter-requires : goal.enter-requires
 enter-requires c =

@@ -24,9 +24,9 @@ enum Operation {
     StoreByte3,
     /// The low half of `a1` to the word's high one.
     StoreHalf2,
-    /// `a1` to the word behind.
+    /// `a1` to the word after.
     StoreWord4,
-    /// The word behind.
+    /// The word after.
     LoadWord4,
     /// The word's second byte, signed.
     LoadByte1,
@@ -102,7 +102,7 @@ impl Plain {
         }
     }
 
-    /// Takes one entry of a serial order, and tells what retired.
+    /// Takes one entry of a serial order, and says what retired.
     pub fn take(&mut self, entry: Entry) -> Option<Shown> {
         match entry {
             Entry::Processor(p) => Some(self.instruction(p)),

@@ -1,5 +1,5 @@
 //! Lists of random steps, half of which name no place, on the machine and on a plain one that takes
-//! whole instructions in the serial order that the outcomes tell.
+//! whole instructions in the serial order that the outcomes say.
 
 use super::plain::{Plain, program};
 use super::{A0, A1, A2};
@@ -40,7 +40,7 @@ fn register(processor: u8, register: u8, value: u32) -> Poke {
     }
 }
 
-/// A step of a machine of so many stages, which names a place in half of all cases.
+/// A step of a machine of this many stages, which names a place in half of all cases.
 fn random_step(random: &mut Random, k: u8) -> Step {
     let value = random.next();
     let [kind, a, b, c] = random.next().to_le_bytes();
@@ -236,8 +236,8 @@ fn take_steps(watched: &mut Watched, random: &mut Random, k: u8) -> Result<bool,
     Ok(has_combined)
 }
 
-/// Runs the lists of machines of so many stages, with wait buffers of 0, 1 and 4 records, whose entries of a queue are combined up to
-/// once, twice and three times. Requests are combined exactly where there is a switch with a record.
+/// Runs the lists of machines of this many stages, with wait buffers of 0, 1 and 4 records, whose entries of a queue
+/// are combined up to once, twice and three times. Requests are combined exactly if there is a switch with a record.
 fn run_lists(rt: &(impl Abort + AllocGlobal), k: u8, seed: u32) -> Result<(), Fail> {
     let mut random = Random { state: seed };
     for (b, r) in [(0, 1), (1, 1), (1, 2), (4, 1), (4, 2), (4, 3)] {

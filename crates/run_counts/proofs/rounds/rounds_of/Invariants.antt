@@ -3,4 +3,4 @@ use Rattle.run_counts.proofs.Order.{AreBegun}
 use Rattle.run_counts.proofs.rounds.rounds_of.Given as goal
 
 abbrev pub invariant-loop-step : goal.invariant-loop-step
-invariant-loop-step l = AreBegun l.k (take l.step-index l.steps) l.begun
+invariant-loop-step l = AreBegun (take l.step-index l.steps) l.begun

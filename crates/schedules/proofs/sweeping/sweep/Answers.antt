@@ -17,4 +17,5 @@ returns-clause-records c =
       steps = c.drain.ensures.entered;
       idle = c.drain.ensures.drained.idle;
     } in
-    swept_has_records c.args.most old c.follow-end.result new swept c.roomy_is_kept-2.ensures.replay c.roomy_is_kept.ensures.replay.run.config
+    swept_has_records c.args.most old c.follow-end.result new swept c.reserved_log_is_well_formed-2.ensures.replay
+    c.reserved_log_is_well_formed.ensures.replay.run.config

@@ -6,6 +6,6 @@ abbrev pub invariant-loop-stage : goal.invariant-loop-stage
 invariant-loop-stage l = record {
   gone : HasGone l.limit ((l.initial.log.log.machine.config.k + 2) * 2 ^ l.initial.log.log.machine.config.k) ((l.initial.log.log.machine.config.k + 2 +
       l.stage) * 2 ^ l.initial.log.log.machine.config.k) l.initial.log.log None l.log.log;
-  room : length l.log.log.steps + l.log.places ≡ length l.initial.log.log.steps + l.initial.log.places;
+  room : length l.log.log.steps + l.log.capacity_left ≡ length l.initial.log.log.steps + l.initial.log.capacity_left;
   few : l.initial.log.log.machine.config.k ≤ 6;
 }

@@ -7,9 +7,9 @@ use Rattle.schedules.proofs.sweeping.take_row.Goals as goal
 
 pub loop-log-init : goal.loop-log-init
 loop-log-init g c = record {
-  replay = c.roomy_is_kept.ensures.replay;
+  replay = c.reserved_log_is_well_formed.ensures.replay;
   config = refl;
-  stages = c.roomy_is_kept.ensures.kept.sound.limits.stages;
+  stages = c.reserved_log_is_well_formed.ensures.kept.sound.limits.stages;
   room = refl;
   wire = omega arith;
   on = λ start b. subst (λ n. IsInRound c.args.limit start n c.args.log.now.log) (omega arith) b;
@@ -20,7 +20,7 @@ returns-in_err-next-clause-gone g c =
     let i = c.loop-log.invariant in
     let l = c.loop-log.log.log in
     let k = c.args.log.now.log.machine.config.k in
-    let few = c.roomy_is_kept.ensures.kept.sound.limits.stages in
+    let few = c.reserved_log_is_well_formed.ensures.kept.sound.limits.stages in
     let number = g.R.Row.number c.args.row.now in
     let size : l.machine.config.k ≡ k = ap (λ (d : Config). d.k) i.config in
     record {
@@ -41,7 +41,7 @@ returns-then-is_over-clause-gone g c =
     let next = c.in_ok-next.next in
     let size : l.machine.config.k ≡ k = ap (λ (d : Config). d.k) i.config in
     let there = row_step number c.machine.result.now l.machine k c.loop-log.wire next c.step.result c.machine.ensures.machine size c.in_ok-next.ensures.first
-    (c.step.ensures k c.roomy_is_kept.ensures.kept.sound.limits.stages c.requires.there) in
+    (c.step.ensures k c.reserved_log_is_well_formed.ensures.kept.sound.limits.stages c.requires.there) in
     let taken = c.step-outcome.ensures.taken in
     let inside : length l.steps < c.args.limit = (let len = ap length c.steps.ensures.steps in omega (arith, len, c.loop-log-test.true)) in
     let new = c.step-outcome.new.self.log in
@@ -65,7 +65,7 @@ loop-log-preserved g c =
     let next = c.in_ok-next.next in
     let size : l.machine.config.k ≡ k = ap (λ (d : Config). d.k) i.config in
     let there = row_step number c.machine.result.now l.machine k c.loop-log.wire next c.step.result c.machine.ensures.machine size c.in_ok-next.ensures.first
-    (c.step.ensures k c.roomy_is_kept.ensures.kept.sound.limits.stages c.requires.there) in
+    (c.step.ensures k c.reserved_log_is_well_formed.ensures.kept.sound.limits.stages c.requires.there) in
     let taken = c.step-outcome.ensures.taken in
     let inside : length l.steps < c.args.limit = (let len = ap length c.steps.ensures.steps in omega (arith, len, c.loop-log-test.true)) in
     let new = c.step-outcome.new.self.log in
@@ -76,7 +76,7 @@ loop-log-preserved g c =
       replay = c.machine-in-loop-log.ensures.replay;
       config = taken.step.config ∙ i.config;
       stages = subst (λ (d : Config). d.k ≤ 6) (sym taken.step.config) i.stages;
-      room = c.step-outcome.ensures.places ∙ i.room;
+      room = c.step-outcome.ensures.capacity_left ∙ i.room;
       wire = let less = there.0 in omega (arith, less);
       on = λ start b.
           step_goes_on c.args.limit start l new (number k * 2 ^ k + c.loop-log.wire) (number k * 2 ^ k + (next + 1)) c.step.result c.step-outcome.result

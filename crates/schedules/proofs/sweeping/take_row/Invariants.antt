@@ -9,7 +9,7 @@ invariant-loop-log g l = record {
   replay : IsReplay l.log.log.opening l.log.log.steps l.log.log.machine;
   config : l.log.log.machine.config ≡ l.initial.log.log.machine.config;
   stages : l.log.log.machine.config.k ≤ 6;
-  room : length l.log.log.steps + l.log.places ≡ length l.initial.log.log.steps + l.initial.log.places;
+  room : length l.log.log.steps + l.log.capacity_left ≡ length l.initial.log.log.steps + l.initial.log.capacity_left;
   wire : l.wire ≤ 2 ^ l.initial.log.log.machine.config.k;
   on : (start : Log) → IsInRound l.limit start (g.R.Row.number l.row l.initial.log.log.machine.config.k * 2 ^ l.initial.log.log.machine.config.k)
       l.initial.log.log →

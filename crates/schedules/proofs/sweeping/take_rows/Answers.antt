@@ -14,6 +14,6 @@ returns-in-Some-take_row-clause-gone c =
 
 pub returns-clause-gone : goal.returns-clause-gone
 returns-clause-gone c =
-    all_gone c.roomy_is_kept.ensures.kept.sound.limits.stages
+    all_gone c.reserved_log_is_well_formed.ensures.kept.sound.limits.stages
     (services_gone (ups_gone (turns_gone c.in_default.ensures.gone) c.in_default-take_ups.ensures.gone) c.in_default-take_row.ensures.gone)
     c.take_downs.ensures.gone

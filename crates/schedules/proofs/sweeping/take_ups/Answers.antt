@@ -7,7 +7,7 @@ pub loop-passed-init : goal.loop-passed-init
 loop-passed-init c = record {
   gone = gone_nowhere c.args.limit (1 * 2 ^ c.args.log.now.log.machine.config.k) c.args.log.now.log;
   room = refl;
-  few = c.roomy_is_kept.ensures.kept.sound.limits.stages;
+  few = c.reserved_log_is_well_formed.ensures.kept.sound.limits.stages;
 }
 
 pub returns-in-Some-clause-gone : goal.returns-in-Some-clause-gone

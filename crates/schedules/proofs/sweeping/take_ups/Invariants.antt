@@ -6,6 +6,6 @@ abbrev pub invariant-loop-passed : goal.invariant-loop-passed
 invariant-loop-passed l = record {
   gone : HasGone l.limit (1 * 2 ^ l.initial.log.log.machine.config.k) ((l.passed + 1) * 2 ^ l.initial.log.log.machine.config.k) l.initial.log.log None
       l.log.log;
-  room : length l.log.log.steps + l.log.places ≡ length l.initial.log.log.steps + l.initial.log.places;
+  room : length l.log.log.steps + l.log.capacity_left ≡ length l.initial.log.log.steps + l.initial.log.capacity_left;
   few : l.initial.log.log.machine.config.k ≤ 6;
 }

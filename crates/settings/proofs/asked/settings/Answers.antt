@@ -1,5 +1,5 @@
-use Rattle.settings.proofs.Plain.{OfCheck, OfDebug, OfDis, OfHunt, OfOrder, OfPicture, OfReplay, OfStats, OfStory}
-use Rattle.settings.proofs.Plain.{OfWords, asm_given, explain_given, explore_given, file_given, run_given}
+use Rattle.settings.proofs.Plain.{OfCheck, OfDebug, OfDis, OfOrder, OfPicture, OfReplay, OfStats, OfStory}
+use Rattle.settings.proofs.Plain.{OfWords, asm_given, explain_given, explore_given, file_given, hunt_given, run_given}
 use Rattle.settings.proofs.Plain.{trace_given}
 use Rattle.settings.proofs.asked.settings.Goals as goal
 
@@ -19,7 +19,7 @@ pub returns-clause-run_file : goal.returns-clause-run_file
 returns-clause-run_file c file named = run_given file _ named c.read.result c.read.ensures.asked c.read.ensures.kinds
 
 pub returns-clause-hunt_file : goal.returns-clause-hunt_file
-returns-clause-hunt_file c file named = file_given OfHunt file _ named c.read.result c.read.ensures.asked c.read.ensures.kinds
+returns-clause-hunt_file c file named = hunt_given file _ named c.read.result c.read.ensures.asked c.read.ensures.kinds
 
 pub returns-clause-explore_file : goal.returns-clause-explore_file
 returns-clause-explore_file c file named = explore_given file _ named c.read.result c.read.ensures.asked c.read.ensures.kinds

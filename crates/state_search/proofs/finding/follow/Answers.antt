@@ -1,11 +1,11 @@
 use Rattle.std.proofs.Common.{◌≡◌, ◌+◌, ℕ, List, [], ◌∷◌, ◌++◌, Some, length, sym, ap, subst, ◌∙◌, arith}
 use Rattle.std.specs.Prelude.{slice_get}
 use Rattle.local_reduction.specs.Live.{HasAllLive}
-use Rattle.state_search.specs.Search.{Searched}
-use Rattle.state_search.specs.Tables.{IsRow, means}
+use Rattle.state_search.specs.Search.{AreAllFound, Searched}
+use Rattle.state_search.specs.StateTables.{IsRow, means}
 use Rattle.state_search.proofs.Lemmas.{found_at, past}
 use Rattle.state_search.proofs.Growing.{kept_all, kept_on}
-use Rattle.state_search.proofs.Searching.{begun}
+use Rattle.state_search.proofs.Searching.{all_begun, begun}
 use Rattle.state_search.proofs.finding.follow.Goals as goal
 
 pub loop-at-init : goal.loop-at-init
@@ -13,12 +13,15 @@ loop-at-init g c =
     let keys = rw c.requires.nothing.0 at c.in-Ok.ensures.keys in
     record {
       kept = kept_all _;
-      stations = c.requires.stations;
+      local_states = c.requires.local_states;
       lists = c.requires.lists;
       searched = subst (λ (z : List (List ℕ) × List (List ℕ)).
-          Searched c.args.extent c.args.code.now c.args.classes.now c.args.tables.now z.0 z.1 (means c.args.extent c.args.tables.now c.args.first) 0)
+          Searched c.args.extent c.args.code.now c.args.classes.now c.args.state_tables.now z.0 z.1
+          (means c.args.extent c.args.state_tables.now c.args.first) 0)
           (λ i. (sym keys i, sym c.requires.nothing.1 i))
-          (begun c.args.extent c.args.code.now c.args.classes.now c.args.tables.now c.args.first c.requires.row);
+          (begun c.args.extent c.args.code.now c.args.classes.now c.args.state_tables.now c.args.first c.requires.row);
+      all = subst (λ (z : List (List ℕ) × List (List ℕ)). AreAllFound z.0 z.1) (λ i. (sym keys i, sym c.requires.nothing.1 i))
+          (all_begun c.args.extent c.args.code.now c.args.classes.now c.args.first);
     }
 
 pub expand-requires : goal.expand-requires
@@ -36,8 +39,8 @@ expand-requires g c =
             (
               there.1,
               (
-                subst (IsRow c.args.extent c.loop-at.tables) there.1 (c.loop-at.invariant.searched.are_rows c.loop-at.at there.0),
-                (c.requires.room, (c.requires.narrow, (c.loop-at.invariant.stations, c.loop-at.invariant.lists))),
+                subst (IsRow c.args.extent c.loop-at.state_tables) there.1 (c.loop-at.invariant.searched.are_rows c.loop-at.at there.0),
+                (c.requires.room, (c.requires.narrow, (c.loop-at.invariant.local_states, c.loop-at.invariant.lists))),
               ),
             ),
           ),
@@ -51,11 +54,15 @@ loop-at-preserved g c =
     c.in-Ok-push.ensures.added ∙ ap (λ vs. c.loop-at.found.moves ++ vs ∷ []) c.as_slice.ensures.value in
     record {
       kept = kept_on _ _ _ c.loop-at.invariant.kept c.in_ok-expand.ensures.kept;
-      stations = c.in_ok-expand.ensures.stations;
+      local_states = c.in_ok-expand.ensures.local_states;
       lists = c.in_ok-expand.ensures.lists;
-      searched = subst (λ ms. Searched c.args.extent c.args.code.now c.args.classes.now c.expand.new.tables c.expand.new.rows.keys ms
-          (means c.args.extent c.args.tables.now c.args.first) (c.loop-at.at + 1)) (sym moves)
-          (c.in_ok-expand.ensures.searched (means c.args.extent c.args.tables.now c.args.first) c.loop-at.found.moves c.loop-at.invariant.searched);
+      searched = subst (λ ms. Searched c.args.extent c.args.code.now c.args.classes.now c.expand.new.state_tables c.expand.new.rows.keys ms
+          (means c.args.extent c.args.state_tables.now c.args.first) (c.loop-at.at + 1)) (sym moves)
+          (c.in_ok-expand.ensures.searched (means c.args.extent c.args.state_tables.now c.args.first) c.loop-at.found.moves
+          c.loop-at.invariant.searched c.loop-at.invariant.all).0;
+      all = subst (AreAllFound c.expand.new.rows.keys) (sym moves)
+          (c.in_ok-expand.ensures.searched (means c.args.extent c.args.state_tables.now c.args.first) c.loop-at.found.moves
+          c.loop-at.invariant.searched c.loop-at.invariant.all).1;
     }
 
 pub returns-in_default-copied-clause-searched : goal.returns-in_default-copied-clause-searched
@@ -64,11 +71,16 @@ returns-in_default-copied-clause-searched g c =
     let end = past c.loop-at.found.rows.keys c.loop-at.at none in
     let within = c.loop-at.invariant.searched.within in
     let all : c.loop-at.at ≡ length c.loop-at.found.rows.keys = omega (arith, end, within) in
-    subst (Searched c.args.extent c.args.code.now c.args.classes.now c.loop-at.tables c.loop-at.found.rows.keys c.loop-at.found.moves
-    (means c.args.extent c.args.tables.now c.args.first)) all c.loop-at.invariant.searched
+    subst (Searched c.args.extent c.args.code.now c.args.classes.now c.loop-at.state_tables c.loop-at.found.rows.keys c.loop-at.found.moves
+    (means c.args.extent c.args.state_tables.now c.args.first)) all c.loop-at.invariant.searched
 
-pub returns-in_default-copied-clause-few : goal.returns-in_default-copied-clause-few
-returns-in_default-copied-clause-few g c =
-    let none = sym c.get_index.ensures.key ∙ (sym c.copied.ensures ∙ c.in_default-copied.is) in
-    let end = past c.loop-at.found.rows.keys c.loop-at.at none in
-    omega (arith, end)
+pub returns-then-len-limit-clause-many : goal.returns-then-len-limit-clause-many
+returns-then-len-limit-clause-many g c = (
+  c.loop-at.invariant.kept,
+  record {
+    moves = c.loop-at.found.moves;
+    done = c.loop-at.at;
+    searched = c.loop-at.invariant.searched;
+    many = omega arith;
+  },
+)

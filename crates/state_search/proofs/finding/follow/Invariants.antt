@@ -1,12 +1,13 @@
-use Rattle.state_search.specs.Search.{Searched}
-use Rattle.state_search.specs.Memo.{KnowsLists, KnowsStations}
-use Rattle.state_search.specs.Tables.{HasGrown, means}
+use Rattle.state_search.specs.Search.{AreAllFound, Searched}
+use Rattle.state_search.specs.TransitionCache.{KnowsLists, KnowsLocalStates}
+use Rattle.state_search.specs.StateTables.{HasGrown, means}
 use Rattle.state_search.proofs.finding.follow.Given as goal
 
 abbrev pub invariant-loop-at : goal.invariant-loop-at
 invariant-loop-at g l = record {
-  kept : HasGrown l.fn.tables l.tables;
-  stations : KnowsStations l.extent.exchanged l.code l.tables l.memos.stations;
-  lists : KnowsLists l.tables l.memos.lists;
-  searched : Searched l.extent l.code l.classes l.tables l.found.rows.keys l.found.moves (means l.extent l.fn.tables l.fn.first) l.at;
+  kept : HasGrown l.fn.state_tables l.state_tables;
+  local_states : KnowsLocalStates l.extent.exchanged l.code l.state_tables l.transition_caches.local_states;
+  lists : KnowsLists l.state_tables l.transition_caches.lists;
+  searched : Searched l.extent l.code l.classes l.state_tables l.found.rows.keys l.found.moves (means l.extent l.fn.state_tables l.fn.first) l.at;
+  all : AreAllFound l.found.rows.keys l.found.moves;
 }

@@ -1,12 +1,12 @@
 use Rattle.state_search.specs.Ends.{AreRows}
-use Rattle.state_search.specs.Memo.{KnowsLists, KnowsStations}
-use Rattle.state_search.specs.Tables.{HasGrown}
+use Rattle.state_search.specs.TransitionCache.{KnowsLists, KnowsLocalStates}
+use Rattle.state_search.specs.StateTables.{HasGrown}
 use Rattle.state_search.proofs.walk.movers_of.Given as goal
 
 abbrev pub invariant-loop-place : goal.invariant-loop-place
 invariant-loop-place g l = record {
-  kept : HasGrown l.fn.tables l.tables;
-  stations : KnowsStations l.extent.exchanged l.code l.tables l.memos.stations;
-  lists : KnowsLists l.tables l.memos.lists;
-  rows : AreRows l.extent l.tables l.rows.keys;
+  kept : HasGrown l.fn.state_tables l.state_tables;
+  local_states : KnowsLocalStates l.extent.exchanged l.code l.state_tables l.transition_caches.local_states;
+  lists : KnowsLists l.state_tables l.transition_caches.lists;
+  rows : AreRows l.extent l.state_tables l.rows.keys;
 }

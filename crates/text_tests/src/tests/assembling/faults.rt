@@ -55,7 +55,7 @@ static FAULTS: [(&str, &str); 43] = [
     (".shared\n.zero 786432\n\n.word 1", "A6 line 4"),
 ];
 
-/// Each fault, and how it is told.
+/// Each fault, and how it is reported.
 static CODES: [(AsmFault, &str); 7] = [
     (AsmFault::UnknownWord, "A1 line 7"),
     (AsmFault::Form, "A2 line 7"),

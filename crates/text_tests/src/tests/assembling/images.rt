@@ -8,11 +8,11 @@ use std::alloc::{AllocError, Global};
 use std::test::Fail;
 use test_support::{EBREAK, assert_same, layout_text};
 
-/// What is told of a text's image file, when it is read for a machine with so many shared words: its refusal, or the layout, and the
-/// words that it was read for.
+/// What is said of a text's image file, when it is read for a machine with this many shared words: its refusal, or the
+/// layout, and the words that it was read for.
 fn read_back(alloc: Global, text: &str, shared_words: u32) -> Result<String, Fail> {
     let file = image_of(alloc, text)?;
-    Ok(told(alloc, read(alloc, file.as_slice(), shared_words))?)
+    Ok(reported(alloc, read(alloc, file.as_slice(), shared_words))?)
 }
 
 fn read(alloc: Global, file: &[u8], shared_words: u32) -> Result<Image, ImageError> {
@@ -26,7 +26,7 @@ fn read(alloc: Global, file: &[u8], shared_words: u32) -> Result<Image, ImageErr
     read_image(alloc, &mut Meter::new(file), &config)
 }
 
-fn told(alloc: Global, read: Result<Image, ImageError>) -> Result<String, AllocError> {
+fn reported(alloc: Global, read: Result<Image, ImageError>) -> Result<String, AllocError> {
     match read {
         Ok(image) => {
             let text = layout_text(alloc, image.layout())?;
@@ -43,7 +43,7 @@ fn image_of_one_instruction(rt: HostRuntime) -> Result<(), Fail> {
     Ok(())
 }
 
-/// A header for each section that has bytes, which follow one another behind the headers.
+/// A header for each section that has bytes, which follow one another after the headers.
 #[test]
 fn image_of_three_sections(rt: HostRuntime) -> Result<(), Fail> {
     let text = "ecall\nstart: ebreak\n.shared\n.byte 6, 7, 8\n.local\n.byte 5";
@@ -71,7 +71,7 @@ fn programs_are_read_back(rt: HostRuntime) -> Result<(), Fail> {
     Ok(())
 }
 
-/// Texts, the shared words of the machine, and what is told.
+/// Texts, the shared words of the machine, and what is reported.
 static READ_BACK: [(&str, u32, &str); 10] = [
     (
         ".local\n.byte 1, 0\n.shared\n.word 0x04030201\n.byte 5\n.code\nebreak\nstart: ecall",
@@ -89,7 +89,7 @@ static READ_BACK: [(&str, u32, &str); 10] = [
         "shared 00*786432 words 196608",
     ),
     (".shared\n.zero 786432", 196_607, "I5"),
-    // The last word of code, and the address behind it.
+    // The last word of code, and the address after it.
     (
         ".zero 65532\nstart: ebreak",
         1,

@@ -2,10 +2,10 @@
 
 ghost use Rattle.std.specs.Prelude.{◌≡◌, false};
 
-use super::{AMPLE, Ran, run};
+use super::{AMPLE, Ran, run, run_from};
 use flat_machine::Config;
 use link::{Link, Meter};
-use processor_threads::Open;
+use processor_threads::{Gate, Open};
 use run_command::threaded_run_command;
 use std::alloc::Global;
 use std::fmt::Write;
@@ -13,12 +13,12 @@ use std::process::Abort;
 use std::test::Fail;
 use test_support::{EBREAK, Sink, assert_same, image_of, size};
 
-/// Nothing is printed and no trace is written, and this is told.
-fn tells(rt: &impl Abort, ran: Ran, told: &str, status: u8) {
-    assert_same!(rt; ran.err.as_slice(), told.as_bytes());
-    assert_same!(rt; ran.out.len(), 0, told);
-    assert_same!(rt; ran.trace.len(), 0, told);
-    assert_same!(rt; ran.status, status, told);
+/// Nothing is printed and no trace is written, and this is reported.
+fn tells(rt: &impl Abort, ran: Ran, reported: &str, status: u8) {
+    assert_same!(rt; ran.err.as_slice(), reported.as_bytes());
+    assert_same!(rt; ran.out.len(), 0, reported);
+    assert_same!(rt; ran.trace.len(), 0, reported);
+    assert_same!(rt; ran.status, status, reported);
 }
 
 /// This is printed, and the processor has halted.
@@ -27,7 +27,7 @@ fn halts(rt: &impl Abort, ran: Ran, report: &str) {
     assert_same!(rt; ran.status, 0);
 }
 
-/// So many instructions that add 1 to a register, and then a halt.
+/// This many instructions that add 1 to a register, and then a halt.
 fn adds(alloc: Global, count: u32) -> Result<Vec<u8>, Fail> {
     let mut text = String::new(alloc);
     for _ in 0..count {
@@ -37,7 +37,8 @@ fn adds(alloc: Global, count: u32) -> Result<Vec<u8>, Fail> {
     image_of(alloc, text.as_str())
 }
 
-/// A round takes 64 instructions with the core on loan, and then a turn: so 64 and the halt are one round, and 65 and the halt two.
+/// A round takes 64 instructions with the core on loan, and then a turn: so 64 and the halt are one round, and 65 and
+/// the halt two.
 #[test]
 fn budget_that_is_just_enough(rt: HostRuntime) -> Result<(), Fail> {
     let just = adds(rt.alloc(), 64)?;
@@ -54,6 +55,66 @@ fn budget_that_is_just_enough(rt: HostRuntime) -> Result<(), Fail> {
         ran(more.as_slice(), 2),
         "processor 0 pc 00010104 halt 00 retired 65 console -\n",
     );
+    Ok(())
+}
+
+/// A gate that lets one round pass at a time: so each counts, also one that finds nothing.
+struct EachCounts;
+
+impl Gate for EachCounts {
+    fn before(&self, _p: u8, _turn: u64) {}
+}
+
+/// The processor for which this branch is not taken adds 2 to word 0. The other halts in its first round, before it
+/// asks for a step.
+fn one_adds(alloc: Global, branch: &str) -> Result<Vec<u8>, Fail> {
+    let mut text = String::new(alloc);
+    write!(
+        text,
+        "addi x17, x0, 2
+         ecall
+         {branch} x10, x0, done
+         lui x12, 0x80000
+         amoadd.w x11, x17, (x12)
+         done: addi x17, x0, 0
+         addi x10, x0, 0
+         ecall
+"
+    )?;
+    image_of(alloc, text.as_str())
+}
+
+/// So it depends on the steps that the arbiter of one processor picks how many rounds a run takes: two more than it
+/// has picks up to the move of the reply, after that of the request and the service. A separate program has counted
+/// them, from the definition of the generator.
+#[test]
+fn the_start_decides_the_steps(rt: HostRuntime) -> Result<(), Fail> {
+    let alloc = rt.alloc();
+    for (branch, p, runs) in [
+        ("bne", 0, [(0, 19), (1, 19), (2, 6), (4, 7), (u32::MAX, 30)]),
+        (
+            "beq",
+            1,
+            [(0, 19), (1, 13), (2, 39), (4, 29), (u32::MAX, 19)],
+        ),
+    ] {
+        let image = one_adds(alloc, branch)?;
+        for (start, rounds) in runs {
+            let ran = |budget| run_from(
+                &rt,
+                alloc,
+                &EachCounts,
+                start,
+                image.as_slice(),
+                size(1),
+                budget,
+            );
+            tells(&rt, ran(rounds - 1), "ultra: budget\n", 4);
+            let enough = ran(rounds);
+            assert_same!(rt; enough.status, 0, (p, start));
+            assert_same!(rt; enough.err.len(), 0);
+        }
+    }
     Ok(())
 }
 
@@ -91,11 +152,11 @@ fn failing_link(alloc: Global, fails_at: usize) -> Meter<Sink>
     Meter::new(Sink::new(Vec::new(alloc), fails_at))
 }
 
-/// A trace that cannot be written is told before the report. That is the second to be written.
+/// A trace that cannot be written is reported before the report. That is the second to be written.
 #[test]
 fn tells_what_cannot_be_written(rt: HostRuntime) {
     let alloc = rt.alloc();
-    for (of_trace, of_report, told, written) in [
+    for (of_trace, of_report, reported, written) in [
         (1, 1, "ultra: X5\n", 0),
         (24, 0, "ultra: X5\n", 0),
         (0, 1, "ultra: link\n", 0),
@@ -116,13 +177,14 @@ fn tells_what_cannot_be_written(rt: HostRuntime) {
             &mut out,
             &mut err,
         );
-        assert_same!(rt; err.as_slice(), told.as_bytes());
-        assert_same!(rt; out.device.bytes.len(), written, told);
-        assert_same!(rt; status, 3, told);
+        assert_same!(rt; err.as_slice(), reported.as_bytes());
+        assert_same!(rt; out.device.bytes.len(), written, reported);
+        assert_same!(rt; status, 3, reported);
     }
 }
 
-/// Each allocation of this test is to be refused in turn. Then the answer is that of ample memory, or that there is none.
+/// Each allocation of this test is to be refused in turn. Then the answer is that of ample memory, or that there is
+/// none.
 #[test]
 fn is_short_of_memory(rt: HostRuntime) -> Result<(), Fail> {
     let alloc = rt.alloc();

@@ -10,7 +10,7 @@ use std::test::Fail;
 use std::thread::Threads;
 use test_support::{HUNDRED_ADDS, assert_same, image_of, report_of_hundred_adds, size};
 
-/// A command has printed this report, told nothing, and ended with this status.
+/// A command has printed this report, reported nothing, and ended with this status.
 fn prints(rt: &impl Abort, ran: Ran, report: &str, status: u8) {
     assert_same!(rt; ran.err.len(), 0, report);
     assert_same!(rt; ran.out.as_slice(), report.as_bytes());
@@ -73,7 +73,8 @@ fn more_bytes_than_a_queue_holds(rt: HostRuntime) -> Result<(), Fail> {
     assert_reported(&rt, rt.alloc(), (SENDS_MANY, 0), report.as_str(), 0)
 }
 
-/// Processor 0 stops by EBREAK, and the other goes on until it halts with its number, which it has written to the console twice.
+/// Processor 0 stops by EBREAK, and the other goes on until it halts with its number, which it has written to the
+/// console twice.
 #[test]
 fn goes_on_behind_a_fault(rt: HostRuntime) -> Result<(), Fail> {
     let text = "

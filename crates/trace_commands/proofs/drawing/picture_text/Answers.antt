@@ -6,10 +6,10 @@ use Rattle.machine_steps.specs.Runs.{IsRun}
 use Rattle.trace_commands.proofs.drawing.picture_text.Goals as goal
 
 pub loop-step-init : goal.loop-step-init
-loop-step-init c = (c.answers_go_on.ensures.begin c.args.machine.now).0
+loop-step-init g c = (c.answers_go_on.ensures.begin c.args.machine.now).0
 
 pub loop-step-preserved : goal.loop-step-preserved
-loop-step-preserved c =
+loop-step-preserved g c =
     let steps = c.args.steps.now in
     let l = c.loop-step in
     subst (λ (done : List Step). IsRun c.args.machine.now done c.apply.new.self)

@@ -7,7 +7,7 @@ use Rattle.link.specs.Transfer.{AppendsPart}
 use Rattle.steps.specs.declared.step.Step.{Step}
 use Rattle.trace_file.specs.Traces.{IsTrace, trace_bytes, trace_of}
 use Rattle.machine_steps.specs.Machines.{MachineLists}
-use Rattle.trace_commands.specs.Accounts.{IsPartSaved, IsSaved}
+use Rattle.trace_commands.specs.TraceReports.{IsPartSaved, IsSaved}
 use Rattle.trace_commands.proofs.printing.print_run.Goals as goal
 
 pub save-requires-clause-trace : goal.save-requires-clause-trace
@@ -29,8 +29,8 @@ returns-clause-reported g c =
           c.in_ok-print.ensures.printed;
     }
 
-pub returns-in_err-save-clause-told : goal.returns-in_err-save-clause-told
-returns-in_err-save-clause-told g c =
+pub returns-in_err-save-clause-fault : goal.returns-in_err-save-clause-fault
+returns-in_err-save-clause-fault g c =
     let size = c.config.ensures.config ∙ ap (λ (m : MachineLists). m.config) c.machine.ensures.machine in
     let p = err_from_is_err_and c.from_residual-in_err-save.result c.from_residual-in_err-save.ensures.1 in
     let f = c.in_err-save.ensures.failed in
@@ -40,8 +40,8 @@ returns-in_err-save-clause-told g c =
           (trace_bytes (trace_of x.0 x.1))) (λ i. (size i, c.steps.ensures.steps i)) f.1,
     )
 
-pub returns-in_err-print-clause-told : goal.returns-in_err-print-clause-told
-returns-in_err-print-clause-told g c =
+pub returns-in_err-print-clause-fault : goal.returns-in_err-print-clause-fault
+returns-in_err-print-clause-fault g c =
     let size = c.config.ensures.config ∙ ap (λ (m : MachineLists). m.config) c.machine.ensures.machine in
     let p = err_from_is_err_and c.from_residual-in_err-print.result c.from_residual-in_err-print.ensures.1 in
     let f = c.in_err-print.ensures.begun in

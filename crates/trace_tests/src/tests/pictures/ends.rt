@@ -1,21 +1,25 @@
-//! What is told where there is no picture, and the exit statuses.
+//! What is reported where there is no picture, and the exit statuses.
 
 use super::run;
 use link::Meter;
+use machine_picture::Svg;
 use std::alloc::Global;
 use std::io::{self, ErrorKind};
 use std::process::Abort;
 use std::test::Fail;
 use test_support::{Deaf, EBREAK, Sink, Source, assert_same, image_of, trace_of};
-use trace_commands::{Picture, account_command};
+use trace_commands::{Picture, trace_command};
 
-/// The picture behind all steps.
-const WHOLE: Picture = Picture { step: None };
+/// The picture after all steps.
+const WHOLE: Picture<Svg> = Picture {
+    step: None,
+    drawing: Svg,
+};
 
 /// A turn of processor 0.
 static TURN: [u8; 12] = [1, 0, 0, 0, 0, 0, 0, 0, 0, 0, 0, 0];
 
-/// Of a trace on an image nothing is printed, and this is told.
+/// Of a trace on an image nothing is printed, and this is reported.
 fn assert_told(
     rt: &impl Abort,
     alloc: Global,
@@ -28,8 +32,8 @@ fn assert_told(
     assert_same!(rt; ran.status, status, fault);
 }
 
-/// A fault is told as by `replay`, though no step was asked for: a trace's before the file of the image is looked at, and the
-/// image's before the machine's size.
+/// A fault is reported as by `replay`, though no step was asked for: a trace's before the file of the image is looked
+/// at, and the image's before the machine's size.
 #[test]
 fn tells_the_first_fault(rt: HostRuntime) -> Result<(), Fail> {
     let alloc = rt.alloc();
@@ -52,7 +56,7 @@ fn tells_the_first_fault(rt: HostRuntime) -> Result<(), Fail> {
     Ok(())
 }
 
-/// The fault of a processor is told where the picture shows it.
+/// The fault of a processor is reported where the picture shows it.
 #[test]
 fn tells_a_fault_that_is_drawn(rt: HostRuntime) -> Result<(), Fail> {
     let alloc = rt.alloc();
@@ -84,7 +88,7 @@ fn picture_that_cannot_be_printed(rt: HostRuntime) -> Result<(), Fail> {
         let mut out = Meter::new(Sink::new(Vec::new(alloc), fails_at));
         let mut err = Vec::new(alloc);
         let file = Ok(EBREAK.as_slice());
-        let status = account_command(alloc, trace, file, 1, &WHOLE, &mut out, &mut err);
+        let status = trace_command(alloc, trace, file, 1, &WHOLE, &mut out, &mut err);
         assert_same!(rt; Some(out.device.bytes.as_slice()), whole.out.get(..fails_at.saturating_sub(1)));
         assert_same!(rt; err.as_slice(), b"ultra: link\n".as_slice());
         assert_same!(rt; status, 3);
@@ -92,7 +96,7 @@ fn picture_that_cannot_be_printed(rt: HostRuntime) -> Result<(), Fail> {
     Ok(())
 }
 
-/// A trace and an image that cannot be read. Where standard error fails too, the exit status alone tells the fault.
+/// A trace and an image that cannot be read. Where standard error fails too, the exit status alone says the fault.
 #[test]
 fn files_that_cannot_be_read(rt: HostRuntime) -> Result<(), Fail> {
     let alloc = rt.alloc();
@@ -100,13 +104,13 @@ fn files_that_cannot_be_read(rt: HostRuntime) -> Result<(), Fail> {
     let mut out = Meter::new(Vec::new(alloc));
     let trace = Source::new(turn.as_slice(), 5);
     let file = Ok(EBREAK.as_slice());
-    let status = account_command(alloc, trace, file, 1, &WHOLE, &mut out, &mut Deaf);
+    let status = trace_command(alloc, trace, file, 1, &WHOLE, &mut out, &mut Deaf);
     assert_same!(rt; out.device.len(), 0);
     assert_same!(rt; status, 3);
     let mut out = Meter::new(Vec::new(alloc));
     let mut err = Vec::new(alloc);
     let file = Ok(Source::new(&EBREAK, 5));
-    let status = account_command(alloc, turn.as_slice(), file, 1, &WHOLE, &mut out, &mut err);
+    let status = trace_command(alloc, turn.as_slice(), file, 1, &WHOLE, &mut out, &mut err);
     assert_same!(rt; err.as_slice(), b"ultra: I9\n".as_slice());
     assert_same!(rt; out.device.len(), 0);
     assert_same!(rt; status, 3);
@@ -121,7 +125,7 @@ fn is_short_of_memory(rt: HostRuntime) -> Result<(), Fail> {
     let mut out = Meter::new(Sink::new(Vec::with_capacity(alloc, 4096)?, 0));
     let mut err = Vec::with_capacity(alloc, 64)?;
     let file = Ok(EBREAK.as_slice());
-    match account_command(alloc, turn.as_slice(), file, 1, &WHOLE, &mut out, &mut err) {
+    match trace_command(alloc, turn.as_slice(), file, 1, &WHOLE, &mut out, &mut err) {
         1 => assert!(rt; out.device.bytes.ends_with(b"</svg>\n")),
         status => {
             assert_same!(rt; status, 4);

@@ -6,8 +6,8 @@ use std::alloc::Global;
 use std::test::Fail;
 use test_support::{ADD_AT_X12, FOUR_ADDS, assert_same, image_of, trace_of};
 
-/// The texts of a class, in the order of the picture: from left to right by columns, and in each from the top. `|` stands between
-/// two.
+/// The texts of a class, in the order of the picture: from left to right by columns, and in each from the top. `|`
+/// stands between two.
 fn texts_of(alloc: Global, picture: &str, class: &str) -> Result<String, Fail> {
     let mut texts = String::new(alloc);
     let begin = format!(in alloc; "class=\"{class}\">")?;
@@ -20,7 +20,7 @@ fn texts_of(alloc: Global, picture: &str, class: &str) -> Result<String, Fail> {
     Ok(texts)
 }
 
-/// How many steps, and the texts of requests, wait records and replies behind them.
+/// How many steps, and the texts of requests, wait records and replies after them.
 static FOUR_STANDS: [(u32, &str, &str, &str); 13] = [
     (0, "", "", ""),
     (9, "", "", ""),
@@ -62,7 +62,7 @@ fn four_adds(rt: HostRuntime) -> Result<(), Fail> {
     Ok(())
 }
 
-/// Behind the service processor 0 still waits, and the word has its new value, 10 + 1 + 2 + 4 + 8.
+/// After the service processor 0 still waits, and the word has its new value, 10 + 1 + 2 + 4 + 8.
 #[test]
 fn processors_and_words(rt: HostRuntime) -> Result<(), Fail> {
     let alloc = rt.alloc();
@@ -90,7 +90,7 @@ fn processors_and_words(rt: HostRuntime) -> Result<(), Fail> {
     Ok(())
 }
 
-/// Without wait records the requests of 0 and 2 stand one behind the other, the first at the right.
+/// Without wait records the requests of 0 and 2 stand one after another, the first at the right.
 #[test]
 fn first_comes_first(rt: HostRuntime) -> Result<(), Fail> {
     let alloc = rt.alloc();
@@ -110,7 +110,7 @@ fn behind_all(rt: HostRuntime) -> Result<(), Fail> {
     let image = image_of(alloc, ADD_AT_X12)?;
     let trace = trace_of(alloc, (2, 4, 4), &FOUR_ADDS)?;
     let all = run(alloc, trace.as_slice(), Ok(image.as_slice()), 1, None);
-    assert!(rt; str::from_utf8(all.out.as_slice())?.contains("behind 27 steps; k 2 c 4 b 4<"));
+    assert!(rt; str::from_utf8(all.out.as_slice())?.contains("behind 27 steps; k 2 c 4 b 4 r 1<"));
     for step in [27, 28, u32::MAX] {
         let Ran { out, status, .. } = run(
             alloc,
@@ -125,7 +125,7 @@ fn behind_all(rt: HostRuntime) -> Result<(), Fail> {
     Ok(())
 }
 
-/// Steps behind a cut trace are those of a drain: 19 services are followed by what brings the replies home.
+/// Steps after a cut trace are those of a drain: 19 services are followed by what brings the replies home.
 #[test]
 fn behind_a_drain(rt: HostRuntime) -> Result<(), Fail> {
     let alloc = rt.alloc();

@@ -12,6 +12,6 @@ returns-then-has_place c = (
 
 pub returns-else-has_place : goal.returns-else-has_place
 returns-else-has_place c =
-    let told : is_some c.partner.result ≡ c.is_some.result = cc in
-    by_partner (output_in c.args.pool.now c.args.self.now) c.args.request.now c.partner.result c.is_some.result told c.partner.ensures.first
+    let fact : is_some c.partner.result ≡ c.is_some.result = cc in
+    by_partner (output_in c.args.pool.now c.args.self.now) c.args.request.now c.partner.result c.is_some.result fact c.partner.ensures.first
     (no_place (output_in c.args.pool.now c.args.self.now) c.has_place.result c.has_place.ensures.1 c.if-has_place.false)

@@ -37,7 +37,7 @@ loop-record-init c =
     let seconds : List Reply = map (reply_of x.value) (records_of x.leader c.args.records.now) in
     record {
       so_far = put_none s.its_bit s.inputs c.put.new.pool;
-      told = refl;
+      fact = refl;
       others = subst (λ (pool : PoolLists). CanBeQueued pool seconds) (sym c.put.ensures)
           (queue_next s.its_bit s.inputs c.args.pool.now x seconds c.requires.leaders);
       stands = still_there s c.args.pool.now c.put.new.pool x c.put.ensures c.requires.queues;
@@ -89,7 +89,7 @@ loop-record-preserved c =
             so_far = put ∙ ap (λ (pool : PoolLists). put_reply s.its_bit s.inputs pool y) c.loop-record.invariant.so_far
                 ∙ sym (put_one_more s.its_bit s.inputs x.value (records_of x.leader (take j es)) e c.put.new.pool)
                 ∙ ap (λ (rs : List Record). put_replies s.its_bit s.inputs (map (reply_of x.value) rs) c.put.new.pool) (sym more);
-            told = w.answered-is ∙ w.and-answered.ensures (records_of x.leader (take j es)) e c.loop-record.invariant.told refl
+            fact = w.answered-is ∙ w.and-answered.ensures (records_of x.leader (take j es)) e c.loop-record.invariant.fact refl
                 ∙ ap answered_for (sym more);
             others = subst (λ (pool : PoolLists). CanBeQueued pool (map (reply_of x.value) (records_of x.leader (drop (j + 1) es)))) (sym put)
                 (queue_next s.its_bit s.inputs before y (map (reply_of x.value) (records_of x.leader (drop (j + 1) es)))
@@ -103,7 +103,7 @@ loop-record-preserved c =
           record {
             so_far = w.pool-is ∙ c.loop-record.invariant.so_far
                 ∙ ap (λ (rs : List Record). put_replies s.its_bit s.inputs (map (reply_of x.value) rs) c.put.new.pool) same;
-            told = w.answered-is ∙ c.loop-record.invariant.told ∙ ap answered_for same;
+            fact = w.answered-is ∙ c.loop-record.invariant.fact ∙ ap answered_for same;
             others = subst (λ (pool : PoolLists). CanBeQueued pool (map (reply_of x.value) (records_of x.leader (drop (j + 1) es)))) (sym w.pool-is)
                 (subst (λ (rs : List Record). CanBeQueued before (map (reply_of x.value) rs))
                 (left_less x.leader es j e false c.loop-record-test.true c.record-item.is is) c.loop-record.invariant.others);
@@ -124,5 +124,5 @@ returns-clause-replies c =
 
 pub returns-clause-answer : goal.returns-clause-answer
 returns-clause-answer c =
-    c.loop-record.invariant.told
+    c.loop-record.invariant.fact
     ∙ ap (λ (rs : List Record). answered_for (records_of c.args.reply.leader rs)) (take_all c.loop-record.record-index c.args.records.now (omega arith))

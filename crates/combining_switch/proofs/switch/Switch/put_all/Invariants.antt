@@ -8,7 +8,7 @@ abbrev pub invariant-loop-record : goal.invariant-loop-record
 invariant-loop-record l = record {
   so_far : l.pool ≡ put_replies l.self.its_bit l.self.inputs
       (map (reply_of l.reply.value) (records_of l.reply.leader (take l.record-index l.records))) l.initial.pool;
-  told : l.answered ≡ answered_for (records_of l.reply.leader (take l.record-index l.records));
+  fact : l.answered ≡ answered_for (records_of l.reply.leader (take l.record-index l.records));
   others : CanBeQueued l.pool (map (reply_of l.reply.value) (records_of l.reply.leader (drop l.record-index l.records)));
   stands : StandsIn l.self l.pool;
 }

@@ -1,12 +1,12 @@
 use Rattle.std.proofs.Common.{◌≡◌, ◌<◌, ◌∙◌, length, arith, rules}
 use Rattle.std.proofs.lemmas.List.{length-set}
 use Rattle.machine_steps.specs.Runs.{flat_state}
-use Rattle.debug_replies.proofs.Faulted.{all_told, none_flagged, rest_more, told_more}
+use Rattle.debug_replies.proofs.Faulted.{all_flags, none_flagged, rest_more, more_flags}
 use Rattle.debug_replies.specs.Stops.{is_faulted_at}
 use Rattle.debug_replies.proofs.faults.Faults.of.Goals as goal
 
 pub loop-processor-init : goal.loop-processor-init
-loop-processor-init c = record { size = search rules; told = λ p below. absurd (omega arith); rest = λ p from. none_flagged 64 p }
+loop-processor-init c = record { size = search rules; fact = λ p below. absurd (omega arith); rest = λ p from. none_flagged 64 p }
 
 pub loop-processor-preserved : goal.loop-processor-preserved
 loop-processor-preserved c =
@@ -16,7 +16,7 @@ loop-processor-preserved c =
     let within : processor < length flags = omega (arith, i.size, c.loop-processor-test.true, c.flat_processors-processor-end.ensures.few) in
     record {
       size = length-set flags processor c.is_faulted.result ∙ i.size;
-      told = λ p below. told_more flags processor c.is_faulted.result (is_faulted_at (flat_state c.args.machine.now)) within c.is_faulted.ensures i.told p
+      fact = λ p below. more_flags flags processor c.is_faulted.result (is_faulted_at (flat_state c.args.machine.now)) within c.is_faulted.ensures i.fact p
           (omega arith);
       rest = λ p from. rest_more flags processor c.is_faulted.result i.rest p (omega arith);
     }
@@ -27,4 +27,4 @@ returns c =
     let i = c.loop-processor.invariant in
     let all : c.loop-processor.processor ≡ length m.processors =
     omega (arith, c.loop-processor-test.false, c.loop-processor.auto.processor-end, c.flat_processors-processor-end.ensures.count) in
-    all_told c.loop-processor.flags m (λ p there. i.told p (omega (arith, there, all))) (λ p past. i.rest p (omega (arith, past, all)))
+    all_flags c.loop-processor.flags m (λ p there. i.fact p (omega (arith, there, all))) (λ p past. i.rest p (omega (arith, past, all)))

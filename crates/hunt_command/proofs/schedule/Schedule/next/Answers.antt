@@ -5,10 +5,10 @@ use Rattle.hunt_command.proofs.Plans.{drop_at, turn_next}
 use Rattle.hunt_command.proofs.schedule.Schedule.next.Goals as goal
 
 pub choice_at-requires-clause-place : goal.choice_at-requires-clause-place
-choice_at-requires-clause-place c = (let count = c.places.ensures.count in let inside = c.if-place-places.true in omega (arith, count, inside))
+choice_at-requires-clause-place c = (let count = c.capacity_left.ensures.count in let inside = c.if-place-capacity_left.true in omega (arith, count, inside))
 
-pub returns-then-place-places-clause-next : goal.returns-then-place-places-clause-next
-returns-then-place-places-clause-next c =
+pub returns-then-place-capacity_left-clause-next : goal.returns-then-place-capacity_left-clause-next
+returns-then-place-capacity_left-clause-next c =
     let i = c.self.inside in
     sym c.self.view_is
     ∙ ap (λ xs. xs ++ turns_from i.k i.number i.state i.favourite i.turns) (drop_at (choices i.k) i.place c.choice_at.result c.choice_at.ensures)
@@ -16,10 +16,10 @@ returns-then-place-places-clause-next c =
 pub returns-clause-next : goal.returns-clause-next
 returns-clause-next c =
     let i = c.self.inside in
-    let all = c.places.ensures.all in
-    let past = c.if-place-places.false in
+    let all = c.capacity_left.ensures.all in
+    let past = c.if-place-capacity_left.false in
     let some = c.if-self-eq0.false in
     sym c.self.view_is
-    ∙ turn_next i.k i.number i.state i.favourite i.turns i.place c.next_state-self-inside.result c.favoured-self-inside.result
+    ∙ turn_next i.k i.number i.state i.favourite i.turns i.place c.next_state-self-inside.result c.favoured_processor-self-inside.result
     c.place_behind-self-inside.result (omega (arith, all, past)) (λ none. absurd (omega (arith, some, none))) c.next_state-self-inside.ensures
-    c.favoured-self-inside.ensures.favoured c.place_behind-self-inside.ensures
+    c.favoured_processor-self-inside.ensures.favoured_processor c.place_behind-self-inside.ensures

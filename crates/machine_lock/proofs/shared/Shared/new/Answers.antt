@@ -1,6 +1,6 @@
 use Rattle.std.proofs.Common.{◌≡◌, ◌^◌, ◌+◌, ◌++◌, suc, [], ◌∷◌, None, List, Option, sym, ◌∙◌, ap, subst, arith}
 use Rattle.steps.specs.declared.step.Step.{Step}
-use Rattle.machine_lock.specs.declared.row.Row.{Row}
+use Rattle.machine_lock.specs.declared.row.PassState.{PassState}
 use Rattle.machine_lock.specs.Rows.{row, new_row, Fits}
 use Rattle.machine_lock.specs.Passes.{held, rows_of, new_passes, IsWhole}
 use Rattle.machine_lock.proofs.Fitting.{new_loans, rows_of-push, starts, whole-new}
@@ -22,9 +22,9 @@ invariant_of-new g c =
       opening = ap (λ (l : Log). l.opening) log ∙ c.requires.opening;
       config = ap (λ (l : Log). l.machine.config) log ∙ config;
       count = c.requires.count;
-      loans = subst (λ (x : List Row × List (Option Lent)). SayLoans x.0 x.1) (λ i. (sym c.loop-p.invariant.0 i, sym lent i))
+      loans = subst (λ (x : List PassState × List (Option Lent)). SayLoans x.0 x.1) (λ i. (sym c.loop-p.invariant.0 i, sym lent i))
           (new_loans c.loop-p.p (2 ^ c.args.logged.machine.config.k));
-      fits = subst (λ (x : List Step × List Row). Fits g.N.Run.opening g.N.Run.first g.N.Run.count x.0 x.1)
+      fits = subst (λ (x : List Step × List PassState). Fits g.N.Run.opening g.N.Run.first g.N.Run.count x.0 x.1)
           (λ i. (sym (ap (λ (l : Log). l.steps) log ∙ c.requires.first) i, sym (c.loop-p.invariant.0 ∙ ap (λ k. rows_of (new_passes k)) n) i))
           (starts g.N.Run.opening g.N.Run.first g.N.Run.count);
     }
@@ -50,13 +50,13 @@ loop-p-preserved g c =
     let i = c.loop-p.invariant in
     let p = c.loop-p.p in
     let next : p + 1 ≡ suc p = omega arith in
-    let row = ap (λ notices. row notices 0 None None) c.new-in-loop-p.ensures.items in
+    let row = ap (λ pass_events. row pass_events 0 None None) c.new-in-loop-p.ensures.items in
     let push = c.push_reserved.ensures in
     let len = push.len in
     let before = i.2 in
     let capacity = push.capacity in
     let room = i.3 in (
-      c.hire-claim.ensures.keeper ∙ ap (λ rows. rows ++ new_row ∷ []) i.0 ∙ sym (rows_of-push (new_passes p) (held p new_row))
+      c.allocate-fragment.ensures.authority ∙ ap (λ rows. rows ++ new_row ∷ []) i.0 ∙ sym (rows_of-push (new_passes p) (held p new_row))
           ∙ ap (λ n. rows_of (new_passes n)) (sym next),
       push.items ∙ (λ n. i.1 n ++ held p (row n) ∷ []) ∙ ap new_passes (sym next),
       omega (arith, len, before),

@@ -5,4 +5,4 @@ use Rattle.machine_lock.proofs.shared.Shared.new.Given as goal
 
 abbrev pub invariant-loop-p : goal.invariant-loop-p
 invariant-loop-p g l =
-    (l.keeper ≡ rows_of (new_passes l.p)) × (l.passes.items ≡ new_passes l.p) × (vec_len l.passes ≡ l.p) × (l.count ≤ vec_capacity l.passes)
+    (l.authority ≡ rows_of (new_passes l.p)) × (l.passes.items ≡ new_passes l.p) × (vec_len l.passes ≡ l.p) × (l.count ≤ vec_capacity l.passes)

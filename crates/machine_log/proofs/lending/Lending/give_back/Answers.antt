@@ -28,10 +28,10 @@ pub enter_turns-requires : goal.enter_turns-requires
 enter_turns-requires c =
     let away = known_away c.self.invariant.0 c.self.view_is c.requires.there (c.if-not-is_record.ensures.0 refl) in
     let less = promise_less c.self.inside.lent.items c.args.p c.args.lent away.known in
-    let places = c.self.invariant.0.places in
+    let capacity_left = c.self.invariant.0.capacity_left in
     let few = c.requires.few in
     let fits = c.self.inside.steps.ok in
-    record { room = omega (arith, less, places, few, fits) }
+    record { room = omega (arith, less, capacity_left, few, fits) }
 
 pub invariant_of-self : goal.invariant_of-self
 invariant_of-self c =
@@ -45,7 +45,7 @@ invariant_of-self c =
     let fits = l.steps.ok in (
       subst (IsLending l.opening.value c.put_core.new.self c.enter_turns.new.steps.items (vec_capacity c.enter_turns.new.steps)) lent
           (returned back c.put_core.new.self c.enter_turns.new.steps.items (vec_capacity c.enter_turns.new.steps) c.put_core.ensures.put
-          c.machine_is_sound.ensures c.enter_turns.ensures.entered c.enter_turns.ensures.capacity (omega (arith, fits))),
+          c.machine_is_well_formed.ensures c.enter_turns.ensures.entered c.enter_turns.ensures.capacity (omega (arith, fits))),
       omega (arith, less, promises) ∙ ap promised lent,
     )
 

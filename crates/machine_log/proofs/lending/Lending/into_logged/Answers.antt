@@ -1,7 +1,7 @@
 use Rattle.std.proofs.Common.{◌≡◌, ◌∙◌, ◌^◌, ◌<◌, length, None, sym, ap, subst, arith}
 use Rattle.flat_machine.specs.declared.config.Config.{Config}
 use Rattle.machine_steps.specs.Machines.{MachineLists}
-use Rattle.machine_log.specs.Logs.{IsKept, Log}
+use Rattle.machine_log.specs.Logs.{IsWellFormed, Log}
 use Rattle.machine_log.specs.Lendings.{LendingLog, lent_at}
 use Rattle.machine_log.proofs.Backing.{none_set}
 use Rattle.machine_log.proofs.Changing.{back_all}
@@ -21,7 +21,7 @@ of_parts-requires c =
     ∙ sym c.config.ensures.config in
     let machine = back_all c.self-2.invariant.0 c.self-2.view_is size c.processors-p-end.ensures c.loop-p-test.false c.loop-p.invariant.1 in
     record {
-      kept = subst (λ (x : MachineLists). IsKept (record { opening = l.opening.value; steps = l.steps.items; machine = x })) machine
+      kept = subst (λ (x : MachineLists). IsWellFormed (record { opening = l.opening.value; steps = l.steps.items; machine = x })) machine
           c.self-2.invariant.0.kept;
     }
 

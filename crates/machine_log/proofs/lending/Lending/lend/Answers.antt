@@ -28,11 +28,11 @@ invariant_of-self-2 c =
     let more = promise_more l.lent.items c.args.p kept (subst (λ n. c.args.p < n) (sym is.all) within) unlent in
     let promises = c.self.invariant.1 in
     let room = is.room in
-    let places = c.in-Ok-reserve.ensures.ok in
+    let capacity_left = c.in-Ok-reserve.ensures.ok in
     let len = ap length c.reserve.ensures.items in
     let count = c.len.ensures in
     let lending = lent_out is c.args.p free kept core c.taken_out-core.new.machine
-    (vec_capacity c.reserve.new.self) c.taken_out-core.ensures.away c.machine_is_sound.ensures (omega (arith, promises, most, places, len))
+    (vec_capacity c.reserve.new.self) c.taken_out-core.ensures.away c.machine_is_well_formed.ensures (omega (arith, promises, most, capacity_left, len))
     (omega (arith, promises, most, room, count, c.if-promises-len.false)) in
     let lent = ap (λ i. slice_set l.lent.items i (Some kept)) (sym c.from.ensures) in (
       subst (λ (x : List Step × List (Option Lent)). IsLending l.opening.value c.taken_out-core.new.machine x.0 (vec_capacity c.reserve.new.self) x.1)

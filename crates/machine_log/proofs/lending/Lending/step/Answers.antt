@@ -21,12 +21,12 @@ invariant_of-self c =
     let promises = c.self.invariant.1 in
     let same = e.capacity in
     let len = ap length c.reserve.ensures.items in
-    let places = c.in-Ok.ensures.ok in
+    let capacity_left = c.in-Ok.ensures.ok in
     let count = c.len.ensures in
     let more = entered_length l.machine c.enter.new.machine c.reserve.new.self.items c.enter.new.steps.items 1 e.entered in (
       lends_on c.others_do_not_notice.ensures.step l.opening.value l.machine c.enter.new.machine steps (vec_capacity l.steps)
           l.lent.items is c.args.step c.enter.result others e.step
-          e.entered.sound c.enter.new.steps.items (vec_capacity c.enter.new.steps) entered_in (omega (arith, room, promises, more, same, len, places))
+          e.entered.sound c.enter.new.steps.items (vec_capacity c.enter.new.steps) entered_in (omega (arith, room, promises, more, same, len, capacity_left))
           (omega (arith, room, promises, more, len, c.if-len-self-ge-MAX_STEPS.false, count)),
       promises,
     )

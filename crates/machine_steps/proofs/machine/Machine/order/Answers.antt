@@ -2,7 +2,7 @@ use Rattle.std.proofs.Common.{◌≡◌, ◌≤◌, ℕ, length, take, slice_ind
 use Rattle.std.proofs.lemmas.List.{take_more, take_all}
 use Rattle.steps.specs.declared.step.Step.TheVariants as step
 use Rattle.machine_steps.specs.Runs.{passed}
-use Rattle.machine_steps.specs.Ordering.{told_by, group_in, IsEntered}
+use Rattle.machine_steps.specs.Ordering.{outcome_by, group_in, IsEntered}
 use Rattle.machine_steps.proofs.Running.{serialized}
 use Rattle.machine_steps.proofs.Ordering.{IsOrdered, order_begins, few_after, order_goes_on}
 use Rattle.machine_theory.specs.Order.{group_after}
@@ -24,11 +24,11 @@ enter-requires-clause-few c =
     let i = c.loop-step.step-index in
     let s = slice_index_or steps i (step.Turn 0) in
     let groups = c.loop-step.order.groups.items in
-    subst (λ b. (p : ℕ) → length (group_after (group_in groups) (told_by s b c.apply-outcome.result) p) ≤ 64) (sym c.is_open_at-was_open.ensures)
+    subst (λ b. (p : ℕ) → length (group_after (group_in groups) (outcome_by s b c.apply-outcome.result) p) ≤ 64) (sym c.is_open_at-was_open.ensures)
     (few_after c.args.self.now c.loop-step.self
     (take i steps) groups c.loop-step.order.entries.items c.loop-step.invariant.ordered s c.apply-outcome.result c.apply-outcome.new.self
     c.apply-outcome.ensures.step
-    c.machine_is_sound.ensures c.requires.idle)
+    c.machine_is_well_formed.ensures c.requires.idle)
 
 pub enter-requires-clause-room : goal.enter-requires-clause-room
 enter-requires-clause-room c = omega (arith, c.loop-step.invariant.count, c.loop-step.invariant.room, c.loop-step-test.true)
@@ -42,7 +42,7 @@ loop-step-preserved c =
     let entries = c.loop-step.order.entries.items in
     let groups_after = c.enter.new.self.groups.items in
     let entries_after = c.enter.new.self.entries.items in
-    let entered = subst (λ b. IsEntered groups entries (told_by s b c.apply-outcome.result) groups_after entries_after) c.is_open_at-was_open.ensures
+    let entered = subst (λ b. IsEntered groups entries (outcome_by s b c.apply-outcome.result) groups_after entries_after) c.is_open_at-was_open.ensures
     c.enter.ensures.entered in
     record {
       ordered =
@@ -74,4 +74,4 @@ returns-clause-serialized c =
     let steps = c.args.steps.now in
     let d = subst (λ done. IsOrdered c.args.self.now done c.loop-step.self c.loop-step.order.groups.items c.loop-step.order.entries.items)
     (take_all c.loop-step.step-index steps c.loop-step-test.false) c.loop-step.invariant.ordered in
-    serialized c.args.self.now steps c.loop-step.self c.machine_is_sound.ensures c.requires.idle c.machine_is_sound-2.ensures d.run
+    serialized c.args.self.now steps c.loop-step.self c.machine_is_well_formed.ensures c.requires.idle c.machine_is_well_formed-2.ensures d.run

@@ -12,15 +12,15 @@ returns-then-place-len c = same_by c.self.view_is
 pub invariant_of-self : goal.invariant_of-self
 invariant_of-self c = (local_there _ c.self.invariant c.args.p c.from-place.result c.from-place.ensures (let all = c.self.invariant.ports.all in
     omega (arith, all, c.if-place-len.false, c.from-place.ensures, c.len.ensures)) c.index_mut.result.now c.index_mut.ensures.value c.args.address c.args.value
-    c.poke_byte.new.self c.told.result c.poke_byte.result
+    c.poke_byte.new.self c.poke_outcome.result c.poke_byte.result
     (subst (λ (m : MachineLists). IsIdle m) (sym c.self.view_is) c.requires.idle)
     (subst (λ (m : MachineLists). AreHome m) (sym c.self.view_is) c.requires.home) c.ranges.value.fits c.poke_byte.ensures.lawful c.poke_byte.ensures.written
-    c.told.ensures).1
+    c.poke_outcome.ensures).1
 
 pub returns : goal.returns
 returns c = step_by c.self.view_is refl (local_there _ c.self.invariant c.args.p c.from-place.result c.from-place.ensures
     (let all = c.self.invariant.ports.all in omega (arith, all, c.if-place-len.false, c.from-place.ensures, c.len.ensures)) c.index_mut.result.now
-    c.index_mut.ensures.value c.args.address c.args.value c.poke_byte.new.self c.told.result c.poke_byte.result
+    c.index_mut.ensures.value c.args.address c.args.value c.poke_byte.new.self c.poke_outcome.result c.poke_byte.result
     (subst (λ (m : MachineLists). IsIdle m) (sym c.self.view_is) c.requires.idle)
     (subst (λ (m : MachineLists). AreHome m) (sym c.self.view_is) c.requires.home) c.ranges.value.fits c.poke_byte.ensures.lawful c.poke_byte.ensures.written
-    c.told.ensures).0
+    c.poke_outcome.ensures).0

@@ -12,17 +12,17 @@ returns-then-place-len c = same_by c.self.view_is
 pub invariant_of-self : goal.invariant_of-self
 invariant_of-self c = (register_there _ c.self.invariant c.args.p c.from-place.result c.from-place.ensures (let all = c.self.invariant.ports.all in
     omega (arith, all, c.if-place-len.false, c.from-place.ensures, c.len.ensures)) c.index_mut.result.now c.index_mut.ensures.value c.args.register
-    c.args.value c.poke_register.new.self c.told.result c.poke_register.result
+    c.args.value c.poke_register.new.self c.poke_outcome.result c.poke_register.result
     (subst (λ (m : MachineLists). IsIdle m) (sym c.self.view_is) c.requires.idle)
     (subst (λ (m : MachineLists). AreHome m) (sym c.self.view_is) c.requires.home) c.ranges.value.fits c.poke_register.ensures.lawful
     c.poke_register.ensures.written
-    c.told.ensures).1
+    c.poke_outcome.ensures).1
 
 pub returns : goal.returns
 returns c = step_by c.self.view_is refl (register_there _ c.self.invariant c.args.p c.from-place.result c.from-place.ensures
     (let all = c.self.invariant.ports.all in omega (arith, all, c.if-place-len.false, c.from-place.ensures, c.len.ensures)) c.index_mut.result.now
-    c.index_mut.ensures.value c.args.register c.args.value c.poke_register.new.self c.told.result c.poke_register.result
+    c.index_mut.ensures.value c.args.register c.args.value c.poke_register.new.self c.poke_outcome.result c.poke_register.result
     (subst (λ (m : MachineLists). IsIdle m) (sym c.self.view_is) c.requires.idle)
     (subst (λ (m : MachineLists). AreHome m) (sym c.self.view_is) c.requires.home) c.ranges.value.fits c.poke_register.ensures.lawful
     c.poke_register.ensures.written
-    c.told.ensures).0
+    c.poke_outcome.ensures).0

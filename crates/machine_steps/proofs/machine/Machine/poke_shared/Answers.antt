@@ -7,7 +7,7 @@ use Rattle.machine_steps.proofs.machine.Machine.poke_shared.Goals as goal
 
 pub returns-then-address-lt-SHARED_START : goal.returns-then-address-lt-SHARED_START
 returns-then-address-lt-SHARED_START c =
-    shared_unnamed c.args.self.now c.machine_is_sound.ensures c.requires.idle c.requires.home c.args.address c.args.value
+    shared_unnamed c.args.self.now c.machine_is_well_formed.ensures c.requires.idle c.requires.home c.args.address c.args.value
     (below c.args.address _ c.if-address-lt-SHARED_START.true)
 
 pub returns-then-word-self : goal.returns-then-word-self

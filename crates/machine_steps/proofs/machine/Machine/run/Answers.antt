@@ -23,4 +23,4 @@ pub returns-clause-serialized : goal.returns-clause-serialized
 returns-clause-serialized c idle =
     let run = subst (λ done. IsRun c.args.self.now done c.loop-step.self)
     (take_all c.loop-step.step-index c.args.steps.now c.loop-step-test.false) c.loop-step.invariant in
-    serialized c.args.self.now c.args.steps.now c.loop-step.self c.machine_is_sound.ensures idle c.machine_is_sound-2.ensures run
+    serialized c.args.self.now c.args.steps.now c.loop-step.self c.machine_is_well_formed.ensures idle c.machine_is_well_formed-2.ensures run

@@ -7,7 +7,7 @@ returns-then-address-ge-SHARED_START c =
     let m = c.args.self.now in
     let there = sym c.is_there.ensures ∙ c.if-not-is_there.false in
     let within = there_within m c.args.processor there in
-    c.shared_byte.ensures ∙ sym (in_words m c.machine_is_sound.ensures c.args.processor c.args.address within c.if-address-ge-SHARED_START.true)
+    c.shared_byte.ensures ∙ sym (in_words m c.machine_is_well_formed.ensures c.args.processor c.args.address within c.if-address-ge-SHARED_START.true)
     ∙ seen_there m c.args.processor c.args.address there
 
 pub returns-then-address : goal.returns-then-address
@@ -16,7 +16,7 @@ returns-then-address c =
     let there = sym c.is_there.ensures ∙ c.if-not-is_there.false in
     let within = there_within m c.args.processor there in
     ap (λ n. Some n) c.code_byte.ensures
-    ∙ sym (in_program m c.machine_is_sound.ensures c.args.processor c.args.address within c.if-address-ge-SHARED_START.false c.if-address.true)
+    ∙ sym (in_program m c.machine_is_well_formed.ensures c.args.processor c.args.address within c.if-address-ge-SHARED_START.false c.if-address.true)
     ∙ seen_there m c.args.processor c.args.address there
 
 pub returns : goal.returns
@@ -25,5 +25,5 @@ returns c =
     let there = sym c.is_there.ensures ∙ c.if-not-is_there.false in
     let within = there_within m c.args.processor there in
     c.byte.ensures
-    ∙ sym (in_own m c.machine_is_sound.ensures c.args.processor c.args.address within c.if-address-ge-SHARED_START.false c.if-address.false there)
+    ∙ sym (in_own m c.machine_is_well_formed.ensures c.args.processor c.args.address within c.if-address-ge-SHARED_START.false c.if-address.false there)
     ∙ seen_there m c.args.processor c.args.address there

@@ -11,6 +11,7 @@ invariant_of-self c =
     record {
       takes = kept_at self.taken.items c.from.result c.reserve.new.self bytes.result.now bytes.ensures.value c.reserve.ensures.items ∙ self.takes;
       all = self.all;
+      own = self.own;
     }
 
 pub invariant_of-self-in-None : goal.invariant_of-self-in-None
@@ -21,6 +22,7 @@ invariant_of-self-in-None c =
       takes = kept_at self.taken.items c.from.result c.reserve.new.self bytes.result.now bytes.ensures.value c.reserve.ensures.items ∙ self.takes
           ∙ sym c.in-None.ensures.taken;
       all = self.all;
+      own = self.own;
     }
 
 pub invariant_of-self-in-Some : goal.invariant_of-self-in-Some
@@ -35,4 +37,5 @@ invariant_of-self-in-Some c =
           (c.push_reserved.ensures.items ∙ ap (λ bs. bs ++ byte ∷ []) c.reserve.ensures.items)
           ∙ ap (λ ts. slice_set ts p (at ts p ++ byte ∷ [])) self.takes ∙ sym c.in-Some.ensures.taken;
       all = self.all;
+      own = self.own;
     }

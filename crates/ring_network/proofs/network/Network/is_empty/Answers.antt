@@ -1,12 +1,12 @@
 use Rattle.std.proofs.Common.{◌≡◌, true, false, ◌∙◌, sym}
-use Rattle.ring_network.proofs.Empty.{not_empty_slots, not_empty_switches, told}
+use Rattle.ring_network.proofs.Empty.{not_empty_slots, not_empty_switches, fact}
 use Rattle.ring_network.proofs.network.Network.is_empty.Goals as goal
 use Rattle.ring_network.proofs.network.Network.is_empty.Goals.{then-are_free, else-are_free}
 
 pub returns-then-are_empty : goal.returns-then-are_empty
 returns-then-are_empty c =
     elim c.if-are_free.branch [
-      | then-are_free w ↦ told _ c.args.self.now c.self.view_is c.self.invariant c.rotations_are_inverse.ensures.inverse c.rotations_are_inverse.ensures.small
+      | then-are_free w ↦ fact _ c.args.self.now c.self.view_is c.self.invariant c.rotations_are_inverse.ensures.inverse c.rotations_are_inverse.ensures.small
           c.are_free.result w.are_empty.result c.are_free-then-are_empty.result
           c.deref.result.now w.deref-then-are_free.result.now c.deref-then-are_empty.result.now
           c.deref.ensures.value w.deref-then-are_free.ensures.value c.deref-then-are_empty.ensures.value

@@ -11,5 +11,5 @@ returns c = λ i. record {
   split = (c.in_ok-new-7.ensures i).counts;
   served = (c.in_ok-new-8.ensures i).counts;
   groups = (c.in_ok-new-9.ensures i).counts;
-  noted = (c.in_ok-new.ensures i).noted;
+  observed = (c.in_ok-new.ensures i).observed;
 }

@@ -7,13 +7,13 @@ use Rattle.schedules.proofs.Rows.{first_found, none_found, row_ends}
 use Rattle.schedules.proofs.row.DownsRow.first.Goals as goal
 
 pub overflow_add-self : goal.overflow_add-self
-overflow_add-self c = let few = c.machine_is_sound.ensures.limits.stages in let less = c.requires.there in omega (arith, few, less)
+overflow_add-self c = let few = c.machine_is_well_formed.ensures.limits.stages in let less = c.requires.there in omega (arith, few, less)
 
 pub returns : goal.returns
 returns c =
     let m = c.args.machine.now in
     let k = m.config.k in
-    let few = c.machine_is_sound.ensures.limits.stages in
+    let few = c.machine_is_well_formed.ensures.limits.stages in
     let quiet : (w : ℕ) → w < 2 ^ k → members c.reply_wires.result w ≡ false → IsQuiet m ((k + 2 + c.args.self.now.stage) * 2 ^ k + w) =
     λ w within none. downs_quiet m few c.args.self.now.stage c.requires.there w within (sym (c.reply_wires.ensures.exact w within) ∙ none) in
     record {

@@ -10,7 +10,7 @@ pub returns : goal.returns
 returns c =
     let m = c.args.machine.now in
     let k = m.config.k in
-    let few = c.machine_is_sound.ensures.limits.stages in
+    let few = c.machine_is_well_formed.ensures.limits.stages in
     let quiet : (w : ℕ) → w < 2 ^ k → members c.request_wires.result w ≡ false → IsQuiet m ((k - c.args.self.now.stage) * 2 ^ k + w) =
     λ w within none. ups_quiet m few c.args.self.now.stage c.requires.there w within (sym (c.request_wires.ensures.exact w within) ∙ none) in
     record {

@@ -1,0 +1,97 @@
+//! The trace of a session, once it is over.
+
+ghost use Rattle.std.specs.Prelude.{◌≡◌, false, is_err, IfErr, OnErr, OnOk};
+ghost use Rattle.std.specs.Io.KnownBytes.{Appends};
+ghost use Rattle.link.specs.Transfer.{AppendsPart};
+ghost use Rattle.trace_file.specs.Traces.{trace_bytes, trace_of};
+ghost use Rattle.trace_commands.specs.TraceReports.{IsPartSaved, IsSaved, IsWorking};
+ghost use Rattle.debug_session.specs.Conversations.{IsServed};
+ghost use Rattle.debug_session.specs.Sessions.{IsBroken, IsEnding};
+
+use crate::end::debug_end;
+use crate::laws::log_has_trace;
+use crate::session_end::SessionEnd;
+use command_io::{Fault, report_fault};
+use link::LinkWrite;
+use machine_log::Logged;
+use std::io::Write;
+use trace_file::{TraceError, write_trace};
+
+/// Writes the trace of a session that has ended so, where one is asked for, and then says how it ended, or that the
+/// trace could not be written. Answers the exit status.
+pub(crate) fn finish<T: LinkWrite, E: Write>(
+    end: SessionEnd,
+    log: &Logged,
+    trace: &mut Option<T>,
+    err: &mut E,
+) -> u8
+    requires works { IsWorking T.has_failed trace.old }
+    ensures { IsEnding T.has_failed T.contents log.now.machine.config end log.now trace.old trace.new result }
+{
+    match save_session(end, log, trace) {
+        Ok(()) => debug_end(end, log.machine(), err),
+        Err(fault) => report_fault(fault, err),
+    }
+}
+
+/// Writes the trace of a session that has ended so, where one is asked for: the steps of its log, if it has begun.
+///
+/// # Errors
+///
+/// [`Fault::Trace`] with [`TraceError::Link`] exactly if the writer fails: a beginning of the trace is written then.
+fn save_session<T: LinkWrite>(
+    end: SessionEnd,
+    log: &Logged,
+    trace: &mut Option<T>,
+) -> Result<(), Fault>
+    requires works { IsWorking T.has_failed trace.old }
+    ensures working { OnOk result (IsWorking T.has_failed trace.new) }
+    ensures saved { OnOk result (IsServed end (IsSaved T.contents trace.old trace.new
+        (trace_bytes (trace_of log.now.machine.config log.now.steps))) (trace.new ≡ trace.old)) }
+    ensures link { IfErr result (λ fault. fault ≡ Fault.Trace TraceError.Link) }
+    ensures broken { OnErr result (IsBroken T.has_failed trace.new) }
+    ensures cut { OnErr result (IsServed end (IsPartSaved T.contents trace.old trace.new
+        (trace_bytes (trace_of log.now.machine.config log.now.steps))) ⊥) }
+{
+    match end {
+        SessionEnd::Quit
+        | SessionEnd::EndOfInput
+        | SessionEnd::ReadFailed
+        | SessionEnd::WriteFailed => save(log, trace),
+        // Nothing was read, and the log is as it was.
+        SessionEnd::Memory | SessionEnd::TraceFull => Ok(()),
+    }
+}
+
+/// Writes the trace of a log, where one is asked for.
+fn save<T: LinkWrite>(log: &Logged, trace: &mut Option<T>) -> Result<(), Fault>
+    requires works { IsWorking T.has_failed trace.old }
+    ensures working { OnOk result (IsWorking T.has_failed trace.new) }
+    ensures saved { OnOk result (IsSaved T.contents trace.old trace.new
+        (trace_bytes (trace_of log.now.machine.config log.now.steps))) }
+    ensures link { IfErr result (λ fault. fault ≡ Fault.Trace TraceError.Link) }
+    ensures broken { OnErr result (IsBroken T.has_failed trace.new) }
+    ensures cut { OnErr result (IsPartSaved T.contents trace.old trace.new
+        (trace_bytes (trace_of log.now.machine.config log.now.steps))) }
+{
+    match trace {
+        None => Ok(()),
+        Some(writer) => match write_log(log, writer) {
+            Ok(()) => Ok(()),
+            Err(_) => Err(Fault::Trace(TraceError::Link)),
+        },
+    }
+}
+
+/// Writes the trace of a log.
+fn write_log<T: LinkWrite>(log: &Logged, writer: &mut T) -> Result<(), TraceError>
+    requires works { T.has_failed writer.old ≡ false }
+    ensures failed { T.has_failed writer.new ≡ is_err result }
+    ensures ok { OnOk result (Appends (T.contents writer.old) (T.contents writer.new)
+        (trace_bytes (trace_of log.now.machine.config log.now.steps))) }
+    ensures err { OnErr result (AppendsPart (T.contents writer.old) (T.contents writer.new)
+        (trace_bytes (trace_of log.now.machine.config log.now.steps))) }
+{
+    log_has_trace(log);
+    write_trace(writer, &log.machine().config(), log.steps())
+}

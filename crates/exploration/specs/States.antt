@@ -1,0 +1,54 @@
+-- The states between references to which a machine comes.
+use Rattle.std.specs.Prelude.{◌≡◌, ℕ, ◌<◌, ◌≤◌, Bool, List, []}
+use Rattle.flat_machine.specs.declared.setting.Setting.{Setting}
+use Rattle.flat_machine.specs.State.{FlatState}
+use Rattle.local_reduction.specs.Closing.{MacroState, ReachesMacroState}
+use Rattle.local_reduction.specs.Live.{HasAllLive}
+use Rattle.local_reduction.specs.Forgetting.{kept_by}
+use Rattle.local_reduction.specs.Results.{FinalResult}
+use Rattle.state_graph.specs.declared.termination.Termination.{Termination}
+use Rattle.state_graph.specs.Paths.{IsBreadthFirst}
+use Rattle.state_graph.specs.Termination.{IsTrueOf}
+use Rattle.state_graph.specs.Search.{AreReached, AreSuccessors}
+use Rattle.state_search.specs.Ends.{AreDifferentStates}
+use Rattle.exploration.specs.Endings.{AreInOrder}
+use Rattle.exploration.specs.declared.refusal.Refusal.{Refusal}
+use Rattle.exploration.specs.declared.refusal.Refusal.TheVariants as refusal
+
+-- The flat machine settles to the first of these states, in which processors of the same class can take each other's
+-- place, and moves lead from there to each of them. No two are the same. What registers hold is no part of a state
+-- where they are not live.
+pub record AreStates (m : FlatState) (classes : List ℕ) (count : ℕ) : Type 0 where
+  pub at : ℕ → Setting
+  pub code : List ℕ
+  pub live : List (List Bool)
+  pub right : HasAllLive code live
+  pub state : ℕ → MacroState
+  pub settles : ReachesMacroState at code (kept_by live) m (λ k. []) (state 0)
+  pub reached : AreReached at code (kept_by live) classes state count
+  pub different : AreDifferentStates count state
+
+-- They are all, except those that come after one in which a processor spins, with their successors, in the order in
+-- which they are found breadth first. What is said of schedules holds of them, and the results are theirs and come in
+-- their order.
+pub record AreAllStates (m : FlatState) (classes : List ℕ) (results : List FinalResult) (termination : Termination)
+    (count : ℕ) : Type 0 where
+  pub states : AreStates m classes count
+  pub moves : List (List ℕ)
+  pub successors : AreSuccessors states.at states.code (kept_by states.live) classes states.state count moves
+  pub breadth : IsBreadthFirst moves
+  pub fact : IsTrueOf moves termination
+  pub order : AreInOrder classes states.state count results
+
+-- There are this many states or more.
+pub record HasManyStates (m : FlatState) (least : ℕ) : Type 0 where
+  pub classes : List ℕ
+  pub count : ℕ
+  pub many : least ≤ count
+  pub states : AreStates m classes count
+
+-- A search is given up for too many states only if there are.
+abbrev pub IsGivenUp : FlatState → (limit : ℕ) → Refusal → Type 0
+IsGivenUp m limit refusal.Memory = Unit {0}
+IsGivenUp m limit refusal.States = HasManyStates m limit
+IsGivenUp m limit refusal.Alone = Unit {0}

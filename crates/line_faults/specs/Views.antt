@@ -1,0 +1,24 @@
+-- What the code keeps, without where it lies in memory.
+use Rattle.std.specs.Prelude.{ℕ, List, Option}
+use Rattle.std.specs.Borrow.{Bor}
+use Rattle.std.specs.Option.{option_map}
+use Rattle.line_faults.specs.declared.parts.Parts.{Parts}
+use Rattle.line_faults.specs.declared.spot.Spot.{Spot}
+use Rattle.line_faults.specs.Advice.{Advice, advice_of}
+use Rattle.line_faults.specs.Spans.{Span, span_of}
+use Rattle.line_faults.specs.WordAtFault.{LineSpans}
+
+abbrev pub line_spans : Parts → LineSpans
+line_spans p = record { label = option_map span_of p.label; word = span_of p.word; rest = span_of p.rest }
+
+-- the word that a spot names
+abbrev pub spot_span : Spot → Span
+spot_span s = span_of s.piece
+
+-- what a spot advises
+abbrev pub spot_advice : Spot → Advice
+spot_advice s = advice_of s.hint
+
+-- how many edits lead to the nearest name
+abbrev pub near_view : Option (ℕ × Bor (List ℕ)) → Option (ℕ × List ℕ)
+near_view found = option_map (λ (p : ℕ × Bor (List ℕ)). (p.0, p.1.now)) found

@@ -1,0 +1,181 @@
+-- The word at which the fault of a line lies.
+--
+-- Of a first word that is none (A1), and of a statement that finds no room (A6), it is that word. Of a form or a
+-- number (A2, A3) it is the first operand that is not what it has to be, or the part of it that is not; where an
+-- operand is too many, the first such; where one is missing, nothing, at the end; and where all operands are right,
+-- the statement that may not stand there, or the target that it cannot reach. Of labels (A4, A5) it is the label.
+use Rattle.std.specs.Prelude.{ℕ, ◌+◌, ◌-◌, ◌%◌, Bool, List, [], ◌∷◌, ◌==◌, ◌&&◌, ◌||◌, if◌then◌else◌, not, length}
+use Rattle.std.specs.Prelude.{find, nat_lt, is_some, is_ok, codes}
+use Rattle.std.specs.Prelude.{Option, Some, None, option_and_then, unwrap_or, slice_get}
+use Rattle.std.specs.List.{list_any}
+use Rattle.std.specs.Option.{option_map, option_or}
+use Rattle.std.specs.Str.{bytes_eq}
+use Rattle.asm_lines.specs.Text.{is_blank}
+use Rattle.asm_lines.specs.Number.{number_within}
+use Rattle.asm_lines.specs.Names.{register_of}
+use Rattle.asm_lines.specs.Statements.{is_name}
+use Rattle.assembler.specs.declared.fault.AsmFault.{AsmFault}
+use Rattle.assembler.specs.declared.fault.AsmFault.TheVariants.{UnknownWord, Form, Range, LabelTwice, LabelMissing}
+use Rattle.assembler.specs.declared.fault.AsmFault.TheVariants.{SectionFull, Memory}
+use Rattle.assembler.specs.Meaning.{Labels}
+use Rattle.line_faults.specs.declared.shape.Wanted.{Wanted}
+use Rattle.line_faults.specs.declared.shape.Wanted.TheVariants.{Register, Lower, Upper, Branch, Jump, Address, Base}
+use Rattle.line_faults.specs.declared.shape.Wanted.TheVariants.{Word}
+use Rattle.line_faults.specs.Spans.{Span, span, end_of, trimmed_span, cut_span, bracketed_span, operand_spans}
+use Rattle.line_faults.specs.Wants.{Wants, range_of, wants_of, wanted_at}
+
+-- ---- the parts of a line
+
+-- a line's label, its statement's first word, and what stands after that
+pub record LineSpans : Type 0 where
+  pub label : Option Span
+  pub word : Span
+  pub rest : Span
+
+abbrev pub before_mark : Span → Option (Span × Span) → Span
+before_mark s None = s
+before_mark s (Some parts) = parts.0
+
+-- what stands before the comment
+abbrev pub text_span : List ℕ → Span
+text_span line = before_mark (span 0 line) (cut_span (λ b. b == 35) (span 0 line))
+
+-- the label before the first colon, and what follows it. Where no name stands there, there is no label.
+abbrev pub label_spans : Span → Option (Span × Span) → Option Span × Span
+label_spans text None = (None, text)
+label_spans text (Some parts) = if is_name (trimmed_span parts.0).bytes then (Some (trimmed_span parts.0), parts.1)
+    else (None, text)
+
+-- the first word ends at the first blank
+abbrev pub word_spans : Span → Option (Span × Span) → Span × Span
+word_spans statement None = (statement, end_of statement)
+word_spans statement (Some parts) = parts
+
+abbrev pub statement_spans : Span → Span × Span
+statement_spans statement = word_spans statement (cut_span is_blank statement)
+
+abbrev pub spans_by : Option Span × Span → LineSpans
+spans_by cut = record {
+  label = cut.0;
+  word = (statement_spans (trimmed_span cut.1)).0;
+  rest = (statement_spans (trimmed_span cut.1)).1;
+}
+
+unfoldable pub spans_of_line : List ℕ → LineSpans
+spans_of_line line = spans_by (label_spans (text_span line) (cut_span (λ b. b == 58) (text_span line)))
+
+-- ---- an operand
+
+abbrev pub unless : {A : Type 0} → Bool → A → Option A
+unless right x = if right then None else Some x
+
+-- the label of `%hi(label)` or `%lo(label)`
+abbrev pub part_named : List ℕ → Option (Span × Span) → Option Span
+part_named modifier None = None
+part_named modifier (Some parts) = if bytes_eq parts.0.bytes modifier
+    && is_name parts.1.bytes then Some parts.1 else None
+
+abbrev pub part_label : List ℕ → Span → Option Span
+part_label modifier s = part_named modifier (bracketed_span s)
+
+-- the label that an operand names, in the form that may stand there
+abbrev pub label_within : Wanted → Span → Option Span
+label_within Branch s = if is_name s.bytes then Some s else None
+label_within Jump s = if is_name s.bytes then Some s else None
+label_within Word s = if is_name s.bytes then Some s else None
+label_within Lower s = part_label (codes "%lo") s
+label_within Upper s = part_label (codes "%hi") s
+label_within Address s = option_and_then (λ parts. part_label (codes "%lo") parts.0) (bracketed_span s)
+label_within w s = None
+
+-- whether a number in range stands there
+abbrev pub is_number : Wanted → Span → Bool
+is_number w s = is_ok (number_within (range_of w).0 (range_of w).1 s.bytes)
+
+-- a label or a number that is none that may stand there
+abbrev pub value_fault : Wanted → Span → Option Span
+value_fault w s = unless (is_some (label_within w s) || is_number w s) s
+
+abbrev pub register_fault : Span → Option Span
+register_fault s = unless (is_some (register_of s.bytes)) s
+
+-- `i(rs1)`: the whole where it has no brackets, then the number, then the register
+abbrev pub address_fault : Span → Option (Span × Span) → Option Span
+address_fault s None = Some s
+address_fault s (Some parts) = option_or (value_fault Lower parts.0) (register_fault parts.1)
+
+-- `(rs1)`: the whole where it has no brackets, then what stands before them, then the register
+abbrev pub base_fault : Span → Option (Span × Span) → Option Span
+base_fault s None = Some s
+base_fault s (Some parts) = option_or (unless (length parts.0.bytes == 0) parts.0) (register_fault parts.1)
+
+-- what of an operand is not as it has to be
+abbrev pub fault_within : Wanted → Span → Option Span
+fault_within Register s = register_fault s
+fault_within Address s = address_fault s (bracketed_span s)
+fault_within Base s = base_fault s (bracketed_span s)
+fault_within w s = value_fault w s
+
+-- the label that an operand names and that stands on no line
+abbrev pub missing_within : Labels → Wanted → Span → Option Span
+missing_within labels w s = option_and_then (λ name. unless (is_some (labels name.bytes)) name) (label_within w s)
+
+-- ---- the operands
+
+-- the first that is found in operands, the first of which has this number
+abbrev pub first_in : {A : Type 0} → (Wanted → Span → Option A) → Wants → ℕ → List Span → Option A
+first_in found w n [] = None
+first_in found w n (s ∷ ss) =
+    option_or (option_and_then (λ wanted. found wanted s) (wanted_at w n)) (first_in found w (n + 1) ss)
+
+-- a blank where no bracket stands: two operands with no comma between
+abbrev pub is_parted : Span → Bool
+is_parted s = list_any is_blank s.bytes && not (list_any (λ b. b == 40) s.bytes)
+
+-- where there are not as many operands as there have to be: the first that is too many; else the first that are two;
+-- else the end
+abbrev pub count_fault : ℕ → Span → List Span → Option Span
+count_fault count rest operands =
+    if length operands == count then None
+    else option_or (slice_get operands count) (option_or (find is_parted operands) (Some (end_of (trimmed_span rest))))
+
+-- what is wrong with the operands of a statement that has some
+abbrev pub some_operands_fault : Wants → Span → List Span → Option Span
+some_operands_fault w rest operands =
+    option_or (if w.is_list then None else count_fault (length w.each) rest operands)
+    (first_in fault_within w 0 operands)
+
+-- and of one that may have none
+abbrev pub operands_fault : Wants → Span → Option Span
+operands_fault w rest =
+    if length w.each == 0 then unless (length (trimmed_span rest).bytes == 0) (trimmed_span rest)
+    else some_operands_fault w rest (operand_spans rest)
+
+-- what is wrong with the operands after a line's first word
+abbrev pub form_fault : LineSpans → Option Span
+form_fault parts = option_and_then (λ w. operands_fault w parts.rest) (wants_of parts.word.bytes)
+
+-- the first label after it that stands on no line
+abbrev pub label_missing : Labels → LineSpans → Option Span
+label_missing labels parts =
+    option_and_then (λ w. first_in (missing_within labels) w 0 (operand_spans parts.rest)) (wants_of parts.word.bytes)
+
+-- the target of a branch or a jump
+abbrev pub target_span : LineSpans → Span
+target_span parts = unwrap_or (slice_get (operand_spans parts.rest) (length (operand_spans parts.rest) - 1)) parts.word
+
+-- ---- a line
+
+abbrev pub word_within : Labels → (address : ℕ) → LineSpans → AsmFault → Span
+word_within labels address parts UnknownWord = parts.word
+word_within labels address parts Form = unwrap_or (form_fault parts) parts.word
+word_within labels address parts Range =
+    unwrap_or (form_fault parts) (if address % 4 == 0 then target_span parts else parts.word)
+word_within labels address parts LabelTwice = unwrap_or parts.label parts.word
+word_within labels address parts LabelMissing = unwrap_or (label_missing labels parts) parts.word
+word_within labels address parts SectionFull = parts.word
+word_within labels address parts Memory = parts.word
+
+-- the word at which this fault of a line lies, where the section's next byte has this address
+unfoldable pub word_at_fault : Labels → (address : ℕ) → (line : List ℕ) → AsmFault → Span
+word_at_fault labels address line fault = word_within labels address (spans_of_line line) fault

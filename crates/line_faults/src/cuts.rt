@@ -1,0 +1,117 @@
+//! Cuts of a piece of a line.
+
+ghost use Rattle.std.specs.Prelude.{◌≡◌, ◌<◌, ◌≤◌, ◌+◌, ◌==◌, length, take, drop, MatchOption};
+ghost use Rattle.std.specs.List.{position_or_len};
+ghost use Rattle.std.specs.Option.{option_map};
+ghost use Rattle.line_faults.specs.Spans.{span, span_of, end_of, round_byte, both_trimmed, trimmed_span, cut_span};
+ghost use Rattle.line_faults.specs.Spans.{bracketed_span};
+ghost use Rattle.line_faults.specs.WordAtFault.{statement_spans};
+
+use crate::piece::Piece;
+use crate::positions::{blank_position, blanks_before, position_of};
+use asm_lines::{cut_last, trim};
+
+impl<'a> Piece<'a> {
+    /// A whole line.
+    pub fn line(bytes: &'a [u8]) -> Piece<'a>
+        ensures { span_of result ≡ span 0 bytes.now }
+    {
+        let _count = bytes.len();
+        Piece { start: 0, bytes }
+    }
+
+    /// Nothing, at the end of the piece.
+    pub fn end(self) -> Piece<'a>
+        ensures { span_of result ≡ end_of (span_of self.entry) }
+    {
+        Piece {
+            start: self.start + self.bytes.len(),
+            bytes: &[],
+        }
+    }
+
+    /// The piece without the blanks at its ends.
+    #[tactic(auto, using(crate::proofs::Cutting::trimmed_within))]
+    pub fn trimmed(self) -> Piece<'a>
+        ensures { span_of result ≡ trimmed_span (span_of self.entry) }
+    {
+        Piece {
+            start: self.start + blanks_before(self.bytes),
+            bytes: trim(self.bytes),
+        }
+    }
+
+    /// What stands before the byte at this place, and after it.
+    fn round(self, at: usize) -> (Piece<'a>, Piece<'a>)
+        requires { at < length self.bytes.now }
+        ensures { (span_of result.0, span_of result.1)
+            ≡ round_byte self.entry.start (take at self.entry.bytes.now, drop (at + 1) self.entry.bytes.now) }
+    {
+        let front = Piece {
+            start: self.start,
+            bytes: self.bytes.split_at(at).0,
+        };
+        let behind = Piece {
+            start: self.start + at + 1,
+            bytes: self.bytes.split_at(at + 1).1,
+        };
+        (front, behind)
+    }
+
+    /// What stands before the first `mark` and after it, where there is one.
+    #[tactic(auto, unfolding(asm_lines::specs::Text::cut_at))]
+    pub fn cut(self, mark: u8) -> Option<(Piece<'a>, Piece<'a>)>
+        ensures value { option_map (λ parts. (span_of parts.0, span_of parts.1)) result
+            ≡ cut_span (λ b. b == mark) (span_of self.entry) }
+        ensures parts { MatchOption result (position_or_len (λ b. b == mark) self.entry.bytes.now
+            ≡ length self.entry.bytes.now)
+            (λ parts. position_or_len (λ b. b == mark) self.entry.bytes.now < length self.entry.bytes.now) }
+    {
+        match position_of(self.bytes, mark) {
+            Some(at) => Some(self.round(at)),
+            None => None,
+        }
+    }
+
+    /// What stands before the first blank and after it; the whole piece and nothing, where there is none.
+    #[tactic(auto, unfolding(asm_lines::specs::Text::cut_at))]
+    pub fn cut_blank(self) -> (Piece<'a>, Piece<'a>)
+        ensures { (span_of result.0, span_of result.1) ≡ statement_spans (span_of self.entry) }
+    {
+        match blank_position(self.bytes) {
+            Some(at) => self.round(at),
+            None => (self, self.end()),
+        }
+    }
+
+    /// What stands before a bracket, and within it, without the blanks round them: the piece begins so.
+    fn round_bracket(self, front: &'a [u8], inside: &'a [u8]) -> (Piece<'a>, Piece<'a>)
+        requires { length front.now + 1 + length inside.now ≤ length self.bytes.now }
+        ensures { (span_of result.0, span_of result.1)
+            ≡ both_trimmed (round_byte self.entry.start (front.now, inside.now)) }
+    {
+        let before = Piece {
+            start: self.start,
+            bytes: front,
+        };
+        let within = Piece {
+            start: self.start + front.len() + 1,
+            bytes: inside,
+        };
+        (before.trimmed(), within.trimmed())
+    }
+
+    /// What stands before and within the brackets with which the piece ends.
+    pub fn bracket_parts(self) -> Option<(Piece<'a>, Piece<'a>)>
+        ensures { option_map (λ parts. (span_of parts.0, span_of parts.1)) result
+            ≡ bracketed_span (span_of self.entry) }
+    {
+        let [body @ .., b')'] = self.bytes else {
+            return None;
+        };
+        match cut_last(body, b'(') {
+            Some((front, inside)) => Some(self.round_bracket(front, inside)),
+            None => None,
+        }
+    }
+}

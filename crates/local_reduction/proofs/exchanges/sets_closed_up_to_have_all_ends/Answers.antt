@@ -1,5 +1,0 @@
-use Rattle.local_reduction.proofs.UpTo.{closed_up_to_ends}
-use Rattle.local_reduction.proofs.exchanges.sets_closed_up_to_have_all_ends.Goals as goal
-
-pub returns : goal.returns
-returns c = record { ends = closed_up_to_ends }

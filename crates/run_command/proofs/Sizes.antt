@@ -1,0 +1,47 @@
+-- There is no run where there is no machine.
+use Rattle.std.proofs.Common.{ℕ, List, Option}
+use Rattle.flat_machine.specs.declared.config.Config.{Config}
+use Rattle.elf_image.specs.Files.{IsImageOf}
+use Rattle.elf_image.specs.Images.{ImageContents}
+use Rattle.command_io.specs.declared.fault.Fault.{Fault}
+use Rattle.command_io.specs.declared.fault.Fault.TheVariants as fault
+use Rattle.command_io.specs.Files.{IsFaultOfSize}
+use Rattle.run_command.specs.SweepRuns.{RunItselfFails}
+use Rattle.run_command.specs.ThreadRuns.{IsNotThreaded}
+
+module _ (c : Config) (known : Option (List ℕ)) (image : ImageContents) (meant : IsImageOf c.shared_words known image) where
+  -- by the sweep
+  pub not_run : (budget : ℕ) (f : Fault) → IsFaultOfSize c f → RunItselfFails c budget known f
+  not_run budget fault.Size p = ((image, meant), p)
+  not_run budget fault.Memory p = tt
+  not_run budget (fault.Image e) p = absurd p
+  not_run budget (fault.Line n) p = absurd p
+  not_run budget (fault.Text e) p = absurd p
+  not_run budget fault.NotUtf8 p = absurd p
+  not_run budget (fault.Trace e) p = absurd p
+  not_run budget (fault.Stalled n) p = absurd p
+  not_run budget fault.Budget p = absurd p
+  not_run budget fault.Full p = absurd p
+  not_run budget fault.Loan p = absurd p
+  not_run budget fault.Start p = absurd p
+  not_run budget fault.States p = absurd p
+  not_run budget fault.Alone p = absurd p
+  not_run budget fault.Link p = absurd p
+
+  -- on threads
+  pub not_on_threads : (f : Fault) → IsFaultOfSize c f → IsNotThreaded c known f
+  not_on_threads fault.Size p = ((image, meant), p)
+  not_on_threads fault.Memory p = tt
+  not_on_threads (fault.Image e) p = absurd p
+  not_on_threads (fault.Line n) p = absurd p
+  not_on_threads (fault.Text e) p = absurd p
+  not_on_threads fault.NotUtf8 p = absurd p
+  not_on_threads (fault.Trace e) p = absurd p
+  not_on_threads (fault.Stalled n) p = absurd p
+  not_on_threads fault.Budget p = absurd p
+  not_on_threads fault.Full p = absurd p
+  not_on_threads fault.Loan p = absurd p
+  not_on_threads fault.Start p = absurd p
+  not_on_threads fault.States p = absurd p
+  not_on_threads fault.Alone p = absurd p
+  not_on_threads fault.Link p = absurd p

@@ -1,0 +1,9 @@
+use Rattle.std.specs.Prelude.{◌^◌}
+use Rattle.run_command.proofs.run.run_to_log.Given as goal
+
+-- the table that was just made, and the machine in the log
+abbrev pub ghosts-run_on_threads-N-Naming : goal.ghosts-run_on_threads-N-Naming
+ghosts-run_on_threads-N-Naming g a = record { table = a.room }
+
+abbrev pub ghosts-run_on_threads-N-Run : goal.ghosts-run_on_threads-N-Run
+ghosts-run_on_threads-N-Run g a = record { opening = a.log.opening; first = a.log.steps; count = 2 ^ a.log.opening.config.k }

@@ -1,0 +1,22 @@
+use Rattle.std.proofs.Common.{sym, subst, ◌∙◌, arith}
+use Rattle.state_search.specs.Words.{IsWritten}
+use Rattle.state_search.specs.StateTables.{words_at}
+use Rattle.state_search.proofs.Remembering.{lists_kept, lists_noted}
+use Rattle.state_search.proofs.state_tables.StateTables.rewritten.Goals as goal
+
+pub returns-in-Some-clause-there : goal.returns-in-Some-clause-there
+returns-in-Some-clause-there c =
+    (c.requires.known c.args.number c.args.word c.args.value c.in-Some.written (sym c.get.ensures ∙ c.in-Some.is)).1
+
+pub returns-in-Some-clause-written : goal.returns-in-Some-clause-written
+returns-in-Some-clause-written c =
+    (c.requires.known c.args.number c.args.word c.args.value c.in-Some.written (sym c.get.ensures ∙ c.in-Some.is)).2
+
+pub returns-clause-known : goal.returns-clause-known
+returns-clause-known c =
+    let kept = c.in_ok-written.ensures.kept in
+    lists_noted c.written.new.self c.args.transition_cache.now c.remember.new.self c.args.number c.args.word c.args.value c.in_ok-written.written
+    (lists_kept c.args.self.now c.written.new.self c.args.transition_cache.now kept c.requires.known) c.remember.ensures
+    (omega (arith, c.requires.there, kept.words)) c.in_ok-written.ensures.there
+    (subst (λ xs. IsWritten xs c.args.word c.args.value (words_at c.written.new.self c.in_ok-written.written))
+    (sym (kept.same_words c.args.number c.requires.there)) c.in_ok-written.ensures.written)

@@ -1,0 +1,108 @@
+-- Tables of stations and of lists of words, and what rows of their numbers mean.
+use Rattle.std.specs.Prelude.{◌≡◌, ℕ, ◌<◌, ◌≤◌, Bool, true, if◌then◌else◌, List, [], Some, length, map, slice_index}
+use Rattle.std.specs.Prelude.{slice_index_or}
+use Rattle.std.specs.List.{range_with_len}
+use Rattle.flat_machine.specs.declared.setting.Setting.{Setting}
+use Rattle.flat_machine.specs.declared.event.Retired.{Retired}
+use Rattle.flat_machine.specs.declared.event.Status.TheVariants.{Halted}
+use Rattle.flat_machine.specs.State.{Processor}
+use Rattle.flat_machine.specs.Turns.{turn_of}
+use Rattle.hart.specs.Deciding.{after_reply}
+use Rattle.local_reduction.specs.LocalStates.{behind, alone, IsSettled}
+use Rattle.local_reduction.specs.Closing.{MacroState}
+use Rattle.local_reduction.specs.Exchanging.{AskNot, NeverAsks}
+use Rattle.local_reduction.specs.Forgetting.{kept_by}
+use Rattle.state_search.specs.declared.state_tables.Extent.{Extent}
+use Rattle.state_search.specs.Placed.{Placed, IsBare}
+use Rattle.state_search.specs.Words.{IsTrimmed}
+
+-- Beside them which registers are live at each word of code: what the others hold is not kept of a station.
+pub record TableLists : Type 0 where
+  pub live : List (List Bool)
+  pub local_states : List Placed
+  pub words : List (List ℕ)
+
+-- what is read where no station is
+abbrev pub nowhere : Placed
+nowhere = record {
+  setting = record { number = 0; processors = 0; shared_words = 0 };
+  local_state = record { processor = record { pc = 0; registers = []; local = []; status = Halted 0 }; console = [] };
+}
+
+abbrev pub placed_at : TableLists → (number : ℕ) → Placed
+placed_at t i = slice_index_or t.local_states i nowhere
+
+abbrev pub words_at : TableLists → (number : ℕ) → List ℕ
+words_at t i = slice_index_or t.words i []
+
+-- Each station has 0 in the registers that are not live, and no list of words has a zero at the end.
+abbrev pub AreLeast : TableLists → Type 0
+AreLeast t =
+    ((i : ℕ) → i < length t.local_states → IsBare t.live (placed_at t i))
+    × ((i : ℕ) → i < length t.words → IsTrimmed (words_at t i))
+
+-- No two stations of one processor are kept the same, and no two lists have the same words.
+pub record AreDifferent (t : TableLists) : Type 0 where
+  pub local_states : (i j : ℕ) → i < length t.local_states → j < length t.local_states →
+      (placed_at t i).setting ≡ (placed_at t j).setting →
+      kept_by t.live (placed_at t i).local_state ≡ kept_by t.live (placed_at t j).local_state → i ≡ j
+  pub words : (i j : ℕ) → i < length t.words → j < length t.words →
+      ((k : ℕ) → slice_index (words_at t i) k ≡ slice_index (words_at t j) k) → i ≡ j
+
+-- ---- tables that grow
+
+-- What has a number in the old tables has it in the new ones.
+pub record HasGrown (old new : TableLists) : Type 0 where
+  pub live : new.live ≡ old.live
+  pub local_states : length old.local_states ≤ length new.local_states
+  pub words : length old.words ≤ length new.words
+  pub same_local_state : (i : ℕ) → i < length old.local_states → placed_at new i ≡ placed_at old i
+  pub same_words : (i : ℕ) → i < length old.words → words_at new i ≡ words_at old i
+
+-- ---- rows
+
+-- what each processor of a machine of this size knows of it
+abbrev pub setting_at : Extent → ℕ → Setting
+setting_at e p = record { number = p; processors = e.processors; shared_words = e.shared_words }
+
+-- what its stations say that it knows: where processors are exchanged, all have the number 0
+abbrev pub own_setting : Extent → ℕ → Setting
+own_setting e p = setting_at e (if e.exchanged then 0 else p)
+
+-- the state that a row means
+abbrev pub means : Extent → TableLists → (row : List ℕ) → MacroState
+means e t row = record {
+  local_states = map (λ p. kept_by t.live (placed_at t (slice_index row p)).local_state)
+      (range_with_len 0 e.processors);
+  shared = map (slice_index (words_at t (slice_index row e.processors))) (range_with_len 0 e.shared_words);
+}
+
+-- The row has numbers of the tables, of each processor one of its own stations, and zeros after them. The words past
+-- the last that the machine has are zero.
+pub record IsRow (e : Extent) (t : TableLists) (row : List ℕ) : Type 0 where
+  pub there : (p : ℕ) → p < e.processors → slice_index row p < length t.local_states
+  pub own : (p : ℕ) → p < e.processors → (placed_at t (slice_index row p)).setting ≡ own_setting e p
+  pub words : slice_index row e.processors < length t.words
+  pub short : (i : ℕ) → e.shared_words ≤ i → slice_index (words_at t (slice_index row e.processors)) i ≡ 0
+  pub rest : (k : ℕ) → e.processors < k → slice_index row k ≡ 0
+
+-- The tables have under a number what a station becomes by a reference to a word that had this value before, and some
+-- turns alone after it.
+pub record IsBehind (quietly : Bool) (code : List ℕ) (before : ℕ) (old : Placed) (t : TableLists)
+    (number : ℕ) : Type 0 where
+  pub there : number < length t.local_states
+  pub setting : (placed_at t number).setting ≡ old.setting
+  pub count : ℕ
+  pub gone : (done : Processor × Retired) →
+      after_reply (turn_of old.setting code old.local_state.processor) before ≡ Some done →
+      kept_by t.live (placed_at t number).local_state
+      ≡ kept_by t.live (alone count old.setting code (behind old.local_state done))
+  pub settled : (done : Processor × Retired) →
+      after_reply (turn_of old.setting code old.local_state.processor) before ≡ Some done →
+      IsSettled old.setting code (alone count old.setting code (behind old.local_state done)).processor
+  pub quiet : quietly ≡ true → (done : Processor × Retired) →
+      after_reply (turn_of old.setting code old.local_state.processor) before ≡ Some done →
+      AskNot count old.setting code (behind old.local_state done)
+  pub later : quietly ≡ true → (done : Processor × Retired) →
+      after_reply (turn_of old.setting code old.local_state.processor) before ≡ Some done →
+      NeverAsks old.setting code (alone count old.setting code (behind old.local_state done))

@@ -1,0 +1,39 @@
+-- What is remembered of moves, and that it is right.
+use Rattle.std.specs.Prelude.{◌≡◌, ◌⊎◌, Bool, ℕ, ◌<◌, List, [], ◌∷◌, Option, Some, length, nat_eq}
+use Rattle.std.specs.Cmp.Lexicographic.{pointwise}
+use Rattle.std.specs.Map.{lookup}
+use Rattle.state_search.specs.StateTables.{TableLists, placed_at, words_at, IsBehind}
+use Rattle.state_search.specs.Words.{IsWritten}
+
+-- questions, each a list of numbers, with their answers
+pub record Remembered : Type 0 where
+  pub entries : List (List ℕ × ℕ)
+
+abbrev pub nothing : Remembered
+nothing = record { entries = [] }
+
+-- the answer to a question
+abbrev pub answer_to : Remembered → (question : List ℕ) → Option ℕ
+answer_to m question = lookup (pointwise nat_eq question) m.entries
+
+-- All that is remembered now was before, or is this answer to this question.
+abbrev pub IsNoted : (old : Remembered) → (question : List ℕ) → (answer : ℕ) → (new : Remembered) → Type 0
+IsNoted old question answer new =
+    (q : List ℕ) (a : ℕ) → answer_to new q ≡ Some a → (answer_to old q ≡ Some a) ⊎ ((q ≡ question) × (a ≡ answer))
+
+-- All that is remembered now was before.
+abbrev pub IsForgotten : (old new : Remembered) → Type 0
+IsForgotten old new = (q : List ℕ) (a : ℕ) → answer_to new q ≡ Some a → answer_to old q ≡ Some a
+
+-- A reference of a station of the tables, to a word that had a value before, leads to the station that is remembered.
+abbrev pub KnowsLocalStates : (quietly : Bool) → (code : List ℕ) → TableLists → Remembered → Type 0
+KnowsLocalStates quietly code t m =
+    (number word before behind : ℕ) → answer_to m (number ∷ word ∷ before ∷ []) ≡ Some behind →
+    (number < length t.local_states) × IsBehind quietly code before (placed_at t number) t behind
+
+-- A list of the tables in which a word is written is the list that is remembered.
+abbrev pub KnowsLists : TableLists → Remembered → Type 0
+KnowsLists t m =
+    (number word value written : ℕ) → answer_to m (number ∷ word ∷ value ∷ []) ≡ Some written →
+    (number < length t.words) × (written < length t.words)
+    × IsWritten (words_at t number) word value (words_at t written)

@@ -1,0 +1,252 @@
+//! A processor between two references.
+
+ghost use Rattle.std.specs.Prelude.{◌≡◌, ◌↔◌, false, IfOk, IsTrue, OnOk};
+ghost use Rattle.local_reduction.specs.Closing.{if_running};
+ghost use Rattle.local_reduction.specs.Exchanging.{Asks};
+ghost use Rattle.flat_machine.specs.State.{is_running};
+ghost use Rattle.flat_machine.specs.Turns.{turn_of};
+ghost use Rattle.hart.specs.Deciding.{IsReference};
+ghost use Rattle.state_search.specs.Placed.{placed_of, printing, IsBare, IsEqual, IsGoingOn, IsQuiet, IsSame};
+ghost use Rattle.state_search.specs.Placed.{IsStanding};
+ghost use Rattle.state_search.specs.Placed.{IsStill, HasGone, HasRetired, HasTurned};
+
+use crate::refusal::MoveRefusal;
+use flat_machine::{Cause, Retired, Status};
+use hart::{Core, Taken};
+use local_memory::Code;
+use local_reduction::{LiveTable, dead_registers_are_not_kept};
+use rv_table::{Insn, Register};
+use std::alloc::{AllocError, Global};
+use std::hash::{Hash, Hasher};
+use std::marker::Model;
+
+/// How many instructions a processor takes after a reference before it is watched. Few take more.
+const UNWATCHED: u32 = 1_024;
+
+/// A processor with the bytes that it has printed.
+#[derive(Drop)]
+pub struct LocalState {
+    core: Core,
+    console: Vec<u8>,
+}
+
+impl Model for LocalState {
+    ghost use Rattle.state_search.specs.Placed.{Placed};
+
+    ghost Value = { Placed };
+
+    ghost view = { λ s. record {
+      setting = s.core.setting;
+      local_state = record { processor = s.core.state; console = s.console.items };
+    } };
+}
+
+// Tables find a station by its numbers. Local memory is compared, and not hashed.
+impl PartialEq for LocalState {
+    ghost use Rattle.std.specs.Cmp.{on_per, partial_equiv_from_equiv};
+    ghost use Rattle.state_search.specs.KeyLaws.{keys_equiv};
+    ghost use Rattle.state_search.specs.Keys.{key_of, same_key};
+
+    ghost eq = { same_key };
+
+    ghost laws = { on_per key_of (partial_equiv_from_equiv keys_equiv) };
+
+    fn eq(&self, other: &LocalState) -> bool {
+        self.is_equal(other)
+    }
+}
+
+impl Eq for LocalState {
+    ghost use Rattle.std.specs.Cmp.{on_equiv};
+    ghost use Rattle.state_search.specs.KeyLaws.{keys_equiv};
+    ghost use Rattle.state_search.specs.Keys.{key_of};
+
+    ghost laws = { on_equiv key_of keys_equiv };
+}
+
+impl Hash for LocalState {
+    ghost use Rattle.std.specs.Prelude.{◌++◌};
+    ghost use Rattle.std.specs.Hash as fed;
+    ghost use Rattle.local_reduction.specs.Closing.{if_running};
+    ghost use Rattle.state_search.specs.KeyLaws.{hashed_alike};
+
+    ghost hash_input = { λ a. fed.u32 a.local_state.processor.pc ++ fed.slice fed.u8 a.local_state.console
+        ++ fed.slice fed.u32 (if_running a.local_state).processor.registers };
+
+    ghost respects_eq = { hashed_alike };
+
+    fn hash<H: Hasher>(&self, state: &mut H) {
+        self.core.pc().hash(state);
+        self.console.as_slice().hash(state);
+        self.kept_registers().hash(state);
+    }
+}
+
+impl LocalState {
+    /// A processor that has printed nothing.
+    pub fn new(alloc: Global, core: &Core) -> Result<Self, AllocError>
+        ensures { IfOk result (λ s. s ≡ placed_of core.now) }
+    {
+        Ok(LocalState {
+            core: core.copy()?,
+            console: Vec::new(alloc),
+        })
+    }
+
+    /// The processor.
+    pub fn core(&self) -> &Core
+        ensures { result.now ≡ record { setting = self.now.setting; state = self.now.local_state.processor } }
+    {
+        &self.core
+    }
+
+    /// The bytes that it has printed.
+    pub fn console(&self) -> &[u8]
+        ensures { result.now ≡ self.now.local_state.console }
+    {
+        self.console.as_slice()
+    }
+
+    /// Whether the processor runs.
+    pub fn is_running(&self) -> bool
+        ensures { result ≡ is_running self.now.local_state.processor.status }
+    {
+        match self.core.status() {
+            Status::Running => true,
+            Status::Halted(_) | Status::Faulted(_) => false,
+        }
+    }
+
+    /// An equal station.
+    pub fn copy(&self) -> Result<Self, AllocError>
+        ensures { IfOk result (λ s. s ≡ self.now) }
+    {
+        Ok(LocalState {
+            core: self.core.copy()?,
+            console: self.console.clone()?,
+        })
+    }
+
+    /// Whether both are equal, but for registers and local memory where they have stopped.
+    pub(crate) fn is_equal(&self, other: &LocalState) -> bool
+        ensures { IsTrue result ↔ IsEqual self.now other.now }
+    {
+        self.core.stands_as(&other.core)
+            && self.console.as_slice() == other.console.as_slice()
+            && (!self.is_running() || self.core.equals(&other.core))
+    }
+
+    /// The registers, or none of a processor that has stopped.
+    fn kept_registers(&self) -> &[u32]
+        ensures { result.now ≡ (if_running self.now.local_state).processor.registers }
+    {
+        if self.is_running() {
+            self.core.registers()
+        } else {
+            &[]
+        }
+    }
+
+    /// Sets the registers to 0 that are not live.
+    pub fn forget(&mut self, live: &LiveTable)
+        ensures same { IsSame live.now self.new self.old }
+        ensures bare { IsBare live.now self.new }
+    {
+        dead_registers_are_not_kept();
+        let pc = self.core.pc();
+        for number in 1..32 {
+            let register = Register::new(number);
+            if !live.has(pc, register) {
+                self.core.set_register(register, 0);
+            }
+        }
+    }
+
+    /// Takes a turn that refers to a shared word, which had this value before.
+    pub fn retire(&mut self, code: &Code, before: u32) -> Result<(), AllocError>
+        requires { IsReference (turn_of self.old.setting code.now self.old.local_state.processor) }
+        ensures retired { OnOk result (HasRetired code.now before self.old self.new) }
+    {
+        let retired = self.core.retire(code, before);
+        self.print(retired)
+    }
+
+    /// Takes turns as long as the processor runs and needs no shared word, unless it spins.
+    ///
+    /// # Errors
+    ///
+    /// [`MoveRefusal::Asks`] where one of them asks for the processor's own number though it is to go quietly,
+    /// [`MoveRefusal::Alone`] where they are 1,000,000 or more and it is not found to spin, and
+    /// [`MoveRefusal::Memory`].
+    pub fn run_to_reference(&mut self, code: &Code, quietly: bool) -> Result<(), MoveRefusal>
+        ensures gone { OnOk result (HasGone quietly code.now self.old self.new) }
+        ensures still { OnOk result (IsStill code.now self.new) }
+        ensures quiet { OnOk result (IsQuiet quietly code.now self.new) }
+    {
+        for _turn in 0..UNWATCHED {
+            if self.step(code, quietly)? {
+                return Ok(());
+            }
+        }
+        self.settle_watched(code, quietly)?;
+        Ok(())
+    }
+
+    /// Takes a turn alone, and says whether the processor has stopped, or waits for a shared word.
+    pub(crate) fn step(&mut self, code: &Code, quietly: bool) -> Result<bool, MoveRefusal>
+        ensures turned { OnOk result (HasTurned quietly code.now self.old self.new) }
+        ensures stands { IfOk result (λ stands. IsTrue stands → IsStanding code.now self.new) }
+        ensures goes_on { IfOk result (λ stands. stands ≡ false → IsGoingOn code.now self.old) }
+    {
+        if !self.is_running() {
+            return Ok(true);
+        }
+        if quietly && self.asks(code) {
+            return Err(MoveRefusal::Asks);
+        }
+        match self.core.take(code) {
+            Taken::Retired(retired) => match self.print(retired) {
+                Ok(()) => Ok(false),
+                Err(_) => Err(MoveRefusal::Memory),
+            },
+            Taken::Refers { .. } => Ok(true),
+            Taken::Halts(byte) => {
+                self.core.stop(Cause::Halt(byte));
+                Ok(true)
+            }
+            Taken::Faults(fault) => {
+                self.core.stop(Cause::Fault(fault));
+                Ok(true)
+            }
+        }
+    }
+
+    /// Whether the next turn asks for the processor's own number.
+    #[tactic(auto, unfolding(flat_machine::specs::Effects::register_of))]
+    fn asks(&self, code: &Code) -> bool
+        ensures { result ≡ false → Asks code.now self.now.local_state.processor → ⊥ }
+    {
+        match code.fetch(self.core.pc()) {
+            Ok(Insn::Ecall) => self.core.registers()[17] == 2,
+            _ => false,
+        }
+    }
+
+    /// Gives the processor another number.
+    pub fn set_number(&mut self, number: u8)
+        ensures setting { self.new.setting ≡ record self.old.setting { number = number } }
+        ensures local_state { self.new.local_state ≡ self.old.local_state }
+    {
+        self.core.set_number(number);
+    }
+
+    /// Appends what an instruction gave to the console.
+    fn print(&mut self, retired: Retired) -> Result<(), AllocError>
+        ensures { OnOk result (self.new ≡ printing self.old retired) }
+    {
+        match retired.out {
+            Some(byte) => Ok(self.console.push(byte)?),
+            None => Ok(()),
+        }
+    }
+}

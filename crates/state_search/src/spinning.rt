@@ -1,0 +1,109 @@
+//! Processors that spin: that go on alone for ever.
+
+ghost use Rattle.std.specs.Prelude.{◌≡◌, ◌↔◌, ◌-◌, ◌<◌, ◌≤◌, slice_index, IfOk, IsTrue, OnOk};
+ghost use Rattle.local_reduction.specs.Live.{HasAllLive};
+ghost use Rattle.state_search.specs.Placed.{HasGone, IsGoingOn, IsQuiet, IsStill};
+ghost use Rattle.state_search.specs.Search.{Spinning};
+ghost use Rattle.state_search.specs.StateTables.{IsRow, means};
+
+use crate::local_state::LocalState;
+use crate::refusal::MoveRefusal;
+use crate::state_tables::{Extent, StateTables, StateVector};
+use hart::Decision;
+use local_memory::Code;
+use local_reduction::{dead_registers_can_be_forgotten, what_comes_back_spins};
+
+/// For how many turns a processor is watched, one stretch after another, each from where it then stands: with those
+/// before, 1,000,000. It is found to spin if it comes back within a stretch to where that begins.
+const STRETCHES: [u32; 10] = [
+    1_024, 2_048, 4_096, 8_192, 16_384, 32_768, 65_536, 131_072, 262_144, 475_712,
+];
+
+impl LocalState {
+    /// Takes turns as long as the processor runs, needs no shared word, and is not found to spin.
+    ///
+    /// # Errors
+    ///
+    /// As of [`LocalState::run_to_reference`].
+    pub(crate) fn settle_watched(&mut self, code: &Code, quietly: bool) -> Result<(), MoveRefusal>
+        ensures gone { OnOk result (HasGone quietly code.now self.old self.new) }
+        ensures still { OnOk result (IsStill code.now self.new) }
+        ensures quiet { OnOk result (IsQuiet quietly code.now self.new) }
+    {
+        for turns in STRETCHES {
+            if self.observer(code, quietly, turns)? {
+                return Ok(());
+            }
+        }
+        Err(MoveRefusal::Alone)
+    }
+
+    /// Takes at most this many turns, and says whether the processor has stopped, waits for a shared word, or spins: it
+    /// stands as it did before them.
+    fn observer(&mut self, code: &Code, quietly: bool, turns: u32) -> Result<bool, MoveRefusal>
+        ensures gone { OnOk result (HasGone quietly code.now self.old self.new) }
+        ensures still { IfOk result (λ settles. IsTrue settles → IsStill code.now self.new) }
+        ensures quiet { IfOk result (λ settles. IsTrue settles → IsQuiet quietly code.now self.new) }
+    {
+        what_comes_back_spins();
+        let Ok(start) = self.copy() else {
+            return Err(MoveRefusal::Memory);
+        };
+        for _turn in 0..turns {
+            if self.step(code, quietly)? {
+                return Ok(true);
+            }
+            if self.is_equal(&start) {
+                return Ok(true);
+            }
+        }
+        Ok(false)
+    }
+
+    /// Whether the processor runs, and its next turn is no reference.
+    fn goes_on(&self, code: &Code) -> bool
+        ensures { IsTrue result ↔ IsGoingOn code.now self.now }
+    {
+        if !self.is_running() {
+            return false;
+        }
+        match self.core().decide(code) {
+            Decision::Refer { .. } => false,
+            Decision::Local | Decision::Halt(_) | Decision::Fault(_) => true,
+        }
+    }
+}
+
+impl StateTables {
+    /// Whether a processor of a row runs, and is not about to refer to a word: so it spins.
+    pub(crate) fn has_spinner<const N: usize>(
+        &self,
+        code: &Code,
+        extent: Extent,
+        row: &StateVector<N>,
+    ) -> bool
+        requires live { HasAllLive code.now self.now.live }
+        requires row { IsRow extent self.now row.now }
+        requires room { extent.processors < N }
+        requires narrow { N ≤ 65 }
+        ensures { IsTrue result ↔ Spinning extent code.now (means extent self.now row.now) }
+    {
+        dead_registers_can_be_forgotten();
+        for p in 0..extent.processors {
+            let number = row[usize::from(p)];
+            if !is_repeated(row, p) && self.local_state(number).goes_on(code) {
+                return true;
+            }
+        }
+        false
+    }
+}
+
+/// Whether a processor has the number of the one before it.
+fn is_repeated<const N: usize>(row: &StateVector<N>, p: u8) -> bool
+    requires there { p < N }
+    requires narrow { N ≤ 65 }
+    ensures { IsTrue result → (0 < p) × (slice_index row.now p ≡ slice_index row.now (p - 1)) }
+{
+    p > 0 && row[usize::from(p)] == row[usize::from(p - 1)]
+}

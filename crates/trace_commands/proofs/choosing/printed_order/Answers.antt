@@ -1,0 +1,34 @@
+use Rattle.std.proofs.Common.{sym, ap, subst, ◌∙◌}
+use Rattle.std.proofs.lemmas.Result.{IfOk-weaker, IfErr-weaker}
+use Rattle.elf_image.specs.Files.{IsImageOf}
+use Rattle.trace_commands.specs.TraceReports.{known_of}
+use Rattle.trace_commands.specs.Choices.{AreChosenLines, unknown_in}
+use Rattle.trace_commands.specs.Orders.{AreOrderLines}
+use Rattle.trace_commands.proofs.OfTraces.{trace_report_printed, no_trace_report}
+use Rattle.trace_commands.proofs.choosing.printed_order.Goals as goal
+
+pub returns-clause-printed : goal.returns-clause-printed
+returns-clause-printed g c = λ bytes read.
+    let choice = c.args.order.now.choice in
+    let known = known_of {R = g.row.R.Denot} g.R.Read.remaining c.args.file in
+    let size = c.config-config.result in
+    let image = c.in_ok-image.image in
+    let meant = subst (λ f. IsImageOf size.shared_words (known_of {R = g.row.R.Denot} g.R.Read.remaining f) image) (sym c.in-Ok.is)
+    c.in_ok-image.ensures.image in
+    let names = ap (unknown_in choice) c.config-config.ensures ∙ c.requires.known in
+    IfOk-weaker c.print_trace_report.result _ _
+    (λ status p. trace_report_printed (AreChosenLines choice) c.args.shared_words bytes known c.args.trace.now read size c.config-config.ensures image meant
+    c.steps.result.now c.steps.ensures (g.W.Write.contents c.args.out.now) (g.W.Write.contents c.print_trace_report.new.out) status
+    (record { text = p.text; meant = (names, p.meant); printed = p.printed })) c.print_trace_report.ensures.printed
+
+pub returns-clause-fault : goal.returns-clause-fault
+returns-clause-fault g c = λ bytes read.
+    let choice = c.args.order.now.choice in
+    let known = known_of {R = g.row.R.Denot} g.R.Read.remaining c.args.file in
+    let size = c.config-config.result in
+    let image = c.in_ok-image.image in
+    let meant = subst (λ f. IsImageOf size.shared_words (known_of {R = g.row.R.Denot} g.R.Read.remaining f) image) (sym c.in-Ok.is)
+    c.in_ok-image.ensures.image in
+    IfErr-weaker c.print_trace_report.result _ _
+    (no_trace_report (AreOrderLines choice) c.args.shared_words bytes known c.args.trace.now read size c.config-config.ensures image meant
+    c.steps.result.now c.steps.ensures (g.W.Write.contents c.args.out.now) (g.W.Write.contents c.print_trace_report.new.out)) c.print_trace_report.ensures.fault

@@ -1,0 +1,24 @@
+-- What `ultra order` does with numbers that name nothing.
+use Rattle.std.specs.Prelude.{◌≡◌, ◌^◌, ℕ, List, Option, Some, None, IsSome}
+use Rattle.flat_machine.specs.declared.config.Config.{Config}
+use Rattle.trace_file.specs.Traces.{TraceContents, config_of}
+use Rattle.trace_lines.specs.declared.choice.Choice.{Choice}
+use Rattle.trace_lines.specs.declared.unknown.Unknown.{Unknown}
+use Rattle.trace_lines.specs.Choices.{unknown_of}
+use Rattle.trace_commands.specs.TraceReports.{IsTraceOf, ReportRelation}
+use Rattle.trace_commands.specs.Orders.{AreOrderLines}
+
+-- the number of a choice that names nothing on a machine of this size
+abbrev pub unknown_in : Choice → Config → Option Unknown
+unknown_in choice c = unknown_of choice (2 ^ c.k) c.shared_words
+
+-- The chosen lines, of a choice whose numbers name something.
+abbrev pub AreChosenLines : Choice → ReportRelation
+AreChosenLines choice c image steps text status = (unknown_in choice c ≡ None)
+    × AreOrderLines choice c image steps text status
+
+-- A number of the choice names nothing on the machine of the trace.
+pub record IsUnknown (choice : Choice) (shared_words : ℕ) (trace : Option (List ℕ)) : Type 0 where
+  pub steps : TraceContents
+  pub read : IsTraceOf trace steps
+  pub unknown : IsSome (unknown_in choice (config_of steps shared_words))

@@ -1,0 +1,141 @@
+//! What commands say of a trace: from the bytes of a trace and of an image to a text.
+
+ghost use Rattle.std.specs.Prelude.{◌≡◌, ◌≤◌, ◌⊎◌, ◌↔◌, true, false, IfOk, IfErr, IsErr, IsErrOf, OnErr, length};
+ghost use Rattle.std.specs.Prelude.{string_bytes};
+ghost use Rattle.command_io.specs.FaultTexts.{IsReported};
+ghost use Rattle.command_io.specs.Printing.{Prints, ReportsFault};
+ghost use Rattle.trace_commands.specs.Causes.{TraceReportFails, IsNotTaken, ReportItselfFails};
+ghost use Rattle.trace_commands.specs.TraceReports.{IsTraceReport, known_of};
+
+use crate::input::trace_of;
+use command_io::{Fault, image_in, print, report_fault};
+use elf_image::Image;
+use flat_machine::Config;
+use link::LinkWrite;
+use std::alloc::Global;
+use std::io;
+use std::io::{Read, Write};
+use steps::Step;
+
+/// What is said of the steps of a trace: a report, a serial order, or else.
+///
+/// [`trace_command`] is the command that reports it.
+pub trait TraceReport {
+    ghost use Rattle.trace_commands.specs.TraceReports.{ReportRelation};
+
+    /// What the text and the exit status are.
+    ghost reports: { Self → ReportRelation };
+
+    /// Takes the steps on a machine of this size that opens on a copy of the image, which was read for as many shared
+    /// words, and says of them. The exit status is 0, or 1 where a processor is faulted.
+    ///
+    /// # Errors
+    ///
+    /// [`Fault::Size`] where the size is out of its limits, [`Fault::Stalled`] at the first step that stalls, and
+    /// [`Fault::Memory`].
+    fn text(
+        &self,
+        alloc: Global,
+        image: &Image,
+        config: Config,
+        steps: &[Step],
+    ) -> Result<(String, u8), Fault>
+        requires few { length steps.now ≤ 4194304 }
+        requires words { image.now.shared_words ≡ config.shared_words }
+        ensures fault { IfOk result (λ done. Self.reports self.now config image.now steps.now
+            (string_bytes done.0) done.1) }
+        ensures low { IfOk result (λ done. done.1 ≤ 1) }
+        ensures refused { IfErr result (IsNotTaken config image.now steps.now) };
+}
+
+/// Tells of the steps of the trace that a file is, on the machine of the trace's size, and of this many shared words,
+/// that opens on the image that another file is, and prints that. That the image's file cannot be opened is reported
+/// where the trace has no fault.
+///
+/// Answers the exit status: that of the text where it is printed, else that of the fault that is reported on standard
+/// error. A fault is reported in this order: of the trace, of the image, of the machine's size, of a step that stalls,
+/// of standard output.
+pub fn trace_command<A: TraceReport, T: Read + Drop, R: Read + Drop, W: LinkWrite, E: Write>(
+    alloc: Global,
+    trace: T,
+    file: io::Result<R>,
+    shared_words: u32,
+    trace_report: &A,
+    out: &mut W,
+    err: &mut E,
+) -> u8
+    requires { W.has_failed out.old ≡ false }
+    ensures printed { result ≤ 1 →
+        Prints (IsTraceReport (A.reports trace_report.now) shared_words (T.remaining trace)
+        (known_of R.remaining file) result)
+        (W.contents out.old) (W.contents out.new) }
+    ensures fault { 2 ≤ result → ReportsFault W.has_failed Fault.Link (IsErr file)
+        (TraceReportFails (A.reports trace_report.now) shared_words (T.remaining trace) (known_of R.remaining file)
+        (W.contents out.old) (W.contents out.new))
+        (IsReported (E.contents err.old) (E.contents err.new)) out.old out.new result }
+    ensures failed { W.has_failed out.new ≡ true → result ≡ 3 }
+    ensures quiet { result ≤ 1 → err.new ≡ err.old }
+{
+    match execute(alloc, trace, file, shared_words, trace_report, out) {
+        Ok(status) => status,
+        Err(fault) => report_fault(fault, err),
+    }
+}
+
+/// Carries the command out.
+fn execute<A: TraceReport, T: Read + Drop, R: Read + Drop, W: LinkWrite>(
+    alloc: Global,
+    trace: T,
+    file: io::Result<R>,
+    shared_words: u32,
+    trace_report: &A,
+    out: &mut W,
+) -> Result<u8, Fault>
+    requires { W.has_failed out.old ≡ false }
+    ensures failed { W.has_failed out.new ≡ true → IsErrOf result Fault.Link }
+    ensures link { IsErrOf result Fault.Link → IsErr file ⊎ (W.has_failed out.new ≡ true) }
+    ensures printed { IfOk result (λ status. Prints (IsTraceReport (A.reports trace_report.now) shared_words
+        (T.remaining trace) (known_of R.remaining file) status)
+        (W.contents out.old) (W.contents out.new)) }
+    ensures low { IfOk result (λ status. status ≤ 1) }
+    ensures fault { IfErr result (TraceReportFails (A.reports trace_report.now) shared_words (T.remaining trace)
+        (known_of R.remaining file) (W.contents out.old)
+        (W.contents out.new)) }
+    ensures silent { OnErr result (W.has_failed out.new ≡ false → out.new ≡ out.old) }
+{
+    let trace = trace_of(alloc, trace)?;
+    let Ok(file) = file else {
+        return Err(Fault::Link);
+    };
+    let config = trace.config(shared_words);
+    let image = image_in(alloc, file, &config)?;
+    print_trace_report(alloc, &image, config, trace.steps(), trace_report, out)
+}
+
+/// Prints what is said of steps.
+// A function of its own, so that none has many values to drop at each of its ends.
+pub(crate) fn print_trace_report<A: TraceReport, W: LinkWrite>(
+    alloc: Global,
+    image: &Image,
+    config: Config,
+    steps: &[Step],
+    trace_report: &A,
+    out: &mut W,
+) -> Result<u8, Fault>
+    requires prints { W.has_failed out.old ≡ false }
+    requires few { length steps.now ≤ 4194304 }
+    requires words { image.now.shared_words ≡ config.shared_words }
+    ensures failed { IsErrOf result Fault.Link ↔ (W.has_failed out.new ≡ true) }
+    ensures printed { IfOk result
+        (λ status. Prints (λ text. A.reports trace_report.now config image.now steps.now text status)
+        (W.contents out.old)
+        (W.contents out.new)) }
+    ensures low { IfOk result (λ status. status ≤ 1) }
+    ensures fault { IfErr result (ReportItselfFails (A.reports trace_report.now) config image.now steps.now
+        (W.contents out.old) (W.contents out.new)) }
+    ensures silent { OnErr result (W.has_failed out.new ≡ false → out.new ≡ out.old) }
+{
+    let (text, status) = trace_report.text(alloc, image, config, steps)?;
+    print(out, text.as_str())?;
+    Ok(status)
+}

@@ -1,0 +1,56 @@
+//! Where a debugger comes in: a port of this machine.
+
+ghost use Rattle.std.specs.Prelude.{◌≡◌, false, IfOk, ⊤};
+
+use crate::reports::Reason;
+use debug_session::{Connect, announce, loopback};
+use link::{Failed, Meter};
+use std::io;
+use std::io::Write;
+use std::net::{Net, OpenListener, OpenStream, TcpListener};
+
+/// A port of 127.0.0.1 at which one connection is awaited, and who is reported once it can be made.
+#[derive(Drop)]
+pub(crate) struct LoopbackPort<'a, R: Net, W: Write> {
+    pub(crate) net: &'a R,
+    pub(crate) port: u16,
+    /// What the system says where there is no connection.
+    pub(crate) reason: &'a Reason,
+    pub(crate) out: &'a mut W,
+}
+
+impl<R: Net, W: Write> Connect for LoopbackPort<'_, R, W> {
+    type Reader = Meter<R::Stream>;
+
+    type Writer = Meter<R::Stream>;
+
+    ghost gives = { λ loopback_port link. ⊤ };
+
+    /// Listens at the port, says so, and waits for one connection.
+    fn connect(&mut self) -> Result<(Meter<R::Stream>, Meter<R::Stream>), Failed> {
+        match self.streams() {
+            Ok((reader, writer)) => Ok((Meter::new(reader), Meter::new(writer))),
+            Err(error) => {
+                // Where it is standard output that failed, that is the reason, and not what the meter says of it
+                // afterwards.
+                if self.reason.get().is_none() {
+                    self.reason.set(Some(error));
+                }
+                Err(Failed)
+            }
+        }
+    }
+}
+
+impl<R: Net, W: Write> LoopbackPort<'_, R, W> {
+    /// The two sides of the one connection.
+    fn streams(&mut self) -> io::Result<(R::Stream, R::Stream)> {
+        let listener = TcpListener::bind(self.net, loopback(self.port))?;
+        announce(self.port, self.out)?;
+        self.out.flush()?;
+        let (stream, _) = listener.accept()?;
+        // A reply is one line, and whoever debugs waits for it.
+        stream.set_nodelay(true)?;
+        Ok((stream.try_clone()?, stream))
+    }
+}

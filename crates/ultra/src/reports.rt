@@ -1,0 +1,145 @@
+//! What is reported of files: which of them a fault is of, and what the system says of it.
+
+use settings::{Replay, Settings};
+use std::cell::Cell;
+use std::fmt::{self, Display};
+use std::io::{self, ErrorKind, Read, Write};
+
+/// Why the last call on a file failed, as the system says it.
+pub(crate) type Reason = Cell<Option<io::Error>>;
+
+/// A file or standard output, which leaves why a call on it failed.
+#[derive(Drop)]
+pub(crate) struct Explained<'a, T> {
+    pub(crate) device: T,
+    pub(crate) reason: &'a Reason,
+}
+
+impl<T: Read> Read for Explained<'_, T> {
+    fn read(&mut self, buf: &mut [u8]) -> io::Result<usize> {
+        match self.device.read(buf) {
+            Ok(count) => Ok(count),
+            Err(error) => {
+                self.reason.set(Some(error));
+                Err(error)
+            }
+        }
+    }
+}
+
+impl<T: Write> Write for Explained<'_, T> {
+    fn write(&mut self, buf: &[u8]) -> io::Result<usize> {
+        match self.device.write(buf) {
+            Ok(0) if !buf.is_empty() => {
+                self.reason.set(Some(ErrorKind::WriteZero.into()));
+                Ok(0)
+            }
+            Ok(count) => Ok(count),
+            Err(error) => {
+                self.reason.set(Some(error));
+                Err(error)
+            }
+        }
+    }
+
+    fn flush(&mut self) -> io::Result<()> {
+        match self.device.flush() {
+            Ok(()) => Ok(()),
+            Err(error) => {
+                self.reason.set(Some(error));
+                Err(error)
+            }
+        }
+    }
+}
+
+/// Standard error, which keeps the first letter of the code that a command reports there.
+#[derive(Drop)]
+pub(crate) struct Reports<'a, E> {
+    pub(crate) err: &'a mut E,
+    pub(crate) letter: Option<u8>,
+}
+
+impl<E: Write> Write for Reports<'_, E> {
+    fn write(&mut self, buf: &[u8]) -> io::Result<usize> {
+        // A command writes the line of a code by one call.
+        if let Some(code) = buf.strip_prefix(b"ultra: ".as_slice()) {
+            self.letter = code.first().copied();
+        }
+        self.err.write(buf)
+    }
+
+    fn flush(&mut self) -> io::Result<()> {
+        self.err.flush()
+    }
+}
+
+/// What a fault is of.
+#[derive(Clone, Copy, Debug, PartialEq, Eq, Drop)]
+pub(crate) enum Place<'a> {
+    File(&'a str),
+    Port(u16),
+    StandardOutput,
+}
+
+impl Display for Place<'_> {
+    fn fmt<W: fmt::Write>(&self, f: &mut fmt::Formatter<W>) -> fmt::Result {
+        match self {
+            Place::File(path) => write!(f, "{path}"),
+            Place::Port(number) => write!(f, "port {number}"),
+            Place::StandardOutput => write!(f, "standard output"),
+        }
+    }
+}
+
+/// Says in a second line what a fault is of, and what the system says of it.
+pub(crate) fn report_place<E: Write>(place: Place<'_>, reason: Option<io::Error>, err: &mut E) {
+    // Where standard error fails, the exit status alone reports the fault.
+    let _ = match reason {
+        Some(error) => writeln!(err, "  {place}: {error}"),
+        None => writeln!(err, "  {place}"),
+    };
+}
+
+/// What the code of this letter is of: a text (A, V), an image (I), a trace (X), or what cannot be opened or read
+/// (`link`). Nothing is said of the others, which are of no file.
+pub(crate) fn place_of<'a>(settings: &Settings<'a>, letter: u8) -> Option<Place<'a>> {
+    match (letter, settings) {
+        (b'V' | b'l', Settings::Words(words)) => Some(Place::File(words.file)),
+        (b'A' | b'l', Settings::Check(check)) => Some(Place::File(check.file)),
+        (b'A' | b'l', Settings::Asm(asm)) => Some(Place::File(asm.file)),
+        // The one image of `asm` is the one that it writes.
+        (b'I', Settings::Asm(asm)) => Some(Place::File(asm.out)),
+        (b'I', Settings::Dis(dis)) => Some(Place::File(dis.file)),
+        (b'I', Settings::Run(run)) => Some(Place::File(run.file)),
+        (b'X', Settings::Run(run)) => file(run.trace),
+        (b'I', Settings::Explore(explore)) => Some(Place::File(explore.file)),
+        (b'X', Settings::Explore(explore)) => file(explore.trace),
+        (b'I', Settings::Hunt(hunt)) => Some(Place::File(hunt.file)),
+        (b'I', Settings::Debug(session)) => Some(Place::File(session.file)),
+        (b'l', Settings::Debug(session)) => Some(Place::Port(session.port)),
+        (_, Settings::Replay(replay) | Settings::Story(replay) | Settings::Stats(replay)) => {
+            place_of_replay(replay, letter)
+        }
+        (_, Settings::Order(order)) => place_of_replay(&order.replay, letter),
+        (_, Settings::Picture(asked)) => place_of_replay(&asked.replay, letter),
+        _ => None,
+    }
+}
+
+/// What the code of this letter is of, where a trace is read and then the image of its run.
+fn place_of_replay<'a>(replay: &Replay<'a>, letter: u8) -> Option<Place<'a>> {
+    match letter {
+        b'X' => Some(Place::File(replay.trace)),
+        b'I' | b'l' => Some(Place::File(replay.file)),
+        _ => None,
+    }
+}
+
+/// The file of a path, if there is one.
+fn file(path: Option<&str>) -> Option<Place<'_>> {
+    match path {
+        Some(path) => Some(Place::File(path)),
+        None => None,
+    }
+}

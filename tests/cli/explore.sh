@@ -1,0 +1,619 @@
+# shellcheck shell=bash
+# `ultra explore`: every result of the programs of examples/explore, as worked out by hand and as found by another
+# search; witnesses; and what is refused. HOW is `each` for a search that prints every result (--each), and `exchanged`
+# for one that prints one result for all that differ by an exchange of processors.
+
+# ---- results that were worked out
+
+# result_line STATUS ..: one line with the statuses of the processors and the words of standard input.
+result_line() {
+    local status
+    for status in "$@"; do printf '%s, ' "$status"; done
+    awk '{ printf "%s, ", $0 } END { print "" }'
+}
+
+# all_halt COUNT: the line of a result in which COUNT processors halt with 00, with the words of standard input.
+all_halt() {
+    local p halts=()
+    for ((p = 0; p < $1; p++)); do halts+=('halt 00'); done
+    result_line "${halts[@]}"
+}
+
+# numbered_halts COUNT WORDS: the line of a result in which COUNT processors halt with their numbers, with the words of
+# a file.
+numbered_halts() {
+    local p halts=()
+    for ((p = 0; p < $1; p++)); do printf -v "halts[p]" 'halt %02x' "$p"; done
+    result_line "${halts[@]}" <"$2"
+}
+
+# expected_results HOW NAME STAGES: the results of an example, worked out by hand. Each is a line that says how the
+# processors stopped, what they printed, and which words they left.
+expected_results() {
+    local n=$((1 << $3)) i bits halts faults
+    case $2 in
+        lost_adds) for ((i = 1; i <= n; i++)); do word 0 "$i" | all_halt "$n"; done ;;
+        ten_adds) for ((i = n == 1 ? 10 : 2; i <= 10 * n; i++)); do word 0 "$i" | all_halt "$n"; done ;;
+        counter) word 0 $((3 * n)) | all_halt "$n" ;;
+        neighbours) # each set of those who see a 1 but the empty one
+            for ((bits = 1; bits < 1 << n; bits++)); do
+                halts=()
+                for ((i = 0; i < n; i++)); do halts+=("halt 0$((bits >> i & 1))"); done
+                for ((i = 0; i < n; i++)); do word "$i" 1; done | result_line "${halts[@]}"
+            done
+            ;;
+        barrier | barrier_stuck) { word 1 $((2 * n)) && word 2 2; } | all_halt "$n" ;;
+        barrier_one_round) { word 1 "$n" && word 2 1; } | all_halt "$n" ;;
+        barrier_late) word 1 1 | all_halt "$n" ;;
+        barrier_early | barrier_once) # each set of those who are too early but the set of all, or how many they are
+            faults=()
+            if [ "$1" = each ]; then
+                for ((bits = 0; bits < (1 << n) - 1; bits++)); do faults+=("$bits"); done
+            else # the ebreak stands last, so those who come to it do
+                for ((i = 0; i < n; i++)); do faults+=($(((1 << i) - 1 << n - i))); done
+            fi
+            for bits in "${faults[@]}"; do
+                halts=()
+                for ((i = 0; i < n; i++)); do ((bits >> i & 1)) && halts+=('fault 8') || halts+=('halt 00'); done
+                i=$([ "$2" = barrier_early ] && echo "$n" || echo $((2 * n)))
+                { word 0 "$i" && word 1 "$i"; } | result_line "${halts[@]}"
+            done
+            ;;
+        signal) all_halt "$n" </dev/null ;;
+        peterson) # either writes word 2 last
+            word 3 2 | all_halt 2
+            { word 2 1 && word 3 2; } | all_halt 2
+            ;;
+        peterson_wrong) expected_results "$1" peterson 1 && word 3 1 | all_halt 2 && { word 2 1 && word 3 1; } | all_halt 2 ;;
+        swap_lock) word 1 "$n" | all_halt "$n" ;;
+        ticket_lock) for i in 0 1 2; do word "$i" "$n"; done | all_halt "$n" ;;
+        ticket_lock_twice) for i in 0 1 2; do word "$i" $((2 * n)); done | all_halt "$n" ;;
+        readers_writer) { word 2 1 && word 3 1; } | all_halt "$n" ;;
+        self_scheduled) { word 0 $((6 + n)) && word 1 15; } | all_halt "$n" ;;
+        shares) # of two: one gets any of the six numbers, and the other the rest; if they are exchanged processor 0 gets the first
+            for ((bits = 0; bits < 64; bits++)); do
+                [ "$1" = each ] || ((bits % 2 == 0)) || continue
+                halts=('halt 00' 'halt 00')
+                for ((i = 0; i < 6; i++)); do printf -v "halts[bits >> i & 1]" '%s 0%d' "${halts[bits >> i & 1]}" "$i"; done
+                # A processor that printed nothing comes first.
+                [ "$1" = each ] || ((bits != 0)) || halts=("${halts[1]}" "${halts[0]}")
+                word 0 8 | result_line "${halts[@]}"
+            done
+            ;;
+        queue) # of two: in either order they put in, and in either they take out
+            for i in 1 2; do
+                { word 0 2 && word 1 2 && word 2 "$i" && word 3 $((3 - i)); } >"$room/words"
+                result_line 'halt 01' 'halt 02' <"$room/words" && result_line 'halt 02' 'halt 01' <"$room/words"
+            done
+            ;;
+        own_number) numbered_halts "$n" <(word 0 "$n") ;;
+        own_ticket) # of two: either gets the first ticket
+            numbered_halts "$n" <(word 0 "$n" && word 1 "$n")
+            [ "$1" = exchanged ] || { word 0 2 && word 1 2; } | result_line 'halt 01' 'halt 00'
+            ;;
+        *) return 1 ;;
+    esac
+}
+
+# expected_classes HOW NAME STAGES: the line that says which processors of an example can be exchanged, if any can.
+expected_classes() {
+    local last=$(((1 << $3) - 1)) first=0
+    case $2 in
+        neighbours | own_number | peterson | peterson_wrong | queue) return ;;
+        readers_writer | signal) first=1 ;;
+    esac
+    [ "$1" = each ] || [ "$first" -ge "$last" ] || echo "processors $first to $last can be exchanged"
+}
+
+# explores HOW WORD ..: `ultra explore`, with --each or with processors exchanged.
+explores() {
+    local options=()
+    [ "$1" = exchanged ] || options=("--$1")
+    shift
+    ./ultra explore "${options[@]}" "$@"
+}
+
+# finds_each_result HOW NAME STAGES STATUS [STATES]: `ultra explore` prints the expected results and no others, each
+# once, and the processors that can be exchanged. It ends with STATUS after it has found STATES states.
+finds_each_result() {
+    local ended=0
+    ./ultra asm "examples/explore/$2.s" "$room/$2.elf" || return 1
+    explores "$1" --k "$3" "$room/$2.elf" >"$room/results" 2>"$room/err" || ended=$?
+    diff <(expected_results "$1" "$2" "$3" | sort) <(awk '/^result / { if (line) print line; line = ""; next }
+        /^processor / { gsub(/../, " &", $8); line = line $5 " " $6 ($8 == "-" ? "" : $8) ", " } /^word / { line = line $0 ", " }
+        END { if (line) print line }' "$room/results" | sort) &&
+        diff <(expected_results "$1" "$2" "$3" | wc -l) <(tail -n 2 "$room/results" | head -n 1 | sed 's/ results\{0,1\}, [0-9]* states\{0,1\}$//') &&
+        diff <(expected_classes "$1" "$2" "$3") <(grep '^processors ' "$room/results") &&
+        { [ -z "${5:-}" ] || grep -q ", $5 states$" "$room/results"; } &&
+        diff <(echo "$4") <(echo "$ended") && diff /dev/null "$room/err"
+}
+
+# Joins the lines of a report to one line, without the counts of instructions.
+as_one_line() {
+    sed 's/ retired [0-9]*//' | tr '\n' '|'
+}
+
+# The same for reports that differ by an exchange of processors: without the numbers of processors, and sorted.
+as_one_sorted_line() {
+    sed 's/^processor [0-9]*/processor/; s/ retired [0-9]*//' | sort | tr '\n' '|'
+}
+
+# printed_result NUMBER: the lines of a result in $room/results, as one line.
+printed_result() {
+    awk -v number="$1" '/^result / { there = $2 == number; next } /^processors / || /^[0-9]* results?, / { there = 0 }
+        there { printf "%s|", $0 }' "$room/results"
+}
+
+# has_the_end_of_the_sweep HOW NAME STAGES: the results in $room/results include the one that the sweep comes to; if
+# processors are exchanged, up to their order.
+has_the_end_of_the_sweep() {
+    local number results join=as_one_line
+    [ "$1" = each ] || join=as_one_sorted_line
+    results=$(grep -c '^result ' "$room/results")
+    ./ultra run --sweep --k "$3" "$room/$2.elf" >"$room/report" || return 1
+    for ((number = 1; number <= results; number++)); do
+        printed_result "$number" | tr '|' '\n' | "$join"
+        echo
+    done | grep -Fx "$("$join" <"$room/report")" >"$room/out"
+}
+
+# witnesses HOW NAME STAGES NUMBER STATUS OPTION ..: asked for a witness of result NUMBER, `ultra explore` prints
+# $room/results again and ends with STATUS. The trace of the witness replays, to $room/report.
+witnesses() {
+    local how=$1 name=$2 stages=$3 number=$4 status=$5 ended=0
+    shift 5
+    rm -f "$room/witness"
+    explores "$how" --k "$stages" --witness "$number" --trace "$room/witness" "$@" "$room/$name.elf" >"$room/out" 2>"$room/err" || ended=$?
+    diff "$room/results" "$room/out" && diff /dev/null "$room/err" && diff <(echo "$status") <(echo "$ended") || return 1
+    ended=0
+    ./ultra replay "$room/witness" "$room/$name.elf" >"$room/report" || ended=$?
+    [ "$ended" -le 1 ]
+}
+
+# replays_witnesses HOW NAME STAGES STATUS NUMBER ..: a witness of each of these results replays to the result, with the
+# processors in the order in which they are printed.
+replays_witnesses() {
+    local how=$1 name=$2 stages=$3 status=$4 number
+    shift 4
+    for number in "$@"; do
+        witnesses "$how" "$name" "$stages" "$number" "$status" && diff <(printed_result "$number") <(as_one_line <"$room/report") || return 1
+    done
+}
+
+# replays_first_and_last HOW NAME STAGES STATUS: so do witnesses of the first and of the last result.
+replays_first_and_last() {
+    replays_witnesses "$@" 1 "$(expected_results "$1" "$2" "$3" | wc -l)"
+}
+
+# witnesses_nothing HOW NAME STAGES NUMBER TEXT: a witness of NUMBER is refused with TEXT. Nothing else is printed, and
+# no trace is opened.
+witnesses_nothing() {
+    rm -f "$room/witness"
+    ends 2 "$5" explores "$1" --k "$3" --witness "$4" --trace "$room/witness" "$room/$2.elf" && [ ! -e "$room/witness" ]
+}
+
+# replays_each_witness HOW NAME STAGES STATUS: a witness of each result in $room/results replays to it, also without
+# wait buffers and with the shortest queues. There is none of one number more.
+replays_each_witness() {
+    local number options results
+    results=$(grep -c '^result ' "$room/results")
+    for ((number = 1; number <= results; number++)); do
+        for options in '' '--b 0' '--c 2 --b 1'; do
+            # shellcheck disable=SC2086 # the options are words
+            witnesses "$1" "$2" "$3" "$number" "$4" $options && diff <(printed_result "$number") <(as_one_line <"$room/report") || return 1
+        done
+    done
+    [ "$number" -gt 1 ] && witnesses_nothing "$1" "$2" "$3" "$number" "error: there is no result $number"
+}
+
+# expected_deadlock NAME STAGES: the report of the first state from which no end can be reached, worked out by hand.
+expected_deadlock() {
+    local p last=$(((1 << $2) - 1))
+    case $1 in
+        signal) # processor 0 has set the word and taken it back, and no other has looked
+            echo 'processor 0 pc 0001001c run console -'
+            for ((p = 1; p <= last; p++)); do echo "processor $p pc 00010000 run console -"; done
+            ;;
+        barrier_late) # all are counted, one has let the others go, and none of them has looked
+            for ((p = 0; p < last; p++)); do echo "processor $p pc 0001001c run console -"; done
+            echo "processor $last pc 00010028 run console -"
+            word 1 1
+            ;;
+    esac
+}
+
+# replays_to_a_deadlock HOW NAME STAGES: the witness of number 0, which is the deadlock, replays to that report.
+replays_to_a_deadlock() {
+    witnesses "$1" "$2" "$3" 0 1 && diff <(expected_deadlock "$2" "$3" | as_one_sorted_line) <(as_one_sorted_line <"$room/report") &&
+        { [ "$2" != signal ] || grep '^processor 0 pc 0001001c ' "$room/report"; }
+}
+
+# checks_of_results HOW NAME STAGES STATUS STATES: registers the checks of a program whose results were worked out.
+# Another program counted the states, except for those of the counter, which are 4^n.
+checks_of_results() {
+    local how=$1 name=$2 stages=$3 status=$4 states=$5 so
+    so=$([ "$how" = each ] && echo 'each result that was' || echo 'up to exchanges the results that were')
+    check "examples/explore/$name.s has $so worked out on $((1 << stages)) processors" \
+        finds_each_result "$how" "$name" "$stages" "$status" "$states"
+    case $name in # their sweeps may end at a fault, or not at all
+        barrier_early | barrier_late | barrier_once | barrier_stuck | signal) ;;
+        *) then_check 'and the end of the sweep is one of them' has_the_end_of_the_sweep "$how" "$name" "$stages" ;;
+    esac
+    if [ "$stages" -le 2 ]; then
+        then_check 'and each has a witness that replays to it' replays_each_witness "$how" "$name" "$stages" "$status"
+    else
+        then_check 'and the first and the last have a witness that replays to them' \
+            replays_first_and_last "$how" "$name" "$stages" "$status"
+    fi
+    case $name in
+        barrier_late | signal) then_check 'and the witness of its deadlock replays to it' replays_to_a_deadlock "$how" "$name" "$stages" ;;
+        barrier_stuck) then_check 'and its deadlock has a witness that replays' witnesses "$how" "$name" "$stages" 0 1 ;;
+        *) then_check 'and no deadlock has one' witnesses_nothing "$how" "$name" "$stages" 0 'error: an end can be reached from each state' ;;
+    esac
+}
+
+while read -r how name stages status states; do
+    checks_of_results "$how" "$name" "$stages" "$status" "$states"
+done <<'END'
+each lost_adds 1 0 12
+each lost_adds 2 0 330
+each counter 2 0 256
+each counter 3 0 65536
+each neighbours 2 0
+each barrier 1 0
+each barrier 2 0 1645
+each barrier_once 1 1
+each barrier_stuck 1 1
+each barrier_one_round 2 0
+each barrier_early 2 1
+each barrier_late 1 1
+each signal 1 1
+each signal 2 1
+each peterson 1 0
+each peterson_wrong 1 0
+each swap_lock 2 0
+each ticket_lock 2 0 624
+each ticket_lock_twice 2 0 6513
+each self_scheduled 2 0 2914
+each shares 1 0
+each readers_writer 2 0
+each queue 1 0
+each own_number 2 0 16
+each own_ticket 1 0
+exchanged lost_adds 2 0 48
+exchanged ten_adds 1 0 11446
+exchanged lost_adds 3 0 1280
+exchanged counter 4 0 969
+exchanged counter 6 0 47905
+exchanged neighbours 2 0
+exchanged barrier 3 0 1497
+exchanged barrier 4 0 21471
+exchanged barrier_once 2 1
+exchanged barrier_stuck 3 1
+exchanged barrier_one_round 4 0 1122
+exchanged barrier_one_round 5 0 7106
+exchanged barrier_one_round 6 0 50050
+exchanged barrier_early 4 1
+exchanged barrier_early 6 1
+exchanged barrier_late 3 1
+exchanged barrier_late 6 1
+exchanged signal 3 1
+exchanged signal 6 1
+exchanged peterson 1 0
+exchanged swap_lock 4 0 65
+exchanged swap_lock 6 0 257
+exchanged ticket_lock 4 0 561
+exchanged ticket_lock 6 0 8385
+exchanged ticket_lock_twice 2 0 351
+exchanged self_scheduled 4 0 959
+exchanged self_scheduled 6 0 4031
+exchanged shares 1 0
+exchanged readers_writer 2 0
+exchanged readers_writer 3 0
+exchanged own_number 4 0 65536
+exchanged own_ticket 4 0
+exchanged own_ticket 6 0
+END
+
+# ---- witnesses
+
+# The 16 results of examples/explore/barrier_early.s on 16 processors.
+replays_results_of_16() {
+    ./ultra asm examples/explore/barrier_early.s "$room/barrier_early.elf" || return 1
+    ./ultra explore --k 4 "$room/barrier_early.elf" >"$room/results"
+    replays_witnesses exchanged barrier_early 4 1 {1..16}
+}
+check 'of 16 processors each of 16 results has a witness that replays to it as it is printed' replays_results_of_16
+
+replays_numbers_of_64() {
+    ./ultra asm examples/explore/own_ticket.s "$room/own_ticket.elf" && ./ultra explore --k 6 "$room/own_ticket.elf" >"$room/results" &&
+        replays_each_witness exchanged own_ticket 6 0
+}
+check 'and so has that of 64 processors that halt with as many numbers, with short queues too' replays_numbers_of_64
+
+# A witness without a trace, a trace without a witness, and a trace that would overwrite the image are refused, and no
+# file is opened.
+refuses_half_a_witness() {
+    local half='error: --witness and --trace go together'
+    cp "$room/counter.elf" "$room/same.elf"
+    ends 2 "$half" ./ultra explore --witness 1 "$room/none.elf" && ends 2 "$half" ./ultra explore --trace "$room/witness" "$room/none.elf" &&
+        ends 2 'error: OUT is the same file as FILE' ./ultra explore --witness 1 --trace "$room/same.elf" "$room/same.elf" &&
+        cmp "$room/counter.elf" "$room/same.elf" && [ ! -e "$room/witness" ] &&
+        ends_with_code 3 X5 "$room/none/witness: $no_such_file" ./ultra explore --witness 1 --trace "$room/none/witness" "$room/counter.elf" &&
+        ends_with_code 3 X5 "/dev/full: $no_space_left" ./ultra explore --witness 1 --trace /dev/full "$room/counter.elf"
+}
+check 'a witness of none of them, half of one, or one that would be written over the image: status 2' refuses_half_a_witness
+
+# With --every a witness or a trace is refused. Nothing else is printed, and no file is opened.
+refuses_a_witness_of_every_size() {
+    local options
+    for options in '--witness 1' "--trace $room/witness" "--witness 1 --trace $room/witness" "--witness 0 --each --trace $room/witness"; do
+        # shellcheck disable=SC2086 # the options are words
+        ends 2 'error: --every goes with neither --witness nor --trace' ./ultra explore --every $options "$room/counter.elf" &&
+            [ ! -e "$room/witness" ] || { echo "$options" && return 1; }
+    done
+}
+check 'a witness of every size: status 2' refuses_a_witness_of_every_size
+
+# ---- every size
+
+# size_line K RESULTS STATES SCHEDULES STATUS: the line for a size.
+size_line() {
+    local it counts=()
+    for it in "processor:$((1 << $1))" "result:$2" "state:$3"; do
+        counts+=("${it#*:} ${it%:*}$([ "${it#*:}" = 1 ] || echo s)")
+    done
+    echo "k $1: ${counts[0]}, ${counts[1]}, ${counts[2]}, $4, $5"
+}
+
+# A program whose processors add once each, on every size of the machine, as worked out by hand. --k changes nothing.
+# With --each the larger sizes have too many states.
+explores_every_size() {
+    local k ended=0
+    printf '%s\n' ' lui s2, 0x80000' ' addi s5, x0, 1' ' amoadd.w a0, s5, (s2)' ' addi a7, x0, 0' ' ecall' >"$room/once.s"
+    assembles_to "$room/once.s" "$room/once.elf" || return 1
+    for k in {0..6}; do size_line "$k" 1 $(((1 << k) + 1)) 'every schedule ends' "$(printf 'halt %02x' $(((1 << k) - 1)))"; done >"$room/lines"
+    ./ultra explore --every "$room/once.elf" >"$room/out" 2>"$room/err" && diff "$room/lines" "$room/out" && diff /dev/null "$room/err" &&
+        ./ultra explore --quiet --k 1 --every "$room/once.elf" | diff "$room/lines" - || return 1
+    # Each processor has a ticket of its own: two have 5 states and 2 results, four have 65 and 24, and eight have 8!
+    # results.
+    {
+        size_line 0 1 2 'every schedule ends' 'halt 00'
+        size_line 1 2 5 'every schedule ends' 'halt 01'
+        size_line 2 24 65 'every schedule ends' 'halt 03'
+        for k in {3..6}; do echo "k $k: $((1 << k)) processors, not explored: states"; done
+    } >"$room/lines"
+    ./ultra explore --every --each --states 100 "$room/once.elf" >"$room/out" 2>"$room/err" || ended=$?
+    diff "$room/lines" "$room/out" && diff <(printf 'ultra: states\n%.0s' {1..4}) "$room/err" && diff <(echo 4) <(echo "$ended")
+}
+check 'every size of a program, as worked out; and each that has too many states: states, status 4' explores_every_size
+
+# A processor that counts alone for ever is reported for every size.
+gives_up_every_size() {
+    local k ended=0
+    printf 'loop: addi x3, x3, 1\njal x0, loop\n' >"$room/count.s" && assembles_to "$room/count.s" "$room/count.elf" || return 1
+    ./ultra explore --every "$room/count.elf" >"$room/out" 2>"$room/err" || ended=$?
+    for k in {0..6}; do echo "k $k: $((1 << k)) processor$([ "$k" = 0 ] || echo s), not explored: alone"; done | diff - "$room/out" &&
+        diff <(printf 'ultra: alone\n%.0s' {0..6}) "$room/err" && diff <(echo 4) <(echo "$ended")
+}
+check 'every size of a program that goes on alone: alone, status 4' gives_up_every_size
+
+# A processor that comes back to where it was never stops: that is a verdict.
+finds_a_spinner() {
+    local ended=0
+    printf 'spin: jal x0, spin\n' >"$room/spin.s" && assembles_to "$room/spin.s" "$room/spin.elf" || return 1
+    ./ultra explore --k 1 "$room/spin.elf" >"$room/out" 2>"$room/err" || ended=$?
+    diff <(tail -n 1 "$room/out") <(echo 'from 1 state no end can be reached') && [ ! -s "$room/err" ] && diff <(echo 1) <(echo "$ended")
+}
+check 'a processor that never stops is a verdict, status 1' finds_a_spinner
+
+# ---- searches that are given up
+
+# A search that is given up says why, with its status.
+gives_up_exploring() {
+    local ended=0
+    ends 4 'ultra: states' ./ultra explore --states 30 "$room/counter.elf" &&
+        ends 4 'ultra: states' ./ultra explore --each --states 100 "$room/counter.elf" &&
+        printf 'loop: addi x3, x3, 1\njal x0, loop\n' >"$room/count.s" && assembles_to "$room/count.s" "$room/count.elf" &&
+        ends 4 'ultra: alone' ./ultra explore "$room/count.elf" || return 1
+    ./ultra explore --k 7 "$room/counter.elf" >"$room/out" 2>"$room/err" || ended=$?
+    [ "$ended" -eq 2 ] && [ ! -s "$room/out" ] && grep "invalid value '7' for '--k <NUMBER>': 7 is not in 0..=6" "$room/err"
+}
+check 'a search that is given up: states or alone, status 4; too many processors: what is wrong, status 2' gives_up_exploring
+
+# ---- processors that can be exchanged
+
+# exchanged_text NAME: a text of which some processors can be exchanged. Both `ultra` and the other search can read it.
+exchanged_text() {
+    case $1 in
+        two_classes) # by the bits of 229: processors 0, 2, 5, 6 and 7 add 1, and 1, 3 and 4 add 0
+            printf '%s\n' ' addi a7, x0, 2' ' ecall' ' addi t0, x0, 229' ' srl t0, t0, a0' ' addi t1, x0, 1' ' and a0, t0, t1' \
+                ' lui s2, 0x80000' ' amoadd.w x0, a0, (s2)' ' addi a7, x0, 0' ' ecall'
+            ;;
+        some_stop) # processors 3 to 7 halt without a reference
+            printf '%s\n' ' addi a7, x0, 2' ' ecall' ' addi t0, x0, 3' ' bgeu a0, t0, done' ' lui s2, 0x80000' ' addi s5, x0, 1' \
+                ' amoadd.w t0, s5, (s2)' ' amoadd.w x0, t0, (s2)' 'done: addi a7, x0, 0' ' addi a0, x0, 7' ' ecall'
+            ;;
+        last_stops) # who adds last comes to the ebreak, which stands before the halt of the others
+            printf '%s\n' ' addi a7, x0, 3' ' ecall' ' addi s1, a0, -1' ' lui s2, 0x80000' ' addi s5, x0, 1' ' amoadd.w t0, s5, (s2)' \
+                ' bne t0, s1, done' ' ebreak' 'done: addi a7, x0, 0' ' addi a0, x0, 0' ' ecall'
+            ;;
+        counts_down) # they halt with 00, ff, fe and so on
+            printf '%s\n' ' lui s2, 0x80000' ' addi s5, x0, -1' ' addi a7, x0, 1' ' amoadd.w a0, s5, (s2)' ' ecall' ' addi a7, x0, 0' ' ecall'
+            ;;
+        one_asks) # who adds third asks for its own number
+            printf '%s\n' ' lui s2, 0x80000' ' addi s5, x0, 1' ' addi s6, x0, 2' ' amoadd.w a0, s5, (s2)' ' addi a7, x0, 0' ' bne a0, s6, done' \
+                ' addi a7, x0, 2' ' ecall' ' addi a7, x0, 0' 'done: ecall'
+            ;;
+    esac
+}
+
+# A fault stops one of 64 processors. It is printed first, since its pc is the lowest.
+finds_a_fault_in_one_of_64() {
+    local p ended=0
+    exchanged_text last_stops >"$room/last_stops.s" && assembles_to "$room/last_stops.s" "$room/last_stops.elf" || return 1
+    ./ultra explore --k 6 "$room/last_stops.elf" >"$room/results" 2>"$room/err" || ended=$?
+    {
+        printf '%s\n' 'result 1' 'processor 0 pc 0001001c fault 8 console -'
+        for ((p = 1; p < 64; p++)); do echo "processor $p pc 00010028 halt 00 console -"; done
+        word 0 64
+        printf '%s\n' 'processors 0 to 63 can be exchanged' '1 result, 65 states' 'every schedule ends'
+    } | diff - "$room/results" && diff /dev/null "$room/err" && diff <(echo 1) <(echo "$ended") && replays_witnesses exchanged last_stops 6 1 1
+}
+check 'a fault in one of 64 processors: one result, in which it comes first' finds_a_fault_in_one_of_64
+
+# If a processor asks for its own number after a reference, no processors are exchanged.
+exchanges_none_if_one_asks() {
+    local stages
+    ./ultra asm examples/explore/own_number.s "$room/own_number.elf" && exchanged_text one_asks >"$room/one_asks.s" &&
+        assembles_to "$room/one_asks.s" "$room/one_asks.elf" || return 1
+    for stages in own_number:3 own_number:4 one_asks:2 one_asks:3; do
+        ./ultra explore --k "${stages#*:}" "$room/${stages%:*}.elf" >"$room/found" &&
+            ./ultra explore --each --k "${stages#*:}" "$room/${stages%:*}.elf" >"$room/each" && diff "$room/each" "$room/found" &&
+            ! grep '^processors ' "$room/found" || { echo "$stages" && return 1; }
+    done
+    # Of two processors none is the third to add, so none asks.
+    ./ultra explore --k 1 "$room/one_asks.elf" | grep -x 'processors 0 to 1 can be exchanged'
+}
+check 'a program that asks for its own number after a reference: none is exchanged' exchanges_none_if_one_asks
+
+# ---- what another search finds
+
+if ! command -v python3 >/dev/null; then
+    left_out 'another search of every result, for there is no python3'
+    return
+fi
+
+# On a terminal a line shows how many states were found, and is erased at the end. With --quiet there is none.
+shows_progress_of_a_search() {
+    local ended=0 line='\\rultra: [0-9]+ states, [0-9]+ a second\\x1b\[K' gone='\\r\\x1b\[K'
+    # Without an exchange, eight processors that take this lock twice have more states than --states allows.
+    ./ultra asm examples/explore/ticket_lock_twice.s "$room/search.elf" || return 1
+    tests/tools/on_a_terminal.py 1.5 crates/ultra/out/ultra explore --each --k 3 --states 2500000 "$room/search.elf" >"$room/out" || ended=$?
+    cat "$room/out"
+    [ "$ended" -eq 4 ] && grep -Eqx "($line)+${gone}ultra: states\\\\r\\\\n" "$room/out" || return 1
+    ended=0
+    tests/tools/on_a_terminal.py 1.5 crates/ultra/out/ultra explore --each --quiet --k 3 --states 2500000 "$room/search.elf" >"$room/out" || ended=$?
+    [ "$ended" -eq 4 ] && diff <(printf '%s\n' 'ultra: states\r\n') "$room/out"
+}
+check 'on a terminal a line tells how far a search is' shows_progress_of_a_search
+
+# finds_what_another_search_finds TEXT OPTION ..: with these options `ultra explore` prints the same as
+# tests/tools/every_result.py, an independent search: the results in their order, the processors that can be exchanged,
+# the number of states, and whether schedules end; or a line for each size. The faults and the status are the same too.
+finds_what_another_search_finds() {
+    local text=$1 ended=0 status=0
+    shift
+    ./ultra asm "$text" "$room/searched.elf" || return 1
+    ./ultra explore "$@" "$room/searched.elf" >"$room/results" 2>"$room/err" || ended=$?
+    # The other search takes the number of stages without --k.
+    [ "$1" != --k ] || shift
+    python3 tests/tools/every_result.py "$text" "$@" >"$room/out" 2>"$room/said" || status=$?
+    diff "$room/out" "$room/results" && diff "$room/said" "$room/err" && diff <(echo "$status") <(echo "$ended")
+}
+while read -r name options; do
+    # shellcheck disable=SC2086 # the options are words
+    check "ultra explore $options prints of examples/explore/$name.s what another search finds" \
+        finds_what_another_search_finds "examples/explore/$name.s" $options
+done <<'END'
+lost_adds --k 2 --each
+ten_adds --k 1
+counter --k 2 --each
+neighbours --k 2 --each
+barrier --k 2 --each
+barrier_once --k 1 --each
+barrier_once --k 2 --each
+barrier_stuck --k 1 --each
+barrier_stuck --k 2 --each
+barrier_early --k 2 --each
+barrier_late --k 2 --each
+signal --k 2 --each
+peterson --k 1 --each
+peterson_wrong --k 1 --each
+swap_lock --k 2 --each
+ticket_lock --k 2 --each
+ticket_lock_twice --k 2 --each
+self_scheduled --k 2 --each
+shares --k 1 --each
+readers_writer --k 2 --each
+queue --k 2 --each
+own_number --k 2 --each
+own_ticket --k 2 --each
+lost_adds --k 2
+lost_adds --k 3
+counter --k 5
+neighbours --k 2
+barrier --k 3
+barrier --k 4
+barrier_once --k 1
+barrier_once --k 2
+barrier_once --k 3
+barrier_stuck --k 3
+barrier_one_round --k 5
+barrier_early --k 4
+barrier_early --k 5
+barrier_late --k 5
+signal --k 6
+peterson --k 1
+peterson_wrong --k 1
+swap_lock --k 6
+ticket_lock --k 5
+ticket_lock_twice --k 3
+self_scheduled --k 6
+shares --k 1
+shares --k 2
+shares --k 3
+readers_writer --k 2
+readers_writer --k 3
+queue --k 2
+own_number --k 3
+own_ticket --k 6
+counter --every --states 10000
+barrier_early --every --states 10000
+barrier_stuck --every --states 10000
+own_number --every --states 10000
+lost_adds --every --each --states 1000
+END
+
+# exchanges_as_another_search NAME STAGES LINES: so it does for a text of exchanged_text, and LINES say which processors
+# can be exchanged.
+exchanges_as_another_search() {
+    exchanged_text "$1" >"$room/$1.s" && finds_what_another_search_finds "$room/$1.s" --k "$2" --each &&
+        finds_what_another_search_finds "$room/$1.s" --k "$2" && diff <(printf %b "$3") <(grep '^processors ' "$room/results")
+}
+while read -r name stages lines; do
+    check "ultra explore prints of the text $name what another search finds on $((1 << stages)) processors" \
+        exchanges_as_another_search "$name" "$stages" "$lines"
+done <<'END'
+two_classes 3 processors 0, 2, 5 to 7 can be exchanged\nprocessors 1, 3 to 4 can be exchanged\n
+two_classes 1
+some_stop 3 processors 0 to 2 can be exchanged\nprocessors 3 to 7 can be exchanged\n
+some_stop 2 processors 0 to 2 can be exchanged\n
+last_stops 3 processors 0 to 7 can be exchanged\n
+counts_down 3 processors 0 to 7 can be exchanged\n
+one_asks 1 processors 0 to 1 can be exchanged\n
+one_asks 2
+END
+
+# stands_for_each_result NAME STAGES: the results of an example with processors exchanged stand for those with --each.
+stands_for_each_result() {
+    ./ultra asm "examples/explore/$1.s" "$room/$1.elf" || return 1
+    ./ultra explore --k "$2" "$room/$1.elf" >"$room/found" || [ $? = 1 ] || return 1
+    ./ultra explore --each --k "$2" "$room/$1.elf" >"$room/each" || [ $? = 1 ] || return 1
+    tests/tools/exchanged.py "$room/found" "$room/each"
+}
+while read -r name stages; do
+    check "with processors exchanged the results of examples/explore/$name.s are those of ultra explore --each on $((1 << stages)) processors" \
+        stands_for_each_result "$name" "$stages"
+done <<'END'
+lost_adds 2
+barrier_once 2
+barrier_early 3
+neighbours 3
+shares 1
+shares 2
+queue 2
+own_ticket 2
+signal 3
+readers_writer 2
+END

@@ -1,0 +1,86 @@
+# shellcheck shell=bash
+# `ultra hunt`: random runs of the algorithms, right and wrong.
+
+# hunts NAME: runs an image 200 times on two processors, and leaves the different results in $room/hunt.
+hunts() {
+    ./ultra hunt --k 1 --runs 200 --budget 20000 --trace "$room/$1-" "$room/$1.elf" >"$room/hunt"
+}
+
+# ---- what they find
+
+# All runs of a right algorithm end with the words that its page gives.
+finds_one_result() {
+    hunts "$1" && diff "$room/hunt" - <<END
+runs 200 first 1 over
+processor 0 halt 00 console -
+processor 1 halt 00 console -
+$(final_words "$1" 1)
+END
+}
+for it in barrier readers_writers ticket_lock; do
+    check "random runs of $it come to one result" finds_one_result "$it"
+done
+
+# In some runs of a wrong barrier both processors wait for ever. Others end as runs of the right barrier do.
+finds_endless_waits() {
+    hunts "$1" || return 1
+    grep -A 2 '^runs [0-9]* first [0-9]* budget$' "$room/hunt" | grep -A 1 -x 'processor 0 run console -' | grep -x 'processor 1 run console -' &&
+        grep -A 4 ' over$' "$room/hunt" | tail -n 2 | diff - <(final_words "wrong/$1" 1)
+}
+
+# The number of the first run of each result gives the result again, and its trace replays to the same words.
+finds_again() {
+    local runs number rest
+    while read -r runs number rest; do
+        ./ultra hunt --k 1 --runs 1 --start "$number" --budget 20000 "$room/$1.elf" >"$room/again"
+        diff <(sed -n "/^runs $runs first $number /,/^runs /p" "$room/hunt" | sed "1s/runs $runs /runs 1 /; 2,\${/^runs /d}") "$room/again" || return 1
+        diff <(grep '^word ' "$room/again") <(./ultra replay "$room/$1-$number.trace" "$room/$1.elf" | grep '^word ') || return 1
+    done < <(sed -n 's/^runs \([0-9]*\) first \([0-9]*\) .*/\1 \2/p' "$room/hunt")
+}
+for it in barrier_reset_late barrier_phase_late; do
+    check "random runs of $it find that both processors wait for ever" finds_endless_waits "$it"
+    then_check "what they found of $it is found again, and replays" finds_again "$it"
+done
+
+# A reader of the wrong readers and writers stops with fault 8, which is ebreak.
+finds_a_reader_that_stops() {
+    local ended=0
+    hunts readers_writers_one_look || ended=$?
+    [ "$ended" -eq 1 ] && grep -x 'processor 1 fault 8 console -' "$room/hunt"
+}
+check 'random runs of the wrong readers and writers find a reader that stops' finds_a_reader_that_stops
+then_check 'what they found of it is found again, and replays' finds_again readers_writers_one_look
+
+# ---- traces and progress
+
+# If one file for a trace exists, even as a dangling link, no trace is written. With --overwrite each is written, as a
+# whole.
+keeps_a_trace_that_exists() {
+    local last sizes='--k 1 --runs 40 --budget 20000' elf=$room/barrier_reset_late.elf
+    rm -rf "$room/first" "$room/second" && mkdir "$room/first" "$room/second" || return 1
+    # shellcheck disable=SC2086
+    ./ultra hunt $sizes --trace "$room/first/" "$elf" >"$room/hunt" || return 1
+    last=$(sed -n 's/^runs [0-9]* first \([0-9]*\) .*/\1/p' "$room/hunt" | tail -n 1)
+    [ "$last" -gt 1 ] && [ -s "$room/first/1.trace" ] && ln -s nowhere "$room/second/$last.trace" || return 1
+    # shellcheck disable=SC2086
+    ends 2 "error: $room/second/$last.trace exists: use --overwrite" ./ultra hunt $sizes --trace "$room/second/" "$elf" &&
+        diff <(echo "$last.trace") <(ls "$room/second") && rm "$room/second/$last.trace" && printf '%5000s' '' >"$room/second/$last.trace" &&
+        ./ultra hunt --overwrite $sizes --trace "$room/second/" "$elf" | diff "$room/hunt" - && diff -r "$room/first" "$room/second"
+}
+check 'where the trace of a random run exists none is written, but with --overwrite' keeps_a_trace_that_exists
+
+# On a terminal a line shows how many runs have ended, and is erased at the end. With --quiet there is none.
+shows_progress_of_a_hunt() {
+    local line='\\rultra: [0-9]+ runs, [0-9]+ a second, [0-9]+ results\\x1b\[K' gone='\\r\\x1b\[K'
+    ./ultra asm examples/algorithms/wrong/barrier_reset_late.s "$room/watched.elf" || return 1
+    tests/tools/on_a_terminal.py 1.5 crates/ultra/out/ultra hunt --k 1 --runs 3000 --budget 20000 "$room/watched.elf" >"$room/out"
+    cat "$room/out"
+    grep -Eqx "($line)+$gone" "$room/out" || return 1
+    tests/tools/on_a_terminal.py 1.5 crates/ultra/out/ultra hunt --quiet --k 1 --runs 3000 --budget 20000 "$room/watched.elf" |
+        diff <(echo) -
+}
+if command -v python3 >/dev/null; then
+    check 'on a terminal a line tells how far a hunt is' shows_progress_of_a_hunt
+else
+    left_out 'a hunt on a terminal, for there is no python3'
+fi

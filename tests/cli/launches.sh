@@ -1,0 +1,71 @@
+# shellcheck shell=bash
+# `./ultra` launches the program: standard streams, other folders, the time of a launch, and a quick launch in a fresh
+# copy.
+
+# ---- standard streams
+
+to_a_full_disk() {
+    ./ultra words examples/tickets.hex >/dev/full
+}
+check 'standard output is full: link, status 3' ends_with_code 3 link "standard output: $no_space_left" to_a_full_disk
+
+to_nowhere() {
+    ./ultra words examples/tickets.hex >&-
+}
+check 'standard output is closed: link, status 3' ends_with_code 3 link "standard output: $bad_descriptor" to_nowhere
+
+from_nowhere() {
+    diff examples/tickets.out <(with_status ./ultra words examples/tickets.hex <&- 2>&1)
+}
+check 'standard input is closed: no matter' from_nowhere
+
+passes_its_input_on() {
+    diff examples/tickets.out <(with_status ./ultra words /dev/stdin <examples/tickets.hex 2>&1)
+}
+check 'standard input goes to the program' passes_its_input_on
+
+# ---- where and how
+
+# A launch from another folder, by a link, with a path relative to that folder, in which nothing is written.
+runs_from_elsewhere() (
+    mkdir "$room/else where" "$room/links"
+    cp examples/tickets.hex "$room/else where/a file.hex"
+    ln -s "$top/ultra" "$room/links/ultra"
+    cd "$room/else where" || exit 1
+    diff "$top/examples/tickets.out" <(with_status ../links/ultra words 'a file.hex' 2>&1) && diff <(echo 'a file.hex') <(ls -A)
+)
+check 'a launch from another folder, through a link' runs_from_elsewhere
+
+# The processor time of 20 runs of a command in milliseconds, which other work on the machine hardly changes.
+milliseconds_of_20() {
+    local run TIMEFORMAT='%U %S'
+    { time for ((run = 0; run < 20; run++)); do "$@" >/dev/null 2>&1; done; } 2>&1 | awk '{ print int(1000 * ($1 + $2)) }'
+}
+
+launches_in_no_time() {
+    local launched own
+    launched=$(milliseconds_of_20 ./ultra words examples/fetch_and_add.hex)
+    own=$(milliseconds_of_20 crates/ultra/out/ultra words examples/fetch_and_add.hex)
+    echo "20 launches take $launched ms, the program $own ms"
+    [ $((launched - own)) -lt 1000 ]
+}
+check 'a launch takes less than 50 ms over the program' launches_in_no_time
+
+# In a fresh copy of the sources, where nothing is proved, an image runs on two processors and its trace is saved: from
+# another folder, by relative paths.
+runs_a_fresh_copy_quickly() (
+    fresh=$room/fresh
+    mkdir -p "$fresh/elsewhere" && cp -r ultra crates.txt HANDLES examples "$fresh" || exit 1
+    for crate in crates/*; do
+        mkdir -p "$fresh/$crate" && cp -r "$crate"/[!o]* "$fresh/$crate" || exit 1
+    done
+    assembles_to examples/fetch_and_add_100.s "$fresh/elsewhere/example.elf" || exit 1
+    example_report 2 000000c8 >"$room/report"
+    ./ultra run --sweep --k 1 --trace "$room/proved.trace" "$fresh/elsewhere/example.elf" >/dev/null || exit 1
+    cd "$fresh/elsewhere" || exit 1
+    ../ultra --quick run --sweep --k 1 --trace quick.trace example.elf >"$room/out" 2>"$room/told" || { cat "$room/told"; exit 1; }
+    diff "$room/report" "$room/out" && cmp quick.trace "$room/proved.trace" && grep 'NOT PROVED' "$room/told" || exit 1
+    ../ultra --quick replay quick.trace example.elf >"$room/out" 2>"$room/told" || { cat "$room/told"; exit 1; }
+    diff "$room/report" "$room/out" && ! grep compiling "$room/told"
+)
+check 'a quick launch of a fresh copy: the report, and the trace' runs_a_fresh_copy_quickly

@@ -1,0 +1,355 @@
+# shellcheck shell=bash
+# The program runs out of memory at each request in turn, and cannot start each thread in turn. A library that is loaded
+# before the C library refuses the request or the thread.
+
+if ! command -v cc >/dev/null; then
+    left_out 'memory refused, each request in turn, for there is no C compiler (cc)'
+    return
+fi
+
+# refuses_each_request STATUS OUTPUT ERROR COMMAND FILE ..: with each request for memory refused in turn, `ultra COMMAND
+# FILE ..` reports that it is out of memory, with status 4, and begins no trace in $room/saved.trace. Or it ends with
+# STATUS, OUTPUT and ERROR as with enough memory, and the trace is $room/ample.trace.
+refuses_each_request() {
+    local status=$1 output=$2 error=$3 number=0 refusals=0 ended
+    shift 3
+    make_library refuse || return 1
+    while true; do
+        number=$((number + 1))
+        ended=0
+        rm -f "$room/saved.trace"
+        REFUSE=$number LD_PRELOAD=$room/refuse.so crates/ultra/out/ultra "$@" \
+            >"$room/out" 2>"$room/err" 9>"$room/refused" || ended=$?
+        [ -s "$room/refused" ] || break
+        if [ "$ended" -eq 4 ]; then
+            refusals=$((refusals + 1))
+            diff /dev/null "$room/out" && diff <(echo 'ultra: memory') "$room/err" && [ ! -e "$room/saved.trace" ] || return 1
+        else
+            diff <(echo "$status") <(echo "$ended") && diff "$output" "$room/out" && diff "$error" "$room/err" || return 1
+            [[ $* != *saved.trace* ]] || cmp "$room/ample.trace" "$room/saved.trace" || return 1
+        fi
+    done
+    echo "$refusals of $((number - 1)) refused requests gave 'ultra: memory'"
+    [ "$refusals" -gt 30 ]
+}
+
+# ---- runs
+
+refuses_memory_of_a_run() {
+    local name
+    for name in fetch_and_add tickets; do
+        sed '$d' "examples/$name.out" >"$room/printed"
+        refuses_each_request 0 "$room/printed" /dev/null words "examples/$name.hex" || return 1
+    done
+}
+check 'memory refused to a run, each request in turn: memory, status 4, or its output' refuses_memory_of_a_run
+
+refuses_memory_of_a_bad_line() {
+    printf '00000073\n0000007\n' >"$room/bad.hex"
+    printf 'ultra: V1 line 2\n  %s\n' "$room/bad.hex" >"$room/told"
+    refuses_each_request 2 /dev/null "$room/told" words "$room/bad.hex"
+}
+check 'memory refused to a bad line, each request in turn: memory, status 4, or V1' refuses_memory_of_a_bad_line
+
+refuses_memory_of_an_image() {
+    example_report 2 000000c8 >"$room/report"
+    refuses_each_request 0 "$room/report" /dev/null run --sweep --k 1 "$room/example.elf"
+}
+check 'memory refused to a run of an image, each request in turn: memory, status 4, or its report' refuses_memory_of_an_image
+
+refuses_memory_of_a_saved_run() {
+    example_report 2 000000c8 >"$room/report"
+    ./ultra run --sweep --k 1 --trace "$room/ample.trace" "$room/example.elf" >"$room/out" &&
+        refuses_each_request 0 "$room/report" /dev/null run --sweep --k 1 --trace "$room/saved.trace" "$room/example.elf"
+}
+check 'memory refused to a run that is saved, each request in turn: memory, status 4, and no trace, or both' refuses_memory_of_a_saved_run
+
+# One processor that halts. The bytes of its trace are worked out by hand. So are those of two wrong traces: one has a
+# turn too many (X7), and a turn of the other has a byte that it does not use (X3).
+refuses_memory_of_a_halt() {
+    local trace=$room/ample.trace
+    echo ecall >"$room/ecall.s"
+    echo 'processor 0 pc 00010000 halt 00 retired 0 console -' >"$room/report"
+    printf 'ULTR\1\0\4\4\1\0\0\0\1\0\0\0\0\0\0\0\0\0\0\0' >"$room/halt.trace"
+    printf 'ULTR\1\0\4\4\1\0\0\0\1\0\0\0\0\0\0\0\0\0\0\1' >"$room/unused.trace"
+    printf 'ULTR\1\0\4\4\2\0\0\0\1\0\0\0\0\0\0\0\0\0\0\0\1\0\0\0\0\0\0\0\0\0\0\0' >"$room/turns.trace"
+    assembles_to "$room/ecall.s" "$room/ecall.elf" && ./ultra run --k 0 --sweep --trace "$trace" "$room/ecall.elf" | diff "$room/report" - &&
+        cmp "$room/halt.trace" "$trace" || return 1
+    refuses_each_request 0 "$room/report" /dev/null run --k 0 --sweep --trace "$room/saved.trace" "$room/ecall.elf" &&
+        refuses_each_request 0 "$room/report" /dev/null replay "$trace" "$room/ecall.elf" || return 1
+    printf 'ultra: X7 step 1\n  %s\n' "$room/turns.trace" >"$room/told"
+    refuses_each_request 2 /dev/null "$room/told" replay "$room/turns.trace" "$room/ecall.elf" || return 1
+    printf 'ultra: X3\n  %s\n' "$room/unused.trace" >"$room/told"
+    refuses_each_request 2 /dev/null "$room/told" replay "$room/unused.trace" "$room/ecall.elf"
+}
+check 'memory refused to a run that halts and to its replay, each request in turn: memory, status 4, or report, X7 or X3' refuses_memory_of_a_halt
+
+# On threads the number of a request differs from run to run, so the numbers go on to twice the first that no request
+# has. A run that is out of memory or lacks a thread leaves no report and no trace. Any other has its report, to which
+# its trace replays.
+refuses_memory_of_threads() {
+    local number=0 last=0 refusals=0 ended
+    example_report 2 000000c8 >"$room/report"
+    make_library refuse || return 1
+    while [ "$last" -eq 0 ] || [ "$number" -lt "$last" ]; do
+        number=$((number + 1))
+        ended=0
+        rm -f "$room/none.trace"
+        REFUSE=$number LD_PRELOAD=$room/refuse.so crates/ultra/out/ultra run --k 1 --trace "$room/none.trace" "$room/example.elf" \
+            >"$room/out" 2>"$room/err" 9>"$room/refused" || ended=$?
+        [ -s "$room/refused" ] || [ "$last" -gt 0 ] || last=$((2 * number))
+        if [ "$ended" -eq 4 ]; then
+            refusals=$((refusals + 1))
+            diff /dev/null "$room/out" && grep -Eqx 'ultra: (memory|Start)' "$room/err" && [ ! -e "$room/none.trace" ] || return 1
+        else
+            diff <(echo 0) <(echo "$ended") && diff "$room/report" "$room/out" && diff /dev/null "$room/err" &&
+                diff "$room/report" <(./ultra replay "$room/none.trace" "$room/example.elf" 2>&1) || return 1
+        fi
+    done
+    echo "$refusals of $number runs told of it"
+    [ "$refusals" -gt 30 ]
+}
+check 'memory refused to a run on threads, each request in turn: memory or Start, status 4, or its report' refuses_memory_of_threads
+
+refuses_memory_of_a_hunt() {
+    ./ultra hunt --k 1 --runs 3 "$room/example.elf" >"$room/hunted" && refuses_each_request 0 "$room/hunted" /dev/null \
+        hunt --k 1 --runs 3 "$room/example.elf"
+}
+check 'memory refused to a hunt, each request in turn: memory, status 4, or its results' refuses_memory_of_a_hunt
+
+# ---- texts, and words of the command line
+
+# OUT is standard output, so that the image can be compared like a text.
+refuses_memory_of_a_text() {
+    refuses_each_request 0 "$room/ebreak.elf" /dev/null asm "$room/ebreak.s" /dev/stdout
+}
+check 'memory refused to a text, each request in turn: memory, status 4, or its image' refuses_memory_of_a_text
+
+refuses_memory_of_a_list() {
+    refuses_each_request 1 examples/broken/several.out /dev/null check examples/broken/several.s
+}
+check 'memory refused to a list of faults, each request in turn: memory, status 4, or its lines' refuses_memory_of_a_list
+
+refuses_memory_of_code() {
+    echo '00010000 00100073 ebreak' >"$room/one_line"
+    refuses_each_request 0 "$room/one_line" /dev/null dis "$room/ebreak.elf" &&
+        refuses_each_request 0 examples/fetch_and_add_100.dis /dev/null dis "$room/example.elf"
+}
+check 'memory refused to code, each request in turn: memory, status 4, or its lines' refuses_memory_of_code
+
+# A command line that asks for help, and one that is wrong.
+refuses_memory_of_usage() {
+    local words
+    for words in 'help run' words; do
+        # shellcheck disable=SC2086
+        ./ultra $words >"$room/help" 2>"$room/usage"
+        # shellcheck disable=SC2086
+        refuses_each_request 2 "$room/help" "$room/usage" $words || return 1
+    done
+}
+check 'memory refused to help and to a wrong command line, each request in turn: memory, status 4, or its text' refuses_memory_of_usage
+
+refuses_memory_of_a_code() {
+    ./ultra explain A3 >"$room/explained" && refuses_each_request 0 "$room/explained" /dev/null explain A3
+}
+check 'memory refused to an explanation, each request in turn: memory, status 4, or its text' refuses_memory_of_a_code
+
+# ---- traces
+
+# Saves a trace of two processors, unless there is one already.
+saves_a_run_of_two() {
+    [ -s "$room/two.trace" ] || ./ultra run --sweep --k 1 --trace "$room/two.trace" "$room/example.elf" >"$room/out"
+}
+
+refuses_memory_of_a_trace() {
+    example_report 2 000000c8 >"$room/report"
+    saves_a_run_of_two && refuses_each_request 0 "$room/report" /dev/null replay "$room/two.trace" "$room/example.elf"
+}
+check 'memory refused to a replay, each request in turn: memory, status 4, or its report' refuses_memory_of_a_trace
+
+# refuses_memory_of_an_account COMMAND: a command that reads that trace.
+refuses_memory_of_an_account() {
+    saves_a_run_of_two && ./ultra "$1" "$room/two.trace" "$room/example.elf" >"$room/account" &&
+        refuses_each_request 0 "$room/account" /dev/null "$1" "$room/two.trace" "$room/example.elf"
+}
+check 'memory refused to a story, each request in turn: memory, status 4, or its lines' refuses_memory_of_an_account story
+check 'memory refused to a picture, each request in turn: memory, status 4, or its lines' refuses_memory_of_an_account picture
+check 'memory refused to statistics, each request in turn: memory, status 4, or their lines' refuses_memory_of_an_account stats
+check 'memory refused to an order, each request in turn: memory, status 4, or its lines' refuses_memory_of_an_account order
+
+# ---- searches
+
+refuses_memory_of_results() {
+    local name
+    for name in lost_adds own_number; do # the second is searched twice
+        ./ultra asm "examples/explore/$name.s" "$room/$name.elf" && ./ultra explore --k 1 "$room/$name.elf" >"$room/results" &&
+            refuses_each_request 0 "$room/results" /dev/null explore --k 1 "$room/$name.elf" || return 1
+    done
+}
+check 'memory refused to an exploration, each request in turn: memory, status 4, or its results' refuses_memory_of_results
+
+# without_a_size LINE: standard input with one size not explored. LINE is `N:k K: ..`, the number of its line and the
+# line.
+without_a_size() {
+    sed "${1%%:*}s/\(processors\{0,1\}\), .*/\1, not explored: memory/"
+}
+
+# With each request refused in turn, the size that makes the request is not explored, and the others are. If the request
+# is for the image or for a line, only the lines before it are printed.
+refuses_memory_of_every_size() {
+    local number=0 refusals=0 ended
+    echo ecall >"$room/once.s"
+    make_library refuse && assembles_to "$room/once.s" "$room/once.elf" &&
+        ./ultra explore --every "$room/once.elf" >"$room/ample" || return 1
+    while true; do
+        number=$((number + 1))
+        ended=0
+        REFUSE=$number LD_PRELOAD=$room/refuse.so crates/ultra/out/ultra explore --every "$room/once.elf" \
+            >"$room/out" 2>"$room/err" 9>"$room/refused" || ended=$?
+        [ -s "$room/refused" ] || break
+        if [ "$ended" -eq 4 ]; then
+            refusals=$((refusals + 1))
+            diff <(echo 'ultra: memory') "$room/err" || return 1
+            cmp -s "$room/out" <(head -n "$(wc -l <"$room/out")" "$room/ample") && [ "$(wc -l <"$room/out")" -lt 7 ] ||
+                diff <(without_a_size "$(grep -n 'not explored: memory$' "$room/out")" <"$room/ample") "$room/out" || return 1
+        else
+            diff <(echo 0) <(echo "$ended") && diff "$room/ample" "$room/out" && diff /dev/null "$room/err" || return 1
+        fi
+    done
+    echo "$refusals of $((number - 1)) refused requests gave 'ultra: memory'"
+    [ "$refusals" -gt 30 ]
+}
+check 'memory refused to one of every size, each request in turn: memory, status 4, or its lines' refuses_memory_of_every_size
+
+# ---- sessions of a debugger
+
+# refuses_each_reply STATUS WORD ..: the lines of $room/lines go to a debugger with these words, with each request for
+# memory refused in turn. Either it is out of memory before the session, or it ends with STATUS and each reply is E06 or
+# that of $room/ample, as with enough memory. So no reply may depend on whether an earlier line was carried out.
+refuses_each_reply() {
+    local status=$1 number=0 refusals=0 errors=0 ended port debugger
+    shift
+    make_library refuse || return 1
+    while true; do
+        number=$((number + 1))
+        ended=0
+        local debugging=(env REFUSE="$number" LD_PRELOAD="$room/refuse.so" crates/ultra/out/ultra)
+        if start_debugger "$@" >"$room/found_there"; then
+            exec 8<>"/dev/tcp/127.0.0.1/$port" || return 1
+            cat "$room/lines" >&8
+            timeout 60 cat <&8 >"$room/replies"
+            exec 8>&-
+        else
+            : >"$room/replies"
+        fi
+        wait "$debugger" || ended=$?
+        [ -s "$room/refused" ] || break
+        if [ "$ended" -eq 4 ]; then
+            diff <(echo 'ultra: memory') "$room/complaint" && diff /dev/null "$room/replies" || return 1
+        else
+            [ "$ended" -eq "$status" ] && diff /dev/null "$room/complaint" &&
+                diff "$room/ample" <(paste -d'|' "$room/replies" "$room/ample" | sed 's/^E06|//; t; s/^\(.*\)|\1$/\1/') || return 1
+            errors=$((errors + $(grep -c '^E06$' "$room/replies")))
+        fi
+        refusals=$((refusals + 1))
+    done
+    echo "$refusals refused requests, $errors lines with E06; without a refusal the status is $ended"
+    diff "$room/ample" "$room/replies" && [ "$ended" -eq "$status" ] && [ "$refusals" -gt 20 ] && [ "$errors" -gt 0 ]
+}
+
+refuses_memory_of_a_session() {
+    printf '%s\n' 'set 0 5 7' 'write 0 20000 2a' 'step 1' cont quit >"$room/lines"
+    printf '%s\n' ok ok 'at 1' halted ok >"$room/ample"
+    refuses_each_reply 0 --k 1 "$room/three.elf"
+}
+check 'memory refused to a session, each request in turn: memory, status 4, or its replies and E06' refuses_memory_of_a_session
+
+# Four processors add 1, 2, 4 and 8 to a word that is 10, which makes 25. Each line but the last two is sent twice, so
+# that one of the two is carried out; to carry out both must change nothing. The second step of a processor is a fault.
+refuses_memory_of_four_adds() {
+    local processor
+    printf 'amoadd.w a0, a1, (a2)\nebreak\n' >"$room/adder.s"
+    {
+        echo 'write 0 80000000 0a000000|ok'
+        for processor in {0..3}; do printf '%s|ok\n' "set $processor b $((1 << processor))" "set $processor c 80000000"; done
+        for processor in {0..3}; do echo "step $processor|at $processor"; done
+    } | sed p >"$room/both"
+    printf '%s\n' 'mem 0 80000000 4|19000000' 'quit|ok' >>"$room/both"
+    cut -d'|' -f1 "$room/both" >"$room/lines"
+    cut -d'|' -f2 "$room/both" >"$room/ample"
+    assembles_to "$room/adder.s" "$room/adder.elf" && refuses_each_reply 1 --k 2 "$room/adder.elf"
+}
+check 'memory refused to a session of four adds, each request in turn: memory, status 4, or its replies and E06' refuses_memory_of_four_adds
+
+# ---- threads
+
+# There is a thread for each processor and one for the console. If one of them cannot start, there is no report and no
+# trace.
+refuses_each_thread() {
+    local number=0 ended
+    example_report 4 00000190 >"$room/report"
+    make_library refuse_thread || return 1
+    while true; do
+        number=$((number + 1))
+        ended=0
+        rm -f "$room/none.trace"
+        REFUSE=$number LD_PRELOAD=$room/refuse_thread.so crates/ultra/out/ultra run --k 2 --trace "$room/none.trace" "$room/example.elf" \
+            >"$room/out" 2>"$room/err" 9>"$room/refused" || ended=$?
+        [ -s "$room/refused" ] || break
+        diff <(echo 4) <(echo "$ended") && diff /dev/null "$room/out" && diff <(echo 'ultra: Start') "$room/err" &&
+            [ ! -e "$room/none.trace" ] || return 1
+    done
+    echo "$((number - 1)) threads were refused"
+    [ "$number" -eq 6 ] && [ "$ended" -eq 0 ] && diff "$room/report" "$room/out"
+}
+check 'a thread refused, each in turn: Start, status 4, and no trace' refuses_each_thread
+
+# ---- calls of the libraries, by the programs of their tests
+
+# Runs each test whose name ends with short_of_memory with each request for memory refused in turn, until a run makes no
+# more. The test passes, or it ends because a call reports that it is out of memory; a wrong answer of a call would fail
+# the test. On threads the number of a request differs from run to run, so there the numbers go on to twice the first
+# that no request has. Each request takes a run, so a test may make 10,000 at most: most make a few hundred, and that of
+# command lines 5,000. Only `rt ci` leaves the programs of tests.
+refuses_memory_of_calls() {
+    local program name number last ended tests=0 refusals=0
+    make_library refuse || return 1
+    for program in crates/*/out/*_tests; do
+        for name in $("$program" --list | sed -n 's/^\(.*short_of_memory\): test$/\1/p'); do
+            tests=$((tests + 1)) number=0 last=0
+            while [ "$last" -eq 0 ] || [ "$number" -lt "$last" ]; do
+                number=$((number + 1))
+                [ "$number" -le 10000 ] || { echo "$name makes more than 10,000 requests" && return 1; }
+                ended=0
+                REFUSE=$number LD_PRELOAD=$room/refuse.so "$program" "$name" >"$room/out" 2>"$room/err" 9>"$room/refused" || ended=$?
+                if [ -s "$room/refused" ]; then
+                    refusals=$((refusals + 1))
+                elif [ "$last" -eq 0 ]; then
+                    last=$number
+                    [[ $program != *thread_tests ]] || last=$((2 * number))
+                fi
+                [ "$ended" -eq 0 ] || { [ -s "$room/refused" ] && grep -Eq '^error: .*\b(AllocError|Memory)\b' "$room/err"; } ||
+                    { echo "$name, request $number: status $ended" && cat "$room/err" && return 1; }
+            done
+        done
+    done
+    echo "$refusals requests were refused to $tests tests"
+    [ "$tests" -gt 10 ]
+}
+
+# A run without end, of which each of the five threads is refused in turn. The test finds that all others were cancelled
+# and that none used up its budget. Only `rt ci` leaves the programs of tests.
+stops_without_a_thread() {
+    local number
+    make_library refuse_thread || return 1
+    for number in 1 2 3 4 5; do
+        REFUSE=$number LD_PRELOAD=$room/refuse_thread.so crates/thread_tests/out/thread_tests tests::cancelled::a_fault_ends_a_run_without_end \
+            >"$room/out" 2>&1 9>"$room/refused" && [ -s "$room/refused" ] || { echo "thread $number" && cat "$room/out" && return 1; }
+    done
+}
+if compgen -G 'crates/*/out/*_tests' >/dev/null; then
+    check 'memory refused to calls, each request in turn: want of memory, or their answers' refuses_memory_of_calls
+    check 'a thread refused to a run without end, each in turn: the others stop at once' stops_without_a_thread
+else
+    left_out 'memory refused to calls, and a thread to a run without end, for only rt ci leaves the programs of tests'
+fi
