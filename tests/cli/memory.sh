@@ -326,7 +326,7 @@ refuses_memory_of_calls() {
                     refusals=$((refusals + 1))
                 elif [ "$last" -eq 0 ]; then
                     last=$number
-                    [[ $program != *thread_tests ]] || last=$((2 * number))
+                    [[ $program != */thread_tests_tests ]] || last=$((2 * number))
                 fi
                 [ "$ended" -eq 0 ] || { [ -s "$room/refused" ] && grep -Eq '^error: .*\b(AllocError|Memory)\b' "$room/err"; } ||
                     { echo "$name, request $number: status $ended" && cat "$room/err" && return 1; }
@@ -340,11 +340,13 @@ refuses_memory_of_calls() {
 # A run without end, of which each of the five threads is refused in turn. The test finds that all others were cancelled
 # and that none used up its budget. Only `rt ci` leaves the programs of tests.
 stops_without_a_thread() {
-    local number
+    local program=crates/thread_tests/out/thread_tests_tests number name
     make_library refuse_thread || return 1
+    name=$("$program" --list | sed -n 's/^\(.*a_fault_ends_a_run_without_end\): test$/\1/p')
+    [ -n "$name" ] || { echo "$program has no such test" && return 1; }
     for number in 1 2 3 4 5; do
-        REFUSE=$number LD_PRELOAD=$room/refuse_thread.so crates/thread_tests/out/thread_tests tests::cancelled::a_fault_ends_a_run_without_end \
-            >"$room/out" 2>&1 9>"$room/refused" && [ -s "$room/refused" ] || { echo "thread $number" && cat "$room/out" && return 1; }
+        REFUSE=$number LD_PRELOAD=$room/refuse_thread.so "$program" "$name" >"$room/out" 2>&1 9>"$room/refused" && [ -s "$room/refused" ] ||
+            { echo "thread $number" && cat "$room/out" && return 1; }
     done
 }
 if compgen -G 'crates/*/out/*_tests' >/dev/null; then
