@@ -1,20 +1,20 @@
--- A mask of the table takes whole fields of a word.
+-- A mask of the table selects whole fields of a word.
 use Rattle.std.proofs.Common.{◌≡◌, ℕ, ◌+◌, ◌*◌, ◌/◌, ◌%◌, ◌^◌, ◌<◌, sym, ap, ◌∙◌, arith}
 use Rattle.std.specs.Prelude.{bit_and}
 use Rattle.std.proofs.lemmas.Nat.{and_block, and_mask, mod_below, div-add-mod', pow_pos}
 use Rattle.rv_table.specs.Rows.{bits}
 
--- a mask in two parts takes the parts of the number
+-- A mask in two parts selects from each part of a number.
 and_split : (n k m s : ℕ) → s < 2 ^ k → bit_and n (m * 2 ^ k + s) ≡ bit_and (n / 2 ^ k) m * 2 ^ k + bit_and (n % 2 ^ k) s
 and_split n k m s h =
     ap (λ x. bit_and x (m * 2 ^ k + s)) (sym (div-add-mod' n (2 ^ k)))
     ∙ and_block k (n / 2 ^ k) m (n % 2 ^ k) s (mod_below n (2 ^ k) (pow_pos k)) h
 
--- The mask 0x7F leaves of a word its opcode, bits 6 to 0.
+-- The mask 0x7F keeps the opcode of a word, bits 6 to 0.
 pub mask_opcode : (w : ℕ) → bit_and w 0x7F ≡ bits w 6 0
 mask_opcode w = let e : bit_and w 0x7F ≡ w % 2 ^ 7 = and_mask w 7 in omega arith
 
--- The mask 0x707F leaves of a word its opcode and funct3.
+-- The mask 0x707F keeps the opcode and funct3 of a word.
 pub mask_funct3 : (w : ℕ) → bit_and w 0x707F ≡ bits w 6 0 + bits w 14 12 * 2 ^ 12
 mask_funct3 w =
     let parts : bit_and w 0x707F ≡ bit_and (w / 2 ^ 12) 0x7 * 2 ^ 12 + bit_and (w % 2 ^ 12) 0x7F = and_split w 12 0x7 0x7F (omega arith) in
@@ -22,7 +22,7 @@ mask_funct3 w =
     let opcode = mask_opcode (w % 2 ^ 12) in
     omega arith
 
--- The mask 0xFE00707F leaves of a word its opcode, funct3 and funct7.
+-- The mask 0xFE00707F keeps the opcode, funct3 and funct7 of a word.
 pub mask_funct7 : (w : ℕ) → bit_and w 0xFE00707F ≡ bits w 6 0 + bits w 14 12 * 2 ^ 12 + bits w 31 25 * 2 ^ 25
 mask_funct7 w =
     let parts : bit_and w 0xFE00707F ≡ bit_and (w / 2 ^ 25) 0x7F * 2 ^ 25 + bit_and (w % 2 ^ 25) 0x707F = and_split w 25 0x7F 0x707F (omega arith) in
@@ -30,7 +30,7 @@ mask_funct7 w =
     let rest = mask_funct3 (w % 2 ^ 25) in
     omega arith
 
--- The mask 0xF800707F leaves of a word its opcode, funct3 and funct5.
+-- The mask 0xF800707F keeps the opcode, funct3 and funct5 of a word.
 pub mask_funct5 : (w : ℕ) → bit_and w 0xF800707F ≡ bits w 6 0 + bits w 14 12 * 2 ^ 12 + bits w 31 27 * 2 ^ 27
 mask_funct5 w =
     let parts : bit_and w 0xF800707F ≡ bit_and (w / 2 ^ 27) 0x1F * 2 ^ 27 + bit_and (w % 2 ^ 27) 0x707F = and_split w 27 0x1F 0x707F (omega arith) in
@@ -38,6 +38,6 @@ mask_funct5 w =
     let rest = mask_funct3 (w % 2 ^ 27) in
     omega arith
 
--- The mask of 32 ones leaves the low 32 bits of a number.
+-- The mask of 32 ones keeps the low 32 bits of a number.
 pub mask_all : (w : ℕ) → bit_and w 0xFFFFFFFF ≡ w % 2 ^ 32
 mask_all w = and_mask w 32

@@ -1,4 +1,4 @@
--- A word that spells an instruction has its opcode, so that the opcode leaves few instructions to look at.
+-- A word that spells an instruction has its opcode, so only the instructions with that opcode need checking.
 use Rattle.std.proofs.Common.{◌≡◌, ◌↔◌, ℕ, ◌^◌, ◌<◌, Option, None, Some, refl, sym, ap, subst, ◌∙◌, arith}
 use Rattle.std.specs.Prelude.{bit_and}
 use Rattle.std.proofs.lemmas.Nat.{and_assoc, and_mask}
@@ -53,7 +53,7 @@ mask_has_opcode : (i : Insn) → bit_and (mask_of i) 0x7F ≡ 0x7F
 mask_has_opcode Ecall = refl
 mask_has_opcode _ = refl
 
--- what a mask leaves says what a part of the mask leaves
+-- What a word has under a mask determines what it has under a part of the mask.
 coarser : (w mask part match : ℕ) → bit_and mask part ≡ part → bit_and w mask ≡ match → bit_and w part ≡ bit_and match part
 coarser w mask part match inside row = ap (bit_and w) (sym inside) ∙ sym (and_assoc part w mask) ∙ ap (λ m. bit_and m part) row
 
@@ -61,51 +61,51 @@ coarser w mask part match inside row = ap (bit_and w) (sym inside) ∙ sym (and_
 pub opcode_from_spells : (w : ℕ) (i : Insn) → Spells w i → bit_and w 0x7F ≡ opcode_of i
 opcode_from_spells w i s = coarser w (mask_of i) 0x7F (match_of i) (mask_has_opcode i) s.row ∙ opcode_of_match i
 
--- Where no operation of the opcode's shapes has the match of the word, the word spells nothing.
+-- ---- if no operation with the opcode has the match of the word, the word spells nothing
 
 -- `None` is the reading of a word that spells no instruction.
 pub unread : {w : ℕ} {r : Option Insn} → r ≡ None → ((i : Insn) → ¬ Spells w i) → IsReading w r
 unread {w} {r} is none = subst (IsReading w) (sym is) none
 
--- A word with the opcode of register operations that fits the row of none of them spells no instruction.
+-- A word with the opcode of register operations spells no instruction if it fits none of their rows.
 pub no_op : (w : ℕ) → bit_and w 0x7F ≡ 0x33 → ((op : RegisterOp) → ¬ register_match op ≡ bit_and w 0xFE00707F) → (i : Insn) → ¬ Spells w i
 no_op w opcode none (Op op rd rs1 rs2) s = none op (sym s.row)
 no_op w opcode none i s = grind (arith, opcode_from_spells w i s)
 
--- A word with the opcode of immediate operations spells no instruction
--- if it fits the row of no immediate operation and of no shift.
+-- A word with the opcode of immediate operations spells no instruction if it fits no row of an immediate operation or
+-- of a shift.
 pub no_op_imm : (w : ℕ) → bit_and w 0x7F ≡ 0x13 → ((op : ImmediateOp) → ¬ immediate_match op ≡ bit_and w 0x707F) →
     ((op : ShiftOp) → ¬ shift_match op ≡ bit_and w 0xFE00707F) → (i : Insn) → ¬ Spells w i
 no_op_imm w opcode none no_shift (OpImm op rd rs1 imm) s = none op (sym s.row)
 no_op_imm w opcode none no_shift (Shift op rd rs1 amount) s = no_shift op (sym s.row)
 no_op_imm w opcode none no_shift i s = grind (arith, opcode_from_spells w i s)
 
--- A word with the opcode of loads that fits the row of none of them spells no instruction.
+-- A word with the opcode of loads spells no instruction if it fits none of their rows.
 pub no_load : (w : ℕ) → bit_and w 0x7F ≡ 0x03 → ((op : LoadOp) → ¬ load_match op ≡ bit_and w 0x707F) → (i : Insn) → ¬ Spells w i
 no_load w opcode none (Load op rd rs1 imm) s = none op (sym s.row)
 no_load w opcode none i s = grind (arith, opcode_from_spells w i s)
 
--- A word with the opcode of stores that fits the row of none of them spells no instruction.
+-- A word with the opcode of stores spells no instruction if it fits none of their rows.
 pub no_store : (w : ℕ) → bit_and w 0x7F ≡ 0x23 → ((op : StoreOp) → ¬ store_match op ≡ bit_and w 0x707F) → (i : Insn) → ¬ Spells w i
 no_store w opcode none (Store op rs1 rs2 imm) s = none op (sym s.row)
 no_store w opcode none i s = grind (arith, opcode_from_spells w i s)
 
--- A word with the opcode of branches that fits the row of none of them spells no instruction.
+-- A word with the opcode of branches spells no instruction if it fits none of their rows.
 pub no_branch : (w : ℕ) → bit_and w 0x7F ≡ 0x63 → ((op : BranchOp) → ¬ branch_match op ≡ bit_and w 0x707F) → (i : Insn) → ¬ Spells w i
 no_branch w opcode none (Branch op rs1 rs2 offset) s = none op (sym s.row)
 no_branch w opcode none i s = grind (arith, opcode_from_spells w i s)
 
--- A word with the opcode of JALR that does not fit its row spells no instruction.
+-- A word with the opcode of JALR spells no instruction if it does not fit the row of JALR.
 pub no_jalr : (w : ℕ) → bit_and w 0x7F ≡ 0x67 → ¬ bit_and w 0x707F ≡ 0x67 → (i : Insn) → ¬ Spells w i
 no_jalr w opcode none (Jalr rd rs1 imm) s = none s.row
 no_jalr w opcode none i s = grind (arith, opcode_from_spells w i s)
 
--- A word with the opcode of FENCE that does not fit its row spells no instruction.
+-- A word with the opcode of FENCE spells no instruction if it does not fit the row of FENCE.
 pub no_fence : (w : ℕ) → bit_and w 0x7F ≡ 0x0F → ¬ bit_and w 0x707F ≡ 0x0F → (i : Insn) → ¬ Spells w i
 no_fence w opcode none (Fence rd rs1 ordering) s = none s.row
 no_fence w opcode none i s = grind (arith, opcode_from_spells w i s)
 
--- A word with the opcode of ECALL and EBREAK that is neither spells no instruction.
+-- A word with the opcode of ECALL and EBREAK spells no instruction if it is neither of the two.
 pub no_system : (w : ℕ) → w < 2 ^ 32 → bit_and w 0x7F ≡ 0x73 → ¬ w ≡ 0x73 → ¬ w ≡ 0x00100073 → (i : Insn) → ¬ Spells w i
 no_system w range opcode no_ecall no_ebreak Ecall s =
     let row : bit_and w 0xFFFFFFFF ≡ 0x73 = s.row in
@@ -115,7 +115,7 @@ no_system w range opcode no_ecall no_ebreak Ebreak s =
     omega (arith, and_mask w 32)
 no_system w range opcode no_ecall no_ebreak i s = grind (arith, opcode_from_spells w i s)
 
--- A word with the opcode of atomic operations that fits the row of none of them spells no instruction.
+-- A word with the opcode of atomic operations spells no instruction if it fits none of their rows.
 pub no_amo : (w : ℕ) → bit_and w 0x7F ≡ 0x2F → ((op : AmoOp) → ¬ amo_match op ≡ bit_and w 0xF800707F) → (i : Insn) → ¬ Spells w i
 no_amo w opcode none (Amo op rd rs1 rs2 aq rl) s = none op (sym s.row)
 no_amo w opcode none i s = grind (arith, opcode_from_spells w i s)

@@ -1,4 +1,4 @@
--- A row's match with the operands in their places is the one word that spells the instruction.
+-- A row's match, with the operands in their places, is the only word that spells the instruction.
 use Rattle.std.proofs.Common.{◌≡◌, ℕ, ◌+◌, ◌^◌, ◌<◌, refl, arith, cond, Bool, true, false}
 use Rattle.std.specs.Prelude.{bit_and}
 use Rattle.rv_table.specs.declared.insn.Insn.{Insn}
@@ -15,7 +15,7 @@ use Rattle.rv_table.specs.Rows.{mask_of, match_of, InRange, Spells}
 use Rattle.decode.specs.Words.{operands_of}
 use Rattle.decode.proofs.Masks.{mask_opcode, mask_funct3, mask_funct5, mask_funct7, mask_all}
 
--- The match of a row lies under the row's mask.
+-- The match of a row has ones only where the row's mask has.
 match_under_mask : (i : Insn) → bit_and (match_of i) (mask_of i) ≡ match_of i
 match_under_mask (Op reg.Add rd rs1 rs2) = refl
 match_under_mask (OpImm Addi rd rs1 imm) = refl
@@ -31,7 +31,7 @@ flag_below : (flag : Bool) → cond flag 1 0 < 2
 flag_below true = omega arith
 flag_below false = omega arith
 
--- The word of an instruction spells it.
+-- The word made of the match and the operands spells the instruction.
 pub spells : (w : ℕ) (i : Insn) → w ≡ match_of i + operands_of i → InRange i → Spells w i
 spells w Ecall is r = record { row = rw is refl; operands = tt }
 spells w Ebreak is r = record { row = rw is refl; operands = tt }
@@ -73,7 +73,7 @@ spells w i is r =
     let of_word = mask_funct3 w in
     record { row = omega arith; operands = (omega arith, omega arith, omega arith) }
 
--- No other word spells it.
+-- No other word spells the instruction.
 pub only : (w : ℕ) (i : Insn) → w < 2 ^ 32 → Spells w i → w ≡ match_of i + operands_of i
 only w Ecall range s = omega (arith, mask_all w, s.row)
 only w Ebreak range s = omega (arith, mask_all w, s.row)

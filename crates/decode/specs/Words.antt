@@ -7,7 +7,7 @@ use Rattle.rv_table.specs.declared.insn.Insn.TheVariants.{Op, OpImm, Shift, Load
 use Rattle.rv_table.specs.declared.insn.Insn.TheVariants.{Fence, Ecall, Ebreak, Amo}
 use Rattle.rv_table.specs.Rows.{bits, match_of, Spells}
 
--- The result of reading a word is an instruction that the word spells, or `None` where it spells none.
+-- The result of reading a word is an instruction that the word spells, or `None` if it spells none.
 abbrev pub IsReading : ℕ → Option Insn → Type 0
 IsReading w result = MatchOption result ((i : Insn) → ¬ Spells w i) (Spells w)
 
@@ -50,6 +50,6 @@ operands_of Ecall = 0
 operands_of Ebreak = 0
 operands_of (Amo op rd rs1 rs2 aq rl) = r_operands rd rs1 rs2 + cond aq 1 0 * 2 ^ 26 + cond rl 1 0 * 2 ^ 25
 
--- The word of an instruction: its row's match, and its operands in their places.
+-- the word of an instruction: its row's match, and its operands in their places
 abbrev pub word_of : Insn → ℕ
 word_of i = match_of i + operands_of i

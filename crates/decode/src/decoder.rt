@@ -1,6 +1,6 @@
 //! From a word to the instruction that it spells.
 //!
-//! The opcode chooses the shape, and the word under the shape's mask the operation.
+//! The opcode selects the shape; the bits under the shape's mask select the operation.
 
 ghost use Rattle.std.specs.Prelude.{◌≡◌, ◌↔◌, Some, bit_and};
 ghost use Rattle.rv_table.specs.declared.insn.Insn.{Insn};
@@ -16,7 +16,7 @@ use crate::operations::{
 };
 use rv_table::{Insn, UpperOp, spelled_is_read};
 
-// The masks of the table's rows: a row says by the opcode, and by funct3, funct5 and funct7.
+// The masks of the table's rows. They select the opcode, and with it funct3, funct5 or funct7.
 const OPCODE: u32 = 0x0000_007F;
 
 const FUNCT3: u32 = 0x0000_707F;
@@ -50,12 +50,12 @@ const JAL: u32 = 0x6F;
 
 const SYSTEM: u32 = 0x73;
 
-/// The instruction that the word spells, or `None` where it spells none.
+/// The instruction that the word spells, or `None` if it spells none.
 pub fn decode(word: u32) -> Option<Insn>
     ensures value { result ≡ insn_of word }
     ensures exact { (i : Insn) → (result ≡ Some i) ↔ Spells word i }
 {
-    // A law of the table, for the proof alone.
+    // The proof alone needs this law of the table.
     spelled_is_read();
     decode_by_opcode(word)
 }

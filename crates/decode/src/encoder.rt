@@ -17,7 +17,7 @@ pub fn encode(insn: &Insn) -> u32
     row_of(insn).match_ + operands(insn)
 }
 
-/// The operands, each in its place in the word.
+/// The operands of the instruction, each in its place in the word.
 fn operands(insn: &Insn) -> u32
     ensures value { result ≡ operands_of insn.now }
     ensures in_range { InRange insn.now }

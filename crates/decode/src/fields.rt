@@ -1,12 +1,12 @@
-//! The operands in the fields of a word (manual, "Base Instruction Formats" and "Immediate
-//! Encoding Variants").
+//! The operands of an instruction, read from the fields of a word (manual, "Base Instruction
+//! Formats" and "Immediate Encoding Variants").
 
 ghost use Rattle.std.specs.Prelude.{◌≡◌, ℕ, ◌+◌, ◌-◌, ◌*◌, ◌^◌, ◌<◌, ◌≤◌, cond};
 ghost use Rattle.rv_table.specs.Rows.{bits};
 
 use rv_table::{Immediate, Register};
 
-/// Bits `high` to `low` of a word, fewer than 32 of them, as a number. Bit 31 is the highest.
+/// Bits `high` to `low` of a word as a number. They are fewer than 32; bit 31 is the highest.
 pub fn field(word: u32, high: u32, low: u32) -> u32
     requires ordered { low ≤ high }
     requires in_word { high < 32 }

@@ -1,4 +1,4 @@
-//! The operation whose row has a given match, within each shape of instruction.
+//! The operation that has a given match, for each shape of instruction.
 
 ghost use Rattle.std.specs.Prelude.{◌≡◌, IsNone, IfSome};
 ghost use Rattle.rv_table.specs.Rows.{register_match, immediate_match, shift_match, load_match, store_match};
@@ -13,7 +13,7 @@ ghost use Rattle.rv_table.specs.declared.operation.AmoOp.{AmoOp};
 
 use rv_table::{AmoOp, BranchOp, ImmediateOp, LoadOp, RegisterOp, ShiftOp, StoreOp};
 
-/// The register-register operation of this match.
+/// The register-register operation with this match.
 pub fn register_op(match_: u32) -> Option<RegisterOp>
     ensures found { IfSome result (λ op. register_match op ≡ match_) }
     ensures none { IsNone result → (op : RegisterOp) → ¬ register_match op ≡ match_ }
@@ -41,7 +41,7 @@ pub fn register_op(match_: u32) -> Option<RegisterOp>
     })
 }
 
-/// The register-immediate operation of this match.
+/// The register-immediate operation with this match.
 pub fn immediate_op(match_: u32) -> Option<ImmediateOp>
     ensures found { IfSome result (λ op. immediate_match op ≡ match_) }
     ensures none { IsNone result → (op : ImmediateOp) → ¬ immediate_match op ≡ match_ }
@@ -57,7 +57,7 @@ pub fn immediate_op(match_: u32) -> Option<ImmediateOp>
     })
 }
 
-/// The shift by a constant of this match.
+/// The shift by a constant with this match.
 pub fn shift_op(match_: u32) -> Option<ShiftOp>
     ensures found { IfSome result (λ op. shift_match op ≡ match_) }
     ensures none { IsNone result → (op : ShiftOp) → ¬ shift_match op ≡ match_ }
@@ -70,7 +70,7 @@ pub fn shift_op(match_: u32) -> Option<ShiftOp>
     })
 }
 
-/// The load of this match.
+/// The load with this match.
 pub fn load_op(match_: u32) -> Option<LoadOp>
     ensures found { IfSome result (λ op. load_match op ≡ match_) }
     ensures none { IsNone result → (op : LoadOp) → ¬ load_match op ≡ match_ }
@@ -85,7 +85,7 @@ pub fn load_op(match_: u32) -> Option<LoadOp>
     })
 }
 
-/// The store of this match.
+/// The store with this match.
 pub fn store_op(match_: u32) -> Option<StoreOp>
     ensures found { IfSome result (λ op. store_match op ≡ match_) }
     ensures none { IsNone result → (op : StoreOp) → ¬ store_match op ≡ match_ }
@@ -98,7 +98,7 @@ pub fn store_op(match_: u32) -> Option<StoreOp>
     })
 }
 
-/// The conditional branch of this match.
+/// The conditional branch with this match.
 pub fn branch_op(match_: u32) -> Option<BranchOp>
     ensures found { IfSome result (λ op. branch_match op ≡ match_) }
     ensures none { IsNone result → (op : BranchOp) → ¬ branch_match op ≡ match_ }
@@ -114,7 +114,7 @@ pub fn branch_op(match_: u32) -> Option<BranchOp>
     })
 }
 
-/// The atomic memory operation of this match.
+/// The atomic memory operation with this match.
 pub fn amo_op(match_: u32) -> Option<AmoOp>
     ensures found { IfSome result (λ op. amo_match op ≡ match_) }
     ensures none { IsNone result → (op : AmoOp) → ¬ amo_match op ≡ match_ }

@@ -18,7 +18,7 @@ use Rattle.flat_machine.specs.Words.{part_of, with_part}
 
 -- ---- lists
 
--- If the numbers of a list are below a bound, they are so after a number below it is written at a place.
+-- If the numbers of a list are below a bound, they still are after a number below it is written at a place.
 pub set_below : (bound : ℕ) (xs : List ℕ) (k x : ℕ) → x < bound → AreBelow bound xs → AreBelow bound (slice_set xs k x)
 set_below bound [] k x small all = all
 set_below bound (y ∷ ys) zero x small all = first
@@ -57,7 +57,7 @@ pub part_small : (size offset word : ℕ) → part_of size offset word < 2 ^ (8 
 unfolding part_of
 part_small size offset word = mod_below _ _ (pow_pos (8 * size))
 
--- a word with another part is a word
+-- A word stays a word if a part of it is replaced.
 pub with_part_small : (size offset word value : ℕ) → offset + size ≤ 4 → word < 2 ^ 32 → with_part size offset word value < 2 ^ 32
 unfolding with_part
 with_part_small size offset word value inside small =
@@ -77,7 +77,7 @@ with_part_small size offset word value inside small =
 
 -- ---- regions
 
--- an aligned access lies in one word
+-- A load at an address divisible by its size lies within one word.
 pub load_inside : (op : LoadOp) (address : ℕ) → address % load_size op ≡ 0 → address % 4 + load_size op ≤ 4
 load_inside Lb address aligned = omega arith
 load_inside Lh address aligned = omega arith
@@ -102,7 +102,7 @@ found_shared true false false true true reached place word e = absurd (cc)
 found_shared true false false true false reached place word e = absurd (cc)
 found_shared true false false false writes reached place word e = absurd (cc)
 
--- a shared word that an access goes to is there, and the access is aligned
+-- If an access goes to a shared word, the access is aligned and the machine has that word.
 pub shared_region : (s : Setting) (size address : ℕ) (writes : Bool) (word : ℕ) → region_of s size address writes ≡ Ok (region.Shared word) →
     (address % size ≡ 0) × (word < s.shared_words)
 unfolding region_of

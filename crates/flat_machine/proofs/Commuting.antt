@@ -20,7 +20,7 @@ sets_commute (z ∷ zs) zero (suc k) x y ne = refl
 sets_commute (z ∷ zs) (suc j) zero x y ne = refl
 sets_commute (z ∷ zs) (suc j) (suc k) x y ne = ap (λ rest. z ∷ rest) (sets_commute zs j k x y (λ e. ne (ap suc e)))
 
--- what a processor becomes by a turn that reaches no word
+-- the processor after a turn that reaches no shared word
 own : Processor → Turn → Processor
 own p (Retires after retired) = after
 own p (Reaches word change after) = p
@@ -32,7 +32,7 @@ own_taken p shared (Retires after retired) l = (refl, refl)
 own_taken p shared (Reaches word change after) l = absurd l
 own_taken p shared (Stops cause) l = (refl, refl)
 
--- A local turn writes the processor's own place, and what it writes is known from the code and the machine's size.
+-- what a local turn leaves at the processor's place, from the code and what the processor knows of its machine
 own_of : Setting → List ℕ → Option Processor → Option Processor
 own_of s code None = None
 own_of s code (Some p) = cond (is_running p.status) (Some (own p (turn_of s code p))) None
@@ -53,7 +53,7 @@ turned_own m k (Some p) l = by_running (is_running p.status)
         ∙ ap (λ w. record m { processors = slice_set m.processors k (own p (turn_of (setting_of m k) m.code p)); shared = w }) is.1
     by_running false = refl
 
--- the other processor's turn is not touched
+-- A turn of one processor does not change what another knows of the machine.
 own_setting : (m : FlatState) (j k : ℕ) (q : Option Processor) → setting_of (with_own m j q) k ≡ setting_of m k
 unfolding with_own
 own_setting m j k None = refl

@@ -95,7 +95,7 @@ module _ (s : Setting) (code : List ℕ) (p : Processor) (i : Insn) (bytes : Are
   performed_words (does.Halt byte) asks = tt
   performed_words (does.Fail fault) asks = tt
 
--- the instruction at pc has its operands in their ranges
+-- The instruction at pc has operands that fit their fields.
 pub fetched_fits : (code : List ℕ) (pc : ℕ) (i : Insn) → fetched code pc ≡ Ok i → InRange i
 unfolding fetched
 fetched_fits code pc i e = by_place (in_code pc) (insn_of (number_at code (pc % 2 ^ 16) 4)) refl e

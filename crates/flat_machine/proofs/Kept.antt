@@ -1,4 +1,4 @@
--- Facts of processors that a whole run keeps.
+-- Facts of processors that every run keeps.
 use Rattle.std.proofs.Common.{◌≡◌, ◌≢◌, ℕ, ◌+◌, ◌%◌, ◌^◌, Bool, true, false, cond, eqb, zero}
 use Rattle.std.proofs.Common.{suc, ◌<◌, ◌≤◌, List, [], ◌∷◌, Option, Some, None, Result, Ok}
 use Rattle.std.proofs.Common.{Err, length, refl, sym, ap, subst, ◌∙◌, arith, rules}
@@ -32,13 +32,14 @@ use Rattle.flat_machine.specs.Flat.{is_lawful, is_lawful_register, with_poked_re
 use Rattle.flat_machine.specs.Flat.{with_processor}
 use Rattle.flat_machine.specs.Laws.{HasZero, HasAlignedPc}
 
--- what holds of all holds of the one at a place
+-- What holds of all elements of a list holds of the one at a place.
 pub all_get : {X : Type 0} (P : X → Type 0) (xs : List X) (k : ℕ) (x : X) → All P xs → slice_get xs k ≡ Some x → P x
 all_get P xs k x all e =
     let inside : k < length xs = slice_get_within xs k x e in
     subst P (get_or_from_slice_get xs k x x e) (all k x inside)
 
--- A fact of a processor that going on, jumping to an aligned target, storing, stopping and lawful pokes keep.
+-- A fact of a processor is kept by going on, by jumping to an aligned target, by storing, by stopping and by lawful
+-- pokes.
 pub record IsKept (P : Processor → Type 0) : Type 0 where
   -- The fact is kept if the processor writes a register and goes on to the next instruction.
   pub next : (p : Processor) (rd value : ℕ) → P p → P (gone_to (next_pc p) rd value p)
@@ -49,7 +50,7 @@ pub record IsKept (P : Processor → Type 0) : Type 0 where
   pub register : (p : Processor) (r v : ℕ) → P p → is_lawful_register r v ≡ true → P (with_poked_register r v p)
 
 module _ (P : Processor → Type 0) (kept : IsKept P) where
-  -- what a turn leaves has the fact
+  -- What a turn leaves has the fact.
   Leaves : Turn → Type 0
   Leaves (Retires after retired) = P after
   Leaves (Reaches word change after) = (x : ℕ) → P (after x).0

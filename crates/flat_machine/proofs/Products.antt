@@ -1,4 +1,4 @@
--- Products of words: that their halves are words, and that the two halves are the whole product.
+-- Products of words: their halves are words, and together they are the whole product.
 use Rattle.std.proofs.Common.{◌≡◌, ℕ, ◌+◌, ◌-◌, ◌*◌, ◌/◌, ◌%◌, ◌^◌, ◌<◌, ◌≤◌, ℤ, pos, negsuc, ◌*ℤ◌, sym, ap, ◌∙◌, arith}
 use Rattle.std.specs.Prelude.{unsigned_abs}
 use Rattle.std.specs.Int.{w32, w64, cast_signed, cast_unsigned, int_wrap}
@@ -9,7 +9,7 @@ use Rattle.flat_machine.specs.Words.{signed, upper}
 
 -- ---- ranges
 
--- a word has a size of at most 2^31 in two's complement
+-- In two's complement, a word has an absolute value of at most 2^31.
 pub signed_size : (a : ℕ) → a < 2 ^ 32 → unsigned_abs (signed a) ≤ 2 ^ 31
 signed_size a h = grind arith
 
@@ -34,9 +34,9 @@ upper_small z fits = upper_small_of z fits
 pub upper_of_naturals_small : (a b : ℕ) → a < 2 ^ 32 → b < 2 ^ 32 → a * b / 2 ^ 32 < 2 ^ 32
 upper_of_naturals_small a b h g = div_below (a * b) (2 ^ 32) (2 ^ 32) (omega arith) (mul-lt a b (2 ^ 32) (2 ^ 32) h g)
 
--- ---- the low half is one for all kinds of factors
+-- ---- the low half is the same for all kinds of factors
 
--- what is left of a number in 32 bits are the low bits of the number in 64 bits
+-- A word that is a number wrapped to 32 bits is the low half of that number in 64 bits.
 low_bits : (z : ℤ) (n : ℕ) → FitsSigned w64 z → n < 2 ^ 32 → signed n ≡ int_wrap w32 z → n ≡ cast_unsigned w64 z % 2 ^ 32
 unfolding int_wrap
 low_bits (pos m) n fits small e =
@@ -44,7 +44,7 @@ low_bits (pos m) n fits small e =
 low_bits (negsuc m) n fits small e =
     sym (of_z-to_z w32 n small) ∙ ap (cast_unsigned w32) e ∙ of_z-to_z w32 (2 ^ 32 - 1 - m % 2 ^ 32) (omega arith) ∙ omega (arith, fits.sfits)
 
--- the low and the upper half together
+-- The upper and the low half of a number are together the number.
 joined : (z : ℤ) (low : ℕ) → FitsSigned w64 z → low ≡ cast_unsigned w64 z % 2 ^ 32 → cast_signed w64 (upper z * 2 ^ 32 + low) ≡ z
 unfolding upper
 joined z low fits e =
@@ -59,7 +59,7 @@ signed_halves a b h g =
     let product = signed a *ℤ signed b in
     joined product (a * b % 2 ^ 32) fits (low_bits product (a * b % 2 ^ 32) fits (omega arith) (wrapping_mul-bits w32 a b h g))
 
--- a word as a natural number and in two's complement are one modulo 2^32
+-- A word as a natural number, wrapped to 32 bits, is the word in two's complement.
 pub wrapped_word : (b : ℕ) → b < 2 ^ 32 → int_wrap w32 (pos b) ≡ signed b
 unfolding int_wrap
 wrapped_word b h = ap signed (let e : b % 2 ^ 32 ≡ b = omega arith in e)

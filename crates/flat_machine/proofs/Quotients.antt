@@ -1,4 +1,4 @@
--- Quotients of words in two's complement: that they and their remainders are words, and how both belong together.
+-- Quotients and remainders of words in two's complement are words, and together give the dividend.
 use Rattle.std.proofs.Common.{◌≡◌, ◌≢◌, ℕ, zero, suc, ◌+◌, ◌-◌, ◌*◌, ◌/◌, ◌%◌, ◌^◌, ◌<◌, ◌≤◌, ℤ, pos, negsuc, neg_ℤ}
 use Rattle.std.proofs.Common.{◌+ℤ◌, ◌*ℤ◌, Bool, true, false, cond, eqb, refl, sym, ap, subst, ◌∙◌, arith}
 use Rattle.std.specs.Prelude.{unsigned_abs, int_div, int_rem}
@@ -11,7 +11,7 @@ use Rattle.std.proofs.lemmas.Nat.{div-add-mod', mod_below}
 use Rattle.flat_machine.specs.Words.{overflows, quotient, remainder, signed}
 use Rattle.flat_machine.proofs.Products.{signed_size, wrapped_word}
 
--- ---- sizes of whole numbers
+-- ---- absolute values of integers
 
 size_of_negated : (n : ℕ) → unsigned_abs (neg_ℤ (pos n)) ≡ n
 size_of_negated zero = refl
@@ -24,7 +24,7 @@ quotient_of_naturals n (suc d) = omega (arith, div-add-mod' n (suc d))
 remainder_of_naturals : (n d : ℕ) → n % d ≤ n
 remainder_of_naturals n d = omega (arith, div-add-mod' n d)
 
--- a quotient and a remainder are no further from zero than the dividend
+-- A quotient and a remainder are no further from zero than the dividend.
 quotient_size : (x y : ℤ) → unsigned_abs (int_div x y) ≤ unsigned_abs x
 quotient_size (pos a) (pos b) = quotient_of_naturals a b
 quotient_size (pos a) (negsuc b) = omega (arith, size_of_negated (a / suc b), quotient_of_naturals a (suc b))
@@ -84,7 +84,7 @@ natural_remainder_small a b h = by (eqb b 0)
 pub natural_division : (a b : ℕ) → b ≢ 0 → (cond (eqb b 0) (2 ^ 32 - 1) (a / b) * b + cond (eqb b 0) a (a % b) ≡ a) × (cond (eqb b 0) a (a % b) < b)
 natural_division a b some = rw (ne_eqb b 0 some) (div-add-mod' a b, mod_below a b (omega arith))
 
--- ---- where the quotient is a word
+-- ---- if the quotient is a word
 
 signed_fits : (a : ℕ) → a < 2 ^ 32 → FitsSigned w32 (signed a)
 signed_fits a h = subst (FitsSigned w32) (wrapped_word a h) (SFits-int_wrap w32 (pos a))
@@ -93,7 +93,7 @@ negated_fits : (n : ℕ) → n ≤ 2 ^ 31 → FitsSigned w32 (neg_ℤ (pos n))
 negated_fits zero h = record { sfits = omega arith }
 negated_fits (suc n) h = record { sfits = omega arith }
 
--- a remainder is a word, and a quotient is one but for -2^31 by -1
+-- A remainder is a word, and so is every quotient but that of -2^31 by -1.
 remainder_fits : (x y : ℤ) → FitsSigned w32 x → FitsSigned w32 (int_rem x y)
 remainder_fits (pos a) y fits = record { sfits = omega (arith, fits.sfits, remainder_of_naturals a (unsigned_abs y)) }
 remainder_fits (negsuc a) y fits = negated_fits (suc a % unsigned_abs y) (omega (arith, fits.sfits, remainder_of_naturals (suc a) (unsigned_abs y)))
@@ -108,7 +108,7 @@ quotient_fits (negsuc a) (negsuc zero) fits normal =
 quotient_fits (negsuc a) (negsuc (suc b)) fits normal =
     record { sfits = omega (arith, fits.sfits, div-add-mod' (suc a) (suc (suc b))) }
 
--- what the tests leave of the definitions
+-- ---- the quotient and the remainder if the divisor is not zero and the quotient does not overflow
 
 quotient_is : (a b : ℕ) → b ≢ 0 → overflows a b ≡ false → quotient a b ≡ cast_unsigned w32 (int_div (signed a) (signed b))
 unfolding quotient
@@ -118,7 +118,7 @@ remainder_is : (a b : ℕ) → b ≢ 0 → overflows a b ≡ false → remainder
 unfolding remainder
 remainder_is a b some normal = rw (ne_eqb b 0 some, normal) refl
 
--- the word of a number in two's complement
+-- A word is the cast of the number that it is in two's complement.
 word_of : (n : ℕ) (z : ℤ) → n < 2 ^ 32 → signed n ≡ z → n ≡ cast_unsigned w32 z
 word_of n z small e = sym (of_z-to_z w32 n small) ∙ ap (cast_unsigned w32) e
 
@@ -138,7 +138,7 @@ signed_remainder a b h some normal =
     ap signed (remainder_is a b some normal)
     ∙ to_z-of_z w32 (int_rem (signed a) (signed b)) (remainder_fits (signed a) (signed b) (signed_fits a h))
 
--- ---- what the law says
+-- ---- the laws
 
 -- In two's complement, quotient times divisor plus remainder is the dividend,
 -- if the divisor is not zero and the quotient does not overflow.
@@ -149,7 +149,7 @@ signed_division a b h g some normal =
     ∙ ap (λ z. int_div (signed a) (signed b) *ℤ signed b +ℤ z) (signed_remainder a b h some normal)
     ∙ quot-rem (signed a) (signed b)
 
--- the operands of the quotient that is no word
+-- If the quotient overflows, the operands are -2^31 and -1.
 overflow_is : (a b : ℕ) → overflows a b ≡ true → (a ≡ 2 ^ 31) × (b ≡ 2 ^ 32 - 1)
 overflow_is a b over =
     let parts = and_parts (eqb a (2 ^ 31)) (eqb b (2 ^ 32 - 1)) over in
@@ -163,7 +163,7 @@ at_overflow a b over =
     let some : eqb b 0 ≡ false = ne_eqb b 0 (λ e. omega arith) in
     rw (some, over) (refl, refl)
 
--- numbers that stand for one number in two's complement are one word
+-- An equation of words in two's complement holds modulo 2^32 as well.
 modulo_word : (q b r a : ℕ) → q < 2 ^ 32 → b < 2 ^ 32 → r < 2 ^ 32 → a < 2 ^ 32 →
     signed q *ℤ signed b +ℤ signed r ≡ signed a → (q * b + r) % 2 ^ 32 ≡ a
 modulo_word q b r a q_small b_small r_small a_small e =
@@ -198,7 +198,7 @@ remainder_is_nearer a b h g some = by (overflows a b) refl
     by false normal = rw (signed_remainder a b h some normal) (rem_below (signed a) (signed b) (divisor_size b g some))
     by true over = rw ((at_overflow a b over).1) (divisor_size b g some)
 
--- a remainder that is not 0 has the dividend's sign
+-- A remainder that is not 0 has the dividend's sign.
 sign_of_remainder : (x y : ℤ) → int_rem x y ≢ pos 0 → is_negative (int_rem x y) ≡ is_negative x
 sign_of_remainder (pos a) y some = le-ltb (a % unsigned_abs y) 0 (omega arith) ∙ sym (le-ltb a 0 (omega arith))
 sign_of_remainder (negsuc a) y some = negated (suc a % unsigned_abs y) some

@@ -25,7 +25,7 @@ events_append m (e ∷ es) second =
 
 -- ---- stops
 
--- a turn that shows a stop leaves all but the status
+-- A turn that stops the processor changes nothing but its status.
 stop_taken : (p : Processor) (shared : List ℕ) (t : Turn) (cause : Cause) → (taken p shared t).2 ≡ Stopped cause →
     taken p shared t ≡ (record p { status = status_of cause }, shared, Stopped cause)
 stop_taken p shared (Retires after retired) cause e = absurd (cc)
@@ -57,7 +57,7 @@ stopped_stays m k p at stopped = ap (turned m k) at ∙ rw stopped refl
 
 -- ---- other processors, and other words
 
--- a list with one place written is the same at the others
+-- A list with one place written is the same at every other place.
 pub set_other : {X : Type 0} (xs : List X) (k other : ℕ) (x : X) → other ≢ k → slice_get (slice_set xs k x) other ≡ slice_get xs other
 set_other [] k other x ne = refl
 set_other (y ∷ ys) zero zero x ne = absurd (ne refl)

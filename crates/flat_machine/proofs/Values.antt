@@ -1,4 +1,4 @@
--- What instructions compute of words are words.
+-- Instructions compute words from words.
 use Rattle.std.proofs.Common.{ℕ, ◌*◌, ◌%◌, ◌^◌, ◌<◌, Bool, true, false, cond, eqb, ltb, List, ℤ, pos, negsuc, ◌*ℤ◌, sym, subst, arith}
 use Rattle.std.specs.Prelude.{slice_index}
 use Rattle.std.specs.Int.{w32, cast_signed, cast_unsigned, int_shr}
@@ -41,7 +41,7 @@ flag_small : (b : Bool) → flag b < 2 ^ 32
 flag_small true = omega arith
 flag_small false = omega arith
 
--- the sign is kept on the right, so that a word comes out
+-- An arithmetic shift to the right takes words to words.
 shifted_small : (z : ℤ) (k : ℕ) → cast_unsigned w32 z < 2 ^ 32 → cast_unsigned w32 (int_shr z k) < 2 ^ 32
 shifted_small (pos n) k h = omega (arith, shr_le n k)
 shifted_small (negsuc n) k h = omega arith
@@ -49,7 +49,7 @@ shifted_small (negsuc n) k h = omega arith
 arithmetic_small : (a k : ℕ) → a < 2 ^ 32 → cast_unsigned w32 (int_shr (cast_signed w32 a) k) < 2 ^ 32
 arithmetic_small a k h = shifted_small (cast_signed w32 a) k (subst (λ (n : ℕ). n < 2 ^ 32) (sym (of_z-to_z w32 a h)) h)
 
--- a field of fewer bits than a word has
+-- A field of 12 bits, sign-extended, is a word.
 extended_small : (field : ℕ) → field < 2 ^ 12 → extended 12 field < 2 ^ 32
 unfolding extended
 extended_small field h = grind arith
@@ -90,7 +90,7 @@ shift_value_small Slli a i h = omega arith
 shift_value_small Srli a i h = omega (arith, shr_le a i)
 shift_value_small Srai a i h = arithmetic_small a i h
 
--- a load makes a word of the bytes that it reads
+-- A load makes a word of the bytes that it reads.
 pub loaded_small : (op : LoadOp) (old : ℕ) → old < 2 ^ (8 * load_size op) → loaded op old < 2 ^ 32
 unfolding loaded extended
 loaded_small Lb old h = grind arith
@@ -101,7 +101,7 @@ loaded_small Lhu old h = omega arith
 
 -- ---- effects
 
--- What is read of a register is a word, if all registers hold words.
+-- A register's value is a word if all registers hold words.
 pub register_small : (registers : List ℕ) (r : ℕ) → AreBelow (2 ^ 32) registers → register_of registers r < 2 ^ 32
 unfolding register_of
 register_small registers r all = by_register (eqb r 0)
@@ -127,7 +127,7 @@ jump_asks : (taken : Bool) (pc offset : ℕ) → AsksForWords (cond taken (does.
 jump_asks true pc offset = (omega arith, sum_small pc (extended 13 (2 * offset)))
 jump_asks false pc offset = tt
 
--- What an instruction asks for are words, where the registers are.
+-- An instruction asks for words if the registers hold words and its operands fit their fields.
 pub effect_asks : (s : Setting) (pc : ℕ) (registers : List ℕ) (i : Insn) → s.number < 2 ^ 32 → s.processors < 2 ^ 32 → AreBelow (2 ^ 32) registers → InRange i →
     AsksForWords (effect_of s pc registers i)
 unfolding effect_of

@@ -1,4 +1,4 @@
--- What each instruction does in a processor with this pc and these registers: one line a shape.
+-- The effect of each instruction, given pc and the registers: one line for each shape.
 use Rattle.std.specs.Prelude.{ℕ, ◌*◌, ◌/◌, ◌%◌, ◌^◌, Bool, ◌==◌, List, slice_index, slice_set, if◌then◌else◌}
 use Rattle.rv_table.specs.declared.insn.Insn.{Insn}
 use Rattle.rv_table.specs.declared.insn.Insn.TheVariants.{Op, OpImm, Shift, Load, Store, Branch, Upper, Jal, Jalr}
@@ -18,8 +18,8 @@ register_of registers r = if r == 0 then 0 else slice_index registers r
 unfoldable pub with_register : List ℕ → ℕ → ℕ → List ℕ
 with_register registers r value = if r == 0 then registers else slice_set registers r value
 
--- The environment call that a7 (register 17) names, with a0 (register 10): 0 halts with the low byte of a0, 1 gives it
--- to the console, 2 asks for the processor's own number, 3 for the number of processors.
+-- the effect of the environment call in a7 (register 17), with a0 (register 10): 0 halts with the low byte of a0, 1
+-- prints that byte, 2 gives the processor's own number, 3 the number of processors
 unfoldable pub call_of : Setting → (a7 a0 : ℕ) → Effect
 call_of s a7 a0 =
     if a7 == 0 then does.Halt (a0 % 256) else

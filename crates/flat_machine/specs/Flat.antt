@@ -14,22 +14,22 @@ use Rattle.flat_machine.specs.Turns.{Turn, Retires, Reaches, Stops, turn_of}
 
 -- ---- a processor's step
 
--- A processor's turn with the shared words: both afterwards, and the event.
+-- a processor's turn on the shared words: the processor and the words after it, and the event
 abbrev pub taken : Processor → List ℕ → Turn → Processor × List ℕ × Event
 taken p shared (Retires after retired) = (after, shared, Retired retired)
 taken p shared (Reaches word change after) =
     let old = slice_index shared word in ((after old).0, slice_set shared word (change old), Retired (after old).1)
 taken p shared (Stops cause) = (record p { status = status_of cause }, shared, Stopped cause)
 
--- the machine in which the processor k has become another, and shared memory too
+-- the machine with processor k and shared memory as its turn leaves them
 abbrev pub with_taken : FlatState → ℕ → Processor × List ℕ × Event → FlatState
 with_taken m k done = record m { processors = slice_set m.processors k done.0; shared = done.1 }
 
--- one whole instruction of the processor k, which stands in state p
+-- one whole instruction of processor k, whose state is p
 abbrev pub step_of : FlatState → ℕ → Processor → Processor × List ℕ × Event
 step_of m k p = taken p m.shared (turn_of (setting_of m k) m.code p)
 
--- A processor that is not there, or does not run, takes none.
+-- the machine after processor k's turn; if the processor is missing or does not run, nothing changes
 abbrev pub turned : FlatState → ℕ → Option Processor → FlatState
 turned m k None = m
 turned m k (Some p) = if is_running p.status then with_taken m k (step_of m k p) else m
@@ -40,7 +40,7 @@ turn_event m k (Some p) = if is_running p.status then Some (step_of m k p).2 els
 
 -- ---- pokes
 
--- A poke writes registers 1 to 31, pc (as 32) with a value divisible by 4, or a byte that is in local or shared memory.
+-- A lawful poke writes register 1 to 31, pc (as 32) with a value divisible by 4, or a byte of local or shared memory.
 abbrev pub is_lawful_register : (register value : ℕ) → Bool
 is_lawful_register register value = nat_le 1 register && (nat_lt register 32 || (register == 32 && value % 4 == 0))
 
@@ -56,13 +56,13 @@ with_poked_register register value p =
 abbrev pub with_poked_byte : (address value : ℕ) → Processor → Processor
 with_poked_byte address value p = record p { local = slice_set p.local (address % 2 ^ 16) value }
 
--- the shared words with a byte at an address
+-- the shared words with a byte written at an address
 abbrev pub with_shared_byte : (address value : ℕ) → List ℕ → List ℕ
 with_shared_byte address value shared =
     let word = (address - 2 ^ 31) / 4 in
     slice_set shared word (with_part 1 (address % 4) (slice_index shared word) value)
 
--- the machine with a change of its processor k, if that is there
+-- the machine with its processor k changed, if there is one
 abbrev pub with_processor : FlatState → ℕ → (Processor → Processor) → Option Processor → FlatState
 with_processor m k change None = m
 with_processor m k change (Some p) = record m { processors = slice_set m.processors k (change p) }
@@ -73,7 +73,7 @@ written m (poke.Register k register value) =
 written m (poke.Local k address value) = with_processor m k (with_poked_byte address value) (slice_get m.processors k)
 written m (poke.Shared address value) = record m { shared = with_shared_byte address value m.shared }
 
--- An unlawful poke writes nothing.
+-- the machine after a poke; an unlawful one writes nothing
 abbrev pub poked : FlatState → Poke → FlatState
 poked m p = if is_lawful m p then written m p else m
 
@@ -84,7 +84,7 @@ unfoldable pub flat_step : FlatState → Entry → FlatState
 flat_step m (entry.Processor k) = turned m k (slice_get m.processors k)
 flat_step m (entry.Poke p) = poked m p
 
--- the event of an entry: none where a processor takes no instruction, and none of a poke
+-- the event of an entry, if any: a poke has none, nor has a processor that takes no instruction
 unfoldable pub flat_event : FlatState → Entry → Option Event
 flat_event m (entry.Processor k) = turn_event m k (slice_get m.processors k)
 flat_event m (entry.Poke p) = None
@@ -94,7 +94,7 @@ abbrev pub flat_run : FlatState → List Entry → FlatState
 flat_run m [] = m
 flat_run m (e ∷ es) = flat_run (flat_step m e) es
 
--- an event with the processor that it is of
+-- an event with the number of its processor
 abbrev pub with_processor_number : Entry → Option Event → List (ℕ × Event)
 with_processor_number (entry.Processor k) (Some event) = (k, event) ∷ []
 with_processor_number _ _ = []

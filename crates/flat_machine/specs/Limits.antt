@@ -9,7 +9,7 @@ pub record IsWithinLimits (config : Config) : Type 0 where
   pub records : config.b ≤ 16
   pub some_combinations : 1 ≤ config.r
   pub combinations : config.r ≤ 3
-  -- a queue has room for the replies of an entry that was combined so often
+  -- a queue has room for all replies of an entry that was combined r times
   pub answers : config.r < config.c
   pub some_words : 1 ≤ config.shared_words
   pub words : config.shared_words ≤ 262144

@@ -1,4 +1,4 @@
--- Memory: bytes of a region as numbers, and where an address lies.
+-- Memory: bytes of a region as numbers, and the region of an address.
 use Rattle.std.specs.Prelude.{ℕ, zero, suc, ◌+◌, ◌-◌, ◌*◌, ◌/◌, ◌%◌, ◌^◌, Bool, ◌==◌, ◌&&◌, not, List}
 use Rattle.std.specs.Prelude.{Result, Ok, Err, nat_lt, nat_le, slice_index, slice_set, if◌then◌else◌}
 use Rattle.flat_machine.specs.declared.fault.Fault.{Fault}
@@ -12,7 +12,7 @@ unfoldable pub number_at : List ℕ → (place size : ℕ) → ℕ
 number_at bytes place zero = 0
 number_at bytes place (suc size) = slice_index bytes place + 256 * number_at bytes (place + 1) size
 
--- the bytes with the low `size` bytes of a number from a place on
+-- the bytes after the low `size` bytes of a number are written from a place on, the lowest first
 unfoldable pub with_number : List ℕ → (place size value : ℕ) → List ℕ
 with_number bytes place zero value = bytes
 with_number bytes place (suc size) value =
@@ -31,7 +31,7 @@ in_shared words address = nat_le (2 ^ 31) address && nat_lt address (2 ^ 31 + 4 
 abbrev pub is_aligned : (size address : ℕ) → Bool
 is_aligned size address = address % size == 0
 
--- where an access of `size` bytes at an address goes, or the fault
+-- where an access of `size` bytes at an address goes, or its fault
 unfoldable pub region_of : Setting → (size address : ℕ) → (writes : Bool) → Result Region Fault
 region_of s size address writes =
     if not (is_aligned size address) then Err AddressNotAligned else

@@ -1,4 +1,4 @@
--- What the operations of each shape compute: one line a row of the table.
+-- What the operations of each shape compute: one line for each row of the table.
 --
 -- Source: the manual's "Integer Computational Instructions", "Multiplication Operations", "Division Operations",
 -- "Conditional Branches", "Load and Store Instructions" and "Atomic Memory Operations". `a` is x[rs1], `b` is x[rs2],
@@ -22,7 +22,7 @@ use Rattle.rv_table.specs.declared.operation.AmoOp.{AmoOp}
 use Rattle.rv_table.specs.declared.operation.AmoOp.TheVariants as amo
 use Rattle.flat_machine.specs.Words.{plus, minus, signed, upper, quotient, remainder, extended, is_below, flag}
 
--- rd, of two registers
+-- the value of rd, from two registers
 unfoldable pub register_value : RegisterOp → (a b : ℕ) → ℕ
 register_value reg.Add a b = plus a b
 register_value reg.Sub a b = minus a b
@@ -43,7 +43,7 @@ register_value reg.Divu a b = if b == 0 then 2 ^ 32 - 1 else a / b
 register_value reg.Rem a b = remainder a b
 register_value reg.Remu a b = if b == 0 then a else a % b
 
--- rd, of a register and an immediate
+-- the value of rd, from a register and an immediate
 unfoldable pub immediate_value : ImmediateOp → (a i : ℕ) → ℕ
 immediate_value Addi a i = plus a i
 immediate_value Slti a i = flag (is_below a i)
@@ -52,7 +52,7 @@ immediate_value Xori a i = bit_xor a i
 immediate_value Ori a i = bit_or a i
 immediate_value Andi a i = bit_and a i
 
--- rd, of a register and a shift amount
+-- the value of rd, from a register and a shift amount
 unfoldable pub shift_value : ShiftOp → (a i : ℕ) → ℕ
 shift_value Slli a i = a * 2 ^ i % 2 ^ 32
 shift_value Srli a i = a / 2 ^ i
@@ -75,7 +75,7 @@ load_size Lw = 4
 load_size Lbu = 1
 load_size Lhu = 2
 
--- rd, of the number of those bytes
+-- the value of rd, from the number that those bytes make
 unfoldable pub loaded : LoadOp → ℕ → ℕ
 loaded Lb old = extended 8 old
 loaded Lh old = extended 16 old
@@ -89,7 +89,7 @@ store_size Sb = 1
 store_size Sh = 2
 store_size Sw = 4
 
--- the word after an AMO, of the word before and x[rs2]
+-- the word after an AMO, from the word before it and x[rs2]
 unfoldable pub amo_value : AmoOp → (old b : ℕ) → ℕ
 amo_value amo.Add old b = plus old b
 amo_value amo.Swap old b = b

@@ -23,7 +23,7 @@ pub record FlatState : Type 0 where
   pub shared : List ℕ
   pub code : List ℕ
 
--- what the processor k of a machine knows of it
+-- what processor k of a machine knows of it
 abbrev pub setting_of : FlatState → ℕ → Setting
 setting_of m k = record { number = k; processors = length m.processors; shared_words = length m.shared }
 

@@ -1,4 +1,4 @@
--- One turn of a processor, as far as it goes alone.
+-- One turn of a processor by itself.
 use Rattle.std.specs.Prelude.{ℕ, ◌*◌, ◌%◌, ◌^◌, Bool, true, false, ◌==◌, not, List, [], ◌∷◌, ◌++◌, Option, Some, None}
 use Rattle.std.specs.Prelude.{Result, Ok, Err, if◌then◌else◌}
 use Rattle.rv_table.specs.Rows.{insn_of}
@@ -20,25 +20,25 @@ use Rattle.flat_machine.specs.Effects.{effect_of, with_register}
 use Rattle.flat_machine.specs.Memory.{number_at, with_number, in_code, region_of}
 
 pub data Turn : Type 0 where
-  -- The instruction needs nothing but the processor's own: what the processor becomes, and the event.
+  -- The instruction acts on the processor alone: the processor after it, and the event.
   Retires : Processor → Retired → Turn
-  -- It acts on a shared word: which, what becomes of the word, and of the processor with the event, each by the word
-  -- before.
+  -- The instruction acts on a shared word: which one, how the word changes, and the processor after it with the event.
+  -- The change and the processor are functions of the word before.
   Reaches : (word : ℕ) → (change : ℕ → ℕ) → (after : ℕ → Processor × Retired) → Turn
   -- The processor stops.
   Stops : Cause → Turn
 
--- the turn needs no word but the processor's own
+-- The turn is an instruction that needs no shared word.
 abbrev pub IsLocal : Turn → Type 0
 IsLocal (Retires after retired) = Unit {0}
 IsLocal _ = ⊥
 
--- the turn acts on a shared word
+-- The turn is an instruction that acts on a shared word.
 abbrev pub IsReference : Turn → Type 0
 IsReference (Reaches word change after) = Unit {0}
 IsReference _ = ⊥
 
--- what an instruction that retires gives the console, after what is there
+-- the console after an instruction that may have printed a byte
 abbrev pub with_byte : List ℕ → Option ℕ → List ℕ
 with_byte console None = console
 with_byte console (Some byte) = console ++ byte ∷ []
@@ -59,7 +59,7 @@ gone_to target rd value p = record p { pc = target; registers = with_register p.
 abbrev pub next_pc : Processor → ℕ
 next_pc p = plus p.pc 4
 
--- An access of `size` bytes at an address: rd gets `value` of the old number there, which, if the access writes,
+-- An access of `size` bytes at an address: rd gets `value` of the number there. If the access writes, the number
 -- becomes `change` of it.
 module _ (code : List ℕ) (p : Processor) (insn : Insn) (size address rd : ℕ) (value change : ℕ →
     ℕ) (writes : Bool) where
@@ -81,7 +81,7 @@ module _ (code : List ℕ) (p : Processor) (insn : Insn) (size address rd : ℕ)
   accessed (Ok (region.Code place)) = let old = number_at code place size in Retires (read old) (read_event old)
   accessed (Err fault) = Stops (cause.Fault fault)
 
--- what an effect makes of the processor: one line an effect
+-- the turn of a processor whose instruction has this effect: one line for each effect
 abbrev pub performed : Setting → List ℕ → Processor → Insn → Effect → Turn
 performed s code p i (does.Write rd value) = Retires (gone_to (next_pc p) rd value p) (retired_writing p.pc i rd value)
 performed s code p i (does.Jump rd value target) =
@@ -104,7 +104,7 @@ abbrev pub found : Option Insn → Result Insn Fault
 found (Some i) = Ok i
 found None = Err NoRow
 
--- the instruction at pc, or the fault
+-- the instruction at pc, or the fault of fetching it
 unfoldable pub fetched : List ℕ → ℕ → Result Insn Fault
 fetched code pc = if not (in_code pc) then Err FetchOutsideCode else found (insn_of (number_at code (pc % 2 ^ 16) 4))
 

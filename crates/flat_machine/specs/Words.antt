@@ -1,4 +1,4 @@
--- The arithmetic of 32-bit words, which stand as numbers below 2^32.
+-- The arithmetic of 32-bit words, which are numbers below 2^32.
 use Rattle.std.specs.Prelude.{ℕ, ◌+◌, ◌-◌, ◌*◌, ◌/◌, ◌%◌, ◌^◌, ℤ, int_div, int_rem, Bool, ◌==◌, ◌&&◌, nat_lt, int_lt}
 use Rattle.std.specs.Prelude.{if◌then◌else◌}
 use Rattle.std.specs.Int.{w32, w64, cast_signed, cast_unsigned}
@@ -11,20 +11,20 @@ plus a b = (a + b) % 2 ^ 32
 unfoldable pub minus : ℕ → ℕ → ℕ
 minus a b = (a + (2 ^ 32 - b)) % 2 ^ 32
 
--- a word as a number of two's complement
+-- a word read as a number in two's complement
 abbrev pub signed : ℕ → ℤ
 signed a = cast_signed w32 a
 
--- the upper half of a product of two words, which stands in 64 bits in two's complement
+-- the upper word of a product, which has 64 bits in two's complement
 unfoldable pub upper : ℤ → ℕ
 upper product = cast_unsigned w64 product / 2 ^ 32
 
--- -2^31 by -1: the one quotient of two's complement that is no word
+-- whether this is -2^31 by -1, the only quotient in two's complement that is no word
 abbrev pub overflows : (a b : ℕ) → Bool
 overflows a b = a == 2 ^ 31 && b == 2 ^ 32 - 1
 
--- The quotient of two's complement, rounded towards zero, and its remainder. A divisor of zero and an overflow have
--- results of their own (manual, "Division Operations", the table of division by zero and division overflow).
+-- The quotient in two's complement, rounded towards zero, and its remainder. Division by zero and overflow have results
+-- of their own (manual, "Division Operations", the table of division by zero and division overflow).
 unfoldable pub quotient : (a b : ℕ) → ℕ
 quotient a b =
     if b == 0 then 2 ^ 32 - 1 else
@@ -37,11 +37,11 @@ remainder a b =
     if overflows a b then 0 else
     cast_unsigned w32 (int_rem (signed a) (signed b))
 
--- a field of `bits` bits as a word, its highest bit repeated
+-- a field of `bits` bits as a word, sign-extended
 unfoldable pub extended : (bits field : ℕ) → ℕ
 extended bits field = if nat_lt field (2 ^ (bits - 1)) then field else field + (2 ^ 32 - 2 ^ bits)
 
--- the order of two's complement
+-- whether a word is less than another in two's complement
 unfoldable pub is_below : ℕ → ℕ → Bool
 is_below a b = int_lt (signed a) (signed b)
 

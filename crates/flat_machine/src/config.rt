@@ -9,40 +9,40 @@ pub const CODE_START: u32 = 0x0001_0000;
 /// The first address of each processor's local memory.
 pub const LOCAL_START: u32 = 0x0002_0000;
 
-/// How many bytes the code region has, and each local region.
+/// The bytes of the code region, and of each local memory.
 pub const REGION_BYTES: u32 = 0x0001_0000;
 
 /// The first address of shared memory.
 pub const SHARED_START: u32 = 0x8000_0000;
 
-/// The most stages of switches that a network has.
+/// The most stages of switches that a network may have.
 pub const MAX_STAGES: u8 = 6;
 
-/// The least places that a queue has.
+/// The fewest places that a queue may have.
 pub const MIN_QUEUE_CAPACITY: u8 = 2;
 
-/// The most places that a queue has.
+/// The most places that a queue may have.
 pub const MAX_QUEUE_CAPACITY: u8 = 16;
 
-/// The most records that a wait buffer has.
+/// The most records that a wait buffer may have.
 pub const MAX_WAIT_RECORDS: u8 = 16;
 
-/// The most combinations of an entry of a queue.
+/// How often an entry of a queue may be combined, at most.
 pub const MAX_COMBINATIONS: u8 = 3;
 
-/// The most words that shared memory has.
+/// The most words that shared memory may have.
 pub const MAX_SHARED_WORDS: u32 = 262_144;
 
 /// The size of a machine.
 #[derive(Clone, Copy, Debug, PartialEq, Eq, Drop)]
 pub struct Config {
-    /// How many stages of switches: 0 to 6. The machine has 2^`k` processors and memory modules.
+    /// The number of stages of switches: 0 to 6. The machine has 2^`k` processors and memory modules.
     pub k: u8,
     /// How many messages a queue holds: 2 to 16.
     pub c: u8,
     /// How many records a wait buffer holds: 0 to 16.
     pub b: u8,
-    /// How often an entry of a queue is combined, at most: 1 to 3, and less than `c`, so that a queue has room for all
+    /// How often an entry of a queue may be combined: 1 to 3, and less than `c`, so that a queue has room for all
     /// replies of an entry.
     pub r: u8,
     /// How many words the shared memory has: 1 to 262,144.
@@ -65,7 +65,7 @@ impl Config {
             && self.shared_words <= MAX_SHARED_WORDS
     }
 
-    /// How many processors, and how many memory modules: 1 to 64.
+    /// The number of processors, and of memory modules: 1 to 64.
     pub fn processors(&self) -> u8
         requires { self.now.k ≤ 6 }
         ensures { result ≡ 2 ^ self.now.k }

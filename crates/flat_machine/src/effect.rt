@@ -1,9 +1,9 @@
-//! What an instruction asks for, once its registers are read.
+//! What an instruction does, once its registers are read.
 
 use crate::fault::Fault;
 use rv_table::{AmoOp, LoadOp, Register, StoreOp};
 
-/// What an instruction does. Unless said, `pc` goes on by 4.
+/// The effect of an instruction. Unless noted, `pc` advances by 4.
 #[derive(Clone, Copy, Debug, PartialEq, Eq, Drop)]
 pub enum Effect {
     /// The register gets the value.
@@ -31,8 +31,8 @@ pub enum Effect {
         address: u32,
         value: u32,
     },
-    /// The register gets the word at the address, which becomes what the operation makes of it
-    /// and the value.
+    /// The register gets the word at the address. The operation makes a new word of that word and
+    /// the value.
     Amo {
         op: AmoOp,
         rd: Register,
@@ -47,16 +47,16 @@ pub enum Effect {
     Halt {
         byte: u8,
     },
-    /// The processor stops by the fault, with `pc` at the instruction.
+    /// The processor stops with the fault, with `pc` at the instruction.
     Fail {
         fault: Fault,
     },
 }
 
-/// Where an access of memory goes.
+/// Where a memory access goes.
 #[derive(Clone, Copy, Debug, PartialEq, Eq, Drop)]
 pub enum Region {
-    /// To the shared word of this number, from 0.
+    /// To the shared word with this number, from 0.
     Shared { word: u32 },
     /// To local memory, this many bytes from its first address: 0 to 65,535.
     Local { place: u32 },

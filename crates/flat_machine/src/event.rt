@@ -6,7 +6,7 @@ ghost use Rattle.flat_machine.specs.State.{status_of};
 use crate::fault::Fault;
 use rv_table::Insn;
 
-/// What a processor is doing. One that does not run never runs again.
+/// What a processor is doing. One that has stopped never runs again.
 #[derive(Clone, Copy, Debug, PartialEq, Eq, Drop)]
 pub enum Status {
     Running,
@@ -36,19 +36,19 @@ impl Cause {
     }
 }
 
-/// An instruction that was carried out.
+/// An instruction that retired.
 #[derive(Clone, Copy, Debug, PartialEq, Eq, Drop)]
 pub struct Retired {
-    /// Where the instruction stands.
+    /// The address of the instruction.
     pub pc: u32,
     pub insn: Insn,
-    /// The value that was written to a register other than 0, if any.
+    /// The value written to a register other than 0, if any.
     pub result: Option<u32>,
     /// The byte given to the console, if any.
     pub out: Option<u8>,
 }
 
-/// What a turn that is not idle shows: an instruction that retired, or a processor that stopped.
+/// What a turn shows: an instruction that retired, or a processor that stopped.
 #[derive(Clone, Copy, Debug, PartialEq, Eq, Drop)]
 pub enum Event {
     Retired(Retired),

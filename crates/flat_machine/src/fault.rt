@@ -3,13 +3,12 @@
 ghost use Rattle.std.specs.Prelude.{◌≡◌};
 ghost use Rattle.flat_machine.specs.State.{number_of_fault};
 
-/// Why an instruction was not carried out. The variants stand in the order of their numbers, 1 to
-/// 8.
+/// Why an instruction was not carried out. The variants are in the order of their numbers, 1 to 8.
 #[derive(Clone, Copy, Debug, PartialEq, Eq, Drop)]
 pub enum Fault {
     /// 1: the word at `pc` spells no instruction.
     NoRow,
-    /// 2: `pc` is outside code.
+    /// 2: `pc` is outside the code region.
     FetchOutsideCode,
     /// 3: a jump or a taken branch to a target that is not divisible by 4.
     TargetNotAligned,
@@ -19,7 +18,7 @@ pub enum Fault {
     NoRegion,
     /// 6: a store or an AMO to code.
     StoreToCode,
-    /// 7: an environment call that there is not.
+    /// 7: an unknown environment call.
     UnknownCall,
     /// 8: EBREAK.
     Breakpoint,

@@ -24,13 +24,13 @@ pub fn pc_stays_aligned()
         All HasAlignedPc (flat_run m entries).processors }
 {}
 
-/// An instruction that stops its processor, by a fault or by a halt, changes nothing but the status.
+/// An instruction that stops its processor, by a fault or a halt, changes nothing but the status.
 #[tactic(auto, using(crate::proofs::Steps::stop_changes_status))]
 pub fn stop_changes_the_status_alone()
     ensures { StopChangesStatus }
 {}
 
-/// A processor that does not run takes no instruction.
+/// A processor that has stopped takes no instruction.
 #[tactic(auto, using(crate::proofs::Steps::stopped_stays))]
 pub fn stopped_processor_stays()
     ensures { (m : FlatState) (k : ℕ) (p : Processor) → slice_get m.processors k ≡ Some p → is_running p.status ≡ false
@@ -44,7 +44,7 @@ pub fn others_are_left_alone()
         → slice_get (flat_step m (Entry.Processor k)).processors other ≡ slice_get m.processors other }
 {}
 
-/// A processor's step changes one shared word at most, and no code.
+/// A processor's step changes at most one shared word, and no code.
 #[tactic(auto, using(crate::proofs::Steps::one_word, crate::proofs::Steps::code_kept))]
 pub fn one_shared_word_changes()
     ensures word { ChangesOneWord }
@@ -57,7 +57,7 @@ pub fn local_turns_commute()
     ensures { LocalTurnsCommute }
 {}
 
-/// A run over two lists is a run over the first, and then one over the second.
+/// A run over two lists is a run over the first, followed by one over the second.
 #[tactic(auto, using(crate::proofs::Steps::run_append, crate::proofs::Steps::events_append))]
 pub fn runs_join()
     ensures state { (m : FlatState) (first second : List Entry) →
@@ -66,9 +66,8 @@ pub fn runs_join()
         → flat_events m (first ++ second) ≡ flat_events m first ++ flat_events (flat_run m first) second }
 {}
 
-/// Words stay words, and bytes stay bytes: what an instruction asks for, what a turn leaves of a
-/// processor and of the word that it reaches, and the whole machine after a run whose pokes write
-/// words and bytes.
+/// Words stay words, and bytes stay bytes: in what an instruction asks for, in the processor and the shared word after
+/// a turn, and in the whole machine after a run whose pokes write words and bytes.
 #[tactic(auto, using(crate::proofs::Values::effect_asks, crate::proofs::InRange::turn_words))]
 pub fn words_stay_words()
     ensures effect { EffectsAskForWords }
@@ -77,12 +76,11 @@ pub fn words_stay_words()
         IsInRange (flat_run m entries) }
 {}
 
-/// What products and quotients have to do with their operands. The two halves of a product are the
-/// whole product, of natural numbers, of two's complement, and of one factor each. A quotient times
-/// its divisor and the remainder are the dividend; for two's complement they are it as whole numbers
-/// unless the quotient is no word, and modulo 2^32 always. The remainder is nearer to zero than the
-/// divisor, with the dividend's sign. Where the divisor is zero, and where the quotient is no word,
-/// the results are those of the manual's table.
+/// How products and quotients relate to their operands. The two halves of a product are together the whole product,
+/// whether its factors are unsigned, signed, or one of each. Quotient times divisor plus remainder is the dividend; for
+/// signed operands this holds as integers unless the quotient overflows, and modulo 2^32 always. The remainder is
+/// nearer to zero than the divisor and has the dividend's sign. Division by zero and overflow have the results of the
+/// manual's table.
 pub fn products_and_quotients()
     ensures unsigned_product { NaturalHalves }
     ensures signed_product { SignedHalves }

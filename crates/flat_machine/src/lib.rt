@@ -1,14 +1,14 @@
-//! The flat machine: what a user of the simulator reasons with. Processors take whole instructions
-//! one at a time, each on one shared memory; there is no message, no queue and no switch.
+//! The flat machine, with which a user of the simulator reasons. Processors take whole instructions
+//! one at a time, all on one shared memory; there is no message, no queue and no switch.
 //!
-//! The machine itself stands in `specs/`, as definitions: its state (`State.antt`), the arithmetic
-//! of words (`Words.antt`), what each instruction does (`Operations.antt`, `Effects.antt`), memory
+//! The machine itself is defined in `specs/`: its state (`State.antt`), the arithmetic of words
+//! (`Words.antt`), what each instruction does (`Operations.antt`, `Effects.antt`), memory
 //! (`Memory.antt`), one processor's turn (`Turns.antt`), and steps and runs of the whole machine
-//! (`Flat.antt`). Here are the types that the definitions share with the code, and laws of the
-//! definitions, each the contract of a function that does nothing.
+//! (`Flat.antt`). This crate has the types that the definitions share with the code, and laws of
+//! the definitions, each the contract of a function that does nothing.
 //!
-//! Source: The RISC-V Instruction Set Manual, Volume I (Unprivileged ISA). Environment calls,
-//! faults and the memory map are this project's own.
+//! Source: The RISC-V Instruction Set Manual, Volume I (Unprivileged ISA). This project defines the
+//! environment calls, the faults and the memory map.
 #![tactic(auto)]
 
 mod config;

@@ -1,12 +1,13 @@
 //! Entries of a run: processors and pokes.
 
-/// The number that stands for `pc` where a poke names a register.
+/// The register number by which a poke names `pc`.
 pub const PC: u8 = 32;
 
 /// A write from outside, as a debugger makes it.
 #[derive(Clone, Copy, Debug, PartialEq, Eq, Drop)]
 pub enum Poke {
-    /// Register 1 to 31 of a processor, or its `pc` as 32, which gets only values divisible by 4.
+    /// Register 1 to 31 of a processor, or its `pc` as register 32. A value for `pc` must be
+    /// divisible by 4.
     Register {
         processor: u8,
         register: u8,
@@ -25,7 +26,7 @@ pub enum Poke {
     },
 }
 
-/// One entry of a serial order: a processor that takes one whole instruction, or a poke.
+/// An entry of a serial order: a processor that takes one whole instruction, or a poke.
 #[derive(Clone, Copy, Debug, PartialEq, Eq, Drop)]
 pub enum Entry {
     Processor(u8),

@@ -3,7 +3,7 @@
 ghost use Rattle.std.specs.Prelude.{◌≡◌, ◌<◌, ◌≤◌, ◌^◌, ◌*◌, ◌-◌};
 ghost use Rattle.flat_machine.specs.Sizes.{bytes_of};
 
-/// How many bytes an access takes.
+/// The size of an access.
 #[derive(Clone, Copy, Debug, PartialEq, Eq, Drop)]
 pub enum Size {
     Byte,
@@ -25,7 +25,7 @@ impl Size {
         }
     }
 
-    /// The word with ones in its lowest bytes, as many as the size has.
+    /// A word with ones in the lowest bytes, as many as the size has.
     pub fn ones(self) -> u32
         ensures { result ≡ 2 ^ (8 * bytes_of self) - 1 }
     {

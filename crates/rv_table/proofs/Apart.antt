@@ -1,4 +1,4 @@
--- The rule of the table: a word fits at most one row. It is one computed test over all pairs of rows.
+-- A word fits at most one row of the table, which one computed test of all pairs of rows shows.
 use Rattle.std.proofs.Common.{◌≡◌, ℕ, Bool, true, false, List, [], ◌∷◌, refl, sym, ap, ◌∙◌}
 use Rattle.std.specs.Prelude.{◌==◌, ◌&&◌, not, bit_and}
 use Rattle.std.specs.List.{list_all}
@@ -25,11 +25,11 @@ pub rows_are_apart : all_apart rows ≡ true
 unfolding rows
 rows_are_apart = refl
 
--- what a word that fits a row has under the part of the row's mask that another mask has too
+-- If a word fits a row, its bits under both this mask and another are those of the row's match under the other.
 common : (w mask other match : ℕ) → bit_and w mask ≡ match → bit_and match other ≡ bit_and w (bit_and mask other)
 common w mask other match e = ap (λ m. bit_and m other) (sym e) ∙ and_assoc other w mask
 
--- Two rows that one word fits are not apart.
+-- If one word fits the rows of two instructions, the rows are not apart.
 pub fits_both : (w : ℕ) (i j : Insn) → fits w i ≡ true → fits w j ≡ true → apart (row_of i) (row_of j) ≡ false
 fits_both w i j fits_i fits_j =
     let a = common w (mask_of i) (mask_of j) (match_of i) (eqb-true _ _ fits_i) in

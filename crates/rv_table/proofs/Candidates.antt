@@ -43,7 +43,7 @@ bit_of_flag : (flag : Bool) (bit : ℕ) → cond flag 1 0 ≡ bit → (bit == 1)
 bit_of_flag true bit e = rw (← e) refl
 bit_of_flag false bit e = rw (← e) refl
 
--- An instruction that takes the fields of a word has its operands in that word.
+-- An instruction whose operands are replaced by the fields of a word has the operands of that word.
 pub has_fields : (w : ℕ) (i : Insn) → HasOperands w (with_fields w i)
 has_fields w Ecall = tt
 has_fields w Ebreak = tt
@@ -52,7 +52,7 @@ has_fields w (Upper op rd upper) = (refl, refl)
 has_fields w (Jal rd offset) = (refl, refl)
 has_fields w _ = (refl, refl, refl)
 
--- If an instruction has its operands in a word, it stays as it is when it takes the fields of the word.
+-- If an instruction has the operands of a word, replacing them by the fields of the word changes nothing.
 pub same_from_operands : (w : ℕ) (i : Insn) → HasOperands w i → with_fields w i ≡ i
 same_from_operands w Ecall h = refl
 same_from_operands w Ebreak h = refl
@@ -73,7 +73,7 @@ pub candidates_have_rows : (w : ℕ) → map row_of (candidates w) ≡ rows
 unfolding rows
 candidates_have_rows w = refl
 
--- Each instruction, on the fields of the word, stands in the list at the place of its row.
+-- Each instruction, with the fields of the word as operands, is in the list at the place of its row.
 pub listed : (w : ℕ) (i : Insn) → Contains (candidates w) (with_fields w i)
 listed w (Upper Lui rd upper) = (0, omega arith, refl)
 listed w (Upper Auipc rd upper) = (1, omega arith, refl)
@@ -133,7 +133,7 @@ listed w (Op reg.Divu rd rs1 rs2) = (54, omega arith, refl)
 listed w (Op reg.Rem rd rs1 rs2) = (55, omega arith, refl)
 listed w (Op reg.Remu rd rs1 rs2) = (56, omega arith, refl)
 
--- The row of an instruction stands where the instruction stands among the candidates of any word.
+-- The table has the row of each instruction.
 pub row_listed : (i : Insn) → Contains rows (row_of i)
 row_listed i =
     let place = listed 0 i in

@@ -8,7 +8,7 @@ use Rattle.rv_table.specs.Rows.{rows, row_of, mask_of, match_of, format_of, cand
 use Rattle.rv_table.specs.Formats.{fields_of, operands_of}
 use Rattle.rv_table.proofs.Candidates.{with_fields, has_fields, candidates_have_fields, candidates_have_rows}
 
--- the instruction at the place of a row
+-- Among candidates of a word, the one at the place of a row has that row, and the fields of the word as operands.
 of_row : (w k : ℕ) (r : Row) (is : List Insn) → map (with_fields w) is ≡ is → k < length (map row_of is) → slice_index_or (map row_of is) k r ≡ r →
     (i : Insn) × (row_of i ≡ r) × (with_fields w i ≡ i)
 of_row w k r [] same inside at = absurd (omega arith)
@@ -24,7 +24,7 @@ row_spells w r place fit =
     let there : bit_and w (mask_of i) ≡ match_of i = ap (λ (x : Row). bit_and w x.mask) found.1 ∙ fit ∙ sym (ap (λ (x : Row). x.match_) found.1) in
     (i, found.1, record { row = there; operands = subst (HasOperands w) found.2 (has_fields w i) })
 
--- An instruction has its operands in a word exactly if its operands are the fields of the word by its format.
+-- The operands of an instruction are those of a word exactly if they are the word's fields in the instruction's format.
 pub operands_are_fields : (w : ℕ) (i : Insn) → HasOperands w i ↔ (operands_of i ≡ fields_of (format_of i) w)
 operands_are_fields w Ecall = (λ h. cc, λ e. tt)
 operands_are_fields w Ebreak = (λ h. cc, λ e. tt)

@@ -1,4 +1,4 @@
--- The lemmas that crates above may cite: they name no other file of these proofs.
+-- The only proofs that crates above may cite.
 
--- A word is read by the table as the instruction that it spells.
+-- The table reads a word as the instruction that it spells.
 pub use Rattle.rv_table.proofs.Reading.{read_fits}

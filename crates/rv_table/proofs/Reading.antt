@@ -1,4 +1,4 @@
--- A word is read by the table as the instruction that it spells.
+-- The table reads a word as the instruction that it spells.
 use Rattle.std.proofs.Common.{◌≡◌, ℕ, ◌<◌, zero, suc, true, false, List, [], ◌∷◌, length, Some, inl, inr, ap, ◌∙◌, subst, arith}
 use Rattle.std.specs.Prelude.{map, find, slice_index_or, Contains}
 use Rattle.std.specs.List.{list_all}
@@ -10,7 +10,7 @@ use Rattle.rv_table.specs.Rows.{row_of, candidates, insn_of, HasOperands, InRang
 use Rattle.rv_table.proofs.Apart.{fits, apart, all_apart, rows_are_apart, fits_both}
 use Rattle.rv_table.proofs.Candidates.{with_fields, has_fields, same_from_operands, candidates_have_fields, candidates_have_rows, listed}
 
--- Among instructions whose rows are apart, one that the word fits is the one that is found.
+-- Among instructions whose rows are apart, the search finds the one that the word fits.
 found : (w : ℕ) (i : Insn) (k : ℕ) (is : List Insn) → all_apart (map row_of is) ≡ true → fits w i ≡ true → k < length is → slice_index_or is k i ≡ i →
     find (fits w) is ≡ Some i
 found w i k [] apart_all fit inside at_k = absurd (omega arith)
@@ -28,7 +28,7 @@ found w i (suc k) (j ∷ is) apart_all fit inside at_k =
       | inr differs ↦ rw differs rest
     ]
 
--- What is found fits the word, and has the operands that the list has.
+-- The instruction that the search finds fits the word, and its operands are the fields of the word.
 from_found : (w : ℕ) (i : Insn) (is : List Insn) → map (with_fields w) is ≡ is → find (fits w) is ≡ Some i → (fits w i ≡ true) × (with_fields w i ≡ i)
 from_found w i [] same e = absurd (cc)
 from_found w i (j ∷ is) same e =
@@ -44,7 +44,7 @@ from_found w i (j ∷ is) same e =
 fits_from_row : (w : ℕ) (i : Insn) → Spells w i → fits w i ≡ true
 fits_from_row w i s = eq-eqb _ _ s.row
 
--- If a word spells an instruction, that instruction is read of the word.
+-- If a word spells an instruction, the table reads the word as that instruction.
 pub read : (w : ℕ) (i : Insn) → Spells w i → insn_of w ≡ Some i
 unfolding insn_of
 read w i s =
@@ -52,7 +52,7 @@ read w i s =
     let place : Contains (candidates w) i = subst (Contains (candidates w)) same (listed w i) in
     found w i place.0 (candidates w) (ap all_apart (candidates_have_rows w) ∙ rows_are_apart) (fits_from_row w i s) place.1 place.2
 
--- If an instruction is read of a word, the word spells it.
+-- If the table reads a word as an instruction, the word spells it.
 pub spelled : (w : ℕ) (i : Insn) → insn_of w ≡ Some i → Spells w i
 unfolding insn_of
 spelled w i e =
@@ -61,7 +61,7 @@ spelled w i e =
 
 -- ---- widths
 
--- a field of a word is below its width
+-- If the operands of an instruction are fields of a word, they have the widths of these fields.
 fields_fit : (w : ℕ) (i : Insn) → HasOperands w i → InRange i
 fields_fit w (Op op rd rs1 rs2) h = (omega arith, omega arith, omega arith)
 fields_fit w (OpImm op rd rs1 imm) h = (omega arith, omega arith, omega arith)
@@ -81,6 +81,6 @@ fields_fit w (Amo op rd rs1 rs2 aq rl) h = (omega arith, omega arith, omega arit
 pub operands_fit : (w : ℕ) (i : Insn) → Spells w i → InRange i
 operands_fit w i s = fields_fit w i s.operands
 
--- the instruction that is read of any word has its operands in their ranges
+-- The operands of an instruction that the table reads have the widths of their fields.
 pub read_fits : (w : ℕ) (i : Insn) → insn_of w ≡ Some i → InRange i
 read_fits w i e = operands_fit w i (spelled w i e)

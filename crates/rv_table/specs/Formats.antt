@@ -9,7 +9,7 @@ use Rattle.rv_table.specs.declared.table.Format.{Format}
 use Rattle.rv_table.specs.declared.table.Format.TheVariants as format
 use Rattle.rv_table.specs.Rows.{bits}
 
--- the fields of a word, from rd on; an immediate is put together of its parts
+-- the fields of a word, from rd on, with the parts of an immediate put together
 abbrev pub fields_of : Format → (word : ℕ) → List ℕ
 fields_of format.RType w = bits w 11 7 ∷ bits w 19 15 ∷ bits w 24 20 ∷ []
 fields_of format.IType w = bits w 11 7 ∷ bits w 19 15 ∷ bits w 31 20 ∷ []

@@ -218,7 +218,7 @@ row_of i = row (mask_of i) (match_of i) (format_of i)
 abbrev pub bits : ℕ → ℕ → ℕ → ℕ
 bits w high low = w / 2 ^ low % 2 ^ (high + 1 - low)
 
--- the operands of the instruction are the fields of the word
+-- The operands of the instruction are the fields of the word.
 abbrev pub HasOperands : ℕ → Insn → Type 0
 HasOperands w (Op op rd rs1 rs2) = (rd ≡ bits w 11 7) × (rs1 ≡ bits w 19 15) × (rs2 ≡ bits w 24 20)
 HasOperands w (OpImm op rd rs1 imm) = (rd ≡ bits w 11 7) × (rs1 ≡ bits w 19 15) × (imm ≡ bits w 31 20)
@@ -263,7 +263,7 @@ InRange (Amo op rd rs1 rs2 aq rl) = (rd < 2 ^ 5) × (rs1 < 2 ^ 5) × (rs2 < 2 ^ 
 
 -- ---- reading
 
--- The 57 instructions that have their operands in the fields of a word: one for each row, in the order of the table.
+-- the 57 instructions whose operands are the fields of a word: one for each row, in the order of the table
 abbrev pub candidates : ℕ → List Insn
 candidates w =
     let rd = bits w 11 7 in
@@ -334,6 +334,6 @@ candidates w =
     (Op reg.Remu rd rs1 rs2) ∷
     []
 
--- The instruction that a word spells: of the candidates the one whose row the word fits.
+-- the instruction that a word spells: the candidate whose row the word fits
 unfoldable pub insn_of : ℕ → Option Insn
 insn_of w = find (λ i. bit_and w (mask_of i) == match_of i) (candidates w)

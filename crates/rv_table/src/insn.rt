@@ -22,52 +22,52 @@ pub enum Insn {
         rs1: Register,
         imm: Immediate<12>,
     },
-    /// Shift by a constant, as `slli rd, rs1, amount`.
+    /// Shift by a constant amount, as `slli rd, rs1, amount`.
     Shift {
         op: ShiftOp,
         rd: Register,
         rs1: Register,
         amount: Immediate<5>,
     },
-    /// As `lw rd, imm(rs1)`.
+    /// Load from memory, as `lw rd, imm(rs1)`.
     Load {
         op: LoadOp,
         rd: Register,
         rs1: Register,
         imm: Immediate<12>,
     },
-    /// As `sw rs2, imm(rs1)`.
+    /// Store to memory, as `sw rs2, imm(rs1)`.
     Store {
         op: StoreOp,
         rs1: Register,
         rs2: Register,
         imm: Immediate<12>,
     },
-    /// As `beq rs1, rs2, target`. The offset counts steps of two bytes.
+    /// Conditional branch, as `beq rs1, rs2, target`. The offset is in units of two bytes.
     Branch {
         op: BranchOp,
         rs1: Register,
         rs2: Register,
         offset: Immediate<12>,
     },
-    /// `lui rd, upper` and `auipc rd, upper`: the upper 20 bits.
+    /// `lui rd, upper` or `auipc rd, upper`: `upper` is the upper 20 bits.
     Upper {
         op: UpperOp,
         rd: Register,
         upper: Immediate<20>,
     },
-    /// `jal rd, target`. The offset counts steps of two bytes.
+    /// Jump and link, `jal rd, target`. The offset is in units of two bytes.
     Jal {
         rd: Register,
         offset: Immediate<20>,
     },
-    /// `jalr rd, imm(rs1)`.
+    /// Jump and link to a register, `jalr rd, imm(rs1)`.
     Jalr {
         rd: Register,
         rs1: Register,
         imm: Immediate<12>,
     },
-    /// `fence`: `ordering` is bits 31 to 20 (fm, predecessor and successor sets).
+    /// `fence`: `ordering` is bits 31 to 20 (fm and the predecessor and successor sets).
     Fence {
         rd: Register,
         rs1: Register,
@@ -77,7 +77,7 @@ pub enum Insn {
     Ecall,
     /// Breakpoint.
     Ebreak,
-    /// As `amoadd.w rd, rs2, (rs1)`, with its acquire and release bits.
+    /// Atomic memory operation, as `amoadd.w rd, rs2, (rs1)`, with its acquire and release bits.
     Amo {
         op: AmoOp,
         rd: Register,

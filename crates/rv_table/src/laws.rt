@@ -13,7 +13,7 @@ pub fn rows_are_the_table()
     ensures { TABLE ≡ rows }
 {}
 
-/// The row of each instruction stands in the table.
+/// The table has the row of each instruction.
 pub fn row_of_insn_is_listed()
     ensures { (i : Insn) → Contains rows (row_of i) }
 {}
@@ -34,12 +34,12 @@ pub fn spelled_once()
     ensures { (word : ℕ) (i j : Insn) → Spells word i → Spells word j → i ≡ j }
 {}
 
-/// Reading a word by the table gives the instruction that it spells.
+/// The table reads a word as an instruction exactly if the word spells it.
 pub fn spelled_is_read()
     ensures { (word : ℕ) (i : Insn) → (insn_of word ≡ Some i) ↔ Spells word i }
 {}
 
-/// The operands of an instruction that a word spells have the widths of its fields.
+/// If a word spells an instruction, each operand fits the width of its field.
 #[tactic(auto, using(crate::proofs::Reading::operands_fit))]
 pub fn operands_fit_their_fields()
     ensures { (word : ℕ) (i : Insn) → Spells word i → InRange i }

@@ -1,7 +1,7 @@
 //! The instructions of RV32IM and Zaamo, and the table of their 57 rows.
 //!
 //! Source: The RISC-V Instruction Set Manual, Volume I (Unprivileged ISA): chapter "RV32I Base
-//! Integer Instruction Set", extensions "M" and "A" (of this the `Zaamo` part), and the tables of
+//! Integer Instruction Set", extensions "M" and "A" (only its `Zaamo` part), and the tables of
 //! chapter "RV32/64G Instruction Set Listings".
 #![tactic(auto)]
 

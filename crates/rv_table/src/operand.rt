@@ -1,4 +1,4 @@
-//! Operands of an instruction that have a range.
+//! Operands of an instruction, with their ranges.
 
 ghost use Rattle.std.specs.Prelude.{◌≡◌, ℕ, ◌^◌, ◌<◌};
 
@@ -21,7 +21,7 @@ impl Model for Register {
 }
 
 impl Register {
-    /// The register of this number, which is below 32.
+    /// The register with this number, which is below 32.
     pub fn new(number: u8) -> Self
         requires { number < 32 }
         ensures { result ≡ number }
@@ -38,7 +38,7 @@ impl Register {
     }
 }
 
-/// An immediate as it stands in the word: a field of `WIDTH` bits, not yet extended by its sign.
+/// An immediate as encoded in the word: a field of `WIDTH` bits, before sign extension.
 #[derive(Clone, Copy, Debug, PartialEq, Eq, Drop)]
 pub struct Immediate<const WIDTH: u32> {
     field: u32,
@@ -55,7 +55,7 @@ impl<const WIDTH: u32> Model for Immediate<WIDTH> {
 }
 
 impl<const WIDTH: u32> Immediate<WIDTH> {
-    /// The immediate of this field, which has `WIDTH` bits.
+    /// The immediate with this field, which has `WIDTH` bits.
     pub fn new(field: u32) -> Self
         requires { field < 2 ^ WIDTH }
         ensures { result ≡ field }

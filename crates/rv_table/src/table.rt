@@ -9,7 +9,7 @@ use crate::operation::{
     AmoOp, BranchOp, ImmediateOp, LoadOp, RegisterOp, ShiftOp, StoreOp, UpperOp,
 };
 
-/// Where the operands of a row stand in a word (manual, "Base Instruction Formats").
+/// Where a word has the operands of a row (manual, "Base Instruction Formats").
 #[derive(Clone, Copy, Debug, PartialEq, Eq, Drop)]
 pub enum Format {
     RType,
@@ -28,7 +28,7 @@ pub enum Format {
     Atomic,
 }
 
-/// A row of the table: a word `w` fits it where `w & mask == match_`.
+/// A row of the table. It fits a word `w` if `w & mask == match_`.
 #[derive(Clone, Copy, Debug, PartialEq, Eq, Drop)]
 pub struct Row {
     pub mask: u32,
