@@ -1,4 +1,4 @@
-//! Rows that compute on registers.
+//! Operations on registers.
 
 ghost use Rattle.std.specs.Prelude.{◌≡◌, ◌<◌};
 ghost use Rattle.flat_machine.specs.Operations.{immediate_value, is_taken, register_value, shift_value};
@@ -36,7 +36,7 @@ pub fn register_result(op: RegisterOp, a: u32, b: u32) -> u32
     }
 }
 
-/// What `rd` gets from a register's value and an extended immediate.
+/// What `rd` gets from a register's value and a sign-extended immediate.
 #[tactic(auto, unfolding(flat_machine::specs::Operations::immediate_value, flat_machine::specs::Words::plus, flat_machine::specs::Words::is_below))]
 pub fn immediate_result(op: ImmediateOp, a: u32, immediate: u32) -> u32
     ensures { result ≡ immediate_value op a immediate }

@@ -1,4 +1,4 @@
-//! What the rows of the table compute from their operands, as the flat machine says.
+//! What instructions compute from their operands, as the flat machine defines it.
 #![tactic(auto)]
 
 mod alu;

@@ -1,4 +1,4 @@
-//! Rows that reach memory: the size of the access, where it may stand, and what comes of the number there.
+//! Operations on memory: the size of an access, its alignment, and the values that it reads and writes.
 
 ghost use Rattle.std.specs.Prelude.{◌≡◌, ◌<◌, ◌^◌, ◌*◌};
 ghost use Rattle.flat_machine.specs.Memory.{is_aligned};
@@ -41,7 +41,7 @@ pub fn is_aligned(size: Size, address: u32) -> bool
     }
 }
 
-/// What `rd` gets from the number of the bytes that a load reads.
+/// What `rd` gets from the bytes that a load reads, taken as a number.
 #[tactic(auto, unfolding(flat_machine::specs::Operations::loaded, flat_machine::specs::Words::extended))]
 pub fn load_result(op: LoadOp, old: u32) -> u32
     requires { old < 2 ^ (8 * load_size op) }

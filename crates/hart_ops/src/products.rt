@@ -3,14 +3,14 @@
 ghost use Rattle.std.specs.Prelude.{◌≡◌, ◌-◌, ◌*◌, ◌/◌, ◌%◌, ◌^◌, ◌==◌, ◌*ℤ◌, if◌then◌else◌, pos};
 ghost use Rattle.flat_machine.specs.Words.{overflows, quotient, remainder, upper};
 
-/// The product of two numbers of two's complement. It never overflows.
+/// The product of two signed numbers. It never overflows.
 pub fn signed_product(a: i32, b: i32) -> i64
     ensures { result ≡ a *ℤ b }
 {
     i64::from(a) * i64::from(b)
 }
 
-/// The product of a number of two's complement and a natural number. It never overflows.
+/// The product of a signed and an unsigned number. It never overflows.
 pub fn mixed_product(a: i32, b: u32) -> i64
     ensures { result ≡ a *ℤ pos b }
 {
@@ -25,15 +25,15 @@ pub fn upper_half(product: i64) -> u32
     (product.cast_unsigned() >> 32) as u32
 }
 
-/// The upper word of the product of two natural numbers.
+/// The upper word of the product of two unsigned numbers.
 pub fn unsigned_upper_half(a: u32, b: u32) -> u32
     ensures { result ≡ a * b / 2 ^ 32 }
 {
     (u64::from(a) * u64::from(b) >> 32) as u32
 }
 
-/// The quotient of two's complement, rounded towards zero: all ones where the divisor is zero, and
-/// -2^31 where the quotient is no word.
+/// The quotient in two's complement, rounded towards zero: all ones if the divisor is zero, and
+/// -2^31 if the quotient overflows.
 #[tactic(auto, unfolding(flat_machine::specs::Words::quotient))]
 pub fn quotient(a: u32, b: u32) -> u32
     ensures { result ≡ quotient a b }
@@ -47,8 +47,8 @@ pub fn quotient(a: u32, b: u32) -> u32
     }
 }
 
-/// The remainder of two's complement, with the dividend's sign: the dividend where the divisor is
-/// zero, and 0 where the quotient is no word.
+/// The remainder in two's complement, with the dividend's sign: the dividend if the divisor is
+/// zero, and 0 if the quotient overflows.
 #[tactic(auto, unfolding(flat_machine::specs::Words::remainder))]
 pub fn remainder(a: u32, b: u32) -> u32
     ensures { result ≡ remainder a b }
@@ -64,21 +64,21 @@ pub fn remainder(a: u32, b: u32) -> u32
     }
 }
 
-/// Whether the quotient of two's complement is no word: that of -2^31 by -1.
+/// Whether the quotient in two's complement overflows: only that of -2^31 by -1 does.
 fn overflows(a: u32, b: u32) -> bool
     ensures { result ≡ overflows a b }
 {
     a == 0x8000_0000 && b == u32::MAX
 }
 
-/// The quotient of natural numbers: all ones where the divisor is zero.
+/// The quotient of unsigned numbers: all ones if the divisor is zero.
 pub fn unsigned_quotient(a: u32, b: u32) -> u32
     ensures { result ≡ if b == 0 then 2 ^ 32 - 1 else a / b }
 {
     if b == 0 { u32::MAX } else { a / b }
 }
 
-/// The remainder of natural numbers: the dividend where the divisor is zero.
+/// The remainder of unsigned numbers: the dividend if the divisor is zero.
 pub fn unsigned_remainder(a: u32, b: u32) -> u32
     ensures { result ≡ if b == 0 then a else a % b }
 {

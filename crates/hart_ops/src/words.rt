@@ -15,7 +15,7 @@ pub fn sum(a: u32, b: u32) -> u32
     a.wrapping_add(b)
 }
 
-/// An immediate of twelve bits, extended by its sign.
+/// An immediate of twelve bits, sign-extended.
 #[tactic(auto, unfolding(flat_machine::specs::Words::extended))]
 pub fn immediate_word(immediate: Immediate<12>) -> u32
     ensures { result ≡ extended 12 immediate }
@@ -28,7 +28,7 @@ pub fn immediate_word(immediate: Immediate<12>) -> u32
     }
 }
 
-/// A branch's offset in bytes, extended by its sign.
+/// A branch's offset in bytes, sign-extended.
 #[tactic(auto, unfolding(flat_machine::specs::Words::extended))]
 pub fn branch_offset(offset: Immediate<12>) -> u32
     ensures { result ≡ extended 13 (2 * offset) }
@@ -41,7 +41,7 @@ pub fn branch_offset(offset: Immediate<12>) -> u32
     }
 }
 
-/// A jump's offset in bytes, extended by its sign.
+/// A jump's offset in bytes, sign-extended.
 #[tactic(auto, unfolding(flat_machine::specs::Words::extended))]
 pub fn jump_offset(offset: Immediate<20>) -> u32
     ensures { result ≡ extended 21 (2 * offset) }
@@ -54,7 +54,7 @@ pub fn jump_offset(offset: Immediate<20>) -> u32
     }
 }
 
-/// Some bytes of a word, as a number.
+/// The bytes of a word from an offset on, as a number.
 #[tactic(auto, unfolding(flat_machine::specs::Words::part_of))]
 pub fn part(size: Size, offset: u32, word: u32) -> u32
     requires { offset + bytes_of size ≤ 4 }

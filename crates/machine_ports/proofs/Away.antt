@@ -1,4 +1,4 @@
--- Cores that are away take no turn, and turns and writes from outside leave each core where it is.
+-- A core that is away refers to no word. Turns and writes from outside leave each core where it is.
 use Rattle.std.proofs.Common.{◌≡◌, ℕ, ◌%◌, Bool, true, false, cond, eqb, List, length, Result, Ok, Err, refl, ap, subst, length-set}
 use Rattle.std.specs.Prelude.{◌==◌, slice_set, if◌then◌else◌}
 use Rattle.rv_table.specs.declared.insn.Insn.{Insn}
@@ -20,14 +20,14 @@ use Rattle.flat_machine.specs.Turns.{Turn, Retires, Reaches, Stops, accessed, fe
 use Rattle.hart.specs.Deciding.{IsReference}
 use Rattle.machine_ports.specs.Ports.{is_away, no_processor}
 
--- what is read where no core is refers to no word
+-- The stand-in for a core that is away refers to no word.
 pub no_reference : (s : Setting) (code : List ℕ) → IsReference (turn_of s code no_processor) → ⊥
 unfolding fetched
 no_reference s code r = r
 
 -- ---- turns
 
--- What the turn leaves has its core where it was.
+-- The turn leaves the core where it was, at home or away.
 Stays : Processor → Turn → Type 0
 Stays p (Retires after retired) = is_away after ≡ is_away p
 Stays p (Reaches word change after) = (found : ℕ) → is_away (after found).0 ≡ is_away p
@@ -80,12 +80,12 @@ module _ (s : Setting) (code : List ℕ) (p : Processor) where
   stays : (t : Turn) → turn_of s code p ≡ t → Stays p t
   stays t is = subst (Stays p) is (turn_stays s code p (fetched code p.pc))
 
-  -- A turn that retires leaves a core at home that is at home, and away if it is away.
+  -- A turn that retires leaves the core where it was, at home or away.
   pub retires_stays : (after : Processor) (retired : Retired) → turn_of s code p ≡ Retires after retired → is_away after ≡ is_away p
   unfolding Stays
   retires_stays after retired is = stays (Retires after retired) is
 
-  -- A turn that reaches a shared word leaves a core at home or away, as it was, whatever it finds there.
+  -- A turn that reaches a shared word leaves the core where it was, at home or away, for any word found there.
   pub reaches_stays : (word : ℕ) (change : ℕ → ℕ) (after : ℕ → Processor × Retired) (found : ℕ) → turn_of s code p ≡ Reaches word change after →
       is_away (after found).0 ≡ is_away p
   unfolding Stays
@@ -93,7 +93,7 @@ module _ (s : Setting) (code : List ℕ) (p : Processor) where
 
 -- ---- writes from outside
 
--- A poke of a register or pc leaves a core at home that is at home, and away if it is away.
+-- A poke of a register or pc leaves the core where it was, at home or away.
 pub register_stays : (register value : ℕ) (p : Processor) → is_away (with_poked_register register value p) ≡ is_away p
 register_stays register value p = by (eqb register 32)
   where

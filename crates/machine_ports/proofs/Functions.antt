@@ -1,4 +1,4 @@
--- The functions of the table are in range, and mean what the instructions do to the word.
+-- The functions of the table are in range, and mean the instructions' changes of the word.
 use Rattle.std.proofs.Common.{◌≡◌, ℕ, ◌+◌, ◌-◌, ◌*◌, ◌%◌, ◌^◌, ◌<◌, ◌≤◌, refl, arith, pos, negsuc}
 use Rattle.std.specs.Prelude.{◌≤ℤ◌}
 use Rattle.std.specs.Int.{w32, cast_signed}
@@ -34,7 +34,7 @@ store_range size offset v inside =
     let whole : 2 ^ (k + j) ≤ 2 ^ 32 = pow-le-pow_right {n = 2} (omega arith) {i = k + j} {j = 32} (omega arith) in
     (omega arith, omega arith)
 
--- the ends of a signed range that has one end in v
+-- The signed range from the lowest number to v has its ends in order.
 least_first : (v : ℕ) → v < 2 ^ 32 → negsuc (2 ^ 31 - 1) ≤ℤ cast_signed w32 v
 least_first v h = grind (arith, ints)
 
@@ -54,7 +54,7 @@ amo_range amo.Max v h = record { lo_fits = read_sfits w32 v; hi_fits = record { 
 amo_range amo.Minu v h = record { ordered = omega arith; hi_fits = h }
 amo_range amo.Maxu v h = record { ordered = omega arith; hi_fits = omega arith }
 
--- The function of an atomic operation means what the operation makes of a word.
+-- The function of an atomic operation means the operation.
 pub amo_means : (op : AmoOp) (v x : ℕ) → v < 2 ^ 32 → x < 2 ^ 32 → apply (amo_phi op v) x ≡ amo_value op x v
 unfolding amo_phi
 amo_means amo.Add v x small h = add_meaning v x

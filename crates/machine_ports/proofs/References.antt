@@ -1,4 +1,4 @@
--- A reference's function means what the turn makes of the word.
+-- A reference's function means the turn's change of the word.
 use Rattle.std.proofs.Common.{◌≡◌, ℕ, ◌*◌, ◌%◌, ◌^◌, ◌<◌, Bool, true, false, cond, eqb, List, Result, Ok, Err, refl, sym, ◌∙◌, subst}
 use Rattle.rv_table.specs.declared.insn.Insn.{Insn}
 use Rattle.rv_table.specs.declared.insn.Insn.TheVariants.{Op, OpImm, Shift, Load, Store, Branch, Upper, Jal, Jalr, Fence, Ecall, Ebreak, Amo}
@@ -27,7 +27,7 @@ use Rattle.flat_machine.proofs.Lemmas.{register_small, shared_region, store_insi
 use Rattle.machine_ports.specs.Ports.{phi_of_effect, phi_of_insn, reference_phi}
 use Rattle.machine_ports.proofs.Functions.{amo_means, amo_range, load_means, load_range, store_range}
 
--- If the turn is a reference, the function is in range and means the change, and the word is there.
+-- If the turn is a reference, the function is in range and means the change, and the machine has the word.
 Means : Setting → Phi → Turn → Type 0
 Means s phi (Retires after retired) = Unit {0}
 Means s phi (Reaches word change after) = IsInRange phi × ((x : ℕ) → x < 2 ^ 32 → apply phi x ≡ change x) × (word < s.shared_words)
@@ -35,7 +35,7 @@ Means s phi (Stops cause) = Unit {0}
 
 -- ---- effects
 
--- an instruction stores a word, if it stores
+-- If the instruction stores a value, the value is a word.
 StoresWord : Effect → Type 0
 StoresWord (does.Store op address value) = value < 2 ^ 32
 StoresWord (does.Amo op rd address value) = value < 2 ^ 32
@@ -81,7 +81,7 @@ effect_stores s pc registers (Amo op rd rs1 rs2 aq rl) all = register_small regi
 
 module _ (s : Setting) (code : List ℕ) (p : Processor) (i : Insn) where
   module _ (size address rd : ℕ) (value change : ℕ → ℕ) (writes : Bool) (phi : Phi) where
-    -- what an access makes of a shared word
+    -- the shared word after an access
     new_word : ℕ → ℕ
     new_word x = cond writes (with_part size (address % 4) x (change (part_of size (address % 4) x))) x
 
@@ -129,8 +129,8 @@ unfolding Means
 turn_means s code p (Ok i) h = performed_means s code p i (effect_of s p.pc p.registers i) (effect_stores s p.pc p.registers i h.registers)
 turn_means s code p (Err fault) h = tt
 
--- If a processor's next turn refers to a word, the function of the reference is in range and means what becomes
--- of the word, and the word is one that there is.
+-- If a processor's next turn refers to a word, the function of the reference is in range and means the turn's change of
+-- the word, and the machine has that word.
 pub reference_means : (s : Setting) (code : List ℕ) (p : Processor) (word : ℕ) (change : ℕ → ℕ) (after : ℕ → Processor × Retired) →
     HasWords p → turn_of s code p ≡ Reaches word change after →
     IsInRange (reference_phi s code p) × ((x : ℕ) → x < 2 ^ 32 → apply (reference_phi s code p) x ≡ change x) × (word < s.shared_words)
@@ -145,10 +145,10 @@ module _ (s : Setting) (code : List ℕ) (p : Processor) (word : ℕ) (change : 
   pub reference_in_range : IsInRange (reference_phi s code p)
   reference_in_range = (reference_means s code p word change after h reaches).0
 
-  -- The function of the reference means what becomes of the word.
+  -- The function of the reference means the turn's change of the word.
   pub reference_means_change : (x : ℕ) → x < 2 ^ 32 → apply (reference_phi s code p) x ≡ change x
   reference_means_change = (reference_means s code p word change after h reaches).1
 
-  -- The word of the reference is one that there is.
+  -- The machine has the word of the reference.
   pub reference_is_there : word < s.shared_words
   reference_is_there = (reference_means s code p word change after h reaches).2

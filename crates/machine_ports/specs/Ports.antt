@@ -19,15 +19,15 @@ use Rattle.machine_ports.specs.declared.begun.Begun.TheVariants.{Retired, Referr
 
 -- ---- cores that are away
 
--- what is read where no core is: a processor that never runs
+-- the stand-in for a core that is away: a processor that never runs
 abbrev pub no_processor : Processor
 no_processor = record { pc = 0; registers = []; local = []; status = Halted 0 }
 
--- whether a core is away: where one is at home, its processor has registers
+-- whether a core is away: the processor of a core at home has registers
 abbrev pub is_away : Processor → Bool
 is_away p = length p.registers == 0
 
--- what is seen of a core at its port, or where it is away
+-- the core that a port shows, with the stand-in for one that is away
 abbrev pub seen_core : Setting → Option CoreState → CoreState
 seen_core setting (Some core) = core
 seen_core setting None = record { setting = setting; state = no_processor }
@@ -35,20 +35,19 @@ seen_core setting None = record { setting = setting; state = no_processor }
 -- ---- ports
 
 pub record PortState : Type 0 where
-  -- that of a processor that never runs, where it is away
+  -- the core, with the stand-in if it is away
   pub core : CoreState
-  -- it has sent a request, and its instruction has not retired
+  -- whether a request was sent whose instruction has not retired
   pub is_open : Bool
 
 abbrev pub with_state : PortState → Processor → PortState
 with_state p state = record p { core = record p.core { state = state } }
 
--- the next turn of the processor, as the flat machine says
+-- the next turn of the processor, as the flat machine defines it
 abbrev pub turn : PortState → (code : List ℕ) → Turn
 turn p code = turn_of p.core.setting code p.core.state
 
--- The function of a reference, by the table of instructions and functions. What refers to no word has none; the
--- identity stands for it.
+-- the function of an effect that refers to a word; other effects refer to none, and get the identity
 abbrev pub phi_of_effect : Effect → Phi
 phi_of_effect (does.Load op rd address) = load_phi
 phi_of_effect (does.Store op address value) = store_phi (store_size op) (address % 4) value
@@ -63,8 +62,8 @@ phi_of_insn s p (Err fault) = Add 0
 unfoldable pub reference_phi : Setting → (code : List ℕ) → Processor → Phi
 reference_phi s code p = phi_of_insn s p (fetched code p.pc)
 
--- What the turn of a port does that is not open, and the port after it: an instruction is done or stops the processor,
--- or a reference opens the port.
+-- what a port without an open reference does in a turn, and the port after it: an instruction retires or stops the
+-- processor, or a reference opens the port
 abbrev pub begun : PortState → (code : List ℕ) → Turn → Begun × PortState
 begun p code (Retires after retired) = (Retired retired, with_state p after)
 begun p code (Reaches word change after) =

@@ -3,18 +3,18 @@
 use flat_machine::{Cause, Retired};
 use phi_algebra::Phi;
 
-/// What the turn of a port does whose reference is not open.
+/// What a port without an open reference does in a turn.
 #[derive(Clone, Copy, Debug, PartialEq, Eq, Drop)]
 pub enum Begun {
-    /// The instruction is done.
+    /// The instruction retired.
     Retired(Retired),
-    /// The instruction refers to a shared word, and the port is open now.
+    /// The instruction refers to a shared word, and the port is now open.
     Referred {
         /// The word's number, from 0, below the number of shared words.
         word: u32,
-        /// What becomes of the word.
+        /// The function that changes the word.
         phi: Phi,
     },
-    /// The processor has stopped.
+    /// The processor stopped.
     Stopped(Cause),
 }

@@ -9,8 +9,8 @@ ghost use Rattle.flat_machine.specs.State.{Processor};
 ghost use Rattle.flat_machine.specs.Turns.{Reaches, turn_of};
 ghost use Rattle.machine_ports.specs.Ports.{reference_phi};
 
-/// The function of a reference is in range and means what the turn makes of the word, and the word
-/// is one that there is.
+/// The function of a reference is in range and means the turn's change of the word, and the machine
+/// has that word.
 pub fn references_mean_their_changes()
     ensures in_range { (s : Setting) (code : List ℕ) (p : Processor) (word : ℕ) (change : ℕ → ℕ) (after : ℕ →
         Processor × Retired) → HasWords p →

@@ -1,13 +1,12 @@
-//! The ports of a machine: each has one processor's core, and knows whether a reference of it is
-//! open.
+//! The ports of a machine. A port has one processor's core, and knows whether the processor has an open reference.
 //!
-//! A port whose reference is not open begins a turn: its instruction is done at once, or stops the
-//! processor, or refers to a shared word. Then the port is open, until it finishes the turn with the
-//! word that the reference found. Between the two nothing of the processor changes.
+//! A port without an open reference begins a turn: an instruction retires or stops the processor, or it refers to a
+//! shared word. A reference opens the port, until the port finishes the turn with the word that the reference found. In
+//! between nothing of the processor changes.
 //!
-//! What a turn does is the flat machine's definition (`flat_machine`, `specs/Turns.antt`), and the
-//! function of a reference means what the turn makes of the word: a law, the contract of a function
-//! that does nothing. None of these calls takes memory, but that which makes a port.
+//! The flat machine defines what a turn does (`flat_machine`, `specs/Turns.antt`). A law, the contract of a function
+//! that does nothing, says that the function of a reference means the turn's change of the word. Only the call that
+//! makes a port allocates memory.
 #![tactic(auto)]
 
 mod begun;

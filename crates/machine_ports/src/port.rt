@@ -22,7 +22,7 @@ use std::marker::Model;
 /// A processor's port, seen as a `PortState`. Its core may be away.
 #[derive(Drop)]
 pub struct Port {
-    /// What the core knows of its machine, wherever it is.
+    /// What the core knows of its machine, whether it is here or away.
     setting: Setting,
     core: Option<Core>,
     is_open: bool,
@@ -40,12 +40,12 @@ impl Model for Port {
 }
 
 impl Port {
-    /// The port of a processor that runs from `pc`, with every register 0. Its local memory begins
-    /// with the bytes given, and is zero after them. No reference is open.
+    /// The port of a processor that starts at `pc` with all registers 0. Its local memory begins with the given bytes
+    /// and is zero after them. No reference is open.
     ///
     /// # Errors
     ///
-    /// [`AllocError`] where there is no memory for its local memory.
+    /// [`AllocError`] if there is no memory for the local memory.
     pub fn new(alloc: Global, setting: Setting, pc: u32, local: &[u8]) -> Result<Self, AllocError>
         requires words { setting.shared_words ≤ 262144 }
         requires aligned { pc % 4 ≡ 0 }
@@ -59,14 +59,14 @@ impl Port {
         })
     }
 
-    /// Whether a reference is open: a request was sent, and its instruction has not retired.
+    /// Whether a reference is open: its request was sent, and its instruction has not retired.
     pub fn is_open(&self) -> bool
         ensures { result ≡ self.now.is_open }
     {
         self.is_open
     }
 
-    /// Whether the processor runs, and its core is here.
+    /// Whether the processor runs and its core is here.
     pub fn is_running(&self) -> bool
         ensures { result ≡ is_running self.now.core.state.status }
     {
@@ -89,7 +89,7 @@ impl Port {
         }
     }
 
-    /// The processor's core. None where it is away.
+    /// The processor's core, or `None` if it is away.
     pub fn core(&self) -> Option<&Core>
         ensures { option_copied result ≡ (if is_away self.now.core.state then None else Some self.now.core) }
     {
@@ -102,7 +102,7 @@ impl Port {
         }
     }
 
-    /// Takes the core out. None where it is away.
+    /// Takes the core out. Returns `None` if it is away.
     pub fn take_core(&mut self) -> Option<Core>
         ensures core { result ≡ (if is_away self.old.core.state then None else Some self.old.core) }
         ensures away { self.new ≡ with_state self.old no_processor }
@@ -120,9 +120,8 @@ impl Port {
         self.core = Some(core);
     }
 
-    /// Begins a turn: the instruction is done, or stops the processor, or refers to a shared word,
-    /// and then the port is open.
-    // What it answers is large, and is written only where the caller reads it.
+    /// Begins a turn: an instruction retires or stops the processor, or it refers to a shared word and opens the port.
+    // The result is large. Inlined, it is written only where the caller reads it.
     #[inline(always)]
     #[tactic(auto, unfolding(crate::specs::Ports::reference_phi))]
     pub fn begin(&mut self, code: &Code) -> Begun
@@ -160,8 +159,8 @@ impl Port {
         core.retire(code, found)
     }
 
-    /// Writes register 1 to 31, or `pc` as 32, of a core that is here, from outside. Answers whether
-    /// that is lawful; else nothing changes. A `pc` is divisible by 4.
+    /// Writes register 1 to 31, or `pc` as register 32, of a core that is here, from outside. Returns whether that is
+    /// lawful: `pc` gets only a value divisible by 4. If it is not, nothing changes.
     pub fn poke_register(&mut self, register: u8, value: u32) -> bool
         requires home { is_away self.old.core.state ≡ false }
         ensures lawful { result ≡ is_lawful_register register value }
@@ -181,8 +180,8 @@ impl Port {
         true
     }
 
-    /// Writes a byte of the local memory of a core that is here, from outside. Answers whether the
-    /// address is one of local memory; else nothing changes.
+    /// Writes a byte of the local memory of a core that is here, from outside. Returns whether the address is in local
+    /// memory. If it is not, nothing changes.
     pub fn poke_byte(&mut self, address: u32, value: u8) -> bool
         requires home { is_away self.old.core.state ≡ false }
         ensures lawful { result ≡ in_local address }
@@ -201,7 +200,7 @@ impl Port {
     }
 }
 
-/// The processor stops.
+/// Stops the processor.
 fn stop(core: &mut Core, cause: Cause) -> Begun
     ensures begun { result ≡ begins.Stopped cause }
     ensures after { core.new ≡ record core.old { state = record core.old.state { status = status_of cause } } }

@@ -50,7 +50,7 @@ associative f g h fg gh left right p q r first then_h later f_then x small =
 
 -- ---- an identity
 
--- it composes with every function after it
+-- An identity composes with every function after it.
 identity_first : (i f : Phi) → is_identity i ≡ true → (h : Phi) × (composed i f ≡ Some h)
 unfolding composed
 identity_first (Add e) (Add e') t = (_, refl)
@@ -59,7 +59,7 @@ identity_first (Clamp r) (Clamp s) t = (_, refl)
 identity_first (ClampU r) (ClampU s) t = (_, refl)
 identity_first i f t = (f, rw t refl)
 
--- and with every function before it
+-- By the rule for two kinds, every function composes with an identity after it.
 across_second : (f i : Phi) (a c k : Bool) → is_identity i ≡ true →
     (h : Phi) × ((if a || c then Some i else if is_identity i then Some f else if k then Some (Bits 0 (apply i (apply f 0))) else None) ≡ Some h)
 across_second f i true c k t = (i, refl)

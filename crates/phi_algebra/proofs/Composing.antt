@@ -1,4 +1,4 @@
--- The composition is one, and there is none only where the functions are apart.
+-- What a composition means, and the functions that do not compose.
 use Rattle.std.proofs.Common.{◌≡◌, ℕ, ◌+◌, ◌%◌, ◌^◌, ◌<◌, ◌≤◌, ◌≢◌, ◌↔◌, Bool, true, false, ◌||◌, refl, sym, ap, ◌∙◌}
 use Rattle.std.proofs.Common.{arith, min, max, ℤ, ◌≤ℤ◌, Option, Some, None, IsNone, IfSome, FitsSigned, if◌then◌else◌}
 use Rattle.std.specs.Int.{w32, cast_signed, cast_unsigned, bit_at}
@@ -17,7 +17,7 @@ use Rattle.phi_algebra.proofs.Special.{identity_there, identity_by, constant_the
 
 -- ---- one kind
 
--- a mask takes each side of an exclusive or
+-- A mask distributes over an exclusive or.
 and_xor : (a b m : ℕ) → bit_and (bit_xor a b) m ≡ bit_xor (bit_and a m) (bit_and b m)
 and_xor a b m =
     same_from_bits _ _ (λ i.
@@ -56,15 +56,15 @@ clamps_compose_unsigned r s x p q =
     let right : clamped_unsigned s (clamped_unsigned r x) ≡ max s.lo (min (clamped_unsigned r x) s.hi) = as_max s (clamped_unsigned r x) q in
     omega arith
 
--- Bringing numbers into a signed range keeps their order.
+-- Clamping to a signed range keeps the order of numbers.
 pub clamped_order : (s : SignedEnds) (a b : ℤ) → IsSignedRange s → a ≤ℤ b → clamped_signed s a ≤ℤ clamped_signed s b
 clamped_order s a b q h = grind (arith, ints, q.ordered)
 
--- Bringing numbers into an unsigned range keeps their order.
+-- Clamping to an unsigned range keeps the order of numbers.
 pub clamped_order_unsigned : (s : UnsignedEnds) (a b : ℕ) → IsUnsignedRange s → a ≤ b → clamped_unsigned s a ≤ clamped_unsigned s b
 clamped_order_unsigned s a b q h = grind arith
 
--- A number that fits in a signed word still fits after it is brought into a signed range.
+-- A number that fits in a signed word still fits after it is clamped to a signed range.
 pub clamped_fits : (r : SignedEnds) (z : ℤ) → IsSignedRange r → FitsSigned w32 z → FitsSigned w32 (clamped_signed r z)
 clamped_fits r z p h = grind (arith, p.lo_fits, p.hi_fits)
 
@@ -73,7 +73,7 @@ word_fits x h = sfits_to_z (Fits-of_lt h)
 
 -- ---- two kinds
 
--- the value at a word is a word
+-- The value of a function in range at a word is a word.
 pub value_small : (f : Phi) (x : ℕ) → IsInRange f → x < 2 ^ 32 → apply f x < 2 ^ 32
 unfolding apply
 value_small (Add e) x w h = omega arith
@@ -103,7 +103,7 @@ composed_meaning (Clamp r) (Clamp s) p q = λ x small.
 composed_meaning (ClampU r) (ClampU s) p q = λ x small. clamps_compose_unsigned r s x p.ordered q.ordered
 composed_meaning f g p q = across_meaning f g p
 
--- ---- none
+-- ---- pairs without a composition
 
 none_by : (f g : Phi) (i c j k : Bool) → kind_of f ≢ kind_of g → (i ≡ true ↔ IsIdentity f) → (c ≡ true ↔ IsConstant g) → (j ≡ true ↔ IsIdentity g) →
     (k ≡ true ↔ IsConstant f) →

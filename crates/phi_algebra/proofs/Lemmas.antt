@@ -1,6 +1,6 @@
--- The lemmas that crates above may cite: they name no other file of these proofs.
+-- The only proofs that crates above may cite.
 
 -- Laws of composition.
 pub use Rattle.phi_algebra.proofs.Composed.{meaning_of, range_of}
--- The composition is one, and there is none only where the functions are apart.
+-- What a composition means, and the functions that do not compose.
 pub use Rattle.phi_algebra.proofs.Composing.{value_small}

@@ -1,4 +1,4 @@
--- Masks of ones keep each word, and masks of zeros give the word that is turned on.
+-- A mask of ones keeps each word; after a mask of zeros only the exclusive or is left.
 use Rattle.std.proofs.Common.{◌≡◌, ℕ, ◌-◌, ◌^◌, ◌<◌, ap, ◌∙◌}
 use Rattle.std.specs.Int.Bits.{bit_and, bit_xor}
 use Rattle.std.proofs.lemmas.Nat.{and_mask, and_comm, xor_comm}

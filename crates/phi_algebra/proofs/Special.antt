@@ -18,7 +18,7 @@ both true true h = (refl, refl)
 both true false h = (refl, h)
 both false b h = (h, absurd (cc))
 
--- the lowest and the highest word go to the ends of a range
+-- Clamping takes the lowest and the highest word to the ends of the range.
 pub clamped_lowest : (r : SignedEnds) → IsSignedRange r → clamped_signed r (negsuc (2 ^ 31 - 1)) ≡ r.lo
 clamped_lowest r w = grind (arith, ints, w.lo_fits, w.hi_fits, w.ordered)
 
@@ -31,11 +31,11 @@ clamped_least r w = grind arith
 pub clamped_greatest : (r : UnsignedEnds) → IsUnsignedRange r → clamped_unsigned r (2 ^ 32 - 1) ≡ r.hi
 clamped_greatest r w = grind arith
 
--- the full range keeps each word
+-- Clamping to the full range keeps each word.
 full_keeps : (r : SignedEnds) (z : ℤ) → r.lo ≡ negsuc (2 ^ 31 - 1) → r.hi ≡ pos (2 ^ 31 - 1) → FitsSigned w32 z → clamped_signed r z ≡ z
 full_keeps r z low high fits = rw (low, high) (grind (arith, ints, fits))
 
--- words at the ends
+-- The clamp function takes the lowest and the highest word to the ends of its range.
 at_lowest : (r : SignedEnds) → IsSignedRange r → apply (Clamp r) (2 ^ 31) ≡ cast_unsigned w32 r.lo
 unfolding apply
 at_lowest r w = ap (cast_unsigned w32) (clamped_lowest r w)
@@ -82,11 +82,11 @@ identity_back (ClampU r) w h =
     let b : r.hi ≡ 2 ^ 32 - 1 = sym (clamped_greatest r w) ∙ h (2 ^ 32 - 1) (omega arith) in
     rw (a, b) refl
 
--- a test that says what the cases of identities say
+-- A Boolean that is the test for an identity is true exactly for identities.
 pub identity_by : (f : Phi) (b : Bool) → IsInRange f → b ≡ is_identity f → (IsTrue b ↔ IsIdentity f)
 identity_by f b w e = (λ t. identity_there f (sym e ∙ t), λ h. e ∙ identity_back f w h)
 
--- the value of a constant function: its value at 0
+-- A function that passes the test for a constant function has everywhere its value at 0.
 pub constant_there : (f : Phi) → is_constant f ≡ true → HasValue f (apply f 0)
 unfolding apply
 constant_there (Add e) h x small = absurd (cc)
@@ -99,7 +99,7 @@ constant_there (Clamp r) h x small =
     ap (cast_unsigned w32) same
 constant_there (ClampU r) h x small = grind (arith, nat_tests)
 
--- no sum has one value
+-- No sum is a constant function.
 pub sum_varies : (e : ℕ) → IsConstant (Add e) → ⊥
 unfolding apply
 sum_varies e (y, h) =
@@ -134,6 +134,6 @@ constant_back (Bits and xor) w h = (Decides-eqb and 0).1 (bits_clear and xor w.0
 constant_back (Clamp r) w h = (Decides-int_eq r.lo r.hi).1 (ends_meet r w h)
 constant_back (ClampU r) w h = (Decides-eqb r.lo r.hi).1 (ends_meet_unsigned r w h)
 
--- a test that says what the cases of constant functions say
+-- A Boolean that is the test for a constant function is true exactly for constant functions.
 pub constant_by : (f : Phi) (b : Bool) → (IsConstant f → is_constant f ≡ true) → b ≡ is_constant f → (IsTrue b ↔ IsConstant f)
 constant_by f b back e = (λ t. (apply f 0, constant_there f (sym e ∙ t)), λ h. e ∙ back h)

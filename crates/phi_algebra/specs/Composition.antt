@@ -18,15 +18,16 @@ kind_of (Bits and xor) = Mask
 kind_of (Clamp r) = Signed
 kind_of (ClampU r) = Unsigned
 
--- A range whose ends are brought into a second one.
+-- a range with both ends clamped to a second one
 abbrev pub brought_signed : (first second : SignedEnds) → SignedEnds
 brought_signed first second = record { lo = clamped_signed second first.lo; hi = clamped_signed second first.hi }
 
 abbrev pub brought_unsigned : (first second : UnsignedEnds) → UnsignedEnds
 brought_unsigned first second = record { lo = clamped_unsigned second first.lo; hi = clamped_unsigned second first.hi }
 
--- Of two kinds: an identity leaves the other, and a constant function gives a constant one on either side. Other pairs
--- are not composed, also where a Phi would mean their composition, as of Add(1) and then Bits { 2^32 - 1, 2^31 }.
+-- The composition of two functions of different kinds: an identity gives the other function, and a constant function a
+-- constant one. Other pairs do not compose, even if a Phi would mean their composition, as for Add(1) followed by Bits
+-- { 2^32 - 1, 2^31 }.
 abbrev pub composed_across : (first second : Phi) → Option Phi
 composed_across f g =
     if is_identity f || is_constant g then Some g else
@@ -34,7 +35,8 @@ composed_across f g =
     if is_constant f then Some (Bits 0 (apply g (apply f 0))) else
     None
 
--- Of one kind: that kind, although another may mean the same function, as Add(2^31) and Bits { 2^32 - 1, 2^31 } do.
+-- The composition of two functions: of one kind, a function of that kind, although one of another kind may mean the
+-- same, as Add(2^31) and Bits { 2^32 - 1, 2^31 } do.
 unfoldable pub composed : (first second : Phi) → Option Phi
 composed (Add e) (Add e') = Some (Add ((e + e') % 2 ^ 32))
 composed (Bits and xor) (Bits and' xor') = Some (Bits (bit_and and and') (bit_xor (bit_and xor and') xor'))
@@ -42,7 +44,7 @@ composed (Clamp r) (Clamp r') = Some (Clamp (brought_signed r r'))
 composed (ClampU r) (ClampU r') = Some (ClampU (brought_unsigned r r'))
 composed f g = composed_across f g
 
--- The third function is the first and then the second.
+-- The third function is the first followed by the second.
 abbrev pub IsComposition : (first second third : Phi) → Type 0
 IsComposition f g h = (x : ℕ) → x < 2 ^ 32 → apply h x ≡ apply g (apply f x)
 

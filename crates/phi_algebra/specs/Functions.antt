@@ -1,4 +1,4 @@
--- The function on 32-bit words that a Phi means. Words stand as numbers below 2^32.
+-- The function on 32-bit words that a Phi means. Words are numbers below 2^32.
 use Rattle.std.specs.Prelude.{◌≡◌, ℕ, ◌+◌, ◌-◌, ◌%◌, ◌^◌, ◌<◌, Bool, false, ◌==◌, ◌&&◌, bit_and, bit_xor}
 use Rattle.std.specs.Int.{w32, cast_signed, cast_unsigned}
 use Rattle.phi_algebra.specs.declared.phi.Phi.{Phi}
@@ -12,33 +12,33 @@ apply (Bits and xor) x = bit_xor (bit_and x and) xor
 apply (Clamp r) x = cast_unsigned w32 (clamped_signed r (cast_signed w32 x))
 apply (ClampU r) x = clamped_unsigned r x
 
--- What the type keeps: words are below 2^32, and ranges have their ends in order.
+-- The invariant of the type: words are below 2^32, and the ends of a range are in order.
 abbrev pub IsInRange : Phi → Type 0
 IsInRange (Add e) = e < 2 ^ 32
 IsInRange (Bits and xor) = (and < 2 ^ 32) × (xor < 2 ^ 32)
 IsInRange (Clamp r) = IsSignedRange r
 IsInRange (ClampU r) = IsUnsignedRange r
 
--- the function gives each word back
+-- The function gives each word back.
 abbrev pub IsIdentity : Phi → Type 0
 IsIdentity f = (x : ℕ) → x < 2 ^ 32 → apply f x ≡ x
 
--- the function has this value on every word
+-- The function has this value at every word.
 abbrev pub HasValue : Phi → ℕ → Type 0
 HasValue f y = (x : ℕ) → x < 2 ^ 32 → apply f x ≡ y
 
--- the function has one value on all words
+-- The function has one value at all words.
 abbrev pub IsConstant : Phi → Type 0
 IsConstant f = (y : ℕ) × HasValue f y
 
--- the identities of each kind
+-- whether a function is an identity, by its kind
 abbrev pub is_identity : Phi → Bool
 is_identity (Add e) = e == 0
 is_identity (Bits and xor) = (and == 2 ^ 32 - 1) && (xor == 0)
 is_identity (Clamp r) = is_full_signed r
 is_identity (ClampU r) = is_full_unsigned r
 
--- the constant functions of each kind: no sum is one
+-- whether a function is constant, by its kind; no sum is
 abbrev pub is_constant : Phi → Bool
 is_constant (Add e) = false
 is_constant (Bits and xor) = and == 0

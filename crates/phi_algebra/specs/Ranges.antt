@@ -36,7 +36,7 @@ is_full_signed r = int_eq r.lo (negsuc (2 ^ 31 - 1)) && int_eq r.hi (pos (2 ^ 31
 abbrev pub is_full_unsigned : UnsignedEnds → Bool
 is_full_unsigned r = (r.lo == 0) && (r.hi == 2 ^ 32 - 1)
 
--- whether only one word is
+-- whether only one word is in the range
 abbrev pub is_single_signed : SignedEnds → Bool
 is_single_signed r = int_eq r.lo r.hi
 

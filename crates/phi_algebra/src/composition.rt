@@ -8,16 +8,16 @@ use crate::phi::Phi;
 
 /// The function that does `first` and then `second`.
 ///
-/// Two functions of one kind give one of that kind. Of two kinds an identity gives the other
-/// function, and a constant function a constant one. All other pairs give `None`, also where some
-/// `Phi` would mean their composition.
+/// Two functions of one kind compose to one of that kind. Across kinds, an identity gives the other
+/// function, and a constant function gives a constant one. All other pairs give `None`, even if
+/// some `Phi` would mean their composition.
 #[tactic(auto, unfolding(crate::specs::Composition::composed))]
 pub fn compose(first: &Phi, second: &Phi) -> Option<Phi>
     ensures exact { result ≡ composed first.now second.now }
     ensures meaning { IfSome result (IsComposition first.now second.now) }
     ensures none { IsNone result ↔ AreApart first.now second.now }
 {
-    // The meaning rests on this: the composition is of words in range.
+    // The proof of the meaning needs both functions in range.
     keeps_its_range(first);
     keeps_its_range(second);
     match (first, second) {

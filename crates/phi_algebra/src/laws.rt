@@ -6,8 +6,8 @@ ghost use Rattle.phi_algebra.specs.Laws.{CompositionIsAssociative, IdentityIsNeu
 
 use crate::phi::Phi;
 
-/// What the type keeps of every function: its words are below 2^32, and the ends of its range are
-/// in order. So its value at a word is a word.
+/// The invariant of a function: its words are below 2^32, and the ends of its range are in order.
+/// So its value at a word is a word.
 #[tactic(auto, using(crate::proofs::Composing::value_small))]
 pub fn keeps_its_range(phi: &Phi)
     ensures fields { IsInRange phi.now }
@@ -25,17 +25,17 @@ pub fn keeps_its_range(phi: &Phi)
     }
 }
 
-/// It is the same function whichever two of three are composed first.
+/// Composition is associative: both ways to compose three functions, if possible, mean the same.
 pub fn composition_is_associative()
     ensures { CompositionIsAssociative }
 {}
 
-/// An identity composes with every function on either side, and changes nothing.
+/// An identity composes with every function, on either side, and changes nothing.
 pub fn identity_is_neutral()
     ensures { IdentityIsNeutral }
 {}
 
-/// Two functions of one kind compose, to that kind.
+/// Two functions of one kind compose to one of that kind.
 pub fn one_kind_composes()
     ensures { OneKindComposes }
 {}

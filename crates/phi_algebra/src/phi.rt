@@ -12,7 +12,7 @@ use crate::range::{SignedRange, UnsignedRange};
 pub enum Phi {
     /// The sum with this word, modulo 2^32.
     Add(u32),
-    /// The word and `and`, exclusive or `xor`: each bit is kept, turned, cleared or set.
+    /// The word and `and`, exclusive or `xor`: each bit is kept, inverted, cleared or set.
     Bits { and: u32, xor: u32 },
     /// The nearest word in the range, in two's complement.
     Clamp(SignedRange),
@@ -21,7 +21,7 @@ pub enum Phi {
 }
 
 impl Phi {
-    /// The function that gives each word back.
+    /// The function that leaves each word as it is.
     #[tactic(auto, unfolding(crate::specs::Functions::apply))]
     pub fn identity() -> Phi
         ensures kind { result ≡ Add 0 }
@@ -30,7 +30,7 @@ impl Phi {
         Phi::Add(0)
     }
 
-    /// The function that gives `value` for any word.
+    /// The function whose value is `value` at every word.
     #[tactic(auto, using(crate::proofs::Masks::constant_meaning))]
     pub fn constant(value: u32) -> Phi
         ensures kind { result ≡ Bits 0 value }
@@ -52,7 +52,7 @@ impl Phi {
         }
     }
 
-    /// Whether the function gives each word back, whatever its kind.
+    /// Whether the function leaves each word as it is, of any kind.
     pub fn is_identity(&self) -> bool
         ensures by_kind { result ≡ is_identity self.now }
         ensures exact { IsTrue result ↔ IsIdentity self.now }
@@ -65,7 +65,7 @@ impl Phi {
         }
     }
 
-    /// Whether the function has one value on all words, whatever its kind.
+    /// Whether the function has one value at all words, of any kind.
     pub fn is_constant(&self) -> bool
         ensures by_kind { result ≡ is_constant self.now }
         ensures exact { IsTrue result ↔ IsConstant self.now }

@@ -51,15 +51,15 @@ impl UnsignedRange {
         self.hi
     }
 
-    /// The number in the range that is nearest to another.
+    /// The number in the range that is nearest to `number`.
     pub(crate) fn clamp(self, number: u32) -> u32
         ensures { result ≡ clamped_unsigned self number }
     {
         number.clamp(self.lo, self.hi)
     }
 
-    /// The range with its ends brought into another: what is left of it where only words of the
-    /// other are left.
+    /// The range with both ends clamped to `other`. To clamp to it is to clamp to this range and
+    /// then to `other`.
     pub(crate) fn brought_into(self, other: UnsignedRange) -> UnsignedRange
         ensures { result ≡ brought_unsigned self other }
     {
