@@ -1,4 +1,4 @@
--- What is accepted is not refused.
+-- Accepted input is not refused.
 use Rattle.std.proofs.Common.{◌≡◌, ◌↔◌, ℕ, suc, ◌+◌, ◌-◌, ◌*◌, ◌/◌, ◌<◌, ◌≤◌, max, min, Bool}
 use Rattle.std.proofs.Common.{true, false, not, cond, ◌&&◌, ◌||◌, List, [], ◌∷◌, map, length}
 use Rattle.std.proofs.Common.{Option, None, Some, refl, ap, inl, inr, arith, nat_lt, nat_le}
@@ -48,7 +48,7 @@ no_overlap (p ∷ ps) h =
     rw (any_false (overlap p) ps (λ k q at. h 0 (suc k) p q (omega arith) refl at))
     (no_overlap ps (λ j k q r less at_j at_k. h (suc j) (suc k) q r (omega arith) at_j at_k))
 
--- two segments that overlap set an address both
+-- Two segments that set no common address do not overlap.
 pub common : (p q : ProgramHeader) → ((a : ℕ) → Sets p a → Sets q a → ⊥) → overlap p q ≡ false
 common p q none =
     elim (cases_lt (max p.p_vaddr q.p_vaddr) (min (p.p_vaddr + p.p_memsz) (q.p_vaddr + q.p_memsz))) [
@@ -56,7 +56,7 @@ common p q none =
       | inr more ↦ grind (arith, nat_tests, more)
     ]
 
--- an address in a region is between its ends
+-- An address in a region is between its ends.
 between : (w : ℕ) (region : Region) (a : ℕ) → in_region w region a ≡ true → (region_start region ≤ a) × (a < region_start region + region_length w region)
 between w Code a e = let q : a / 65536 ≡ 1 = grind (arith, nat_tests, e) in (omega arith, omega arith)
 between w Local a e = let q : a / 65536 ≡ 2 = grind (arith, nat_tests, e) in (omega arith, omega arith)
@@ -122,7 +122,7 @@ headers_fine file long executable supported listed =
 five_none : (a b c d e : Option ImageError) → a ≡ None → b ≡ None → c ≡ None → d ≡ None → e ≡ None → first_of (a ∷ b ∷ c ∷ d ∷ e ∷ []) ≡ None
 five_none a b c d e p q r s t = rw (p, q, r, s, t) refl
 
--- a file that no check refuses
+-- A file that no check refuses is not refused.
 pub unrefused : (w : ℕ) (file : List ℕ) → length file ≤ 1048576 → header_refusal file ≡ None →
     first_of (segment_refusals (length file) w (segments file)) ≡ None →
     have_overlap (segments file) ≡ false → is_entry (file_header file).e_entry ≡ true → refusal_of w file ≡ None

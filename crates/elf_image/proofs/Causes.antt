@@ -1,4 +1,4 @@
--- Refusals of the input, and their place in the order.
+-- The refusals of the input, in their order.
 use Rattle.std.proofs.Common.{◌≡◌, ℕ, ◌+◌, ◌*◌, ◌&&◌, ◌≤◌, Bool, true, false, not, cond, List, []}
 use Rattle.std.proofs.Common.{◌∷◌, length, Option, None, Some, refl, subst, ap, arith, nat_lt}
 use Rattle.std.proofs.lemmas.Bool.Decides.{nat_tests}
@@ -13,7 +13,7 @@ use Rattle.elf_image.specs.Refusals.{is_executable, is_supported, header_refusal
 use Rattle.elf_image.specs.Refusals.{segment_refusals, have_overlap, is_entry, first_of, refusal_of}
 use Rattle.elf_image.specs.Images.{IsCause}
 
--- an error that says of what the input holds
+-- whether an error says something about the input
 abbrev pub is_of_input : ImageError → Bool
 is_of_input Truncated = true
 is_of_input NotExecutable = true
@@ -53,7 +53,7 @@ of_segments : (bytes w : ℕ) (ps : List ProgramHeader) → OfInput (first_of (s
 of_segments bytes w [] = tt
 of_segments bytes w (p ∷ ps) = of_first (segment_refusal bytes w p) (segment_refusals bytes w ps) (of_segment bytes w p) (of_segments bytes w ps)
 
--- a refusal that says of the input is a cause
+-- A refusal that says something about the input is its own cause.
 cause : (w : ℕ) (file : List ℕ) (e : ImageError) → is_of_input e ≡ true → refusal_of w file ≡ Some e → IsCause w file e
 cause w file Truncated i r = r
 cause w file NotExecutable i r = r

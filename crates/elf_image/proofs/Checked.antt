@@ -1,4 +1,4 @@
--- What the checks of a file say.
+-- What holds of files and segments that pass the checks.
 use Rattle.std.proofs.Common.{◌≡◌, ℕ, zero, suc, ◌+◌, ◌*◌, ◌<◌, ◌≤◌, Bool, true, false, not, ◌&&◌, ◌||◌}
 use Rattle.std.proofs.Common.{List, [], ◌∷◌, length, None, Some, refl, arith, nat_lt, nat_le}
 use Rattle.std.specs.Prelude.{slice_get}
@@ -14,7 +14,7 @@ use Rattle.elf_image.specs.Refusals.{is_executable, is_supported, header_refusal
 use Rattle.elf_image.specs.Segments.{Sets}
 use Rattle.elf_image.proofs.Conditions.{and_true, or_false, not_false, passed, none_any}
 
--- a file whose headers are not refused
+-- The headers of the file pass all checks.
 pub record Headed (file : List ℕ) : Type 0 where
   -- the file is at least as long as an ELF header
   pub long : 52 ≤ length file
@@ -25,7 +25,7 @@ pub record Headed (file : List ℕ) : Type 0 where
   -- its program header table ends within the file
   pub listed : (file_header file).e_phoff + 32 * (file_header file).e_phnum ≤ length file
 
--- If the headers are not refused, all that is checked of them holds.
+-- If the headers are not refused, they pass all checks.
 pub headed : (file : List ℕ) → header_refusal file ≡ None → Headed file
 headed file h =
     let a = passed (nat_lt (length file) 52) Truncated _ h in
@@ -39,7 +39,7 @@ headed file h =
       listed = grind (arith, nat_tests, d.0);
     }
 
--- a segment that is not refused
+-- The segment passes all checks.
 pub record Checked (file_bytes shared_words : ℕ) (p : ProgramHeader) : Type 0 where
   -- its bytes end within the file
   pub there : p.p_offset + p.p_filesz ≤ file_bytes
@@ -48,7 +48,7 @@ pub record Checked (file_bytes shared_words : ℕ) (p : ProgramHeader) : Type 0 
   -- it lies in a region if it sets an address
   pub placed : 0 < p.p_memsz → is_in_a_region shared_words p ≡ true
 
--- If a segment is not refused, all that is checked of it holds.
+-- If a segment is not refused, it passes all checks.
 pub checked : (file_bytes shared_words : ℕ) (p : ProgramHeader) → segment_refusal file_bytes shared_words p ≡ None → Checked file_bytes shared_words p
 checked file_bytes shared_words p h =
     let a = passed (not (is_in_file file_bytes p)) OutsideInput _ h in
@@ -63,7 +63,7 @@ checked file_bytes shared_words p h =
     placed : 0 < p.p_memsz → (nat_lt 0 p.p_memsz && not (is_in_a_region shared_words p)) ≡ false → is_in_a_region shared_words p ≡ true
     placed some e = let test : nat_lt 0 p.p_memsz ≡ true = grind (arith, nat_tests) in not_false (is_in_a_region shared_words p) (rw test at e)
 
--- a segment that lies in a region
+-- The segment is inside a region.
 pub record Inside (shared_words : ℕ) (region : Region) (p : ProgramHeader) : Type 0 where
   -- its flags are those of the region
   pub flagged : is_flagged region p.p_flags ≡ true
@@ -72,7 +72,7 @@ pub record Inside (shared_words : ℕ) (region : Region) (p : ProgramHeader) : T
   -- it ends within the region
   pub below : p.p_vaddr + p.p_memsz ≤ region_start region + region_length shared_words region
 
--- A segment that passes the test of a region has its flags and lies between its ends.
+-- A segment that passes the test of a region has its flags and is inside it.
 pub inside : (shared_words : ℕ) (region : Region) (p : ProgramHeader) → is_in shared_words region p ≡ true → Inside shared_words region p
 inside shared_words region p e =
     let flags = is_flagged region p.p_flags in
@@ -82,7 +82,7 @@ inside shared_words region p e =
     let b = and_true flags first a.0 in
     record { flagged = b.0; above = grind (arith, nat_tests, b.1); below = grind (arith, nat_tests, a.1) }
 
--- a segment lies in the region of each address that it sets
+-- If a segment in one region sets an address of another, the two regions are the same.
 home : (shared_words : ℕ) (there region : Region) (p : ProgramHeader) (i : ℕ) → is_in shared_words there p ≡ true → Sets p (region_start region + i) →
     i < region_length shared_words region → is_in shared_words region p ≡ true
 home w Code Code p i e s h = e
@@ -95,7 +95,7 @@ home w Local Shared p i e s h = let a = inside w Local p e in absurd (omega (ari
 home w Shared Code p i e s h = let a = inside w Shared p e in absurd (omega (arith, a.above, a.below, s.0, s.1))
 home w Shared Local p i e s h = let a = inside w Shared p e in absurd (omega (arith, a.above, a.below, s.0, s.1))
 
--- a segment in a region is in one of the three
+-- A segment that is in some region is in one of the three.
 pub which : (shared_words : ℕ) (p : ProgramHeader) → is_in_a_region shared_words p ≡ true → (region : Region) × (is_in shared_words region p ≡ true)
 which w p e = by_tests (is_in w Code p) (is_in w Local p) refl refl e
   where
@@ -104,12 +104,12 @@ which w p e = by_tests (is_in w Code p) (is_in w Local p) refl refl e
     by_tests false true code local e = (Local, local)
     by_tests false false code local e = (Shared, e)
 
--- A segment that is in some region, and sets an address of this region, is in this region.
+-- If a segment is in some region and sets an address of this region, it is in this region.
 pub at_home : (shared_words : ℕ) (region : Region) (p : ProgramHeader) (i : ℕ) → is_in_a_region shared_words p ≡ true → Sets p (region_start region + i) →
     i < region_length shared_words region → is_in shared_words region p ≡ true
 at_home w region p i e s h = let there = which w p e in home w there.0 region p i there.1 s h
 
--- segments that do not overlap set no address both
+-- Two segments that do not overlap set no common address.
 pub overlap_false : (p q : ProgramHeader) (a : ℕ) → overlap p q ≡ false → Sets p a → Sets q a → ⊥
 overlap_false p q a e s t = grind (arith, nat_tests, e, s.0, s.1, t.0, t.1)
 

@@ -1,4 +1,4 @@
--- What tests and first refusals say.
+-- What the results of tests and first refusals imply.
 use Rattle.std.proofs.Common.{◌≡◌, ℕ, zero, suc, Bool, true, false, not, cond, ◌&&◌, ◌||◌, List, []}
 use Rattle.std.proofs.Common.{◌∷◌, map, Option, None, Some, Result, Ok, Err, refl, sym, subst}
 use Rattle.std.specs.Prelude.{slice_get, IfErr, IsErrAnd, OnErr}
@@ -21,7 +21,7 @@ pub not_false : (a : Bool) → not a ≡ false → a ≡ true
 not_false true e = refl
 not_false false e = absurd (cc)
 
--- a test that refuses nothing
+-- If a test and what follows it refuse nothing, the test is false.
 pub passed : {E : Type 0} (b : Bool) (e : E) (rest : Option E) → cond b (Some e) rest ≡ None → (b ≡ false) × (rest ≡ None)
 passed true e rest h = absurd (cc)
 passed false e rest h = (refl, h)
@@ -31,7 +31,7 @@ pub first_none : (o : Option ImageError) (os : List (Option ImageError)) → fir
 first_none None os h = (refl, h)
 first_none (Some e) os h = absurd (cc)
 
--- where there is no first refusal, none of a list's elements is refused
+-- If a list has no first refusal, none of its elements is refused.
 pub each_none : {X : Type 0} (refusal : X → Option ImageError) (xs : List X) (k : ℕ) (x : X) → first_of (map refusal xs) ≡ None → slice_get xs k ≡ Some x →
     refusal x ≡ None
 each_none refusal [] k x h at = absurd (cc)
@@ -44,7 +44,7 @@ none_any test [] k x h at = absurd (cc)
 none_any test (y ∷ ys) zero x h at = let same : y ≡ x = cc in rw same at (or_false (test y) (list_any test ys) h).0
 none_any test (y ∷ ys) (suc k) x h at = none_any test ys k x (or_false (test y) (list_any test ys) h).1 at
 
--- an error that is known
+-- What holds of an error holds of a result that has this error.
 pub if_err : {T : Type 0} (r : Result T ImageError) (e : ImageError) (P : ImageError → Type 0) → IsErrAnd r (λ x. x ≡ e) → P e → IfErr r P
 if_err (Ok x) e P h p = tt
 if_err (Err x) e P h p = subst P (sym h) p

@@ -1,1 +1,1 @@
--- The lemmas that crates above may cite: they name no other file of these proofs.
+-- The only proofs that crates above may cite.

@@ -1,4 +1,4 @@
--- Loading one segment more.
+-- Loading one more segment.
 use Rattle.std.proofs.Common.{◌≡◌, ℕ, ◌+◌, ◌-◌, ◌<◌, ◌≤◌, max, Bool, true, false, cond, List, Some, refl, sym, subst, ap, ◌∙◌, inl, inr, arith, nat_lt}
 use Rattle.std.specs.Prelude.{slice_get, slice_index}
 use Rattle.std.proofs.lemmas.Bool.{cases_eq, cases_lt}
@@ -11,20 +11,20 @@ use Rattle.elf_image.specs.Loading.{IsOne, IsExtent, CopiesSegment, AreLoaded}
 use Rattle.elf_image.proofs.Conditions.{and_true}
 use Rattle.elf_image.proofs.Checked.{Inside, inside}
 
--- what stands for a segment past the last
+-- the segment read at an index past the last
 abbrev pub blank : ProgramHeader
 blank = record { p_type = 0; p_offset = 0; p_vaddr = 0; p_filesz = 0; p_memsz = 0; p_flags = 0 }
 
--- what the test of a segment that sets addresses of a region says
+-- If a segment passes the test for setting addresses of a region, it is not empty, and it is inside the region.
 pub sets_inside : (w : ℕ) (r : Region) (p : ProgramHeader) → sets_in w r p ≡ true → (0 < p.p_memsz) × Inside w r p
 sets_inside w r p e = let a = and_true (nat_lt 0 p.p_memsz) (is_in w r p) e in (grind (arith, nat_tests, a.0), inside w r p a.1)
 
--- two segments at one place are one
+-- Two segments at the same place of a list are equal.
 same_one : (ps : List ProgramHeader) (j k : ℕ) (p q : ProgramHeader) → k ≡ j → slice_get ps j ≡ Some p → slice_get ps k ≡ Some q → p ≡ q
 same_one ps j k p q e a b = let there : slice_get ps j ≡ Some q = rw e at b in cc
 
 module _ (ps : List ProgramHeader) (w : ℕ) (r : Region) (n : ℕ) (p : ProgramHeader) (at : slice_get ps n ≡ Some p) where
-  -- a segment below the next is an earlier one, where the next sets none of the region
+  -- If the next segment sets nothing in the region, a segment of the region up to the next is an earlier one.
   earlier : (k : ℕ) (q : ProgramHeader) → sets_in w r p ≡ false → k < n + 1 → IsOne ps w r k q → k < n
   earlier k q misses h one =
       elim (cases_eq k n) [
@@ -59,14 +59,14 @@ module _ (ps : List ProgramHeader) (w : ℕ) (r : Region) (n : ℕ) (p : Program
           ]
 
   module _ (file : List ℕ) where
-    -- the next segment sets none of the region
+    -- If the next segment sets nothing in the region, the bytes stay loaded.
     pub loaded_skip : (bytes : List ℕ) → sets_in w r p ≡ false → AreLoaded file ps w r n bytes → AreLoaded file ps w r (n + 1) bytes
     loaded_skip bytes misses l = record {
       set = λ k q i h one s. l.set k q i (earlier k q misses h one) one s;
       unset = λ i none. l.unset i (λ k q h one s. none k q (omega arith) one s);
     }
 
-    -- the next segment is copied
+    -- After the next segment is copied, the bytes of one more segment are loaded.
     pub loaded_next : (old new : List ℕ) → sets_in w r p ≡ true → p.p_filesz ≤ p.p_memsz →
         ((k : ℕ) (q : ProgramHeader) (a : ℕ) → k < n → slice_get ps k ≡ Some q → Sets q a → Sets p a → ⊥) →
         CopiesSegment file p (region_start r) old new → AreLoaded file ps w r n old → AreLoaded file ps w r (n + 1) new

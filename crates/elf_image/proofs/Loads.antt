@@ -1,4 +1,4 @@
--- One program header more.
+-- Reading one more program header.
 use Rattle.std.proofs.Common.{◌≡◌, ℕ, ◌+◌, Bool, true, false, cond, List, [], ◌∷◌, ◌++◌, map, sym, ap, ◌∙◌, arith, append-nil}
 use Rattle.std.specs.List.{range_with_len, filter}
 use Rattle.std.proofs.lemmas.List.FromFn.{filter_of_map_range_with_len_more}
@@ -14,10 +14,10 @@ module _ (f : ℕ → ProgramHeader) (n : ℕ) (old new : List ProgramHeader) (e
       ∙ ap (λ t. filter is_load (map f (range_with_len 0 n)) ++ cond t (entry ∷ []) []) e
       ∙ ap (λ xs. xs ++ cond b (entry ∷ []) []) (sym before)
 
-  -- it is a segment's
+  -- If the header is that of a segment, it is added to the segments.
   pub load_more : is_load entry ≡ true → new ≡ old ++ entry ∷ [] → new ≡ filter is_load (map f (range_with_len 0 (n + 1)))
   load_more test grown = grown ∙ sym (more true test)
 
-  -- it is none
+  -- If the header is not that of a segment, the segments stay the same.
   pub load_same : is_load entry ≡ false → new ≡ old → new ≡ filter is_load (map f (range_with_len 0 (n + 1)))
   load_same test same = same ∙ sym (append-nil old) ∙ sym (more false test)

@@ -1,4 +1,4 @@
--- From what the checks and the loader say to accepted input and its meaning.
+-- A file that passes the checks is accepted, and the layout that is loaded from it is what it means.
 use Rattle.std.proofs.Common.{◌≡◌, ℕ, ◌+◌, ◌-◌, ◌/◌, ◌%◌, ◌<◌, ◌≤◌, Bool, true, false, cond, List}
 use Rattle.std.proofs.Common.{[], length, None, Some, refl, ap, ◌∙◌, inl, inr, arith, nat_lt, eqb}
 use Rattle.std.specs.Prelude.{slice_get, slice_index}
@@ -22,7 +22,7 @@ use Rattle.elf_image.proofs.Conditions.{each_none, and_true, first_none, passed 
 use Rattle.elf_image.proofs.Checked.{headed, Checked, checked, inside, which, at_home, apart}
 use Rattle.elf_image.proofs.Loaded.{sets_inside}
 
--- an address between a region's ends is in it
+-- An address between the ends of a region is in it.
 address_in : (w : ℕ) (region : Region) (a : ℕ) → region_start region ≤ a → a < region_start region + region_length w region → in_region w region a ≡ true
 address_in w Code a low high = let q : a / 65536 ≡ 1 = omega (arith, low, high) in grind (arith, nat_tests, q)
 address_in w Local a low high = let q : a / 65536 ≡ 2 = omega (arith, low, high) in grind (arith, nat_tests, q)
@@ -33,7 +33,7 @@ lies_in w region p e =
     let i = inside w region p e in
     record { flagged = i.flagged; inside = λ a s. address_in w region a (omega (arith, i.above, s.0)) (omega (arith, i.below, s.1)) }
 
--- a file that no check refuses
+-- No check refuses the file.
 pub record Passed (shared_words : ℕ) (file : List ℕ) : Type 0 where
   -- the file is at most 1 MiB long
   pub short : length file ≤ 1048576
@@ -50,7 +50,7 @@ entry_passed : (b : Bool) (e : ImageError) → cond b None (Some e) ≡ None →
 entry_passed true e h = refl
 entry_passed false e h = absurd (cc)
 
--- a file that is not refused is refused by no check
+-- If a file is not refused, no check refuses it.
 not_refused : (w : ℕ) (file : List ℕ) → refusal_of w file ≡ None → Passed w file
 unfolding refusal_of
 not_refused w file h =
@@ -99,7 +99,7 @@ module _ (w : ℕ) (file : List ℕ) (passed : Passed w file) where
             ]
           ]
 
-  -- a segment that sets an address of a region sets it there
+  -- A segment that sets an address of a region sets addresses in that region.
   one : (region : Region) (k : ℕ) (p : ProgramHeader) (i : ℕ) → slice_get (segments file) k ≡ Some p → i < region_length w region →
       Sets p (region_start region + i) → IsOne (segments file) w region k p
   one region k p i at h s =
@@ -161,12 +161,12 @@ module _ (w : ℕ) (file : List ℕ) (passed : Passed w file) where
         shared = m.shared.fits;
       }
 
--- ---- for the law
+-- ---- for the laws
 
 -- A file that is not refused is accepted.
 pub accepted_file : (w : ℕ) (file : List ℕ) → refusal_of w file ≡ None → IsAccepted w file
 accepted_file w file h = accepted w file (not_refused w file h)
 
--- The layout that is loaded from a file that is not refused is what the file means.
+-- If a file is not refused, the layout that is loaded from it is what it means.
 pub meant_layout : (w : ℕ) (file : List ℕ) (layout : Layout) → refusal_of w file ≡ None → LoadsLayout file w layout → IsMeant w file layout
 meant_layout w file layout h l = meant w file (not_refused w file h) layout l.entry l.code l.local l.shared

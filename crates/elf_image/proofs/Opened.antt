@@ -24,7 +24,7 @@ pub length-region_of_bytes : (bytes : List ℕ) → length bytes ≤ 65536 → l
 unfolding padded
 length-region_of_bytes bytes h = length-append bytes (replicate (65536 - length bytes) 0) ∙ omega (arith, h, length-replicate {A = ℕ} (65536 - length bytes) 0)
 
--- a region's bytes, and zero after them, are what the file has there
+-- A region's bytes, with zero after them, are what the file has there.
 byte_at : (file : List ℕ) (w : ℕ) (region : Region) (bytes : List ℕ) (i : ℕ) → HasBytes file w region bytes → i < region_length w region →
     IsByteAt file (region_start region + i) (slice_index bytes i)
 byte_at file w region bytes i h inside =
@@ -41,7 +41,7 @@ every_one zero k x y at = absurd (cc)
 every_one (suc n) zero x y at = cc
 every_one (suc n) (suc k) x y at = every_one n k x y at
 
--- the bytes of a little-endian number
+-- The bytes of a little-endian number are those from which it was made.
 part_0 : (a b c d : ℕ) → a < 256 → part_of 1 0 (a + 256 * (b + 256 * (c + 256 * (d + 0)))) ≡ a
 unfolding part_of
 part_0 a b c d h = omega arith
@@ -72,7 +72,7 @@ part_of_number bytes place (suc (suc (suc (suc n)))) small h = absurd (omega ari
 pub word_here : (bytes : List ℕ) (count i : ℕ) → i < count → slice_index (words_of bytes count) i ≡ number_at bytes (4 * i) 4
 word_here bytes count i h = get_or-map-range_with_len (λ k. number_at bytes (4 * k) 4) 0 count i i 0 h (omega arith)
 
--- what is said of each byte of an opening is said in other words
+-- If what may be at an address is restated, an opening may be restated with it.
 said_again : (entry other : ℕ) (IsAt IsThere : (address byte : ℕ) → Type 0) (config : Config) (m : FlatState) → entry ≡ other →
     ((a b : ℕ) → in_code a ≡ true → IsAt a b → IsThere a b) → ((a b : ℕ) → in_local a ≡ true → IsAt a b → IsThere a b) →
     ((a b : ℕ) → in_shared config.shared_words a ≡ true → IsAt a b → IsThere a b) → IsOpening entry IsAt config m → IsOpening other IsThere config m
@@ -153,7 +153,7 @@ module _ (config : Config) (layout : Layout) (openable : IsOpenable layout) wher
   }
 
 module _ (config : Config) (file : List ℕ) (layout : Layout) (m : IsMeant config.shared_words file layout) where
-  -- a byte of the layout is what the file has there
+  -- A byte that the layout has at an address is what the file has there.
   code_byte : (a b : ℕ) → in_code a ≡ true → IsPlacedAt layout a b → IsByteAt file a b
   code_byte a b e h =
       let q : a / 65536 ≡ 1 = grind (arith, nat_tests, e) in
@@ -179,8 +179,8 @@ module _ (config : Config) (file : List ℕ) (layout : Layout) (m : IsMeant conf
       (opening config layout) m.entry code_byte local_byte shared_byte
       (opens_on_the_layout config layout (record { code = m.code.fits; local = m.local.fits; bytes = small }))
 
--- The opening of the layout that a file means has at each address what the file sets there,
--- if the elements of its shared part are bytes.
+-- The opening of the layout that a file means has at each address what the file sets there, if the shared part consists
+-- of bytes.
 pub opens_on_the_file : (config : Config) (file : List ℕ) (layout : Layout) → IsMeant config.shared_words file layout →
     ((i : ℕ) → slice_index layout.shared i < 256) → IsFileOpening file config (opening config layout)
 opens_on_the_file config file layout m small = opens_on_the_meaning config file layout m small

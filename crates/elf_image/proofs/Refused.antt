@@ -1,4 +1,4 @@
--- What a refusal says.
+-- A refused file has the cause of its refusal.
 use Rattle.std.proofs.Common.{◌≡◌, ℕ, suc, ◌+◌, ◌*◌, ◌<◌, max, min, Bool, true, false, not, cond}
 use Rattle.std.proofs.Common.{◌&&◌, ◌||◌, List, [], ◌∷◌, map, length, Option, None, Some, refl}
 use Rattle.std.proofs.Common.{sym, subst, ◌∙◌, ◌⊎◌, inl, inr, arith, nat_lt, nat_le}
@@ -20,12 +20,12 @@ use Rattle.elf_image.specs.Images.{LiesIn}
 use Rattle.elf_image.specs.Laws.{HasCause}
 use Rattle.elf_image.proofs.Acceptance.{and_true, in_one, is_inside}
 
--- the first refusal of some is that of the first, or of the rest
+-- The first refusal of a list is its head, or the first refusal of its tail.
 first_some : (o : Option ImageError) (os : List (Option ImageError)) (e : ImageError) → first_of (o ∷ os) ≡ Some e → (o ≡ Some e) ⊎ (first_of os ≡ Some e)
 first_some None os e h = inr h
 first_some (Some x) os e h = inl h
 
--- a test that refuses, or what follows it
+-- If a test comes before other refusals, a refusal is that of the test, or one of the others.
 chosen : (b : Bool) (x e : ImageError) (rest : Option ImageError) → cond b (Some x) rest ≡ Some e → ((b ≡ true) × (x ≡ e)) ⊎ (rest ≡ Some e)
 chosen true x e rest h = inl (refl, cc)
 chosen false x e rest h = inr h
@@ -40,7 +40,7 @@ from_not : (b : Bool) → not b ≡ true → b ≡ false
 from_not true e = absurd (cc)
 from_not false e = refl
 
--- one of a list's elements is refused
+-- If a list has a first refusal, one of its elements has that refusal.
 one_refused : {X : Type 0} (refusal : X → Option ImageError) (xs : List X) (e : ImageError) → first_of (map refusal xs) ≡ Some e →
     (k : ℕ) × (x : X) × (slice_get xs k ≡ Some x) × (refusal x ≡ Some e)
 one_refused refusal [] e h = absurd (not_there e h)
@@ -63,7 +63,7 @@ any_true test (x ∷ xs) h =
       | inr there ↦ let other = any_true test xs there in (suc other.0, other.1, other.2, other.3)
     ]
 
--- the segments j and k of a list overlap
+-- Two segments of a list, at the places j and k, overlap.
 pub record Overlapping (ps : List ProgramHeader) : Type 0 where
   -- the place of the earlier segment
   pub j : ℕ

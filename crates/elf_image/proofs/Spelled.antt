@@ -1,4 +1,4 @@
--- The spelling of a layout read as headers.
+-- The headers read from the spelling of a layout.
 use Rattle.std.proofs.Common.{◌≡◌, ℕ, zero, suc, ◌+◌, ◌*◌, ◌^◌, ◌<◌, ◌≤◌, Bool, true, false, cond, List, [], ◌∷◌}
 use Rattle.std.proofs.Common.{◌++◌, length, map, refl, sym, ap, ◌∙◌, arith, append_assoc, append-nil, length-append}
 use Rattle.std.specs.Prelude.{slice_index}
@@ -64,14 +64,14 @@ length-file_header_bytes entry count = refl
 
 -- ---- program headers
 
--- the header of a segment whose bytes are all in the file
+-- the program header of a segment whose bytes are all in the file
 abbrev pub header_of : (offset start count flags : ℕ) → ProgramHeader
 header_of offset start count flags = record { p_type = 1; p_offset = offset; p_vaddr = start; p_filesz = count; p_memsz = count; p_flags = flags }
 
 abbrev pub bytes_of : ProgramHeader → List ℕ
 bytes_of p = program_header_bytes p.p_offset p.p_vaddr p.p_filesz p.p_flags
 
--- a header that its bytes give back
+-- The program header can be read back from its bytes.
 pub record IsSpelled (p : ProgramHeader) : Type 0 where
   -- it is of a segment to load
   pub load : p.p_type ≡ 1
@@ -120,7 +120,7 @@ header_back pre rest p s =
     program_header_behind pre (bytes_of p ++ rest) ∙ program_header_first p.p_offset p.p_vaddr p.p_filesz p.p_flags rest s.offset s.start s.count s.flags
     ∙ (λ i. record { p_type = sym s.load i; p_offset = p.p_offset; p_vaddr = p.p_vaddr; p_filesz = p.p_filesz; p_memsz = sym s.same i; p_flags = p.p_flags })
 
--- a list of headers, all of which their bytes give back
+-- All program headers of the list can be read back from their bytes.
 abbrev pub AreSpelled : List ProgramHeader → Type 0
 AreSpelled [] = Unit {0}
 AreSpelled (p ∷ ps) = IsSpelled p × AreSpelled ps
@@ -167,7 +167,7 @@ local_header l = header_of (local_offset l) (region_start Local) (length l.local
 abbrev pub shared_header : Layout → ProgramHeader
 shared_header l = header_of (shared_offset l) (region_start Shared) (length l.shared) (written_flags Shared)
 
--- a table with its second and third header, or without
+-- a table of the first header, with the second and third unless they are left out
 abbrev pub table_with : ProgramHeader → ProgramHeader → ProgramHeader → Bool → Bool → List ProgramHeader
 table_with p q r true true = p ∷ []
 table_with p q r true false = p ∷ r ∷ []
@@ -207,7 +207,7 @@ module _ (l : Layout) where
   abbrev header_bytes : List ℕ
   header_bytes = file_header_bytes l.entry (count_of l)
 
-  -- the ELF header, the table, and the bytes
+  -- The spelling is the ELF header, followed by the table and the bytes.
   pub in_parts : spelling l ≡ header_bytes ++ (flat_map bytes_of (table l) ++ (l.code ++ (l.local ++ l.shared)))
   unfolding spelling
   in_parts = joined header_bytes (code_header l) (local_header l) (shared_header l) (is_nil l.local) (is_nil l.shared) l.code l.local l.shared

@@ -25,9 +25,9 @@ use Rattle.elf_image.proofs.Spelled.{header_of, header_read, segments_read, spel
 use Rattle.elf_image.proofs.Spelled.{length-table, length-file_header_bytes, length-flat_map-bytes_of, bytes_of}
 use Rattle.elf_image.proofs.Spelled.{table, table_with, code_header, local_header, shared_header}
 
--- ---- what the table lists
+-- ---- the headers in the table
 
--- a header of a table is its first, or its second where it has one, or its third
+-- A header of a table is the first, or the second or third if the table has it.
 listed : (p q r x : ProgramHeader) (b d : Bool) (k : ℕ) → slice_get (table_with p q r b d) k ≡ Some x →
     (x ≡ p) ⊎ ((x ≡ q) × (b ≡ false)) ⊎ ((x ≡ r) × (d ≡ false))
 listed p q r x true true zero e = inl (cc)
@@ -59,7 +59,7 @@ third_listed p q r b true e = absurd (cc)
 third_listed p q r true false e = (1, refl)
 third_listed p q r false false e = (2, refl)
 
--- headers whose addresses rise do not overlap
+-- Two headers do not overlap if the first ends before the second begins.
 below : (p q : ProgramHeader) → p.p_vaddr + p.p_memsz ≤ q.p_vaddr → overlap p q ≡ false
 below p q h = grind (arith, nat_tests, h)
 
@@ -81,7 +81,7 @@ lies w region offset count flags flagged room =
 some_bytes : (bytes : List ℕ) → 0 < length bytes → is_nil bytes ≡ false
 some_bytes bytes h = grind (arith, nat_tests, h)
 
--- the region's bytes are those of one header
+-- the bytes of a region in which one header sets addresses
 module _ (file : List ℕ) (ps : List ProgramHeader) (w : ℕ) (region : Region) (offset flags : ℕ) (bytes : List ℕ)
     (only : (k : ℕ) (p : ProgramHeader) → IsOne ps w region k p → p ≡ header_of offset (region_start region) (length bytes) flags)
     (some : 0 < length bytes → (k : ℕ) × (k < length ps) × IsOne ps w region k (header_of offset (region_start region) (length bytes) flags))
@@ -140,7 +140,7 @@ supported_count entry false false = refl
 both : (a b : Bool) → a ≡ true → b ≡ true → (a && b) ≡ true
 both a b e f = rw (e, f) refl
 
--- where a segment stands that sets addresses of a region
+-- The segment sets addresses, all in the region.
 record StandsIn (w : ℕ) (region : Region) (p : ProgramHeader) : Type 0 where
   some : 0 < p.p_memsz
   above : region_start region ≤ p.p_vaddr
@@ -213,7 +213,7 @@ module _ (w : ℕ) (l : Layout) (placed : IsPlaced l w) (short : length (spellin
   some_sets : (region : Region) (p : ProgramHeader) → 0 < p.p_memsz → is_in w region p ≡ true → sets_in w region p ≡ true
   some_sets region p h e = let test : nat_lt 0 p.p_memsz ≡ true = grind (arith, nat_tests, h) in rw test e
 
-  -- which header sets addresses of a region
+  -- A header that sets addresses of a region is one of the three, and it sets them.
   which_one : (region : Region) (k : ℕ) (p : ProgramHeader) → IsOne (table l) w region k p →
       ((p ≡ code_header l) × (sets_in w region (code_header l) ≡ true)) ⊎ ((p ≡ local_header l) × (sets_in w region (local_header l) ≡ true))
       ⊎ ((p ≡ shared_header l) × (sets_in w region (shared_header l) ≡ true))
@@ -267,7 +267,7 @@ module _ (w : ℕ) (l : Layout) (placed : IsPlaced l w) (short : length (spellin
       let at = third_listed (code_header l) (local_header l) (shared_header l) (is_nil l.local) (is_nil l.shared) (some_bytes l.shared h) in
       one_at Shared at.0 (shared_header l) at.1 h shared_lies
 
-  -- the headers, and what stands after them
+  -- the headers of a spelling
   abbrev head : List ℕ
   head = file_header_bytes l.entry (count_of l) ++ flat_map bytes_of (table l)
 
@@ -313,7 +313,7 @@ module _ (w : ℕ) (l : Layout) (placed : IsPlaced l w) (short : length (spellin
             (loaded_alone (spelling l) (table l) w Shared (shared_offset l) 6 l.shared only_shared some_shared at_shared);
       }
 
--- by what is known of files that are not refused
+-- The spelling of a layout is accepted and means the layout, if files that are not refused do.
 pub spelling_means : ((w : ℕ) (file : List ℕ) → refusal_of w file ≡ None → IsAccepted w file) →
     ((w : ℕ) (file : List ℕ) (l : Layout) → refusal_of w file ≡ None → LoadsLayout file w l → IsMeant w file l) →
     (w : ℕ) (l : Layout) → IsPlaced l w → length (spelling l) ≤ 1048576 → IsAccepted w (spelling l) × IsMeant w (spelling l) l

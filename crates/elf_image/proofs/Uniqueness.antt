@@ -1,4 +1,4 @@
--- A file means one layout.
+-- A file means at most one layout.
 use Rattle.std.proofs.Common.{◌≡◌, ℕ, zero, suc, ◌+◌, ◌-◌, ◌<◌, ◌≤◌, List, [], ◌∷◌, length, refl, sym, ◌∙◌, ◌⊎◌, inl, inr, arith}
 use Rattle.std.specs.Prelude.{slice_index}
 use Rattle.std.proofs.lemmas.Bool.{cases_lt}
@@ -18,7 +18,7 @@ sets_or_not p a =
       | inr above ↦ elim (cases_lt a (p.p_vaddr + p.p_memsz)) [ inl below ↦ inl (above, below) | inr high ↦ inr (λ s. omega (arith, s.1)) ]
     ]
 
--- some segment sets the address, or none does
+-- Either some segment sets the address, or none does.
 pub set_or_unset : (ps : List ProgramHeader) (a : ℕ) → IsSet ps a ⊎ IsUnset ps a
 set_or_unset [] a = inr (λ k p at s. absurd (cc))
 set_or_unset (p ∷ ps) a =

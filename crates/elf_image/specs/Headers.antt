@@ -1,4 +1,4 @@
--- The headers of an ELF32 file. A field stands at an offset, and is little-endian (ELFDATA2LSB).
+-- The headers of an ELF32 file. Each field is little-endian (ELFDATA2LSB), at a fixed offset.
 --
 -- Source: System V ABI, "ELF Header" (Elf32_Ehdr) and "Program Header" (Elf32_Phdr).
 use Rattle.std.specs.Prelude.{ℕ, ◌+◌, ◌*◌, Bool, ◌==◌, List, map, filter}
@@ -21,7 +21,7 @@ file_header file = record {
   e_phnum = number_at file 44 2;
 }
 
--- the program header that begins at a place of the file
+-- the program header that begins at this place in the file
 unfoldable pub program_header : List ℕ → (place : ℕ) → ProgramHeader
 program_header file place = record {
   p_type = number_at file place 4;
@@ -38,7 +38,7 @@ program_headers file =
     let header = file_header file in
     map (λ k. program_header file (header.e_phoff + 32 * k)) (range_with_len 0 header.e_phnum)
 
--- a program header of a segment: PT_LOAD
+-- whether a program header is that of a segment: PT_LOAD
 abbrev pub is_load : ProgramHeader → Bool
 is_load p = p.p_type == 1
 

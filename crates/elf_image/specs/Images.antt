@@ -16,18 +16,18 @@ use Rattle.elf_image.specs.Segments.{Sets, byte_of, IsSet, IsUnset}
 
 -- ---- accepted input
 
--- the address is in the region
+-- whether the address is in the region
 abbrev pub in_region : (shared_words : ℕ) → Region → (address : ℕ) → Bool
 in_region shared_words Code address = in_code address
 in_region shared_words Local address = in_local address
 in_region shared_words Shared address = in_shared shared_words address
 
--- the segment's flags are those of the region, and each address that it sets is in the region
+-- The segment's flags are those of the region, and each address that it sets is in the region.
 pub record LiesIn (shared_words : ℕ) (region : Region) (p : ProgramHeader) : Type 0 where
   pub flagged : is_flagged region p.p_flags ≡ true
   pub inside : (address : ℕ) → Sets p address → in_region shared_words region address ≡ true
 
--- the bytes are an image for machines with this many shared words
+-- The bytes are an image for machines with this many shared words.
 pub record IsAccepted (shared_words : ℕ) (file : List ℕ) : Type 0 where
   pub not_long : length file ≤ 1048576
   pub headed : 52 ≤ length file
@@ -35,14 +35,14 @@ pub record IsAccepted (shared_words : ℕ) (file : List ℕ) : Type 0 where
   pub supported : is_supported (file_header file) ≡ true
   -- the program header table ends within the file
   pub listed : (file_header file).e_phoff + 32 * (file_header file).e_phnum ≤ length file
-  -- so do each segment's bytes, and the segment has room for them
+  -- each segment's bytes end within the file, and the segment has room for them
   pub filed :
       (k : ℕ) (p : ProgramHeader) → slice_get (segments file) k ≡ Some p →
       (p.p_offset + p.p_filesz ≤ length file) × (p.p_filesz ≤ p.p_memsz)
   -- each segment that sets an address lies in one region
   pub placed : (k : ℕ) (p : ProgramHeader) → slice_get (segments file) k ≡ Some p → 0 < p.p_memsz →
       (region : Region) × LiesIn shared_words region p
-  -- no two segments set one address
+  -- no two segments set the same address
   pub apart :
       (j k : ℕ) (p q : ProgramHeader) (address : ℕ) → slice_get (segments file) j ≡ Some p →
       slice_get (segments file) k ≡ Some q →
@@ -51,7 +51,7 @@ pub record IsAccepted (shared_words : ℕ) (file : List ℕ) : Type 0 where
 
 -- ---- what it means
 
--- The bytes of a region, to the last that a segment sets: what a segment sets is as it sets it, all else is zero.
+-- The bytes of a region, to the last that a segment sets: each is what a segment sets there, or zero if none does.
 pub record HasBytes (file : List ℕ) (shared_words : ℕ) (region : Region) (bytes : List ℕ) : Type 0 where
   pub set :
       (k : ℕ) (p : ProgramHeader) (i : ℕ) → slice_get (segments file) k ≡ Some p → i < length bytes →
@@ -63,7 +63,7 @@ pub record HasBytes (file : List ℕ) (shared_words : ℕ) (region : Region) (by
   pub last : 0 < length bytes → IsSet (segments file) (region_start region + (length bytes - 1))
   pub fits : length bytes ≤ region_length shared_words region
 
--- the file's entry, and its bytes in each region
+-- The layout has the file's entry, and in each region the bytes that the file means.
 pub record IsMeant (shared_words : ℕ) (file : List ℕ) (layout : Layout) : Type 0 where
   pub entry : layout.entry ≡ (file_header file).e_entry
   pub code : HasBytes file shared_words Code layout.code
@@ -72,12 +72,12 @@ pub record IsMeant (shared_words : ℕ) (file : List ℕ) (layout : Layout) : Ty
 
 -- ---- images
 
--- a layout, and for how many shared words it was read
+-- a layout, and the number of shared words that it was read for
 pub record ImageContents : Type 0 where
   pub layout : Layout
   pub shared_words : ℕ
 
--- the parts fit their regions, and the entry is an address of code that is divisible by 4
+-- The parts fit their regions, and the entry is an address of code that is divisible by 4.
 pub record IsPlaced (layout : Layout) (shared_words : ℕ) : Type 0 where
   pub entry_in_code : in_code layout.entry ≡ true
   pub entry_aligned : layout.entry % 4 ≡ 0
@@ -87,21 +87,21 @@ pub record IsPlaced (layout : Layout) (shared_words : ℕ) : Type 0 where
 
 -- ---- what reading gives
 
--- all that the reader had is accepted, and the image is what it means
+-- All that the reader had is accepted, and the image is what it means.
 abbrev pub IsGiven : (shared_words : ℕ) → (old new : Option (List ℕ)) → ImageContents → Type 0
 IsGiven shared_words old new image =
     (file : List ℕ) × ConsumesAll old new file × IsAccepted shared_words file × IsMeant shared_words file image.layout
     × (image.shared_words ≡ shared_words)
 
--- A refusal of the input, which is the first that applies; of a lack of memory this says nothing.
+-- The error is the first refusal of the input that applies, or a lack of memory.
 abbrev pub IsCause : (shared_words : ℕ) → List ℕ → ImageError → Type 0
 IsCause shared_words file error.TooLong = ⊥
 IsCause shared_words file error.Link = ⊥
 IsCause shared_words file error.Memory = Unit {0}
 IsCause shared_words file refusal = refusal_of shared_words file ≡ Some refusal
 
--- Why there is no image, and what the reader has given: the input is too long; or the link failed, of which another
--- clause speaks, or memory was short, and a beginning of the input was read; or all that the reader had is refused.
+-- Why there is no image, and what was read: the input is too long; or the link failed or memory was short, after a
+-- beginning of the input was read; or all that the reader had is refused. Another clause says when the link failed.
 abbrev pub IsRefused : (shared_words : ℕ) → (old new : Option (List ℕ)) → ImageError → Type 0
 IsRefused shared_words old new error.TooLong = ConsumesPast 1048576 old new
 IsRefused shared_words old new error.Link = ConsumesAtMost 1048576 old new

@@ -1,4 +1,4 @@
--- What the laws of images speak of.
+-- What the laws of images state.
 use Rattle.std.specs.Prelude.{◌≡◌, ◌⊎◌, ℕ, ◌+◌, ◌-◌, ◌*◌, ◌/◌, ◌%◌, ◌^◌, ◌<◌, ◌≤◌, true, false, List, length, Some}
 use Rattle.std.specs.Prelude.{slice_get, slice_index}
 use Rattle.flat_machine.specs.declared.config.Config.{Config}
@@ -16,7 +16,7 @@ use Rattle.elf_image.specs.Refusals.{is_executable, is_supported, is_entry}
 use Rattle.elf_image.specs.Segments.{Sets, byte_of, IsUnset}
 use Rattle.elf_image.specs.Images.{LiesIn}
 
--- What the file has at an address: what a segment sets there, and zero where none does.
+-- What the file has at an address: the byte that a segment sets there, and zero if none does.
 pub record IsByteAt (file : List ℕ) (address byte : ℕ) : Type 0 where
   pub set : (k : ℕ) (p : ProgramHeader) → slice_get (segments file) k ≡ Some p → Sets p address →
       byte ≡ byte_of file p address
@@ -28,8 +28,8 @@ pub record IsPlacedAt (layout : Layout) (address byte : ℕ) : Type 0 where
   pub local : in_local address ≡ true → byte ≡ slice_index layout.local (address - 0x20000)
   pub shared : 2 ^ 31 ≤ address → byte ≡ slice_index layout.shared (address - 2 ^ 31)
 
--- A processor opens at an entry: it stands there, its registers are zero, and it runs. Its local memory has 2¹⁶ bytes,
--- each of which is what is said to be at its address.
+-- A processor opens at an entry: it is there, its registers are zero, and it runs. Each of the 2¹⁶ bytes of its local
+-- memory is one that may be at its address.
 pub record IsOpeningProcessor (entry : ℕ) (IsAt : (address byte : ℕ) → Type 0) (p : Processor) : Type 0 where
   pub pc : p.pc ≡ entry
   pub registers : length p.registers ≡ 32
@@ -38,8 +38,8 @@ pub record IsOpeningProcessor (entry : ℕ) (IsAt : (address byte : ℕ) → Typ
   pub local_size : length p.local ≡ 2 ^ 16
   pub local : (address : ℕ) → in_local address ≡ true → IsAt address (slice_index p.local (address % 2 ^ 16))
 
--- The flat machine of a configuration opens at an entry, with the bytes that are said to be at the addresses. Its code
--- has 2¹⁶ bytes.
+-- The flat machine of a configuration opens at an entry, and each of its bytes is one that may be at its address. Its
+-- code has 2¹⁶ bytes.
 pub record IsOpening (entry : ℕ) (IsAt : (address byte : ℕ) → Type 0) (config : Config) (m : FlatState) : Type 0 where
   pub count : length m.processors ≡ 2 ^ config.k
   pub processors : (k : ℕ) (p : Processor) → slice_get m.processors k ≡ Some p → IsOpeningProcessor entry IsAt p
@@ -50,21 +50,21 @@ pub record IsOpening (entry : ℕ) (IsAt : (address byte : ℕ) → Type 0) (con
   pub code_size : length m.code ≡ 2 ^ 16
   pub code : (address : ℕ) → in_code address ≡ true → IsAt address (slice_index m.code (address % 2 ^ 16))
 
--- the flat machine of a configuration opens on a file, address by address
+-- The flat machine of a configuration opens on a file, address by address.
 abbrev pub IsFileOpening : List ℕ → Config → FlatState → Type 0
 IsFileOpening file config m = IsOpening (file_header file).e_entry (IsByteAt file) config m
 
--- the flat machine of a configuration opens on a layout, address by address
+-- The flat machine of a configuration opens on a layout, address by address.
 abbrev pub IsLayoutOpening : Layout → Config → FlatState → Type 0
 IsLayoutOpening layout config m = IsOpening layout.entry (IsPlacedAt layout) config m
 
--- what a machine can open on: code and local memory have room for their parts, and what stands in shared words is bytes
+-- A machine can open on the layout: code and local memory have room for their parts, and the shared part is bytes.
 pub record IsOpenable (layout : Layout) : Type 0 where
   pub code : length layout.code ≤ 0x10000
   pub local : length layout.local ≤ 0x10000
   pub bytes : (i : ℕ) → slice_index layout.shared i < 256
 
--- What is wrong with a file that is refused, in terms of its bytes and of addresses.
+-- What is wrong with a refused file, in terms of its bytes and of addresses.
 abbrev pub HasCause : (shared_words : ℕ) → List ℕ → ImageError → Type 0
 HasCause shared_words file error.Truncated =
     (length file < 52) ⊎ (length file < (file_header file).e_phoff + 32 * (file_header file).e_phnum)

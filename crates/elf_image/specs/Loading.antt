@@ -8,13 +8,13 @@ use Rattle.elf_image.specs.Headers.{file_header, segments}
 use Rattle.elf_image.specs.Regions.{region_start, sets_in}
 use Rattle.elf_image.specs.Segments.{Sets, byte_of}
 
--- one of the segments sets addresses of the region
+-- Segment k of the list is p, and it sets addresses of the region.
 pub record IsOne (ps : List ProgramHeader) (shared_words : ℕ) (region : Region) (k : ℕ)
     (p : ProgramHeader) : Type 0 where
   pub at : slice_get ps k ≡ Some p
   pub sets : sets_in shared_words region p ≡ true
 
--- the first `count` segments of the region end this far from its first address, and one of them just there
+-- The first `count` segments of the region end at most this far from its first address, and one ends exactly there.
 pub record IsExtent (ps : List ProgramHeader) (shared_words : ℕ) (region : Region) (count extent : ℕ) : Type 0 where
   pub reached : (k : ℕ) (p : ProgramHeader) → k < count → IsOne ps shared_words region k p →
       p.p_vaddr + p.p_memsz ≤ region_start region + extent
@@ -22,7 +22,7 @@ pub record IsExtent (ps : List ProgramHeader) (shared_words : ℕ) (region : Reg
       (k : ℕ) × (p : ProgramHeader) × IsOne ps shared_words region k p
       × (p.p_vaddr + p.p_memsz ≡ region_start region + extent)
 
--- the segment's bytes in the file are at their places of a region that begins at `start`, and all else is as it was
+-- The segment's bytes in the file are at their places in a region that begins at `start`, and the rest is as before.
 pub record CopiesSegment (file : List ℕ) (p : ProgramHeader) (start : ℕ) (old new : List ℕ) : Type 0 where
   pub count : length new ≡ length old
   pub copied :
@@ -31,7 +31,7 @@ pub record CopiesSegment (file : List ℕ) (p : ProgramHeader) (start : ℕ) (ol
   pub before : (i : ℕ) → start + i < p.p_vaddr → slice_index new i ≡ slice_index old i
   pub behind : (i : ℕ) → p.p_vaddr + p.p_filesz ≤ start + i → slice_index new i ≡ slice_index old i
 
--- the first `count` segments of the region are loaded, and what they do not set is zero
+-- The first `count` segments of the region are loaded, and what they do not set is zero.
 pub record AreLoaded (file : List ℕ) (ps : List ProgramHeader) (shared_words : ℕ) (region : Region) (count : ℕ)
     (bytes : List ℕ) : Type 0 where
   pub set :
@@ -44,13 +44,13 @@ pub record AreLoaded (file : List ℕ) (ps : List ProgramHeader) (shared_words :
       ⊥) →
       slice_index bytes i ≡ 0
 
--- the region's bytes are there, to the last that a segment sets
+-- All segments of the region are loaded into its bytes, which reach to the last that a segment sets.
 pub record IsLoaded (file : List ℕ) (ps : List ProgramHeader) (shared_words : ℕ) (region : Region)
     (bytes : List ℕ) : Type 0 where
   pub extent : IsExtent ps shared_words region (length ps) (length bytes)
   pub loaded : AreLoaded file ps shared_words region (length ps) bytes
 
--- the entry is the file's, and each region's bytes are there
+-- The entry is the file's, and the segments of each region are loaded.
 pub record LoadsLayout (file : List ℕ) (shared_words : ℕ) (layout : Layout) : Type 0 where
   pub entry : layout.entry ≡ (file_header file).e_entry
   pub code : IsLoaded file (segments file) shared_words Code layout.code

@@ -13,8 +13,7 @@ use Rattle.elf_image.specs.declared.layout.Layout.{Layout}
 abbrev pub words_of : List ℕ → (count : ℕ) → List ℕ
 words_of bytes count = map (λ i. number_at bytes (4 * i) 4) (range_with_len 0 count)
 
--- Each processor stands at the entry and runs. Its registers are zero, and its local memory begins with the local
--- bytes.
+-- a processor at the entry that runs, with registers of zero and a local memory that begins with the local bytes
 abbrev pub opening_processor : Layout → Processor
 opening_processor layout = record {
   pc = layout.entry;

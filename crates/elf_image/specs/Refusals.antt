@@ -12,7 +12,7 @@ use Rattle.elf_image.specs.declared.segment.ProgramHeader.{ProgramHeader}
 use Rattle.elf_image.specs.Headers.{file_header, segments}
 use Rattle.elf_image.specs.Regions.{is_in_a_region}
 
--- 7F "ELF", ELFCLASS32, ELFDATA2LSB, EV_CURRENT; ET_EXEC; EM_RISCV
+-- whether a file has 7F "ELF", ELFCLASS32, ELFDATA2LSB, EV_CURRENT; ET_EXEC; EM_RISCV
 abbrev pub is_executable : List ℕ → FileHeader → Bool
 is_executable file header =
     starts_with nat_eq file (0x7F ∷ 0x45 ∷ 0x4C ∷ 0x46 ∷ 1 ∷ 1 ∷ 1 ∷ []) && header.e_type == 2
@@ -37,7 +37,7 @@ header_refusal file =
     if nat_lt (length file) (header.e_phoff + 32 * header.e_phnum) then Some Truncated else
     None
 
--- the segment's p_filesz bytes from p_offset on are there, and it has room for them
+-- whether the segment's p_filesz bytes from p_offset on are in the file, and it has room for them
 abbrev pub is_in_file : (file_bytes : ℕ) → ProgramHeader → Bool
 is_in_file file_bytes p = nat_le (p.p_offset + p.p_filesz) file_bytes && nat_le p.p_filesz p.p_memsz
 
@@ -51,7 +51,7 @@ segment_refusal file_bytes shared_words p =
 abbrev pub segment_refusals : (file_bytes shared_words : ℕ) → List ProgramHeader → List (Option ImageError)
 segment_refusals file_bytes shared_words ps = map (segment_refusal file_bytes shared_words) ps
 
--- two segments share an address
+-- whether two segments share an address
 abbrev pub overlap : ProgramHeader → ProgramHeader → Bool
 overlap p q = nat_lt (max p.p_vaddr q.p_vaddr) (min (p.p_vaddr + p.p_memsz) (q.p_vaddr + q.p_memsz))
 
@@ -59,7 +59,7 @@ abbrev pub have_overlap : List ProgramHeader → Bool
 have_overlap [] = false
 have_overlap (p ∷ ps) = list_any (overlap p) ps || have_overlap ps
 
--- a processor can start there
+-- whether a processor can start at the address
 abbrev pub is_entry : ℕ → Bool
 is_entry address = in_code address && address % 4 == 0
 
@@ -69,7 +69,7 @@ first_of [] = None
 first_of (None ∷ refusals) = first_of refusals
 first_of (Some refusal ∷ refusals) = Some refusal
 
--- the refusal of a file, for this many shared words: the first that applies, in this order
+-- the refusal of a file, for this many shared words: the first of these that applies
 unfoldable pub refusal_of : (shared_words : ℕ) → List ℕ → Option ImageError
 refusal_of shared_words file =
     first_of (

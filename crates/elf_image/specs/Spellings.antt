@@ -9,15 +9,15 @@ use Rattle.elf_image.specs.declared.region.Region.{Region}
 use Rattle.elf_image.specs.declared.region.Region.TheVariants.{Code, Local, Shared}
 use Rattle.elf_image.specs.Regions.{region_start}
 
--- numbers of two bytes, and of four
+-- numbers of two bytes, and of four, as bytes
 abbrev pub halves : List ℕ → List ℕ
 halves numbers = flat_map (to_le_bytes w16) numbers
 
 abbrev pub words : List ℕ → List ℕ
 words numbers = flat_map (to_le_bytes w32) numbers
 
--- e_ident; e_type, e_machine; e_version, e_entry, e_phoff, e_shoff, e_flags; e_ehsize, e_phentsize, e_phnum,
--- e_shentsize, e_shnum, e_shstrndx
+-- the ELF header: e_ident; e_type, e_machine; e_version, e_entry, e_phoff, e_shoff, e_flags; e_ehsize, e_phentsize,
+-- e_phnum, e_shentsize, e_shnum, e_shstrndx
 unfoldable pub file_header_bytes : (entry count : ℕ) → List ℕ
 file_header_bytes entry count =
     (0x7F ∷ 0x45 ∷ 0x4C ∷ 0x46 ∷ 1 ∷ 1 ∷ 1 ∷ [])
@@ -26,14 +26,14 @@ file_header_bytes entry count =
     ++ words (1 ∷ entry ∷ 52 ∷ 0 ∷ 0 ∷ [])
     ++ halves (52 ∷ 32 ∷ count ∷ 0 ∷ 0 ∷ 0 ∷ [])
 
--- p_type, p_offset, p_vaddr, p_paddr, p_filesz, p_memsz, p_flags, p_align
+-- a program header: p_type, p_offset, p_vaddr, p_paddr, p_filesz, p_memsz, p_flags, p_align
 unfoldable pub program_header_bytes : (offset start count flags : ℕ) → List ℕ
 program_header_bytes offset start count flags = words (1 ∷ offset ∷ start ∷ start ∷ count ∷ count ∷ flags ∷ 1 ∷ [])
 
 abbrev pub is_nil : List ℕ → Bool
 is_nil bytes = length bytes == 0
 
--- a program header for code, and for each other region that has bytes
+-- the number of program headers: one for code, and one for each other region that has bytes
 abbrev pub count_of : Layout → ℕ
 count_of layout = 1 + (if is_nil layout.local then 0 else 1) + (if is_nil layout.shared then 0 else 1)
 
@@ -53,7 +53,7 @@ written_flags Code = 5
 written_flags Local = 6
 written_flags Shared = 6
 
--- the headers
+-- the headers of a layout
 abbrev pub head_bytes : Layout → List ℕ
 head_bytes layout =
     file_header_bytes layout.entry (count_of layout)
@@ -64,11 +64,11 @@ head_bytes layout =
     else program_header_bytes (shared_offset layout) (region_start Shared) (length layout.shared)
     (written_flags Shared))
 
--- the headers, and then the bytes of each region
+-- the headers, followed by the bytes of each region
 unfoldable pub spelling : Layout → List ℕ
 spelling layout = head_bytes layout ++ layout.code ++ layout.local ++ layout.shared
 
--- each part fits its region in the largest machine
+-- Each part fits its region in the largest machine.
 pub record FitsRegions (layout : Layout) : Type 0 where
   pub code : length layout.code ≤ 0x10000
   pub local : length layout.local ≤ 0x10000

@@ -1,11 +1,11 @@
-//! Bytes in a row.
+//! A list of bytes.
 
 ghost use Rattle.std.specs.Prelude.{◌≡◌, ◌++◌, ◌∷◌, [], ◌==◌, length, replicate, IfOk, OnOk, OnErr};
 
 use std::alloc::{AllocError, Global};
 use std::marker::Model;
 
-/// Bytes in a row, seen as their list. How much room is kept for more of them is no part of it.
+/// A list of bytes. The capacity kept for more of them is not part of its value.
 #[derive(Debug, Drop)]
 pub struct Bytes {
     items: Vec<u8>,
@@ -20,7 +20,7 @@ impl Model for Bytes {
 }
 
 impl Bytes {
-    /// No bytes.
+    /// The empty list.
     pub fn new(alloc: Global) -> Self
         ensures { result ≡ [] }
     {
@@ -36,11 +36,11 @@ impl Bytes {
         Bytes { items }
     }
 
-    /// The same bytes once more.
+    /// A copy of the bytes.
     ///
     /// # Errors
     ///
-    /// [`AllocError`] where memory is short.
+    /// [`AllocError`] if memory is short.
     pub fn copy(&self, alloc: Global) -> Result<Self, AllocError>
         ensures { IfOk result (λ copy. copy ≡ self.now) }
     {
@@ -48,32 +48,32 @@ impl Bytes {
         Ok(Bytes { items })
     }
 
-    /// The bytes, the first one first.
+    /// The bytes, in order.
     pub fn as_slice(&self) -> &[u8]
         ensures { result.now ≡ self.now }
     {
         self.items.as_slice()
     }
 
-    /// How many bytes there are.
+    /// The number of bytes.
     pub fn len(&self) -> usize
         ensures { result ≡ length self.now }
     {
         self.items.len()
     }
 
-    /// Whether there are none.
+    /// Whether there are no bytes.
     pub fn is_empty(&self) -> bool
         ensures { result ≡ (length self.now == 0) }
     {
         self.items.is_empty()
     }
 
-    /// Adds a byte after the last.
+    /// Appends a byte.
     ///
     /// # Errors
     ///
-    /// [`AllocError`] where memory is short. Then no byte is added.
+    /// [`AllocError`] if memory is short. Then nothing changes.
     pub fn push(&mut self, byte: u8) -> Result<(), AllocError>
         ensures ok { OnOk result (self.new ≡ self.old ++ byte ∷ []) }
         ensures err { OnErr result (self.new ≡ self.old) }
@@ -82,11 +82,11 @@ impl Bytes {
         Ok(())
     }
 
-    /// Adds bytes after the last.
+    /// Appends bytes.
     ///
     /// # Errors
     ///
-    /// [`AllocError`] where memory is short. Then no byte is added.
+    /// [`AllocError`] if memory is short. Then nothing changes.
     pub fn extend_from_slice(&mut self, bytes: &[u8]) -> Result<(), AllocError>
         ensures ok { OnOk result (self.new ≡ self.old ++ bytes.now) }
         ensures err { OnErr result (self.new ≡ self.old) }
@@ -94,11 +94,11 @@ impl Bytes {
         self.items.extend_from_slice(bytes)
     }
 
-    /// Adds `count` copies of a byte after the last.
+    /// Appends `count` copies of a byte.
     ///
     /// # Errors
     ///
-    /// [`AllocError`] where memory is short. Then no byte is added.
+    /// [`AllocError`] if memory is short. Then nothing changes.
     pub fn extend_by(&mut self, byte: u8, count: u32) -> Result<(), AllocError>
         ensures ok { OnOk result (self.new ≡ self.old ++ replicate count byte) }
         ensures err { OnErr result (self.new ≡ self.old) }

@@ -8,30 +8,29 @@ use link::{Failed, ReadError};
 use std::alloc::AllocError;
 use thiserror::Error;
 
-/// Why an image was not read or not written. The variants stand in the order of their numbers.
+/// Why an image was not read or not written. The variants are in the order of their numbers.
 #[derive(Clone, Copy, Debug, PartialEq, Eq, Drop, Error)]
 pub enum ImageError {
     /// The input has fewer than 52 bytes, or ends before its program header table does.
     #[error("I1")]
     Truncated,
-    /// It is not a little-endian ELF32 executable for RISC-V, by its first seven bytes, `e_type` and
+    /// The input is not a little-endian ELF32 executable for RISC-V, by its first seven bytes, `e_type` and
     /// `e_machine`.
     #[error("I2")]
     NotExecutable,
-    /// `e_version`, `e_flags`, `e_ehsize` or `e_phentsize` is not as it must be, or `e_phnum` is not
-    /// 1 to 16.
+    /// `e_version`, `e_flags`, `e_ehsize` or `e_phentsize` has an unsupported value, or `e_phnum` is not 1 to 16.
     #[error("I3")]
     UnsupportedHeader,
-    /// A segment's bytes end past the input, or are more than the segment has in memory.
+    /// A segment's bytes reach past the end of the input, or are more than its size in memory.
     #[error("I4")]
     OutsideInput,
-    /// A segment's addresses do not lie in one region, or its flags are not those of the region.
+    /// A segment's addresses are not all in one region, or its flags are not those of the region.
     #[error("I5")]
     OutsideRegions,
     /// Two segments share an address.
     #[error("I6")]
     Overlap,
-    /// `e_entry` is outside code, or not divisible by 4.
+    /// `e_entry` is outside code or not divisible by 4.
     #[error("I7")]
     Entry,
     /// The input has more than 1,048,576 bytes.

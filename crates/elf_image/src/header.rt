@@ -9,13 +9,13 @@ use crate::error::ImageError;
 use byteorder::{ByteOrder, LittleEndian};
 use flat_machine::{CODE_START, REGION_BYTES};
 
-/// How many bytes the ELF header has: `e_ehsize`.
+/// The size of the ELF header in bytes: `e_ehsize`.
 pub const FILE_HEADER_BYTES: usize = 52;
 
-/// How many bytes a program header has: `e_phentsize`.
+/// The size of a program header in bytes: `e_phentsize`.
 pub const PROGRAM_HEADER_BYTES: usize = 32;
 
-/// The most program headers that are accepted.
+/// The most program headers that a file may have.
 pub const MAX_PROGRAM_HEADERS: usize = 16;
 
 /// The first bytes of a file: the magic number, `ELFCLASS32`, `ELFDATA2LSB` and `EV_CURRENT`.
@@ -30,7 +30,7 @@ pub const EM_RISCV: u16 = 243;
 /// `e_version`: `EV_CURRENT`.
 pub const EV_CURRENT: u32 = 1;
 
-/// The fields of the ELF header that are looked at.
+/// The fields of the ELF header that the reader uses.
 #[derive(Clone, Copy, Debug, PartialEq, Eq, Drop)]
 pub struct FileHeader {
     pub e_type: u16,
@@ -64,11 +64,11 @@ impl FileHeader {
         }
     }
 
-    /// The header of a file that has one which is supported, and all of its program headers.
+    /// The header of a file. The header is supported, and the file has all of its program headers.
     ///
     /// # Errors
     ///
-    /// [`ImageError::Truncated`], [`ImageError::NotExecutable`] and
+    /// [`ImageError::Truncated`], [`ImageError::NotExecutable`] or
     /// [`ImageError::UnsupportedHeader`].
     pub fn checked(file: &[u8]) -> Result<Self, ImageError>
         ensures value { IfOk result (λ header. header ≡ file_header file.now) }
@@ -91,14 +91,14 @@ impl FileHeader {
         Ok(header)
     }
 
-    /// Whether the file, which has this header, is a little-endian ELF32 executable for RISC-V.
+    /// Whether the file with this header is a little-endian ELF32 executable for RISC-V.
     fn is_executable(&self, file: &[u8]) -> bool
         ensures { result ≡ is_executable file.now self.now }
     {
         file.starts_with(&IDENTIFICATION) && self.e_type == ET_EXEC && self.e_machine == EM_RISCV
     }
 
-    /// Whether the other fields are as they must be.
+    /// Whether the other fields have supported values.
     fn is_supported(&self) -> bool
         ensures { result ≡ is_supported self.now }
     {
@@ -110,14 +110,14 @@ impl FileHeader {
             && self.e_phnum as usize <= MAX_PROGRAM_HEADERS
     }
 
-    /// Where the program header of this number begins in the file.
+    /// Where the program header with this number begins in the file.
     pub fn program_header_place(&self, number: u16) -> usize
         ensures { result ≡ self.now.e_phoff + 32 * number }
     {
         self.e_phoff as usize + PROGRAM_HEADER_BYTES * number as usize
     }
 
-    /// Whether a processor can start at the entry.
+    /// Whether a processor can start at the entry address.
     pub fn has_entry(&self) -> bool
         ensures { result ≡ is_entry self.now.e_entry }
     {
@@ -125,7 +125,7 @@ impl FileHeader {
     }
 }
 
-/// The little-endian number of two bytes of a file.
+/// The little-endian number that two bytes of a file make.
 pub fn half_at(file: &[u8], place: usize) -> u16
     requires { place + 2 ≤ length file.now }
     ensures { result ≡ number_at file.now place 2 }
@@ -133,7 +133,7 @@ pub fn half_at(file: &[u8], place: usize) -> u16
     LittleEndian::read_u16(&file[place..])
 }
 
-/// The little-endian number of four bytes of a file.
+/// The little-endian number that four bytes of a file make.
 pub fn word_at(file: &[u8], place: usize) -> u32
     requires { place + 4 ≤ length file.now }
     ensures { result ≡ number_at file.now place 4 }

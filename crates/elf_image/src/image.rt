@@ -1,4 +1,4 @@
-//! A program that was read for a machine.
+//! A program image for a machine.
 
 ghost use Rattle.std.specs.Prelude.{◌≡◌, IfOk, IsOkUnless};
 ghost use Rattle.elf_image.specs.Images.{ImageContents, IsPlaced};
@@ -8,7 +8,7 @@ use crate::layout::Layout;
 use std::alloc::Global;
 use std::marker::Model;
 
-/// A program that was read for machines with this many shared words.
+/// A program, read for machines with this many shared words.
 #[derive(Debug, Drop)]
 pub struct Image {
     layout: Layout,
@@ -26,7 +26,7 @@ impl Model for Image {
 }
 
 impl Image {
-    /// An image of a layout that fits its regions.
+    /// The image of a layout that fits its regions.
     pub(crate) fn new(layout: Layout, shared_words: u32) -> Self
         requires { IsPlaced layout shared_words }
         ensures { result ≡ record { layout = layout; shared_words = shared_words } }
@@ -37,7 +37,7 @@ impl Image {
         }
     }
 
-    /// Where the processors start, and the bytes of each region.
+    /// The address where the processors start, and the bytes of each region.
     pub fn layout(&self) -> &Layout
         ensures layout { result.now ≡ self.now.layout }
         ensures placed { IsPlaced result.now self.now.shared_words }
@@ -45,18 +45,18 @@ impl Image {
         &self.layout
     }
 
-    /// How many shared words the machines have that the image was read for.
+    /// The number of shared words of the machines that the image was read for.
     pub fn shared_words(&self) -> u32
         ensures { result ≡ self.now.shared_words }
     {
         self.shared_words
     }
 
-    /// An equal image.
+    /// A copy of the image.
     ///
     /// # Errors
     ///
-    /// [`ImageError::Memory`] where there is no memory for it.
+    /// [`ImageError::Memory`] if there is no memory for it.
     pub fn copy(&self, alloc: Global) -> Result<Self, ImageError>
         ensures ok { IfOk result (λ image. image ≡ self.now) }
         ensures err { IsOkUnless result ImageError.Memory }

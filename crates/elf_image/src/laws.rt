@@ -1,4 +1,4 @@
-//! What reading an image shows, for the laws of images (`image_laws`).
+//! What reading an image gives, for the laws of images (`image_laws`).
 
 ghost use Rattle.std.specs.Prelude.{◌≡◌, ℕ, List, None};
 ghost use Rattle.elf_image.specs.declared.layout.Layout.{Layout};
@@ -6,7 +6,7 @@ ghost use Rattle.elf_image.specs.Refusals.{refusal_of};
 ghost use Rattle.elf_image.specs.Images.{IsAccepted, IsMeant};
 ghost use Rattle.elf_image.specs.Loading.{LoadsLayout};
 
-/// Input that is not refused is accepted, and the layout that its segments load is what it means.
+/// Input that is not refused is accepted, and it means the layout that its segments load.
 #[tactic(auto, using(crate::proofs::Meant::accepted_file, crate::proofs::Meant::meant_layout))]
 pub fn loading_gives_the_meaning()
     ensures accepted { (shared_words : ℕ) (file : List ℕ) → refusal_of shared_words file ≡ None →

@@ -1,12 +1,12 @@
-//! What a program places where.
+//! The contents of memory when a program starts.
 
 ghost use Rattle.std.specs.Prelude.{◌≡◌, IfOk};
 
 use crate::bytes::Bytes;
 use std::alloc::{AllocError, Global};
 
-/// Where the processors start, and the bytes of each region from the region's first address on. What
-/// follows them in the region is zero.
+/// The address where the processors start, and the bytes of each region from its first address on. The rest of a region
+/// is zero.
 #[derive(Debug, Drop)]
 pub struct Layout {
     /// The address of the first instruction.
@@ -20,11 +20,11 @@ pub struct Layout {
 }
 
 impl Layout {
-    /// The same layout once more.
+    /// A copy of the layout.
     ///
     /// # Errors
     ///
-    /// [`AllocError`] where memory is short.
+    /// [`AllocError`] if memory is short.
     pub fn copy(&self, alloc: Global) -> Result<Self, AllocError>
         ensures { IfOk result (λ copy. copy ≡ self.now) }
     {

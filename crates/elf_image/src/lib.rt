@@ -1,16 +1,17 @@
-//! Images of programs: what stands at which address when a machine starts.
+//! Images of programs: what is at which address when a machine starts.
 //!
-//! An image file is a little-endian ELF32 executable for RISC-V. [`read_image`] reads one, and refuses all that is not
-//! accepted for a configuration, each by its number; [`write_image`] writes the one spelling of a [`Layout`]. `specs/`
-//! defines which bytes are accepted, which refusal comes first, and what the bytes mean, in terms of addresses that
-//! segments set; the code compares and copies ranges. `specs/Openings.antt` says how a machine opens on a layout.
+//! An image file is a little-endian ELF32 executable for RISC-V. [`read_image`] reads one, and refuses with a numbered
+//! error what a configuration does not accept; [`write_image`] writes the one spelling of a [`Layout`]. `specs/`
+//! defines which bytes are accepted, which refusal comes first, and what the bytes mean, in terms of the addresses that
+//! segments set; the code compares and copies ranges. `specs/Openings.antt` defines how a machine opens on a layout.
 //!
-//! The laws (`image_laws`): the order of refusals refuses just what is not accepted, each for its cause. A file means
+//! The laws (`image_laws`): the refusals refuse exactly what is not accepted, each for its cause. A file means at most
 //! one layout. A machine that opens on a layout has at each address what the layout has there, and so what the file
-//! has. A layout that is written is read back as it was.
+//! has. A layout that is written is read back unchanged.
 //!
 //! Source: System V Application Binary Interface, "Object Files" (ELF header) and "Program Loading and Dynamic Linking"
-//! (program header); the RISC-V ELF psABI for the number of the machine. The definitions name the fields as these do.
+//! (program header); the RISC-V ELF psABI for the machine number. The definitions use the field names of these
+//! documents.
 #![tactic(auto)]
 
 mod bytes;

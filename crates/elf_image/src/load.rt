@@ -9,7 +9,7 @@ use crate::region::Region;
 use crate::segment::ProgramHeader;
 use std::alloc::{AllocError, Global};
 
-/// The bytes of a region from its first address to the last that a segment sets.
+/// The bytes of a region, from its first address to the last that a segment sets.
 pub fn region_bytes(
     alloc: Global,
     file: &[u8],
@@ -32,7 +32,7 @@ pub fn region_bytes(
     Ok(Bytes::from_vec(bytes))
 }
 
-/// How many bytes there are from the first address of a region to the last that a segment sets.
+/// The number of bytes from the first address of a region to the last that a segment sets.
 fn extent(segments: &[ProgramHeader], region: Region, shared_words: u32) -> usize
     ensures { IsExtent segments.now shared_words region (length segments.now) result }
 {
@@ -45,7 +45,7 @@ fn extent(segments: &[ProgramHeader], region: Region, shared_words: u32) -> usiz
     extent
 }
 
-/// Copies the bytes that a segment has in the file to their places in a region.
+/// Copies the file's bytes of a segment to their places in a region.
 fn copy_segment(bytes: &mut [u8], file: &[u8], segment: &ProgramHeader, start: usize)
     requires above { start ≤ segment.now.p_vaddr }
     requires room { segment.now.p_vaddr + segment.now.p_filesz ≤ start + length bytes.old }

@@ -16,21 +16,21 @@ use flat_machine::Config;
 use link::{LinkRead, read_within};
 use std::alloc::{AllocError, Global};
 
-/// The most bytes that an input has.
+/// The most bytes that an input may have.
 pub const MAX_IMAGE_BYTES: usize = 1_048_576;
 
-/// Reads an image for machines of this size: all that the reader has.
+/// Reads an image for machines of this size, from all that the reader has.
 ///
 /// # Errors
 ///
-/// The first of these that applies, in this order. While reading: [`ImageError::Link`] exactly if
-/// the link failed in this call, [`ImageError::Memory`], [`ImageError::TooLong`]. Then
-/// [`ImageError::Truncated`] of the ELF header, [`ImageError::NotExecutable`],
-/// [`ImageError::UnsupportedHeader`], [`ImageError::Truncated`] of the program headers; for each
-/// segment in order [`ImageError::OutsideInput`] and [`ImageError::OutsideRegions`]; then
-/// [`ImageError::Overlap`], and [`ImageError::Entry`]. [`ImageError::Memory`] may still come where
-/// there is no memory for the image. With a failed link and out of memory the reader has given a
-/// beginning of its bytes, [`MAX_IMAGE_BYTES`] at most.
+/// The first of these that applies. While reading: [`ImageError::Link`] exactly if the link failed
+/// in this call, [`ImageError::Memory`], [`ImageError::TooLong`]. Then [`ImageError::Truncated`]
+/// for the ELF header, [`ImageError::NotExecutable`], [`ImageError::UnsupportedHeader`],
+/// [`ImageError::Truncated`] for the program headers; for each segment in order
+/// [`ImageError::OutsideInput`] and [`ImageError::OutsideRegions`]; then [`ImageError::Overlap`]
+/// and [`ImageError::Entry`]. [`ImageError::Memory`] may also occur later, if there is no memory
+/// for the image. After `Link` and `Memory`, at most [`MAX_IMAGE_BYTES`] bytes were taken from the
+/// reader.
 pub fn read_image<R: LinkRead>(
     alloc: Global,
     reader: &mut R,
@@ -46,7 +46,7 @@ pub fn read_image<R: LinkRead>(
     image_of(alloc, file.as_slice(), config.shared_words)
 }
 
-/// The image that a file is.
+/// The image that a file's bytes mean.
 fn image_of(alloc: Global, file: &[u8], shared_words: u32) -> Result<Image, ImageError>
     requires { length file.now ≤ 1048576 }
     ensures shared_words { IfOk result (λ image. image.shared_words ≡ shared_words) }
@@ -73,7 +73,7 @@ fn image_of(alloc: Global, file: &[u8], shared_words: u32) -> Result<Image, Imag
     Ok(Image::new(layout, shared_words))
 }
 
-/// What the segments place in each region.
+/// The bytes that the segments place in each region.
 fn layout_of(
     alloc: Global,
     file: &[u8],

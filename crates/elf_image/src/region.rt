@@ -1,17 +1,17 @@
-//! The regions that an image sets.
+//! The regions that an image fills.
 
 ghost use Rattle.std.specs.Prelude.{◌≡◌};
 ghost use Rattle.elf_image.specs.Regions.{region_start, region_length, is_flagged};
 
 use flat_machine::{CODE_START, LOCAL_START, REGION_BYTES, SHARED_START};
 
-/// `p_flags` of what is read: `PF_R`.
+/// `p_flags` of a readable segment: `PF_R`.
 pub const READ: u32 = 4;
 
-/// `p_flags` of what is read and executed: `PF_R + PF_X`.
+/// `p_flags` of a readable and executable segment: `PF_R + PF_X`.
 pub const READ_EXECUTE: u32 = 5;
 
-/// `p_flags` of what is read and written: `PF_R + PF_W`.
+/// `p_flags` of a readable and writable segment: `PF_R + PF_W`.
 pub const READ_WRITE: u32 = 6;
 
 /// A region of addresses.
@@ -34,7 +34,7 @@ impl Region {
         }
     }
 
-    /// How many bytes the region has, with this many shared words.
+    /// The size of the region in bytes, with this many shared words.
     pub fn length(self, shared_words: u32) -> usize
         ensures { result ≡ region_length shared_words self }
     {

@@ -15,7 +15,7 @@ use arrayvec::ArrayVec;
 /// `p_type` of a segment: `PT_LOAD`.
 pub const PT_LOAD: u32 = 1;
 
-/// The fields of a program header that are looked at.
+/// The fields of a program header that the reader uses.
 #[derive(Clone, Copy, Debug, Default, PartialEq, Eq, Drop)]
 pub struct ProgramHeader {
     pub p_type: u32,
@@ -30,7 +30,7 @@ pub struct ProgramHeader {
 pub type Segments = ArrayVec<ProgramHeader, MAX_PROGRAM_HEADERS>;
 
 impl ProgramHeader {
-    /// The program header that begins at a place of a file.
+    /// The program header that begins at this place in a file.
     #[tactic(auto, unfolding(crate::specs::Headers::program_header))]
     pub fn at(file: &[u8], place: usize) -> Self
         requires { place + 32 ≤ length file.now }
@@ -46,7 +46,7 @@ impl ProgramHeader {
         }
     }
 
-    /// The address after the segment's last.
+    /// The address after the last one of the segment.
     pub fn end(&self) -> usize
         ensures { result ≡ self.now.p_vaddr + self.now.p_memsz }
     {
@@ -70,7 +70,7 @@ impl ProgramHeader {
         0 < self.p_memsz && self.is_in(region, shared_words)
     }
 
-    /// Why the segment, of a file of this length, is refused.
+    /// Checks the segment of a file with this length; an error says why it is refused.
     fn check(&self, file_bytes: usize, shared_words: u32) -> Result<(), ImageError>
         ensures ok { OnOk result (segment_refusal file_bytes shared_words self.now ≡ None) }
         ensures refused { IfErr result (λ error. segment_refusal file_bytes shared_words self.now ≡ Some error) }

@@ -19,7 +19,7 @@ use crate::segment::PT_LOAD;
 use arrayvec::ArrayVec;
 use link::{LinkWrite, parts_make_a_beginning, write_whole};
 
-/// How many bytes the headers have at most: the ELF header and three program headers.
+/// The most bytes that the headers have: the ELF header and three program headers.
 const MAX_HEAD_BYTES: usize = 148;
 
 /// The bytes of the headers.
@@ -29,8 +29,8 @@ type Head = ArrayVec<u8, MAX_HEAD_BYTES>;
 ///
 /// # Errors
 ///
-/// [`ImageError::Link`] exactly if the link failed in this call. A beginning of the spelling, and
-/// not all of it, was written then.
+/// [`ImageError::Link`] exactly if the link failed in this call. Then a beginning of the spelling
+/// was written, and not all of it.
 pub fn write_image<W: LinkWrite>(writer: &mut W, layout: &Layout) -> Result<(), ImageError>
     requires works { W.has_failed writer.old ≡ false }
     requires fits { FitsRegions layout.now }
@@ -39,7 +39,7 @@ pub fn write_image<W: LinkWrite>(writer: &mut W, layout: &Layout) -> Result<(), 
     ensures ok { OnOk result (Appends (W.contents writer.old) (W.contents writer.new) (spelling layout.now)) }
     ensures err { OnErr result (AppendsPart (W.contents writer.old) (W.contents writer.new) (spelling layout.now)) }
 {
-    // A law of what is written in parts, for the proof alone.
+    // The proof alone needs this law of writing in parts.
     parts_make_a_beginning();
     let head = head_of(layout);
     write_whole(writer, head.as_slice())?;
@@ -70,7 +70,7 @@ fn head_of(layout: &Layout) -> Head
     head
 }
 
-/// Adds the ELF header of an executable with this many program headers.
+/// Appends the ELF header of an executable with this many program headers.
 fn put_file_header(head: &mut Head, entry: u32, e_phnum: u16)
     requires { array_vec_len head.old ≡ 0 }
     ensures items { head.new.items ≡ head.old.items ++ file_header_bytes entry e_phnum }
@@ -93,7 +93,7 @@ fn put_file_header(head: &mut Head, entry: u32, e_phnum: u16)
     );
 }
 
-/// Adds the program header of a region's bytes, which begin at an offset of the file.
+/// Appends the program header of a region whose bytes begin at this offset in the file.
 #[tactic(auto, unfolding(crate::specs::Spellings::program_header_bytes))]
 fn put_program_header(head: &mut Head, offset: usize, region: Region, bytes: &Bytes)
     requires room { array_vec_len head.old ≤ 116 }
@@ -112,7 +112,7 @@ fn put_program_header(head: &mut Head, offset: usize, region: Region, bytes: &By
     );
 }
 
-/// The flags of a region's segment: those with which it is used.
+/// The flags of a region's segment: code is read and executed, the others are read and written.
 fn written_flags(region: Region) -> u32
     ensures { result ≡ written_flags region }
 {
@@ -122,7 +122,7 @@ fn written_flags(region: Region) -> u32
     }
 }
 
-/// Adds numbers of two bytes.
+/// Appends numbers of two bytes each.
 fn put_halves(head: &mut Head, numbers: &[u16])
     requires { array_vec_len head.old + 2 * length numbers.now ≤ 148 }
     ensures items { head.new.items ≡ head.old.items ++ halves numbers.now }
@@ -133,7 +133,7 @@ fn put_halves(head: &mut Head, numbers: &[u16])
     }
 }
 
-/// Adds numbers of four bytes.
+/// Appends numbers of four bytes each.
 fn put_words(head: &mut Head, numbers: &[u32])
     requires { array_vec_len head.old + 4 * length numbers.now ≤ 148 }
     ensures items { head.new.items ≡ head.old.items ++ words numbers.now }
@@ -144,7 +144,7 @@ fn put_words(head: &mut Head, numbers: &[u32])
     }
 }
 
-/// Adds bytes.
+/// Appends bytes.
 fn put(head: &mut Head, bytes: &[u8])
     requires { array_vec_len head.old + length bytes.now ≤ 148 }
     ensures items { head.new.items ≡ head.old.items ++ bytes.now }

@@ -6,7 +6,7 @@ use Rattle.std.proofs.KnownBytes.{Appends-trans}
 use Rattle.std.specs.Io.KnownBytes.{Appends}
 use borrow.Rule.Slice.PartMut.{put_mid, post_of}
 
--- one more write of a text, of which `rest` was left
+-- After one more write, a longer beginning of the text is appended, and `rest` is shorter by what was written.
 pub part-more : (a b c : Option (List ℕ)) (text written rest : List ℕ) (n k : ℕ) → length rest ≤ k → text ≡ written ++ rest → Appends a b written →
     Appends b c (take n rest) → (more : List ℕ) × (text ≡ more ++ take (k - n) (drop n rest)) × Appends a c more
 part-more a b c text written rest n k h e p q =
@@ -21,7 +21,7 @@ write-whole a k m xs ys =
 write-len : (a m : ℕ) (xs ys : List ℕ) → a ≤ length xs → m ≤ length ys → length (take a xs ++ take m ys) ≡ a + m
 write-len a m xs ys h k = omega (arith, length-append (take a xs) (take m ys), length-take-le a xs h, length-take-le m ys k)
 
--- a buffer's front, after a read into the rest of it
+-- After a read into the rest of a buffer, its front is the old front followed by the bytes read.
 pub take-write : (a k m : ℕ) (xs ys : List ℕ) → a ≤ length xs → m ≤ length ys → take (a + m) (put_mid a k xs ys) ≡ take a xs ++ take m ys
 take-write a k m xs ys h i =
     ap (take (a + m)) (write-whole a k m xs ys) ∙ take_at (take a xs ++ take m ys) (drop m ys ++ post_of a k xs) (a + m) (write-len a m xs ys h i)

@@ -1,4 +1,4 @@
-//! What a link is.
+//! Links: devices whose failures last.
 
 ghost use Rattle.std.specs.Prelude.{◌≡◌, ◌<◌, ◌≤◌, Bool, true, ℕ, length, is_err, IfOk};
 ghost use Rattle.std.specs.Io.KnownBytes.{ReadConsumes, WriteAppends};
@@ -6,7 +6,7 @@ ghost use Rattle.std.specs.Io.KnownBytes.{ReadConsumes, WriteAppends};
 use std::io::{Read, Write};
 use thiserror::Error;
 
-/// A call on the device failed, or one has before.
+/// A call on the device failed, now or earlier.
 #[derive(Clone, Copy, Debug, PartialEq, Eq, Drop, Error)]
 #[error("link")]
 pub struct Failed;
@@ -24,12 +24,12 @@ pub trait Link {
 
 /// A reader that is a link.
 pub trait LinkRead: Read + Link {
-    /// Reads once. Nothing is read only at the end of the input, or where the buffer is empty.
+    /// Reads once. Returns 0 bytes only at the end of the input, or for an empty buffer.
     ///
     /// # Errors
     ///
-    /// [`Failed`] exactly if the link failed in this call, or had failed before. Nothing was taken
-    /// then.
+    /// [`Failed`] exactly if the link fails in this call or had failed before. Then nothing was
+    /// taken.
     fn receive(&mut self, buf: &mut [u8]) -> Result<usize, Failed>
         ensures failed { Self.has_failed self.new ≡ is_err result }
         ensures ended { Self.has_failed self.old ≡ true → (self.new ≡ self.old) }
@@ -39,12 +39,12 @@ pub trait LinkRead: Read + Link {
 
 /// A writer that is a link.
 pub trait LinkWrite: Write + Link {
-    /// Writes a beginning of the bytes, at least one of them.
+    /// Writes a first part of the bytes, at least one of them.
     ///
     /// # Errors
     ///
-    /// [`Failed`] exactly if the link failed in this call, or had failed before: a write of no byte
-    /// is a failure too. Nothing was written then.
+    /// [`Failed`] exactly if the link fails in this call or had failed before. A write of no byte
+    /// is a failure too. Then nothing was written.
     fn send(&mut self, bytes: &[u8]) -> Result<usize, Failed>
         requires { 0 < length bytes.now }
         ensures failed { Self.has_failed self.new ≡ is_err result }

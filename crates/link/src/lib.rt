@@ -1,13 +1,14 @@
-//! Devices whose failures last, and what is read from them and written to them.
+//! Devices whose failures last, and calls that read from them and write to them.
 //!
-//! A [`Link`] knows whether a call on it has failed, and says so from then on. Its reads and writes
-//! ([`LinkRead::receive`], [`LinkWrite::send`]) answer a fault exactly if the link failed in that
-//! call. So does what reads or writes more than a piece: all that a reader has ([`read_within`]), a
-//! buffer full ([`fill`]), a whole text ([`write_whole`]). [`Meter`] makes a link of any reader or
-//! writer. That a text may be written in parts is a law ([`parts_make_a_beginning`]).
+//! A [`Link`] records whether a call on it has failed. Its reads and writes ([`LinkRead::receive`],
+//! [`LinkWrite::send`]) return an error exactly if one has. The calls that move more than one piece
+//! do so exactly if the link fails in the call: they read all that a reader has ([`read_within`]),
+//! fill a buffer ([`fill`]), or write a whole text ([`write_whole`]). [`Meter`] makes a link of any
+//! reader or writer. A text may be written in parts, by a law ([`parts_make_a_beginning`]).
 //!
-//! The contracts speak of the bytes that a device says of, as a buffer in memory does. Of a device
-//! that says nothing, such as a socket, they say that there are such bytes.
+//! The contracts state which bytes are read or written if a device has a model of its bytes, as a
+//! buffer in memory does. For a device without one, such as a socket, they say that there are such
+//! bytes.
 #![tactic(auto)]
 
 mod device;

@@ -1,4 +1,4 @@
-//! Any reader or writer as a link.
+//! A link made of any reader or writer.
 
 ghost use Rattle.std.specs.Prelude.{◌≡◌, ◌≤◌, ◌<◌, Bool, true, false, ℕ, length, is_err, IfOk};
 ghost use Rattle.std.specs.Io.{ReadsAtMost, WritesAtMost};
@@ -8,10 +8,10 @@ use crate::device::{Failed, Link, LinkRead, LinkWrite};
 use std::io;
 use std::io::{ErrorKind, Read, Write};
 
-/// A reader or a writer, and whether a call on it has failed.
+/// A reader or writer that records whether a call on it has failed.
 ///
-/// Every `Err` of the device counts, `ErrorKind::Interrupted` too, and so does a write of no byte.
-/// After a failure the device is not called again, and every call is an error.
+/// Every `Err` of the device counts as a failure, `ErrorKind::Interrupted` too, and so does a write
+/// of no byte. After a failure the device is not called again, and every call returns an error.
 #[derive(Drop)]
 pub struct Meter<T> {
     /// The reader or writer.
@@ -20,7 +20,7 @@ pub struct Meter<T> {
 }
 
 impl<T> Meter<T> {
-    /// The device, of which no call has failed yet.
+    /// A link of the device, on which no call has failed yet.
     pub fn new(device: T) -> Self
         ensures device { result.device ≡ device }
         ensures works { ⟦<Meter<T> as Link>⟧.has_failed result ≡ false }

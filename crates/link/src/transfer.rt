@@ -1,4 +1,4 @@
-//! Reading all that there is, up to a limit, or a buffer full, and writing a whole text.
+//! Reading all bytes up to a limit, filling a buffer, and writing a whole text.
 
 ghost use Rattle.std.specs.Prelude.{◌≡◌, ◌≤◌, ◌<◌, ◌↔◌, ◌^◌, true, false, length, is_err, IfOk, IfErr, OnOk, OnErr};
 ghost use Rattle.std.specs.Prelude.{IsErrOf, take};
@@ -9,10 +9,10 @@ use crate::device::{Failed, LinkRead, LinkWrite};
 use std::alloc::Global;
 use thiserror::Error;
 
-/// How many bytes are asked for at once.
+/// The number of bytes that one read asks for.
 pub const PIECE_BYTES: usize = 4096;
 
-/// Why not all was read.
+/// Why not everything was read.
 #[derive(Clone, Copy, Debug, PartialEq, Eq, Drop, Error)]
 pub enum ReadError {
     /// The link failed.
@@ -21,20 +21,19 @@ pub enum ReadError {
     /// There was no memory for the bytes.
     #[error("memory")]
     Memory,
-    /// There are more bytes than may be read.
+    /// The input has more bytes than the limit.
     #[error("too long")]
     TooLong,
 }
 
-/// All that the reader has left, where that is at most `limit` bytes. No more than these are kept,
-/// and a longer input is not read to its end.
+/// Reads all that the reader has left, if that is at most `limit` bytes. It keeps no more than these, and does not read
+/// a longer input to its end.
 ///
 /// # Errors
 ///
-/// [`ReadError::Link`] exactly if the link failed in this call, [`ReadError::TooLong`] only
-/// where there were more than `limit` bytes, of which at most [`PIECE_BYTES`] past the limit were
-/// read, and [`ReadError::Memory`] where there was no memory for the bytes. The reader has given what
-/// was read: with the first and the last, a beginning of at most `limit` bytes.
+/// [`ReadError::Link`] exactly if the link failed in this call; [`ReadError::TooLong`] only if there were more than
+/// `limit` bytes, of which at most [`PIECE_BYTES`] past the limit were read; [`ReadError::Memory`] if there was no
+/// memory for the bytes. After `Link` and `Memory`, at most `limit` bytes were taken from the reader.
 pub fn read_within<R: LinkRead>(
     alloc: Global,
     reader: &mut R,
@@ -64,11 +63,11 @@ pub fn read_within<R: LinkRead>(
     }
 }
 
-/// Fills the buffer, or as much of it as the reader has bytes for: how many bytes that is.
+/// Fills the buffer, or as much of it as the reader has bytes for. Returns the number of bytes.
 ///
 /// # Errors
 ///
-/// [`Failed`] exactly if the link failed in this call. That is before the buffer was full.
+/// [`Failed`] exactly if the link failed in this call. Then the buffer is not full.
 pub fn fill<R: LinkRead>(reader: &mut R, buf: &mut [u8]) -> Result<usize, Failed>
     requires { R.has_failed reader.old ≡ false }
     ensures failed { R.has_failed reader.new ≡ is_err result }
@@ -93,8 +92,7 @@ pub fn fill<R: LinkRead>(reader: &mut R, buf: &mut [u8]) -> Result<usize, Failed
 ///
 /// # Errors
 ///
-/// [`Failed`] exactly if the link failed in this call. A beginning of the text, and not all of
-/// it, was written then.
+/// [`Failed`] exactly if the link failed in this call. Then a beginning of the text was written, and not all of it.
 pub fn write_whole<W: LinkWrite>(writer: &mut W, text: &[u8]) -> Result<(), Failed>
     requires { W.has_failed writer.old ≡ false }
     ensures failed { W.has_failed writer.new ≡ is_err result }

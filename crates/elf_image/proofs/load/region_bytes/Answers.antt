@@ -11,7 +11,7 @@ use Rattle.elf_image.proofs.Loaded.{loaded_skip, loaded_next, blank}
 use Rattle.elf_image.proofs.load.region_bytes.Goals as goal
 use Rattle.elf_image.proofs.load.region_bytes.Goals.{then-sets_in, else-sets_in}
 
--- the segment at an index is there, and was checked
+-- If the segments of a list are checked, so is the one at an index below its length.
 here : (ps : List ProgramHeader) (bytes w n : ℕ) → n < length ps → first_of (segment_refusals bytes w ps) ≡ None → Checked bytes w (get_or ps n blank)
 here ps bytes w n h none =
     checked bytes w (get_or ps n blank) (each_none (segment_refusal bytes w) ps n (get_or ps n blank) none (slice_get-get_or ps n blank h))

@@ -2,6 +2,6 @@ use Rattle.std.proofs.Common.{◌≡◌, drop}
 use Rattle.elf_image.specs.Refusals.{have_overlap}
 use Rattle.elf_image.proofs.segment.have_overlap.Given as goal
 
--- two of all share an address where two of the rest do
+-- Two segments overlap exactly if two of the remaining ones do.
 abbrev pub invariant-loop-index : goal.invariant-loop-index
 invariant-loop-index l = have_overlap (drop l.index l.segments) ≡ have_overlap l.segments
